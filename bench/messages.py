@@ -1,10 +1,10 @@
 #!/usr/bin/env python3
-"""Writes the cases of messages in rules_cases: applications with software tasks, scripts, and the items of their runs.
+"""Writes the cases of messages in command_cases: applications with software tasks, scripts, and the items of their runs.
 
     python3 messages.py PROGRAM CRATE
 
 PROGRAM is an implementation of `rtic` whose `run` and `audit` take these applications; CRATE, which is
-crates/rules_cases, takes data/messages, and the stdout that is wanted of all tables in data/. The code of spawns and
+crates/command_cases, takes data/messages, and the stdout that is wanted of all tables in data/. The code of spawns and
 dispatchers is the compiler's choice, so of a trace the items alone are compared, without their step numbers; scripts
 let interrupts come where it makes no difference. Where a case says which items are wanted, PROGRAM is held against
 them.

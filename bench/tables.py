@@ -1,10 +1,10 @@
 #!/usr/bin/env python3
-"""Writes tables of rules_cases whose answers are another implementation's: runs beside devices that leave nothing free,
+"""Writes tables of command_cases whose answers are another implementation's: runs beside devices that leave nothing free,
 a text cut after each of its bytes, and a trace without each of its lines.
 
     python3 tables.py PROGRAM CRATE
 
-PROGRAM is an implementation of `rtic` with `check`, `audit` and `live`; CRATE, which is crates/rules_cases, takes
+PROGRAM is an implementation of `rtic` with `check`, `audit` and `live`; CRATE, which is crates/command_cases, takes
 data/alone, data/cuts and data/lines. Run messages.py after it, which writes the names of all cases to stdout.
 """
 

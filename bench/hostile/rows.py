@@ -1,9 +1,9 @@
-"""The cases of tables in crates/rules_cases/data: applications, scripts, traces and limits with known answers."""
+"""The cases of tables in crates/command_cases/data: applications, scripts, traces and limits with known answers."""
 import re
 
 from starting import ROOT
 
-DATA = ROOT / "crates" / "rules_cases" / "data"
+DATA = ROOT / "crates" / "command_cases" / "data"
 # longer texts are left out
 LONGEST = 20_000
 ESCAPES = {"n": "\n", "t": "\t", "r": "\r"}

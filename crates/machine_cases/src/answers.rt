@@ -1,11 +1,11 @@
 use crate::names::irq_of;
 use crate::part::text;
 use anyhow::{Context, Result};
-use rt_cases::Case;
 use rt_ids::{ResId, TaskId};
-use rt_program::Program;
+use rt_image_tables::Program;
 use std::alloc::{AllocError, Global};
 use std::fmt::Debug;
+use test_tables::Case;
 
 /// Writes an answer.
 fn tell_one<T: Debug>(told: &mut String, answer: &T) -> Result<(), AllocError> {

@@ -2,19 +2,19 @@ ghost use Rattle.std.specs.Prelude.{◌≡◌};
 ghost use Rattle.rt_code.specs.Runnable.{IsRunnable};
 
 use crate::answers::answers_as_said;
-use crate::execution::executed;
+use crate::execution::execution_text;
 use crate::held::Held;
 use crate::image::image;
 use crate::play::{play, script};
 use crate::texts::{script_told, trace_told};
 use anyhow::Result;
-use rt_cases::Case;
 use rt_code::Image;
 use rt_core::Core;
+use rt_image_tables::{Program, is_runnable};
 use rt_listing::listing;
-use rt_program::{Program, is_runnable};
 use rt_script::Script;
 use std::alloc::Global;
+use test_tables::Case;
 
 /// What is told of a case that comes out as it says.
 const OK: &str = "ok";
@@ -144,7 +144,7 @@ fn core_case(alloc: Global, case: &Case) -> Result<&'static str> {
 }
 
 fn instruction_case(alloc: Global, case: &Case) -> Result<&'static str> {
-    let gives = executed(alloc, case)?;
+    let gives = execution_text(alloc, case)?;
     Ok(if gives.as_bytes() == case.bytes("gives") {
         OK
     } else {

@@ -3,10 +3,10 @@ use crate::held::Held;
 use crate::names::add_irq;
 use crate::part::text;
 use anyhow::{Context, Result};
-use rt_cases::Case;
 use rt_code::{Instr, Registers, execute};
 use rt_ids::{Irq, Names};
 use std::alloc::{AllocError, Global};
+use test_tables::Case;
 
 /// The time at which instructions are executed.
 const TIME: u32 = 1_234;
@@ -44,7 +44,7 @@ fn case_instr(alloc: Global, case: &Case) -> Result<Instr> {
 }
 
 /// What the instruction of a case does, from the PRIMASK that the case says.
-pub fn executed(alloc: Global, case: &Case) -> Result<String> {
+pub fn execution_text(alloc: Global, case: &Case) -> Result<String> {
     let instr = case_instr(alloc, case)?;
     let primask = case.bytes("primask") == b"1\n".as_slice();
     Ok(run(alloc, instr, primask)?)

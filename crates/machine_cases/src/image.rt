@@ -4,10 +4,10 @@ use crate::instr::number;
 use crate::names::{add_irq, add_resources, add_tasks, irq_of, task};
 use crate::part::{push, text, words_of};
 use anyhow::{Context, Result, bail};
-use rt_cases::Case;
 use rt_code::{BodyRow, Handler, Image, IrqRow};
 use rt_ids::{CellRow, Irq, Name, Names};
 use std::alloc::Global;
+use test_tables::Case;
 
 /// Takes the sizes that the first line says, whose form 2 is that of the floating-point extension.
 fn take_sizes(image: &mut Image, words: &[&str]) -> Option<()> {

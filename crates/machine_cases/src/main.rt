@@ -17,9 +17,9 @@ mod texts;
 
 use anyhow::Result;
 use checks::{Table, verdict};
-use rt_cases::{Case, cases};
 use std::fs;
 use std::rt::Files;
+use test_tables::{Case, cases};
 
 /// Prints the line of a case of a table.
 fn print_case<R: Print + AllocGlobal>(rt: &R, table: Table, case: &Case) -> Result<()> {

@@ -1,7 +1,7 @@
 use anyhow::{Context, Result};
-use rt_cases::Case;
 use rt_ids::NoMemory;
 use std::alloc::{AllocError, Global};
+use test_tables::Case;
 
 /// The text of a part of a case.
 pub fn text<'a>(case: &'a Case, part: &str) -> Result<&'a str> {

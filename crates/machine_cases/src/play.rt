@@ -1,12 +1,12 @@
 ghost use Rattle.std.specs.Prelude.{◌≡◌, ◌+◌, ◌≤◌, ◌<◌, ◌^◌};
 
 use anyhow::{Result, bail};
-use rt_cases::Case;
 use rt_core::Core;
 use rt_ids::{Irq, Names};
 use rt_script::{Line, Script, read_script};
 use rt_trace::{Item, What, has_line, line};
 use std::alloc::Global;
+use test_tables::Case;
 
 /// Events of a script, at most.
 const EVENTS: u32 = 10_000;

@@ -1,11 +1,11 @@
 use crate::image::image;
 use crate::play::write_item;
 use anyhow::{Result, bail};
-use rt_cases::Case;
 use rt_ids::Names;
 use rt_script::{Line, Script, ScriptRefused, read_script};
 use rt_trace::{Item, Trace, TraceRefused, read_trace};
 use std::alloc::Global;
+use test_tables::Case;
 
 /// Writes the lines of items.
 fn write_items(out: &mut Vec<u8>, items: &[Item], names: &Names) -> Result<()> {
@@ -30,7 +30,7 @@ fn write_trace(alloc: Global, out: &mut Vec<u8>, trace: &Trace, names: &Names) -
 }
 
 /// A trace, written again.
-fn written(alloc: Global, trace: &Trace, names: &Names) -> Result<Vec<u8>> {
+fn trace_text(alloc: Global, trace: &Trace, names: &Names) -> Result<Vec<u8>> {
     let mut out = Vec::new(alloc);
     write_trace(alloc, &mut out, trace, names)?;
     Ok(out)
@@ -39,7 +39,7 @@ fn written(alloc: Global, trace: &Trace, names: &Names) -> Result<Vec<u8>> {
 /// What is told of a trace text.
 fn told_of_trace(alloc: Global, text: &[u8], names: &Names) -> Result<Vec<u8>> {
     match read_trace(alloc, text, names) {
-        Ok(trace) => written(alloc, &trace, names),
+        Ok(trace) => trace_text(alloc, &trace, names),
         Err(TraceRefused::NoMemory) => bail!("out of memory"),
         Err(refused) => Ok(format!(in alloc; "{refused}\n")?.into_bytes()),
     }
@@ -52,7 +52,7 @@ pub fn trace_told(alloc: Global, case: &Case) -> Result<Vec<u8>> {
 }
 
 /// What a line of a script asks for, in words.
-fn asked(alloc: Global, line: &Line) -> Result<String> {
+fn request_text(alloc: Global, line: &Line) -> Result<String> {
     Ok(match line {
         Line::Steps(count) => format!(in alloc; "steps {count}\n")?,
         Line::Ticks(count) => format!(in alloc; "ticks {count}\n")?,
@@ -66,13 +66,13 @@ fn asked(alloc: Global, line: &Line) -> Result<String> {
 /// Writes what the lines of a script ask for.
 fn write_lines(alloc: Global, out: &mut Vec<u8>, lines: &[Line]) -> Result<()> {
     for line in lines {
-        write_text(out, asked(alloc, line)?.as_str())?;
+        write_text(out, request_text(alloc, line)?.as_str())?;
     }
     Ok(())
 }
 
 /// What a script asks for, and how many events it is.
-fn shown(alloc: Global, script: &Script) -> Result<Vec<u8>> {
+fn requests_text(alloc: Global, script: &Script) -> Result<Vec<u8>> {
     let mut out = Vec::new(alloc);
     write_lines(alloc, &mut out, script.lines())?;
     let last = format!(in alloc; "events {}\n", script.events())?;
@@ -83,7 +83,7 @@ fn shown(alloc: Global, script: &Script) -> Result<Vec<u8>> {
 /// What is told of a script text.
 fn told_of_script(alloc: Global, text: &[u8], names: &Names) -> Result<Vec<u8>> {
     match read_script(alloc, text, names) {
-        Ok(script) => shown(alloc, &script),
+        Ok(script) => requests_text(alloc, &script),
         Err(ScriptRefused::NoMemory) => bail!("out of memory"),
         Err(refused) => Ok(format!(in alloc; "{refused}\n")?.into_bytes()),
     }

@@ -52,7 +52,7 @@ fn the_highest_is_taken_then_the_lowest_number(rt: HostRuntime) -> Result<(), Fa
     Ok(())
 }
 
-/// A pend of an active interrupt makes it active and pending, and it is entered again after its return.
+/// A pend of an active interrupt makes it active and pending, and it is taken again after its return.
 #[test]
 fn a_pend_of_an_active_interrupt_waits(rt: HostRuntime) -> Result<(), Fail> {
     let irq = irq(495)?;

@@ -1,5 +1,5 @@
 ghost use Rattle.std.specs.Prelude.{◌≡◌, ◌<◌, ◌≤◌, ◌++◌, slice_set};
-ghost use Rattle.rt_stack.specs.Region.{Fits, used, top, below};
+ghost use Rattle.rt_stack.specs.Region.{Fits, used_words, top, below};
 
 use crate::equal::assert_same;
 use rt_stack::Region;
@@ -7,7 +7,7 @@ use std::test::Fail;
 
 /// Writes one of the last words: the word alone is another.
 fn write(region: &mut Region, words: u32, at: u32, value: u32)
-    requires within { words ≤ used region.old }
+    requires within { words ≤ used_words region.old }
     requires at { at < words }
     ensures { region.new ≡ record region.old {
       words = below region.old words

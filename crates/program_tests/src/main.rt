@@ -10,10 +10,10 @@ mod sources;
 mod words;
 
 use anyhow::{Result, bail};
-use rt_cases::{Case, cases};
 use rt_outside::{OutSink, put_all};
 use std::fs;
 use std::rt::Files;
+use test_tables::{Case, cases};
 
 /// A table of cases.
 #[derive(Clone, Copy)]

@@ -1,10 +1,10 @@
 // Parts of cases, and lines.
 
 use anyhow::{Context, Result};
-use rt_cases::Case;
 use std::alloc::{AllocError, Global};
 use std::fmt::Debug;
 use std::io;
+use test_tables::Case;
 
 /// The text of a part of a case.
 pub fn text<'a>(case: &'a Case, part: &str) -> Result<&'a str> {

@@ -2,9 +2,9 @@
 
 use crate::part::{numbers, text};
 use anyhow::{Result, bail};
-use rt_cases::Case;
 use rt_outside::{MemSink, Sink, put_all};
 use std::alloc::{AllocError, Global};
+use test_tables::Case;
 
 /// Writes what a write of a piece gives.
 fn tell_write(sink: &mut MemSink, piece: &[u8], told: &mut String) -> Result<(), AllocError> {

@@ -2,10 +2,10 @@
 
 use crate::part::{numbers, push_line, text};
 use anyhow::{Result, bail};
-use rt_cases::Case;
 use rt_outside::{FileSource, MemSource, NeverFails, ReadFail, Source, read_text};
 use std::alloc::{AllocError, Global};
 use std::rt::Files;
+use test_tables::Case;
 
 /// Bytes of the buffer of a read, at most.
 const BUFFER: usize = 8;

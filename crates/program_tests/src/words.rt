@@ -107,11 +107,11 @@ fn pends_of_two_threads<R: Threads + Sync>(
     requires { irq < 64 }
 {
     let (first, second, left) = pend_and_latch(rt, alloc, irq)?;
-    let place = usize::from(irq.get());
-    let raised = u64::from(first.raised[place]) + u64::from(second.raised[place]);
-    let merged = u64::from(first.merged[place]) + u64::from(second.merged[place]);
-    let bit = (left.bits[place / 32] >> (place % 32)) & 1;
-    let ended = u64::from(left.latched[place]) + u64::from(bit);
+    let index = usize::from(irq.get());
+    let raised = u64::from(first.raised[index]) + u64::from(second.raised[index]);
+    let merged = u64::from(first.merged[index]) + u64::from(second.merged[index]);
+    let bit = (left.bits[index / 32] >> (index % 32)) & 1;
+    let ended = u64::from(left.latched[index]) + u64::from(bit);
     Ok((raised + merged, raised == ended))
 }
 
@@ -129,9 +129,9 @@ fn pends_of_one_line(alloc: Global, irq: Irq) -> Result<([u32; 2], [Pended; 3], 
     let third = line.pend(&words, irq);
     let tally = core.gather(&words, line);
     let left = words.close(core);
-    let place = usize::from(irq.get());
-    let pends = [tally.raised[place], tally.merged[place]];
-    let ends = [left.bits[0], left.latched[place]];
+    let index = usize::from(irq.get());
+    let pends = [tally.raised[index], tally.merged[index]];
+    let ends = [left.bits[0], left.latched[index]];
     Ok((
         [before, found],
         [first, second, third],

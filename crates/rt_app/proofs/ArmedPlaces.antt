@@ -9,7 +9,7 @@ use Rattle.rt_ids.specs.Lists.{or_zero}
 use Rattle.rt_ids.specs.Entry.{Entry}
 use Rattle.rt_ids.specs.declared.limits.TheConstants.{CAPACITY, TASKS}
 use Rattle.rt_app.specs.Tree.{Task, App}
-use Rattle.rt_app.specs.Level.{is_armed, armed_capacities, armed_messages, armed_before}
+use Rattle.rt_app.specs.Level.{is_armed, armed_capacities, armed_messages, capacities_before}
 use Rattle.rt_app.specs.Limits.{KeepsTaskLimits}
 use Rattle.rt_app.specs.Accepted.{IsAccepted}
 use Rattle.rt_app.specs.Sending.{capacity_of}
@@ -36,16 +36,16 @@ module _ (app : App) where
 
   -- behind the rows of a task stand those of the tasks behind it
   pub rows_before : (n k : ℕ) (t : Task) → slice_get app.tasks n ≡ Some t → n < k
-      → armed_before app n + rows n t ≤ armed_before app k
+      → capacities_before app n + rows n t ≤ capacities_before app k
   rows_before n k t at less =
       let d : 0 + n ≡ n = omega arith in
       let moved : rows (0 + n) t ≡ rows n t = ap (λ m. rows m t) d in
       omega (arith, rows_until 0 app.tasks n k t at less)
 
   pub rows_within : (n : ℕ) (t : Task) → slice_get app.tasks n ≡ Some t
-      → armed_before app n + rows n t ≤ armed_messages app
+      → capacities_before app n + rows n t ≤ armed_messages app
   rows_within n t at =
-      let all : armed_before app (length app.tasks) ≡ armed_messages app =
+      let all : capacities_before app (length app.tasks) ≡ armed_messages app =
       ap (armed_capacities app 0) (take-length app.tasks) in
       omega (arith, rows_before n (length app.tasks) t at (slice_get_within app.tasks n t at))
 
@@ -92,7 +92,7 @@ module _ (app : App) where
       let not_before : ¬ (e.task < x.task) = λ less. (let apart = rows_apart e x is other less in omega arith) in
       let not_behind : ¬ (x.task < e.task) = λ less. (let apart = rows_apart x e other is less in omega arith) in
       let task : e.task ≡ x.task = omega arith in
-      let before : armed_before app e.task ≡ armed_before app x.task = ap (armed_before app) task in
+      let before : capacities_before app e.task ≡ capacities_before app x.task = ap (capacities_before app) task in
       let place : e.place ≡ x.place = omega arith in
       parts_alike e x task place
 
@@ -109,7 +109,7 @@ module _ (app : App) where
       no_more false c = omega arith
 
   module _ (accepted : IsAccepted app) where
-    pub few_before : (n : ℕ) → armed_before app n ≤ CAPACITY * n
+    pub few_before : (n : ℕ) → capacities_before app n ≤ CAPACITY * n
     few_before n = few_rows 0 app.tasks n accepted.limits.tasks
 
     pub few_messages : armed_messages app ≤ CAPACITY * TASKS

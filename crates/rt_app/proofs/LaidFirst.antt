@@ -11,7 +11,7 @@ use Rattle.rt_ids.specs.declared.ids.Section.TheVariants as section
 use Rattle.rt_app.specs.Tree.{Task, App}
 use Rattle.rt_app.specs.Level.{is_software, levels, armed_messages}
 use Rattle.rt_app.specs.Sending.{capacity_of}
-use Rattle.rt_app.specs.Layout.{Cell, memory, resource_at, local_at, free_at, ready_at, timer_at, armings_at, given_at}
+use Rattle.rt_app.specs.Layout.{Cell, memory, resource_at, local_at, free_at, ready_at, timer_at, armings_at, handle_count_at}
 use Rattle.rt_app.specs.Holding.{SpellsFree, SpellsReady, SpellsTimer, Spells, IsHeld}
 use Rattle.rt_app.proofs.Laid.{resource_cell, local_cell, resource_lies, local_lies}
 use Rattle.rt_app.proofs.LaidQueues.{many, mapped, capacity_is, free_count_lies, free_place_lies, ready_head_lies, ready_count_lies}
@@ -95,7 +95,7 @@ module _ (app : App) where
     room = omega arith;
     count = timer_zero timed (timer_at app) 0 (omega arith) (omega arith);
     armings = timer_zero timed (armings_at app) 1 (omega arith) (omega arith);
-    given = timer_zero timed (given_at app) 2 (omega arith) (omega arith);
+    given = timer_zero timed (handle_count_at app) 2 (omega arith) (omega arith);
     heap = [];
     column = λ i e at. absurd (none-some e at);
     arranged = record {

@@ -13,7 +13,7 @@ use Rattle.rt_app.specs.declared.app.Mono.{Mono}
 use Rattle.rt_app.specs.Tree.{App}
 use Rattle.rt_app.specs.Level.{levels, armed_messages}
 use Rattle.rt_app.specs.Layout.{Cell, resource_cells, local_cells, task_cells, ready_cells, timer_column}
-use Rattle.rt_app.specs.Layout.{timer_queue_cells, timer_cells, memory, home_of, timer_at, armings_at, given_at}
+use Rattle.rt_app.specs.Layout.{timer_queue_cells, timer_cells, memory, home_of, timer_at, armings_at, handle_count_at}
 use Rattle.rt_app.specs.Layout.{instants_at, numbers_at, handles_at, heap_at}
 use Rattle.rt_app.proofs.Laid.{length-resource_cells, length-local_cells, all_made, on_ready, on_queues, on_locals}
 use Rattle.rt_app.proofs.LaidQueues.{many, queue_at, home_is}
@@ -117,8 +117,8 @@ module _ (app : App) where
     pub armings_is_home : home_of app (armings_at app) ≡ At (Guarded section.Timer)
     armings_is_home = named (armings_at app) 1 (omega arith) (omega arith)
 
-    pub given_is_home : home_of app (given_at app) ≡ At (Guarded section.Timer)
-    given_is_home = named (given_at app) 2 (omega arith) (omega arith)
+    pub given_is_home : home_of app (handle_count_at app) ≡ At (Guarded section.Timer)
+    given_is_home = named (handle_count_at app) 2 (omega arith) (omega arith)
 
     pub instant_is_home : (row : ℕ) → row < armed_messages app
         → home_of app (instants_at app + row) ≡ At (Guarded section.Timer)

@@ -5,7 +5,7 @@ use Rattle.rt_app.specs.declared.violation.Violation.{Violation}
 use Rattle.rt_app.specs.Tree.{App}
 use Rattle.rt_app.specs.Bodies.{members}
 use Rattle.rt_app.specs.Declarations.{mono_priority, task_priority, priorities, used_twice, interrupt_uses, number_uses, interrupts, dispatchers, owned_twice, hardware_tasks, declarations}
-use Rattle.rt_app.specs.Listing.{listed}
+use Rattle.rt_app.specs.Listing.{listings_breaks}
 use Rattle.rt_app.specs.Statements.{statements}
 use Rattle.rt_app.specs.Length.{lengths}
 use Rattle.rt_app.specs.Rules.{violations}
@@ -18,7 +18,7 @@ pub record Parts (app : App) : Type 0 where
   pub dispatchers : dispatchers app ≡ []
   pub owned : owned_twice [] (members app) ≡ []
   pub hardware : hardware_tasks app ≡ []
-  pub listed : listed app ≡ []
+  pub listed : listings_breaks app ≡ []
   pub statements : statements app ≡ []
   pub lengths : lengths app ≡ []
 
@@ -31,12 +31,12 @@ right xs ys fine = append_none_right xs ys fine
 pub parts : (app : App) → violations app ≡ [] → Parts app
 parts app fine =
     let on_statements = statements app ++ lengths app in
-    let behind = right (declarations app) (listed app ++ on_statements) fine in
-    let last = right (listed app) on_statements behind in
+    let behind = right (declarations app) (listings_breaks app ++ on_statements) fine in
+    let last = right (listings_breaks app) on_statements behind in
     let on_owned = owned_twice [] (members app) ++ hardware_tasks app in
     let on_dispatchers = dispatchers app ++ on_owned in
     let on_interrupts = interrupts app ++ on_dispatchers in
-    let declared = left (declarations app) (listed app ++ on_statements) fine in
+    let declared = left (declarations app) (listings_breaks app ++ on_statements) fine in
     let first = left (priorities app) on_interrupts declared in
     let second = right (priorities app) on_interrupts declared in
     let third = left (interrupts app) on_dispatchers second in
@@ -50,7 +50,7 @@ parts app fine =
       dispatchers = left (dispatchers app) on_owned fourth;
       owned = left (owned_twice [] (members app)) (hardware_tasks app) fifth;
       hardware = right (owned_twice [] (members app)) (hardware_tasks app) fifth;
-      listed = left (listed app) on_statements behind;
+      listed = left (listings_breaks app) on_statements behind;
       statements = left (statements app) (lengths app) last;
       lengths = right (statements app) (lengths app) last;
     }

@@ -4,7 +4,7 @@ use Rattle.std.proofs.Common.{◌≡◌, ℕ, false, [], ◌∷◌, refl, codes,
 use Rattle.rt_ids.specs.Lists.{those_below}
 use Rattle.rt_ids.specs.Holder.{Guarded}
 use Rattle.rt_ids.specs.Content.{Values, Number, Delays}
-use Rattle.rt_ids.specs.Action.{Enters, Leaves, Emits, Posts, Clocks, Takes, Readies, Frees, Arms, Fires, Cancels}
+use Rattle.rt_ids.specs.Action.{Enters, Leaves, Emits, Posts, Clocks, Places, Readies, Frees, Arms, Fires, Cancels}
 use Rattle.rt_ids.specs.Action.{Moves, SetsAlarm, Returns}
 use Rattle.rt_ids.specs.declared.op.Op.TheVariants as op
 use Rattle.rt_ids.specs.declared.ids.Section.TheVariants as section
@@ -57,9 +57,9 @@ undo = record {
 -- then no message has its handle. A section of the timer queue takes 80 core steps and 48 for each of the 2 messages
 -- that may be armed, in a move and in a cancel 128 and 96 for each.
 undone : alone 0 (handler_doing undo (Runs 0) (at_reset []))
-    ≡ Enters (section.Free 1) 48 ∷ Takes 1 ∷ Leaves (section.Free 1)
+    ≡ Enters (section.Free 1) 48 ∷ Places 1 ∷ Leaves (section.Free 1)
     ∷ Enters section.Timer 176 ∷ Clocks ∷ Arms 5 (message 1 1) ∷ SetsAlarm ∷ Leaves section.Timer
-    ∷ Enters (section.Free 1) 48 ∷ Takes 1 ∷ Leaves (section.Free 1)
+    ∷ Enters (section.Free 1) 48 ∷ Places 1 ∷ Leaves (section.Free 1)
     ∷ Enters section.Timer 176 ∷ Clocks ∷ Arms 5 (message 1 2) ∷ SetsAlarm ∷ Leaves section.Timer
     ∷ Enters section.Timer 320 ∷ Clocks ∷ Moves 1 1 9 ∷ SetsAlarm ∷ Leaves section.Timer
     ∷ Enters section.Timer 320 ∷ Cancels 1 2 ∷ SetsAlarm ∷ Leaves section.Timer
@@ -133,9 +133,9 @@ later = record {
 
 -- a handle is of one task: no message of `t` has that of a message of `u`, nor the other way round
 of_another_task : alone 0 (handler_doing later (Runs 0) (at_reset []))
-    ≡ Enters (section.Free 2) 48 ∷ Takes 2 ∷ Leaves (section.Free 2)
+    ≡ Enters (section.Free 2) 48 ∷ Places 2 ∷ Leaves (section.Free 2)
     ∷ Enters section.Timer 176 ∷ Clocks ∷ Arms 5 (message 2 1) ∷ SetsAlarm ∷ Leaves section.Timer
-    ∷ Enters (section.Free 3) 48 ∷ Takes 3 ∷ Leaves (section.Free 3)
+    ∷ Enters (section.Free 3) 48 ∷ Places 3 ∷ Leaves (section.Free 3)
     ∷ Enters section.Timer 176 ∷ Clocks ∷ Arms 5 (message 3 2) ∷ SetsAlarm ∷ Leaves section.Timer
     ∷ Enters section.Timer 320 ∷ Clocks ∷ Moves 2 1 5 ∷ SetsAlarm ∷ Leaves section.Timer
     ∷ Enters section.Timer 320 ∷ Leaves section.Timer

@@ -1,7 +1,7 @@
 -- Worked examples: what bodies and handlers come to is what a person worked out from the language's rules. Messages of software tasks.
 use Rattle.std.proofs.Common.{◌≡◌, false, [], ◌∷◌, refl, codes, Some, None}
 use Rattle.rt_ids.specs.Content.{Values}
-use Rattle.rt_ids.specs.Action.{Enters, Leaves, Emits, Posts, Clocks, Takes, Refuses, Readies, Starts, Frees, Arms, Fires, SetsAlarm, Ends, Returns}
+use Rattle.rt_ids.specs.Action.{Enters, Leaves, Emits, Posts, Clocks, Places, FindsFull, Readies, Starts, Frees, Arms, Fires, SetsAlarm, Ends, Returns}
 use Rattle.rt_ids.specs.Lists.{those_below}
 use Rattle.rt_ids.specs.declared.op.Op.TheVariants as op
 use Rattle.rt_ids.specs.declared.ids.BodyId.TheVariants as body
@@ -35,11 +35,11 @@ cap = record {
 
 -- two places: two spawns are granted, the third is refused
 three_spawns : alone 0 (handler_doing cap (Runs 0) (at_reset []))
-    ≡ Enters (section.Free 1) 48 ∷ Takes 1 ∷ Leaves (section.Free 1)
+    ≡ Enters (section.Free 1) 48 ∷ Places 1 ∷ Leaves (section.Free 1)
     ∷ Enters (section.Ready 1) 48 ∷ Readies 1 (message 1 1) ∷ Posts 1 ∷ Leaves (section.Ready 1)
-    ∷ Enters (section.Free 1) 48 ∷ Takes 1 ∷ Leaves (section.Free 1)
+    ∷ Enters (section.Free 1) 48 ∷ Places 1 ∷ Leaves (section.Free 1)
     ∷ Enters (section.Ready 1) 48 ∷ Readies 1 (message 1 2) ∷ Posts 1 ∷ Leaves (section.Ready 1)
-    ∷ Enters (section.Free 1) 48 ∷ Refuses 1 ∷ Leaves (section.Free 1)
+    ∷ Enters (section.Free 1) 48 ∷ FindsFull 1 ∷ Leaves (section.Free 1)
     ∷ Returns ∷ []
 unfolding cap those_below
 three_spawns = refl
@@ -62,7 +62,7 @@ first_message : alone 0 (handler_doing cap (Dispatches 1) after_task)
     ≡ Enters (section.Ready 1) 56 ∷ Starts 1 (message 1 1) ∷ Posts 1 ∷ Leaves (section.Ready 1)
     ∷ Enters (section.Free 1) 48 ∷ Frees 1 ∷ Leaves (section.Free 1)
     ∷ Emits 1
-    ∷ Enters (section.Free 1) 48 ∷ Takes 1 ∷ Leaves (section.Free 1)
+    ∷ Enters (section.Free 1) 48 ∷ Places 1 ∷ Leaves (section.Free 1)
     ∷ Enters (section.Ready 1) 48 ∷ Readies 1 (message 1 4) ∷ Posts 1 ∷ Leaves (section.Ready 1)
     ∷ Ends (body.Task 1) ∷ Returns ∷ []
 unfolding cap after_task those_below
@@ -111,11 +111,11 @@ timed = record {
 -- Each message is armed for its instant, and the alarm is set each time. A section of the timer queue takes 80 core steps and 48 for
 -- each of the 3 messages that may be armed.
 three_armed : alone 0 (handler_doing timed (Runs 0) (at_reset []))
-    ≡ Enters (section.Free 1) 48 ∷ Takes 1 ∷ Leaves (section.Free 1)
+    ≡ Enters (section.Free 1) 48 ∷ Places 1 ∷ Leaves (section.Free 1)
     ∷ Enters section.Timer 224 ∷ Clocks ∷ Arms 2 (message 1 1) ∷ SetsAlarm ∷ Leaves section.Timer
-    ∷ Enters (section.Free 1) 48 ∷ Takes 1 ∷ Leaves (section.Free 1)
+    ∷ Enters (section.Free 1) 48 ∷ Places 1 ∷ Leaves (section.Free 1)
     ∷ Enters section.Timer 224 ∷ Clocks ∷ Arms 2 (message 1 2) ∷ SetsAlarm ∷ Leaves section.Timer
-    ∷ Enters (section.Free 1) 48 ∷ Takes 1 ∷ Leaves (section.Free 1)
+    ∷ Enters (section.Free 1) 48 ∷ Places 1 ∷ Leaves (section.Free 1)
     ∷ Enters section.Timer 224 ∷ Clocks ∷ Arms 0 (message 1 3) ∷ SetsAlarm ∷ Leaves section.Timer
     ∷ Returns ∷ []
 unfolding timed

@@ -18,12 +18,12 @@ use Rattle.rt_app.specs.Doings.{handler_doing}
 use Rattle.rt_app.proofs.RowParts.{alone, at_reset, irq, dispatcher, body_listing, hardware, software, last}
 use Rattle.rt_app.proofs.RowsHandles.{undo}
 
--- the frame and the cost of a task, the wait of a level, the ceiling of its ready queue
+-- the frame and the cost of a task, the wait of a priority, the ceiling of its ready queue
 abbrev taking : ℕ → ℕ → ℕ → BodyBound
 taking task frame cost = record { body = body.Task task; frame = frame; cost = cost }
 
 abbrev waiting : ℕ → ℕ → Wait
-waiting level steps = record { level = level; steps = steps }
+waiting priority steps = record { priority = priority; steps = steps }
 
 abbrev ready : ℕ → ℕ → ReadyCeiling
 ready level ceiling = record { level = level; ceiling = ceiling }
@@ -88,7 +88,7 @@ waits_by_handles : (bounds puts).waits
 unfolding puts those_below
 waits_by_handles = refl
 
--- each of five levels takes 32 bytes for the basic frame, or 104 for the extended one
+-- each of five priorities takes 32 bytes for the basic frame, or 104 for the extended one
 basic_stack : stack_bytes puts ≡ 632
 unfolding puts bytes_below
 basic_stack = refl
@@ -139,7 +139,7 @@ timer_by_cancels : (ceilings drops).timer ≡ Some 5
 unfolding drops
 timer_by_cancels = refl
 
--- level 3 waits for the section of free places in the dispatcher of `t`, level 5 for that of the timer handler
+-- priority 3 waits for the section of free places in the dispatcher of `t`, priority 5 for that of the timer handler
 dropping_waits : (bounds drops).waits ≡ waiting 2 0 ∷ waiting 3 48 ∷ waiting 5 80 ∷ []
 unfolding drops those_below
 dropping_waits = refl

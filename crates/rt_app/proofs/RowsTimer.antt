@@ -7,7 +7,7 @@ use Rattle.rt_ids.specs.Storage.{At, Nowhere}
 use Rattle.rt_ids.specs.declared.cell.CellRow.{CellRow}
 use Rattle.rt_ids.specs.declared.ids.Section.TheVariants as section
 use Rattle.rt_app.specs.Tree.{Num, Spawns, After, Empty, Then, App}
-use Rattle.rt_app.specs.Level.{armed_messages, armed_before}
+use Rattle.rt_app.specs.Level.{armed_messages, capacities_before}
 use Rattle.rt_app.specs.Layout.{layout, home_of, heap_at}
 use Rattle.rt_app.specs.Holding.{armed_place}
 use Rattle.rt_app.proofs.RowParts.{irq, dispatcher, body_listing, hardware, software, last}

@@ -17,7 +17,7 @@ use Rattle.rt_app.specs.Tree.{Task, App}
 use Rattle.rt_app.specs.Bodies.{Member, members, member_at}
 use Rattle.rt_app.specs.Bodies as bodies
 use Rattle.rt_app.specs.Level.{is_software, is_of_level, levels, holds}
-use Rattle.rt_app.specs.Stack.{has_handler, is_timed_at, handler_levels}
+use Rattle.rt_app.specs.Stack.{has_handler, is_timed_at, handler_priorities}
 use Rattle.rt_app.specs.Ceiling.{greatest_priority, uses_places_of, arms_level, readies, mover_priority, ceiling}
 use Rattle.rt_app.specs.Spawned.{uses_timer}
 use Rattle.rt_app.specs.Declarations.{is_priority, mono_priority, task_priority}
@@ -61,7 +61,7 @@ module _ (app : App) (accepted : IsAccepted app) (parts : Parts app) where
     | inr timed ↦ (let one = is_one_that (λ mono. mono.priority == p) app.mono timed in subst IsLevel (eqb-true one.0.priority p one.2) (mono_in_range one.0 one.1))
   ]
 
-  pub handlers_in_range : AllByRecursion IsLevel (handler_levels app)
+  pub handlers_in_range : AllByRecursion IsLevel (handler_priorities app)
   handlers_in_range = those_all IsLevel (has_handler app) PRIORITIES (λ p below has. handled_in_range p has)
 
   pub levels_in_range : AllByRecursion IsLevel (levels app)

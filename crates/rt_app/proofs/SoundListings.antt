@@ -12,7 +12,7 @@ use Rattle.rt_ids.specs.declared.rule.Rule.TheVariants as rule
 use Rattle.rt_app.specs.Tree.{App}
 use Rattle.rt_app.specs.Bodies.{Member, members}
 use Rattle.rt_app.specs.Declarations.{is_known, owns, owned_before, owned_twice}
-use Rattle.rt_app.specs.Listing.{Listing, listings_of, listings, is_lock_free, is_same, is_shared_and_exclusive, is_at_two_priorities, judged_by, first_listing, judged}
+use Rattle.rt_app.specs.Listing.{Listing, listings_of, listings, is_lock_free, is_same, is_shared_and_exclusive, is_at_two_priorities, breaks_beside, first_listing, listing_breaks}
 use Rattle.rt_app.specs.declared.violation.Violation.{Violation}
 use Rattle.rt_app.specs.Violation.{when}
 use Rattle.rt_app.specs.Accepted.{IsBodyPlaced, IsAccepted}
@@ -37,34 +37,34 @@ module _ (app : App) (accepted : IsAccepted app) (parts : Parts app) where
   record AgreesWith (l f : Listing) : Type 0 where
     pub is_first : first_listing app l.listed.resource ≡ Some f
     pub alike : is_shared_and_exclusive app f l ≡ false
-    pub level : is_at_two_priorities app f l ≡ false
+    pub at_one : is_at_two_priorities app f l ≡ false
 
   agrees : (l : Listing) → IsIn (listings app) l → (f : Listing) × AgreesWith l f
-  agrees l is = (first.0, record { is_first = first.1; alike = alike; level = level })
+  agrees l is = (first.0, record { is_first = first.1; alike = alike; at_one = at_one })
     where
       first : (f : Listing) × (first_listing app l.listed.resource ≡ Some f)
       first = found (λ k. k.listed.resource == l.listed.resource) (listings app) is.0 l is.1 (eq-eqb l.listed.resource l.listed.resource refl)
 
-      fine : judged app l ≡ []
-      fine = all_at (λ l. judged app l ≡ []) (listings app) is.0 l (none_of_each (judged app) (listings app) parts.listed) is.1
+      fine : listing_breaks app l ≡ []
+      fine = all_at (λ l. listing_breaks app l ≡ []) (listings app) is.0 l (none_of_each (listing_breaks app) (listings app) parts.listed) is.1
 
       is_there : is_known l.listed.resource ≡ true
       is_there = known l.listed.resource (length app.shared) (all_at _ (listings app) is.0 l listings_placed is.1) (let few = accepted.limits.shared in omega arith)
 
-      kept : judged_by app l (Some first.0) ≡ []
-      kept = subst (λ o. judged_by app l o ≡ []) first.1 (subst (λ b. (if b then judged_by app l (first_listing app l.listed.resource) else []) ≡ []) is_there fine)
+      kept : breaks_beside app l (Some first.0) ≡ []
+      kept = subst (λ o. breaks_beside app l o ≡ []) first.1 (subst (λ b. (if b then breaks_beside app l (first_listing app l.listed.resource) else []) ≡ []) is_there fine)
 
       on_sharing : List Violation
       on_sharing = when (is_shared_and_exclusive app first.0 l) rule.SharedAndExclusive l.listed.at
 
-      on_level : List Violation
-      on_level = when (is_at_two_priorities app first.0 l) rule.LockFreeAtTwoPriorities l.listed.at
+      on_priority : List Violation
+      on_priority = when (is_at_two_priorities app first.0 l) rule.LockFreeAtTwoPriorities l.listed.at
 
       alike : is_shared_and_exclusive app first.0 l ≡ false
-      alike = not_broken (is_shared_and_exclusive app first.0 l) rule.SharedAndExclusive l.listed.at (append_none_left on_sharing on_level kept)
+      alike = not_broken (is_shared_and_exclusive app first.0 l) rule.SharedAndExclusive l.listed.at (append_none_left on_sharing on_priority kept)
 
-      level : is_at_two_priorities app first.0 l ≡ false
-      level = not_broken (is_at_two_priorities app first.0 l) rule.LockFreeAtTwoPriorities l.listed.at (append_none_right on_sharing on_level kept)
+      at_one : is_at_two_priorities app first.0 l ≡ false
+      at_one = not_broken (is_at_two_priorities app first.0 l) rule.LockFreeAtTwoPriorities l.listed.at (append_none_right on_sharing on_priority kept)
 
   -- two listings of one resource have one first one
   one_first : (l k f g : Listing) → l.listed.resource ≡ k.listed.resource → AgreesWith l f → AgreesWith k g → f ≡ g
@@ -74,10 +74,10 @@ module _ (app : App) (accepted : IsAccepted app) (parts : Parts app) where
   at_one_priority l k is js same free =
       let a = agrees l is in
       let b = agrees k js in
-      level_of l a.0 free a.1 ∙ ap (λ l. l.priority) (one_first l k a.0 b.0 same a.1 b.1) ∙ sym (level_of k b.0 (ap (is_lock_free app) (sym same) ∙ free) b.1)
+      at_one_of l a.0 free a.1 ∙ ap (λ l. l.priority) (one_first l k a.0 b.0 same a.1 b.1) ∙ sym (at_one_of k b.0 (ap (is_lock_free app) (sym same) ∙ free) b.1)
     where
-      level_of : (l f : Listing) → is_lock_free app l.listed.resource ≡ true → AgreesWith l f → l.priority ≡ f.priority
-      level_of l f free agreed = eqb-true l.priority f.priority (not_false _ (of_known (is_lock_free app l.listed.resource) (not (l.priority == f.priority)) free agreed.level))
+      at_one_of : (l f : Listing) → is_lock_free app l.listed.resource ≡ true → AgreesWith l f → l.priority ≡ f.priority
+      at_one_of l f free agreed = eqb-true l.priority f.priority (not_false _ (of_known (is_lock_free app l.listed.resource) (not (l.priority == f.priority)) free agreed.at_one))
 
   pub listed_alike : (l k : Listing) → IsIn (listings app) l → IsIn (listings app) k → l.listed.resource ≡ k.listed.resource → l.listed.by_ref ≡ k.listed.by_ref
   listed_alike l k is js same =

@@ -155,11 +155,11 @@ module _ (app : App) (accepted : IsAccepted app) (parts : Parts app) where
 
   -- what is served is declared, and at a priority that there is
   abbrev IsServed : Service → Type 0
-  IsServed s = (s.irq < length app.irqs) × (1 ≤ s.level) × (s.level ≤ 2 ^ app.bits)
+  IsServed s = (s.irq < length app.irqs) × (1 ≤ s.priority) × (s.priority ≤ 2 ^ app.bits)
 
   bound_served : (n : ℕ) (t : Task) (o : Option ℕ) → IsBindingPlaced app o → (1 ≤ t.priority) × (t.priority ≤ 2 ^ app.bits) → AllByRecursion IsServed (bound_service n t o)
-  bound_served n t None placed level = tt
-  bound_served n t (Some irq) placed level = ((placed, level.0, level.1), tt)
+  bound_served n t None placed in_range = tt
+  bound_served n t (Some irq) placed in_range = ((placed, in_range.0, in_range.1), tt)
 
   tasks_served : (n : ℕ) (ts : List Task) → AllByRecursion (IsTaskPlaced app) ts → AllByRecursion (λ t. (1 ≤ t.priority) × (t.priority ≤ 2 ^ app.bits)) ts → AllByRecursion IsServed (task_services n ts)
   tasks_served n [] placed in_range = tt
@@ -174,7 +174,7 @@ module _ (app : App) (accepted : IsAccepted app) (parts : Parts app) where
 
   timer_served : (o : Option Mono) → app.mono ≡ o → IsMonoPlaced app o → AllByRecursion IsServed (timer_service o)
   timer_served None is placed = tt
-  timer_served (Some mono) is placed = let level = mono_in_range app accepted parts mono is in ((placed, level.0, level.1), tt)
+  timer_served (Some mono) is placed = let in_range = mono_in_range app accepted parts mono is in ((placed, in_range.0, in_range.1), tt)
 
   pub all_served : AllByRecursion IsServed (services app)
   all_served =

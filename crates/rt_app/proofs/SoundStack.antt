@@ -12,7 +12,7 @@ use Rattle.rt_app.specs.Variables.{variables, variables_in}
 use Rattle.rt_app.specs.Spawned.{spawns}
 use Rattle.rt_app.specs.Level.{is_of_level}
 use Rattle.rt_app.specs.Frame.{block_depth, has_loop, statement_locks, locks, spawn_words, expression_words, even, first_spawn_slot, frame_words}
-use Rattle.rt_app.specs.Stack.{is_bound_at, frames_of, is_timed_at, has_handler, dispatcher_need, timer_need, need, level_bytes, bytes_below, thread_frame, stack_bytes}
+use Rattle.rt_app.specs.Stack.{is_bound_at, frames_of, is_timed_at, has_handler, dispatcher_need, timer_need, need, priority_bytes, bytes_below, thread_frame, stack_bytes}
 use Rattle.rt_app.specs.Limits.{statements_in, statements_of, inner_blocks, blocks_of, KeepsBodyLimits, KeepsThreadLimits, KeepsTaskLimits}
 use Rattle.rt_app.specs.Accepted.{IsAccepted}
 use Rattle.rt_app.proofs.Parts.{Parts}
@@ -130,8 +130,8 @@ module _ (app : App) where
   abbrev IsPairs : ℕ → Type 0
   IsPairs n = (k : ℕ) × (n ≡ 8 * k)
 
-  level_pairs : (p : ℕ) → IsPairs (level_bytes app p)
-  level_pairs p = go (has_handler app p) (entry_even app.fpu) (need_even p)
+  priority_pairs : (p : ℕ) → IsPairs (priority_bytes app p)
+  priority_pairs p = go (has_handler app p) (entry_even app.fpu) (need_even p)
     where
       go : (b : Bool) → IsEven (entry_words app.fpu) → IsEven (need app p)
           → IsPairs (if b then 4 * (entry_words app.fpu + need app p) else 0)
@@ -141,7 +141,7 @@ module _ (app : App) where
   below_pairs : (p : ℕ) → IsPairs (bytes_below app p)
   unfolding bytes_below
   below_pairs zero = (0, omega arith)
-  below_pairs (suc p) = let below = below_pairs p in let level = level_pairs p in let e = below.1 in let f = level.1 in (below.0 + level.0, omega arith)
+  below_pairs (suc p) = let below = below_pairs p in let own = priority_pairs p in let e = below.1 in let f = own.1 in (below.0 + own.0, omega arith)
 
   thread_even : (o : Option Body) → IsEven (thread_frame o)
   thread_even None = (0, omega arith)
@@ -177,9 +177,9 @@ module _ (app : App) (accepted : IsAccepted app) (parts : Parts app) where
   need_small : (p : ℕ) → need app p ≤ 1077
   need_small p = omega (arith, frames_small (is_bound_at p), dispatcher_small p, timer_small p)
 
-  -- no level above the greatest priority has a handler
-  level_small : (p : ℕ) → level_bytes app p + 4412 * min p 129 ≤ 4412 * min (suc p) 129
-  level_small p = go (has_handler app p) refl (entry_small app.fpu) (need_small p)
+  -- no priority above the greatest priority has a handler
+  priority_small : (p : ℕ) → priority_bytes app p + 4412 * min p 129 ≤ 4412 * min (suc p) 129
+  priority_small p = go (has_handler app p) refl (entry_small app.fpu) (need_small p)
     where
       low : has_handler app p ≡ true → p ≤ 128
       low has =
@@ -196,7 +196,7 @@ module _ (app : App) (accepted : IsAccepted app) (parts : Parts app) where
   below_small : (p : ℕ) → bytes_below app p ≤ 4412 * min p 129
   unfolding bytes_below
   below_small zero = omega arith
-  below_small (suc p) = omega (arith, below_small p, level_small p)
+  below_small (suc p) = omega (arith, below_small p, priority_small p)
 
   thread_small : (o : Option Body) → KeepsThreadLimits o → thread_frame o ≤ 1061
   thread_small None limits = omega arith

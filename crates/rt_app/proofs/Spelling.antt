@@ -10,13 +10,13 @@ use Rattle.rt_ids.specs.Lists.{is_some_and, or_zero}
 use Rattle.rt_ids.specs.Holder.{Holder, Guarded, Own}
 use Rattle.rt_ids.specs.Content.{Content, Number, Messages}
 use Rattle.rt_ids.specs.Entry.{Entry, count}
-use Rattle.rt_ids.specs.Storage.{Runner, Starting, AtLevel, At, In}
+use Rattle.rt_ids.specs.Storage.{Runner, Starting, AtPriority, At, In}
 use Rattle.rt_ids.specs.declared.ids.Section.TheVariants as section
 use Rattle.rt_app.specs.Tree.{Task, App}
 use Rattle.rt_app.specs.Level.{is_software, is_of_level, levels, is_armed, armed_messages}
 use Rattle.rt_app.specs.Sending.{capacity_of}
 use Rattle.rt_app.specs.Layout.{resource_at, local_at, free_at, inputs_at, ready_at, ready_room, timer_at, home_of}
-use Rattle.rt_app.specs.Holding.{arguments_of, message_at, armed_place, instant_at, arming_at, handle_at, armed_at}
+use Rattle.rt_app.specs.Holding.{arguments_of, message_at, armed_place, instant_at, arming_at, handle_at, arming_of_entry}
 use Rattle.rt_app.specs.Holding.{SpellsFree, SpellsReady, SpellsTimer, Spells, is_kept, IsHeld}
 use Rattle.rt_app.proofs.Laid.{resource_is_home, local_is_home}
 use Rattle.rt_app.proofs.LaidQueues.{free_is_home, input_is_home, ready_is_home}
@@ -38,11 +38,11 @@ IsTimedPlace app e =
 
 no_runner : (app : App) (p : ℕ) (who : Runner) → is_kept app who (Guarded (section.Ready p)) ≡ false
 no_runner app p Starting = refl
-no_runner app p (AtLevel q) = refl
+no_runner app p (AtPriority q) = refl
 
 no_keeper : (app : App) (who : Runner) → is_kept app who (Guarded section.Timer) ≡ false
 no_keeper app Starting = refl
-no_keeper app (AtLevel q) = refl
+no_keeper app (AtPriority q) = refl
 
 pub the_task : (test : Task → Bool) (app : App) (n : ℕ) → is_some_and test (slice_get app.tasks n) ≡ true → (t : Task) × (slice_get app.tasks n ≡ Some t) × (test t ≡ true)
 the_task test app n is = go (slice_get app.tasks n) refl is
@@ -148,7 +148,7 @@ module _ (app : App) (before after : ℕ → ℕ) (entries : List Entry) where
       record {
         timed = spells.timed;
         is = spells.is;
-        messages = spells.messages ∙ map_alike_at (armed_at app before) (armed_at app after) entries armed;
+        messages = spells.messages ∙ map_alike_at (arming_of_entry app before) (arming_of_entry app after) entries armed;
         handled = spells.handled;
         places = spells.places;
         room = spells.room;
@@ -190,7 +190,7 @@ module _ (app : App) (before after : ℕ → ℕ) (entries : List Entry) where
           let less = row i e at in
           sym (same _ (3 + 2 * armed_messages app + armed_place app e) (omega arith) (omega arith))
 
-      armed : (i : ℕ) (e : Entry) → slice_get entries i ≡ Some e → armed_at app before e ≡ armed_at app after e
+      armed : (i : ℕ) (e : Entry) → slice_get entries i ≡ Some e → arming_of_entry app before e ≡ arming_of_entry app after e
       armed i e at =
           let here = place i e at in
           let task = the_task is_software app e.task here.1 in

@@ -19,7 +19,7 @@ use Rattle.rt_app.specs.Declarations.{owns}
 use Rattle.rt_app.specs.Handlers.{services, dispatcher_of}
 use Rattle.rt_app.specs.BodyCost.{cost_measure, size_measure, body_cost, shared_size}
 use Rattle.rt_app.specs.Steps.{block_steps}
-use Rattle.rt_app.specs.Stack.{stack_bytes, handler_levels}
+use Rattle.rt_app.specs.Stack.{stack_bytes, handler_priorities}
 use Rattle.rt_app.specs.Accepted.{IsAccepted}
 use Rattle.rt_app.specs.Sound.{IsSoundBody}
 
@@ -37,7 +37,7 @@ pub record IsSound (app : App) : Type 0 where
   pub steps : AllByRecursion (λ m. block_steps (cost_measure app) m.body.block + 1 ≤ BODY_COST) (members app)
   pub size : shared_size app + sum_by (λ m. body_cost (size_measure app) m.body) (members app) ≤ CODE_SIZE
   -- levels and ceilings are priorities that there are
-  pub priorities : AllByRecursion (λ p. (1 ≤ p) × (p ≤ 2 ^ app.bits)) (handler_levels app)
+  pub priorities : AllByRecursion (λ p. (1 ≤ p) × (p ≤ 2 ^ app.bits)) (handler_priorities app)
   pub ceilings : (s : Section) → IsSectionOf app s → ceiling app s ≤ 2 ^ app.bits
   -- a resource that is `lock_free` is listed at one priority; one that is read as `&name` is so by all that list it,
   -- and is not `lock_free`; a local one is listed by one body
@@ -51,7 +51,7 @@ pub record IsSound (app : App) : Type 0 where
       → owns n m ≡ true → owns n o ≡ true → i ≡ j
   -- an interrupt that serves something is declared, serves that alone, and at a priority that there is; numbers are
   -- those of interrupts, and differ; each level of software tasks has a dispatcher
-  pub served : AllByRecursion (λ s. (s.irq < length app.irqs) × (1 ≤ s.level) × (s.level ≤ 2 ^ app.bits)) (services app)
+  pub served : AllByRecursion (λ s. (s.irq < length app.irqs) × (1 ≤ s.priority) × (s.priority ≤ 2 ^ app.bits)) (services app)
   pub services_differ : AreDifferent (map (λ s. s.irq) (services app))
   pub numbers : AllByRecursion (λ d. d.number < IRQ_NUMBERS) app.irqs
   pub numbers_differ : AreDifferent (map (λ d. d.number) app.irqs)

@@ -8,7 +8,7 @@ use Rattle.rt_app.specs.declared.costs.TheConstants.{HANDLE_SECTION_COST, HANDLE
 use Rattle.rt_app.specs.Tree.{Body, App}
 use Rattle.rt_app.specs.Level.{is_of_level, levels, tasks_of_level, armed_messages, armed_tasks}
 use Rattle.rt_ids.specs.Lists.{greatest}
-use Rattle.rt_app.specs.Cost.{Measure, capped, block_cost}
+use Rattle.rt_app.specs.Cost.{Measure, capped_cost, block_cost}
 
 -- core steps, where all messages that may be armed are
 abbrev pub cost_measure : App → Measure
@@ -20,7 +20,7 @@ size_measure app = record { messages = min (armed_messages app) SIZED_MESSAGES; 
 
 -- the cost or the size of a body: its block and its end
 abbrev pub body_cost : Measure → Body → ℕ
-body_cost m b = capped (block_cost m b.block + 1)
+body_cost m b = capped_cost (block_cost m b.block + 1)
 
 -- a body that is not declared has its end alone
 abbrev pub cost_of : Measure → Option Body → ℕ

@@ -37,8 +37,8 @@ body_holds_no_pend None = true
 body_holds_no_pend (Some b) = holds_no_pend b.block
 
 -- hardware tasks alone, and none of the declared bodies pends an interrupt: the form that response times are told for
-abbrev pub is_of_t_form : App → Bool
-is_of_t_form app =
+abbrev pub has_response_times : App → Bool
+has_response_times app =
     (has_no_software app && has_no_monotonic app) && list_all (λ m. holds_no_pend m.body.block) (members app)
 
 -- `init` is over soon
@@ -47,6 +47,6 @@ is_brief app = nat_le (cost_of (cost_measure app) app.init) BRIEF_INIT_COST
 
 -- hardware tasks alone, and an `init` that pends no interrupt and is over soon: the form that a script to the stack
 -- bound is written for
-abbrev pub is_of_w_form : App → Bool
-is_of_w_form app =
+abbrev pub has_deepest_script : App → Bool
+has_deepest_script app =
     (has_no_software app && has_no_monotonic app) && (body_holds_no_pend app.init && is_brief app)

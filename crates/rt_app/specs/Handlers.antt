@@ -16,11 +16,11 @@ pub data Handler : Type 0 where
   -- the timer handler
   Times : Handler
 
--- an interrupt that is served: its place in the order of declaration, what serves it, and the priority of that
+-- an interrupt that is served: its index in the order of declaration, what serves it, and the priority of that
 pub record Service : Type 0 where
   pub irq : ℕ
   pub handler : Handler
-  pub level : ℕ
+  pub priority : ℕ
 
 -- the dispatcher of a level: as many are named before it as there are higher levels
 abbrev pub dispatcher_of : App → ℕ → Option ℕ
@@ -29,7 +29,7 @@ dispatcher_of app p = option_map (λ d. d.irq) (slice_get app.dispatchers (lengt
 -- a task serves the interrupt that it binds
 abbrev pub bound_service : ℕ → Task → Option ℕ → List Service
 bound_service n t None = []
-bound_service n t (Some irq) = record { irq = irq; handler = Runs n; level = t.priority } ∷ []
+bound_service n t (Some irq) = record { irq = irq; handler = Runs n; priority = t.priority } ∷ []
 
 -- what serves the interrupts that the tasks from this number on bind
 abbrev pub task_services : ℕ → List Task → List Service
@@ -39,23 +39,23 @@ task_services n (t ∷ ts) = bound_service n t t.binds ++ task_services (n + 1) 
 -- a dispatcher serves the interrupt that is named for its level
 abbrev pub dispatcher_service : ℕ → Option ℕ → List Service
 dispatcher_service p None = []
-dispatcher_service p (Some irq) = record { irq = irq; handler = Dispatches p; level = p } ∷ []
+dispatcher_service p (Some irq) = record { irq = irq; handler = Dispatches p; priority = p } ∷ []
 
 -- the timer handler serves that of the monotonic
 abbrev pub timer_service : Option Mono → List Service
 timer_service None = []
-timer_service (Some mono) = record { irq = mono.irq; handler = Times; level = mono.priority } ∷ []
+timer_service (Some mono) = record { irq = mono.irq; handler = Times; priority = mono.priority } ∷ []
 
 -- the interrupts that are enabled: those of hardware tasks, of the dispatchers in use, and of the monotonic
 abbrev pub services : App → List Service
 services app = task_services 0 app.tasks
     ++ (flat_map (λ p. dispatcher_service p (dispatcher_of app p)) (levels app) ++ timer_service app.mono)
 
--- what serves an interrupt, by its place
+-- what serves an interrupt, by its index
 abbrev pub service_of : App → ℕ → List Service
 service_of app irq = filter (λ s. s.irq == irq) (services app)
 
--- the number of an interrupt, by its place
+-- the number of an interrupt, by its index
 abbrev pub irq_number : App → ℕ → Option ℕ
 irq_number app irq = option_map (λ d. d.number) (slice_get app.irqs irq)
 

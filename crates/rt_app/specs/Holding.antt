@@ -9,11 +9,11 @@ use Rattle.rt_ids.specs.Holder.{Holder, Guarded, Own}
 use Rattle.rt_ids.specs.Content.{Content, Number, Messages, Delays, Message, Armed, Timed}
 use Rattle.rt_ids.specs.Entry.{Entry}
 use Rattle.rt_ids.specs.Priority.{hardware}
-use Rattle.rt_ids.specs.Storage.{Storage, Runner, Starting, AtLevel}
+use Rattle.rt_ids.specs.Storage.{Storage, Runner, Starting, AtPriority}
 use Rattle.rt_ids.specs.declared.ids.Section.TheVariants as section
 use Rattle.rt_app.specs.Tree.{App}
 use Rattle.rt_app.specs.Bodies.{Member, members}
-use Rattle.rt_app.specs.Level.{is_software, is_of_level, levels, is_armed, armed_messages, armed_before}
+use Rattle.rt_app.specs.Level.{is_software, is_of_level, levels, is_armed, armed_messages, capacities_before}
 use Rattle.rt_app.specs.Ceiling.{ceiling, lists}
 use Rattle.rt_app.specs.Declarations.{owns}
 use Rattle.rt_app.specs.Statements.{is_init}
@@ -21,7 +21,7 @@ use Rattle.rt_app.specs.Listing.{is_lock_free, listings}
 use Rattle.rt_app.specs.Handlers.{irq_number}
 use Rattle.rt_app.specs.Sending.{capacity_of}
 use Rattle.rt_app.specs.Layout.{resource_at, local_at, free_at, inputs_at, ready_at, ready_room, home_of}
-use Rattle.rt_app.specs.Layout.{timer_at, armings_at, given_at, instants_at, numbers_at, handles_at, heap_at}
+use Rattle.rt_app.specs.Layout.{timer_at, armings_at, handle_count_at, instants_at, numbers_at, handles_at, heap_at}
 use Rattle.rt_app.specs.Handled.{AreHandled}
 use Rattle.rt_app.specs.Heap.{IsArranged}
 
@@ -32,7 +32,7 @@ message_word e = 16 * e.task + e.place
 -- a place of a task that may be armed as a number below the number of messages that may be: the row of its cells in the
 -- columns of the timer queue
 abbrev pub armed_place : App → Entry → ℕ
-armed_place app e = armed_before app e.task + e.place
+armed_place app e = capacities_before app e.task + e.place
 
 -- how many arguments a task takes
 abbrev pub arguments_of : App → ℕ → ℕ
@@ -79,14 +79,14 @@ module _ (app : App) (cells : ℕ → ℕ) where
   handle_at e = cells (handles_at app + armed_place app e)
 
   -- the armed message of a place, with its instant and its handle
-  abbrev pub armed_at : Entry → Armed
-  armed_at e = record { instant = instant_at e; message = message_at e; handle = handle_at e }
+  abbrev pub arming_of_entry : Entry → Armed
+  arming_of_entry e = record { instant = instant_at e; message = message_at e; handle = handle_at e }
 
   -- The armed messages, in order of their last arming. Their places lie as a heap, by instant and arming.
   pub record SpellsTimer (entries : List Entry) (content : Content) : Type 0 where
     pub timed : Timed
     pub is : content ≡ Delays timed
-    pub messages : timed.armed ≡ map armed_at entries
+    pub messages : timed.armed ≡ map arming_of_entry entries
     pub handled : AreHandled timed
     pub places : AllByRecursion
         (λ e. (is_armed app e.task ≡ true) × (is_some_and is_software (slice_get app.tasks e.task) ≡ true)
@@ -95,7 +95,7 @@ module _ (app : App) (cells : ℕ → ℕ) where
     pub room : length entries ≤ armed_messages app
     pub count : cells (timer_at app) ≡ length entries
     pub armings : cells (armings_at app) ≡ timed.given + timed.moved
-    pub given : cells (given_at app) ≡ timed.given
+    pub given : cells (handle_count_at app) ≡ timed.given
     pub heap : List Entry
     pub column : (i : ℕ) (e : Entry) → slice_get heap i ≡ Some e → cells (heap_at app + i) ≡ armed_place app e
     pub arranged : IsArranged instant_at arming_at (timed.given + timed.moved) heap entries
@@ -109,22 +109,22 @@ module _ (app : App) (cells : ℕ → ℕ) where
   Spells (Guarded section.Timer) entries content = SpellsTimer entries content
 
 module _ (app : App) where
-  -- whether a body that runs at a level, `init` aside, passes
+  -- whether a body that runs at a priority, `init` aside, passes
   abbrev pub is_some_at : (Member → Bool) → ℕ → Bool
   is_some_at test p = list_any (λ m. not (is_init m.id) && ((m.priority == p) && test m)) (members app)
 
-  -- What a runner keeps from its start to its end: `init` every resource and the local ones that it lists, a level the
-  -- local resources and the `lock_free` ones that its bodies list. At most one job of a level has started at a time.
+  -- What a runner keeps from its start to its end: `init` every resource and the local ones that it lists, a priority the
+  -- local resources and the `lock_free` ones that its bodies list. At most one job of a priority has started at a time.
   abbrev pub is_kept : Runner → Holder → Bool
   is_kept Starting (Guarded (section.Res r)) = nat_lt r (length app.shared)
   is_kept Starting (Own n) = list_any (λ m. is_init m.id && owns n m) (members app)
-  is_kept (AtLevel p) (Guarded (section.Res r)) = is_lock_free app r && is_some_at (lists r) p
-  is_kept (AtLevel p) (Own n) = is_some_at (owns n) p
+  is_kept (AtPriority p) (Guarded (section.Res r)) = is_lock_free app r && is_some_at (lists r) p
+  is_kept (AtPriority p) (Own n) = is_some_at (owns n) p
   is_kept runner holder = false
 
   -- once `init` has ended nobody changes a resource that is listed as `&name`
   abbrev pub is_constant : Runner → Holder → Bool
-  is_constant (AtLevel p) (Guarded (section.Res r)) =
+  is_constant (AtPriority p) (Guarded (section.Res r)) =
       list_any (λ l. (l.listed.resource == r) && l.listed.by_ref) (listings app)
   is_constant runner holder = false
 

@@ -139,8 +139,8 @@ abbrev pub armings_at : App → ℕ
 armings_at app = timer_at app + 1
 
 -- the cell of the count of handles that were given
-abbrev pub given_at : App → ℕ
-given_at app = timer_at app + 2
+abbrev pub handle_count_at : App → ℕ
+handle_count_at app = timer_at app + 2
 
 -- the first cell of the column of instants
 abbrev pub instants_at : App → ℕ
@@ -159,9 +159,9 @@ abbrev pub heap_at : App → ℕ
 heap_at app = handles_at app + armed_messages app
 
 -- the first cell of the timer queue, where there is a monotonic
-abbrev pub timed_at : App → Option Mono → ℕ
-timed_at app None = 0
-timed_at app (Some mono) = timer_at app
+abbrev pub timer_queue_at : App → Option Mono → ℕ
+timer_queue_at app None = 0
+timer_queue_at app (Some mono) = timer_at app
 
 -- what the cell of this number belongs to
 abbrev pub home_of : App → ℕ → Home
@@ -197,5 +197,5 @@ layout app = record {
   inputs = numbers_of has_inputs (inputs_at app) 0 app.tasks;
   free = numbers_of is_software (free_at app) 0 app.tasks;
   ready = map (ready_at app) (levels app);
-  timer = timed_at app app.mono;
+  timer = timer_queue_at app app.mono;
 }

@@ -56,5 +56,5 @@ abbrev pub armed_tasks : App → ℕ
 armed_tasks app = armed_count app 0 app.tasks
 
 -- the capacities of such tasks before this one
-abbrev pub armed_before : App → ℕ → ℕ
-armed_before app n = armed_capacities app 0 (take n app.tasks)
+abbrev pub capacities_before : App → ℕ → ℕ
+capacities_before app n = armed_capacities app 0 (take n app.tasks)

@@ -43,9 +43,9 @@ abbrev pub is_at_two_priorities : App → Listing → Listing → Bool
 is_at_two_priorities app first l = is_lock_free app l.listed.resource && not (l.priority == first.priority)
 
 -- the rules that a listing breaks, beside the first of its resource
-abbrev pub judged_by : App → Listing → Option Listing → List Violation
-judged_by app l None = []
-judged_by app l (Some first) =
+abbrev pub breaks_beside : App → Listing → Option Listing → List Violation
+breaks_beside app l None = []
+breaks_beside app l (Some first) =
     when (is_shared_and_exclusive app first l) rule.SharedAndExclusive l.listed.at
     ++ when (is_at_two_priorities app first l) rule.LockFreeAtTwoPriorities l.listed.at
 
@@ -54,9 +54,9 @@ abbrev pub first_listing : App → ℕ → Option Listing
 first_listing app r = find (λ l. l.listed.resource == r) (listings app)
 
 -- the rules that a listing breaks
-abbrev pub judged : App → Listing → List Violation
-judged app l = if is_known l.listed.resource then judged_by app l (first_listing app l.listed.resource) else []
+abbrev pub listing_breaks : App → Listing → List Violation
+listing_breaks app l = if is_known l.listed.resource then breaks_beside app l (first_listing app l.listed.resource) else []
 
 -- every rule on listings that is broken
-abbrev pub listed : App → List Violation
-listed app = flat_map (judged app) (listings app)
+abbrev pub listings_breaks : App → List Violation
+listings_breaks app = flat_map (listing_breaks app) (listings app)

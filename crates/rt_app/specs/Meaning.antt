@@ -6,7 +6,7 @@ use Rattle.std.specs.Prelude.{ℕ, zero, suc, ◌-◌, ◌==◌, if◌then◌els
 use Rattle.rt_ids.specs.Lists.{or_zero}
 use Rattle.rt_ids.specs.Operation.{operate}
 use Rattle.rt_ids.specs.Holder.{Guarded, Own}
-use Rattle.rt_ids.specs.Content.{Values, Number, number, put_at}
+use Rattle.rt_ids.specs.Content.{Values, Number, number, values_with}
 use Rattle.rt_ids.specs.Action.{Enters, Leaves, Emits, Posts, Clocks}
 use Rattle.rt_ids.specs.Doing.{does}
 use Rattle.rt_ids.specs.declared.ids.Section.TheVariants as section
@@ -38,8 +38,8 @@ value_in vars vs (Oper op left right) = operate op (value_in vars vs left) (valu
 -- a name comes to stand for this
 abbrev pub assign : Atom → ℕ → Later → Later
 assign (atom.Var x) n later vars vs = later (slice_set vars x n) vs
-assign (atom.Shared r) n later vars vs = later vars (put_at vs (Guarded (section.Res r)) (Number n))
-assign (atom.Local l) n later vars vs = later vars (put_at vs (Own l) (Number n))
+assign (atom.Shared r) n later vars vs = later vars (values_with vs (Guarded (section.Res r)) (Number n))
+assign (atom.Local l) n later vars vs = later vars (values_with vs (Own l) (Number n))
 
 -- So many turns of a loop, from a number on. Its variable is set behind the last turn too, where nobody reads it.
 abbrev pub turns_from : ℕ → ℕ → ℕ → (Later → Later) → Later → Later

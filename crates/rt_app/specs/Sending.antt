@@ -6,8 +6,8 @@ use Rattle.std.specs.Prelude.{ℕ, ◌+◌, min, nat_lt, Bool, List, [], ◌∷�
 use Rattle.std.specs.Prelude.{if◌then◌else◌}
 use Rattle.rt_ids.specs.Lists.{or_zero, then_from}
 use Rattle.rt_ids.specs.Holder.{Guarded}
-use Rattle.rt_ids.specs.Content.{Message, Values, number, timed, delays, armed_as}
-use Rattle.rt_ids.specs.Action.{Action, Enters, Leaves, Posts, Clocks, Takes, Refuses, Readies, Frees, Arms, Cancels}
+use Rattle.rt_ids.specs.Content.{Message, Values, number, timer_content, delays, message_of_handle}
+use Rattle.rt_ids.specs.Action.{Action, Enters, Leaves, Posts, Clocks, Places, FindsFull, Readies, Frees, Arms, Cancels}
 use Rattle.rt_ids.specs.Action.{Moves, SetsAlarm}
 use Rattle.rt_ids.specs.Doing.{Doing, does}
 use Rattle.rt_ids.specs.declared.limits.TheConstants.{LONGEST_DELAY}
@@ -48,8 +48,8 @@ module _ (app : App) where
   abbrev pub take_place : ℕ → Rest → Rest → Rest
   take_place n granted refused =
       act (Enters (section.Free n) FREE_COST)
-      (λ vs. if has_place n vs then act_all (Takes n ∷ Leaves (section.Free n) ∷ []) granted vs
-      else act_all (Refuses n ∷ Leaves (section.Free n) ∷ []) refused vs)
+      (λ vs. if has_place n vs then act_all (Places n ∷ Leaves (section.Free n) ∷ []) granted vs
+      else act_all (FindsFull n ∷ Leaves (section.Free n) ∷ []) refused vs)
 
   -- a message becomes ready at a level, whose dispatcher is pended
   abbrev pub ready_actions : ℕ → Message → List Action
@@ -71,11 +71,11 @@ module _ (app : App) where
       act (Enters section.Timer cost)
       (λ vs. does Clocks vs
       (λ time. act (Arms (instant_after time delay) m)
-      (λ vs. leave_timer (rest (timed (vs (Guarded section.Timer))).given) vs)))
+      (λ vs. leave_timer (rest (timer_content (vs (Guarded section.Timer))).given) vs)))
 
   -- some armed message of the task has this handle
   abbrev pub is_armed_as : ℕ → ℕ → Values → Bool
-  is_armed_as n handle vs = is_some (armed_as n handle (delays (vs (Guarded section.Timer))))
+  is_armed_as n handle vs = is_some (message_of_handle n handle (delays (vs (Guarded section.Timer))))
 
   -- In a section of this cost an armed message is taken back, and its place is free again; the rest is then the first.
   -- Where no armed message of the task has the handle, it is the second.

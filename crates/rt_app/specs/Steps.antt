@@ -5,7 +5,7 @@ use Rattle.rt_app.specs.declared.costs.TheConstants.{SPAWN_COST, SPAWN_AFTER_COS
 use Rattle.rt_app.specs.declared.costs.TheConstants.{HANDLE_COST, HANDLE_MESSAGE_COST}
 use Rattle.rt_app.specs.Tree.{Expression, Num, Read, Oper, Spawn, Soon, After, Cancel, Move, Value, Calc, Now, Call}
 use Rattle.rt_app.specs.Tree.{Statement, Bind, Assign, Branch, Repeat, Locked, Emit, Pend, Spawns, Block, Empty, Then}
-use Rattle.rt_app.specs.Cost.{Measure, capped, branch_cost, turns, expression_cost, spawn_cost, statement_cost}
+use Rattle.rt_app.specs.Cost.{Measure, capped_cost, branch_cost, turns, expression_cost, spawn_cost, statement_cost}
 use Rattle.rt_app.specs.Cost.{block_cost}
 
 -- the steps of an expression: one for each name, number and operation
@@ -54,7 +54,7 @@ abbrev mutual
 
 -- each cost is the sum, up to the cap
 pub record CapSteps : Type 0 where
-  pub expressions : (e : Expression) → expression_cost e ≡ capped (expression_steps e)
-  pub spawns : (m : Measure) (s : Spawn) → spawn_cost m s ≡ capped (spawn_steps m s)
-  pub statements : (m : Measure) (s : Statement) → statement_cost m s ≡ capped (statement_steps m s)
-  pub blocks : (m : Measure) (b : Block) → block_cost m b ≡ capped (block_steps m b)
+  pub expressions : (e : Expression) → expression_cost e ≡ capped_cost (expression_steps e)
+  pub spawns : (m : Measure) (s : Spawn) → spawn_cost m s ≡ capped_cost (spawn_steps m s)
+  pub statements : (m : Measure) (s : Statement) → statement_cost m s ≡ capped_cost (statement_steps m s)
+  pub blocks : (m : Measure) (b : Block) → block_cost m b ≡ capped_cost (block_steps m b)

@@ -1,5 +1,5 @@
--- An application with its names resolved: an interrupt, a task or a resource is its place in the order of declaration,
--- and 255 where its name is not declared. A variable is its place among the arguments, `let` and `for` statements of
+-- An application with its names resolved: an interrupt, a task or a resource is its index in the order of declaration,
+-- and 255 where its name is not declared. A variable is its index among the arguments, `let` and `for` statements of
 -- its body in order of the text. Offsets are the bytes of the text before.
 use Rattle.std.specs.Prelude.{ℕ, List, Option, Bool}
 use Rattle.rt_ids.specs.declared.op.Op.{Op}

@@ -21,38 +21,38 @@ pub record Placed : Type 0 where
 
 module _ (locked : List ℕ) where
   -- a use with these resources locked
-  abbrev pub placed : Use → Placed
-  placed u = record { what = u; locked = locked }
+  abbrev pub use_with_locks : Use → Placed
+  use_with_locks u = record { what = u; locked = locked }
 
   -- an expression reads its names
   abbrev pub reads : Expression → List Placed
   reads (Num n) = []
-  reads (Read atom at) = placed (Reads atom at) ∷ []
+  reads (Read atom at) = use_with_locks (Reads atom at) ∷ []
   reads (Oper o left right) = reads left ++ reads right
 
   -- a spawn reads its delay, and its arguments or its handle
   abbrev pub spawn_uses : Spawn → List Placed
-  spawn_uses (Soon task args at) = placed (MakesSpawn (Soon task args at)) ∷ flat_map reads args
+  spawn_uses (Soon task args at) = use_with_locks (MakesSpawn (Soon task args at)) ∷ flat_map reads args
   spawn_uses (After word delay task args at) =
-      placed (MakesSpawn (After word delay task args at)) ∷ (reads delay ++ flat_map reads args)
-  spawn_uses (Cancel word task handle at) = placed (MakesSpawn (Cancel word task handle at)) ∷ reads handle
+      use_with_locks (MakesSpawn (After word delay task args at)) ∷ (reads delay ++ flat_map reads args)
+  spawn_uses (Cancel word task handle at) = use_with_locks (MakesSpawn (Cancel word task handle at)) ∷ reads handle
   spawn_uses (Move word delay task handle at) =
-      placed (MakesSpawn (Move word delay task handle at)) ∷ (reads delay ++ reads handle)
+      use_with_locks (MakesSpawn (Move word delay task handle at)) ∷ (reads delay ++ reads handle)
 
   -- the uses of the value of a `let`
   abbrev pub value_uses : Value → List Placed
   value_uses (Calc e) = reads e
-  value_uses (Now at) = placed (AsksTime at) ∷ []
+  value_uses (Now at) = use_with_locks (AsksTime at) ∷ []
   value_uses (Call s) = spawn_uses s
 
 abbrev mutual
   -- the uses of a statement and of its inner blocks, with these resources locked round it
   pub statement_uses : List ℕ → Statement → List Placed
   statement_uses locked (Bind x v) = value_uses locked v
-  statement_uses locked (Assign x e at) = placed locked (Writes x at) ∷ reads locked e
+  statement_uses locked (Assign x e at) = use_with_locks locked (Writes x at) ∷ reads locked e
   statement_uses locked (Branch e first second) = reads locked e ++ (uses locked first ++ uses locked second)
   statement_uses locked (Repeat x first last turn) = uses locked turn
-  statement_uses locked (Locked r inner at) = placed locked (Locks r at) ∷ uses (r ∷ locked) inner
+  statement_uses locked (Locked r inner at) = use_with_locks locked (Locks r at) ∷ uses (r ∷ locked) inner
   statement_uses locked (Emit e) = reads locked e
   statement_uses locked (Pend i) = []
   statement_uses locked (Spawns s) = spawn_uses locked s

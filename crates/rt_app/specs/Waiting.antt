@@ -2,7 +2,7 @@
 -- since no other can begin while it is pending (Baker, Stack-Based Scheduling of Realtime Processes, 1991, on
 -- blocking). A section counts where its ceiling is at least the priority, its body is of lower priority, and it
 -- stands in no other section of its body of such a ceiling: that one holds the priority off already. (In a loop of
--- no turns it can cost more than that one.) `init` counts for nothing. The code walks each body once a level, and
+-- no turns it can cost more than that one.) `init` counts for nothing. The code walks each body once a priority, and
 -- does not look into a section that counts.
 use Rattle.std.specs.Prelude.{ℕ, ◌+◌, Bool, max, ◌&&◌, nat_lt, nat_le, List, [], ◌∷◌, ◌++◌, map, filter}
 use Rattle.std.specs.Prelude.{Option, Some, None, if◌then◌else◌}
@@ -20,56 +20,56 @@ use Rattle.rt_app.specs.Cost.{lock_cost, block_cost}
 use Rattle.rt_app.specs.BodyCost.{cost_measure, dispatcher_section_cost, timer_section_cost, handle_section_cost}
 
 -- a section of some body's code
-pub record Critical : Type 0 where
+pub record CriticalSection : Type 0 where
   -- the priority of the body
-  pub level : ℕ
+  pub priority : ℕ
   -- the greatest ceiling of the sections of the body that it stands in, and 0 where it stands in none
   pub outer : ℕ
   pub ceiling : ℕ
   -- its core steps, from the entering to the leaving
   pub cost : ℕ
 
--- in code that runs at a level
-module _ (app : App) (level : ℕ) where
+-- in code that runs at a priority
+module _ (app : App) (priority : ℕ) where
   -- and that stands in sections of ceilings up to this
   module _ (outer : ℕ) where
     -- a section that guards this
-    abbrev pub critical : Section → ℕ → Critical
-    critical s cost = record { level = level; outer = outer; ceiling = ceiling app s; cost = cost }
+    abbrev pub critical : Section → ℕ → CriticalSection
+    critical s cost = record { priority = priority; outer = outer; ceiling = ceiling app s; cost = cost }
 
     -- the places that a software task's messages have left
-    abbrev pub free_section : ℕ → Critical
+    abbrev pub free_section : ℕ → CriticalSection
     free_section task = critical (section.Free task) FREE_COST
 
     -- the ready messages of a level
-    abbrev pub ready_section : ℕ → ℕ → Critical
+    abbrev pub ready_section : ℕ → ℕ → CriticalSection
     ready_section p cost = critical (section.Ready p) cost
 
     -- the armed messages, of a section of this cost
-    abbrev pub timer_section : ℕ → Critical
+    abbrev pub timer_section : ℕ → CriticalSection
     timer_section cost = critical section.Timer cost
 
     -- a lock round a block
-    abbrev pub lock_section : ℕ → Block → Critical
+    abbrev pub lock_section : ℕ → Block → CriticalSection
     lock_section r inner = critical (section.Res r) (lock_cost (block_cost (cost_measure app) inner))
 
     -- a spawn takes a place, and makes its message ready or arms it; a cancel takes an armed message, and gives its
     -- place back
-    abbrev pub spawn_sections : Spawn → List Critical
+    abbrev pub spawn_sections : Spawn → List CriticalSection
     spawn_sections (Soon task args at) = free_section task ∷ ready_section (task_priority app task) READY_COST ∷ []
     spawn_sections (After word delay task args at) = free_section task ∷ timer_section (timer_section_cost app) ∷ []
     spawn_sections (Cancel word task handle at) = timer_section (handle_section_cost app) ∷ free_section task ∷ []
     spawn_sections (Move word delay task handle at) = timer_section (handle_section_cost app) ∷ []
 
     -- the sections of the value of a `let`
-    abbrev pub value_sections : Value → List Critical
+    abbrev pub value_sections : Value → List CriticalSection
     value_sections (Calc e) = []
     value_sections (Now at) = []
     value_sections (Call s) = spawn_sections s
 
   -- the sections of a statement, with those inside them
   abbrev mutual
-    pub statement_sections : ℕ → Statement → List Critical
+    pub statement_sections : ℕ → Statement → List CriticalSection
     statement_sections outer (Bind x v) = value_sections outer v
     statement_sections outer (Assign x e at) = []
     statement_sections outer (Branch e first second) = block_sections outer first ++ block_sections outer second
@@ -81,48 +81,48 @@ module _ (app : App) (level : ℕ) where
     statement_sections outer (Spawns s) = spawn_sections outer s
 
     -- the sections of a block, with those inside them
-    pub block_sections : ℕ → Block → List Critical
+    pub block_sections : ℕ → Block → List CriticalSection
     block_sections outer Empty = []
     block_sections outer (Then s rest) = statement_sections outer s ++ block_sections outer rest
 
 module _ (app : App) where
   -- the sections of `idle`, where it is declared
-  abbrev pub idle_sections : Option Body → List Critical
+  abbrev pub idle_sections : Option Body → List CriticalSection
   idle_sections None = []
   idle_sections (Some b) = block_sections app 0 0 b.block
 
   -- the sections of a dispatcher that belong to one task of its level
-  abbrev pub dispatcher_sections : ℕ → Task → List Critical
+  abbrev pub dispatcher_sections : ℕ → Task → List CriticalSection
   dispatcher_sections n t =
       let ready = ready_section app t.priority 0 t.priority (dispatcher_section_cost app t.priority) in
       if is_software t then ready ∷ free_section app t.priority 0 n ∷ [] else []
 
   -- the sections of the tasks from this number on, with those of dispatchers that belong to them
-  abbrev pub tasks_sections : ℕ → List Task → List Critical
+  abbrev pub tasks_sections : ℕ → List Task → List CriticalSection
   tasks_sections n [] = []
   tasks_sections n (t ∷ ts) =
       (block_sections app t.priority 0 t.body.block ++ dispatcher_sections n t) ++ tasks_sections (n + 1) ts
 
   -- the ready queues that the timer handler moves messages to, for the tasks from this number on
-  abbrev pub moved_sections : ℕ → ℕ → List Task → List Critical
-  moved_sections level n [] = []
-  moved_sections level n (t ∷ ts) =
-      (if is_software t && is_armed app n then ready_section app level 0 t.priority READY_COST ∷ [] else [])
-      ++ moved_sections level (n + 1) ts
+  abbrev pub moved_sections : ℕ → ℕ → List Task → List CriticalSection
+  moved_sections priority n [] = []
+  moved_sections priority n (t ∷ ts) =
+      (if is_software t && is_armed app n then ready_section app priority 0 t.priority READY_COST ∷ [] else [])
+      ++ moved_sections priority (n + 1) ts
 
   -- the sections of the timer handler, where there is a monotonic
-  abbrev pub handler_sections : Option Mono → List Critical
+  abbrev pub handler_sections : Option Mono → List CriticalSection
   handler_sections None = []
   handler_sections (Some mono) =
       timer_section app mono.priority 0 (timer_section_cost app) ∷ moved_sections mono.priority 0 app.tasks
 
 -- every section of `idle`, the tasks, the dispatchers and the timer handler
-abbrev pub sections : App → List Critical
+abbrev pub sections : App → List CriticalSection
 sections app = idle_sections app app.idle ++ (tasks_sections app 0 app.tasks ++ handler_sections app app.mono)
 
 -- a section may hold off a job of this priority, as the outermost of its body that does
-abbrev pub holds_off : ℕ → Critical → Bool
-holds_off p s = nat_lt s.level p && nat_lt s.outer p && nat_le p s.ceiling
+abbrev pub holds_off : ℕ → CriticalSection → Bool
+holds_off p s = nat_lt s.priority p && nat_lt s.outer p && nat_le p s.ceiling
 
 -- the waiting bound, which is worst-case blocking (Baker 1991): the greatest cost of a section that may hold off a job
 -- of this priority

@@ -20,7 +20,7 @@ pub struct IrqDecl {
 /// An interrupt that serves messages of software tasks.
 #[derive(Clone, Copy)]
 pub struct Dispatcher {
-    /// The interrupt, by its place in the order of declaration.
+    /// The interrupt, by its index in the order of declaration.
     pub irq: u8,
     /// The offset of its name.
     pub at: u32,
@@ -29,7 +29,7 @@ pub struct Dispatcher {
 /// The monotonic: its interrupt, and its priority.
 #[derive(Clone, Copy)]
 pub struct Mono {
-    /// The interrupt, by its place in the order of declaration.
+    /// The interrupt, by its index in the order of declaration.
     pub irq: u8,
     /// Its logical priority; one above 255 stands as 255.
     pub priority: u8,
@@ -59,7 +59,7 @@ pub struct Task {
     pub name: Name,
     /// The offset of the name.
     pub at: u32,
-    /// The interrupt that it binds, by its place in the order of declaration.
+    /// The interrupt that it binds, by its index in the order of declaration.
     pub binds: Option<u8>,
     /// The offset of that interrupt's name, and 0 where it binds none.
     pub binds_at: u32,
@@ -109,7 +109,7 @@ impl Task {
     }
 }
 
-/// An application with its names resolved: an interrupt, a task or a resource is its place in the order of
+/// An application with its names resolved: an interrupt, a task or a resource is its index in the order of
 /// declaration, and a name that is not declared is 255. It carries the offset of each name and number at which a rule
 /// can be found broken.
 pub struct App {

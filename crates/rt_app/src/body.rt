@@ -14,7 +14,7 @@ pub struct Listed {
 /// A local resource that a body lists.
 #[derive(Clone, Copy)]
 pub struct Owned {
-    /// The resource, by its place in the order of declaration.
+    /// The resource, by its index in the order of declaration.
     pub local: u8,
     /// The offset of the listing.
     pub at: u32,

@@ -11,10 +11,10 @@ pub struct BodyBound {
     pub cost: u32,
 }
 
-/// How long a job of a level waits for lower ones.
+/// How long a job of a priority waits for lower ones.
 #[derive(Clone, Copy, PartialEq, Eq)]
 pub struct Wait {
-    pub level: u8,
+    pub priority: u8,
     /// Core steps, at most.
     pub steps: u32,
 }
@@ -24,7 +24,7 @@ pub struct Wait {
 pub struct Bounds {
     /// Of each declared body: `init`, `idle` and the tasks in order.
     pub bodies: Vec<BodyBound>,
-    /// Of each level that has a handler, rising.
+    /// Of each priority that has a handler, rising.
     pub waits: Vec<Wait>,
     /// Words of the thread's frame.
     pub thread_words: u32,

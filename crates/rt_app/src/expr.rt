@@ -6,7 +6,7 @@ pub enum Atom {
     /// A variable: its position among the arguments, `let` and `for` statements of its body in order of the text.
     Var(u16),
     Shared(ResId),
-    /// A local resource, by its place in the order of declaration.
+    /// A local resource, by its index in the order of declaration.
     Local(u8),
 }
 

@@ -44,7 +44,7 @@ pub enum Stmt {
     /// The block as a section of a resource, and the offset of the resource's name.
     Locked(ResId, Vec<Stmt>, u32),
     Emit(Expr),
-    /// A pend of a declared interrupt, by its place in the order of declaration.
+    /// A pend of a declared interrupt, by its index in the order of declaration.
     Pend(u8),
     Call(Spawn),
 }

@@ -7,19 +7,19 @@ use Rattle.rt_ast.specs.declared.app.MonoTree.{MonoTree}
 use Rattle.rt_ast.specs.declared.app.SharedTree.{SharedTree}
 use Rattle.rt_ast.specs.declared.app.LocalTree.{LocalTree}
 use Rattle.rt_ast.specs.Tree.{Body, Task, App}
-use Rattle.rt_ast.specs.CanonicalExpression.{newline, separated, name_text, names_text}
+use Rattle.rt_ast.specs.CanonicalExpression.{newline, separated_list, name_text, names_text}
 use Rattle.rt_ast.specs.CanonicalBlock.{block_text}
-use Rattle.rt_ast.specs.CanonicalOptions.{bracketed, body_options, task_options, options_text}
+use Rattle.rt_ast.specs.CanonicalOptions.{bracketed_list, body_options, task_options, options_text}
 
 -- a list in braces
-abbrev pub enclosed : {A : Type 0} → (A → List ℕ) → List A → List ℕ
-enclosed text [] = codes "{}"
-enclosed text (x ∷ xs) = codes "{ " ++ separated text (x ∷ xs) ++ codes " }"
+abbrev pub braced_list : {A : Type 0} → (A → List ℕ) → List A → List ℕ
+braced_list text [] = codes "{}"
+braced_list text (x ∷ xs) = codes "{ " ++ separated_list text (x ∷ xs) ++ codes " }"
 
 -- the option that lists the dispatchers, and nothing where there is none
 abbrev pub dispatchers_text : List Ident → List ℕ
 dispatchers_text [] = []
-dispatchers_text (x ∷ xs) = codes ", dispatchers = " ++ bracketed name_text (x ∷ xs)
+dispatchers_text (x ∷ xs) = codes ", dispatchers = " ++ bracketed_list name_text (x ∷ xs)
 
 -- the option of the floating-point extension, and nothing where it is off
 abbrev pub fpu_text : Bool → List ℕ
@@ -36,7 +36,7 @@ irq_text irq = name_text irq.name ++ codes " = " ++ decimal irq.number.value
 
 -- the line of the declared interrupts
 abbrev pub irqs_text : List IrqTree → List ℕ
-irqs_text irqs = codes "interrupts " ++ enclosed irq_text irqs ++ newline
+irqs_text irqs = codes "interrupts " ++ braced_list irq_text irqs ++ newline
 
 -- the line of the monotonic, and nothing where there is none
 abbrev pub mono_text : Option MonoTree → List ℕ
@@ -56,7 +56,7 @@ resource_text r = lock_free_text r.lock_free ++ name_text r.name ++ codes " = " 
 -- the line of the shared resources, and nothing where there is none
 abbrev pub shared_text : List SharedTree → List ℕ
 shared_text [] = []
-shared_text (r ∷ rs) = codes "shared " ++ enclosed resource_text (r ∷ rs) ++ newline
+shared_text (r ∷ rs) = codes "shared " ++ braced_list resource_text (r ∷ rs) ++ newline
 
 -- a local resource: its name and its first value
 abbrev pub local_text : LocalTree → List ℕ
@@ -65,7 +65,7 @@ local_text r = name_text r.name ++ codes " = " ++ decimal r.first
 -- the line of the local resources, and nothing where there is none
 abbrev pub locals_text : List LocalTree → List ℕ
 locals_text [] = []
-locals_text (r ∷ rs) = codes "local " ++ enclosed local_text (r ∷ rs) ++ newline
+locals_text (r ∷ rs) = codes "local " ++ braced_list local_text (r ∷ rs) ++ newline
 
 -- the declaration of `init` or `idle`, which begins with this word, and nothing where there is none
 abbrev pub body_text : List ℕ → Option Body → List ℕ

@@ -5,11 +5,11 @@ use Rattle.rt_ast.specs.declared.ident.Ident.{Ident}
 use Rattle.rt_ast.specs.Tree.{Expression, Spawn, Soon, After, Cancel, Move, Value, Calc, Now, Call, Statement, Bind}
 use Rattle.rt_ast.specs.Tree.{Assign, Branch}
 use Rattle.rt_ast.specs.Tree.{Repeat, Locked, Emit, Pend, Spawns, Block, Empty, Then}
-use Rattle.rt_ast.specs.CanonicalExpression.{newline, separated, name_text, expression_text}
+use Rattle.rt_ast.specs.CanonicalExpression.{newline, separated_list, name_text, expression_text}
 
 -- a task and its arguments
 abbrev pub call_text : Ident → List Expression → List ℕ
-call_text task args = name_text task ++ codes "(" ++ separated expression_text args ++ codes ")"
+call_text task args = name_text task ++ codes "(" ++ separated_list expression_text args ++ codes ")"
 
 -- a spawn, a cancel or a reschedule
 abbrev pub spawn_text : Spawn → List ℕ

@@ -15,9 +15,9 @@ abbrev pub further : {A : Type 0} → (A → List ℕ) → List A → List ℕ
 further text xs = flat_map (λ x. codes ", " ++ text x) xs
 
 -- a list with a comma and a space between each two
-abbrev pub separated : {A : Type 0} → (A → List ℕ) → List A → List ℕ
-separated text [] = []
-separated text (x ∷ xs) = text x ++ further text xs
+abbrev pub separated_list : {A : Type 0} → (A → List ℕ) → List A → List ℕ
+separated_list text [] = []
+separated_list text (x ∷ xs) = text x ++ further text xs
 
 -- the text of a name
 abbrev pub name_text : Ident → List ℕ
@@ -25,7 +25,7 @@ name_text x = x.name
 
 -- the text of a list of names
 abbrev pub names_text : List Ident → List ℕ
-names_text xs = separated name_text xs
+names_text xs = separated_list name_text xs
 
 -- the sign of an operation
 abbrev pub sign_text : Op → List ℕ

@@ -4,11 +4,11 @@ use Rattle.rt_ast.specs.declared.ident.Ident.{Ident}
 use Rattle.rt_ast.specs.declared.ident.Number.{Number}
 use Rattle.rt_ast.specs.declared.app.ListedTree.{ListedTree}
 use Rattle.rt_ast.specs.Tree.{Body, Task}
-use Rattle.rt_ast.specs.CanonicalExpression.{separated, name_text}
+use Rattle.rt_ast.specs.CanonicalExpression.{separated_list, name_text}
 
 -- a list in brackets
-abbrev pub bracketed : {A : Type 0} → (A → List ℕ) → List A → List ℕ
-bracketed text xs = codes "[" ++ separated text xs ++ codes "]"
+abbrev pub bracketed_list : {A : Type 0} → (A → List ℕ) → List A → List ℕ
+bracketed_list text xs = codes "[" ++ separated_list text xs ++ codes "]"
 
 -- the sign `&` before a resource that is listed by reference
 abbrev pub by_ref_text : Bool → List ℕ
@@ -36,12 +36,12 @@ capacity_option (Some n) = (codes "capacity = " ++ decimal n) ∷ []
 -- the option that lists shared resources, where there are any
 abbrev pub shared_option : List ListedTree → List (List ℕ)
 shared_option [] = []
-shared_option (r ∷ rs) = (codes "shared = " ++ bracketed listed_text (r ∷ rs)) ∷ []
+shared_option (r ∷ rs) = (codes "shared = " ++ bracketed_list listed_text (r ∷ rs)) ∷ []
 
 -- the option that lists local resources, where there are any
 abbrev pub local_option : List Ident → List (List ℕ)
 local_option [] = []
-local_option (x ∷ xs) = (codes "local = " ++ bracketed name_text (x ∷ xs)) ∷ []
+local_option (x ∷ xs) = (codes "local = " ++ bracketed_list name_text (x ∷ xs)) ∷ []
 
 -- the options of a body: what it lists as shared and as local
 abbrev pub body_options : Body → List (List ℕ)
@@ -54,4 +54,4 @@ task_options t = binds_option t.binds ++ priority_option t.priority ++ capacity_
 -- options in parentheses, where there are any
 abbrev pub options_text : List (List ℕ) → List ℕ
 options_text [] = []
-options_text (o ∷ os) = codes "(" ++ separated (λ text. text) (o ∷ os) ++ codes ")"
+options_text (o ∷ os) = codes "(" ++ separated_list (λ text. text) (o ∷ os) ++ codes ")"

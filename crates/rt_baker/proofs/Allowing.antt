@@ -9,17 +9,17 @@ use Rattle.rt_trace.specs.declared.item.What.TheVariants as what
 use Rattle.rt_app.specs.Tree.{App}
 use Rattle.rt_laws.specs.State as laws
 use Rattle.rt_laws.specs.Services.{is_declared}
-use Rattle.rt_laws.specs.Level as level
+use Rattle.rt_laws.specs.Preemption as preemption
 use Rattle.rt_laws.specs.Giving.{gives}
-use Rattle.rt_laws.specs.Acting.{pended}
-use Rattle.rt_laws.specs.Allowed.{HasStep, MayStep, Turn, May, given, after}
+use Rattle.rt_laws.specs.Acting.{state_after_pend}
+use Rattle.rt_laws.specs.Allowed.{HasStep, MayStep, Turn, May, state_after_item, after}
 use Rattle.rt_laws.specs.Run.{RunsOn}
 use Rattle.rt_laws.specs.ByItems.{label_of, after_all, silent}
-use Rattle.rt_laws.specs.Silent.{HasSteps, MaySpend, spending}
+use Rattle.rt_laws.specs.Silent.{HasSteps, MaySpend, jobs_after_steps}
 use Rattle.rt_laws.proofs.Silent.{silent_steps_by_cost}
-use Rattle.rt_work.specs.Work.{IsSettled}
-use Rattle.rt_moves.specs.State.{Held, StateIs, IsEarly}
-use Rattle.rt_moves.proofs.Early.{all_settled, early_held}
+use Rattle.rt_baker_work.specs.Work.{IsSettled}
+use Rattle.rt_baker_moves.specs.State.{Held, StateIs, IsEarly}
+use Rattle.rt_baker_moves.proofs.Early.{all_settled, early_held}
 use Rattle.rt_baker.specs.Inside.Judging.{IsTurn, MayGoOn, Came, Judges, Passes}
 
 -- what a state stands for owes an alarm where the one that is kept does
@@ -41,7 +41,7 @@ pass_none app s k none = λ t h. record {
 }
 
 steps_need : (k : ℕ) → 0 < k → (app : App) (t : laws.State) → RunsOn app t (silent k)
-    → (t.owing ≡ false) × (level.candidate app t ≡ None) × MaySpend k t.jobs
+    → (t.owing ≡ false) × (preemption.candidate app t ≡ None) × MaySpend k t.jobs
 steps_need zero some app t runs = absurd (omega (arith, some))
 steps_need (suc k) some app t runs = silent_steps_by_cost.needs app t k runs
 
@@ -54,15 +54,15 @@ pass_owing app s new k some owing = λ t h runs.
     absurd cc
 
 pub pass_stopped : (app : App) (s new : Held) (k : ℕ) → 0 < k
-    → ((t : laws.State) → StateIs app s t → level.candidate app t ≡ None → MaySpend k t.jobs → ⊥)
+    → ((t : laws.State) → StateIs app s t → preemption.candidate app t ≡ None → MaySpend k t.jobs → ⊥)
     → Passes app false s new k
 unfolding Passes
 pass_stopped app s new k some stops = λ t h runs.
     let need = steps_need k some app t runs in stops t h need.1 need.2
 
 pub pass_some : (app : App) (s new : Held) (k : ℕ) → s.owing ≡ false
-    → ((t : laws.State) → StateIs app s t → (level.candidate app t ≡ None) × MaySpend k t.jobs)
-    → ((a : App) (t : laws.State) → StateIs a s t → StateIs a new (record t { jobs = spending k t.jobs }))
+    → ((t : laws.State) → StateIs app s t → (preemption.candidate app t ≡ None) × MaySpend k t.jobs)
+    → ((a : App) (t : laws.State) → StateIs a s t → StateIs a new (record t { jobs = jobs_after_steps k t.jobs }))
     → Passes app true s new k
 unfolding Passes
 pass_some app s new k owing may spends = λ t h. record {
@@ -103,13 +103,13 @@ unfolding Judges
 not_rung app s new w owing other = λ t h may. only_rings app t t.owing w (owes_as app s t true h owing) other may
 
 pub arrived : (app : App) (s new : Held) (irq n : ℕ) → s.owing ≡ false → n ≡ irq → is_declared app n ≡ true
-    → ((t : laws.State) → StateIs app s t → StateIs app new (pended n t))
+    → ((t : laws.State) → StateIs app s t → StateIs app new (state_after_pend n t))
     → Judges app true s new (what.Pend irq)
 unfolding Judges
 arrived app s new irq n owing same declared arrives = λ t h.
     came app t (what.Pend irq) new (Arrived irq) refl
     (owes_as app s t false h owing, ap (is_declared app) (sym same) ∙ declared)
-    (subst (λ (i : ℕ). StateIs app new (pended i t)) same (arrives t h))
+    (subst (λ (i : ℕ). StateIs app new (state_after_pend i t)) same (arrives t h))
 
 pub not_declared : (app : App) (s new : Held) (irq n : ℕ) → n ≡ irq → is_declared app n ≡ false
     → Judges app false s new (what.Pend irq)
@@ -133,7 +133,7 @@ pub kept_settled : (app : App) (s : Held) → MayGoOn app s → AllByRecursion (
 kept_settled app s h = all_settled app s.jobs h.state.jobs h.is.jobs
 
 pub taken : (app : App) (s new : Held) (irq n : ℕ) (o : Option ℕ) → s.owing ≡ false → n ≡ irq → o ≡ Some n
-    → ((t : laws.State) → StateIs app s t → o ≡ level.candidate app t)
+    → ((t : laws.State) → StateIs app s t → o ≡ preemption.candidate app t)
     → ((depth : ℕ) (t : laws.State) → StateIs app s t → StateIs app new (after app t (Stepped (Some (what.Take n
     depth)))))
     → (depth : ℕ) → Judges app true s new (what.Take irq depth)
@@ -144,7 +144,7 @@ taken app s new irq n o owing same chosen finds takes depth = λ t h.
     (subst (λ (i : ℕ). StateIs app new (after app t (Stepped (Some (what.Take i depth))))) same (takes depth t h))
 
 pub not_taken : (app : App) (s new : Held) (irq n : ℕ) (o : Option ℕ) → n ≡ irq → (o ≡ Some n → ⊥)
-    → ((t : laws.State) → StateIs app s t → o ≡ level.candidate app t)
+    → ((t : laws.State) → StateIs app s t → o ≡ preemption.candidate app t)
     → (depth : ℕ) → Judges app false s new (what.Take irq depth)
 unfolding Judges
 not_taken app s new irq n o same other finds depth = λ t h may.
@@ -174,7 +174,7 @@ turn_needs : (app : App) (t : laws.State) (w : What) → IsTurn w → May app t 
 turn_needs app t (what.Take irq depth) is may = absurd is
 turn_needs app t w is may = (may.0, may.1)
 
-turn_after : (app : App) (t : laws.State) (w : What) → IsTurn w → given app t t.jobs ≡ after app t (Stepped (Some w))
+turn_after : (app : App) (t : laws.State) (w : What) → IsTurn w → state_after_item app t t.jobs ≡ after app t (Stepped (Some w))
 turn_after app t (what.Take irq depth) is = absurd is
 turn_after app t w is = refl
 
@@ -207,9 +207,9 @@ step_needs [] may = absurd may
 step_needs (j ∷ js) may = (steps_of_one j.role j.left may.0, lefts_of_one j.lefts may.1)
 
 pub turned : (app : App) (s new : Held) (w : What) → s.owing ≡ false → IsTurn w
-    → ((t : laws.State) → StateIs app s t → (level.candidate app t ≡ None) × MaySpend 1 t.jobs)
+    → ((t : laws.State) → StateIs app s t → (preemption.candidate app t ≡ None) × MaySpend 1 t.jobs)
     → ((a : App) (t : laws.State) → StateIs a s t → gives t ≡ Some w)
-    → ((t : laws.State) → StateIs app s t → StateIs app new (given app t t.jobs))
+    → ((t : laws.State) → StateIs app s t → StateIs app new (state_after_item app t t.jobs))
     → Judges app true s new w
 unfolding Judges
 turned app s new w owing is may gave acts = λ t h.
@@ -226,7 +226,7 @@ may_turn app s w t owing is h may =
     (subst (λ (l : Label). May app t l) (turn_label t.owing w (owes_as app s t false h owing) is) may)
 
 pub turn_stopped : (app : App) (s new : Held) (w : What) → s.owing ≡ false → IsTurn w
-    → ((t : laws.State) → StateIs app s t → level.candidate app t ≡ None → MaySpend 1 t.jobs → ⊥)
+    → ((t : laws.State) → StateIs app s t → preemption.candidate app t ≡ None → MaySpend 1 t.jobs → ⊥)
     → Judges app false s new w
 unfolding Judges
 turn_stopped app s new w owing is stops = λ t h may.

@@ -9,7 +9,7 @@ use Rattle.rt_app.specs.Accepted.{IsAccepted}
 use Rattle.rt_laws.specs.State.{State, first}
 use Rattle.rt_laws.specs.Allowed.{after}
 use Rattle.rt_laws.specs.Run.{RunsOn}
-use Rattle.rt_laws.specs.ByItems.{label_of, done_after, after_all, silent, Comes}
+use Rattle.rt_laws.specs.ByItems.{label_of, steps_after, after_all, silent, Comes}
 use Rattle.rt_laws.specs.Counts.{AreWithin}
 use Rattle.rt_laws.proofs.ByItems.{runs_append, after_append}
 use Rattle.rt_laws.proofs.Counting.{counts_rise_by_one}
@@ -57,7 +57,7 @@ module _ (app : App) where
         let there : Reaches mid = further s (silent k) r comes.quiet in
         let more : suc n + length items ≡ n + length (item ∷ items) = omega arith in
         subst (λ (m : ℕ). AreWithin m (state_behind app s d (item ∷ items))) more
-        (come_within items (after app mid label) (done_after item.step label) (suc n)
+        (come_within items (after app mid label) (steps_after item.step label) (suc n)
         (further mid (label ∷ []) there (comes.allowed, tt))
         (raised mid label n there (silent_within k n s within)) all.1)
 

@@ -13,16 +13,16 @@ use Rattle.rt_laws.specs.State as laws
 use Rattle.rt_laws.specs.State.{first}
 use Rattle.rt_laws.specs.Allowed.{May, after}
 use Rattle.rt_laws.specs.Run.{RunsOn, IsWithinStack, IsTold, Judged}
-use Rattle.rt_laws.specs.ByItems.{label_of, done_after, after_all, silent, Comes}
+use Rattle.rt_laws.specs.ByItems.{label_of, steps_after, after_all, silent, Comes}
 use Rattle.rt_laws.proofs.ByItems.{runs_are_by_items}
 use Rattle.rt_laws.proofs.Keeping.{judged_traces_keep_laws}
 use Rattle.rt_laws.proofs.AllMoments.{runs_keep_messages}
-use Rattle.rt_moves.specs.State.{Held, StateIs}
+use Rattle.rt_baker_moves.specs.State.{Held, StateIs}
 use Rattle.rt_baker.specs.declared.done.Done.{Done}
 use Rattle.rt_baker.specs.declared.judge.Judge.{Judge}
 use Rattle.rt_baker.specs.declared.verdict.Verdict.{Verdict}
 use Rattle.rt_baker.specs.Audit.{front, IsRight, IsWrongAt, IsVerdict}
-use Rattle.rt_baker.specs.Judge.{steps_done, state_behind, done_behind, AreRight, Follows, FailsAt, Stands, HasJudged}
+use Rattle.rt_baker.specs.Judge.{steps_done, state_behind, steps_done_behind, AreRight, Follows, FailsAt, Stands, HasJudged}
 use Rattle.rt_baker.specs.Judge.{MayTake}
 use Rattle.rt_baker.specs.Inside.Judging.{MayGoOn, Judges, Passes, Behind, ItemComes, ItemJudged, Ends, TotalJudged}
 use Rattle.rt_baker.proofs.Allowing.{owes_as}
@@ -65,7 +65,7 @@ item_refused app old mid new n k x is passes refuses = λ t h comes.
 
 pub item_comes : (app : App) (old mid new : Held) (n k : ℕ) (x : Item) (d : Done) → n ≤ x.step → k ≡ x.step - n
     → Passes app true old mid k → Judges app true mid new x.what
-    → steps_done d ≡ done_after x.step (label_of mid.owing x.what)
+    → steps_done d ≡ steps_after x.step (label_of mid.owing x.what)
     → ItemComes app (Some d) old new n x
 unfolding ItemComes Passes Judges
 item_comes app old mid new n k x d le is passes judges counts = λ t h.
@@ -87,7 +87,7 @@ item_comes app old mid new n k x d le is passes judges counts = λ t h.
           (subst (λ (b : Bool). StateIs app new (after app u (label_of b x.what))) owing c.is);
       steps =
           counts
-          ∙ ap (λ (b : Bool). done_after x.step (label_of b x.what)) (sym kept ∙ owing);
+          ∙ ap (λ (b : Bool). steps_after x.step (label_of b x.what)) (sym kept ∙ owing);
     }
 
 -- and the stack bound
@@ -121,7 +121,7 @@ all_front app (suc k) [] all = tt
 all_front app (suc k) (x ∷ xs) all = (all.0, all_front app k xs all.1)
 
 right_more : (app : App) (xs : List Item) (x : Item) → AreRight app xs
-    → Comes app (state_behind app (first app) 0 xs) (done_behind app (first app) 0 xs) x
+    → Comes app (state_behind app (first app) 0 xs) (steps_done_behind app (first app) 0 xs) x
     → IsWithinStack app x.what → AreRight app (xs ++ x ∷ [])
 right_more app xs x right comes within = record {
   come = come_more app xs (first app) 0 x right.come comes;
@@ -143,7 +143,7 @@ follows_more : (app : App) (xs : List Item) (n : ℕ) (x : Item) (old new : Held
     → ItemJudged app (Some d) old new n x → Follows app (xs ++ x ∷ []) new (steps_done d)
 unfolding ItemJudged
 follows_more app xs n x old new d h judged =
-    let b : Behind app (state_behind app (first app) 0 xs) (done_behind app (first app) 0 xs) x new (steps_done d) =
+    let b : Behind app (state_behind app (first app) 0 xs) (steps_done_behind app (first app) 0 xs) x new (steps_done d) =
     subst (λ (m : ℕ). Behind app (state_behind app (first app) 0 xs) m x new (steps_done d)) h.steps
     (judged.1 (state_behind app (first app) 0 xs) h.is) in
     record {
@@ -177,10 +177,10 @@ follows app xs j is h =
     let s : Stands app xs j.state j.done None =
     subst (λ (o : Option ℕ). Stands app xs j.state j.done o) is h.stands in s
 
-fails : (app : App) (xs : List Item) (j : Judge) (place : ℕ) → j.wrong ≡ Some place → HasJudged app xs j
-    → FailsAt app xs place
-fails app xs j place is h =
-    let s : Stands app xs j.state j.done (Some place) =
+fails : (app : App) (xs : List Item) (j : Judge) (index : ℕ) → j.wrong ≡ Some index → HasJudged app xs j
+    → FailsAt app xs index
+fails app xs j index is h =
+    let s : Stands app xs j.state j.done (Some index) =
     subst (λ (o : Option ℕ). Stands app xs j.state j.done o) is h.stands in s
 
 pub judged_none : (app : App) (s : Held) (stack : ℕ) (d : Done) → stack ≡ stack_bytes app → StateIs app s (first app)
@@ -219,7 +219,7 @@ judged_wrong app x j n new o more is none judged xs h =
     record {
       counted = one_more app x j n more xs h;
       bounded = h.bounded;
-      stands = subst (λ (place : ℕ). FailsAt app (xs ++ x ∷ []) place) (sym h.counted) here;
+      stands = subst (λ (index : ℕ). FailsAt app (xs ++ x ∷ []) index) (sym h.counted) here;
     }
 
 -- another right one came
@@ -268,10 +268,10 @@ total_passes app false s new n k total o is le more stops = λ t h ends.
 
 -- the verdict
 judged_items : (app : App) (xs : List Item) (o : Option ℕ) → AreRight app xs
-    → Ends app (state_behind app (first app) 0 xs) (done_behind app (first app) 0 xs) o
+    → Ends app (state_behind app (first app) 0 xs) (steps_done_behind app (first app) 0 xs) o
     → Judged app (record { items = xs; total = o })
 judged_items app xs None right ends =
-    let m : ℕ = done_behind app (first app) 0 xs in
+    let m : ℕ = steps_done_behind app (first app) 0 xs in
     record {
       total = m;
       told = tt;
@@ -300,11 +300,11 @@ told_ends app t n (Some k) total told le runs =
     subst (λ (m : ℕ). Ends app t n (Some m)) (sym told) (le, runs)
 
 right_ends : (app : App) (trace : Trace) → Judged app trace
-    → Ends app (state_behind app (first app) 0 trace.items) (done_behind app (first app) 0 trace.items) trace.total
+    → Ends app (state_behind app (first app) 0 trace.items) (steps_done_behind app (first app) 0 trace.items) trace.total
 right_ends app trace judged =
     let ends = run_ends app trace.items (first app) 0 judged.total
     (runs_are_by_items.by_items app trace.items judged.total judged.run) in
-    told_ends app (state_behind app (first app) 0 trace.items) (done_behind app (first app) 0 trace.items) trace.total
+    told_ends app (state_behind app (first app) 0 trace.items) (steps_done_behind app (first app) 0 trace.items) trace.total
     judged.total judged.told ends.0 ends.1
 
 judged_fronts : (app : App) (trace : Trace) (m n : ℕ) → AreRight app (take m trace.items) → n ≤ m
@@ -350,11 +350,11 @@ is_wrong_total app trace s n number is h wrong = record {
       (right_ends app trace judged));
 }
 
-pub finds_wrong : (app : App) (o : Option ℕ) (j : Judge) (place number : ℕ) → j.wrong ≡ Some place
-    → number ≡ place + 1 → (xs : List Item) → HasJudged app xs j
+pub finds_wrong : (app : App) (o : Option ℕ) (j : Judge) (index number : ℕ) → j.wrong ≡ Some index
+    → number ≡ index + 1 → (xs : List Item) → HasJudged app xs j
     → IsWrongAt app (record { items = xs; total = o }) number
-finds_wrong app o j place number is counts xs h =
-    is_wrong_at app (record { items = xs; total = o }) place number counts (fails app xs j place is h)
+finds_wrong app o j index number is counts xs h =
+    is_wrong_at app (record { items = xs; total = o }) index number counts (fails app xs j index is h)
 
 pub finds_right : (app : App) (o : Option ℕ) (j : Judge) → IsAccepted app → j.wrong ≡ None
     → TotalJudged app true j.state (steps_done j.done) o → (xs : List Item) → HasJudged app xs j

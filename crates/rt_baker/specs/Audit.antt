@@ -17,7 +17,7 @@ front n trace = record { items = take n trace.items; total = None }
 
 -- It is judged right. Sections were exclusive then, no job found one taken, and none waited for more than one section
 -- of one lower job. At every moment spawns were full exactly where the capacity was out; messages started first in,
--- first out, and fired in order and not early; a handle was of one message; the places that were out were those in
+-- first out, and fired in order and not early; a handle was of one message; the indices that were out were those in
 -- transit, armed and ready; and messages that were ready or due were served.
 pub record IsRight (app : App) (trace : Trace) : Type 0 where
   pub judged : Judged app trace

@@ -9,8 +9,8 @@ use Rattle.rt_app.specs.Stack.{stack_bytes}
 use Rattle.rt_app.specs.Tree.{App}
 use Rattle.rt_laws.specs.State as laws
 use Rattle.rt_laws.specs.Run.{IsWithinStack}
-use Rattle.rt_laws.specs.ByItems.{label_of, done_after, Comes, after_item}
-use Rattle.rt_moves.specs.State.{Held, StateIs}
+use Rattle.rt_laws.specs.ByItems.{label_of, steps_after, Comes, after_item}
+use Rattle.rt_baker_moves.specs.State.{Held, StateIs}
 use Rattle.rt_baker.specs.declared.done.Done.{Done}
 use Rattle.rt_baker.specs.declared.judge.Judge.{Judge}
 
@@ -23,19 +23,19 @@ module _ (app : App) where
   abbrev pub state_behind : laws.State → ℕ → List Item → laws.State
   state_behind t n [] = t
   state_behind t n (item ∷ items) =
-      state_behind (after_item app t n item) (done_after item.step (label_of t.owing item.what)) items
+      state_behind (after_item app t n item) (steps_after item.step (label_of t.owing item.what)) items
 
   -- the core steps that are done behind items, likewise
-  abbrev pub done_behind : laws.State → ℕ → List Item → ℕ
-  done_behind t n [] = n
-  done_behind t n (item ∷ items) =
-      done_behind (after_item app t n item) (done_after item.step (label_of t.owing item.what)) items
+  abbrev pub steps_done_behind : laws.State → ℕ → List Item → ℕ
+  steps_done_behind t n [] = n
+  steps_done_behind t n (item ∷ items) =
+      steps_done_behind (after_item app t n item) (steps_after item.step (label_of t.owing item.what)) items
 
   -- each item comes behind those before it
   abbrev pub AllCome : laws.State → ℕ → List Item → Type 0
   AllCome t n [] = Unit {0}
   AllCome t n (item ∷ items) =
-      Comes app t n item × AllCome (after_item app t n item) (done_after item.step (label_of t.owing item.what)) items
+      Comes app t n item × AllCome (after_item app t n item) (steps_after item.step (label_of t.owing item.what)) items
 
   -- Items come from the start on, each within the stack bound.
   pub record AreRight (items : List Item) : Type 0 where
@@ -46,18 +46,18 @@ module _ (app : App) where
   pub record Follows (items : List Item) (s : Held) (done : ℕ) : Type 0 where
     pub right : AreRight items
     pub is : StateIs app s (state_behind (laws.first app) 0 items)
-    pub steps : done ≡ done_behind (laws.first app) 0 items
+    pub steps : done ≡ steps_done_behind (laws.first app) 0 items
 
-  -- The items in front of this place are right, and with the item there they are not.
-  pub record FailsAt (items : List Item) (place : ℕ) : Type 0 where
-    pub within : place < length items
-    pub right : AreRight (take place items)
-    pub wrong : AreRight (take (suc place) items) → ⊥
+  -- The items in front of this index are right, and with the item there they are not.
+  pub record FailsAt (items : List Item) (index : ℕ) : Type 0 where
+    pub within : index < length items
+    pub right : AreRight (take index items)
+    pub wrong : AreRight (take (suc index) items) → ⊥
 
-  -- No item is wrong, or the one at this place is the first that is.
+  -- No item is wrong, or the one at this index is the first that is.
   abbrev pub Stands : List Item → Held → Done → Option ℕ → Type 0
   Stands items s done None = Follows items s (steps_done done)
-  Stands items s done (Some place) = FailsAt items place
+  Stands items s done (Some index) = FailsAt items index
 
   -- These items were judged. The judge keeps the state behind them where all are right, and else which is the first
   -- that is wrong.

@@ -1,16 +1,16 @@
 ghost use Rattle.std.specs.Prelude.{◌≡◌, true, false, None, Some, ℕ, IsTrue, IsFalse, IfOk};
 ghost use Rattle.rt_app.specs.View.{app_of};
-ghost use Rattle.rt_laws.specs.Level as level;
+ghost use Rattle.rt_laws.specs.Preemption as preemption;
 ghost use Rattle.rt_laws.specs.Services.{is_declared};
 ghost use Rattle.rt_laws.specs.Silent.{MaySpend};
 ghost use Rattle.rt_laws.specs.State as laws;
-ghost use Rattle.rt_moves.specs.Machine.{IsMachine};
-ghost use Rattle.rt_moves.specs.State.{StateIs};
+ghost use Rattle.rt_baker_moves.specs.Machine.{IsMachine};
+ghost use Rattle.rt_baker_moves.specs.State.{StateIs};
 ghost use Rattle.rt_baker.specs.Inside.Judging.{IsTurn, MayGoOn, Judges, Passes};
 
 use rt_app::App;
+use rt_baker_moves::{Machine, State};
 use rt_ids::{Irq, NoMemory};
-use rt_moves::{Machine, State};
 use rt_trace::What;
 
 /// Whether an interrupt of this number is declared.
@@ -24,9 +24,9 @@ fn is_declared(app: &App, irq: u16) -> bool
 fn may_go<'a>(state: &State<'a>, machine: &Machine<'a>, steps: u64) -> bool
     requires { IsMachine machine.now }
     ensures may { IsTrue result → (t : laws.State) → StateIs (app_of machine.now.code.now.app.now) state.now t
-        → (level.candidate (app_of machine.now.code.now.app.now) t ≡ None) × MaySpend steps t.jobs }
+        → (preemption.candidate (app_of machine.now.code.now.app.now) t ≡ None) × MaySpend steps t.jobs }
     ensures may_not { IsFalse result → (t : laws.State) → StateIs (app_of machine.now.code.now.app.now) state.now t
-        → level.candidate (app_of machine.now.code.now.app.now) t ≡ None → MaySpend steps t.jobs → ⊥ }
+        → preemption.candidate (app_of machine.now.code.now.app.now) t ≡ None → MaySpend steps t.jobs → ⊥ }
 {
     if state.candidate(machine).is_some() {
         return false;

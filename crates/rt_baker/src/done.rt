@@ -1,5 +1,5 @@
 ghost use Rattle.std.specs.Prelude.{◌≡◌, ℕ, suc, ◌<◌, ◌≤◌, ◌-◌, MatchOption, if◌then◌else◌};
-ghost use Rattle.rt_laws.specs.ByItems.{label_of, done_after};
+ghost use Rattle.rt_laws.specs.ByItems.{label_of, steps_after};
 ghost use Rattle.rt_baker.specs.Judge.{steps_done};
 
 use rt_trace::{Item, What};
@@ -14,7 +14,7 @@ pub(crate) struct Done {
 
 /// Whether an item is a core step. The alarm is one unless a tick owes it.
 fn is_step(what: &What, owing: bool) -> bool
-    ensures { (n : ℕ) → done_after n (label_of owing what.now) ≡ (if result then suc n else n) }
+    ensures { (n : ℕ) → steps_after n (label_of owing what.now) ≡ (if result then suc n else n) }
 {
     match what {
         What::Pend(_irq) => false,
@@ -37,7 +37,7 @@ impl Done {
 
     /// Those behind an item, where an alarm is owed or not.
     pub(crate) fn behind(item: &Item, owing: bool) -> Done
-        ensures { steps_done result ≡ done_after item.now.step (label_of owing item.now.what) }
+        ensures { steps_done result ≡ steps_after item.now.step (label_of owing item.now.what) }
     {
         Done {
             step: item.step,

@@ -3,14 +3,14 @@ ghost use Rattle.rt_app.specs.Tree.{App};
 ghost use Rattle.rt_app.specs.Stack.{stack_bytes};
 ghost use Rattle.rt_app.specs.View.{app_of};
 ghost use Rattle.rt_laws.specs.Run.{IsWithinStack};
-ghost use Rattle.rt_moves.specs.Machine.{IsMachine};
+ghost use Rattle.rt_baker_moves.specs.Machine.{IsMachine};
 ghost use Rattle.rt_baker.specs.Judge.{steps_done};
 ghost use Rattle.rt_baker.specs.Inside.Judging.{MayGoOn, ItemComes, ItemJudged, TotalJudged};
 
 use crate::coming::{come, pass_steps};
 use crate::done::Done;
+use rt_baker_moves::{Machine, State};
 use rt_ids::NoMemory;
-use rt_moves::{Machine, State};
 use rt_trace::{Item, What};
 
 /// Whether the stack bytes in use behind an entry are within these.

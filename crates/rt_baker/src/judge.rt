@@ -3,16 +3,16 @@ ghost use Rattle.rt_trace.specs.declared.item.Item as traced;
 ghost use Rattle.rt_app.specs.Stack as stack;
 ghost use Rattle.rt_app.specs.Tree.{App};
 ghost use Rattle.rt_app.specs.View.{app_of};
-ghost use Rattle.rt_moves.specs.Machine.{IsMachine};
+ghost use Rattle.rt_baker_moves.specs.Machine.{IsMachine};
 ghost use Rattle.rt_baker.specs.Audit.{IsVerdict};
 ghost use Rattle.rt_baker.specs.Judge.{HasJudged, MayTake};
 
 use crate::done::Done;
 use crate::items::{judge_item, judge_total};
 use crate::verdict::Verdict;
+use rt_baker_moves::{Machine, State};
 use rt_frames::bounds;
 use rt_ids::NoMemory;
-use rt_moves::{Machine, State};
 use rt_trace::Item;
 
 /// Baker's machine on the items of a trace, one after another. It keeps no item, so a trace can be judged while it is
@@ -27,7 +27,7 @@ pub struct Judge<'a> {
     done: Done,
     /// How many items came.
     items: u32,
-    /// The place of the first wrong item, from 0, once one came.
+    /// The index of the first wrong item, from 0, once one came.
     wrong: Option<u32>,
 }
 
@@ -66,14 +66,14 @@ impl<'a> Judge<'a> {
             OnOk result ((items : List traced.Item) → HasJudged app items self.old
             → HasJudged app (items ++ item.now ∷ []) self.new) }
     {
-        let place = self.items;
-        self.items = place + 1;
+        let index = self.items;
+        self.items = index + 1;
         if self.wrong.is_some() {
             return Ok(());
         }
         match judge_item(&mut self.state, machine, self.stack, self.done, item)? {
             None => {
-                self.wrong = Some(place);
+                self.wrong = Some(index);
                 Ok(())
             }
             Some(done) => {
@@ -92,7 +92,7 @@ impl<'a> Judge<'a> {
             → IsVerdict app (record { items = items; total = total }) result }
     {
         match self.wrong {
-            Some(place) => Verdict::No(u64::from(place) + 1),
+            Some(index) => Verdict::No(u64::from(index) + 1),
             None => {
                 if judge_total(&mut self.state, machine, self.done, total) {
                     return Verdict::Yes;

@@ -1,14 +1,14 @@
 ghost use Rattle.std.specs.Prelude.{◌-◌, ◌<◌, ◌^◌, IfOk, length};
 ghost use Rattle.rt_app.specs.View.{app_of};
 ghost use Rattle.rt_app.specs.Accepted.{IsAccepted};
-ghost use Rattle.rt_moves.specs.Machine.{IsMachine};
+ghost use Rattle.rt_baker_moves.specs.Machine.{IsMachine};
 ghost use Rattle.rt_baker.specs.Audit.{IsVerdict};
 
 use crate::judge::Judge;
 use crate::verdict::Verdict;
 use rt_app::App;
+use rt_baker_moves::{Machine, Tables};
 use rt_ids::NoMemory;
-use rt_moves::{Machine, Tables};
 use rt_trace::Trace;
 use std::alloc::Global;
 

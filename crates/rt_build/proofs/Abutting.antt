@@ -170,8 +170,8 @@ module _ (app : App) (first before after : List Line) (kept : IsKept first befor
 
       before_it : (j q : ℕ) → j < length entries → slice_get (levels app) j ≡ Some q
           → at.dispatcher q ≡ slice_index entries j
-      before_it j q less place =
-          agrees j q (omega (arith, long)) place
+      before_it j q less index =
+          agrees j q (omega (arith, long)) index
           ∙ (ap (λ (es : List ℕ). slice_index es j) is ∙ get_or_append_left entries (entry ∷ []) 0 j less)
 
 -- what `idle` adds, where it is declared and where it is not, and the timer handler

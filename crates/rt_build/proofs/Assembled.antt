@@ -112,11 +112,11 @@ module _ (plan : Plan) (made : Code) (words bytes : ℕ) (irqs : List IrqRow) (b
 
     dispatchers_there : (p : ℕ) → Contains (levels app) p → HasDispatcher app p img.code (at.dispatcher p)
     dispatchers_there p is =
-        let place = contains_at (levels app) p is in
-        let within = slice_get_within (levels app) place.0 p place.1 in
-        subst (HasDispatcher app p img.code) (dispatcher_entry app made place.0 p place.1)
-        (subst (λ (all : List Line). HasDispatcher app p all (slice_index made.dispatchers.items place.0)) whole_code
-        (coded.dispatchers place.0 (omega (arith, coded.entries.of_levels)) p place.1 []))
+        let index = contains_at (levels app) p is in
+        let within = slice_get_within (levels app) index.0 p index.1 in
+        subst (HasDispatcher app p img.code) (dispatcher_entry app made index.0 p index.1)
+        (subst (λ (all : List Line). HasDispatcher app p all (slice_index made.dispatchers.items index.0)) whole_code
+        (coded.dispatchers index.0 (omega (arith, coded.entries.of_levels)) p index.1 []))
 
     handler_there : (mono : Mono) → app.mono ≡ Some mono → HasHandler app mono.priority img.code made.timer
     handler_there mono is =

@@ -4,7 +4,7 @@ use Rattle.std.proofs.Common.{◌≡◌, ◌==◌, ℕ, true, List, length, slic
 use Rattle.std.proofs.Common.{if◌then◌else◌}
 use Rattle.rt_lemmas.proofs.Bools.{and_left}
 use Rattle.rt_ids.specs.Lists.{is_some_and}
-use Rattle.rt_ids.specs.Storage.{AtLevel}
+use Rattle.rt_ids.specs.Storage.{AtPriority}
 use Rattle.rt_app.specs.declared.costs.TheConstants.{DISPATCHER_WORDS}
 use Rattle.rt_app.specs.Tree.{Task, App}
 use Rattle.rt_app.specs.Accepted.{IsAccepted}
@@ -42,7 +42,7 @@ module _ (app : App) (accepted : IsAccepted app) (at : Entries) (code : List Lin
   pub dispatcher_stands : (bodies : List BodyRow) → bodies ≡ rows_for at.task 0 app.tasks
       → HasCode code (at.dispatcher p) (dispatcher_code app p (at.dispatcher p))
       → (thread : ℕ)
-      → StandsFrom (storage app) code (callable_rows app (is_of_level p) (length code) bodies) thread (AtLevel p)
+      → StandsFrom (storage app) code (callable_rows app (is_of_level p) (length code) bodies) thread (AtPriority p)
       (length (memory app)) DISPATCHER_WORDS (at.dispatcher p) (dispatcher_cost app p) (dispatcher_doing app p)
   dispatcher_stands bodies are has thread =
       dispatchers_stand app accepted p is code (at.dispatcher p) has entry

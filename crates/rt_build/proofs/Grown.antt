@@ -12,7 +12,7 @@ use Rattle.std.proofs.lemmas.List.{get_or_push, length_push}
 use Rattle.std.proofs.Math.Seq.{take-append_seam}
 use Rattle.rt_lemmas.proofs.Membership.{all_append}
 use Rattle.rt_lemmas.proofs.Places.{at_back}
-use Rattle.rt_ids.specs.Storage.{Starting, AtLevel}
+use Rattle.rt_ids.specs.Storage.{Starting, AtPriority}
 use Rattle.rt_ids.specs.declared.ids.BodyId.TheVariants as body
 use Rattle.rt_app.specs.declared.app.Mono.{Mono}
 use Rattle.rt_app.specs.Tree.{Body, Task, App}
@@ -78,7 +78,7 @@ further P before after goes holds more =
     ∙ ap (λ (front : List Line). front ++ more) (whole before after goes) in
     subst P all (holds (behind before after ++ more))
 
--- what holds of each address at its place, and of one more
+-- what holds of each address at its index, and of one more
 one_more : (P : ℕ → ℕ → Type 0) (entries : List ℕ) (entry : ℕ)
     → ((n : ℕ) → n < length entries → P n (slice_index entries n)) → P (length entries) entry
     → (n : ℕ) → n < length (entries ++ entry ∷ []) → P n (slice_index (entries ++ entry ∷ []) n)
@@ -156,7 +156,7 @@ pub idle_declared : (app : App) (lines : List Line) (entry : ℕ) (b : Body) →
     → (more : List Line) (bodies : List BodyRow) → IdleStands app (lines ++ more) bodies entry app.idle
 idle_declared app lines entry b is stands more bodies =
     subst (λ o. IdleStands app (lines ++ more) bodies entry o) (sym is)
-    (subst (λ o. StandsFrom (storage app) (lines ++ more) bodies entry (AtLevel 0) (length (memory app))
+    (subst (λ o. StandsFrom (storage app) (lines ++ more) bodies entry (AtPriority 0) (length (memory app))
     (thread_words app) entry (cost_of (cost_measure app) o) (idle_doing app)) is (stands more bodies))
 
 pub idle_absent : (app : App) (before lines : List Line) (entry : ℕ) → app.idle ≡ None → entry ≡ length before

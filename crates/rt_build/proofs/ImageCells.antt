@@ -55,9 +55,9 @@ first_named cells i cell at alone =
     λ k below. not_so (bytes_eq (get_or cells k cell).name cell.name)
     (λ same. alone k (get_or cells k cell) below (slice_get-get_or cells k cell (omega arith))
     ((bytes_eq-Decides (get_or cells k cell).name cell.name).0 same)) in
-    let place : position_or_len (λ c. bytes_eq c.name cell.name) cells ≡ i =
+    let index : position_or_len (λ c. bytes_eq c.name cell.name) cells ≡ i =
     position_or_len_is (λ c. bytes_eq c.name cell.name) cells i cell (omega arith) before (λ _. own) in
-    rw place (grind (arith, nat_tests))
+    rw index (grind (arith, nat_tests))
 
 module _ (app : App) (at : Entries) (img : Image) (tables : HasTables app at img) (sound : IsSound app) where
   -- the cell of a resource is the first of its name
@@ -183,14 +183,14 @@ free_words n t named =
           (λ k. joined (codes "free." ++ t.name ++ codes ".") (decimal k) front (decimal_word k)),
     )
 
-place_words : (n : ℕ) (t : Task) → IsName t.name → (place : ℕ) → AllByRecursion HasWord (place_cells n t place)
-place_words n t named place =
+place_words : (n : ℕ) (t : Task) → IsName t.name → (index : ℕ) → AllByRecursion HasWord (place_cells n t index)
+place_words n t named index =
     let task : IsWord (codes "input." ++ t.name ++ codes ".") =
     dotted (codes "input.") t.name (literal (codes "input.") refl) (plain t.name named).word in
-    let front : IsWord (codes "input." ++ t.name ++ codes "." ++ decimal place ++ codes ".") =
-    dotted (codes "input." ++ t.name ++ codes ".") (decimal place) task (decimal_word place) in
+    let front : IsWord (codes "input." ++ t.name ++ codes "." ++ decimal index ++ codes ".") =
+    dotted (codes "input." ++ t.name ++ codes ".") (decimal index) task (decimal_word index) in
     each_of _ (range_with_len 0 t.args)
-    (λ k. joined (codes "input." ++ t.name ++ codes "." ++ decimal place ++ codes ".") (decimal k) front
+    (λ k. joined (codes "input." ++ t.name ++ codes "." ++ decimal index ++ codes ".") (decimal k) front
     (decimal_word k))
 
 queue_words : (n : ℕ) (t : Task) → IsName t.name → (b : Bool)

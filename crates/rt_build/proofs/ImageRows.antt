@@ -28,7 +28,7 @@ use Rattle.rt_build.specs.Entries.{Entries, handler_row, irq_rows}
 use Rattle.rt_build.specs.Inside.Tables.{handler_of, row_of}
 
 module _ (app : App) (at : Entries) where
-  -- the row of an interrupt, by its place
+  -- the row of an interrupt, by its index
   abbrev pub its_row : ℕ → IrqDecl → IrqRow
   its_row i d = row_of d (handler_of app at (services app) i)
 
@@ -55,7 +55,7 @@ module _ (app : App) (at : Entries) where
       (irq_rows app at 0 app.irqs) i row
       (each_row (λ row. (h : Handler) → row.handler ≡ Some h → h.value % 2 ^ (8 - app.bits) ≡ 0)
       (λ i d declared h is. each_handler (λ h. h.value % 2 ^ (8 - app.bits) ≡ 0)
-      (λ s. mul-mod_left (2 ^ app.bits - s.level) (2 ^ (8 - app.bits))) i h is)) there h is
+      (λ s. mul-mod_left (2 ^ app.bits - s.priority) (2 ^ (8 - app.bits))) i h is)) there h is
 
   numbers_from : (i : ℕ) (ds : List IrqDecl) → map (λ row. row.number) (irq_rows app at i ds) ≡ map (λ d. d.number) ds
   numbers_from i [] = refl

@@ -1,4 +1,4 @@
--- The levels of software tasks by their places: they rise, so that each stands at one place, and as many are above one
+-- The levels of software tasks by their indices: they rise, so that each stands at one index, and as many are above one
 -- as stand behind it.
 use Rattle.std.proofs.Common.{◌≡◌, ℕ, zero, suc, ◌-◌, ◌<◌, ◌==◌, false, List, [], ◌∷◌, length, filter}
 use Rattle.std.proofs.Common.{map, Option, Some, None, option_map, IsSome, slice_get, Contains, refl, sym}
@@ -62,11 +62,11 @@ module _ (app : App) where
   levels_rise = those_rise (λ p. list_any (is_of_level p) app.tasks) PRIORITIES
 
   module _ (k p : ℕ) (there : slice_get (levels app) k ≡ Some p) where
-    -- a level at a place is one
+    -- a level at an index is one
     pub is_level : Contains (levels app) p
     is_level = contained (levels app) k p there
 
-    -- and it stands at no other place
+    -- and it stands at no other index
     pub place_is : position (λ q. q == p) (levels app) ≡ Some k
     place_is =
         position_of_key (λ q. q) (levels app) k p there

@@ -17,7 +17,7 @@ use Rattle.rt_app.specs.Names.{HasNames}
 use Rattle.rt_app.proofs.Unbroken.{not_broken}
 use Rattle.rt_ids.specs.Lists.{AreDifferent}
 use Rattle.rt_resolve.specs.Scope.{is_named}
-use Rattle.rt_resolve.specs.Resolved.{resolved, irq, task, shared, local}
+use Rattle.rt_resolve.specs.Resolved.{resolved_app, irq, task, resolved_shared, local}
 use Rattle.rt_resolve.specs.NameRules.{declared_twice, declaration_faults}
 
 identifier : (text : List ℕ) → is_identifier text ≡ true → (1 ≤ length text) × (is_identifier text ≡ true)
@@ -63,11 +63,11 @@ same_texts f name text same [] = refl
 same_texts f name text same (x ∷ xs) = ap₂ ◌∷◌ (sym (same x)) (same_texts f name text same xs)
 
 module _ (app : App) (printable : IsPrintable app) (fine : declaration_faults app ≡ []) where
-  pub named : HasNames (resolved app)
+  pub named : HasNames (resolved_app app)
   named = record {
     irqs = all_map irq _ _ (λ d is. name_is d.name is.0) app.irqs printable.irqs;
     tasks = all_map (task app) _ _ (λ t is. name_is t.name is.name) app.tasks printable.tasks;
-    shared = all_map shared _ _ (λ r is. name_is r.name is.0) app.shared printable.shared;
+    shared = all_map resolved_shared _ _ (λ r is. name_is r.name is.0) app.shared printable.shared;
     locals = all_map local _ _ (λ r is. name_is r.name is.0) app.locals printable.locals;
     irqs_differ = subst AreDifferent irq_texts (different [] irqs (append_none_left (declared_twice [] irqs) (declared_twice [] resources ++ declared_twice [] tasks) fine));
     tasks_differ = subst AreDifferent task_texts (different [] tasks (append_none_right (declared_twice [] resources) (declared_twice [] tasks) behind_irqs));
@@ -86,13 +86,13 @@ module _ (app : App) (printable : IsPrintable app) (fine : declaration_faults ap
       behind_irqs : declared_twice [] resources ++ declared_twice [] tasks ≡ []
       behind_irqs = append_none_right (declared_twice [] irqs) (declared_twice [] resources ++ declared_twice [] tasks) fine
 
-      irq_texts : texts irqs ≡ map (λ d. d.name) (resolved app).irqs
+      irq_texts : texts irqs ≡ map (λ d. d.name) (resolved_app app).irqs
       irq_texts = same_texts irq _ _ (λ d. refl) app.irqs
 
-      task_texts : texts tasks ≡ map (λ t. t.name) (resolved app).tasks
+      task_texts : texts tasks ≡ map (λ t. t.name) (resolved_app app).tasks
       task_texts = same_texts (task app) _ _ (λ t. refl) app.tasks
 
-      resource_texts : texts resources ≡ map (λ r. r.name) (resolved app).shared ++ map (λ r. r.name) (resolved app).locals
+      resource_texts : texts resources ≡ map (λ r. r.name) (resolved_app app).shared ++ map (λ r. r.name) (resolved_app app).locals
       resource_texts =
           map-append (λ (x : Ident). x.name) (map (λ r. r.name) app.shared) (map (λ r. r.name) app.locals)
-          ∙ ap₂ ◌++◌ (same_texts shared _ _ (λ r. refl) app.shared) (same_texts local _ _ (λ r. refl) app.locals)
+          ∙ ap₂ ◌++◌ (same_texts resolved_shared _ _ (λ r. refl) app.shared) (same_texts local _ _ (λ r. refl) app.locals)

@@ -99,7 +99,7 @@ module _ (app : App) where
           (first.begins ∙ sym second.begins, behind.1),
         )
 
-    -- what serves an interrupt is entered alike
+    -- what serves an interrupt is taken alike
     abbrev EntersAlike : Service → Type 0
     EntersAlike s = entry_of one s.handler ≡ entry_of other s.handler
 

@@ -13,9 +13,9 @@ use Rattle.rt_app.specs.declared.TheConstants.{UNKNOWN}
 use Rattle.rt_app.specs.declared.expr.Atom.{Atom}
 use Rattle.rt_app.specs.declared.expr.Atom.TheVariants as atom
 use Rattle.rt_app.specs.Accepted.{IsMeant}
-use Rattle.rt_resolve.specs.Scope.{is_named, irq_named, task_named, shared_named, local_named, or_unknown, Variable, Scope, is_variable, declared, Names, with_variable, variable_named, owned_named, meaning, atom_named}
+use Rattle.rt_resolve.specs.Scope.{is_named, irq_named, task_named, shared_resource_named, local_named, or_unknown, Variable, Scope, is_variable, scope_with_variable, Names, with_variable, variable_named, owned_local_named, meaning, atom_named}
 use Rattle.rt_resolve.specs.Resolved as resolve
-use Rattle.rt_resolve.specs.Resolved.{resolved, irq, task, shared, local, with_arguments}
+use Rattle.rt_resolve.specs.Resolved.{resolved_app, irq, task, resolved_shared, local, with_arguments}
 use Rattle.rt_resolve.specs.Misnamed.{if_unknown}
 
 -- what holds of all that is found holds of what a known name means
@@ -23,22 +23,22 @@ pub known : {X : Type 0} (P : X → Type 0) (found : Option X) (other : X) (at :
 known P None other at h fine = cc
 known P (Some x) other at h fine = h
 
--- the place of a thing in a table is its place in the table of what the things stand for
+-- the index of a thing in a table is its index in the table of what the things stand for
 placed : {X Y : Type 0} (f : X → Y) (p : X → Bool) (xs : List X) → IfSome (position p xs) (λ k. k < length (map f xs))
 placed f p xs = subst (λ n. IfSome (position p xs) (λ k. k < n)) (sym (length-map xs f)) (position_within p xs)
 
 module _ (app : App) where
-  pub irq_placed : (name : List ℕ) (at : ℕ) → if_unknown (irq_named app name) at ≡ [] → or_unknown (irq_named app name) < length (resolved app).irqs
-  irq_placed name at = known (λ k. k < length (resolved app).irqs) (irq_named app name) UNKNOWN at (placed irq (λ d. is_named name d.name) app.irqs)
+  pub irq_placed : (name : List ℕ) (at : ℕ) → if_unknown (irq_named app name) at ≡ [] → or_unknown (irq_named app name) < length (resolved_app app).irqs
+  irq_placed name at = known (λ k. k < length (resolved_app app).irqs) (irq_named app name) UNKNOWN at (placed irq (λ d. is_named name d.name) app.irqs)
 
-  pub task_placed : (name : List ℕ) (at : ℕ) → if_unknown (task_named app name) at ≡ [] → or_unknown (task_named app name) < length (resolved app).tasks
-  task_placed name at = known (λ k. k < length (resolved app).tasks) (task_named app name) UNKNOWN at (placed (task app) (λ t. is_named name t.name) app.tasks)
+  pub task_placed : (name : List ℕ) (at : ℕ) → if_unknown (task_named app name) at ≡ [] → or_unknown (task_named app name) < length (resolved_app app).tasks
+  task_placed name at = known (λ k. k < length (resolved_app app).tasks) (task_named app name) UNKNOWN at (placed (task app) (λ t. is_named name t.name) app.tasks)
 
-  pub shared_placed : (name : List ℕ) (at : ℕ) → if_unknown (shared_named app name) at ≡ [] → or_unknown (shared_named app name) < length (resolved app).shared
-  shared_placed name at = known (λ k. k < length (resolved app).shared) (shared_named app name) UNKNOWN at (placed shared (λ r. is_named name r.name) app.shared)
+  pub shared_placed : (name : List ℕ) (at : ℕ) → if_unknown (shared_resource_named app name) at ≡ [] → or_unknown (shared_resource_named app name) < length (resolved_app app).shared
+  shared_placed name at = known (λ k. k < length (resolved_app app).shared) (shared_resource_named app name) UNKNOWN at (placed resolved_shared (λ r. is_named name r.name) app.shared)
 
-  pub local_placed : (name : List ℕ) (at : ℕ) → if_unknown (local_named app name) at ≡ [] → or_unknown (local_named app name) < length (resolved app).locals
-  local_placed name at = known (λ k. k < length (resolved app).locals) (local_named app name) UNKNOWN at (placed local (λ r. is_named name r.name) app.locals)
+  pub local_placed : (name : List ℕ) (at : ℕ) → if_unknown (local_named app name) at ≡ [] → or_unknown (local_named app name) < length (resolved_app app).locals
+  local_placed name at = known (λ k. k < length (resolved_app app).locals) (local_named app name) UNKNOWN at (placed local (λ r. is_named name r.name) app.locals)
 
 -- each variable in scope has one of these numbers
 abbrev pub AreSeen : List ℕ → List Variable → Type 0
@@ -50,7 +50,7 @@ seen_more n visible vs = all_weaker (λ v. Contains visible v.number) (λ v. Con
 all_in : (xs : List ℕ) → AllByRecursion (Contains xs) xs
 all_in xs = all_from_members (Contains xs) xs (λ x is. is)
 
-pub declared_seen : (visible : List ℕ) (s : Scope) (name : List ℕ) (n : ℕ) → Contains visible n → AreSeen visible s.variables → AreSeen visible (declared s name n).variables
+pub declared_seen : (visible : List ℕ) (s : Scope) (name : List ℕ) (n : ℕ) → Contains visible n → AreSeen visible s.variables → AreSeen visible (scope_with_variable s name n).variables
 declared_seen visible s name n is seen = go (list_any (is_variable name) (take s.here s.variables))
   where
     go : (b : Bool) → AreSeen visible (if b then s else record { variables = record { name = name; number = n } ∷ s.variables; here = s.here + 1 }).variables
@@ -67,7 +67,7 @@ found_seen visible p (v ∷ vs) seen = go (p v) (found_seen visible p vs seen.1)
 
 -- the local resources that a body lists
 abbrev pub listed_by : App → List Ident → List ℕ
-listed_by app xs = map (λ o. o.local) (map (resolve.owned app) xs)
+listed_by app xs = map (λ o. o.local) (map (resolve.resolved_local app) xs)
 
 abbrev pub listings : Names → List ℕ
 listings names = listed_by names.app names.local
@@ -86,26 +86,26 @@ listed_here app name n is (x ∷ xs) test = go (is_named name x) refl (listed_he
         contains_there (or_unknown (local_named app x.name)) (listed_by app xs) n (behind (ap (λ b. b || list_any (is_named name) xs) (sym e) ∙ test))
 
 -- what a known name in an expression or an assignment stands for
-pub meant : (names : Names) (visible : List ℕ) → AreSeen visible names.scope.variables → (name : List ℕ) (at : ℕ) → if_unknown (meaning names name) at ≡ [] → IsMeant (resolved names.app) (listings names) visible (atom_named names name)
+pub meant : (names : Names) (visible : List ℕ) → AreSeen visible names.scope.variables → (name : List ℕ) (at : ℕ) → if_unknown (meaning names name) at ≡ [] → IsMeant (resolved_app names.app) (listings names) visible (atom_named names name)
 meant names visible seen name at = known P (meaning names name) (atom.Shared UNKNOWN) at
-    (if_some_either P (variable_named names name) (option_or (option_map atom.Shared (shared_named names.app name)) (owned_named names name)) variables (if_some_either P (option_map atom.Shared (shared_named names.app name)) (owned_named names name) resources owned))
+    (if_some_either P (variable_named names name) (option_or (option_map atom.Shared (shared_resource_named names.app name)) (owned_local_named names name)) variables (if_some_either P (option_map atom.Shared (shared_resource_named names.app name)) (owned_local_named names name) resources owned))
   where
     P : Atom → Type 0
-    P = IsMeant (resolved names.app) (listings names) visible
+    P = IsMeant (resolved_app names.app) (listings names) visible
 
     variables : IfSome (variable_named names name) P
     variables = if_some-map (λ v. atom.Var v.number) P (find (is_variable name) names.scope.variables) (found_seen visible (is_variable name) names.scope.variables seen)
 
-    resources : IfSome (option_map atom.Shared (shared_named names.app name)) P
-    resources = if_some-map atom.Shared P (shared_named names.app name) (placed shared (λ r. is_named name r.name) names.app.shared)
+    resources : IfSome (option_map atom.Shared (shared_resource_named names.app name)) P
+    resources = if_some-map atom.Shared P (shared_resource_named names.app name) (placed resolved_shared (λ r. is_named name r.name) names.app.shared)
 
-    owned_when : (b : Bool) (found : Option ℕ) → list_any (is_named name) names.local ≡ b → local_named names.app name ≡ found → IfSome found (λ n. n < length (resolved names.app).locals)
+    owned_when : (b : Bool) (found : Option ℕ) → list_any (is_named name) names.local ≡ b → local_named names.app name ≡ found → IfSome found (λ n. n < length (resolved_app names.app).locals)
         → IfSome (if b then option_map atom.Local found else None) P
     owned_when false found test is h = tt
     owned_when true None test is h = tt
     owned_when true (Some n) test is h = (h, listed_here names.app name n is names.local test)
 
-    owned : IfSome (owned_named names name) P
+    owned : IfSome (owned_local_named names name) P
     owned = owned_when (list_any (is_named name) names.local) (local_named names.app name) refl refl (placed local (λ r. is_named name r.name) names.app.locals)
 
 -- the arguments of a body are the first of its variables

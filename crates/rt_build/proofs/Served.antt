@@ -136,15 +136,15 @@ module _ (app : App) (at : Entries) where
 -- the interrupt of a service is declared, and its level is a priority that there is
 module _ (app : App) (sound : IsSound app) (before behind : List Service) (s : Service)
     (are : services app ≡ before ++ s ∷ behind) where
-  placed : (s.irq < length app.irqs) × (1 ≤ s.level) × (s.level ≤ 2 ^ app.bits)
+  placed : (s.irq < length app.irqs) × (1 ≤ s.priority) × (s.priority ≤ 2 ^ app.bits)
   placed =
-      let IsPlaced : Service → Type 0 = λ s. (s.irq < length app.irqs) × (1 ≤ s.level) × (s.level ≤ 2 ^ app.bits) in
+      let IsPlaced : Service → Type 0 = λ s. (s.irq < length app.irqs) × (1 ≤ s.priority) × (s.priority ≤ 2 ^ app.bits) in
       (all_behind IsPlaced before (s ∷ behind) (subst (AllByRecursion IsPlaced) are sound.served)).0
 
   pub declared_irq : s.irq < length app.irqs
   declared_irq = placed.0
 
-  pub declared_level : (1 ≤ s.level) × (s.level ≤ 2 ^ app.bits)
+  pub declared_level : (1 ≤ s.priority) × (s.priority ≤ 2 ^ app.bits)
   declared_level = (placed.1, placed.2)
 
 module _ (app : App) (at : Entries) (sound : IsSound app) where
@@ -166,7 +166,7 @@ pub row_is : (app : App) (at : Entries) (n : ℕ) (t : Task) (value entry frame 
     → value ≡ hardware app.bits t.priority → entry ≡ at.task n
     → frame ≡ frame_words t.args t.body
     → record { value = value; entry = entry; frame = frame } ≡ handler_row app at
-    (record { irq = 0; handler = Runs n; level = t.priority })
+    (record { irq = 0; handler = Runs n; priority = t.priority })
 row_is app at n t value entry frame there valued entered framed =
     let words : frame ≡ handler_words app (Runs n) = framed ∙ ap task_words (sym there) in
     rw (valued, entered, words) refl
@@ -175,13 +175,13 @@ row_is app at n t value entry frame there valued entered framed =
 pub level_row_is : (app : App) (at : Entries) (p value entry : ℕ) → value ≡ hardware app.bits p
     → entry ≡ at.dispatcher p
     → record { value = value; entry = entry; frame = DISPATCHER_WORDS } ≡ handler_row app at
-    (record { irq = 0; handler = Dispatches p; level = p })
+    (record { irq = 0; handler = Dispatches p; priority = p })
 level_row_is app at p value entry valued entered = rw (valued, entered) refl
 
 -- and how that of the monotonic serves it
 pub timer_row_is : (app : App) (at : Entries) (p value entry : ℕ) → value ≡ hardware app.bits p → entry ≡ at.timer
     → record { value = value; entry = entry; frame = TIMER_WORDS } ≡ handler_row app at
-    (record { irq = 0; handler = Times; level = p })
+    (record { irq = 0; handler = Times; priority = p })
 timer_row_is app at p value entry valued entered = rw (valued, entered) refl
 
 -- and the row of a task's body
@@ -219,7 +219,7 @@ pub bound_declared : (app : App) → IsAccepted app → (n irq : ℕ) (t : Task)
 bound_declared app accepted n irq t there binds =
     subst (IsBindingPlaced app) binds (all_at (IsTaskPlaced app) app.tasks n t accepted.tasks there).0
 
--- the pairs of one place more
+-- the pairs of one index more
 pub zip_next : {X Y : Type 0} (xs : List X) (ys : List Y) (i : ℕ) (x : X) (y : Y) → i < length xs → i < length ys
     → x ≡ get_or xs i x → y ≡ get_or ys i y
     → take (i + 1) (zip xs ys) ≡ take i (zip xs ys) ++ (x, y) ∷ []

@@ -65,7 +65,7 @@ module _ (app : App) where
 
   module _ (n : ℕ) (t : Task) (irq : ℕ) (there : slice_get app.tasks n ≡ Some t) (binds : t.binds ≡ Some irq) where
     abbrev pub its_service : Service
-    its_service = record { irq = irq; handler = Runs n; level = t.priority }
+    its_service = record { irq = irq; handler = Runs n; priority = t.priority }
 
     abbrev pub behind_task : List Service
     behind_task = task_services (n + 1) (drop (suc n) app.tasks) ++ others
@@ -103,13 +103,13 @@ module _ (app : App) where
       → task_services 0 (take n app.tasks) ≡ task_services 0 app.tasks
   all_tasks n last = ap (task_services 0) (take_all n app.tasks last)
 
-  -- those of all tasks, and of the levels before a place
+  -- those of all tasks, and of the levels before an index
   abbrev pub served_below : ℕ → List Service
   served_below k = task_services 0 app.tasks ++ level_services (take k (levels app))
 
   module _ (k p irq : ℕ) (there : slice_get (levels app) k ≡ Some p) (dispatched : dispatcher_of app p ≡ Some irq) where
     abbrev pub level_service : Service
-    level_service = record { irq = irq; handler = Dispatches p; level = p }
+    level_service = record { irq = irq; handler = Dispatches p; priority = p }
 
     abbrev pub behind_level : List Service
     behind_level = level_services (drop (suc k) (levels app)) ++ timer_service app.mono
@@ -148,7 +148,7 @@ module _ (app : App) where
       sym (append_assoc (task_services 0 app.tasks) (level_services (levels app)) (timer_service app.mono))
 
   abbrev pub timed_service : Mono → Service
-  timed_service mono = record { irq = mono.irq; handler = Times; level = mono.priority }
+  timed_service mono = record { irq = mono.irq; handler = Times; priority = mono.priority }
 
   pub timer_last : (mono : Mono) → app.mono ≡ Some mono → services app ≡ untimed_services app ++ timed_service mono ∷ []
   timer_last mono is = timer_behind ∙ ap (λ o. untimed_services app ++ timer_service o) is

@@ -8,23 +8,23 @@ use Rattle.rt_app.specs.declared.violation.Violation.{Violation}
 use Rattle.rt_app.specs.Tree.{App}
 use Rattle.rt_app.specs.Violation.{IsFirst}
 use Rattle.rt_app.specs.Rules.{violations}
-use Rattle.rt_resolve.specs.Resolved.{resolved}
+use Rattle.rt_resolve.specs.Resolved.{resolved_app}
 use Rattle.rt_resolve.specs.NameRules.{name_violations}
 use Rattle.rt_rules.specs.Refusal.{fault_at}
 
 -- all rules that a tree breaks, on its names and on what they mean
-abbrev pub broken : written.App → List Violation
-broken tree = name_violations tree ++ violations (resolved tree)
+abbrev pub tree_violations : written.App → List Violation
+tree_violations tree = name_violations tree ++ violations (resolved_app tree)
 
 -- the tree breaks no rule, and this is its application
 pub record KeepsRules (tree : written.App) (app : App) : Type 0 where
-  pub same : app ≡ resolved tree
-  pub rules : broken tree ≡ []
+  pub same : app ≡ resolved_app tree
+  pub rules : tree_violations tree ≡ []
 
 -- the tree breaks a rule, and this is the first, at its line and column in the text
 pub record IsBroken (src : List ℕ) (tree : written.App) (fault : Fault) : Type 0 where
   pub violation : Violation
-  pub first : IsFirst (broken tree) violation
+  pub first : IsFirst (tree_violations tree) violation
   pub says : fault ≡ fault_at src violation
 
 -- the text has a tree that breaks no rule, and this is its application

@@ -41,12 +41,12 @@ module _ (app : App) (at : Entries) where
   -- how an interrupt serves what it serves
   abbrev pub handler_row : Service → row.Handler
   handler_row s = record {
-    value = hardware app.bits s.level;
+    value = hardware app.bits s.priority;
     entry = entry_of at s.handler;
     frame = handler_words app s.handler;
   }
 
-  -- The declared interrupts in order, the first of which has this place. One that serves nothing is not enabled; that
+  -- The declared interrupts in order, the first of which has this index. One that serves nothing is not enabled; that
   -- none serves two is a rule of the language.
   abbrev pub irq_rows : ℕ → List IrqDecl → List IrqRow
   irq_rows i [] = []

@@ -6,7 +6,7 @@
 use Rattle.std.specs.Prelude.{◌≡◌, ◌≤◌, ℕ, Bool, false, List, length, map, slice_get, Option, Some, None, if◌then◌else◌}
 use Rattle.std.specs.Prelude.{Contains}
 use Rattle.rt_ids.specs.Lists.{is_some_and}
-use Rattle.rt_ids.specs.Storage.{Starting, AtLevel}
+use Rattle.rt_ids.specs.Storage.{Starting, AtPriority}
 use Rattle.rt_app.specs.declared.app.Mono.{Mono}
 use Rattle.rt_app.specs.declared.costs.TheConstants.{DISPATCHER_WORDS, TIMER_WORDS}
 use Rattle.rt_app.specs.Tree.{Body, Task, App}
@@ -32,7 +32,7 @@ use Rattle.rt_build.specs.Order.{IsInOrder, code_size}
 abbrev pub IdleStands : App → List (Instr × Option Note) → List BodyRow → ℕ → Option Body → Type 0
 IdleStands app code bodies entry None = slice_get code entry ≡ Some (instr.Wait, None)
 IdleStands app code bodies entry (Some b) =
-    StandsFrom (storage app) code bodies entry (AtLevel 0) (length (memory app)) (thread_words app) entry
+    StandsFrom (storage app) code bodies entry (AtPriority 0) (length (memory app)) (thread_words app) entry
     (body_cost (cost_measure app) b) (idle_doing app)
 
 -- The rows of bodies as code sees them that calls bodies of some tasks alone, those that pass: any other leads to an
@@ -65,11 +65,11 @@ module _ (app : App) (at : Entries) where
         → TaskStands app n (Some t) img.code (at.task n)
     pub dispatchers : (p : ℕ) → Contains (levels app) p → (thread : ℕ)
         → StandsFrom (storage app) img.code (callable_rows app (is_of_level p) (length img.code) img.bodies) thread
-        (AtLevel p) (length (memory app)) DISPATCHER_WORDS (at.dispatcher p) (dispatcher_cost app p)
+        (AtPriority p) (length (memory app)) DISPATCHER_WORDS (at.dispatcher p) (dispatcher_cost app p)
         (dispatcher_doing app p)
     -- where there is a monotonic
     pub timer : (mono : Mono) → app.mono ≡ Some mono → (bodies : List BodyRow) (thread : ℕ)
-        → StandsFrom (storage app) img.code bodies thread (AtLevel mono.priority) (length (memory app)) TIMER_WORDS
+        → StandsFrom (storage app) img.code bodies thread (AtPriority mono.priority) (length (memory app)) TIMER_WORDS
         at.timer (timer_cost app) (timer_doing app)
 
 -- An image of an application: for some entries its tables lead to them, its code stands at them, and the parts of the

@@ -22,7 +22,7 @@ pub(crate) struct Start {
     pub(crate) frame: u32,
 }
 
-/// How the body of the task at a place starts.
+/// How the body of the task at an index starts.
 pub(crate) fn start_of(plan: &Plan<'_>, code: &Code, number: usize) -> Start
     requires plan { IsAcceptedPlan plan.now }
     requires entries { HasEntries (app_of plan.now.app.now) code.now }

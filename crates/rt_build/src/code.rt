@@ -114,9 +114,9 @@ fn push_task(
         (t : tree.Task) → slice_get app.tasks number ≡ Some t →
         TellsTask app kind number t entries.old entries.new lines.new.items) }
 {
-    let place = usize::from(number);
-    if is_of_kind(&plan.app.tasks[place], kind) {
-        entries[place] = gen_body(alloc, plan, rows, BodyId::Task(TaskId(number)), lines)?;
+    let index = usize::from(number);
+    if is_of_kind(&plan.app.tasks[index], kind) {
+        entries[index] = gen_body(alloc, plan, rows, BodyId::Task(TaskId(number)), lines)?;
     }
     Ok(())
 }

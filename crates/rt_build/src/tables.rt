@@ -57,7 +57,7 @@ fn handler(plan: &Plan<'_>, code: &Code, number: usize, task: &Task) -> Handler
     requires entries { HasEntries (app_of plan.now.app.now) code.now }
     requires task { slice_get (app_of plan.now.app.now).tasks number ≡ Some (task_of task.now) }
     requires hardware { is_software (task_of task.now) ≡ false }
-    ensures { let served : Service = record { irq = 0; handler = Runs number; level = task.now.priority } in
+    ensures { let served : Service = record { irq = 0; handler = Runs number; priority = task.now.priority } in
         result ≡ spec.handler_row (app_of plan.now.app.now) (entries_of (app_of plan.now.app.now) code.now) served }
 {
     let start = start_of(plan, code, number);
@@ -68,17 +68,17 @@ fn handler(plan: &Plan<'_>, code: &Code, number: usize, task: &Task) -> Handler
     }
 }
 
-/// How the dispatcher of the level at a place serves it.
-fn dispatcher(plan: &Plan<'_>, code: &Code, place: usize, level: u8) -> Handler
+/// How the dispatcher of the level at an index serves it.
+fn dispatcher(plan: &Plan<'_>, code: &Code, index: usize, level: u8) -> Handler
     requires plan { IsAcceptedPlan plan.now }
     requires entries { HasEntries (app_of plan.now.app.now) code.now }
-    requires level { slice_get (levels (app_of plan.now.app.now)) place ≡ Some level }
-    ensures { let served : Service = record { irq = 0; handler = Dispatches level; level = level } in
+    requires level { slice_get (levels (app_of plan.now.app.now)) index ≡ Some level }
+    ensures { let served : Service = record { irq = 0; handler = Dispatches level; priority = level } in
         result ≡ spec.handler_row (app_of plan.now.app.now) (entries_of (app_of plan.now.app.now) code.now) served }
 {
     Handler {
         value: Prio(level).hw(plan.app.bits),
-        entry: code.dispatchers[place],
+        entry: code.dispatchers[index],
         frame: DISPATCHER_WORDS,
     }
 }
@@ -87,7 +87,7 @@ fn dispatcher(plan: &Plan<'_>, code: &Code, place: usize, level: u8) -> Handler
 fn timer(plan: &Plan<'_>, code: &Code, mono: Mono) -> Handler
     requires plan { IsAcceptedPlan plan.now }
     requires timed { (app_of plan.now.app.now).mono ≡ Some mono }
-    ensures { let served : Service = record { irq = 0; handler = Times; level = mono.priority } in
+    ensures { let served : Service = record { irq = 0; handler = Times; priority = mono.priority } in
         result ≡ spec.handler_row (app_of plan.now.app.now) (entries_of (app_of plan.now.app.now) code.now) served }
 {
     Handler {
@@ -97,14 +97,14 @@ fn timer(plan: &Plan<'_>, code: &Code, mono: Mono) -> Handler
     }
 }
 
-/// The interrupt of the dispatcher of the level at a place: that of the highest level is named first.
-fn dispatcher_irq(plan: &Plan<'_>, place: usize) -> u8
+/// The interrupt of the dispatcher of the level at an index: that of the highest level is named first.
+fn dispatcher_irq(plan: &Plan<'_>, index: usize) -> u8
     requires plan { IsAcceptedPlan plan.now }
-    requires of_app { place < length (levels (app_of plan.now.app.now)) }
-    ensures { (p : ℕ) → slice_get (levels (app_of plan.now.app.now)) place ≡ Some p →
+    requires of_app { index < length (levels (app_of plan.now.app.now)) }
+    ensures { (p : ℕ) → slice_get (levels (app_of plan.now.app.now)) index ≡ Some p →
         dispatcher_of (app_of plan.now.app.now) p ≡ Some result }
 {
-    let above = plan.ceil.ready.len() - 1 - place;
+    let above = plan.ceil.ready.len() - 1 - index;
     plan.app.dispatchers[above].irq
 }
 
@@ -133,9 +133,9 @@ fn serve_levels(plan: &Plan<'_>, code: &Code, handlers: &mut [Option<Handler>])
     ensures { let app = app_of plan.now.app.now in
         HasHandlers app (entries_of app code.now) (untimed_services app) handlers.new }
 {
-    for (place, row) in plan.ceil.ready.iter().enumerate() {
-        let irq = dispatcher_irq(plan, place);
-        handlers[usize::from(irq)] = Some(dispatcher(plan, code, place, row.level));
+    for (index, row) in plan.ceil.ready.iter().enumerate() {
+        let irq = dispatcher_irq(plan, index);
+        handlers[usize::from(irq)] = Some(dispatcher(plan, code, index, row.level));
     }
 }
 

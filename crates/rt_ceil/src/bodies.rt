@@ -1,7 +1,7 @@
 ghost use Rattle.std.specs.Prelude.{◌≡◌, map, option_map, IfOk};
 ghost use Rattle.std.specs.List.{fold};
 ghost use Rattle.rt_app.specs.View.{block_of, body_of, task_of, app_of};
-ghost use Rattle.rt_ceil.specs.Inside.Tables.{listed, used, used_by_thread, used_by_task, filled};
+ghost use Rattle.rt_ceil.specs.Inside.Tables.{tables_after_listing, tables_after_body, used_by_thread, used_by_task, filled_tables};
 
 use crate::spawns::count_block;
 use crate::tables::{Tables, raise};
@@ -11,14 +11,14 @@ use std::alloc::Global;
 
 /// Counts a listing by a body of this priority.
 fn count_listing(tables: &mut Tables, priority: u8, listing: Listed)
-    ensures { tables.new ≡ listed priority tables.old listing }
+    ensures { tables.new ≡ tables_after_listing priority tables.old listing }
 {
     raise(&mut tables.shared, listing.resource.0, priority);
 }
 
 /// Counts the listings of a body of this priority.
 fn count_listed(tables: &mut Tables, priority: u8, listings: &[Listed])
-    ensures { tables.new ≡ fold (listed priority) tables.old listings.now }
+    ensures { tables.new ≡ fold (tables_after_listing priority) tables.old listings.now }
 {
     for listing in listings {
         count_listing(tables, priority, *listing);
@@ -28,7 +28,7 @@ fn count_listed(tables: &mut Tables, priority: u8, listings: &[Listed])
 /// Counts a body of this priority.
 fn count_body(tables: &mut Tables, app: &App, priority: u8, body: &Body)
     ensures { let block = block_of body.now.block.items in
-        tables.new ≡ used (app_of app.now) priority body.now.shared.items block tables.old }
+        tables.new ≡ tables_after_body (app_of app.now) priority body.now.shared.items block tables.old }
 {
     count_listed(tables, priority, &body.shared);
     count_block(tables, app, priority, &body.block);
@@ -54,7 +54,7 @@ fn count_tasks(tables: &mut Tables, app: &App)
 
 /// The tables of an application after its last body.
 pub(crate) fn fill(alloc: Global, app: &App) -> Result<Tables, NoMemory>
-    ensures { IfOk result (λ tables. tables ≡ filled (app_of app.now)) }
+    ensures { IfOk result (λ tables. tables ≡ filled_tables (app_of app.now)) }
 {
     let mut tables = Tables::new(alloc, app)?;
     count_thread(&mut tables, app, &app.init);

@@ -9,7 +9,7 @@ use rt_app::{Mono, ReadyCeiling, Task};
 use rt_ids::NoMemory;
 use std::alloc::Global;
 
-/// The ceiling of a task's free places, where bodies up to this priority spawn it or cancel messages of it.
+/// The ceiling of a task's free indices, where bodies up to this priority spawn it or cancel messages of it.
 fn free_row(task: &Task, priority: u8) -> Option<u8>
     ensures { result ≡ rows.free_row (task_of task.now) priority }
 {
@@ -20,7 +20,7 @@ fn free_row(task: &Task, priority: u8) -> Option<u8>
     }
 }
 
-/// The ceilings of the free places of tasks.
+/// The ceilings of the free indices of tasks.
 pub(crate) fn free_rows(
     alloc: Global,
     tasks: &[Task],
@@ -38,7 +38,7 @@ pub(crate) fn free_rows(
 
 /// Marks a level, where there is one.
 fn mark(served: &mut [bool], level: Option<u8>)
-    ensures { served.new ≡ rows.marked served.old level }
+    ensures { served.new ≡ rows.served_with served.old level }
 {
     if let Some(level) = level {
         let level = level as usize;

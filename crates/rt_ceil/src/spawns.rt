@@ -2,7 +2,7 @@ ghost use Rattle.std.specs.Prelude.{◌≡◌, slice_get};
 ghost use Rattle.std.specs.List.{fold};
 ghost use Rattle.rt_app.specs.Spawned.{statement_spawns, spawns, value_spawns};
 ghost use Rattle.rt_app.specs.View.{spawn_of, value_of, statement_of, block_of, task_of, app_of};
-ghost use Rattle.rt_ceil.specs.Inside.Tables.{level_of, level_in, mover, spawned};
+ghost use Rattle.rt_ceil.specs.Inside.Tables.{level_of, level_in, mover, tables_after_spawn};
 
 use crate::tables::{Tables, raise, raise_level};
 use rt_app::{App, Mono, Spawn, Stmt, Task, Value};
@@ -37,7 +37,7 @@ fn mover_priority(mono: Option<Mono>) -> u8
 
 /// Counts a spawn by a body of this priority.
 fn count_spawn(tables: &mut Tables, app: &App, priority: u8, spawn: &Spawn)
-    ensures { tables.new ≡ spawned (app_of app.now) priority tables.old (spawn_of spawn.now) }
+    ensures { tables.new ≡ tables_after_spawn (app_of app.now) priority tables.old (spawn_of spawn.now) }
 {
     match spawn {
         Spawn::Soon(task, _args, _at) => {
@@ -62,7 +62,7 @@ fn count_spawn(tables: &mut Tables, app: &App, priority: u8, spawn: &Spawn)
 
 /// Counts the spawn that a variable is bound to.
 fn count_value(tables: &mut Tables, app: &App, priority: u8, value: &Value)
-    ensures { tables.new ≡ fold (spawned (app_of app.now) priority) tables.old (value_spawns (value_of value.now)) }
+    ensures { tables.new ≡ fold (tables_after_spawn (app_of app.now) priority) tables.old (value_spawns (value_of value.now)) }
 {
     if let Value::Call(spawn) = value {
         count_spawn(tables, app, priority, spawn);
@@ -73,7 +73,7 @@ fn count_value(tables: &mut Tables, app: &App, priority: u8, value: &Value)
 #[cycle(block)]
 fn count_statement(tables: &mut Tables, app: &App, priority: u8, stmt: &Stmt)
     ensures { let made = statement_spawns (statement_of stmt.now) in
-        tables.new ≡ fold (spawned (app_of app.now) priority) tables.old made }
+        tables.new ≡ fold (tables_after_spawn (app_of app.now) priority) tables.old made }
 {
     match stmt {
         Stmt::Bind(_variable, value) => count_value(tables, app, priority, value),
@@ -93,7 +93,7 @@ fn count_statement(tables: &mut Tables, app: &App, priority: u8, stmt: &Stmt)
 /// Counts the spawns of a block.
 #[cycle(block)]
 pub(crate) fn count_block(tables: &mut Tables, app: &App, priority: u8, block: &[Stmt])
-    ensures { tables.new ≡ fold (spawned (app_of app.now) priority) tables.old (spawns (block_of block.now)) }
+    ensures { tables.new ≡ fold (tables_after_spawn (app_of app.now) priority) tables.old (spawns (block_of block.now)) }
 {
     for stmt in block {
         count_statement(tables, app, priority, stmt);

@@ -1,6 +1,6 @@
 ghost use Rattle.std.specs.Prelude.{◌≡◌, replicate, IfOk};
 ghost use Rattle.rt_app.specs.View.{app_of};
-ghost use Rattle.rt_ceil.specs.Inside.Tables.{untouched, raised, raised_level};
+ghost use Rattle.rt_ceil.specs.Inside.Tables.{zero_tables, raised_table, raised_level};
 
 use rt_app::App;
 use rt_app::costs::PRIORITIES;
@@ -31,7 +31,7 @@ impl Model for Tables {
 impl Tables {
     /// The tables of an application before its first body.
     pub(crate) fn new(alloc: Global, app: &App) -> Result<Tables, NoMemory>
-        ensures { IfOk result (λ tables. tables ≡ untouched (app_of app.now)) }
+        ensures { IfOk result (λ tables. tables ≡ zero_tables (app_of app.now)) }
     {
         Ok(Tables {
             shared: zeros(alloc, app.shared.len())?,
@@ -49,13 +49,13 @@ fn zeros(alloc: Global, length: usize) -> Result<Vec<u8>, NoMemory>
     Ok(vec![in alloc; 0; length]?)
 }
 
-/// Raises the entry at a place to at least this priority, where there is such a place.
-pub(crate) fn raise(table: &mut [u8], place: u8, priority: u8)
-    ensures { table.new ≡ raised table.old place priority }
+/// Raises the entry at an index to at least this priority, where there is such an index.
+pub(crate) fn raise(table: &mut [u8], index: u8, priority: u8)
+    ensures { table.new ≡ raised_table table.old index priority }
 {
-    let place = place as usize;
-    if place < table.len() {
-        table[place] = table[place].max(priority);
+    let index = index as usize;
+    if index < table.len() {
+        table[index] = table[index].max(priority);
     }
 }
 

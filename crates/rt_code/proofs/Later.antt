@@ -10,7 +10,7 @@ use Rattle.rt_code.specs.Owning.{Spot}
 use Rattle.rt_code.specs.Acting.{Acts, SetsTheAlarm, Noted}
 use Rattle.rt_code.specs.Masking.{GoesIn, ComesOut}
 use Rattle.rt_code.specs.Processor.{Effect, Traps, Leads}
-use Rattle.rt_code.specs.Standing.{Finishes, Calls, ComesBack, EndsBody, Asks, Goes, Does, Fits, LineFits, moved}
+use Rattle.rt_code.specs.Standing.{Finishes, Calls, ComesBack, EndsBody, Asks, Goes, Does, Fits, LineFits, spot_behind}
 use Rattle.rt_code.specs.declared.image.BodyRow.{BodyRow}
 use Rattle.rt_code.specs.declared.instr.Instr.{Instr}
 use Rattle.rt_code.specs.declared.instr.Note.{Note}
@@ -216,7 +216,7 @@ module _ (st : Storage) (bodies : List BodyRow) (who : Runner) (R : List ℕ →
     pub goes_later : (told : Option Note) (basepri : ℕ) (primask : Bool) (e : Effect) (s : Spot) (lefts : List ℕ) → R s.lefts lefts
         → Goes st code bodies thread who told basepri primask s later e → Goes st more bodies thread who told basepri primask (record s { lefts = lefts }) other e
     goes_later told basepri primask (Traps t) s lefts r g = g
-    goes_later told basepri primask (Leads p asked) s lefts r (base, mask, saved, a) = (base, mask, saved, asks_later asked told (moved s p) lefts r a)
+    goes_later told basepri primask (Leads p asked) s lefts r (base, mask, saved, a) = (base, mask, saved, asks_later asked told (spot_behind s p) lefts r a)
 
     pub does_later : (i : Instr) (told : Option Note) (s : Spot) (lefts : List ℕ) → R s.lefts lefts
         → Does st code bodies thread who i told s later → Does st more bodies thread who i told (record s { lefts = lefts }) other

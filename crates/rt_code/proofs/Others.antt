@@ -15,7 +15,7 @@ use Rattle.rt_code.specs.Effect as instruction
 use Rattle.rt_code.specs.Masking.{GoesIn, ComesOut}
 use Rattle.rt_code.specs.Owning.{Spot, is_open, MayAccess, LeavesMine}
 use Rattle.rt_code.specs.Processor.{Processor, Effect, Traps, Leads}
-use Rattle.rt_code.specs.Standing.{Finishes, Calls, ComesBack, EndsBody, Asks, Goes, Does, Fits, LineFits, Stands, moved, passed, processor_of}
+use Rattle.rt_code.specs.Standing.{Finishes, Calls, ComesBack, EndsBody, Asks, Goes, Does, Fits, LineFits, Stands, spot_behind, spot_after_step, processor_of}
 use Rattle.rt_code.specs.StandingLaws.{SpellsByItsOwn, StandsWhateverOthersDo}
 use Rattle.rt_code.specs.declared.image.BodyRow.{BodyRow}
 use Rattle.rt_code.specs.declared.instr.Instr.{Instr}
@@ -264,7 +264,7 @@ module _ (st : Storage) (by_own : SpellsByItsOwn st) (bodies : List BodyRow) (wh
     led_others told basepri primask s cells queues p other asked over same done (base, mask, saved, a) =
         let is : with_memory p other.cells ≡ other = ap (λ q. with_memory q other.cells) (sym same) in
         subst (λ q. Goes st code bodies thread who told basepri primask (record s { cells = cells; queues = queues }) later (Leads q asked)) is
-        (base, mask, saved, asks_others asked told (moved s p) other.cells queues (record { long = done.long; touched = done.touched; queued = over.queued }) a)
+        (base, mask, saved, asks_others asked told (spot_behind s p) other.cells queues (record { long = done.long; touched = done.touched; queued = over.queued }) a)
 
     goes_others : (told : Option Note) (basepri : ℕ) (primask : Bool) (s : Spot) (cells : List ℕ) (queues : Holder → List Entry) (one other : Effect)
         → LeavesMine st who s cells queues → SameDone st who s cells one other → Goes st code bodies thread who told basepri primask s later one
@@ -305,4 +305,4 @@ stands_others st bodies thread who by_own code zero s cells queues over stands =
 stands_others st bodies thread who by_own code (suc n) s cells queues over stands =
     stands_step st code bodies thread who n (record s { cells = cells; queues = queues }) (stands_left st code bodies thread who n s stands)
     (line_others st by_own bodies who (Stands st code bodies thread who n) (λ t others lists. stands_others st bodies thread who by_own code n t others lists) code thread
-    (slice_get code s.address) (passed s) cells queues (record { long = over.long; touched = over.touched; queued = over.queued }) (stands_fits st code bodies thread who n s stands))
+    (slice_get code s.address) (spot_after_step s) cells queues (record { long = over.long; touched = over.touched; queued = over.queued }) (stands_fits st code bodies thread who n s stands))

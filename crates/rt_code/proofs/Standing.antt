@@ -4,7 +4,7 @@ use Rattle.std.proofs.lemmas.Option.{none-some}
 use Rattle.std.specs.List.{AllByRecursion}
 use Rattle.rt_ids.specs.Storage.{Storage, Runner}
 use Rattle.rt_code.specs.Owning.{Spot}
-use Rattle.rt_code.specs.Standing.{Stands, LineFits, passed}
+use Rattle.rt_code.specs.Standing.{Stands, LineFits, spot_after_step}
 use Rattle.rt_code.specs.StandingLaws.{AreAtLeast, StandsBeforeMore, StandsWithMore}
 use Rattle.rt_code.specs.declared.image.BodyRow.{BodyRow}
 use Rattle.rt_code.specs.declared.instr.Instr.{Instr}
@@ -12,7 +12,7 @@ use Rattle.rt_code.specs.declared.instr.Note.{Note}
 use Rattle.rt_code.proofs.Later.{Serves, Carries, line_later}
 
 module _ (st : Storage) (code : List (Instr × Option Note)) (bodies : List BodyRow) (thread : ℕ) (who : Runner) where
-  pub stands_step : (n : ℕ) (s : Spot) → AllByRecursion (λ n. 0 < n) s.lefts → LineFits st code bodies thread who (slice_get code s.address) (passed s) (Stands st code bodies thread who n)
+  pub stands_step : (n : ℕ) (s : Spot) → AllByRecursion (λ n. 0 < n) s.lefts → LineFits st code bodies thread who (slice_get code s.address) (spot_after_step s) (Stands st code bodies thread who n)
       → Stands st code bodies thread who (suc n) s
   unfolding Stands
   stands_step n s left fits = (left, fits)
@@ -22,7 +22,7 @@ module _ (st : Storage) (code : List (Instr × Option Note)) (bodies : List Body
   stands_left n s stands = stands.0
 
   pub stands_fits : (n : ℕ) (s : Spot) → Stands st code bodies thread who (suc n) s
-      → LineFits st code bodies thread who (slice_get code s.address) (passed s) (Stands st code bodies thread who n)
+      → LineFits st code bodies thread who (slice_get code s.address) (spot_after_step s) (Stands st code bodies thread who n)
   unfolding Stands
   stands_fits n s stands = stands.1
 
@@ -93,7 +93,7 @@ module _ (st : Storage) (bodies : List BodyRow) (thread : ℕ) (who : Runner) (c
       let carry : Carries AreAtLeast (Stands st code bodies thread who n) (Stands st more bodies thread who m) = λ t ls h. stands_more has n m t ls steps h in
       stands_step st more bodies thread who m (record s { lefts = lefts }) (least_left s.lefts lefts least (stands_left st code bodies thread who n s stands))
       (line_there (slice_get code s.address) (slice_get more s.address) _ _ (has.at s.address)
-      (line_later st bodies who AreAtLeast least_serves _ _ carry code more thread (slice_get code s.address) (passed s) (map (λ n. n - 1) lefts)
+      (line_later st bodies who AreAtLeast least_serves _ _ carry code more thread (slice_get code s.address) (spot_after_step s) (map (λ n. n - 1) lefts)
       (least_passed s.lefts lefts least) (stands_fits st code bodies thread who n s stands)))
 
 -- The laws: further code behind it changes nothing of code that stands, and more steps and greater `lefts` serve.

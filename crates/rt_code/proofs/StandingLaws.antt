@@ -8,7 +8,7 @@ use Rattle.rt_code.specs.Access.{access_of}
 use Rattle.rt_code.specs.Effect.{effect}
 use Rattle.rt_code.specs.Owning.{Spot, MayAccess, saved_slots}
 use Rattle.rt_code.specs.Processor.{Processor}
-use Rattle.rt_code.specs.Standing.{Stands, Asks, Goes, Fits, LineFits, Calls, Finishes, KeepsSaved, moved, passed, processor_of}
+use Rattle.rt_code.specs.Standing.{Stands, Asks, Goes, Fits, LineFits, Calls, Finishes, KeepsSaved, spot_behind, spot_after_step, processor_of}
 use Rattle.rt_code.specs.StandingLaws.{SpellsByItsOwn, StandingLaws}
 use Rattle.rt_code.specs.Leading.{LeadsTo, is_plain, is_of_section}
 use Rattle.rt_code.specs.StandingSteps.{StepLaw, MaskLaw, FrameLaw, EndLaw}
@@ -29,10 +29,10 @@ kept_alike slots (d ∷ ds) = (refl, kept_alike slots ds)
 
 module _ (st : Storage) (code : List (Instr × Option Note)) (bodies : List BodyRow) (thread : ℕ) (who : Runner) (n : ℕ) (s : Spot) (stands : Stands st code bodies thread who (suc n) s) where
   -- the line at the spot fits
-  fits_at : (i : Instr) (told : Option Note) → slice_get code s.address ≡ Some (i, told) → Fits st code bodies thread who i told (passed s) (Stands st code bodies thread who n)
-  fits_at i told is = subst (λ o. LineFits st code bodies thread who o (passed s) (Stands st code bodies thread who n)) is (stands_fits st code bodies thread who n s stands)
+  fits_at : (i : Instr) (told : Option Note) → slice_get code s.address ≡ Some (i, told) → Fits st code bodies thread who i told (spot_after_step s) (Stands st code bodies thread who n)
+  fits_at i told is = subst (λ o. LineFits st code bodies thread who o (spot_after_step s) (Stands st code bodies thread who n)) is (stands_fits st code bodies thread who n s stands)
 
-  some_line : (o : Option (Instr × Option Note)) → slice_get code s.address ≡ o → LineFits st code bodies thread who o (passed s) (Stands st code bodies thread who n) → StepLaw st code bodies thread who n s
+  some_line : (o : Option (Instr × Option Note)) → slice_get code s.address ≡ o → LineFits st code bodies thread who o (spot_after_step s) (Stands st code bodies thread who n) → StepLaw st code bodies thread who n s
   some_line None is f = absurd f
   some_line (Some line) is f = record {
     left = stands_left st code bodies thread who n s stands;
@@ -45,7 +45,7 @@ module _ (st : Storage) (code : List (Instr × Option Note)) (bodies : List Body
       none : (i : Instr) → access_of i (processor_of s 0 false) ≡ None → MayAccess st who s (access_of i (processor_of s 0 false))
       none i is = subst (λ a. MayAccess st who s a) (sym is) tt
 
-      touches : (i : Instr) (told : Option Note) → Fits st code bodies thread who i told (passed s) (Stands st code bodies thread who n) → MayAccess st who s (access_of i (processor_of s 0 false))
+      touches : (i : Instr) (told : Option Note) → Fits st code bodies thread who i told (spot_after_step s) (Stands st code bodies thread who n) → MayAccess st who s (access_of i (processor_of s 0 false))
       touches i (Some (note.Enter x)) f = none i (ap (λ j. access_of j (processor_of s 0 false)) f.opens ∙ opening_touches (st.value (st.ceiling x)) f.kind (processor_of s 0 false))
       touches i (Some (note.Leave x)) f = none i (ap (λ j. access_of j (processor_of s 0 false)) f.closes ∙ closing_touches f.kind (processor_of s 0 false))
       touches i (Some (note.End body.Init)) f = none i (ap (λ j. access_of j (processor_of s 0 false)) f.0)
@@ -53,8 +53,8 @@ module _ (st : Storage) (code : List (Instr × Option Note)) (bodies : List Body
       touches i (Some (note.End (body.Task t))) f = none i (ap (λ j. access_of j (processor_of s 0 false)) f.0)
       touches i told f = f.touches
 
-      goes : (i : Instr) (told : Option Note) → Fits st code bodies thread who i told (passed s) (Stands st code bodies thread who n) → is_plain told ≡ true → (time basepri : ℕ) (primask : Bool) → time < 2 ^ 31
-          → Goes st code bodies thread who told basepri primask (passed s) (Stands st code bodies thread who n) (effect i time (processor_of s basepri primask))
+      goes : (i : Instr) (told : Option Note) → Fits st code bodies thread who i told (spot_after_step s) (Stands st code bodies thread who n) → is_plain told ≡ true → (time basepri : ℕ) (primask : Bool) → time < 2 ^ 31
+          → Goes st code bodies thread who told basepri primask (spot_after_step s) (Stands st code bodies thread who n) (effect i time (processor_of s basepri primask))
       goes i (Some (note.Enter x)) f plain time basepri primask early = absurd (cc)
       goes i (Some (note.Leave x)) f plain time basepri primask early = absurd (cc)
       goes i (Some (note.End b)) f plain time basepri primask early = absurd (cc)
@@ -65,8 +65,8 @@ module _ (st : Storage) (code : List (Instr × Option Note)) (bodies : List Body
 
   -- a line that asks for more than nothing and is no body's end is a plain one
   asks_plainly : (i : Instr) (told : Option Note) (time basepri : ℕ) (primask : Bool) (p : Processor) (asked : Request) → LeadsTo s i time basepri primask p asked
-      → (asked ≡ request.Nothing → ⊥) → (asked ≡ request.Back → ⊥) → Fits st code bodies thread who i told (passed s) (Stands st code bodies thread who n)
-      → Asks st code bodies thread who asked told (moved (passed s) p) (Stands st code bodies thread who n)
+      → (asked ≡ request.Nothing → ⊥) → (asked ≡ request.Back → ⊥) → Fits st code bodies thread who i told (spot_after_step s) (Stands st code bodies thread who n)
+      → Asks st code bodies thread who asked told (spot_behind (spot_after_step s) p) (Stands st code bodies thread who n)
   asks_plainly i (Some (note.Enter x)) time basepri primask p asked (early, leads) some other f =
       absurd (some (opening_asks (st.value (st.ceiling x)) f.kind time (processor_of s basepri primask) p asked (ap (λ j. effect j time (processor_of s basepri primask)) (sym f.opens) ∙ leads)))
   asks_plainly i (Some (note.Leave x)) time basepri primask p asked (early, leads) some other f =
@@ -78,7 +78,7 @@ module _ (st : Storage) (code : List (Instr × Option Note)) (bodies : List Body
   asks_plainly i (Some (note.End (body.Task t))) time basepri primask p asked (early, leads) some other f =
       absurd (other (let e = ap (λ j. effect j time (processor_of s basepri primask)) (sym f.0) ∙ leads in cc))
   asks_plainly i told time basepri primask p asked (early, leads) some other f =
-      (subst (λ e. Goes st code bodies thread who told basepri primask (passed s) (Stands st code bodies thread who n) e) leads (f.goes time basepri primask early)).3
+      (subst (λ e. Goes st code bodies thread who told basepri primask (spot_after_step s) (Stands st code bodies thread who n) e) leads (f.goes time basepri primask early)).3
 
   calls_told : (told : Option Note) (row from : ℕ) (t : Spot) → Asks st code bodies thread who (request.Call row from) told t (Stands st code bodies thread who n)
       → Calls st code bodies thread who row from t (Stands st code bodies thread who n)
@@ -91,20 +91,20 @@ module _ (st : Storage) (code : List (Instr × Option Note)) (bodies : List Body
 
   -- a return, and a call, at the place where it stands
   returns_at : (i : Instr) (told : Option Note) → slice_get code s.address ≡ Some (i, told) → (time basepri : ℕ) (primask : Bool) (p : Processor)
-      → LeadsTo s i time basepri primask p request.Return → Finishes st code bodies thread who Returns (passed s)
+      → LeadsTo s i time basepri primask p request.Return → Finishes st code bodies thread who Returns (spot_after_step s)
   returns_at i told is time basepri primask p (early, leads) =
-      subst (λ q. Finishes st code bodies thread who Returns (moved (passed s) q)) (return_stays i time (processor_of s basepri primask) p leads)
-      (ends_told told (moved (passed s) p) (asks_plainly i told time basepri primask p request.Return (early, leads) (λ e. cc) (λ e. cc) (fits_at i told is)))
+      subst (λ q. Finishes st code bodies thread who Returns (spot_behind (spot_after_step s) q)) (return_stays i time (processor_of s basepri primask) p leads)
+      (ends_told told (spot_behind (spot_after_step s) p) (asks_plainly i told time basepri primask p request.Return (early, leads) (λ e. cc) (λ e. cc) (fits_at i told is)))
 
   calls_at : (i : Instr) (told : Option Note) → slice_get code s.address ≡ Some (i, told) → (time basepri row from : ℕ) (primask : Bool) (p : Processor)
-      → LeadsTo s i time basepri primask p (request.Call row from) → Calls st code bodies thread who row from (passed s) (Stands st code bodies thread who n)
+      → LeadsTo s i time basepri primask p (request.Call row from) → Calls st code bodies thread who row from (spot_after_step s) (Stands st code bodies thread who n)
   calls_at i told is time basepri row from primask p (early, leads) =
-      subst (λ q. Calls st code bodies thread who row from (moved (passed s) q) (Stands st code bodies thread who n)) (call_stays i time row from (processor_of s basepri primask) p leads)
-      (calls_told told row from (moved (passed s) p) (asks_plainly i told time basepri primask p (request.Call row from) (early, leads) (λ e. cc) (λ e. cc) (fits_at i told is)))
+      subst (λ q. Calls st code bodies thread who row from (spot_behind (spot_after_step s) q) (Stands st code bodies thread who n)) (call_stays i time row from (processor_of s basepri primask) p leads)
+      (calls_told told row from (spot_behind (spot_after_step s) p) (asks_plainly i told time basepri primask p (request.Call row from) (early, leads) (λ e. cc) (λ e. cc) (fits_at i told is)))
 
   -- a line that asks for the way back is a body's end
   backs_at : (i : Instr) (told : Option Note) (time basepri : ℕ) (primask : Bool) (p : Processor) → LeadsTo s i time basepri primask p request.Back
-      → Fits st code bodies thread who i told (passed s) (Stands st code bodies thread who n) → (t : ℕ) × (told ≡ Some (note.End (body.Task t)))
+      → Fits st code bodies thread who i told (spot_after_step s) (Stands st code bodies thread who n) → (t : ℕ) × (told ≡ Some (note.End (body.Task t)))
   backs_at i (Some (note.Enter x)) time basepri primask p (early, leads) f =
       absurd (let e = opening_asks (st.value (st.ceiling x)) f.kind time (processor_of s basepri primask) p request.Back (ap (λ j. effect j time (processor_of s basepri primask)) (sym f.opens) ∙ leads) in cc)
   backs_at i (Some (note.Leave x)) time basepri primask p (early, leads) f =
@@ -115,9 +115,9 @@ module _ (st : Storage) (code : List (Instr × Option Note)) (bodies : List Body
       absurd (let e = ap (λ j. effect j time (processor_of s basepri primask)) (sym f.0) ∙ leads in cc)
   backs_at i (Some (note.End (body.Task t))) time basepri primask p leads f = (t, refl)
   backs_at i told time basepri primask p (early, leads) f =
-      absurd (none told (subst (λ e. Goes st code bodies thread who told basepri primask (passed s) (Stands st code bodies thread who n) e) leads (f.goes time basepri primask early)).3)
+      absurd (none told (subst (λ e. Goes st code bodies thread who told basepri primask (spot_after_step s) (Stands st code bodies thread who n) e) leads (f.goes time basepri primask early)).3)
     where
-      none : (told : Option Note) → Asks st code bodies thread who request.Back told (moved (passed s) p) (Stands st code bodies thread who n) → ⊥
+      none : (told : Option Note) → Asks st code bodies thread who request.Back told (spot_behind (spot_after_step s) p) (Stands st code bodies thread who n) → ⊥
       none None a = a
       none (Some told) a = a
 
@@ -126,7 +126,7 @@ module _ (st : Storage) (code : List (Instr × Option Note)) (bodies : List Body
       KeepsSaved s.held s.slots p.slots × (p.basepri ≡ basepri) × ((p.primask ≡ primask) ⊎ ((told ≡ Some (note.End body.Init)) × (p.primask ≡ false)))
 
   mask_kept : (i : Instr) (told : Option Note) → is_of_section told ≡ false → (time basepri : ℕ) (primask : Bool) (p : Processor) (asked : Request)
-      → LeadsTo s i time basepri primask p asked → Fits st code bodies thread who i told (passed s) (Stands st code bodies thread who n) → Keeps told basepri primask p
+      → LeadsTo s i time basepri primask p asked → Fits st code bodies thread who i told (spot_after_step s) (Stands st code bodies thread who n) → Keeps told basepri primask p
   mask_kept i (Some (note.Enter x)) plain time basepri primask p asked leads f = absurd (cc)
   mask_kept i (Some (note.Leave x)) plain time basepri primask p asked leads f = absurd (cc)
   mask_kept i (Some (note.End body.Init)) plain time basepri primask p asked (early, leads) f =
@@ -142,7 +142,7 @@ module _ (st : Storage) (code : List (Instr × Option Note)) (bodies : List Body
       let same : processor_of s basepri primask ≡ p = cc in
       subst (λ q. Keeps (Some (note.End (body.Task t))) basepri primask q) same (kept_alike s.slots (saved_slots s.held), refl, inl refl)
   mask_kept i told plain time basepri primask p asked (early, leads) f =
-      let g = subst (λ e. Goes st code bodies thread who told basepri primask (passed s) (Stands st code bodies thread who n) e) leads (f.goes time basepri primask early) in
+      let g = subst (λ e. Goes st code bodies thread who told basepri primask (spot_after_step s) (Stands st code bodies thread who n) e) leads (f.goes time basepri primask early) in
       (g.2, g.0, inl g.1)
 
   mask_law : MaskLaw st code bodies thread who n s

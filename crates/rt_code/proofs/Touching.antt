@@ -8,7 +8,7 @@ use Rattle.std.specs.Prelude.{unwrap_or}
 use Rattle.rt_ids.specs.Operation.{number_of}
 use Rattle.rt_code.specs.Access.{Access, Loads, Stores, cell_of, access_of, access_with, cells_of}
 use Rattle.rt_code.specs.Operands.{slots_of, are_there}
-use Rattle.rt_code.specs.Effect.{slot, next, written, done, effect}
+use Rattle.rt_code.specs.Effect.{slot, next, next_with_slot, unchecked_effect, effect}
 use Rattle.rt_code.specs.Processor.{Processor, Effect, Traps, Leads}
 use Rattle.rt_code.specs.declared.instr.Instr.{Instr}
 use Rattle.rt_code.specs.declared.instr.Instr.TheVariants as instr
@@ -62,8 +62,8 @@ unmask_keeps : (b set : Bool) (p : Processor)
 unmask_keeps true set p = refl
 unmask_keeps false set p = refl
 
-done_keeps : (i : Instr) (time : ℕ) (p : Processor) (k : ℕ) → are_there (slots_of i) p.slots ≡ true → access_with (done i time p) (access_of i p) ≢ Some (Stores k)
-    → slice_get (cells_after (done i time p) p.cells) k ≡ slice_get p.cells k
+done_keeps : (i : Instr) (time : ℕ) (p : Processor) (k : ℕ) → are_there (slots_of i) p.slots ≡ true → access_with (unchecked_effect i time p) (access_of i p) ≢ Some (Stores k)
+    → slice_get (cells_after (unchecked_effect i time p) p.cells) k ≡ slice_get p.cells k
 done_keeps (instr.Store c s) time p k there h =
     slice_get-set_other p.cells c (slot p s) k (λ e. h (ap (λ n. Some (Stores n)) (sym e)))
 done_keeps (instr.StoreAt c s a) time p k there h =
@@ -78,7 +78,7 @@ done_keeps i time p k there h = refl
 pub cells_kept : (i : Instr) (time : ℕ) (p : Processor) (k : ℕ) → access_with (effect i time p) (access_of i p) ≢ Some (Stores k)
     → slice_get (cells_after (effect i time p) p.cells) k ≡ slice_get p.cells k
 cells_kept i time p k h =
-    kept_if (are_there (cells_of i p) p.cells) (are_there (slots_of i) p.slots) (done i time p) (access_of i p) p.cells k h (done_keeps i time p k)
+    kept_if (are_there (cells_of i p) p.cells) (are_there (slots_of i) p.slots) (unchecked_effect i time p) (access_of i p) p.cells k h (done_keeps i time p k)
 
 -- a processor with other cells, and an effect with its cells put aside
 abbrev pub with_memory : Processor → List ℕ → Processor
@@ -110,12 +110,12 @@ unmask_aside false set p cells = refl
 abbrev pub HaveLoad : Option Access → List ℕ → List ℕ → Type 0
 HaveLoad a cells own = (k : ℕ) → a ≡ Some (Loads k) → slice_get cells k ≡ slice_get own k
 
-done_alike : (i : Instr) (time : ℕ) (p : Processor) (cells : List ℕ) → are_there (slots_of i) p.slots ≡ true → HaveLoad (access_with (done i time p) (access_of i p)) cells p.cells
-    → aside (done i time (with_memory p cells)) ≡ aside (done i time p)
+done_alike : (i : Instr) (time : ℕ) (p : Processor) (cells : List ℕ) → are_there (slots_of i) p.slots ≡ true → HaveLoad (access_with (unchecked_effect i time p) (access_of i p)) cells p.cells
+    → aside (unchecked_effect i time (with_memory p cells)) ≡ aside (unchecked_effect i time p)
 done_alike (instr.Load d c) time p cells there load =
-    ap (λ v. aside (Leads (written p d v) request.Nothing)) (index_same cells p.cells c (load c refl))
+    ap (λ v. aside (Leads (next_with_slot p d v) request.Nothing)) (index_same cells p.cells c (load c refl))
 done_alike (instr.LoadAt d c s) time p cells there load =
-    ap (λ v. aside (Leads (written p d v) request.Nothing))
+    ap (λ v. aside (Leads (next_with_slot p d v) request.Nothing))
     (index_same cells p.cells (c + slot p s) (load (c + slot p s) (ap (option_map (λ n. Loads (c + n))) (slot_there' p d s there))))
   where
     second_test : (a b : Bool) → (a && b) ≡ true → b ≡ true
@@ -140,14 +140,14 @@ same_tests : (i : Instr) (p : Processor) (cells : List ℕ) → length cells ≡
     → are_there (cells_of i (with_memory p cells)) cells ≡ are_there (cells_of i p) p.cells
 same_tests i p cells long =
     ap (λ a. are_there (option_to_list (option_map cell_of a)) cells) (access_same i p cells)
-    ∙ ap (λ n. list_all (λ place. nat_lt place n) (cells_of i p)) long
+    ∙ ap (λ n. list_all (λ index. nat_lt index n) (cells_of i p)) long
 
 -- on as many cells that agree at what it loads, an instruction has the same effect but for the cells
 pub effect_alike : (i : Instr) (time : ℕ) (p : Processor) (cells : List ℕ) → length cells ≡ length p.cells → HaveLoad (access_with (effect i time p) (access_of i p)) cells p.cells
     → aside (effect i time (with_memory p cells)) ≡ aside (effect i time p)
 effect_alike i time p cells long load =
-    ap (λ b. aside (tested (done i time (with_memory p cells)) b (are_there (slots_of i) p.slots))) (same_tests i p cells long)
-    ∙ alike_if (are_there (cells_of i p) p.cells) (are_there (slots_of i) p.slots) (done i time p) (done i time (with_memory p cells)) (access_of i p) cells p.cells load (done_alike i time p cells)
+    ap (λ b. aside (tested (unchecked_effect i time (with_memory p cells)) b (are_there (slots_of i) p.slots))) (same_tests i p cells long)
+    ∙ alike_if (are_there (cells_of i p) p.cells) (are_there (slots_of i) p.slots) (unchecked_effect i time p) (unchecked_effect i time (with_memory p cells)) (access_of i p) cells p.cells load (done_alike i time p cells)
 
 -- the access does not depend on other cells either
 access_aside : (e : Effect) (a : Option Access) → access_with e a ≡ access_with (aside e) a
@@ -180,8 +180,8 @@ stored_at cells own c k v long e =
     subst (λ n. slice_get (slice_set cells c v) n ≡ slice_get (slice_set own c v) n) e (slice_get-set_alike cells own c v long)
 
 done_stores : (i : Instr) (time : ℕ) (p : Processor) (cells : List ℕ) (k : ℕ) → length cells ≡ length p.cells → are_there (slots_of i) p.slots ≡ true
-    → access_with (done i time p) (access_of i p) ≡ Some (Stores k)
-    → slice_get (cells_after (done i time (with_memory p cells)) cells) k ≡ slice_get (cells_after (done i time p) p.cells) k
+    → access_with (unchecked_effect i time p) (access_of i p) ≡ Some (Stores k)
+    → slice_get (cells_after (unchecked_effect i time (with_memory p cells)) cells) k ≡ slice_get (cells_after (unchecked_effect i time p) p.cells) k
 done_stores (instr.Store c s) time p cells k long there h = stored_at cells p.cells c k (slot p s) long (cc)
 done_stores (instr.StoreAt c s a) time p cells k long there h =
     let at : Some (Stores (c + slot p s)) ≡ Some (Stores k) = sym (ap (option_map (λ n. Stores (c + n))) (slot_there p s (a ∷ []) there)) ∙ h in
@@ -206,8 +206,8 @@ stores_if false s e other a cells own k h f = absurd (cc)
 pub stores_alike : (i : Instr) (time : ℕ) (p : Processor) (cells : List ℕ) (k : ℕ) → length cells ≡ length p.cells → access_with (effect i time p) (access_of i p) ≡ Some (Stores k)
     → slice_get (cells_after (effect i time (with_memory p cells)) cells) k ≡ slice_get (cells_after (effect i time p) p.cells) k
 stores_alike i time p cells k long h =
-    ap (λ b. slice_get (cells_after (tested (done i time (with_memory p cells)) b (are_there (slots_of i) p.slots)) cells) k) (same_tests i p cells long)
-    ∙ stores_if (are_there (cells_of i p) p.cells) (are_there (slots_of i) p.slots) (done i time p) (done i time (with_memory p cells)) (access_of i p) cells p.cells k h (done_stores i time p cells k long)
+    ap (λ b. slice_get (cells_after (tested (unchecked_effect i time (with_memory p cells)) b (are_there (slots_of i) p.slots)) cells) k) (same_tests i p cells long)
+    ∙ stores_if (are_there (cells_of i p) p.cells) (are_there (slots_of i) p.slots) (unchecked_effect i time p) (unchecked_effect i time (with_memory p cells)) (access_of i p) cells p.cells k h (done_stores i time p cells k long)
 
 sized_if : (b s : Bool) (e : Effect) (slots : List ℕ) → length (slots_after e slots) ≡ length slots → length (slots_after (tested e b s) slots) ≡ length slots
 sized_if true true e slots h = h
@@ -223,7 +223,7 @@ unmask_sized : (b set : Bool) (p : Processor)
 unmask_sized true set p = refl
 unmask_sized false set p = refl
 
-done_sized : (i : Instr) (time : ℕ) (p : Processor) → length (slots_after (done i time p) p.slots) ≡ length p.slots
+done_sized : (i : Instr) (time : ℕ) (p : Processor) → length (slots_after (unchecked_effect i time p) p.slots) ≡ length p.slots
 done_sized (instr.Set d v) time p = length-set p.slots d v
 done_sized (instr.Copy d s) time p = length-set p.slots d _
 done_sized (instr.Calc op d a b) time p = length-set p.slots d _
@@ -239,14 +239,14 @@ done_sized i time p = refl
 -- an instruction keeps the size of the frame
 pub slots_sized : (i : Instr) (time : ℕ) (p : Processor) → length (slots_after (effect i time p) p.slots) ≡ length p.slots
 slots_sized i time p =
-    sized_if (are_there (cells_of i p) p.cells) (are_there (slots_of i) p.slots) (done i time p) p.slots (done_sized i time p)
+    sized_if (are_there (cells_of i p) p.cells) (are_there (slots_of i) p.slots) (unchecked_effect i time p) p.slots (done_sized i time p)
 
 kept_sized_if : (b s : Bool) (e : Effect) (cells : List ℕ) → length (cells_after e cells) ≡ length cells → length (cells_after (tested e b s) cells) ≡ length cells
 kept_sized_if true true e cells h = h
 kept_sized_if true false e cells h = refl
 kept_sized_if false s e cells h = refl
 
-done_kept_sized : (i : Instr) (time : ℕ) (p : Processor) → length (cells_after (done i time p) p.cells) ≡ length p.cells
+done_kept_sized : (i : Instr) (time : ℕ) (p : Processor) → length (cells_after (unchecked_effect i time p) p.cells) ≡ length p.cells
 done_kept_sized (instr.Store c s) time p = length-set p.cells c _
 done_kept_sized (instr.StoreAt c s a) time p = length-set p.cells _ _
 done_kept_sized (instr.JumpZ s l) time p = ap length (jump_keeps (slot p s == 0) p l)
@@ -256,7 +256,7 @@ done_kept_sized i time p = refl
 -- an instruction keeps the size of memory
 pub cells_sized : (i : Instr) (time : ℕ) (p : Processor) → length (cells_after (effect i time p) p.cells) ≡ length p.cells
 cells_sized i time p =
-    kept_sized_if (are_there (cells_of i p) p.cells) (are_there (slots_of i) p.slots) (done i time p) p.cells (done_kept_sized i time p)
+    kept_sized_if (are_there (cells_of i p) p.cells) (are_there (slots_of i) p.slots) (unchecked_effect i time p) p.cells (done_kept_sized i time p)
 
 -- the access goes by the slots alone
 pub access_masked : (i : Instr) (p : Processor) (basepri : ℕ) (primask : Bool) → access_of i (record p { basepri = basepri; primask = primask }) ≡ access_of i p

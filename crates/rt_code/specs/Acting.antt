@@ -5,7 +5,7 @@ use Rattle.std.specs.Prelude.{if◌then◌else◌}
 use Rattle.rt_ids.specs.Holder.{Holder, Guarded, is_same_holder}
 use Rattle.rt_ids.specs.Content.{Message, Values, delays, least_instant}
 use Rattle.rt_ids.specs.Entry.{Entry}
-use Rattle.rt_ids.specs.Action.{Action, Takes, Refuses, Readies, Starts, Frees, Arms, Fires, Cancels, Moves, SetsAlarm}
+use Rattle.rt_ids.specs.Action.{Action, Places, FindsFull, Readies, Starts, Frees, Arms, Fires, Cancels, Moves, SetsAlarm}
 use Rattle.rt_ids.specs.Action.{effect}
 use Rattle.rt_ids.specs.Doing.{Doing, does}
 use Rattle.rt_ids.specs.Storage.{Storage, Runner}
@@ -37,22 +37,22 @@ module _ (st : Storage) (bodies : List BodyRow) (who : Runner) where
     pub least : least_instant (delays (acts.values (Guarded section.Timer))) ≡ instant
 
   -- a place of a task is taken into the hands
-  pub record TakesPlace (t : ℕ) (s : Spot) (later : Spot → Type 0) : Type 0 where
+  pub record PlacesMessage (t : ℕ) (s : Spot) (later : Spot → Type 0) : Type 0 where
     pub entry : Entry
     pub others : List Entry
     pub inside : is_open s.held (section.Free t) ≡ true
     pub first : s.queues (Guarded (section.Free t)) ≡ entry ∷ others
     pub of_task : entry.task ≡ t
-    pub acts : Acts (Takes t) 0
+    pub acts : Acts (Places t) 0
         (record s { places = entry ∷ s.places; queues = with_queue s.queues (section.Free t) others }) later
 
   -- the job finds no place of a task free, inside the section of its free places
-  pub record FindsNone (t : ℕ) (s : Spot) (later : Spot → Type 0) : Type 0 where
+  pub record FindsTaskFull (t : ℕ) (s : Spot) (later : Spot → Type 0) : Type 0 where
     pub inside : is_open s.held (section.Free t) ≡ true
-    pub acts : Acts (Refuses t) 0 s later
+    pub acts : Acts (FindsFull t) 0 s later
 
   -- the message in the hands goes last into the ready queue of a level
-  pub record MakesReady (t : ℕ) (s : Spot) (later : Spot → Type 0) : Type 0 where
+  pub record ReadiesMessage (t : ℕ) (s : Spot) (later : Spot → Type 0) : Type 0 where
     pub level : ℕ
     pub message : Message
     pub entry : Entry
@@ -138,7 +138,7 @@ module _ (st : Storage) (bodies : List BodyRow) (who : Runner) where
         (record s { queues = with_queue s.queues section.Timer (before ++ (behind ++ entry ∷ [])) }) later
 
   -- the place in the hands is free again, and is taken next
-  pub record GivesPlaceBack (t : ℕ) (s : Spot) (later : Spot → Type 0) : Type 0 where
+  pub record FreesPlace (t : ℕ) (s : Spot) (later : Spot → Type 0) : Type 0 where
     pub entry : Entry
     pub others : List Entry
     pub inside : is_open s.held (section.Free t) ≡ true
@@ -152,11 +152,11 @@ module _ (st : Storage) (bodies : List BodyRow) (who : Runner) where
 
   -- what a note on a plain instruction says is done; those of sections and ends stand on instructions of their own
   abbrev pub Noted : Note → Spot → (Spot → Type 0) → Type 0
-  Noted (note.Placed t) s later = TakesPlace t s later
-  Noted (note.Full t) s later = FindsNone t s later
-  Noted (note.Ready t) s later = MakesReady t s later
+  Noted (note.Placed t) s later = PlacesMessage t s later
+  Noted (note.Full t) s later = FindsTaskFull t s later
+  Noted (note.Ready t) s later = ReadiesMessage t s later
   Noted (note.Start t from) s later = StartsMessage t from s later
-  Noted (note.Free t) s later = GivesPlaceBack t s later
+  Noted (note.Free t) s later = FreesPlace t s later
   Noted (note.Arm t slot) s later = ArmsMessage t slot s later
   Noted (note.Fire t) s later = FiresMessage t s later
   Noted (note.Cancel t slot) s later = CancelsMessage t slot s later

@@ -21,12 +21,12 @@ abbrev pub next : Processor → Processor
 next p = record p { address = suc p.address }
 
 -- on to the next address, with a slot written
-abbrev pub written : Processor → ℕ → ℕ → Processor
-written p d v = record (next p) { slots = slice_set p.slots d v }
+abbrev pub next_with_slot : Processor → ℕ → ℕ → Processor
+next_with_slot p d v = record (next p) { slots = slice_set p.slots d v }
 
 -- on to the next address, with a cell written
-abbrev pub stored : Processor → ℕ → ℕ → Processor
-stored p c v = record (next p) { cells = slice_set p.cells c v }
+abbrev pub next_with_cell : Processor → ℕ → ℕ → Processor
+next_with_cell p c v = record (next p) { cells = slice_set p.cells c v }
 
 -- PRIMASK takes 0 or 1
 abbrev pub unmask : Processor → ℕ → Effect
@@ -35,35 +35,35 @@ unmask p value =
 
 -- What an instruction does at a time, where its cells and slots are there. The number of a cell behind another, C +
 -- slot S, is a sum that does not wrap.
-abbrev pub done : Instr → ℕ → Processor → Effect
-done (instr.Set d v) time p = Leads (written p d v) request.Nothing
-done (instr.Copy d s) time p = Leads (written p d (slot p s)) request.Nothing
-done (instr.Calc op d a b) time p = Leads (written p d (operate op (slot p a) (slot p b))) request.Nothing
-done (instr.Load d c) time p = Leads (written p d (slice_index p.cells c)) request.Nothing
-done (instr.Store c s) time p = Leads (stored p c (slot p s)) request.Nothing
-done (instr.LoadAt d c s) time p = Leads (written p d (slice_index p.cells (c + slot p s))) request.Nothing
-done (instr.StoreAt c s a) time p = Leads (stored p (c + slot p s) (slot p a)) request.Nothing
-done (instr.Jump l) time p = Leads (record p { address = l }) request.Nothing
-done (instr.JumpZ s l) time p = Leads (if slot p s == 0 then record p { address = l } else next p) request.Nothing
-done (instr.Emit s) time p = Leads (next p) (request.Emit (slot p s))
-done (instr.Post irq) time p = Leads (next p) (request.Post irq)
-done (instr.Clock d) time p = Leads (written p d time) (request.Clock time)
-done (instr.Alarm s irq) time p = Leads (next p) (request.Alarm (slot p s) irq)
-done instr.NoAlarm time p = Leads (next p) request.NoAlarm
-done (instr.Raise d v) time p = Leads (record (written p d p.basepri) { basepri = v }) request.Nothing
-done (instr.Restore s) time p = Leads (record (next p) { basepri = slot p s }) request.Nothing
-done (instr.Mask d) time p = Leads (record (written p d (number_of p.primask)) { primask = true }) request.Nothing
-done (instr.Unmask s) time p = unmask p (slot p s)
-done instr.Mark time p = Leads (next p) request.Nothing
-done instr.Serve time p = Leads (record (next p) { primask = false }) request.Nothing
-done instr.Wait time p = Leads p request.Nothing
-done (instr.Call row s) time p = Leads p (request.Call row s)
-done instr.Back time p = Leads p request.Back
-done instr.Ret time p = Leads p request.Return
+abbrev pub unchecked_effect : Instr → ℕ → Processor → Effect
+unchecked_effect (instr.Set d v) time p = Leads (next_with_slot p d v) request.Nothing
+unchecked_effect (instr.Copy d s) time p = Leads (next_with_slot p d (slot p s)) request.Nothing
+unchecked_effect (instr.Calc op d a b) time p = Leads (next_with_slot p d (operate op (slot p a) (slot p b))) request.Nothing
+unchecked_effect (instr.Load d c) time p = Leads (next_with_slot p d (slice_index p.cells c)) request.Nothing
+unchecked_effect (instr.Store c s) time p = Leads (next_with_cell p c (slot p s)) request.Nothing
+unchecked_effect (instr.LoadAt d c s) time p = Leads (next_with_slot p d (slice_index p.cells (c + slot p s))) request.Nothing
+unchecked_effect (instr.StoreAt c s a) time p = Leads (next_with_cell p (c + slot p s) (slot p a)) request.Nothing
+unchecked_effect (instr.Jump l) time p = Leads (record p { address = l }) request.Nothing
+unchecked_effect (instr.JumpZ s l) time p = Leads (if slot p s == 0 then record p { address = l } else next p) request.Nothing
+unchecked_effect (instr.Emit s) time p = Leads (next p) (request.Emit (slot p s))
+unchecked_effect (instr.Post irq) time p = Leads (next p) (request.Post irq)
+unchecked_effect (instr.Clock d) time p = Leads (next_with_slot p d time) (request.Clock time)
+unchecked_effect (instr.Alarm s irq) time p = Leads (next p) (request.Alarm (slot p s) irq)
+unchecked_effect instr.NoAlarm time p = Leads (next p) request.NoAlarm
+unchecked_effect (instr.Raise d v) time p = Leads (record (next_with_slot p d p.basepri) { basepri = v }) request.Nothing
+unchecked_effect (instr.Restore s) time p = Leads (record (next p) { basepri = slot p s }) request.Nothing
+unchecked_effect (instr.Mask d) time p = Leads (record (next_with_slot p d (number_of p.primask)) { primask = true }) request.Nothing
+unchecked_effect (instr.Unmask s) time p = unmask p (slot p s)
+unchecked_effect instr.Mark time p = Leads (next p) request.Nothing
+unchecked_effect instr.Serve time p = Leads (record (next p) { primask = false }) request.Nothing
+unchecked_effect instr.Wait time p = Leads p request.Nothing
+unchecked_effect (instr.Call row s) time p = Leads p (request.Call row s)
+unchecked_effect instr.Back time p = Leads p request.Back
+unchecked_effect instr.Ret time p = Leads p request.Return
 
 -- the effect of one instruction: of several traps the lowest number
 abbrev pub effect : Instr → ℕ → Processor → Effect
 effect i time p =
     if not (are_there (cells_of i p) p.cells) then Traps trap.Address
     else if not (are_there (slots_of i) p.slots) then Traps trap.Stack
-    else done i time p
+    else unchecked_effect i time p

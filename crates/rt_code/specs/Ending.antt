@@ -5,7 +5,7 @@ use Rattle.rt_ids.specs.Holder.{Holder}
 use Rattle.rt_ids.specs.Content.{Values}
 use Rattle.rt_ids.specs.Action.{Action, Ends}
 use Rattle.rt_ids.specs.Doing.{Doing, does}
-use Rattle.rt_ids.specs.Storage.{Storage, Runner, Starting, AtLevel}
+use Rattle.rt_ids.specs.Storage.{Storage, Runner, Starting, AtPriority}
 use Rattle.rt_ids.specs.declared.ids.BodyId.{BodyId}
 use Rattle.rt_ids.specs.declared.ids.BodyId.TheVariants as body
 use Rattle.rt_code.specs.Acting.{Acts}
@@ -53,5 +53,5 @@ module _ (st : Storage) (code : List (Instr × Option Note)) (bodies : List Body
   abbrev pub EndsBody : BodyId → Instr → Spot → (Spot → Type 0) → Type 0
   EndsBody body.Init i s later =
       (i ≡ instr.Serve) × (who ≡ Starting) × (suc s.address ≡ thread) × Finishes (Ends body.Init) s
-  EndsBody body.Idle i s later = (i ≡ instr.Jump thread) × (who ≡ AtLevel 0) × Finishes (Ends body.Idle) s
+  EndsBody body.Idle i s later = (i ≡ instr.Jump thread) × (who ≡ AtPriority 0) × Finishes (Ends body.Idle) s
   EndsBody (body.Task t) i s later = (i ≡ instr.Back) × ComesBack t s later

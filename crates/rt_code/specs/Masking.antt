@@ -11,7 +11,7 @@ use Rattle.rt_ids.specs.Content.{Values, MayArm}
 use Rattle.rt_ids.specs.Entry.{Entry}
 use Rattle.rt_ids.specs.Action.{Enters, Leaves}
 use Rattle.rt_ids.specs.Doing.{Doing, does}
-use Rattle.rt_ids.specs.Storage.{Storage, Runner, Starting, AtLevel}
+use Rattle.rt_ids.specs.Storage.{Storage, Runner, Starting, AtPriority}
 use Rattle.rt_ids.specs.declared.ids.Section.{Section}
 use Rattle.rt_code.specs.Owning.{Kind, Marked, Raised, Masked, Held, Spot, is_open, saved_slot, saved_slots, mine}
 use Rattle.rt_code.specs.Owning.{Agree, LeavesMine}
@@ -19,53 +19,53 @@ use Rattle.rt_code.specs.declared.instr.Instr.{Instr}
 use Rattle.rt_code.specs.declared.instr.Instr.TheVariants as instr
 
 -- the instruction that opens a section of this kind; BASEPRI becomes the value of its ceiling
-abbrev pub opening : ℕ → Kind → Instr
-opening value Marked = instr.Mark
-opening value (Raised slot) = instr.Raise slot value
-opening value (Masked slot) = instr.Mask slot
+abbrev pub opening_instr : ℕ → Kind → Instr
+opening_instr value Marked = instr.Mark
+opening_instr value (Raised slot) = instr.Raise slot value
+opening_instr value (Masked slot) = instr.Mask slot
 
 -- the instruction that closes a section of this kind, and puts the mask back
-abbrev pub closing : Kind → Instr
-closing Marked = instr.Mark
-closing (Raised slot) = instr.Restore slot
-closing (Masked slot) = instr.Unmask slot
+abbrev pub closing_instr : Kind → Instr
+closing_instr Marked = instr.Mark
+closing_instr (Raised slot) = instr.Restore slot
+closing_instr (Masked slot) = instr.Unmask slot
 
 -- the slots with what a mask was, where one is kept
-abbrev pub saving : Kind → ℕ → List ℕ → List ℕ
-saving Marked value slots = slots
-saving (Raised slot) value slots = slice_set slots slot value
-saving (Masked slot) value slots = slice_set slots slot value
+abbrev pub slots_with_mask : Kind → ℕ → List ℕ → List ℕ
+slots_with_mask Marked value slots = slots
+slots_with_mask (Raised slot) value slots = slice_set slots slot value
+slots_with_mask (Masked slot) value slots = slice_set slots slot value
 
 module _ (st : Storage) (who : Runner) where
-  -- the mask that a ceiling asks for, at a level that what runs holds off already
+  -- the mask that a ceiling asks for, at a preemption threshold that what runs holds off already
   abbrev pub IsMask : ℕ → ℕ → Kind → Type 0
-  IsMask ceiling level Marked = ceiling ≤ level
-  IsMask ceiling level (Raised slot) = (level < ceiling) × (0 < st.value ceiling)
-  IsMask ceiling level (Masked slot) = (level < ceiling) × (st.value ceiling ≡ 0)
+  IsMask ceiling threshold Marked = ceiling ≤ threshold
+  IsMask ceiling threshold (Raised slot) = (threshold < ceiling) × (0 < st.value ceiling)
+  IsMask ceiling threshold (Masked slot) = (threshold < ceiling) × (st.value ceiling ≡ 0)
 
-  -- `init` holds off all; another runner all up to the greatest of its level and the ceilings of its open sections
+  -- `init` holds off all; another runner all up to the greatest of its priority and the ceilings of its open sections
   abbrev pub IsKindFor : Runner → List Held → Section → Kind → Type 0
   IsKindFor Starting held x kind = kind ≡ Marked
-  IsKindFor (AtLevel p) held x kind =
+  IsKindFor (AtPriority p) held x kind =
       IsMask (st.ceiling x) (max p (greatest (map (λ h. st.ceiling h.section) held))) kind
 
-  -- the ceiling is at least the level of what runs; for `init`, which nobody interrupts, nothing is asked
+  -- the ceiling is at least the priority of what runs; for `init`, which nobody interrupts, nothing is asked
   abbrev pub IsWithin : Runner → Section → Type 0
   IsWithin Starting x = Unit {0}
-  IsWithin (AtLevel p) x = p ≤ st.ceiling x
+  IsWithin (AtPriority p) x = p ≤ st.ceiling x
 
   -- nobody that may have started keeps what the section guards, or may read it without the section
   abbrev pub NobodyKeeps : Runner → Section → Type 0
   NobodyKeeps Starting x = st.is_kept Starting (Guarded x) ≡ false
-  NobodyKeeps (AtLevel p) x =
-      (q : ℕ) → (st.is_kept (AtLevel q) (Guarded x) ≡ false) × (st.is_constant (AtLevel q) (Guarded x) ≡ false)
+  NobodyKeeps (AtPriority p) x =
+      (q : ℕ) → (st.is_kept (AtPriority q) (Guarded x) ≡ false) × (st.is_constant (AtPriority q) (Guarded x) ≡ false)
 
   -- the job behind the opening of a section, with memory and queues as they then are
   abbrev pub inside : Section → Kind → ℕ → ℕ → Doing Values → List ℕ → (Holder → List Entry) → Spot → Spot
   inside x kind saved cost rest cells queues s = record s {
     held = record { section = x; kind = kind } ∷ s.held;
     lefts = (cost - 1) ∷ s.lefts;
-    slots = saving kind saved s.slots;
+    slots = slots_with_mask kind saved s.slots;
     address = suc s.address;
     cells = cells;
     queues = queues;
@@ -91,7 +91,7 @@ module _ (st : Storage) (who : Runner) where
     pub is : s.rest ≡ does (Enters x cost) values follows
     pub kind : Kind
     pub mask : IsKindFor who s.held x kind
-    pub opens : i ≡ opening (st.value (st.ceiling x)) kind
+    pub opens : i ≡ opening_instr (st.value (st.ceiling x)) kind
     -- the slot that keeps the mask is in the frame, and keeps no other
     pub slot : AllByRecursion (λ d. (d < length s.slots) × (¬ Contains (saved_slots s.held) d)) (saved_slot kind)
     pub within : IsWithin who x
@@ -109,7 +109,7 @@ module _ (st : Storage) (who : Runner) where
     pub kind : Kind
     pub outer : List Held
     pub innermost : s.held ≡ record { section = x; kind = kind } ∷ outer
-    pub closes : i ≡ closing kind
+    pub closes : i ≡ closing_instr kind
     pub spelled : st.Spells (Guarded x) (slice_index s.cells) (s.queues (Guarded x)) (values (Guarded x))
     pub on : (vs : Values) → Agree st who outer vs values
         → later (record s { held = outer; lefts = drop 1 s.lefts; address = suc s.address; rest = follows 0 vs })

@@ -25,4 +25,4 @@ slots_of i = []
 
 -- all of these places are in the words
 abbrev pub are_there : List ℕ → List ℕ → Bool
-are_there places words = list_all (λ place. nat_lt place (length words)) places
+are_there indices words = list_all (λ index. nat_lt index (length words)) indices

@@ -1,5 +1,5 @@
 -- The stack of a core by its parts: the slots of the running frame; where a called body runs, the frame of the handler
--- that called it; and below them what each entered handler interrupted, the last entered first, of any type, with its
+-- that called it; and below them what each active handler interrupted, the last taken first, of any type, with its
 -- size in words. Exception entry and return are those of the ARMv7-M Architecture Reference Manual (sections B1.5.6 and
 -- B1.5.8). Calls of bodies are this model's own: a handler keeps the return address of its call in the last slot of its
 -- frame.
@@ -18,17 +18,17 @@ abbrev pub context_words : ℕ → Option (List ℕ) → List ℕ → ℕ
 context_words entry caller slots = length (words_of caller) + length slots + entry
 
 -- how many words are in use
-abbrev pub used : {A : Type 0} → (A → ℕ) → Option (List ℕ) → List ℕ → List A → ℕ
-used size caller slots below = length (words_of caller) + length slots + sum_by size below
+abbrev pub words_in_use : {A : Type 0} → (A → ℕ) → Option (List ℕ) → List ℕ → List A → ℕ
+words_in_use size caller slots below = length (words_of caller) + length slots + sum_by size below
 
 -- in a region of so many words of which so many are in use, so many more have room
 abbrev pub has_room : ℕ → ℕ → ℕ → Bool
 has_room size used n = nat_le (used + n) size
 
 -- exception return: what was interrupted last runs on, the others stay below; a called body and the thread have none
-abbrev pub interrupted : {A : Type 0} → Option (List ℕ) → List A → Option (A × List A)
-interrupted None (x ∷ below) = Some (x, below)
-interrupted caller below = None
+abbrev pub interrupted_context : {A : Type 0} → Option (List ℕ) → List A → Option (A × List A)
+interrupted_context None (x ∷ below) = Some (x, below)
+interrupted_context caller below = None
 
 -- a handler's own code runs, with a slot for the return address
 abbrev pub may_call : {A : Type 0} → Option (List ℕ) → List ℕ → List A → Bool

@@ -31,8 +31,8 @@ processor_of s basepri primask =
     record { address = s.address; basepri = basepri; primask = primask; slots = s.slots; cells = s.cells }
 
 -- where a job is behind an instruction of its own
-abbrev pub moved : Spot → Processor → Spot
-moved s p = record s { address = p.address; slots = p.slots; cells = p.cells }
+abbrev pub spot_behind : Spot → Processor → Spot
+spot_behind s p = record s { address = p.address; slots = p.slots; cells = p.cells }
 
 -- what its open sections saved is not touched
 abbrev pub KeepsSaved : List Held → List ℕ → List ℕ → Type 0
@@ -43,8 +43,8 @@ abbrev pub HaveLeft : List ℕ → Type 0
 HaveLeft lefts = AllByRecursion (λ n. 0 < n) lefts
 
 -- where the job is, with a step less left to it and to each of its open sections
-abbrev pub passed : Spot → Spot
-passed s = record s { lefts = map (λ n. n - 1) s.lefts }
+abbrev pub spot_after_step : Spot → Spot
+spot_after_step s = record s { lefts = map (λ n. n - 1) s.lefts }
 
 -- code for a runner, beside the rows of the bodies that it may call, where the thread goes on at an address once `init`
 -- or `idle` ends
@@ -69,7 +69,7 @@ module _ (st : Storage) (code : List (Instr × Option Note)) (bodies : List Body
   Goes told basepri primask s later (Traps trap) = ⊥
   Goes told basepri primask s later (Leads p asked) =
       (p.basepri ≡ basepri) × (p.primask ≡ primask) × KeepsSaved s.held s.slots p.slots
-      × Asks asked told (moved s p) later
+      × Asks asked told (spot_behind s p) later
 
   -- whatever the masks and the time, it touches what the job may touch
   pub record Does (i : Instr) (told : Option Note) (s : Spot) (later : Spot → Type 0) : Type 0 where
@@ -92,7 +92,7 @@ module _ (st : Storage) (code : List (Instr × Option Note)) (bodies : List Body
   -- Within so many steps of its own the job comes to its end: each step is its line's, and each is within what is left.
   unfoldable pub Stands : ℕ → Spot → Type 0
   Stands zero s = ⊥
-  Stands (suc n) s = HaveLeft s.lefts × LineFits (slice_get code s.address) (passed s) (Stands n)
+  Stands (suc n) s = HaveLeft s.lefts × LineFits (slice_get code s.address) (spot_after_step s) (Stands n)
 
   -- Code at an address is a whole body or handler: from a frame of so many words, whatever it holds, and from what its
   -- runner keeps, it does what is to be done, within its cost.

@@ -40,7 +40,7 @@ fn write(slots: &mut [u32], slot: u32, value: u32) -> Result<(), Trap>
 /// Finds a cell.
 fn find(cells: &[u32], cell: usize) -> Result<usize, Trap>
     ensures there { IfOk result
-        (λ place. (nat_lt cell (length cells.now) ≡ true) × (place ≡ cell) × (place < length cells.now)) }
+        (λ index. (nat_lt cell (length cells.now) ≡ true) × (index ≡ cell) × (index < length cells.now)) }
     ensures missing { IfErr result (λ trap. (nat_lt cell (length cells.now) ≡ false) × (trap ≡ Trap.Address)) }
 {
     if cell < cells.len() {
@@ -114,8 +114,8 @@ fn load(
     ensures { Does (Instr.Load slot cell) result (processor registers.old slots.old cells.now)
         (processor registers.new slots.new cells.now) }
 {
-    let place = find(cells, cell as usize)?;
-    write(slots, slot, cells[place])?;
+    let index = find(cells, cell as usize)?;
+    write(slots, slot, cells[index])?;
     Ok(go_on(registers, Request::Nothing))
 }
 
@@ -131,8 +131,8 @@ fn store(
     ensures { Does (Instr.Store cell from) result (processor registers.old slots.now cells.old)
         (processor registers.new slots.now cells.new) }
 {
-    let place = find(cells, cell as usize)?;
-    cells[place] = word(slots, from)?;
+    let index = find(cells, cell as usize)?;
+    cells[index] = word(slots, from)?;
     Ok(go_on(registers, Request::Nothing))
 }
 
@@ -150,8 +150,8 @@ fn load_at(
         (processor registers.new slots.new cells.now) }
 {
     let behind = word(slots, index)?;
-    let place = find(cells, cell as usize + behind as usize)?;
-    write(slots, slot, cells[place])?;
+    let index = find(cells, cell as usize + behind as usize)?;
+    write(slots, slot, cells[index])?;
     Ok(go_on(registers, Request::Nothing))
 }
 
@@ -169,8 +169,8 @@ fn store_at(
         (processor registers.new slots.now cells.new) }
 {
     let behind = word(slots, index)?;
-    let place = find(cells, cell as usize + behind as usize)?;
-    cells[place] = word(slots, from)?;
+    let index = find(cells, cell as usize + behind as usize)?;
+    cells[index] = word(slots, from)?;
     Ok(go_on(registers, Request::Nothing))
 }
 

@@ -5,14 +5,14 @@ use Rattle.std.proofs.lemmas.Bool.Decides.{nat_tests}
 use Rattle.std.proofs.lemmas.List.{length-replicate, take-append-drop, take_at, drop_at, drop-drop, drop-replicate, set-append_left}
 use Rattle.rt_lemmas.proofs.Lists.{take-drop-front, length-take-drop}
 use Rattle.rt_lemmas.proofs.Bools.{both_true}
-use Rattle.rt_stack.specs.Region.{Region, used, top, below, pushed}
+use Rattle.rt_stack.specs.Region.{Region, used_words, top, below, region_after_push}
 use Rattle.rt_stack.specs.Top.{with_top}
 use Rattle.rt_code.specs.declared.image.BodyRow.{BodyRow}
 use Rattle.rt_stack.proofs.Frames.{top-behind, below-behind, with_top-same}
 use Rattle.rt_context.specs.declared.frames.Frames.TheInside.{Inside}
 use Rattle.rt_code.specs.Stack.{words_of, last_slot, arguments_fit}
 use Rattle.rt_context.specs.Frames.{Frames, words_below}
-use Rattle.rt_context.specs.Moves.{has_room, may_call, call_fits, called}
+use Rattle.rt_context.specs.Moves.{has_room, may_call, call_fits, frames_after_call}
 use Rattle.rt_ids.specs.Lists.{is_empty}
 use Rattle.rt_context.specs.Inside.Parts.{Spells}
 use Rattle.rt_context.proofs.Running.{top_is, below_is}
@@ -42,8 +42,8 @@ module _ (caller from args frame : ℕ) (xs : List ℕ) (long : length xs ≡ ca
       omega (arith, length-append xs (arguments ++ rest), length-append arguments rest, length-replicate {A = ℕ} (frame - args) 0)
 
 -- A body's frame is pushed, the return address put into the caller's last slot, and the arguments copied.
-pub body_pushed : (r : Region) (caller frame from args address : ℕ) → 0 < caller → caller ≤ used r → (0 < args → from + args ≤ caller) → args ≤ frame
-    → with_top (pushed r frame) (caller + frame) (copied caller from args (set (top (pushed r frame) (caller + frame)) (caller - 1) address))
+pub body_pushed : (r : Region) (caller frame from args address : ℕ) → 0 < caller → caller ≤ used_words r → (0 < args → from + args ≤ caller) → args ≤ frame
+    → with_top (region_after_push r frame) (caller + frame) (copied caller from args (set (top (region_after_push r frame) (caller + frame)) (caller - 1) address))
     ≡ record r { words = below r caller ++ called_with from args frame (set (top r caller) (caller - 1) address) }
 body_pushed r caller frame from args address slot within there taken =
     let xs : List ℕ = below r caller in
@@ -53,11 +53,11 @@ body_pushed r caller frame from args address slot within there taken =
     let slots : List ℕ = set ys (caller - 1) address in
     let q : Region = record r { words = xs ++ (ys ++ zs) } in
     let result : List ℕ = called_with from args frame slots in
-    let long : length ys ≡ caller = omega (arith, length-drop (used r - caller) r.words) in
+    let long : length ys ≡ caller = omega (arith, length-drop (used_words r - caller) r.words) in
     let both : length (ys ++ zs) ≡ n = omega (arith, length-append ys zs, length-replicate {A = ℕ} frame 0) in
     let split : r.words ++ zs ≡ xs ++ (ys ++ zs) =
-    ap (λ ws. ws ++ zs) (sym (take-append-drop (used r - caller) r.words)) ∙ append_assoc xs ys zs in
-    let whole : pushed r frame ≡ q = λ i. record r { words = split i } in
+    ap (λ ws. ws ++ zs) (sym (take-append-drop (used_words r - caller) r.words)) ∙ append_assoc xs ys zs in
+    let whole : region_after_push r frame ≡ q = λ i. record r { words = split i } in
     let same : length slots ≡ caller = length-set ys (caller - 1) address ∙ long in
     let written : copied caller from args (set (top q n) (caller - 1) address) ≡ result =
     ap (λ ws. copied caller from args (set ws (caller - 1) address)) (top-behind r xs (ys ++ zs) n both)
@@ -102,7 +102,7 @@ tested f row from may fits =
 
 pub spells_called : (f : Frames) (c d : Inside) (row : BodyRow) (from args address : ℕ) → Spells f c → MayCall f row from → args ≡ row.args
     → d.region ≡ record c.region { words = below c.region c.frame ++ called_with from args row.frame (set (top c.region c.frame) (c.frame - 1) address) }
-    → d.entry ≡ c.entry → d.frame ≡ row.frame → d.caller ≡ Some c.frame → d.callers ≡ c.callers → Spells (called f row from address) d
+    → d.entry ≡ c.entry → d.frame ≡ row.frame → d.caller ≡ Some c.frame → d.callers ≡ c.callers → Spells (frames_after_call f row from address) d
 spells_called f c d row from args address s may args_are region entry frame caller callers =
     let slots : List ℕ = set f.slots (last_slot f.slots) address in
     let long : length slots ≡ length f.slots = length-set f.slots (last_slot f.slots) address in

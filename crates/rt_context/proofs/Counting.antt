@@ -3,7 +3,7 @@ use Rattle.std.proofs.Common.{◌≡◌, ℕ, ◌≤◌, ◌*◌, List, [], ◌�
 use Rattle.std.proofs.lemmas.List.Sums.{sum_by-cons}
 use Rattle.rt_ids.specs.declared.exception.TheConstants.{BASIC_FRAME_WORDS}
 use Rattle.rt_code.specs.Stack.{words_of}
-use Rattle.rt_context.specs.Frames.{Saved, Frames, exception_frame, words_below, words, saved_words, used, depth}
+use Rattle.rt_context.specs.Frames.{Saved, Frames, exception_frame, words_below, words, saved_words, frames_in_use, depth}
 use Rattle.rt_context.proofs.Spelling.{length-exception_frame}
 
 length-words_below : (entry : ℕ) → BASIC_FRAME_WORDS ≤ entry → (below : List Saved)
@@ -18,7 +18,7 @@ length-words_below entry basic (s ∷ below) =
     let own = length-append (words_of s.caller) (s.slots ++ pushed) in
     let frame = length-append s.slots pushed in omega (arith, rest, more, long, all, own, frame)
 
-pub words_are_counted : (f : Frames) → BASIC_FRAME_WORDS ≤ f.entry → length (words f) ≡ used f
+pub words_are_counted : (f : Frames) → BASIC_FRAME_WORDS ≤ f.entry → length (words f) ≡ frames_in_use f
 words_are_counted f basic =
     let below = length-words_below f.entry basic f.below in
     let all = length-append (words_below f.entry f.below) (words_of f.caller ++ f.slots) in

@@ -2,11 +2,11 @@
 use Rattle.std.proofs.Common.{◌≡◌, ℕ, ◌+◌, ◌-◌, ◌^◌, ◌≤◌, min, IsTrue, [], ◌∷◌, ◌++◌, length, replicate, reverse, None, sym, ap, ◌∙◌, arith, append_assoc, length-append}
 use Rattle.std.proofs.lemmas.List.{length-replicate, reverse-append}
 use Rattle.rt_ids.specs.declared.exception.TheConstants.{BASIC_FRAME_WORDS}
-use Rattle.rt_stack.specs.Region.{Region, Fits, empty, top, pushed}
+use Rattle.rt_stack.specs.Region.{Region, Fits, empty, top, region_after_push}
 use Rattle.rt_context.specs.declared.sizes.TheConstants.{STACK_WORDS}
 use Rattle.rt_context.specs.declared.frames.Frames.TheInside.{Inside}
 use Rattle.rt_context.specs.Frames.{Saved, Frames, exception_frame}
-use Rattle.rt_context.specs.Moves.{has_room, thread, entered}
+use Rattle.rt_context.specs.Moves.{has_room, thread, frames_after_entry}
 use Rattle.rt_context.specs.Inside.Parts.{Spells}
 use Rattle.rt_context.proofs.Spelling.{length-exception_frame}
 use Rattle.rt_context.proofs.Running.{top_is, fits_from_room}
@@ -32,7 +32,7 @@ frame_fits f c r x words s region fits =
 
 pub spells_entered : (f : Frames) (c d : Inside) (number address n : ℕ) → Spells f c
     → d.region ≡ record c.region { words = (c.region.words ++ exception_frame c.entry (record { number = number; address = address; slots = top c.region c.frame; caller = None })) ++ replicate n 0 }
-    → d.entry ≡ c.entry → d.frame ≡ n → d.caller ≡ None → d.callers.items ≡ c.callers.items ++ c.caller ∷ [] → Spells (entered f number address n) d
+    → d.entry ≡ c.entry → d.frame ≡ n → d.caller ≡ None → d.callers.items ≡ c.callers.items ++ c.caller ∷ [] → Spells (frames_after_entry f number address n) d
 spells_entered f c d number address n s region entry frame caller callers =
     record {
       spelled =
@@ -53,7 +53,7 @@ spells_entered f c d number address n s region entry frame caller callers =
 
 -- the thread's frame alone
 pub spells_thread : (size entry n : ℕ) (d : Inside) → size ≤ STACK_WORDS → BASIC_FRAME_WORDS ≤ entry
-    → d.region ≡ pushed (empty size) n → d.entry ≡ entry → d.frame ≡ n → d.caller ≡ None → d.callers.items ≡ []
+    → d.region ≡ region_after_push (empty size) n → d.entry ≡ entry → d.frame ≡ n → d.caller ≡ None → d.callers.items ≡ []
     → Spells (thread size entry n) d
 spells_thread size entry n d small basic region entry_is frame caller callers =
     record {

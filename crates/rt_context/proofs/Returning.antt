@@ -2,13 +2,13 @@
 use Rattle.std.proofs.Common.{◌≡◌, ℕ, ◌+◌, ◌-◌, ◌≤◌, List, [], ◌∷◌, ◌++◌, slice_index, length, reverse, Option, Some, None, option_map, refl, sym, ap, subst, ◌∙◌, arith, append_assoc, append-nil, length-append, length-take}
 use Rattle.std.specs.List.{AllByRecursion}
 use Rattle.std.proofs.lemmas.List.{reverse-append}
-use Rattle.rt_stack.specs.Region.{Region, top, popped}
-use Rattle.rt_stack.specs.Region.{used as used_words, below as below_top}
+use Rattle.rt_stack.specs.Region.{Region, top, region_after_pop}
+use Rattle.rt_stack.specs.Region.{used_words, below as below_top}
 use Rattle.rt_context.specs.declared.exception.TheConstants.{LINK, RETURN_ADDRESS}
 use Rattle.rt_context.specs.declared.frames.Frames.TheInside.{Inside}
-use Rattle.rt_code.specs.Stack.{words_of, interrupted}
+use Rattle.rt_code.specs.Stack.{words_of, interrupted_context}
 use Rattle.rt_context.specs.Frames.{Saved, Frames, exception_frame, words_below, words}
-use Rattle.rt_context.specs.Moves.{resumed, left, back}
+use Rattle.rt_context.specs.Moves.{frames_after_resuming, frames_after_return, back}
 use Rattle.rt_context.specs.Inside.Parts.{frames, caller_size, HasReturn, Spells, IsSpelled}
 use Rattle.rt_context.proofs.Spelling.{last_of-append, without-append, length-exception_frame, sizes_of, spelled, kept}
 use Rattle.rt_context.proofs.Running.{below_is, used_is, popped_is}
@@ -31,7 +31,7 @@ leads_view o d address l a same =
 -- A body's return.
 back_by : (size entry : ℕ) (slots : List ℕ) (handler : Option (List ℕ)) (saved : List Saved) (c d : Inside) (n address : ℕ)
     → Spells (record { size = size; entry = entry; slots = slots; caller = handler; below = saved }) c → c.caller ≡ Some n
-    → d.region ≡ popped c.region c.frame → d.entry ≡ c.entry → d.frame ≡ n → d.caller ≡ None → d.callers ≡ c.callers → address ≡ slice_index (top d.region n) (n - 1)
+    → d.region ≡ region_after_pop c.region c.frame → d.entry ≡ c.entry → d.frame ≡ n → d.caller ≡ None → d.callers ≡ c.callers → address ≡ slice_index (top d.region n) (n - 1)
     → Leads (back (record { size = size; entry = entry; slots = slots; caller = handler; below = saved })) d address
 back_by size entry slots None saved c d n address s calls region entry_is frame caller callers read = let is = s.caller in cc
 back_by size entry slots (Some own) saved c d n address s calls region entry_is frame caller callers read =
@@ -60,7 +60,7 @@ back_by size entry slots (Some own) saved c d n address s calls region entry_is 
     }
 
 pub back_leads : (f : Frames) (c d : Inside) (n address : ℕ) → Spells f c → c.caller ≡ Some n
-    → d.region ≡ popped c.region c.frame → d.entry ≡ c.entry → d.frame ≡ n → d.caller ≡ None → d.callers ≡ c.callers → address ≡ slice_index (top d.region n) (n - 1)
+    → d.region ≡ region_after_pop c.region c.frame → d.entry ≡ c.entry → d.frame ≡ n → d.caller ≡ None → d.callers ≡ c.callers → address ≡ slice_index (top d.region n) (n - 1)
     → Leads (back f) d address
 back_leads f = back_by f.size f.entry f.slots f.caller f.below
 
@@ -106,16 +106,16 @@ module _ (f : Frames) (c : Inside) (caller : Option ℕ) (callers : List (Option
       let pushed = length-exception_frame f.entry s.basic found.last in
       omega (arith, count, used_is f c s, s.frame, s.entry, kept, all, pushed)
 
-  pub left_leads : (d : Inside) (address : ℕ) → d.region ≡ popped (popped c.region c.frame) c.entry
-      → d.entry ≡ c.entry → d.frame ≡ slice_index (top (popped c.region c.frame) c.entry) LINK → d.caller ≡ caller → reverse d.callers.items ≡ callers
-      → address ≡ slice_index (top (popped c.region c.frame) c.entry) RETURN_ADDRESS → Leads (left f) d address
+  pub left_leads : (d : Inside) (address : ℕ) → d.region ≡ region_after_pop (region_after_pop c.region c.frame) c.entry
+      → d.entry ≡ c.entry → d.frame ≡ slice_index (top (region_after_pop c.region c.frame) c.entry) LINK → d.caller ≡ caller → reverse d.callers.items ≡ callers
+      → address ≡ slice_index (top (region_after_pop c.region c.frame) c.entry) RETURN_ADDRESS → Leads (frames_after_return f) d address
   left_leads d address region entry_is frame caller_is callers_are read =
       let pushed : List ℕ = exception_frame f.entry found.last in
       let rest : List ℕ = words (after f found.last found.others) in
-      let whole : popped c.region c.frame ≡ record { words = rest ++ pushed; size = f.size } =
+      let whole : region_after_pop c.region c.frame ≡ record { words = rest ++ pushed; size = f.size } =
       popped_is f c s ∙ (λ i. record { words = under_words i; size = f.size }) in
       let long : length pushed ≡ f.entry = length-exception_frame f.entry s.basic found.last in
-      let on_top : top (popped c.region c.frame) c.entry ≡ pushed =
+      let on_top : top (region_after_pop c.region c.frame) c.entry ≡ pushed =
       (λ i. top (whole i) (s.entry i)) ∙ last_of-append f.entry rest pushed long in
       let left_words : d.region.words ≡ rest =
       ap (λ (r : Region). r.words) region
@@ -124,7 +124,7 @@ module _ (f : Frames) (c : Inside) (caller : Option ℕ) (callers : List (Option
       let answer : address ≡ found.last.address = read ∙ ap (λ ws. slice_index ws RETURN_ADDRESS) on_top in record {
         after = after f found.last found.others;
         is =
-            (λ i. option_map (resumed f) (interrupted (found.handler i) (found.below i))) ∙ ap (λ a. Some (after f found.last found.others, a)) (sym answer);
+            (λ i. option_map (frames_after_resuming f) (interrupted_context (found.handler i) (found.below i))) ∙ ap (λ a. Some (after f found.last found.others, a)) (sym answer);
         spells = record {
           spelled = left_words;
           size = ap (λ (r : Region). r.size) region ∙ s.size;

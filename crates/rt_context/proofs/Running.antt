@@ -1,11 +1,11 @@
 -- The running frame of fields that spell frames, and what is below it.
 use Rattle.std.proofs.Common.{◌≡◌, ℕ, ◌+◌, ◌-◌, ◌≤◌, ◌↔◌, Bool, IsTrue, nat_le, List, ◌++◌, length, take, drop, refl, ap, subst, ◌∙◌, arith, append_assoc}
 use Rattle.std.proofs.lemmas.Bool.Decides.{nat_tests}
-use Rattle.rt_stack.specs.Region.{Fits, top, below, popped}
-use Rattle.rt_stack.specs.Region.{used as used_words}
+use Rattle.rt_stack.specs.Region.{Fits, top, below, region_after_pop}
+use Rattle.rt_stack.specs.Region.{used_words}
 use Rattle.rt_context.specs.declared.frames.Frames.TheInside.{Inside}
 use Rattle.rt_code.specs.Stack.{words_of}
-use Rattle.rt_context.specs.Frames.{Frames, words_below, used}
+use Rattle.rt_context.specs.Frames.{Frames, words_below, frames_in_use}
 use Rattle.rt_context.specs.Moves.{has_room}
 use Rattle.rt_context.specs.Inside.Parts.{frames, Spells, IsSpelled}
 use Rattle.rt_context.proofs.Spelling.{last_of-append, without-append}
@@ -32,10 +32,10 @@ module _ (f : Frames) (c : Inside) (s : Spells f c) where
   unfolding rest
   below_is = (λ i. take (length (regrouped i) - s.frame i) (regrouped i)) ∙ without-append (length f.slots) rest f.slots refl
 
-  pub used_is : used_words c.region ≡ used f
+  pub used_is : used_words c.region ≡ frames_in_use f
   used_is = ap length s.spelled ∙ words_are_counted f s.basic
 
-  pub popped_is : popped c.region c.frame ≡ record { words = words_below f.entry f.below ++ words_of f.caller; size = f.size }
+  pub popped_is : region_after_pop c.region c.frame ≡ record { words = words_below f.entry f.below ++ words_of f.caller; size = f.size }
   popped_is = λ i. record { words = below_is i; size = s.size i }
 
 room_test : (r : Bool) (m n size : ℕ) → (IsTrue r ↔ (m + n ≤ size)) → r ≡ nat_le (m + n) size

@@ -6,7 +6,7 @@ use Rattle.rt_ids.specs.declared.exception.TheConstants.{BASIC_FRAME_WORDS}
 use Rattle.rt_context.specs.declared.frames.Frames.TheInside.{Inside}
 use Rattle.rt_code.specs.Stack.{words_of}
 use Rattle.rt_context.specs.Frames.{Saved, Frames, exception_frame, words_below, words}
-use Rattle.rt_context.specs.Inside.Parts.{last_of, without, caller_of, below_caller, saved, below_saved, saved_of, frames, caller_size, Spells, IsSpelled}
+use Rattle.rt_context.specs.Inside.Parts.{last_of, without, caller_of, below_caller, saved_context, below_saved, contexts_in_words, frames, caller_size, Spells, IsSpelled}
 
 -- words behind others
 module _ (n : ℕ) (xs ys : List ℕ) (same : length ys ≡ n) where
@@ -35,27 +35,27 @@ length-exception_frame entry basic s = omega (arith, length-replicate {A = ℕ} 
 -- a context behind other words
 module _ (entry : ℕ) where
   abbrev from_entry : Option ℕ → List (Option ℕ) → List ℕ → List ℕ → List Saved
-  from_entry caller callers pushed under = saved pushed under caller ∷ saved_of entry (below_saved pushed under caller) callers
+  from_entry caller callers pushed under = saved_context pushed under caller ∷ contexts_in_words entry (below_saved pushed under caller) callers
 
   abbrev from_slots : Saved → List (Option ℕ) → List ℕ → List ℕ → List Saved
   from_slots s callers slots rest =
       record { number = s.number; address = s.address; slots = slots; caller = caller_of (caller_size s.caller) rest }
-      ∷ saved_of entry (below_caller (caller_size s.caller) rest) callers
+      ∷ contexts_in_words entry (below_caller (caller_size s.caller) rest) callers
 
   abbrev from_caller : Saved → List (Option ℕ) → Option (List ℕ) → List ℕ → List Saved
   from_caller s callers caller below =
-      record { number = s.number; address = s.address; slots = s.slots; caller = caller } ∷ saved_of entry below callers
+      record { number = s.number; address = s.address; slots = s.slots; caller = caller } ∷ contexts_in_words entry below callers
 
   module _ (basic : BASIC_FRAME_WORDS ≤ entry) where
     saved_of-append : (s : Saved) (xs : List ℕ) (callers : List (Option ℕ))
-        → saved_of entry (xs ++ (words_of s.caller ++ (s.slots ++ exception_frame entry s))) (caller_size s.caller ∷ callers) ≡ s ∷ saved_of entry xs callers
+        → contexts_in_words entry (xs ++ (words_of s.caller ++ (s.slots ++ exception_frame entry s))) (caller_size s.caller ∷ callers) ≡ s ∷ contexts_in_words entry xs callers
     saved_of-append s xs callers =
         let pushed = exception_frame entry s in
         let long = length-exception_frame entry basic s in
         let rest : List ℕ = xs ++ words_of s.caller in
         let under : List ℕ = rest ++ s.slots in
         let regrouped : xs ++ (words_of s.caller ++ (s.slots ++ pushed)) ≡ under ++ pushed = simp append_assoc in
-        ap (λ ws. saved_of entry ws (caller_size s.caller ∷ callers)) regrouped
+        ap (λ ws. contexts_in_words entry ws (caller_size s.caller ∷ callers)) regrouped
         ∙ (λ i. from_entry (caller_size s.caller) callers (last_of-append entry under pushed long i) (without-append entry under pushed long i))
         ∙ (λ i. from_slots s callers (last_of-append (length s.slots) rest s.slots refl i) (without-append (length s.slots) rest s.slots refl i))
         ∙ (λ i. from_caller s callers (caller_of-append s.caller xs i) (below_caller-append s.caller xs i))
@@ -64,7 +64,7 @@ abbrev pub sizes_of : List Saved → List (Option ℕ)
 sizes_of below = map (λ s. caller_size s.caller) below
 
 saved_of-words_below : (entry : ℕ) → BASIC_FRAME_WORDS ≤ entry → (below : List Saved)
-    → saved_of entry (words_below entry below) (sizes_of below) ≡ below
+    → contexts_in_words entry (words_below entry below) (sizes_of below) ≡ below
 saved_of-words_below entry basic [] = refl
 saved_of-words_below entry basic (s ∷ below) =
     saved_of-append entry basic s (words_below entry below) (sizes_of below)
@@ -74,7 +74,7 @@ saved_of-words_below entry basic (s ∷ below) =
 abbrev by_sizes : ℕ → ℕ → List ℕ → ℕ → Option ℕ → List (Option ℕ) → Frames
 by_sizes size entry ws frame caller callers =
     let under = without frame ws in
-    record { size = size; entry = entry; slots = last_of frame ws; caller = caller_of caller under; below = saved_of entry (below_caller caller under) callers }
+    record { size = size; entry = entry; slots = last_of frame ws; caller = caller_of caller under; below = contexts_in_words entry (below_caller caller under) callers }
 
 by_sizes-words : (f : Frames) → BASIC_FRAME_WORDS ≤ f.entry
     → by_sizes f.size f.entry (words f) (length f.slots) (caller_size f.caller) (sizes_of f.below) ≡ f
@@ -88,7 +88,7 @@ by_sizes-words f basic =
       entry = f.entry;
       slots = last_of-append (length f.slots) rest f.slots refl i;
       caller = caller_of (caller_size f.caller) (without-append (length f.slots) rest f.slots refl i);
-      below = saved_of f.entry (below_caller (caller_size f.caller) (without-append (length f.slots) rest f.slots refl i)) (sizes_of f.below);
+      below = contexts_in_words f.entry (below_caller (caller_size f.caller) (without-append (length f.slots) rest f.slots refl i)) (sizes_of f.below);
     })
     ∙ (λ i.
     record {
@@ -96,7 +96,7 @@ by_sizes-words f basic =
       entry = f.entry;
       slots = f.slots;
       caller = caller_of-append f.caller (words_below f.entry f.below) i;
-      below = saved_of f.entry (below_caller-append f.caller (words_below f.entry f.below) i) (sizes_of f.below);
+      below = contexts_in_words f.entry (below_caller-append f.caller (words_below f.entry f.below) i) (sizes_of f.below);
     })
     ∙ (λ i. record f { below = saved_of-words_below f.entry basic f.below i })
 

@@ -30,7 +30,7 @@ pub record Frames : Type 0 where
   pub slots : List ℕ
   -- where a called body runs, the frame of the handler that called it
   pub caller : Option (List ℕ)
-  -- what the entered handlers interrupted, the last entered first
+  -- what the active handlers interrupted, the last taken first
   pub below : List Saved
 
 -- The so many words that exception entry pushes, from the lowest address: R0 to R3 and R12 of 0, LR with the size of
@@ -55,9 +55,9 @@ abbrev pub saved_words : ℕ → Saved → ℕ
 saved_words entry s = stack.context_words entry s.caller s.slots
 
 -- how many words are in use
-abbrev pub used : Frames → ℕ
-used f = stack.used (saved_words f.entry) f.caller f.slots f.below
+abbrev pub frames_in_use : Frames → ℕ
+frames_in_use f = stack.words_in_use (saved_words f.entry) f.caller f.slots f.below
 
 -- the stack bytes in use
 abbrev pub depth : Frames → ℕ
-depth f = 4 * used f
+depth f = 4 * frames_in_use f

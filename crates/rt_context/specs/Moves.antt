@@ -2,7 +2,7 @@
 use Rattle.std.specs.Prelude.{ℕ, Bool, ◌&&◌, List, [], ◌∷◌, replicate, Option, Some, None, option_map}
 use Rattle.rt_code.specs.declared.image.BodyRow.{BodyRow}
 use Rattle.rt_code.specs.Stack as stack
-use Rattle.rt_context.specs.Frames.{Saved, Frames, used}
+use Rattle.rt_context.specs.Frames.{Saved, Frames, frames_in_use}
 
 -- the thread's frame of so many words alone
 abbrev pub thread : ℕ → ℕ → ℕ → Frames
@@ -10,23 +10,23 @@ thread size entry words = record { size = size; entry = entry; slots = replicate
 
 -- whether so many words more have room
 abbrev pub has_room : Frames → ℕ → Bool
-has_room f n = stack.has_room f.size (used f) n
+has_room f n = stack.has_room f.size (frames_in_use f) n
 
 -- exception entry, from the exception of a number at an address: a frame of so many words is on top
-abbrev pub entered : Frames → ℕ → ℕ → ℕ → Frames
-entered f number address n = record f {
+abbrev pub frames_after_entry : Frames → ℕ → ℕ → ℕ → Frames
+frames_after_entry f number address n = record f {
   slots = replicate n 0;
   caller = None;
   below = record { number = number; address = address; slots = f.slots; caller = f.caller } ∷ f.below;
 }
 
 -- exception return: what was interrupted runs on, from its address
-abbrev pub resumed : Frames → Saved × List Saved → Frames × ℕ
-resumed f found = (record f { slots = found.0.slots; caller = found.0.caller; below = found.1 }, found.0.address)
+abbrev pub frames_after_resuming : Frames → Saved × List Saved → Frames × ℕ
+frames_after_resuming f found = (record f { slots = found.0.slots; caller = found.0.caller; below = found.1 }, found.0.address)
 
 -- exception return, where a handler runs that interrupted something
-abbrev pub left : Frames → Option (Frames × ℕ)
-left f = option_map (resumed f) (stack.interrupted f.caller f.below)
+abbrev pub frames_after_return : Frames → Option (Frames × ℕ)
+frames_after_return f = option_map (frames_after_resuming f) (stack.interrupted_context f.caller f.below)
 
 -- whether what runs may call a body: it is a handler's own code, whose frame has a slot for the return address
 abbrev pub may_call : Frames → Bool
@@ -38,8 +38,8 @@ abbrev pub call_fits : Frames → BodyRow → ℕ → Bool
 call_fits f row from = stack.arguments_fit f.slots row from && has_room f row.frame
 
 -- a call, which will return to an address
-abbrev pub called : Frames → BodyRow → ℕ → ℕ → Frames
-called f row from address =
+abbrev pub frames_after_call : Frames → BodyRow → ℕ → ℕ → Frames
+frames_after_call f row from address =
     let caller = stack.caller_frame f.slots address in
     record f { slots = stack.body_frame caller row from; caller = Some caller }
 

@@ -1,7 +1,7 @@
 // The architecture's frame at the end of a region.
 ghost use Rattle.std.specs.Prelude.{◌≡◌, ◌+◌, ◌≤◌, ◌++◌, None, replicate, slice_index};
 ghost use Rattle.rt_ids.specs.declared.exception.TheConstants.{BASIC_FRAME_WORDS};
-ghost use Rattle.rt_stack.specs.Region.{Fits, used, top, popped};
+ghost use Rattle.rt_stack.specs.Region.{Fits, used_words, top, region_after_pop};
 ghost use Rattle.rt_context.specs.Frames.{Saved, exception_frame};
 
 use rt_stack::Region;
@@ -26,7 +26,7 @@ pub(crate) struct Interrupted {
 /// words as its frame.
 pub(crate) fn push(region: &mut Region, entry: u32, frame: u32, number: u32, address: u32)
     requires basic { BASIC_FRAME_WORDS ≤ entry }
-    requires frame { frame ≤ used region.old }
+    requires frame { frame ≤ used_words region.old }
     requires fits { Fits region.old entry }
     ensures { let interrupted : Saved = record {
       number = number;
@@ -47,10 +47,10 @@ pub(crate) fn push(region: &mut Region, entry: u32, frame: u32, number: u32, add
 /// frame runs on.
 pub(crate) fn leave(region: &mut Region, entry: u32, words: u32) -> Interrupted
     requires basic { BASIC_FRAME_WORDS ≤ entry }
-    requires there { words + entry ≤ used region.old }
-    ensures frame { result.frame ≡ slice_index (top (popped region.old words) entry) LINK }
-    ensures address { result.address ≡ slice_index (top (popped region.old words) entry) RETURN_ADDRESS }
-    ensures popped { region.new ≡ popped (popped region.old words) entry }
+    requires there { words + entry ≤ used_words region.old }
+    ensures frame { result.frame ≡ slice_index (top (region_after_pop region.old words) entry) LINK }
+    ensures address { result.address ≡ slice_index (top (region_after_pop region.old words) entry) RETURN_ADDRESS }
+    ensures popped { region.new ≡ region_after_pop (region_after_pop region.old words) entry }
 {
     region.pop(words);
     let pushed = region.top_ref(entry);

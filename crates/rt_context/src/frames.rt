@@ -27,7 +27,7 @@ pub struct Frames {
     frame: u32,
     /// Where a called body runs, the words of the frame of the handler that called it.
     caller: Option<u32>,
-    /// The same of what each entered handler interrupted, the last entered behind.
+    /// The same of what each active handler interrupted, the last taken behind.
     callers: ArrayVec<Option<u32>, CONTEXTS>,
 }
 
@@ -116,7 +116,7 @@ impl Frames {
     pub fn enter(&mut self, number: u32, address: u32, words: u32) -> bool
         requires few { length self.old.below < CONTEXTS }
         ensures fits { result ≡ moves.has_room self.old (self.old.entry + words) }
-        ensures entered { IsTrue result → self.new ≡ moves.entered self.old number address words }
+        ensures entered { IsTrue result → self.new ≡ moves.frames_after_entry self.old number address words }
         ensures unchanged { result ≡ false → self.new ≡ self.old }
     {
         if !self.has_room(self.entry.saturating_add(words)) {
@@ -133,8 +133,8 @@ impl Frames {
     /// Exception return: pops the handler's frame and the architecture's, and answers the address that runs on. It
     /// answers None exactly in a called body and in the thread, and changes nothing then.
     pub fn leave(&mut self) -> Option<u32>
-        ensures left { (address : ℕ) → result ≡ Some address → moves.left self.old ≡ Some (self.new, address) }
-        ensures none { result ≡ None → (moves.left self.old ≡ None) × (self.new ≡ self.old) }
+        ensures left { (address : ℕ) → result ≡ Some address → moves.frames_after_return self.old ≡ Some (self.new, address) }
+        ensures none { result ≡ None → (moves.frames_after_return self.old ≡ None) × (self.new ≡ self.old) }
     {
         if self.caller.is_some() {
             return None;
@@ -167,7 +167,7 @@ impl Frames {
     pub fn call(&mut self, row: BodyRow, from: u32, address: u32) -> bool
         requires may { IsTrue (moves.may_call self.old) }
         ensures fits { result ≡ moves.call_fits self.old row from }
-        ensures called { IsTrue result → self.new ≡ moves.called self.old row from address }
+        ensures called { IsTrue result → self.new ≡ moves.frames_after_call self.old row from address }
         ensures unchanged { result ≡ false → self.new ≡ self.old }
     {
         if !self.call_fits(&row, from) {

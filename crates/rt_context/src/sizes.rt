@@ -1,6 +1,6 @@
 // How many words and frames a stack may have.
 
-/// Handlers that may be entered at once.
+/// Handlers that may be active at once.
 pub const CONTEXTS: usize = 128;
 
 /// Words of a stack: there are at most as many.

@@ -7,7 +7,7 @@ use Rattle.rt_code.specs.declared.processor.Trap.TheVariants as trap
 use Rattle.rt_code.specs.Stack.{arguments_fit}
 use Rattle.rt_context.specs.Frames.{Frames}
 use Rattle.rt_context.specs.Moves as moves
-use Rattle.rt_core.specs.Core.{Context, Core, frames_of, saved}
+use Rattle.rt_core.specs.Core.{Context, Core, frames_of, saved_contexts}
 use Rattle.rt_core.specs.Outcome.{Outcome, Trapped, Done}
 use Rattle.rt_core.specs.Transfer as transfer
 use Rattle.rt_core.proofs.Contexts.{used_is}
@@ -15,7 +15,7 @@ use Rattle.rt_core.proofs.Contexts.{used_is}
 pub room_alike : (img : Image) (c : Core) (n : ℕ) → moves.has_room (frames_of img c) n ≡ transfer.has_room img c n
 room_alike img c n = ap (λ m. nat_le (m + n) (img.stack_bytes / 4)) (used_is img c)
 
-emptiness_alike : (below : List Context) → is_empty (saved below) ≡ is_empty below
+emptiness_alike : (below : List Context) → is_empty (saved_contexts below) ≡ is_empty below
 emptiness_alike [] = refl
 emptiness_alike (x ∷ below) = refl
 
@@ -27,7 +27,7 @@ fits_alike img c row from = ap (λ r. arguments_fit c.processor.slots row from &
 
 -- what comes of a call of a row that is there
 abbrev pub outcome_of : Core → BodyRow → ℕ → Bool → Outcome
-outcome_of c body from fits = if fits then Done (transfer.called c body from) None else Trapped c trap.Stack
+outcome_of c body from fits = if fits then Done (transfer.core_after_call c body from) None else Trapped c trap.Stack
 
 pub call_is : (img : Image) (c : Core) (f : Frames) (row from : ℕ) (body : BodyRow) → f ≡ frames_of img c → moves.may_call f ≡ true
     → slice_get img.bodies row ≡ Some body → transfer.call img c row from ≡ outcome_of c body from (moves.call_fits f body from)

@@ -6,24 +6,24 @@ use Rattle.rt_context.specs.Frames.{Saved, Frames}
 use Rattle.rt_code.specs.Stack.{words_of}
 use Rattle.rt_context.specs.Frames as frame
 use Rattle.rt_nvic.specs.Nvic.{Nvic, value_of_first}
-use Rattle.rt_core.specs.Core.{Context, Core, context_words, used, depth, saved, exception_number, frames_of}
+use Rattle.rt_core.specs.Core.{Context, Core, context_words, stack_in_use, depth, saved_contexts, exception_number, frames_of}
 use Rattle.rt_core.specs.Priority.{running_value}
 use Rattle.rt_core.specs.Inside.Parts.{contexts}
 
 -- the contexts take as many words as the frames
-words_alike : (entry : ℕ) (below : List Context) → sum_by (frame.saved_words entry) (saved below) ≡ sum_by (context_words entry) below
+words_alike : (entry : ℕ) (below : List Context) → sum_by (frame.saved_words entry) (saved_contexts below) ≡ sum_by (context_words entry) below
 words_alike entry [] = refl
 words_alike entry (x ∷ below) =
-    sum_by-cons (frame.saved_words entry) (record { number = exception_number below; address = x.address; slots = x.slots; caller = x.caller }) (saved below)
+    sum_by-cons (frame.saved_words entry) (record { number = exception_number below; address = x.address; slots = x.slots; caller = x.caller }) (saved_contexts below)
     ∙ ap (λ n. context_words entry x + n) (words_alike entry below) ∙ sym (sum_by-cons (context_words entry) x below)
 
-pub used_is : (img : Image) (c : Core) → frame.used (frames_of img c) ≡ used img c
+pub used_is : (img : Image) (c : Core) → frame.frames_in_use (frames_of img c) ≡ stack_in_use img c
 used_is img c = ap (λ n. length (words_of c.caller) + length c.processor.slots + n) (words_alike (entry_words img) c.below)
 
 pub depth_is : (img : Image) (c : Core) → frame.depth (frames_of img c) ≡ depth img c
 depth_is img c = ap (λ n. 4 * n) (used_is img c)
 
--- the exception number of the interrupt that was entered last
+-- the exception number of the interrupt that was taken last
 pub number_of_none : (priorities : List (Option ℕ)) (active : List ℕ) (below : List Saved) → None ≡ slice_get active 0 → 0 ≡ exception_number (contexts priorities active below)
 number_of_none priorities [] below h = refl
 number_of_none priorities (irq ∷ active) below h = cc

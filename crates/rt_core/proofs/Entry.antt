@@ -74,9 +74,9 @@ above_running c x h passes handler =
 
 -- what comes of an entry whose frame has room or not
 abbrev pub entry_outcome : Image → Core → ℕ → Handler → Bool → Outcome
-entry_outcome img c irq h fits = if fits then Done (transfer.entered c irq h) (Some (what.Take irq (depth img (transfer.entered c irq h)))) else Trapped c trap.Stack
+entry_outcome img c irq h fits = if fits then Done (transfer.core_after_entry c irq h) (Some (what.Take irq (depth img (transfer.core_after_entry c irq h)))) else Trapped c trap.Stack
 
-pub enter_is : (c : Inside) → IsSound c → (irq : ℕ) (h : Handler) → transfer.enter c.program (core c) irq (Some h) ≡ entry_outcome c.program (core c) irq h (moves.has_room c.frames (c.frames.entry + h.frame))
+pub enter_is : (c : Inside) → IsSound c → (irq : ℕ) (h : Handler) → transfer.exception_entry c.program (core c) irq (Some h) ≡ entry_outcome c.program (core c) irq h (moves.has_room c.frames (c.frames.entry + h.frame))
 enter_is c sound irq h =
     ap (entry_outcome c.program (core c) irq h)
     (sym (room_alike c.program (core c) (entry_words c.program + h.frame)) ∙ ap (λ (f : Frames). moves.has_room f (f.entry + h.frame)) (sym sound.frames))
@@ -85,10 +85,10 @@ module _ (c : Inside) (sound : IsSound c) (irq : ℕ) (h : Handler) (handler : h
   handler_is : next.row.handler ≡ Some h
   handler_is = sym next.handler ∙ handler
 
-  pub attempt_is : stepping.attempt c.program (core c) (pick c.program (core c)) ≡ transfer.enter c.program (core c) irq (Some h)
+  pub attempt_is : stepping.attempt c.program (core c) (pick c.program (core c)) ≡ transfer.exception_entry c.program (core c) irq (Some h)
   attempt_is =
       ap (stepping.attempt c.program (core c)) next.picked
-      ∙ ap (λ n. transfer.enter c.program (core c) n next.row.handler) next.number ∙ ap (transfer.enter c.program (core c) irq) handler_is
+      ∙ ap (λ n. transfer.exception_entry c.program (core c) n next.row.handler) next.number ∙ ap (transfer.exception_entry c.program (core c) irq) handler_is
 
   pub is_above : h.value < running_value (core c).below
   is_above = above_running (core c) next.row h next.passes handler_is
@@ -118,17 +118,17 @@ module _ (c : Inside) (sound : IsSound c) (irq : ℕ) (h : Handler) (handler : h
     after = record c {
       nvic = n;
       execution = kept;
-      frames = moves.entered c.frames (exception_number (core c).below) c.registers.address h.frame;
+      frames = moves.frames_after_entry c.frames (exception_number (core c).below) c.registers.address h.frame;
       registers = record c.registers { address = h.entry };
     }
 
     value_is : unwrap_or (slice_index_or c.nvic.priorities irq None) 256 ≡ h.value
     value_is = ap (λ o. unwrap_or o 256) (sound.priorities irq within ∙ ap (option_map (λ h. h.value)) handler)
 
-    pub core_after : core after ≡ transfer.entered (core c) irq h
+    pub core_after : core after ≡ transfer.core_after_entry (core c) irq h
     core_after =
         ap (λ (k : Nvic). core (record after { nvic = k })) (λ i. record { priorities = priorities i; pending = pending i; active = active i })
-        ∙ ap (λ v. record (transfer.entered (core c) irq h) { below = record { irq = irq; value = v; address = c.registers.address; slots = c.frames.slots; caller = c.frames.caller } ∷ (core c).below }) value_is
+        ∙ ap (λ v. record (transfer.core_after_entry (core c) irq h) { below = record { irq = irq; value = v; address = c.registers.address; slots = c.frames.slots; caller = c.frames.caller } ∷ (core c).below }) value_is
 
     frames_after : after.frames ≡ frames_of c.program (core after)
     frames_after =
@@ -152,7 +152,7 @@ module _ (c : Inside) (sound : IsSound c) (irq : ℕ) (h : Handler) (handler : h
     }
 
     -- with the frames that the code has, which are these
-    pub entered_parts : (f : Frames) → f ≡ after.frames → (core (record after { frames = f }) ≡ transfer.entered (core c) irq h) × (frame.depth f ≡ depth c.program (transfer.entered (core c) irq h))
+    pub entered_parts : (f : Frames) → f ≡ after.frames → (core (record after { frames = f }) ≡ transfer.core_after_entry (core c) irq h) × (frame.depth f ≡ depth c.program (transfer.core_after_entry (core c) irq h))
     entered_parts f is =
         let here = ap (λ (g : Frames). core (record after { frames = g })) is ∙ core_after in
         (here, ap frame.depth is ∙ (ap frame.depth frames_after ∙ (depth_is c.program (core after) ∙ ap (depth c.program) core_after)))

@@ -15,7 +15,7 @@ use Rattle.rt_code.specs.declared.processor.Request.{Request}
 use Rattle.rt_code.specs.declared.processor.Request.TheVariants as request
 use Rattle.rt_code.specs.declared.processor.Trap.TheVariants as trap
 use Rattle.rt_code.proofs.Touching.{cells_after}
-use Rattle.rt_code.specs.Stack.{interrupted}
+use Rattle.rt_code.specs.Stack.{interrupted_context}
 use Rattle.rt_trace.specs.declared.item.What.{What}
 use Rattle.rt_trace.specs.declared.item.What.TheVariants as what
 use Rattle.rt_trace.specs.Label.{Label, Rang}
@@ -24,7 +24,7 @@ use Rattle.rt_core.specs.declared.alarm.Alarm.{Alarm}
 use Rattle.rt_core.specs.Core.{Core, Context, depth}
 use Rattle.rt_core.specs.Priority.{pick}
 use Rattle.rt_core.specs.Outcome.{Outcome, Trapped, Done, settle}
-use Rattle.rt_core.specs.Note.{shown_by, slots_from}
+use Rattle.rt_core.specs.Note.{item_of_note, slots_from}
 use Rattle.rt_code.specs.Tables.{argument_count}
 use Rattle.rt_core.specs.Stepping as stepping
 use Rattle.rt_core.specs.Transfer as transfer
@@ -48,20 +48,20 @@ module _ (img : Image) (c : Core) where
   abbrev Own : Outcome → Type 0
   Own o = Keeps c.time c.processor.cells o
 
-  enter_keeps : (irq : ℕ) (h : Option Handler) → Own (transfer.enter img c irq h)
+  enter_keeps : (irq : ℕ) (h : Option Handler) → Own (transfer.exception_entry img c irq h)
   enter_keeps irq None = (refl, refl, tt)
   enter_keeps irq (Some h) =
-      let after : Core = transfer.entered c irq h in
+      let after : Core = transfer.core_after_entry c irq h in
       keeps_if c.time c.processor.cells (transfer.has_room img c (entry_words img + h.frame)) (Done after (Some (what.Take irq (depth img after)))) (Trapped c trap.Stack) (refl, refl, refl) (refl, refl)
 
-  resumed_keeps : (found : Option (Context × List Context)) → Own (transfer.resumed c found)
+  resumed_keeps : (found : Option (Context × List Context)) → Own (transfer.outcome_of_return c found)
   resumed_keeps None = (refl, refl)
   resumed_keeps (Some found) = (refl, refl, refl)
 
   call_row_keeps : (row : Option BodyRow) (from : ℕ) → Own (transfer.call_row img c row from)
   call_row_keeps None from = (refl, refl)
   call_row_keeps (Some row) from =
-      keeps_if c.time c.processor.cells (transfer.call_fits img c row from) (Done (transfer.called c row from) None) (Trapped c trap.Stack) (refl, refl, tt) (refl, refl)
+      keeps_if c.time c.processor.cells (transfer.call_fits img c row from) (Done (transfer.core_after_call c row from) None) (Trapped c trap.Stack) (refl, refl, tt) (refl, refl)
 
   back_keeps : (caller : Option (List ℕ)) → Own (transfer.back_to c caller)
   back_keeps None = (refl, refl)
@@ -69,7 +69,7 @@ module _ (img : Image) (c : Core) where
 
   alarm_keeps : (instant irq : ℕ) → Own (transfer.set_alarm c instant irq)
   alarm_keeps instant irq =
-      keeps_if c.time c.processor.cells (nat_le instant c.time) (Done (record (transfer.pended c irq) { alarm = None }) (Some what.Alarm))
+      keeps_if c.time c.processor.cells (nat_le instant c.time) (Done (record (transfer.core_after_pend c irq) { alarm = None }) (Some what.Alarm))
       (Done (record c { alarm = Some (record { instant = instant; irq = irq }) }) (Some what.AlarmSet)) (refl, refl, refl) (refl, refl, refl)
 
   pub answer_keeps : (asked : Request) → Own (stepping.answer img c asked)
@@ -83,24 +83,24 @@ module _ (img : Image) (c : Core) where
       let row : Option BodyRow = slice_get img.bodies number in
       keeps_if c.time c.processor.cells (transfer.may_call c) (transfer.call_row img c row from) (Trapped c trap.Stack) (call_row_keeps row from) (refl, refl)
   answer_keeps request.Back = back_keeps c.caller
-  answer_keeps request.Return = resumed_keeps (interrupted c.caller c.below)
+  answer_keeps request.Return = resumed_keeps (interrupted_context c.caller c.below)
 
 -- an item of what may not be there, a trap where it is not
 told_keeps : {A : Type 0} (time : ℕ) (cells : List ℕ) (c : Core) (make : A → What) (o : Option A)
     → ((x : A) → event_of (make x) ≡ [])
-    → c.time ≡ time → c.processor.cells ≡ cells → Keeps time cells (stepping.noted c (option_map make o))
+    → c.time ≡ time → c.processor.cells ≡ cells → Keeps time cells (stepping.outcome_of_note c (option_map make o))
 told_keeps time cells c make None own h k = (h, k)
 told_keeps time cells c make (Some x) own h k = (h, k, own x)
 
 move_keeps : (time : ℕ) (cells : List ℕ) (c : Core) (t : ℕ) (handle instant : Option ℕ)
     → c.time ≡ time → c.processor.cells ≡ cells
-    → Keeps time cells (stepping.noted c (then_from handle (λ handle. option_map (what.Move t handle) instant)))
+    → Keeps time cells (stepping.outcome_of_note c (then_from handle (λ handle. option_map (what.Move t handle) instant)))
 move_keeps time cells c t None instant h k = (h, k)
 move_keeps time cells c t (Some handle) instant h k =
     told_keeps time cells c (what.Move t handle) instant (λ v. refl) h k
 
 noted_keeps : (time : ℕ) (cells : List ℕ) (img : Image) (c : Core) (n : Note) → c.time ≡ time → c.processor.cells ≡ cells
-    → Keeps time cells (stepping.noted c (shown_by img c n))
+    → Keeps time cells (stepping.outcome_of_note c (item_of_note img c n))
 noted_keeps time cells img c (note.Start t from) h k =
     told_keeps time cells c (what.Start t) (slots_from c from (argument_count img t)) (λ args. refl) h k
 noted_keeps time cells img c (note.Arm t s) h k =
@@ -186,12 +186,12 @@ step_is_own img c = step_by_is_own img c c.stopped
 pub arrivals_keep_time : (img : Image) (c : Core) (irqs : List ℕ) → (core_after img c (map Arrive irqs)).time ≡ c.time
 unfolding core_after happen
 arrivals_keep_time img c [] = refl
-arrivals_keep_time img c (irq ∷ irqs) = arrivals_keep_time img (transfer.pended c irq) irqs
+arrivals_keep_time img c (irq ∷ irqs) = arrivals_keep_time img (transfer.core_after_pend c irq) irqs
 
 time-ring : (c : Core) (alarm : Option Alarm) → (ring c alarm).0.time ≡ c.time
 time-ring c None = refl
 time-ring c (Some alarm) =
-    let rung : Core × List Label = (record (transfer.pended c alarm.irq) { alarm = None }, Rang ∷ []) in
+    let rung : Core × List Label = (record (transfer.core_after_pend c alarm.irq) { alarm = None }, Rang ∷ []) in
     let left : Core × List Label = (c, []) in
     elim (nat_le alarm.instant c.time) as (λ b. (if◌then◌else◌ {A = Core × List Label} b rung left).0.time ≡ c.time) [ true ↦ refl | false ↦ refl ]
 

@@ -15,13 +15,13 @@ use Rattle.rt_code.specs.declared.processor.Request.{Request}
 use Rattle.rt_code.specs.declared.processor.Request.TheVariants as request
 use Rattle.rt_code.specs.declared.processor.Trap.TheVariants as trap
 use Rattle.rt_code.proofs.Touching.{with_memory, aside, effect_alike, access_alike, stores_alike, HaveLoad}
-use Rattle.rt_code.specs.Stack.{interrupted}
+use Rattle.rt_code.specs.Stack.{interrupted_context}
 use Rattle.rt_code.specs.Tables.{argument_count}
 use Rattle.rt_trace.specs.declared.item.What.{What}
 use Rattle.rt_trace.specs.declared.item.What.TheVariants as what
 use Rattle.rt_core.specs.Access.{access_by, access_by_line}
 use Rattle.rt_core.specs.Core.{Core, Context, depth}
-use Rattle.rt_core.specs.Note.{shown_by, slots_from}
+use Rattle.rt_core.specs.Note.{item_of_note, slots_from}
 use Rattle.rt_core.specs.Outcome.{Outcome, Trapped, Done, settle}
 use Rattle.rt_core.specs.Priority.{pick}
 use Rattle.rt_core.specs.Stepping as stepping
@@ -47,22 +47,22 @@ module _ (img : Image) (c : Core) where
   abbrev bare : Core
   bare = with_cells c []
 
-  cut-enter : (irq : ℕ) (h : Option Handler) → cut (transfer.enter img c irq h) ≡ transfer.enter img bare irq h
+  cut-enter : (irq : ℕ) (h : Option Handler) → cut (transfer.exception_entry img c irq h) ≡ transfer.exception_entry img bare irq h
   cut-enter irq None = refl
   cut-enter irq (Some h) =
       cut_if (transfer.has_room img c (entry_words img + h.frame))
-      (Done (transfer.entered c irq h) (Some (what.Take irq (depth img (transfer.entered c irq h))))) (Trapped c trap.Stack)
-      (Done (transfer.entered bare irq h) (Some (what.Take irq (depth img (transfer.entered bare irq h))))) (Trapped bare trap.Stack) refl refl
+      (Done (transfer.core_after_entry c irq h) (Some (what.Take irq (depth img (transfer.core_after_entry c irq h))))) (Trapped c trap.Stack)
+      (Done (transfer.core_after_entry bare irq h) (Some (what.Take irq (depth img (transfer.core_after_entry bare irq h))))) (Trapped bare trap.Stack) refl refl
 
-  cut-resumed : (found : Option (Context × List Context)) → cut (transfer.resumed c found) ≡ transfer.resumed bare found
+  cut-resumed : (found : Option (Context × List Context)) → cut (transfer.outcome_of_return c found) ≡ transfer.outcome_of_return bare found
   cut-resumed None = refl
   cut-resumed (Some found) = refl
 
   cut-call_row : (row : Option BodyRow) (from : ℕ) → cut (transfer.call_row img c row from) ≡ transfer.call_row img bare row from
   cut-call_row None from = refl
   cut-call_row (Some row) from =
-      cut_if (transfer.call_fits img c row from) (Done (transfer.called c row from) None) (Trapped c trap.Stack)
-      (Done (transfer.called bare row from) None) (Trapped bare trap.Stack) refl refl
+      cut_if (transfer.call_fits img c row from) (Done (transfer.core_after_call c row from) None) (Trapped c trap.Stack)
+      (Done (transfer.core_after_call bare row from) None) (Trapped bare trap.Stack) refl refl
 
   cut-back : (caller : Option (List ℕ)) → cut (transfer.back_to c caller) ≡ transfer.back_to bare caller
   cut-back None = refl
@@ -75,9 +75,9 @@ module _ (img : Image) (c : Core) where
   cut-answer (request.Clock time) = refl
   cut-answer (request.Alarm instant irq) =
       cut_if (nat_le instant c.time)
-      (Done (record (transfer.pended c irq) { alarm = None }) (Some what.Alarm))
+      (Done (record (transfer.core_after_pend c irq) { alarm = None }) (Some what.Alarm))
       (Done (record c { alarm = Some (record { instant = instant; irq = irq }) }) (Some what.AlarmSet))
-      (Done (record (transfer.pended bare irq) { alarm = None }) (Some what.Alarm))
+      (Done (record (transfer.core_after_pend bare irq) { alarm = None }) (Some what.Alarm))
       (Done (record bare { alarm = Some (record { instant = instant; irq = irq }) }) (Some what.AlarmSet)) refl refl
   cut-answer request.NoAlarm = refl
   cut-answer (request.Call number from) =
@@ -85,14 +85,14 @@ module _ (img : Image) (c : Core) where
       cut_if (transfer.may_call c) (transfer.call_row img c row from) (Trapped c trap.Stack)
       (transfer.call_row img bare row from) (Trapped bare trap.Stack) (cut-call_row row from) refl
   cut-answer request.Back = cut-back c.caller
-  cut-answer request.Return = cut-resumed (interrupted c.caller c.below)
+  cut-answer request.Return = cut-resumed (interrupted_context c.caller c.below)
 
-plain-noted : (c : Core) (shown : Option What) → plain (stepping.noted c shown) ≡ plain (stepping.noted (with_cells c []) shown)
+plain-noted : (c : Core) (shown : Option What) → plain (stepping.outcome_of_note c shown) ≡ plain (stepping.outcome_of_note (with_cells c []) shown)
 plain-noted c None = refl
 plain-noted c (Some w) = refl
 
 plain-note : (img : Image) (c : Core) (n : Note)
-    → plain (stepping.noted c (shown_by img c n)) ≡ plain (stepping.noted (with_cells c []) (shown_by img (with_cells c []) n))
+    → plain (stepping.outcome_of_note c (item_of_note img c n)) ≡ plain (stepping.outcome_of_note (with_cells c []) (item_of_note img (with_cells c []) n))
 plain-note img c (note.Enter s) = refl
 plain-note img c (note.Leave s) = refl
 plain-note img c (note.Placed t) = refl
@@ -144,9 +144,9 @@ module _ (img : Image) (c : Core) (cells : List ℕ) (long : length cells ≡ le
   attempt_alike : (taken : Option IrqRow) → HaveLoad (access_by img c taken) cells c.processor.cells
       → plain (stepping.attempt img other taken) ≡ plain (stepping.attempt img c taken)
   attempt_alike (Some row) load =
-      sym (plain-cut (transfer.enter img other row.number row.handler))
+      sym (plain-cut (transfer.exception_entry img other row.number row.handler))
       ∙ ap plain (cut-enter img other row.number row.handler ∙ sym (cut-enter img c row.number row.handler))
-      ∙ plain-cut (transfer.enter img c row.number row.handler)
+      ∙ plain-cut (transfer.exception_entry img c row.number row.handler)
   attempt_alike None load = run_alike (slice_get img.code c.processor.address) load
 
   settled_core : (o : Outcome) → with_cells (settle o).0 [] ≡ (settle (plain o)).0

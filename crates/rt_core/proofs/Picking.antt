@@ -72,8 +72,8 @@ found_row img runnable x is =
     let found = passing_found test img.irqs x is same in
     let passes = found_passes test img.irqs found.0 found.1 in
     let numbers : found.0.number ≡ x.number = let t = passes.1 in grind (arith, nat_tests) in
-    let place = runnable.rows.numbers passes.0.0 is.0 found.0 x passes.0.1 is.1 numbers in
-    found.1 ∙ (sym passes.0.1 ∙ ap (slice_get img.irqs) place ∙ is.1)
+    let index = runnable.rows.numbers passes.0.0 is.0 found.0 x passes.0.1 is.1 numbers in
+    found.1 ∙ (sym passes.0.1 ∙ ap (slice_get img.irqs) index ∙ is.1)
 
 pub handler_of_row : (img : Image) → IsRunnable img → (x : IrqRow) → IsIn img.irqs x → handler_of img x.number ≡ x.handler
 handler_of_row img runnable x is = ap (λ o. then_from o (λ row. row.handler)) (found_row img runnable x is)

@@ -10,10 +10,10 @@ use Rattle.rt_trace.specs.declared.item.What.{What}
 use Rattle.rt_core.specs.Core.{Core}
 use Rattle.rt_core.specs.Machine.{Machine}
 use Rattle.rt_core.specs.Outcome.{settle}
-use Rattle.rt_core.specs.Reaching.{Reaches, StepsToItem, giving}
+use Rattle.rt_core.specs.Reaching.{Reaches, StepsToItem, label_of_item}
 use Rattle.rt_core.specs.Stepping.{step}
 use Rattle.rt_core.specs.Trace.{happen, core_after, labels}
-use Rattle.rt_core.specs.Inside.Begun.{left_of}
+use Rattle.rt_core.specs.Inside.Begun.{outcome_of_rest}
 use Rattle.rt_core.specs.declared.step.Begun.{Begun}
 use Rattle.rt_core.proofs.Happening.{core_after-append, labels-append}
 
@@ -79,13 +79,13 @@ one_of_left old now d shown most left first rest is within some =
 
 -- a step that began and was completed
 pub completed : (now mid : Machine) (d : Core) (shown : Option What) (begun : Begun) (came : Result Request Trap) (address : ℕ)
-    → step now.image now.core ≡ settle (left_of now.image mid.core now.core.processor.address begun came) → mid ≡ record now { core = mid.core }
-    → address ≡ now.core.processor.address → settle (left_of mid.image mid.core address begun came) ≡ (d, shown)
+    → step now.image now.core ≡ settle (outcome_of_rest now.image mid.core now.core.processor.address begun came) → mid ≡ record now { core = mid.core }
+    → address ≡ now.core.processor.address → settle (outcome_of_rest mid.image mid.core address begun came) ≡ (d, shown)
     → step now.image now.core ≡ (d, shown)
 completed now mid d shown begun came address begins rest there ends =
     begins
-    ∙ ap (λ (m : Machine). settle (left_of m.image mid.core now.core.processor.address begun came)) (sym rest)
-    ∙ ap (λ a. settle (left_of mid.image mid.core a begun came)) (sym there)
+    ∙ ap (λ (m : Machine). settle (outcome_of_rest m.image mid.core now.core.processor.address begun came)) (sym rest)
+    ∙ ap (λ a. settle (outcome_of_rest mid.image mid.core a begun came)) (sym there)
     ∙ ends
 
 -- only the core changed, and then only the core

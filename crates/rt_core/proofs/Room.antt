@@ -18,14 +18,14 @@ use Rattle.rt_code.specs.declared.processor.Request.{Request}
 use Rattle.rt_code.specs.declared.processor.Request.TheVariants as request
 use Rattle.rt_code.specs.declared.processor.Trap.TheVariants as trap
 use Rattle.rt_code.proofs.Touching.{slots_after, slots_sized}
-use Rattle.rt_code.specs.Stack.{words_of, interrupted, last_slot, caller_frame, arguments_fit}
+use Rattle.rt_code.specs.Stack.{words_of, interrupted_context, last_slot, caller_frame, arguments_fit}
 use Rattle.rt_trace.specs.Label.{Label, Rang}
 use Rattle.rt_trace.specs.declared.item.What.{What}
 use Rattle.rt_trace.specs.declared.item.What.TheVariants as what
 use Rattle.rt_core.specs.declared.alarm.Alarm.{Alarm}
-use Rattle.rt_core.specs.Core.{Core, Context, context_words, used, depth, reset}
+use Rattle.rt_core.specs.Core.{Core, Context, context_words, stack_in_use, depth, reset}
 use Rattle.rt_core.specs.Laws.{KeepsWithinTheRegion}
-use Rattle.rt_core.specs.Note.{shown_by}
+use Rattle.rt_core.specs.Note.{item_of_note}
 use Rattle.rt_core.specs.Outcome.{Outcome, Trapped, Done, settle}
 use Rattle.rt_core.specs.Priority.{pick}
 use Rattle.rt_core.specs.Stepping as stepping
@@ -35,7 +35,7 @@ use Rattle.rt_core.proofs.Happening.{step_by}
 
 module _ (img : Image) where
   abbrev Fits : Core → Type 0
-  Fits c = used img c ≤ img.stack_bytes / 4
+  Fits c = stack_in_use img c ≤ img.stack_bytes / 4
 
   abbrev FitsAfter : Outcome → Type 0
   FitsAfter (Trapped c t) = Fits c
@@ -45,7 +45,7 @@ module _ (img : Image) where
   fits_if true x y f k = f refl
   fits_if false x y f k = k
 
-  noted_fits : (c : Core) (shown : Option What) → Fits c → FitsAfter (stepping.noted c shown)
+  noted_fits : (c : Core) (shown : Option What) → Fits c → FitsAfter (stepping.outcome_of_note c shown)
   noted_fits c None h = h
   noted_fits c (Some w) h = h
 
@@ -54,30 +54,30 @@ module _ (img : Image) where
   with_note_fits None (Done c shown) h = h
   with_note_fits (Some n) (Trapped c t) h = h
   with_note_fits (Some n) (Done c (Some w)) h = h
-  with_note_fits (Some n) (Done c None) h = noted_fits c (shown_by img c n) h
+  with_note_fits (Some n) (Done c None) h = noted_fits c (item_of_note img c n) h
 
   module _ (c : Core) (fits : Fits c) where
-    enter_fits : (irq : ℕ) (h : Option Handler) → FitsAfter (transfer.enter img c irq h)
+    enter_fits : (irq : ℕ) (h : Option Handler) → FitsAfter (transfer.exception_entry img c irq h)
     enter_fits irq None = fits
     enter_fits irq (Some h) =
         let x : Context = record { irq = irq; value = h.value; address = c.processor.address; slots = c.processor.slots; caller = c.caller } in
-        let after : Core = transfer.entered c irq h in
+        let after : Core = transfer.core_after_entry c irq h in
         let more = sum_by-cons (context_words (entry_words img)) x c.below in
         fits_if (transfer.has_room img c (entry_words img + h.frame)) (Done after (Some (what.Take irq (depth img after)))) (Trapped c trap.Stack)
-        (λ room. omega (arith, more, length-replicate {A = ℕ} h.frame 0, leb-true (used img c + (entry_words img + h.frame)) (img.stack_bytes / 4) room)) fits
+        (λ room. omega (arith, more, length-replicate {A = ℕ} h.frame 0, leb-true (stack_in_use img c + (entry_words img + h.frame)) (img.stack_bytes / 4) room)) fits
 
     resumed_fits : (caller : Option (List ℕ)) (below : List Context)
         → length (words_of caller) + length c.processor.slots + sum_by (context_words (entry_words img)) below ≤ img.stack_bytes / 4
-        → FitsAfter (transfer.resumed c (interrupted caller below))
+        → FitsAfter (transfer.outcome_of_return c (interrupted_context caller below))
     resumed_fits None [] h = fits
     resumed_fits None (x ∷ below) h = omega (arith, h, sum_by-cons (context_words (entry_words img)) x below)
     resumed_fits (Some slots) [] h = fits
     resumed_fits (Some slots) (x ∷ below) h = fits
 
-    called_fits : (row : BodyRow) (from : ℕ) → transfer.call_fits img c row from ≡ true → Fits (transfer.called c row from)
+    called_fits : (row : BodyRow) (from : ℕ) → transfer.call_fits img c row from ≡ true → Fits (transfer.core_after_call c row from)
     called_fits row from test =
         let arguments = and_left (arguments_fit c.processor.slots row from) (transfer.has_room img c row.frame) test in
-        let room = leb-true (used img c + row.frame) (img.stack_bytes / 4) (and_right (arguments_fit c.processor.slots row from) (transfer.has_room img c row.frame) test) in
+        let room = leb-true (stack_in_use img c + row.frame) (img.stack_bytes / 4) (and_right (arguments_fit c.processor.slots row from) (transfer.has_room img c row.frame) test) in
         let few = leb-true row.args row.frame (and_right ((row.args == 0) || nat_le (from + row.args) (length c.processor.slots)) (nat_le row.args row.frame) arguments) in
         let caller : List ℕ = caller_frame c.processor.slots (suc c.processor.address) in
         let same = length-set c.processor.slots (last_slot c.processor.slots) (suc c.processor.address) in
@@ -88,7 +88,7 @@ module _ (img : Image) where
     call_row_fits : (row : Option BodyRow) (from : ℕ) → FitsAfter (transfer.call_row img c row from)
     call_row_fits None from = fits
     call_row_fits (Some row) from =
-        fits_if (transfer.call_fits img c row from) (Done (transfer.called c row from) None) (Trapped c trap.Stack) (called_fits row from) fits
+        fits_if (transfer.call_fits img c row from) (Done (transfer.core_after_call c row from) None) (Trapped c trap.Stack) (called_fits row from) fits
 
     back_fits : (caller : Option (List ℕ)) → length (words_of caller) + length c.processor.slots + sum_by (context_words (entry_words img)) c.below ≤ img.stack_bytes / 4
         → FitsAfter (transfer.back_to c caller)
@@ -101,7 +101,7 @@ module _ (img : Image) where
     answer_fits (request.Post irq) = fits
     answer_fits (request.Clock time) = fits
     answer_fits (request.Alarm instant irq) =
-        fits_if (nat_le instant c.time) (Done (record (transfer.pended c irq) { alarm = None }) (Some what.Alarm))
+        fits_if (nat_le instant c.time) (Done (record (transfer.core_after_pend c irq) { alarm = None }) (Some what.Alarm))
         (Done (record c { alarm = Some (record { instant = instant; irq = irq }) }) (Some what.AlarmSet)) (λ due. fits) fits
     answer_fits request.NoAlarm = fits
     answer_fits (request.Call number from) =
@@ -138,7 +138,7 @@ module _ (img : Image) where
 
   rung_fits : (c : Core) (alarm : Option Alarm) → Fits c → Fits (ring c alarm).0
   rung_fits c None fits = fits
-  rung_fits c (Some alarm) fits = one (nat_le alarm.instant c.time) (record (transfer.pended c alarm.irq) { alarm = None }) c fits fits
+  rung_fits c (Some alarm) fits = one (nat_le alarm.instant c.time) (record (transfer.core_after_pend c alarm.irq) { alarm = None }) c fits fits
     where
       one : (due : Bool) (x y : Core) → Fits x → Fits y → Fits (if◌then◌else◌ {A = Core × List Label} due (x, Rang ∷ []) (y, [])).0
       one true x y h k = h

@@ -10,7 +10,7 @@ use Rattle.rt_core.specs.Stepping.{step}
 use Rattle.rt_core.specs.Trace.{happen, labels, trace}
 use Rattle.rt_core.proofs.RowParts.{enabled, plain, noted, core_steps, at}
 
--- A = 3 and B = 7, both of one level
+-- A = 3 and B = 7, both of one priority
 two : Image
 two = record {
   bits = 4;
@@ -26,7 +26,7 @@ two = record {
   names = record { irqs = (codes "A", 3) ∷ (codes "B", 7) ∷ []; tasks = codes "b" ∷ codes "a" ∷ []; shared = [] };
 }
 
--- of two pending interrupts of one level the lower number is taken first, and the other one right after its return
+-- of two pending interrupts of one priority the lower number is taken first, and the other one right after its return
 lower_number_first : trace two (Arrive 7 ∷ Arrive 3 ∷ core_steps 20)
     ≡ at 0 (what.Pend 7) ∷ at 0 (what.Pend 3) ∷ at 0 (what.End body.Init)
     ∷ at 1 (what.Take 3 40) ∷ at 3 (what.Emit 10) ∷ at 4 (what.Ret 3)
@@ -45,7 +45,7 @@ extended_frames : trace extended (Arrive 7 ∷ Arrive 3 ∷ core_steps 20)
 unfolding two extended labels happen step
 extended_frames = refl
 
--- LO = 0, MID = 1 and HI = 2, of three levels
+-- LO = 0, MID = 1 and HI = 2, of three priorities
 three : Image
 three = record {
   bits = 4;
@@ -66,16 +66,16 @@ three = record {
   };
 }
 
--- a higher level preempts at once, and the handlers return in the opposite order
-higher_level_preempts : trace three (core_steps 1 ++ Arrive 0 ∷ core_steps 1 ++ Arrive 1 ∷ core_steps 1 ++ Arrive 2 ∷ core_steps 20)
+-- a higher priority preempts at once, and the handlers return in the opposite order
+higher_priority_preempts : trace three (core_steps 1 ++ Arrive 0 ∷ core_steps 1 ++ Arrive 1 ∷ core_steps 1 ++ Arrive 2 ∷ core_steps 20)
     ≡ at 0 (what.End body.Init) ∷ at 1 (what.Pend 0) ∷ at 1 (what.Take 0 40)
     ∷ at 2 (what.Pend 1) ∷ at 2 (what.Take 1 80) ∷ at 3 (what.Pend 2) ∷ at 3 (what.Take 2 120)
     ∷ at 5 (what.Emit 3) ∷ at 6 (what.Ret 2) ∷ at 8 (what.Emit 2) ∷ at 9 (what.Ret 1)
     ∷ at 11 (what.Emit 1) ∷ at 12 (what.Ret 0) ∷ []
 unfolding three labels happen step
-higher_level_preempts = refl
+higher_priority_preempts = refl
 
--- a pend of the handler that runs is kept, and it is entered again after its return
+-- a pend of the handler that runs is kept, and it is taken again after its return
 pend_of_active_is_kept : trace three (core_steps 1 ++ Arrive 0 ∷ core_steps 2 ++ Arrive 0 ∷ core_steps 20)
     ≡ at 0 (what.End body.Init) ∷ at 1 (what.Pend 0) ∷ at 1 (what.Take 0 40) ∷ at 3 (what.Pend 0)
     ∷ at 3 (what.Emit 1) ∷ at 4 (what.Ret 0) ∷ at 5 (what.Take 0 40) ∷ at 7 (what.Emit 1) ∷ at 8 (what.Ret 0) ∷ []

@@ -29,14 +29,14 @@ own = record {
   names = record { irqs = (codes "A", 0) ∷ []; tasks = codes "a" ∷ []; shared = codes "s" ∷ [] };
 }
 
--- a lock whose ceiling is the handler's own level masks nothing; its leave shows the new value
-lock_at_own_level : trace own (Arrive 0 ∷ core_steps 100)
+-- a lock whose ceiling is the handler's own priority masks nothing; its leave shows the new value
+lock_at_own_priority : trace own (Arrive 0 ∷ core_steps 100)
     ≡ at 0 (what.Pend 0) ∷ at 0 (what.End body.Init) ∷ at 1 (what.Take 0 48)
     ∷ at 2 (what.Enter (section.Res 0)) ∷ at 7 (what.Leave (section.Res 0) (Some 6)) ∷ at 8 (what.Ret 0) ∷ []
 unfolding own labels happen step
-lock_at_own_level = refl
+lock_at_own_priority = refl
 
--- LO = 0 of the lowest level and TOP = 1 of the highest, whose priority value is 0, lock s
+-- LO = 0 of the lowest priority and TOP = 1 of the highest, whose priority value is 0, lock s
 top : Image
 top = record {
   bits = 3;
@@ -55,17 +55,17 @@ top = record {
   names = record { irqs = (codes "LO", 0) ∷ (codes "TOP", 1) ∷ []; tasks = codes "lo" ∷ codes "hi" ∷ []; shared = codes "s" ∷ [] };
 }
 
--- no BASEPRI masks the highest level, so its ceiling takes PRIMASK: TOP waits for the leave
-ceiling_of_the_highest_level : trace top (Arrive 0 ∷ core_steps 200)
+-- no BASEPRI masks the highest priority, so its ceiling takes PRIMASK: TOP waits for the leave
+ceiling_of_the_highest_priority : trace top (Arrive 0 ∷ core_steps 200)
     ≡ at 0 (what.Pend 0) ∷ at 0 (what.End body.Init) ∷ at 1 (what.Take 0 40)
     ∷ at 2 (what.Enter (section.Res 0)) ∷ at 5 (what.Post 1) ∷ at 8 (what.Leave (section.Res 0) (Some 2))
     ∷ at 9 (what.Take 1 80) ∷ at 10 (what.Enter (section.Res 0)) ∷ at 12 (what.Emit 2)
     ∷ at 13 (what.Leave (section.Res 0) (Some 2)) ∷ at 14 (what.Ret 1)
     ∷ at 16 (what.Emit 9) ∷ at 17 (what.Ret 0) ∷ []
 unfolding top labels happen step
-ceiling_of_the_highest_level = refl
+ceiling_of_the_highest_priority = refl
 
--- L = 0, M = 1 and H = 2, of three levels: L locks a, whose ceiling is M's level, and in it b, whose ceiling is H's
+-- L = 0, M = 1 and H = 2, of three priorities: L locks a, whose ceiling is M's priority, and in it b, whose ceiling is H's
 nest : Image
 nest = record {
   bits = 4;

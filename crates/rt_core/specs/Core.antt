@@ -11,9 +11,9 @@ use Rattle.rt_code.specs.Stack as stack
 use Rattle.rt_context.specs.Frames.{Saved, Frames, words}
 use Rattle.rt_core.specs.declared.alarm.Alarm.{Alarm}
 
--- a handler that was entered, and what it interrupted
+-- an active handler, and what it interrupted
 pub record Context : Type 0 where
-  -- the interrupt that was entered, and its priority value
+  -- the interrupt that was taken, and its priority value
   pub irq : ℕ
   pub value : ℕ
   -- the code address to return to
@@ -33,7 +33,7 @@ pub record Core : Type 0 where
   pub processor : Processor
   -- where a called body runs, the frame of the handler that called it
   pub caller : Option (List ℕ)
-  -- the handlers entered and not left, the last entered first
+  -- the active handlers, the last taken first
   pub below : List Context
   -- a trap came
   pub stopped : Bool
@@ -62,12 +62,12 @@ abbrev pub context_words : ℕ → Context → ℕ
 context_words entry x = stack.context_words entry x.caller x.slots
 
 -- the stack words in use
-abbrev pub used : Image → Core → ℕ
-used img c = stack.used (context_words (entry_words img)) c.caller c.processor.slots c.below
+abbrev pub stack_in_use : Image → Core → ℕ
+stack_in_use img c = stack.words_in_use (context_words (entry_words img)) c.caller c.processor.slots c.below
 
 -- the stack bytes in use
 abbrev pub depth : Image → Core → ℕ
-depth img c = 4 * used img c
+depth img c = 4 * stack_in_use img c
 
 -- the exception number of what runs (ARMv7-M Architecture Reference Manual, section B1.5.2): interrupt n is the
 -- exception 16 + n, and the thread has 0
@@ -76,10 +76,10 @@ exception_number [] = 0
 exception_number (x ∷ below) = 16 + x.irq
 
 -- the contexts as they lie in frames, each with the exception number of what it interrupted
-abbrev pub saved : List Context → List Saved
-saved [] = []
-saved (x ∷ below) =
-    record { number = exception_number below; address = x.address; slots = x.slots; caller = x.caller } ∷ saved below
+abbrev pub saved_contexts : List Context → List Saved
+saved_contexts [] = []
+saved_contexts (x ∷ below) =
+    record { number = exception_number below; address = x.address; slots = x.slots; caller = x.caller } ∷ saved_contexts below
 
 -- the frames of a core in its stack region
 abbrev pub frames_of : Image → Core → Frames
@@ -88,7 +88,7 @@ frames_of img c = record {
   entry = entry_words img;
   slots = c.processor.slots;
   caller = c.caller;
-  below = saved c.below;
+  below = saved_contexts c.below;
 }
 
 -- the words of the stack region

@@ -39,8 +39,8 @@ abbrev pub at_address : Core → ℕ → Core
 at_address c address = with_processor c (record c.processor { address = address })
 
 -- the core at another address, with interrupts served from now on
-abbrev pub served : Core → ℕ → Core
-served c address = with_processor c (record c.processor { address = address; primask = false })
+abbrev pub core_serving : Core → ℕ → Core
+core_serving c address = with_processor c (record c.processor { address = address; primask = false })
 
 -- the core behind a called body, in its handler's frame
 abbrev pub in_frame : Core → List ℕ → Core

@@ -2,7 +2,7 @@
 -- PRIMASK).
 use Rattle.std.specs.Prelude.{ℕ, suc, ◌<◌, ◌≤◌, ◌==◌, true, List, length, slice_index}
 use Rattle.rt_ids.specs.Operation.{number_of}
-use Rattle.rt_code.specs.Masking.{saving}
+use Rattle.rt_code.specs.Masking.{slots_with_mask}
 use Rattle.rt_code.specs.Owning.{Kind, Marked, Raised, Masked}
 use Rattle.rt_code.specs.Processor.{Processor}
 
@@ -31,10 +31,10 @@ CanPutBack (Raised slot) slots = slot < length slots
 CanPutBack (Masked slot) slots = (slot < length slots) × (slice_index slots slot ≤ 1)
 
 -- behind the instruction that opens a section of a kind: its mask is set, and what it was is saved
-abbrev pub opened : Processor → ℕ → Kind → Processor
-opened p value kind =
-    record (with_mask p value kind) { address = suc p.address; slots = saving kind (mask_of p kind) p.slots }
+abbrev pub processor_after_opening : Processor → ℕ → Kind → Processor
+processor_after_opening p value kind =
+    record (with_mask p value kind) { address = suc p.address; slots = slots_with_mask kind (mask_of p kind) p.slots }
 
 -- behind the instruction that closes a section of a kind: its mask is put back
-abbrev pub closed : Processor → Kind → Processor
-closed p kind = record (with_saved p kind) { address = suc p.address }
+abbrev pub processor_after_closing : Processor → Kind → Processor
+processor_after_closing p kind = record (with_saved p kind) { address = suc p.address }

@@ -26,18 +26,18 @@ slots_from c from n =
     then Some (take n (drop from c.processor.slots)) else None
 
 -- the item of a note
-abbrev pub shown_by : Image → Core → Note → Option What
-shown_by img c (note.Enter s) = Some (what.Enter s)
-shown_by img c (note.Leave s) = Some (what.Leave s (left_value img c s))
-shown_by img c (note.Placed t) = Some (what.Placed t)
-shown_by img c (note.Full t) = Some (what.Full t)
-shown_by img c (note.Ready t) = Some (what.Ready t)
-shown_by img c (note.Start t from) = option_map (what.Start t) (slots_from c from (argument_count img t))
-shown_by img c (note.Free t) = Some (what.Free t)
-shown_by img c (note.Arm t s) = option_map (what.Arm t) (slice_get c.processor.slots s)
-shown_by img c (note.Fire t) = Some (what.Fire t)
-shown_by img c (note.Cancel t s) = option_map (what.Cancel t) (slice_get c.processor.slots s)
-shown_by img c (note.Move t s a) =
+abbrev pub item_of_note : Image → Core → Note → Option What
+item_of_note img c (note.Enter s) = Some (what.Enter s)
+item_of_note img c (note.Leave s) = Some (what.Leave s (left_value img c s))
+item_of_note img c (note.Placed t) = Some (what.Placed t)
+item_of_note img c (note.Full t) = Some (what.Full t)
+item_of_note img c (note.Ready t) = Some (what.Ready t)
+item_of_note img c (note.Start t from) = option_map (what.Start t) (slots_from c from (argument_count img t))
+item_of_note img c (note.Free t) = Some (what.Free t)
+item_of_note img c (note.Arm t s) = option_map (what.Arm t) (slice_get c.processor.slots s)
+item_of_note img c (note.Fire t) = Some (what.Fire t)
+item_of_note img c (note.Cancel t s) = option_map (what.Cancel t) (slice_get c.processor.slots s)
+item_of_note img c (note.Move t s a) =
     let slots = c.processor.slots in
     then_from (slice_get slots s) (λ handle. option_map (what.Move t handle) (slice_get slots a))
-shown_by img c (note.End b) = Some (what.End b)
+item_of_note img c (note.End b) = Some (what.End b)

@@ -15,9 +15,9 @@ and_the_last silent None = silent
 and_the_last silent (Some w) = suc silent
 
 -- the step that gives an item, where there is one
-abbrev pub giving : Option What → List Label
-giving None = []
-giving (Some w) = Stepped (Some w) ∷ []
+abbrev pub label_of_item : Option What → List Label
+label_of_item None = []
+label_of_item (Some w) = Stepped (Some w) ∷ []
 
 -- So many steps lead from the old core to the new one. Where there is an item the last of them gives it, and the others
 -- are silent; where there is none all are silent.
@@ -25,7 +25,7 @@ pub record Reaches (img : Image) (old new : Core) (done : ℕ) (shown : Option W
   pub silent : ℕ
   pub count : done ≡ and_the_last silent shown
   pub core : new ≡ core_after img old (replicate done Step)
-  pub shows : labels img old (replicate done Step) ≡ replicate silent (Stepped None) ++ giving shown
+  pub shows : labels img old (replicate done Step) ≡ replicate silent (Stepped None) ++ label_of_item shown
 
 -- Steps lead from the old machine to the new one up to the first that gives an item, at most so many: where none gives
 -- one these are done, and no other.

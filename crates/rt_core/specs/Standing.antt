@@ -4,7 +4,7 @@
 use Rattle.std.specs.Prelude.{◌≡◌, ℕ, suc, ◌^◌, ◌<◌, true, false, List, ◌∷◌, Option, Some, None}
 use Rattle.rt_ids.specs.Lists.{is_empty}
 use Rattle.rt_ids.specs.Action.{Action, Emits, Posts, Clocks, Ends, Returns}
-use Rattle.rt_ids.specs.Storage.{Storage, Runner, Starting, AtLevel}
+use Rattle.rt_ids.specs.Storage.{Storage, Runner, Starting, AtPriority}
 use Rattle.rt_ids.specs.declared.ids.BodyId.TheVariants as body
 use Rattle.rt_ids.specs.declared.ids.Section.{Section}
 use Rattle.rt_code.specs.Acting.{Acts, SetsTheAlarm, Noted}
@@ -12,20 +12,20 @@ use Rattle.rt_code.specs.Image.{Image}
 use Rattle.rt_code.specs.Masking.{GoesIn, ComesOut}
 use Rattle.rt_code.specs.Owning.{Spot, MayAccess}
 use Rattle.rt_code.specs.Processor.{Processor}
-use Rattle.rt_code.specs.Standing.{Finishes, Calls, ComesBack, HaveLeft, Stands, moved, passed}
+use Rattle.rt_code.specs.Standing.{Finishes, Calls, ComesBack, HaveLeft, Stands, spot_behind, spot_after_step}
 use Rattle.rt_code.specs.declared.instr.Instr.{Instr}
 use Rattle.rt_code.specs.declared.instr.Note.{Note}
 use Rattle.rt_trace.specs.declared.item.What.{What}
 use Rattle.rt_trace.specs.declared.item.What.TheVariants as what
 use Rattle.rt_core.specs.Access.{access}
 use Rattle.rt_core.specs.Core.{Core, Context}
-use Rattle.rt_core.specs.Leading.{IsAt, GoesPlainly, with_processor, at_address, served, in_frame, in_context, item_of}
-use Rattle.rt_core.specs.Masks.{CanPutBack, opened, closed}
+use Rattle.rt_core.specs.Leading.{IsAt, GoesPlainly, with_processor, at_address, core_serving, in_frame, in_context, item_of}
+use Rattle.rt_core.specs.Masks.{CanPutBack, processor_after_opening, processor_after_closing}
 use Rattle.rt_core.specs.Note.{left_value}
 use Rattle.rt_core.specs.Outcome.{settle}
 use Rattle.rt_core.specs.Priority.{pick}
 use Rattle.rt_core.specs.Stepping.{step}
-use Rattle.rt_core.specs.Transfer.{pended, called, has_room, set_alarm}
+use Rattle.rt_core.specs.Transfer.{core_after_pend, core_after_call, has_room, set_alarm}
 
 module _ (img : Image) (st : Storage) (thread : ℕ) (who : Runner) (c : Core) (s : Spot) (later : Spot → Type 0) where
   -- a core step leads to this core, and gives this item
@@ -34,54 +34,54 @@ module _ (img : Image) (st : Storage) (thread : ℕ) (who : Runner) (c : Core) (
 
   -- the job's next action, behind an instruction that leads to this processor
   abbrev pub ActsBehind : Processor → Action → ℕ → Type 0
-  ActsBehind p action answer = Acts st img.bodies who action answer (moved (passed s) p) later
+  ActsBehind p action answer = Acts st img.bodies who action answer (spot_behind (spot_after_step s) p) later
 
   -- this action ends the job here, with no section open and nothing in its hands
   abbrev pub EndsHere : Action → Type 0
-  EndsHere action = Finishes st img.code img.bodies thread who action (passed s)
+  EndsHere action = Finishes st img.code img.bodies thread who action (spot_after_step s)
 
   -- By what instruction the core steps. A plain one leads the processor to another state, a step nearer to each end.
   pub data StepsBy : Type 0 where
     -- nothing that is seen
     BySilence : (p : Processor) → GoesPlainly s c.processor p → Gives (with_processor c p) None
-        → later (moved (passed s) p) → StepsBy
+        → later (spot_behind (spot_after_step s) p) → StepsBy
     -- a move of a place, or none found
     ByNote : (p : Processor) → GoesPlainly s c.processor p → (told : Note)
-        → (noted : Noted st img.bodies who told (moved (passed s) p) later)
-        → Gives (with_processor c p) (Some (item_of st img.bodies who later told (moved (passed s) p) noted)) → StepsBy
+        → (noted : Noted st img.bodies who told (spot_behind (spot_after_step s) p) later)
+        → Gives (with_processor c p) (Some (item_of st img.bodies who later told (spot_behind (spot_after_step s) p) noted)) → StepsBy
     ByEmit : (p : Processor) → GoesPlainly s c.processor p → (value : ℕ)
         → Gives (with_processor c p) (Some (what.Emit value)) → ActsBehind p (Emits value) 0 → StepsBy
     ByPost : (p : Processor) → GoesPlainly s c.processor p → (irq : ℕ)
-        → Gives (pended (with_processor c p) irq) (Some (what.Post irq)) → ActsBehind p (Posts irq) 0 → StepsBy
+        → Gives (core_after_pend (with_processor c p) irq) (Some (what.Post irq)) → ActsBehind p (Posts irq) 0 → StepsBy
     ByClock : (p : Processor) → GoesPlainly s c.processor p
         → Gives (with_processor c p) (Some (what.Clock c.time)) → ActsBehind p Clocks c.time → StepsBy
     ByAlarm : (p : Processor) → GoesPlainly s c.processor p → (instant irq : ℕ) → st.timer ≡ Some irq
         → step img c ≡ settle (set_alarm (with_processor c p) instant irq)
-        → SetsTheAlarm st img.bodies who (Some instant) (moved (passed s) p) later → StepsBy
+        → SetsTheAlarm st img.bodies who (Some instant) (spot_behind (spot_after_step s) p) later → StepsBy
     ByNoAlarm : (p : Processor) → GoesPlainly s c.processor p
         → Gives (record c { processor = p; alarm = None }) (Some what.AlarmSet)
-        → SetsTheAlarm st img.bodies who None (moved (passed s) p) later → StepsBy
+        → SetsTheAlarm st img.bodies who None (spot_behind (spot_after_step s) p) later → StepsBy
     -- a section opens: its mask is set, and what it was is saved
-    ByEnter : (x : Section) (i : Instr) → (goes : GoesIn st who x i (passed s) later)
-        → Gives (with_processor c (opened c.processor (st.value (st.ceiling x)) goes.kind)) (Some (what.Enter x))
+    ByEnter : (x : Section) (i : Instr) → (goes : GoesIn st who x i (spot_after_step s) later)
+        → Gives (with_processor c (processor_after_opening c.processor (st.value (st.ceiling x)) goes.kind)) (Some (what.Enter x))
         → StepsBy
     -- a section closes: its mask is put back
-    ByLeave : (x : Section) (i : Instr) → (comes : ComesOut st who x i (passed s) later)
+    ByLeave : (x : Section) (i : Instr) → (comes : ComesOut st who x i (spot_after_step s) later)
         → (CanPutBack comes.kind c.processor.slots
-        → Gives (with_processor c (closed c.processor comes.kind)) (Some (what.Leave x (left_value img c x))))
+        → Gives (with_processor c (processor_after_closing c.processor comes.kind)) (Some (what.Leave x (left_value img c x))))
         → StepsBy
     -- a handler calls a body, where the body's frame has room
-    ByCall : (row from : ℕ) → (calls : Calls st img.code img.bodies thread who row from (passed s) later)
+    ByCall : (row from : ℕ) → (calls : Calls st img.code img.bodies thread who row from (spot_after_step s) later)
         → (is_empty c.below ≡ false → has_room img c calls.called.frame ≡ true
-        → Gives (called c calls.called from) None)
+        → Gives (core_after_call c calls.called from) None)
         → StepsBy
     -- and the body's end leads back to the handler
-    ByBack : (t : ℕ) → (back : ComesBack st img.code img.bodies thread who t (passed s) later)
+    ByBack : (t : ℕ) → (back : ComesBack st img.code img.bodies thread who t (spot_after_step s) later)
         → Gives (in_frame c back.frame) (Some (what.End (body.Task t))) → StepsBy
     -- the thread goes on at its address, at the end of `init` with interrupts served
     ByEndOfInit : who ≡ Starting → EndsHere (Ends body.Init)
-        → Gives (served c thread) (Some (what.End body.Init)) → StepsBy
-    ByEndOfIdle : who ≡ AtLevel 0 → EndsHere (Ends body.Idle)
+        → Gives (core_serving c thread) (Some (what.End body.Init)) → StepsBy
+    ByEndOfIdle : who ≡ AtPriority 0 → EndsHere (Ends body.Idle)
         → Gives (at_address c thread) (Some (what.End body.Idle)) → StepsBy
     -- a handler returns, and what it interrupted runs on
     ByReturn : EndsHere Returns

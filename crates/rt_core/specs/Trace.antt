@@ -7,13 +7,13 @@ use Rattle.rt_trace.specs.declared.item.Item.{Item}
 use Rattle.rt_core.specs.declared.alarm.Alarm.{Alarm}
 use Rattle.rt_core.specs.Core.{Core, reset, depth}
 use Rattle.rt_core.specs.Stepping.{step}
-use Rattle.rt_core.specs.Transfer.{pended}
+use Rattle.rt_core.specs.Transfer.{core_after_pend}
 
 -- the alarm comes where its instant is not later than the time
 abbrev pub ring : Core → Option Alarm → Core × List Label
 ring c None = (c, [])
 ring c (Some alarm) =
-    if nat_le alarm.instant c.time then (record (pended c alarm.irq) { alarm = None }, Rang ∷ []) else (c, [])
+    if nat_le alarm.instant c.time then (record (core_after_pend c alarm.irq) { alarm = None }, Rang ∷ []) else (c, [])
 
 -- a tick: the time rises by one, and then the alarm may come
 abbrev pub tick : Core → Core × List Label
@@ -21,7 +21,7 @@ tick c = ring (record c { time = suc c.time }) c.alarm
 
 -- one event: the core after it, and what it shows
 unfoldable pub happen : Image → Core → Event → Core × List Label
-happen img c (Arrive irq) = (pended c irq, Arrived irq ∷ [])
+happen img c (Arrive irq) = (core_after_pend c irq, Arrived irq ∷ [])
 happen img c Tick = ((tick c).0, Ticked ∷ (tick c).1)
 happen img c Step = ((step img c).0, Stepped (step img c).1 ∷ [])
 

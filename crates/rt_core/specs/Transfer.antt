@@ -8,20 +8,20 @@ use Rattle.rt_code.specs.declared.image.BodyRow.{BodyRow}
 use Rattle.rt_code.specs.declared.processor.Trap.TheVariants as trap
 use Rattle.rt_code.specs.Stack as stack
 use Rattle.rt_trace.specs.declared.item.What.TheVariants as what
-use Rattle.rt_core.specs.Core.{Core, Context, used, depth}
+use Rattle.rt_core.specs.Core.{Core, Context, stack_in_use, depth}
 use Rattle.rt_core.specs.Outcome.{Outcome, Trapped, Done}
 
 -- whether so many words more fit into the stack region
 abbrev pub has_room : Image → Core → ℕ → Bool
-has_room img c n = stack.has_room (img.stack_bytes / 4) (used img c) n
+has_room img c n = stack.has_room (img.stack_bytes / 4) (stack_in_use img c) n
 
 -- an interrupt is pending from now on
-abbrev pub pended : Core → ℕ → Core
-pended c irq = record c { pending = slice_set c.pending irq true }
+abbrev pub core_after_pend : Core → ℕ → Core
+core_after_pend c irq = record c { pending = slice_set c.pending irq true }
 
 -- the core behind exception entry (ARMv7-M Architecture Reference Manual, section B1.5.6)
-abbrev pub entered : Core → ℕ → Handler → Core
-entered c irq h = record c {
+abbrev pub core_after_entry : Core → ℕ → Handler → Core
+core_after_entry c irq h = record c {
   pending = slice_set c.pending irq false;
   processor = record c.processor { address = h.entry; slots = replicate h.frame 0 };
   caller = None;
@@ -32,23 +32,23 @@ entered c irq h = record c {
 
 -- exception entry where there is room for what it pushes and for the frame of the handler, and a trap where there is
 -- none
-abbrev pub enter : Image → Core → ℕ → Option Handler → Outcome
-enter img c irq None = Done c None
-enter img c irq (Some h) =
+abbrev pub exception_entry : Image → Core → ℕ → Option Handler → Outcome
+exception_entry img c irq None = Done c None
+exception_entry img c irq (Some h) =
     if has_room img c (entry_words img + h.frame)
-    then Done (entered c irq h) (Some (what.Take irq (depth img (entered c irq h)))) else Trapped c trap.Stack
+    then Done (core_after_entry c irq h) (Some (what.Take irq (depth img (core_after_entry c irq h)))) else Trapped c trap.Stack
 
 -- the core behind exception return (section B1.5.8): what was interrupted runs on
-abbrev pub resumed : Core → Option (Context × List Context) → Outcome
-resumed c None = Trapped c trap.Stack
-resumed c (Some found) =
+abbrev pub outcome_of_return : Core → Option (Context × List Context) → Outcome
+outcome_of_return c None = Trapped c trap.Stack
+outcome_of_return c (Some found) =
     let x = found.0 in
     let after = record c.processor { address = x.address; slots = x.slots } in
     Done (record c { processor = after; caller = x.caller; below = found.1 }) (Some (what.Ret x.irq))
 
 -- exception return from the running handler, or a trap where there is nothing to return to
-abbrev pub return : Core → Outcome
-return c = resumed c (stack.interrupted c.caller c.below)
+abbrev pub exception_return : Core → Outcome
+exception_return c = outcome_of_return c (stack.interrupted_context c.caller c.below)
 
 -- whether what runs may call a body: it is a handler's own code, whose frame has a slot for the return address
 abbrev pub may_call : Core → Bool
@@ -60,8 +60,8 @@ abbrev pub call_fits : Image → Core → BodyRow → ℕ → Bool
 call_fits img c row from = stack.arguments_fit c.processor.slots row from && has_room img c row.frame
 
 -- a call returns to the next address
-abbrev pub called : Core → BodyRow → ℕ → Core
-called c row from =
+abbrev pub core_after_call : Core → BodyRow → ℕ → Core
+core_after_call c row from =
     let caller = stack.caller_frame c.processor.slots (suc c.processor.address) in record c {
       processor = record c.processor { address = row.entry; slots = stack.body_frame caller row from };
       caller = Some caller;
@@ -71,7 +71,7 @@ called c row from =
 abbrev pub call_row : Image → Core → Option BodyRow → ℕ → Outcome
 call_row img c None from = Trapped c trap.Jump
 call_row img c (Some row) from =
-    if call_fits img c row from then Done (called c row from) None else Trapped c trap.Stack
+    if call_fits img c row from then Done (core_after_call c row from) None else Trapped c trap.Stack
 
 -- a call of a body by the number of its row, with its arguments in the slots from one on
 abbrev pub call : Image → Core → ℕ → ℕ → Outcome
@@ -91,5 +91,5 @@ back c = back_to c c.caller
 -- setting the alarm to an instant: one that is not later than the time comes at once
 abbrev pub set_alarm : Core → ℕ → ℕ → Outcome
 set_alarm c instant irq =
-    if nat_le instant c.time then Done (record (pended c irq) { alarm = None }) (Some what.Alarm)
+    if nat_le instant c.time then Done (record (core_after_pend c irq) { alarm = None }) (Some what.Alarm)
     else Done (record c { alarm = Some (record { instant = instant; irq = irq }) }) (Some what.AlarmSet)

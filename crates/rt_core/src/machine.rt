@@ -18,8 +18,8 @@ use rt_code::{Image, Registers};
 use rt_context::Frames;
 use rt_ids::limits::IRQ_NUMBERS;
 use rt_ids::{CellRow, Irq, NoMemory};
+use rt_image_tables::Program;
 use rt_nvic::Nvic;
-use rt_program::Program;
 use std::alloc::Global;
 use std::marker::Model;
 

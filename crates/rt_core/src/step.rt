@@ -10,7 +10,7 @@ ghost use Rattle.rt_core.specs.Note as notes;
 ghost use Rattle.rt_core.specs.Stepping as stepping;
 ghost use Rattle.rt_core.specs.Reaching.{Reaches, StepsToItem};
 ghost use Rattle.rt_core.specs.Inside.Came.{Comes, effect_of, note_at};
-ghost use Rattle.rt_core.specs.Inside.Begun.{left_of};
+ghost use Rattle.rt_core.specs.Inside.Begun.{outcome_of_rest};
 
 use crate::alarm::Alarm;
 use crate::execution::{changes_a_mask, execution_of};
@@ -27,7 +27,7 @@ const FIRST_EXCEPTION: u32 = 16;
 enum Begun {
     /// It is done, and gives nothing.
     Silent,
-    /// An interrupt is to be entered.
+    /// An interrupt is to be taken.
     Entry(Irq),
     /// An instruction is done that asks nothing of the core; the item of its note is to be given.
     Noted,
@@ -37,7 +37,7 @@ enum Begun {
 
 impl Core {
     /// The interrupt that is taken next.
-    fn picked(&self) -> Option<Irq>
+    fn irq_to_take(&self) -> Option<Irq>
         ensures { result ≡ option_map (λ row. row.number) (priority.pick self.now.image self.now.core) }
     {
         self.nvic.pick(self.execution)
@@ -54,7 +54,7 @@ impl Core {
     }
 
     /// Exception entry.
-    fn enter(&mut self, irq: Irq) -> Result<Option<What>, Trap>
+    fn exception_entry(&mut self, irq: Irq) -> Result<Option<What>, Trap>
         requires { option_map (λ row. row.number) (priority.pick self.old.image self.old.core) ≡ Some irq }
         ensures outcome { Comes result self.new.core
             (stepping.attempt self.old.image self.old.core (priority.pick self.old.image self.old.core)) }
@@ -77,7 +77,7 @@ impl Core {
     }
 
     /// Exception return.
-    fn leave(&mut self) -> Result<Option<What>, Trap>
+    fn exception_return(&mut self) -> Result<Option<What>, Trap>
         ensures outcome { Comes result self.new.core (stepping.answer self.old.image self.old.core request.Return) }
         ensures rest { self.new ≡ record self.old { core = self.new.core } }
     {
@@ -160,7 +160,7 @@ impl Core {
             }
             Request::Call(row, from) => self.call(row, from),
             Request::Back => self.back(),
-            Request::Return => self.leave(),
+            Request::Return => self.exception_return(),
         }
     }
 
@@ -203,8 +203,8 @@ impl Core {
 
     /// The item of a note, and None where a slot that it names is not in the frame.
     #[inline(always)]
-    fn shown_by(&self, note: Note) -> Option<What>
-        ensures { result ≡ notes.shown_by self.now.image self.now.core note }
+    fn item_of_note(&self, note: Note) -> Option<What>
+        ensures { result ≡ notes.item_of_note self.now.image self.now.core note }
     {
         match note {
             Note::Enter(section) => Some(What::Enter(section)),
@@ -278,7 +278,7 @@ impl Core {
         let asked = came?;
         let shown = self.answer(asked)?;
         match (note, shown) {
-            (Some(note), None) => Ok(Some(self.shown_by(note).ok_or(Trap::Stack)?)),
+            (Some(note), None) => Ok(Some(self.item_of_note(note).ok_or(Trap::Stack)?)),
             (_, shown) => Ok(shown),
         }
     }
@@ -314,7 +314,7 @@ impl Core {
             ≡ (self.new.core, result) }
         ensures rest { self.new ≡ record self.old { core = self.new.core } }
     {
-        let came = self.enter(irq);
+        let came = self.exception_entry(irq);
         self.settle(came)
     }
 
@@ -352,7 +352,7 @@ impl Core {
         let Some(note) = self.note_at(address) else {
             return None;
         };
-        match self.shown_by(note) {
+        match self.item_of_note(note) {
             Some(what) => Some(what),
             None => self.stop(Trap::Stack),
         }
@@ -363,7 +363,7 @@ impl Core {
     fn go(&mut self, came: &mut Result<Request, Trap>) -> Begun
         ensures begun { stepping.run self.old.image self.old.core
             (slice_get self.old.image.code self.old.core.processor.address)
-            ≡ left_of self.old.image self.new.core self.old.core.processor.address result came.new }
+            ≡ outcome_of_rest self.old.image self.new.core self.old.core.processor.address result came.new }
         ensures inside { (irq : ℕ) → result ≢ Begun.Entry irq }
         ensures next { result ≡ Begun.Asked → (row from : ℕ) → came.new ≡ Ok (request.Call row from)
             → self.new.core.processor.address + 1 < 2 ^ 32 }
@@ -388,7 +388,7 @@ impl Core {
     #[inline(always)]
     fn begin(&mut self, came: &mut Result<Request, Trap>) -> Begun
         ensures begun { stepping.step self.old.image self.old.core
-            ≡ settle (left_of self.old.image self.new.core self.old.core.processor.address result came.new) }
+            ≡ settle (outcome_of_rest self.old.image self.new.core self.old.core.processor.address result came.new) }
         ensures entry { (irq : ℕ) → result ≡ Begun.Entry irq
             → option_map (λ row. row.number) (priority.pick self.new.image self.new.core) ≡ Some irq }
         ensures next { result ≡ Begun.Asked → (row from : ℕ) → came.new ≡ Ok (request.Call row from)
@@ -398,7 +398,7 @@ impl Core {
         if self.stopped {
             return Begun::Silent;
         }
-        if let Some(irq) = self.picked() {
+        if let Some(irq) = self.irq_to_take() {
             return Begun::Entry(irq);
         }
         self.go(came)

@@ -21,7 +21,7 @@ use Rattle.rt_run.proofs.Scripted.{events_more}
 use Rattle.rt_run.proofs.Reached.{reached_leads, reached_nothing, reached_item}
 use Rattle.rt_count.specs.Summary.{summary_of}
 use Rattle.rt_count.specs.Joining.{IsWithin}
-use Rattle.rt_count.specs.Inside.Adding.{counted}
+use Rattle.rt_count.specs.Inside.Adding.{summary_with_item}
 use Rattle.rt_count.specs.Inside.Counting.{Counted}
 use Rattle.rt_count.specs.declared.summary.Summary.{Summary}
 use Rattle.rt_count.proofs.Items.{summary_push}
@@ -80,11 +80,11 @@ steps_silent most a b s shown goes none =
 
 -- and others, of which the last shows an item
 pub steps_shown : (most : ℕ) (a b : Machine) (s t : Summary) (shown : Option What) (w : What) (goes : StepsToItem most a b shown) → shown ≡ Some w
-    → t ≡ counted s w → Counted (replicate goes.done Step) a b s t
+    → t ≡ summary_with_item s w → Counted (replicate goes.done Step) a b s t
 steps_shown most a b s t shown w goes some more = record {
   leads = reached_leads most a b shown goes;
   counts = λ runs items is.
-      more ∙ ap (λ (before : Summary). counted before w) is ∙ summary_push (b.steps - 1) w items runs
+      more ∙ ap (λ (before : Summary). summary_with_item before w) is ∙ summary_push (b.steps - 1) w items runs
       ∙ ap (λ behind. summary_of runs (items ++ behind)) (sym (reached_item most a b shown w goes some));
 }
 

@@ -10,9 +10,9 @@ use Rattle.rt_ids.proofs.Greatest.{greatest_append}
 use Rattle.rt_trace.specs.declared.item.Item.{Item}
 use Rattle.rt_trace.specs.declared.item.What.{What}
 use Rattle.rt_trace.specs.declared.item.What.TheVariants as what
-use Rattle.rt_count.specs.Summary.{is_take, is_emit, is_full, emitted, depth_of, summary_of}
-use Rattle.rt_count.specs.Joining.{joined}
-use Rattle.rt_count.specs.Inside.Adding.{counted}
+use Rattle.rt_count.specs.Summary.{is_take, is_emit, is_full, emitted_value, depth_of, summary_of}
+use Rattle.rt_count.specs.Joining.{joined_summary}
+use Rattle.rt_count.specs.Inside.Adding.{summary_with_item}
 use Rattle.rt_count.specs.declared.summary.Summary.{Summary}
 
 abbrev numbers : (runs takes emits full sum depth : ℕ) → Summary
@@ -46,13 +46,13 @@ most-append value xs ys =
 
 -- runs and more runs behind them
 pub summary-append : (m n : ℕ) (xs ys : List Item)
-    → joined (summary_of m xs) (summary_of n ys) ≡ summary_of (m + n) (xs ++ ys)
+    → joined_summary (summary_of m xs) (summary_of n ys) ≡ summary_of (m + n) (xs ++ ys)
 summary-append m n xs ys =
     same_numbers (m + n) _ _ _ _ _ _ _ _ _ _ (many-append is_take xs ys) (many-append is_emit xs ys)
     (many-append is_full xs ys)
-    (mod-add-mod (total emitted xs) (2 ^ 64) (total emitted ys % 2 ^ 64)
-    ∙ add-mod-mod (total emitted xs) (total emitted ys) (2 ^ 64)
-    ∙ ap (λ k. k % 2 ^ 64) (total-append emitted xs ys))
+    (mod-add-mod (total emitted_value xs) (2 ^ 64) (total emitted_value ys % 2 ^ 64)
+    ∙ add-mod-mod (total emitted_value xs) (total emitted_value ys) (2 ^ 64)
+    ∙ ap (λ k. k % 2 ^ 64) (total-append emitted_value xs ys))
     (most-append depth_of xs ys)
 
 abbrev numbered : ℕ → What → Item
@@ -88,27 +88,27 @@ module _ (n : ℕ) (w : What) (items : List Item) where
   nothing_mod value is = ap (λ k. k % 2 ^ 64) (nothing value is)
 
   -- an item that is none of those that are counted
-  other : (runs : ℕ) → is_take w ≡ false → is_emit w ≡ false → is_full w ≡ false → emitted w ≡ 0 → depth_of w ≡ 0
+  other : (runs : ℕ) → is_take w ≡ false → is_emit w ≡ false → is_full w ≡ false → emitted_value w ≡ 0 → depth_of w ≡ 0
       → summary_of runs items ≡ summary_of runs (items ++ numbered n w ∷ [])
   other runs take emit full sum depth =
       same_numbers runs _ _ _ _ _ _ _ _ _ _ (not_one is_take take) (not_one is_emit emit) (not_one is_full full)
-      (nothing_mod emitted sum) (not_greater depth_of depth)
+      (nothing_mod emitted_value sum) (not_greater depth_of depth)
 
 -- an item more
 pub summary_push : (n : ℕ) (w : What) (items : List Item) (runs : ℕ)
-    → counted (summary_of runs items) w ≡ summary_of runs (items ++ numbered n w ∷ [])
+    → summary_with_item (summary_of runs items) w ≡ summary_of runs (items ++ numbered n w ∷ [])
 summary_push n (what.Take irq depth) items runs =
     let w : What = what.Take irq depth in
     same_numbers runs _ _ _ _ _ _ _ _ _ _ (one n w items is_take refl) (not_one n w items is_emit refl)
-    (not_one n w items is_full refl) (nothing_mod n w items emitted refl) (most_push n w items depth_of)
+    (not_one n w items is_full refl) (nothing_mod n w items emitted_value refl) (most_push n w items depth_of)
 summary_push n (what.Emit value) items runs =
     let w : What = what.Emit value in
     same_numbers runs _ _ _ _ _ _ _ _ _ _ (not_one n w items is_take refl) (one n w items is_emit refl)
     (not_one n w items is_full refl)
-    (mod-add-mod (total emitted items) (2 ^ 64) value ∙ ap (λ k. k % 2 ^ 64) (total_push n w items emitted))
+    (mod-add-mod (total emitted_value items) (2 ^ 64) value ∙ ap (λ k. k % 2 ^ 64) (total_push n w items emitted_value))
     (not_greater n w items depth_of refl)
 summary_push n (what.Full task) items runs =
     let w : What = what.Full task in
     same_numbers runs _ _ _ _ _ _ _ _ _ _ (not_one n w items is_take refl) (not_one n w items is_emit refl)
-    (one n w items is_full refl) (nothing_mod n w items emitted refl) (not_greater n w items depth_of refl)
+    (one n w items is_full refl) (nothing_mod n w items emitted_value refl) (not_greater n w items depth_of refl)
 summary_push n w items runs = other n w items runs refl refl refl refl refl

@@ -3,8 +3,8 @@ use Rattle.std.specs.Prelude.{ℕ, ◌+◌, ◌%◌, ◌<◌, ◌≤◌, ◌^◌
 use Rattle.rt_count.specs.declared.summary.Summary.{Summary}
 
 -- the summary of some runs and of other runs behind them, of which these are the summaries
-abbrev pub joined : Summary → Summary → Summary
-joined s t = record {
+abbrev pub joined_summary : Summary → Summary → Summary
+joined_summary s t = record {
   runs = s.runs + t.runs;
   takes = s.takes + t.takes;
   emits = s.emits + t.emits;

@@ -23,9 +23,9 @@ is_full (what.Full task) = true
 is_full w = false
 
 -- the value that is emitted, and 0 where none is
-abbrev pub emitted : What → ℕ
-emitted (what.Emit value) = value
-emitted w = 0
+abbrev pub emitted_value : What → ℕ
+emitted_value (what.Emit value) = value
+emitted_value w = 0
 
 -- the stack bytes in use behind an exception entry, and 0 where there is none
 abbrev pub depth_of : What → ℕ
@@ -39,6 +39,6 @@ summary_of runs items = record {
   takes = count_by (λ item. is_take item.what) items;
   emits = count_by (λ item. is_emit item.what) items;
   full = count_by (λ item. is_full item.what) items;
-  sum = sum_by (λ item. emitted item.what) items % 2 ^ 64;
+  sum = sum_by (λ item. emitted_value item.what) items % 2 ^ 64;
   depth = greatest (map (λ item. depth_of item.what) items);
 }

@@ -1,7 +1,7 @@
 ghost use Rattle.std.specs.Prelude.{◌≡◌, ◌^◌, [], ◌++◌, IfOk, OnOk};
 ghost use Rattle.rt_count.specs.Summary as spec;
-ghost use Rattle.rt_count.specs.Joining.{joined, IsWithin, HasRoom};
-ghost use Rattle.rt_count.specs.Inside.Adding.{counted};
+ghost use Rattle.rt_count.specs.Joining.{joined_summary, IsWithin, HasRoom};
+ghost use Rattle.rt_count.specs.Inside.Adding.{summary_with_item};
 ghost use Rattle.rt_count.specs.Text as text;
 
 use itoa::Buffer;
@@ -45,7 +45,7 @@ impl Summary {
     #[inline(always)]
     pub(crate) fn count(&mut self, what: &What)
         requires { IsWithin (2 ^ 31) self.old }
-        ensures { self.new ≡ counted self.old what.now }
+        ensures { self.new ≡ summary_with_item self.old what.now }
     {
         match what {
             What::Take(_, depth) => {
@@ -64,7 +64,7 @@ impl Summary {
     /// Counts other runs behind these.
     pub fn join(&mut self, other: &Summary)
         requires { HasRoom self.old other.now }
-        ensures { self.new ≡ joined self.old other.now }
+        ensures { self.new ≡ joined_summary self.old other.now }
     {
         self.runs += other.runs;
         self.takes += other.takes;

@@ -5,12 +5,12 @@ use Rattle.std.specs.Prelude.{ℕ, ◌+◌, ◌%◌, List, ◌++◌, flat_map, c
 use Rattle.rt_ids.specs.Lists.{numbers_below}
 
 -- bytes and a number in decimal
-abbrev pub numbered : List ℕ → ℕ → List ℕ
-numbered bytes n = bytes ++ decimal n
+abbrev pub text_with_number : List ℕ → ℕ → List ℕ
+text_with_number bytes n = bytes ++ decimal n
 
 -- the interrupt of hardware task k, behind those that are always declared
 abbrev pub interrupt : ℕ → List ℕ
-interrupt k = numbered (codes ", I") k ++ numbered (codes " = ") k
+interrupt k = text_with_number (codes ", I") k ++ text_with_number (codes " = ") k
 
 -- what is always declared
 abbrev pub head : List ℕ
@@ -44,21 +44,21 @@ common =
 -- Hardware task k: its name and options, its lock of resource k mod 4, and its messages.
 abbrev pub options : ℕ → List ℕ
 options k =
-    numbered (codes "task h") k ++ numbered (codes "(binds = I") k
-    ++ numbered (codes ", priority = ") (3 + k % 12)
-    ++ numbered (codes ", shared = [r") (k % 4) ++ codes "]) {\n"
+    text_with_number (codes "task h") k ++ text_with_number (codes "(binds = I") k
+    ++ text_with_number (codes ", priority = ") (3 + k % 12)
+    ++ text_with_number (codes ", shared = [r") (k % 4) ++ codes "]) {\n"
 
 -- the section of a task: it adds the task's number to the resource that it locks
 abbrev pub section : ℕ → List ℕ
 section k =
-    numbered (codes "    lock r") (k % 4) ++ numbered (codes " {\n        r") (k % 4)
-    ++ numbered (codes " = r") (k % 4) ++ numbered (codes " + ") k ++ codes ";\n    }\n"
+    text_with_number (codes "    lock r") (k % 4) ++ text_with_number (codes " {\n        r") (k % 4)
+    ++ text_with_number (codes " = r") (k % 4) ++ text_with_number (codes " + ") k ++ codes ";\n    }\n"
 
 -- the messages of a task: one at once, and one after a delay, both with the task's number
 abbrev pub messages : ℕ → List ℕ
 messages k =
-    numbered (codes "    spawn work(") k ++ numbered (codes ");\n    spawn_after(") k
-    ++ numbered (codes ") later(") k ++ codes ");\n}\n"
+    text_with_number (codes "    spawn work(") k ++ text_with_number (codes ");\n    spawn_after(") k
+    ++ text_with_number (codes ") later(") k ++ codes ");\n}\n"
 
 -- the whole text of a task
 abbrev pub task : ℕ → List ℕ

@@ -124,7 +124,7 @@ fn push_messages(out: &mut Vec<u8>, k: u8) -> Result<(), NoMemory>
 
 /// Appends bytes and a number.
 fn push_numbered(out: &mut Vec<u8>, bytes: &[u8], number: u8) -> Result<(), NoMemory>
-    ensures { OnOk result (out.new.items ≡ out.old.items ++ spec.numbered bytes.now number) }
+    ensures { OnOk result (out.new.items ≡ out.old.items ++ spec.text_with_number bytes.now number) }
 {
     push_bytes(out, bytes)?;
     push_number(out, u32::from(number))

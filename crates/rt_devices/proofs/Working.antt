@@ -10,18 +10,18 @@ use Rattle.rt_lemmas.proofs.Lists.{flat_map_next}
 use Rattle.rt_words.specs.declared.call.Call.{Call}
 use Rattle.rt_words.specs.Lines.{Line}
 use Rattle.rt_devices.specs.declared.device.Device.{Device}
-use Rattle.rt_devices.specs.Work.{requests, asked_by, is_raised, is_merged, counted, Works}
+use Rattle.rt_devices.specs.Work.{requests, interrupt_asked, is_raised, is_merged, saturating_count, Works}
 
-counted-add : (from m n : ℕ) → counted from (m + n) ≡ counted (counted from m) n
-counted-add from m zero = let e : m + 0 ≡ m = omega arith in ap (counted from) e
+counted-add : (from m n : ℕ) → saturating_count from (m + n) ≡ saturating_count (saturating_count from m) n
+counted-add from m zero = let e : m + 0 ≡ m = omega arith in ap (saturating_count from) e
 counted-add from m (suc n) =
     let e : m + suc n ≡ suc (m + n) = omega arith in
-    ap (counted from) e ∙ ap (λ k. min (k + 1) (2 ^ 64 - 1)) (counted-add from m n)
+    ap (saturating_count from) e ∙ ap (λ k. min (k + 1) (2 ^ 64 - 1)) (counted-add from m n)
 
 counted-append : (test : Call → Bool) (from : ℕ) (cs ds : List Call)
-    → counted from (count_by test (cs ++ ds)) ≡ counted (counted from (count_by test cs)) (count_by test ds)
+    → saturating_count from (count_by test (cs ++ ds)) ≡ saturating_count (saturating_count from (count_by test cs)) (count_by test ds)
 counted-append test from cs ds =
-    ap (counted from) (sum_by-append (λ c. cond (test c) 1 0) cs ds)
+    ap (saturating_count from) (sum_by-append (λ c. cond (test c) 1 0) cs ds)
     ∙ counted-add from (count_by test cs) (count_by test ds)
 
 pub works_none : (a : Device) → Works [] a a
@@ -40,16 +40,16 @@ pub works_on : (irqs more : List ℕ) (a b c : Device) → Works irqs a b → Wo
 works_on irqs more a b c p q = record {
   calls = p.calls ++ q.calls;
   asked =
-      map-append asked_by p.calls q.calls ∙ (λ i. p.asked i ++ q.asked i)
+      map-append interrupt_asked p.calls q.calls ∙ (λ i. p.asked i ++ q.asked i)
       ∙ sym (map-append (λ (irq : ℕ). Some irq) irqs more);
   line =
       q.line ∙ ap (λ (l : Line). record l { calls = l.calls ++ q.calls }) p.line
       ∙ ap (λ (cs : List Call). record a.line { calls = cs }) (append_assoc a.line.calls p.calls q.calls);
   raised =
-      q.raised ∙ ap (λ n. counted n (count_by is_raised q.calls)) p.raised
+      q.raised ∙ ap (λ n. saturating_count n (count_by is_raised q.calls)) p.raised
       ∙ sym (counted-append is_raised a.raised p.calls q.calls);
   merged =
-      q.merged ∙ ap (λ n. counted n (count_by is_merged q.calls)) p.merged
+      q.merged ∙ ap (λ n. saturating_count n (count_by is_merged q.calls)) p.merged
       ∙ sym (counted-append is_merged a.merged p.calls q.calls);
   number = q.number ∙ p.number;
   script = q.script ∙ p.script;
@@ -63,7 +63,7 @@ calls_length irqs a b p =
       arith,
       ap (λ (l : Line). length l.calls) p.line,
       length-append a.line.calls p.calls,
-      length-map p.calls asked_by,
+      length-map p.calls interrupt_asked,
       length-map irqs (λ (irq : ℕ). Some irq),
       ap length p.asked,
     )

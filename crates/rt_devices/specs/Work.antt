@@ -11,9 +11,9 @@ abbrev pub requests : List (ℕ × ℕ) → List ℕ
 requests script = flat_map (λ entry. replicate entry.1 entry.0) script
 
 -- the interrupt that a call asked for
-abbrev pub asked_by : Call → Option ℕ
-asked_by (Pend irq answer) = Some irq
-asked_by (Latch k word) = None
+abbrev pub interrupt_asked : Call → Option ℕ
+interrupt_asked (Pend irq answer) = Some irq
+interrupt_asked (Latch k word) = None
 
 -- a pend that found its interrupt not pending
 abbrev pub is_raised : Call → Bool
@@ -28,17 +28,17 @@ is_merged (Pend irq Merged) = true
 is_merged (Latch k word) = false
 
 -- a count that rises by one so many times, and stands still at its type's end
-abbrev pub counted : ℕ → ℕ → ℕ
-counted from zero = from
-counted from (suc times) = min (counted from times + 1) (2 ^ 64 - 1)
+abbrev pub saturating_count : ℕ → ℕ → ℕ
+saturating_count from zero = from
+saturating_count from (suc times) = min (saturating_count from times + 1) (2 ^ 64 - 1)
 
 -- The device has called its line further, and asked for just these interrupts, in this order, each once. It has counted
 -- the answers of these calls.
 pub record Works (irqs : List ℕ) (old new : Device) : Type 0 where
   pub calls : List Call
-  pub asked : map asked_by calls ≡ map (λ irq. Some irq) irqs
+  pub asked : map interrupt_asked calls ≡ map (λ irq. Some irq) irqs
   pub line : new.line ≡ record old.line { calls = old.line.calls ++ calls }
-  pub raised : new.raised ≡ counted old.raised (count_by is_raised calls)
-  pub merged : new.merged ≡ counted old.merged (count_by is_merged calls)
+  pub raised : new.raised ≡ saturating_count old.raised (count_by is_raised calls)
+  pub merged : new.merged ≡ saturating_count old.merged (count_by is_merged calls)
   pub number : new.number ≡ old.number
   pub script : new.script.items ≡ old.script.items

@@ -22,7 +22,7 @@ use Rattle.rt_words.specs.Object.{IsPending}
 use Rattle.rt_live.specs.Account.{declared_irqs}
 use Rattle.rt_live.specs.Inside.Able.{IsAble, MayArrive}
 use Rattle.rt_live.specs.Ready.{IsCounted}
-use Rattle.rt_live.specs.Weave.{Looks}
+use Rattle.rt_live.specs.Interleaving.{Looks}
 use Rattle.rt_live.proofs.Readied.{declared_at}
 use Rattle.rt_dual.specs.Course.{turns}
 use Rattle.rt_dual.specs.Forwarded.{enables, forward, namesake}
@@ -33,8 +33,8 @@ use Rattle.rt_dual.specs.Inside.Ringing.{AreRoutes, MayRing}
 use Rattle.rt_dual.specs.Inside.Running.{CanRun, Ends}
 use Rattle.rt_dual.specs.declared.half.Half.{Half}
 use Rattle.rt_dual.specs.declared.pairing.Both.{Both}
-use Rattle.rt_dual.specs.declared.place.Place.{Place}
-use Rattle.rt_dual.specs.declared.place.Place.TheVariants.{First, Second}
+use Rattle.rt_dual.specs.declared.core_id.CoreId.{CoreId}
+use Rattle.rt_dual.specs.declared.core_id.CoreId.TheVariants.{First, Second}
 use Rattle.rt_dual.specs.declared.side.Side.{Side}
 use Rattle.rt_dual.proofs.Halving.{counted_empty}
 use Rattle.rt_dual.proofs.Owning.{own_few}
@@ -97,15 +97,15 @@ are_routes img other routes low there above irq = elim (cases_lt irq IRQ_NUMBERS
         (unnamed_above img.names.irqs irq (λ i is. omega (arith, low i is, more)))
 
 -- the declared interrupts of a core for which words are made are in range
-pub in_range : (names : Names) (place : Place) (half : Half) (side far : Side)
-    → IsMade names (number_of (other_of place)) half.words side.line far.bell half.rows.items
+pub in_range : (names : Names) (core_id : CoreId) (half : Half) (side far : Side)
+    → IsMade names (number_of (other_of core_id)) half.words side.line far.bell half.rows.items
     → (i : ℕ) → Contains (declared_irqs names) i → i < IRQ_NUMBERS
-in_range names place half side far made i there = made.in_range i ((made.may i).1 there)
+in_range names core_id half side far made i there = made.in_range i ((made.may i).1 there)
 
 -- a core can run on its side
-module _ (place : Place) (m : Machine) (other : Image) (half far_half : Half) (side far : Side) (fresh : IsFresh m)
-    (lines : HasLines m.image) (before : IsBefore place m.image other half side far)
-    (beyond : IsBefore (other_of place) other m.image far_half far side) (script : List Line)
+module _ (core_id : CoreId) (m : Machine) (other : Image) (half far_half : Half) (side far : Side) (fresh : IsFresh m)
+    (lines : HasLines m.image) (before : IsBefore core_id m.image other half side far)
+    (beyond : IsBefore (other_of core_id) other m.image far_half far side) (script : List Line)
     (scripted : IsScript script) where
   abbrev names : Names
   names = m.image.names
@@ -134,11 +134,11 @@ module _ (place : Place) (m : Machine) (other : Image) (half far_half : Half) (s
   }
 
 -- the words of a core can be closed when both have ended
-module _ (place : Place) (m : Machine) (other : Image) (half half' : Half) (side side' far far' : Side)
-    (before : IsBefore place m.image other half side far) (same : half' ≡ half) (script : List Line)
-    (scripted : IsScript script) (n o p : Machine) (run : Ends (turns (events_at place script)) m n side side')
-    (ran : Ends (turns (events_at (other_of place) script)) o p far far') where
-  number_is : far'.bell.number ≡ number_of (other_of place)
+module _ (core_id : CoreId) (m : Machine) (other : Image) (half half' : Half) (side side' far far' : Side)
+    (before : IsBefore core_id m.image other half side far) (same : half' ≡ half) (script : List Line)
+    (scripted : IsScript script) (n o p : Machine) (run : Ends (turns (events_at core_id script)) m n side side')
+    (ran : Ends (turns (events_at (other_of core_id) script)) o p far far') where
+  number_is : far'.bell.number ≡ number_of (other_of core_id)
   number_is = ap (λ (l : BellLine). l.number) ran.rings.line ∙ ap (λ (l : BellLine). l.number) before.made.silent
 
   words_are : half'.words ≡ half.words
@@ -161,13 +161,13 @@ module _ (place : Place) (m : Machine) (other : Image) (half half' : Half) (side
           arith,
           ran.few,
           ap (λ (l : BellLine). length l.calls) before.made.silent,
-          length-append (own_turns (other_of place) script) (Looks ∷ []),
-          own_few (other_of place) script,
+          length-append (own_turns (other_of core_id) script) (Looks ∷ []),
+          own_few (other_of core_id) script,
           scripted.few,
         );
     empty =
         subst (AllByRecursion (IsCounted [])) (sym (ap (λ (h : Half). h.rows.items) same ∙ before.made.empty))
-        (counted_empty (declared_irqs m.image.names) (in_range m.image.names place half side far before.made));
+        (counted_empty (declared_irqs m.image.names) (in_range m.image.names core_id half side far before.made));
   }
 
 -- both can be

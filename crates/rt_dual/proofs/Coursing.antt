@@ -11,7 +11,7 @@ use Rattle.rt_code.specs.Image.{Image}
 use Rattle.rt_core.specs.Core.{Core, reset}
 use Rattle.rt_core.specs.Machine.{Machine, IsFresh}
 use Rattle.rt_core.specs.Trace.{labels, trace}
-use Rattle.rt_devices.specs.Work.{asked_by}
+use Rattle.rt_devices.specs.Work.{interrupt_asked}
 use Rattle.rt_listing.specs.Listing.{listing}
 use Rattle.rt_run.specs.Done.{Leads}
 use Rattle.rt_run.specs.Sending.{shown_items, lines_of}
@@ -27,33 +27,33 @@ use Rattle.rt_words.specs.Lines.{Row, Core as CoreLine, Line as BellLine}
 use Rattle.rt_live.specs.Account.{account_of, account_text, declared_irqs}
 use Rattle.rt_live.specs.Inside.Working.{empty_row}
 use Rattle.rt_live.specs.Ready.{irqs_of}
-use Rattle.rt_live.specs.Weave.{latches, weave}
+use Rattle.rt_live.specs.Interleaving.{latches, interleaving}
 use Rattle.rt_live.specs.declared.account.AccountRow.{AccountRow}
-use Rattle.rt_dual.specs.Course.{Course, IsCourse, turns, woven, shown, first_events, second_events}
-use Rattle.rt_dual.specs.Forwarded.{forward, forward_of, forwarded}
+use Rattle.rt_dual.specs.Course.{Course, IsCourse, turns, course_events, course_items, first_events, second_events}
+use Rattle.rt_dual.specs.Forwarded.{forward, forward_of, forwarded_irqs}
 use Rattle.rt_dual.specs.Output.{IsPairText, account, core_text, course_text}
 use Rattle.rt_dual.specs.Inside.Both.{IsBefore, AreBefore, HaveEnded, IsWritten}
 use Rattle.rt_dual.specs.Inside.Halves.{IsMade, Settles, front}
 use Rattle.rt_dual.specs.Inside.Own.{events_at, number_of, other_of, line_of}
-use Rattle.rt_dual.specs.Inside.Ringing.{AreRoutes, rung_by, rung_of}
+use Rattle.rt_dual.specs.Inside.Ringing.{AreRoutes, irq_rung, irqs_rung}
 use Rattle.rt_dual.specs.Inside.Running.{Ends}
 use Rattle.rt_dual.specs.declared.half.Half.{Half}
 use Rattle.rt_dual.specs.declared.pairing.Both.{Both}
-use Rattle.rt_dual.specs.declared.place.Place.{Place}
-use Rattle.rt_dual.specs.declared.place.Place.TheVariants.{First, Second}
+use Rattle.rt_dual.specs.declared.core_id.CoreId.{CoreId}
+use Rattle.rt_dual.specs.declared.core_id.CoreId.TheVariants.{First, Second}
 use Rattle.rt_dual.specs.declared.side.Side.{Side}
 use Rattle.rt_dual.proofs.Halving.{irqs_empty}
 
 -- the table pends what the definition forwards
 module _ (img : Image) (other : Names) (routes : List (Option ℕ)) (are : AreRoutes img other routes) where
-  one_forwarded : (w : What) → rung_by routes w ≡ forward_of img other w
+  one_forwarded : (w : What) → irq_rung routes w ≡ forward_of img other w
   one_forwarded (what.Post irq) = are irq
   one_forwarded w = refl
 
-  pub all_forwarded : (items : List Item) → rung_of routes items ≡ forwarded img other items
+  pub all_forwarded : (items : List Item) → irqs_rung routes items ≡ forwarded_irqs img other items
   all_forwarded [] = refl
   all_forwarded (x ∷ items) =
-      ap (λ (o : Option ℕ). cons_option o (rung_of routes items)) (one_forwarded x.what)
+      ap (λ (o : Option ℕ). cons_option o (irqs_rung routes items)) (one_forwarded x.what)
       ∙ ap (cons_option (forward_of img other x.what)) (all_forwarded items)
 
 -- what a fresh core shows is the trace of its image
@@ -78,26 +78,26 @@ module _ (other : Image) (es : List Event) (m n : Machine) (fresh : IsFresh m) (
   pub known : side'.bell.number ≡ k
   known = ap (λ (l : BellLine). l.number) run.rings.line ∙ ap (λ (l : BellLine). l.number) silent
 
-  pub rang : map asked_by side'.bell.calls
-      ≡ map (λ irq. Some irq) (forwarded m.image other.names (trace m.image (weave (turns es) run.found)))
+  pub rang : map interrupt_asked side'.bell.calls
+      ≡ map (λ irq. Some irq) (forwarded_irqs m.image other.names (trace m.image (interleaving (turns es) run.found)))
   rang =
-      ap (λ (l : BellLine). map asked_by l.calls) run.rings.line
-      ∙ ap (λ (l : BellLine). map asked_by (l.calls ++ run.rings.calls)) silent
+      ap (λ (l : BellLine). map interrupt_asked l.calls) run.rings.line
+      ∙ ap (λ (l : BellLine). map interrupt_asked (l.calls ++ run.rings.calls)) silent
       ∙ run.rings.asked
       ∙ ap (map (λ irq. Some irq))
-      (all_forwarded m.image other.names side.routes are (shown_items m (weave (turns es) run.found))
-      ∙ ap (forwarded m.image other.names) (fresh_items m fresh (weave (turns es) run.found)))
+      (all_forwarded m.image other.names side.routes are (shown_items m (interleaving (turns es) run.found))
+      ∙ ap (forwarded_irqs m.image other.names) (fresh_items m fresh (interleaving (turns es) run.found)))
 
 -- one of the cores, with its side before and behind its run; the other core's side is the far one
-module _ (place : Place) (other : Image) (es : List Event) (m n : Machine) (half half' : Half) (side side' far far' : Side)
-    (fresh : IsFresh m) (before : IsBefore place m.image other half side far) (same : half' ≡ half)
+module _ (core_id : CoreId) (other : Image) (es : List Event) (m n : Machine) (half half' : Half) (side side' far far' : Side)
+    (fresh : IsFresh m) (before : IsBefore core_id m.image other half side far) (same : half' ≡ half)
     (run : Ends (turns es) m n side side') (rows : List AccountRow)
     (closed : Settles side'.line.calls far'.bell (irqs_of half'.rows.items) rows) where
   abbrev course : Course
   course = record { found = run.found; history = closed.history; left = closed.left }
 
-  pub is_course : (pends : List ℕ) → map asked_by far'.bell.calls ≡ map (λ irq. Some irq) pends
-      → far'.bell.number ≡ number_of (other_of place) → IsCourse es (number_of (other_of place)) pends course
+  pub is_course : (pends : List ℕ) → map interrupt_asked far'.bell.calls ≡ map (λ irq. Some irq) pends
+      → far'.bell.number ≡ number_of (other_of core_id) → IsCourse es (number_of (other_of core_id)) pends course
   is_course pends rings number_is = record {
     many = run.many;
     whole = run.whole;
@@ -106,21 +106,21 @@ module _ (place : Place) (other : Image) (es : List Event) (m n : Machine) (half
         closed.core ∙ run.latched
         ∙ ap (λ (l : CoreLine). l.calls ++ flat_map latches run.found) before.made.unused;
     pended =
-        ap (λ k. map asked_by (part closed.history k)) (sym number_is) ∙ ap (map asked_by) closed.other ∙ rings;
+        ap (λ k. map interrupt_asked (part closed.history k)) (sym number_is) ∙ ap (map interrupt_asked) closed.other ∙ rings;
     others = λ number ne other_ne. closed.others number ne (λ e. other_ne (e ∙ number_is));
   }
 
   -- and its text
   pub core_written : half'.front.items ++ (side'.trace.bytes.items ++ account_text m.image.names rows)
-      ≡ core_text (line_of place) m.image es course
+      ≡ core_text (line_of core_id) m.image es course
   core_written =
-      let head : List ℕ = front place m.image in
+      let head : List ℕ = front core_id m.image in
       let told : List ℕ = course_text m.image es course in
       ap (λ f. f ++ (side'.trace.bytes.items ++ account_text m.image.names rows))
       (ap (λ (h : Half). h.front.items) same ∙ before.front)
       ∙ ap (λ t. head ++ (t ++ account_text m.image.names rows))
-      (run.kept ∙ ap (λ x. x ++ (lines_of m (weave (turns es) run.found) ++ total_text n.steps)) before.kept
-      ∙ fresh_text m fresh (weave (turns es) run.found) n run.leads)
+      (run.kept ∙ ap (λ x. x ++ (lines_of m (interleaving (turns es) run.found) ++ total_text n.steps)) before.kept
+      ∙ fresh_text m fresh (interleaving (turns es) run.found) n run.leads)
       ∙ ap (λ rs. head ++ (told ++ account_text m.image.names rs))
       (closed.account
       ∙ ap (λ irqs. account_of irqs (calls_in closed.history) closed.left)
@@ -149,7 +149,7 @@ pair_text script a a' b b' old new bytes fresh_a fresh_b before ended written =
       is_one =
           is_course First b.image (first_events script) a a' old.one new.one old.left new.left old.right new.right fresh_a
           before.one ended.one ended.left written.one written.one_settled
-          (forwarded b.image a.image.names (shown b.image (second_events script) two))
+          (forwarded_irqs b.image a.image.names (course_items b.image (second_events script) two))
           (rang a.image (second_events script) b b' fresh_b old.right new.right old.one.words 2 before.one.made.silent
           before.two.routes ended.right)
           (known a.image (second_events script) b b' fresh_b old.right new.right old.one.words 2 before.one.made.silent
@@ -157,7 +157,7 @@ pair_text script a a' b b' old new bytes fresh_a fresh_b before ended written =
       is_two =
           is_course Second a.image (second_events script) b b' old.two new.two old.right new.right old.left new.left fresh_b
           before.two ended.two ended.right written.two written.two_settled
-          (forwarded a.image b.image.names (shown a.image (first_events script) one))
+          (forwarded_irqs a.image b.image.names (course_items a.image (first_events script) one))
           (rang b.image (first_events script) a a' fresh_a old.left new.left old.two.words 1 before.two.made.silent
           before.one.routes ended.left)
           (known b.image (first_events script) a a' fresh_a old.left new.left old.two.words 1 before.two.made.silent

@@ -9,9 +9,9 @@ use Rattle.rt_run.specs.Done.{Leads, HasDone}
 use Rattle.rt_run.specs.Sending.{Breaks}
 use Rattle.rt_run.proofs.Advancing.{leads_on, stands_still}
 use Rattle.rt_words.specs.declared.call.Call.{Call}
-use Rattle.rt_live.specs.Weave.{Turn, Happens, Looks, looks, arrived, weave}
+use Rattle.rt_live.specs.Interleaving.{Turn, Happens, Looks, looks, look_arrivals, interleaving}
 use Rattle.rt_live.specs.Going.{Stops}
-use Rattle.rt_live.proofs.Woven.{looks-append, weave_on, weave_short}
+use Rattle.rt_live.proofs.Woven.{looks-append, interleaving_on, interleaving_short}
 use Rattle.rt_dual.specs.Inside.Running.{Begins}
 
 -- the first events of more
@@ -38,7 +38,7 @@ all_done es a b run = record { done = es; rest = []; parts = sym (append-nil es)
 
 -- the events of one look more begin with what it found
 look_more : (ts : List Turn) (found : List (List ℕ)) (last : List ℕ) → length found < looks ts
-    → (behind : List Event) × (weave ts (found ++ last ∷ []) ≡ (weave ts found ++ arrived last) ++ behind)
+    → (behind : List Event) × (interleaving ts (found ++ last ∷ []) ≡ (interleaving ts found ++ look_arrivals last) ++ behind)
 look_more [] found last few = absurd (omega (arith, few))
 look_more (Happens Tick ∷ ts) found last few =
     let rest = look_more ts found last few in
@@ -46,22 +46,22 @@ look_more (Happens Tick ∷ ts) found last few =
 look_more (Happens (Arrive irq) ∷ ts) found last few =
     let rest = look_more ts found last few in
     (rest.0, ap (λ es. Arrive irq ∷ es) rest.1)
-look_more (Happens Step ∷ ts) [] last few = (Step ∷ weave ts [], refl)
+look_more (Happens Step ∷ ts) [] last few = (Step ∷ interleaving ts [], refl)
 look_more (Happens Step ∷ ts) (ws ∷ found) last few =
     let rest = look_more ts found last (omega (arith, few)) in
-    let front : List Event = Step ∷ weave ts found in (
+    let front : List Event = Step ∷ interleaving ts found in (
       rest.0,
-      ap (λ es. arrived ws ++ Step ∷ es) rest.1
-          ∙ sym (ap (λ es. es ++ rest.0) (append_assoc (arrived ws) front (arrived last))
-          ∙ append_assoc (arrived ws) (front ++ arrived last) rest.0),
+      ap (λ es. look_arrivals ws ++ Step ∷ es) rest.1
+          ∙ sym (ap (λ es. es ++ rest.0) (append_assoc (look_arrivals ws) front (look_arrivals last))
+          ∙ append_assoc (look_arrivals ws) (front ++ look_arrivals last) rest.0),
     )
-look_more (Looks ∷ ts) [] last few = (weave ts [], refl)
+look_more (Looks ∷ ts) [] last few = (interleaving ts [], refl)
 look_more (Looks ∷ ts) (ws ∷ found) last few =
     let rest = look_more ts found last (omega (arith, few)) in (
       rest.0,
-      ap (λ es. arrived ws ++ es) rest.1
-          ∙ sym (ap (λ es. es ++ rest.0) (append_assoc (arrived ws) (weave ts found) (arrived last))
-          ∙ append_assoc (arrived ws) (weave ts found ++ arrived last) rest.0),
+      ap (λ es. look_arrivals ws ++ es) rest.1
+          ∙ sym (ap (λ es. es ++ rest.0) (append_assoc (look_arrivals ws) (interleaving ts found) (look_arrivals last))
+          ∙ append_assoc (look_arrivals ws) (interleaving ts found ++ look_arrivals last) rest.0),
     )
 
 broken_done : (es : List Event) (a b : Machine) (x y : Option (List ℕ)) → Breaks es a b x y → HasDone es a b
@@ -75,13 +75,13 @@ module _ (ts : List Turn) (calls calls' : List Call) (a b : Machine) (x y : Opti
     | inr most ↦ record { found = cut.found; few = most.1; done = at_end most.0 }
   ]
     where
-      came : HasDone (weave ts cut.found ++ arrived cut.last) a b
-      came = broken_done (weave ts cut.found ++ arrived cut.last) a b x y cut.breaks
+      came : HasDone (interleaving ts cut.found ++ look_arrivals cut.last) a b
+      came = broken_done (interleaving ts cut.found ++ look_arrivals cut.last) a b x y cut.breaks
 
-      at_end : cut.last ≡ [] → HasDone (weave ts cut.found) a b
+      at_end : cut.last ≡ [] → HasDone (interleaving ts cut.found) a b
       at_end none =
           subst (λ es. HasDone es a b)
-          (ap (λ ws. weave ts cut.found ++ arrived ws) none ∙ append-nil (weave ts cut.found)) came
+          (ap (λ ws. interleaving ts cut.found ++ look_arrivals ws) none ∙ append-nil (interleaving ts cut.found)) came
 
       in_midst : length cut.found < looks ts → Begins ts a b
       in_midst less =
@@ -91,7 +91,7 @@ module _ (ts : List Turn) (calls calls' : List Call) (a b : Machine) (x y : Opti
             few = omega (arith, length-append cut.found (cut.last ∷ []), less);
             done =
                 subst (λ es. HasDone es a b) (sym more.1)
-                (done_before (weave ts cut.found ++ arrived cut.last) more.0 a b came);
+                (done_before (interleaving ts cut.found ++ look_arrivals cut.last) more.0 a b came);
           }
 
 -- the first of more turns
@@ -100,27 +100,27 @@ begins_before ts us a b begun = record {
   found = begun.found;
   few = omega (arith, looks-append ts us, begun.few);
   done = elim (cases_lt (length begun.found) (looks ts)) [
-    | inl less ↦ subst (λ es. HasDone es a b) (sym (weave_short ts us begun.found less)) begun.done
+    | inl less ↦ subst (λ es. HasDone es a b) (sym (interleaving_short ts us begun.found less)) begun.done
     | inr more ↦ subst (λ es. HasDone es a b) (sym (all (omega (arith, more, begun.few))))
-        (done_before (weave ts begun.found) (weave us []) a b begun.done)
+        (done_before (interleaving ts begun.found) (interleaving us []) a b begun.done)
   ];
 }
   where
-    all : length begun.found ≡ looks ts → weave (ts ++ us) begun.found ≡ weave ts begun.found ++ weave us []
+    all : length begun.found ≡ looks ts → interleaving (ts ++ us) begun.found ≡ interleaving ts begun.found ++ interleaving us []
     all many =
-        ap (weave (ts ++ us)) (sym (append-nil begun.found)) ∙ weave_on ts us begun.found [] many
+        ap (interleaving (ts ++ us)) (sym (append-nil begun.found)) ∙ interleaving_on ts us begun.found [] many
 
 -- all turns, and the first behind them
 pub begins_behind : (ts us : List Turn) (found : List (List ℕ)) (a b c : Machine) → length found ≡ looks ts
-    → Leads (weave ts found) a b → Begins us b c → Begins (ts ++ us) a c
+    → Leads (interleaving ts found) a b → Begins us b c → Begins (ts ++ us) a c
 begins_behind ts us found a b c many run begun = record {
   found = found ++ begun.found;
   few = omega (arith, length-append found begun.found, looks-append ts us, many, begun.few);
   done =
-      subst (λ es. HasDone es a c) (sym (weave_on ts us found begun.found many))
-      (done_behind (weave ts found) (weave us begun.found) a b c run begun.done);
+      subst (λ es. HasDone es a c) (sym (interleaving_on ts us found begun.found many))
+      (done_behind (interleaving ts found) (interleaving us begun.found) a b c run begun.done);
 }
 
 -- nothing was done
-pub none_begun : (ts : List Turn) (m : Machine) → (found : List (List ℕ)) × HasDone (weave ts found) m m
-none_begun ts m = ([], record { done = []; rest = weave ts []; parts = refl; leads = stands_still m })
+pub none_begun : (ts : List Turn) (m : Machine) → (found : List (List ℕ)) × HasDone (interleaving ts found) m m
+none_begun ts m = ([], record { done = []; rest = interleaving ts []; parts = refl; leads = stands_still m })

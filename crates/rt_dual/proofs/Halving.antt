@@ -6,15 +6,15 @@ use Rattle.std.specs.List.{AllByRecursion}
 use Rattle.rt_lemmas.proofs.Membership.{contains_here, contains_there, contains_cases, contains_none}
 use Rattle.rt_ids.specs.Names.{Names}
 use Rattle.rt_ids.specs.declared.limits.TheConstants.{IRQ_NUMBERS}
-use Rattle.rt_words.specs.Account.{raised, merged, latched}
+use Rattle.rt_words.specs.Account.{raised_count, merged_count, latched_count}
 use Rattle.rt_words.specs.Ending.{AllGathered, OneHistory, calls_in}
 use Rattle.rt_words.specs.History.{part}
 use Rattle.rt_words.specs.Lines.{Row, Core, Line, numbers, count as row_count, IsUnused}
-use Rattle.rt_words.specs.Object.{IsPending, pending}
+use Rattle.rt_words.specs.Object.{IsPending, pending_bit}
 use Rattle.rt_words.specs.declared.device_line.Tally.{Tally}
 use Rattle.rt_words.specs.declared.view.Part.{Part}
 use Rattle.rt_live.specs.Account.{account_of, row_of, declared_irqs}
-use Rattle.rt_live.specs.Inside.Settled.{settled}
+use Rattle.rt_live.specs.Inside.Settled.{settled_row}
 use Rattle.rt_live.specs.Inside.Working.{empty_row, with_counts}
 use Rattle.rt_live.specs.Ready.{IsCounted, irqs_of}
 use Rattle.rt_live.specs.declared.account.AccountRow.{AccountRow}
@@ -77,22 +77,22 @@ module _ (own then : Core) (bell : Line) (made : own.made ≡ bell.number ∷ []
 
   module _ (bits : List ℕ) (h : OneHistory then bits) where
     row_settled : (counts : List ℕ) (row : AccountRow) → IsCounted then.gathered row
-        → ((irq : ℕ) → irq < 512 → get_or counts irq 0 ≡ latched irq then.calls)
-        → settled counts bits row ≡ row_of (calls_in h.history) bits row.irq
+        → ((irq : ℕ) → irq < 512 → get_or counts irq 0 ≡ latched_count irq then.calls)
+        → settled_row counts bits row ≡ row_of (calls_in h.history) bits row.irq
     row_settled counts row counted told =
         let small : row.irq < 512 = omega (arith, counted.in_range) in
-        let r : row.raised ≡ raised row.irq (calls_in h.history) = counted.raised ∙ sym (h.raised row.irq) in
-        let m : row.merged ≡ merged row.irq (calls_in h.history) = counted.merged ∙ sym (h.merged row.irq) in
-        let l : get_or counts row.irq 0 ≡ latched row.irq (calls_in h.history) =
+        let r : row.raised ≡ raised_count row.irq (calls_in h.history) = counted.raised ∙ sym (h.raised row.irq) in
+        let m : row.merged ≡ merged_count row.irq (calls_in h.history) = counted.merged ∙ sym (h.merged row.irq) in
+        let l : get_or counts row.irq 0 ≡ latched_count row.irq (calls_in h.history) =
         told row.irq small ∙ sym (h.latched row.irq) in
-        λ i. record { irq = row.irq; raised = r i; merged = m i; latched = l i; left = pending bits row.irq }
+        λ i. record { irq = row.irq; raised = r i; merged = m i; latched = l i; left = pending_bit bits row.irq }
 
     rows_settled : (counts : List ℕ) (rows : List AccountRow) → AllByRecursion (IsCounted then.gathered) rows
-        → ((irq : ℕ) → irq < 512 → get_or counts irq 0 ≡ latched irq then.calls)
-        → map (settled counts bits) rows ≡ account_of (irqs_of rows) (calls_in h.history) bits
+        → ((irq : ℕ) → irq < 512 → get_or counts irq 0 ≡ latched_count irq then.calls)
+        → map (settled_row counts bits) rows ≡ account_of (irqs_of rows) (calls_in h.history) bits
     rows_settled counts [] counted told = refl
     rows_settled counts (row ∷ rows) counted told =
-        ap (λ (r : AccountRow). r ∷ map (settled counts bits) rows) (row_settled counts row counted.0 told)
+        ap (λ (r : AccountRow). r ∷ map (settled_row counts bits) rows) (row_settled counts row counted.0 told)
         ∙ ap (λ (rs : List AccountRow). row_of (calls_in h.history) bits row.irq ∷ rs)
         (rows_settled counts rows counted.1 told)
 
@@ -105,10 +105,10 @@ module _ (own then : Core) (bell : Line) (made : own.made ≡ bell.number ∷ []
     -- what the words tell of both lines
     pub settles : (counts : List ℕ) (tally : Tally) (rows front : List AccountRow) → AllByRecursion (IsCounted []) rows
         → front ≡ map (with_counts tally) rows
-        → ((irq : ℕ) → irq < 512 → get_or tally.raised irq 0 ≡ raised irq bell.calls)
-        → ((irq : ℕ) → irq < 512 → get_or tally.merged irq 0 ≡ merged irq bell.calls)
-        → ((irq : ℕ) → irq < 512 → get_or counts irq 0 ≡ latched irq then.calls)
-        → Settles own.calls bell (irqs_of rows) (map (settled counts bits) front)
+        → ((irq : ℕ) → irq < 512 → get_or tally.raised irq 0 ≡ raised_count irq bell.calls)
+        → ((irq : ℕ) → irq < 512 → get_or tally.merged irq 0 ≡ merged_count irq bell.calls)
+        → ((irq : ℕ) → irq < 512 → get_or counts irq 0 ≡ latched_count irq then.calls)
+        → Settles own.calls bell (irqs_of rows) (map (settled_row counts bits) front)
     settles counts tally rows front empty added raises merges told = record {
       history = h.history;
       left = bits;
@@ -119,7 +119,7 @@ module _ (own then : Core) (bell : Line) (made : own.made ≡ bell.number ∷ []
           (subst (λ (ps : List Part). Contains ps bell_part) (sym parts) (contains_here bell_part []));
       others = others_none;
       account =
-          ap (map (settled counts bits)) added
+          ap (map (settled_row counts bits)) added
           ∙ rows_settled counts (map (with_counts tally) rows)
           (subst (λ (ps : List Part). AllByRecursion (IsCounted ps) (map (with_counts tally) rows)) (sym parts)
           (all_counted [] bell_part tally raises merges rows empty)) told

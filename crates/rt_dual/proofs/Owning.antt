@@ -13,66 +13,66 @@ use Rattle.rt_core.specs.Machine.{Machine}
 use Rattle.rt_script.specs.Script.{HasName, HasNames, count, count_of, events, line_events}
 use Rattle.rt_script.specs.declared.line.Line.{Line}
 use Rattle.rt_script.specs.declared.line.Line.TheVariants.{Steps, Ticks, Pends, Device}
-use Rattle.rt_live.specs.Weave.{Turn, Happens}
-use Rattle.rt_live.specs.Inside.Own.{repeated}
+use Rattle.rt_live.specs.Interleaving.{Turn, Happens}
+use Rattle.rt_live.specs.Inside.Own.{repeated_turns}
 use Rattle.rt_live.proofs.Owning.{repeated_add}
 use Rattle.rt_dual.specs.Course.{is_of_both}
 use Rattle.rt_dual.specs.Inside.Own.{events_at, own_turns, request_of, turn_of, HasNameAt, HasNamesAt}
 use Rattle.rt_dual.specs.Inside.Running.{Runs, Begins}
-use Rattle.rt_dual.specs.declared.place.Place.{Place}
-use Rattle.rt_dual.specs.declared.place.Place.TheVariants.{First, Second}
+use Rattle.rt_dual.specs.declared.core_id.CoreId.{CoreId}
+use Rattle.rt_dual.specs.declared.core_id.CoreId.TheVariants.{First, Second}
 use Rattle.rt_dual.specs.declared.side.Side.{Side}
 use Rattle.rt_dual.proofs.Cutting.{begins_before, begins_behind}
 use Rattle.rt_dual.proofs.Running.{runs_none, runs_on}
 
-one_request : (place : Place) (irq : ℕ) → length (request_of place irq) ≤ 1
+one_request : (core_id : CoreId) (irq : ℕ) → length (request_of core_id irq) ≤ 1
 one_request First irq = omega arith
 one_request Second irq = omega arith
 
-pub one_turn : (place : Place) (line : Line) → length (turn_of place line) ≤ 1
-one_turn place (Steps n) = omega arith
-one_turn place (Ticks n) = omega arith
-one_turn place (Pends irq n) = one_request place irq
-one_turn place (Device d irq n) = one_request place irq
+pub one_turn : (core_id : CoreId) (line : Line) → length (turn_of core_id line) ≤ 1
+one_turn core_id (Steps n) = omega arith
+one_turn core_id (Ticks n) = omega arith
+one_turn core_id (Pends irq n) = one_request core_id irq
+one_turn core_id (Device d irq n) = one_request core_id irq
 
-length-repeated : (n : ℕ) (ts : List Turn) → length ts ≤ 1 → length (repeated n ts) ≤ n
+length-repeated : (n : ℕ) (ts : List Turn) → length ts ≤ 1 → length (repeated_turns n ts) ≤ n
 length-repeated zero ts one = omega arith
 length-repeated (suc n) ts one =
-    omega (arith, length-append ts (repeated n ts), one, length-repeated n ts one)
+    omega (arith, length-append ts (repeated_turns n ts), one, length-repeated n ts one)
 
 -- a line's turns are few
-pub few_turns : (n : ℕ) (place : Place) (line : Line) → length (repeated n (turn_of place line)) ≤ n
-few_turns n place line = length-repeated n (turn_of place line) (one_turn place line)
+pub few_turns : (n : ℕ) (core_id : CoreId) (line : Line) → length (repeated_turns n (turn_of core_id line)) ≤ n
+few_turns n core_id line = length-repeated n (turn_of core_id line) (one_turn core_id line)
 
-repeated_more : (n : ℕ) (ts : List Turn) → repeated n ts ++ ts ≡ repeated (n + 1) ts
+repeated_more : (n : ℕ) (ts : List Turn) → repeated_turns n ts ++ ts ≡ repeated_turns (n + 1) ts
 repeated_more n ts =
-    ap (λ us. repeated n ts ++ us) (sym (append-nil ts)) ∙ sym (repeated_add n 1 ts)
+    ap (λ us. repeated_turns n ts ++ us) (sym (append-nil ts)) ∙ sym (repeated_add n 1 ts)
 
 -- the same turns once more
-pub once_more : (n : ℕ) (ts : List Turn) (a b c : Machine) (s t u : Side) → Runs (repeated n ts) a b s t
-    → Runs ts b c t u → Runs (repeated (n + 1) ts) a c s u
+pub once_more : (n : ℕ) (ts : List Turn) (a b c : Machine) (s t u : Side) → Runs (repeated_turns n ts) a b s t
+    → Runs ts b c t u → Runs (repeated_turns (n + 1) ts) a c s u
 once_more n ts a b c s t u first second =
-    subst (λ us. Runs us a c s u) (repeated_more n ts) (runs_on (repeated n ts) ts a b c s t u first second)
+    subst (λ us. Runs us a c s u) (repeated_more n ts) (runs_on (repeated_turns n ts) ts a b c s t u first second)
 
 -- or the first events of them
 pub once_begun : (n total : ℕ) (ts : List Turn) (a b c : Machine) (s t : Side) → n < total
-    → Runs (repeated n ts) a b s t → Begins ts b c → Begins (repeated total ts) a c
+    → Runs (repeated_turns n ts) a b s t → Begins ts b c → Begins (repeated_turns total ts) a c
 once_begun n total ts a b c s t within first begun =
     let rest : ℕ = total - (n + 1) in
-    let all : repeated (n + 1) ts ++ repeated rest ts ≡ repeated total ts =
+    let all : repeated_turns (n + 1) ts ++ repeated_turns rest ts ≡ repeated_turns total ts =
     sym (repeated_add (n + 1) rest ts)
-    ∙ ap (λ k. repeated k ts) (let same : n + 1 + rest ≡ total = omega arith in same) in
+    ∙ ap (λ k. repeated_turns k ts) (let same : n + 1 + rest ≡ total = omega arith in same) in
     subst (λ us. Begins us a c) all
-    (begins_before (repeated (n + 1) ts) (repeated rest ts) a c
+    (begins_before (repeated_turns (n + 1) ts) (repeated_turns rest ts) a c
     (subst (λ us. Begins us a c) (repeated_more n ts)
-    (begins_behind (repeated n ts) ts first.found a b c first.many first.sends.leads begun)))
+    (begins_behind (repeated_turns n ts) ts first.found a b c first.many first.sends.leads begun)))
 
 -- the events of a line are its turns
-repeated_one : (n : ℕ) (e : Event) → repeated n (Happens e ∷ []) ≡ map Happens (replicate n e)
+repeated_one : (n : ℕ) (e : Event) → repeated_turns n (Happens e ∷ []) ≡ map Happens (replicate n e)
 repeated_one zero e = refl
 repeated_one (suc n) e = ap (λ ts. Happens e ∷ ts) (repeated_one n e)
 
-repeated_none : (n : ℕ) → repeated n [] ≡ []
+repeated_none : (n : ℕ) → repeated_turns n [] ≡ []
 repeated_none zero = refl
 repeated_none (suc n) = repeated_none n
 
@@ -88,8 +88,8 @@ no_requests : (n irq : ℕ) → filter is_of_both (replicate n (Arrive irq)) ≡
 no_requests zero irq = refl
 no_requests (suc n) irq = no_requests n irq
 
-line_turns : (place : Place) (line : Line)
-    → map Happens (events_at place (line ∷ [])) ≡ repeated (count_of line) (turn_of place line)
+line_turns : (core_id : CoreId) (line : Line)
+    → map Happens (events_at core_id (line ∷ [])) ≡ repeated_turns (count_of line) (turn_of core_id line)
 line_turns First (Steps n) = ap (map Happens) (append-nil (replicate n Step)) ∙ sym (repeated_one n Step)
 line_turns First (Ticks n) = ap (map Happens) (append-nil (replicate n Tick)) ∙ sym (repeated_one n Tick)
 line_turns First (Pends irq n) =
@@ -110,7 +110,7 @@ line_turns Second (Device d irq n) =
     ∙ ap (map Happens) (no_requests n irq) ∙ sym (repeated_none n)
 
 -- the turns of lines, and of those behind them
-own-append : (place : Place) (xs ys : List Line) → own_turns place (xs ++ ys) ≡ own_turns place xs ++ own_turns place ys
+own-append : (core_id : CoreId) (xs ys : List Line) → own_turns core_id (xs ++ ys) ≡ own_turns core_id xs ++ own_turns core_id ys
 own-append First xs ys =
     ap (map Happens) (flat_map-append line_events xs ys) ∙ map-append Happens (events xs) (events ys)
 own-append Second xs ys =
@@ -119,68 +119,68 @@ own-append Second xs ys =
     ∙ map-append Happens (filter is_of_both (events xs)) (filter is_of_both (events ys))
 
 -- of no line none was done
-pub none_yet : (place : Place) (m : Machine) (s : Side) → Runs (own_turns place []) m m s s
+pub none_yet : (core_id : CoreId) (m : Machine) (s : Side) → Runs (own_turns core_id []) m m s s
 none_yet First m s = runs_none m s
 none_yet Second m s = runs_none m s
 
 -- they are no more than the script's events
-own_length : (place : Place) (script : List Line) → length (own_turns place script) ≤ count script
+own_length : (core_id : CoreId) (script : List Line) → length (own_turns core_id script) ≤ count script
 own_length First [] = omega arith
 own_length Second [] = omega arith
-own_length place (line ∷ script) =
+own_length core_id (line ∷ script) =
     rw sum_by-cons
     (omega (
       arith,
-      ap length (own-append place (line ∷ []) script),
-      length-append (own_turns place (line ∷ [])) (own_turns place script),
-      ap length (line_turns place line),
-      few_turns (count_of line) place line,
-      own_length place script,
+      ap length (own-append core_id (line ∷ []) script),
+      length-append (own_turns core_id (line ∷ [])) (own_turns core_id script),
+      ap length (line_turns core_id line),
+      few_turns (count_of line) core_id line,
+      own_length core_id script,
     ))
 
-pub own_few : (place : Place) (script : List Line) → length (own_turns place script) ≤ count script
-own_few place script = own_length place script
+pub own_few : (core_id : CoreId) (script : List Line) → length (own_turns core_id script) ≤ count script
+own_few core_id script = own_length core_id script
 
-module _ (place : Place) (script : List Line) (i : ℕ) (line : Line) (below : i < length script)
+module _ (core_id : CoreId) (script : List Line) (i : ℕ) (line : Line) (below : i < length script)
     (is : line ≡ get_or script i line) where
-  own_more : own_turns place (take (i + 1) script)
-      ≡ own_turns place (take i script) ++ repeated (count_of line) (turn_of place line)
+  own_more : own_turns core_id (take (i + 1) script)
+      ≡ own_turns core_id (take i script) ++ repeated_turns (count_of line) (turn_of core_id line)
   own_more =
-      ap (own_turns place) (take_more script i line below)
-      ∙ own-append place (take i script) (get_or script i line ∷ [])
-      ∙ ap (λ (l : Line). own_turns place (take i script) ++ own_turns place (l ∷ [])) (sym is)
-      ∙ ap (λ ts. own_turns place (take i script) ++ ts) (line_turns place line)
+      ap (own_turns core_id) (take_more script i line below)
+      ∙ own-append core_id (take i script) (get_or script i line ∷ [])
+      ∙ ap (λ (l : Line). own_turns core_id (take i script) ++ own_turns core_id (l ∷ [])) (sym is)
+      ∙ ap (λ ts. own_turns core_id (take i script) ++ ts) (line_turns core_id line)
 
   -- so many turns were done before the line, and the line is so many
-  pub own_room : length (own_turns place (take i script)) + count_of line ≤ count script
+  pub own_room : length (own_turns core_id (take i script)) + count_of line ≤ count script
   own_room =
       omega (
         arith,
-        own_length place (take i script),
+        own_length core_id (take i script),
         sum_by_more_le count_of script i line below,
         ap count_of is,
       )
 
-  pub own_line_more : (a b c : Machine) (s t u : Side) → Runs (own_turns place (take i script)) a b s t
-      → Runs (repeated (count_of line) (turn_of place line)) b c t u
-      → Runs (own_turns place (take (i + 1) script)) a c s u
+  pub own_line_more : (a b c : Machine) (s t u : Side) → Runs (own_turns core_id (take i script)) a b s t
+      → Runs (repeated_turns (count_of line) (turn_of core_id line)) b c t u
+      → Runs (own_turns core_id (take (i + 1) script)) a c s u
   own_line_more a b c s t u first second =
       subst (λ ts. Runs ts a c s u) (sym own_more)
-      (runs_on (own_turns place (take i script)) (repeated (count_of line) (turn_of place line)) a b c s t u first second)
+      (runs_on (own_turns core_id (take i script)) (repeated_turns (count_of line) (turn_of core_id line)) a b c s t u first second)
 
-  pub own_line_begun : (a b c : Machine) (s t : Side) → Runs (own_turns place (take i script)) a b s t
-      → Begins (repeated (count_of line) (turn_of place line)) b c → Begins (own_turns place script) a c
+  pub own_line_begun : (a b c : Machine) (s t : Side) → Runs (own_turns core_id (take i script)) a b s t
+      → Begins (repeated_turns (count_of line) (turn_of core_id line)) b c → Begins (own_turns core_id script) a c
   own_line_begun a b c s t first begun =
       subst (λ ts. Begins ts a c) all
-      (begins_before (own_turns place (take (i + 1) script)) (own_turns place (drop (i + 1) script)) a c
+      (begins_before (own_turns core_id (take (i + 1) script)) (own_turns core_id (drop (i + 1) script)) a c
       (subst (λ ts. Begins ts a c) (sym own_more)
-      (begins_behind (own_turns place (take i script)) (repeated (count_of line) (turn_of place line)) first.found a b c
+      (begins_behind (own_turns core_id (take i script)) (repeated_turns (count_of line) (turn_of core_id line)) first.found a b c
       first.many first.sends.leads begun)))
     where
-      all : own_turns place (take (i + 1) script) ++ own_turns place (drop (i + 1) script) ≡ own_turns place script
+      all : own_turns core_id (take (i + 1) script) ++ own_turns core_id (drop (i + 1) script) ≡ own_turns core_id script
       all =
-          sym (own-append place (take (i + 1) script) (drop (i + 1) script))
-          ∙ ap (own_turns place) (take-append-drop (i + 1) script)
+          sym (own-append core_id (take (i + 1) script) (drop (i + 1) script))
+          ∙ ap (own_turns core_id) (take-append-drop (i + 1) script)
 
 -- the first core gets requests of declared interrupts
 named_line : (names : Names) (line : Line) → HasName names line → HasNameAt First names line

@@ -9,9 +9,9 @@ use Rattle.rt_core.specs.Core.{Core}
 use Rattle.rt_core.specs.Machine.{Machine}
 use Rattle.rt_core.specs.Stepping.{step}
 use Rattle.rt_core.specs.Trace.{ring, happen, labels}
-use Rattle.rt_core.specs.Transfer.{pended}
+use Rattle.rt_core.specs.Transfer.{core_after_pend}
 use Rattle.rt_core.specs.declared.alarm.Alarm.{Alarm}
-use Rattle.rt_devices.specs.Work.{asked_by}
+use Rattle.rt_devices.specs.Work.{interrupt_asked}
 use Rattle.rt_run.specs.Done.{Leads}
 use Rattle.rt_run.specs.Sending.{shown_items}
 use Rattle.rt_run.proofs.Advancing.{items_split}
@@ -19,7 +19,7 @@ use Rattle.rt_trace.specs.Label.{Label, Rang, Stepped, items_of}
 use Rattle.rt_trace.specs.declared.item.Item.{Item}
 use Rattle.rt_trace.specs.declared.item.What.{What}
 use Rattle.rt_words.specs.Lines.{Line}
-use Rattle.rt_dual.specs.Inside.Ringing.{Rings, rung_by, rung_of, rung_of_shown}
+use Rattle.rt_dual.specs.Inside.Ringing.{Rings, irq_rung, irqs_rung, irq_of_shown}
 
 one_more : (o : Option ℕ) (all front behind : List ℕ) → all ≡ front ++ behind
     → cons_option o all ≡ cons_option o front ++ behind
@@ -28,10 +28,10 @@ one_more (Some n) all front behind same = ap (λ is. n ∷ is) same
 
 -- items, and those behind them
 pub rung-append : (routes : List (Option ℕ)) (xs ys : List Item)
-    → rung_of routes (xs ++ ys) ≡ rung_of routes xs ++ rung_of routes ys
+    → irqs_rung routes (xs ++ ys) ≡ irqs_rung routes xs ++ irqs_rung routes ys
 rung-append routes [] ys = refl
 rung-append routes (x ∷ xs) ys =
-    one_more (rung_by routes x.what) (rung_of routes (xs ++ ys)) (rung_of routes xs) (rung_of routes ys)
+    one_more (irq_rung routes x.what) (irqs_rung routes (xs ++ ys)) (irqs_rung routes xs) (irqs_rung routes ys)
     (rung-append routes xs ys)
 
 -- no pend
@@ -44,8 +44,8 @@ pub rings_on : (is js : List ℕ) (a b c : Line) → Rings is a b → Rings js b
 rings_on is js a b c first second = record {
   calls = first.calls ++ second.calls;
   asked =
-      map-append asked_by first.calls second.calls
-      ∙ ap (λ os. os ++ map asked_by second.calls) first.asked
+      map-append interrupt_asked first.calls second.calls
+      ∙ ap (λ os. os ++ map interrupt_asked second.calls) first.asked
       ∙ ap (λ os. map (λ irq. Some irq) is ++ os) second.asked
       ∙ sym (map-append (λ irq. Some irq) is js);
   line =
@@ -55,23 +55,23 @@ rings_on is js a b c first second = record {
 
 -- an alarm is no post
 ring_silent : (routes : List (Option ℕ)) (n : ℕ) (c : Core) (alarm : Option Alarm) (rest : List Label)
-    → rung_of routes (items_of n ((ring c alarm).1 ++ rest)) ≡ rung_of routes (items_of n rest)
+    → irqs_rung routes (items_of n ((ring c alarm).1 ++ rest)) ≡ irqs_rung routes (items_of n rest)
 ring_silent routes n c None rest = refl
 ring_silent routes n c (Some alarm) rest =
-    one (nat_le alarm.instant c.time) (record (pended c alarm.irq) { alarm = None }) c
+    one (nat_le alarm.instant c.time) (record (core_after_pend c alarm.irq) { alarm = None }) c
   where
     one : (due : Bool) (x y : Core)
-        → rung_of routes (items_of n ((if◌then◌else◌ {A = Core × List Label} due (x, Rang ∷ []) (y, [])).1 ++ rest))
-        ≡ rung_of routes (items_of n rest)
+        → irqs_rung routes (items_of n ((if◌then◌else◌ {A = Core × List Label} due (x, Rang ∷ []) (y, [])).1 ++ rest))
+        ≡ irqs_rung routes (items_of n rest)
     one true x y = refl
     one false x y = refl
 
 -- events without a step pend nothing
 pub silent : (routes : List (Option ℕ)) (img : Image) (c : Core) (n : ℕ) (es : List Event) → steps es ≡ 0
-    → rung_of routes (items_of n (labels img c es)) ≡ []
+    → irqs_rung routes (items_of n (labels img c es)) ≡ []
 unfolding labels happen
 silent routes img c n [] none = refl
-silent routes img c n (Arrive irq ∷ es) none = silent routes img (pended c irq) n es none
+silent routes img c n (Arrive irq ∷ es) none = silent routes img (core_after_pend c irq) n es none
 silent routes img c n (Tick ∷ es) none =
     ring_silent routes n (record c { time = suc c.time }) c.alarm (labels img (happen img c Tick).0 es)
     ∙ silent routes img (happen img c Tick).0 n es none
@@ -79,25 +79,25 @@ silent routes img c n (Step ∷ es) none = absurd (omega (arith, none))
 
 -- a step pends what it shows
 pub step_rings : (routes : List (Option ℕ)) (m : Machine) (shown : Option What) → shown ≡ (step m.image m.core).1
-    → rung_of routes (shown_items m (Step ∷ [])) ≡ option_to_list (rung_of_shown routes shown)
+    → irqs_rung routes (shown_items m (Step ∷ [])) ≡ option_to_list (irq_of_shown routes shown)
 unfolding labels happen
 step_rings routes m shown is =
-    ap (λ (s : Option What). rung_of routes (items_of m.steps (Stepped s ∷ []))) (sym is) ∙ one shown
+    ap (λ (s : Option What). irqs_rung routes (items_of m.steps (Stepped s ∷ []))) (sym is) ∙ one shown
   where
     listed : (o : Option ℕ) → cons_option o [] ≡ option_to_list o
     listed None = refl
     listed (Some n) = refl
 
     one : (s : Option What)
-        → rung_of routes (items_of m.steps (Stepped s ∷ [])) ≡ option_to_list (rung_of_shown routes s)
+        → irqs_rung routes (items_of m.steps (Stepped s ∷ [])) ≡ option_to_list (irq_of_shown routes s)
     one None = refl
-    one (Some w) = listed (rung_by routes w)
+    one (Some w) = listed (irq_rung routes w)
 
 -- what events pend, and those behind them
 pub rung_split : (routes : List (Option ℕ)) (es fs : List Event) (a b : Machine) → Leads es a b
-    → rung_of routes (shown_items a (es ++ fs)) ≡ rung_of routes (shown_items a es) ++ rung_of routes (shown_items b fs)
+    → irqs_rung routes (shown_items a (es ++ fs)) ≡ irqs_rung routes (shown_items a es) ++ irqs_rung routes (shown_items b fs)
 rung_split routes es fs a b run =
-    ap (rung_of routes) (items_split es fs a b run) ∙ rung-append routes (shown_items a es) (shown_items b fs)
+    ap (irqs_rung routes) (items_split es fs a b run) ∙ rung-append routes (shown_items a es) (shown_items b fs)
 
 -- an item pends once at most
 pub ring_few : (o : Option ℕ) (a b : Line) → Rings (option_to_list o) a b → length b.calls ≤ length a.calls + 1
@@ -106,7 +106,7 @@ ring_few o a b run =
       arith,
       ap (λ (l : Line). length l.calls) run.line,
       length-append a.calls run.calls,
-      length-map run.calls asked_by,
+      length-map run.calls interrupt_asked,
       ap length run.asked,
       length-map (option_to_list o) (λ irq. Some irq),
       one o,

@@ -16,12 +16,12 @@ use Rattle.rt_outside.specs.Bytes.{Took}
 use Rattle.rt_trace.specs.Text.{total_text}
 use Rattle.rt_trace.specs.declared.item.What.{What}
 use Rattle.rt_words.specs.Lines.{Row, Core, Line}
-use Rattle.rt_live.specs.Weave.{Turn, Happens, Looks, looks, arrived, arrivals_from, latches, weave}
+use Rattle.rt_live.specs.Interleaving.{Turn, Happens, Looks, looks, look_arrivals, arrivals_from, latches, interleaving}
 use Rattle.rt_live.specs.Going.{IsWholeLook, Goes, IsSameLine}
 use Rattle.rt_live.proofs.Owning.{still_able, same_line, same_line_on}
 use Rattle.rt_live.proofs.Turning.{calls_on}
-use Rattle.rt_live.proofs.Woven.{looks-append, weave_on, steps_woven, ticks_woven, looks_below, all_latches, look_steps, no_steps}
-use Rattle.rt_dual.specs.Inside.Ringing.{Rings, MayRing, IsSameBut, rung_of, rung_of_shown}
+use Rattle.rt_live.proofs.Woven.{looks-append, interleaving_on, steps_woven, ticks_woven, looks_below, all_latches, look_steps, no_steps}
+use Rattle.rt_dual.specs.Inside.Ringing.{Rings, MayRing, IsSameBut, irqs_rung, irq_of_shown}
 use Rattle.rt_dual.specs.Inside.Running.{CanRun, Runs, Begins, Ends}
 use Rattle.rt_dual.specs.declared.kept.Kept.{Kept}
 use Rattle.rt_dual.specs.declared.side.Side.{Side}
@@ -40,7 +40,7 @@ runs_none m s = record {
   rings = rings_none s.bell;
   few = omega arith;
   line = same_line s.line;
-  place = refl;
+  core_id = refl;
   routes = refl;
 }
 
@@ -61,27 +61,27 @@ runs_on ts us a b c s t u first second = record {
       calls_on s.line.calls t.line.calls u.line.calls first.found second.found first.latched second.latched;
   sends =
       subst (λ es. Sends es a c (Some s.trace.bytes.items) (Some u.trace.bytes.items)) (sym woven)
-      (sends_on (weave ts first.found) (weave us second.found) a b c (Some s.trace.bytes.items)
+      (sends_on (interleaving ts first.found) (interleaving us second.found) a b c (Some s.trace.bytes.items)
       (Some t.trace.bytes.items) (Some u.trace.bytes.items) first.sends second.sends);
   rings =
       subst (λ is. Rings is s.bell u.bell) (sym rung)
-      (rings_on (rung_of s.routes (shown_items a (weave ts first.found)))
-      (rung_of s.routes (shown_items b (weave us second.found))) s.bell t.bell u.bell first.rings
-      (subst (λ rs. Rings (rung_of rs (shown_items b (weave us second.found))) t.bell u.bell) first.routes second.rings));
+      (rings_on (irqs_rung s.routes (shown_items a (interleaving ts first.found)))
+      (irqs_rung s.routes (shown_items b (interleaving us second.found))) s.bell t.bell u.bell first.rings
+      (subst (λ rs. Rings (irqs_rung rs (shown_items b (interleaving us second.found))) t.bell u.bell) first.routes second.rings));
   few = omega (arith, first.few, second.few, length-append ts us);
   line = same_line_on s.line t.line u.line first.line second.line;
-  place = second.place ∙ first.place;
+  core_id = second.core_id ∙ first.core_id;
   routes = second.routes ∙ first.routes;
 }
   where
-    woven : weave (ts ++ us) (first.found ++ second.found) ≡ weave ts first.found ++ weave us second.found
-    woven = weave_on ts us first.found second.found first.many
+    woven : interleaving (ts ++ us) (first.found ++ second.found) ≡ interleaving ts first.found ++ interleaving us second.found
+    woven = interleaving_on ts us first.found second.found first.many
 
-    rung : rung_of s.routes (shown_items a (weave (ts ++ us) (first.found ++ second.found)))
-        ≡ rung_of s.routes (shown_items a (weave ts first.found)) ++ rung_of s.routes (shown_items b (weave us second.found))
+    rung : irqs_rung s.routes (shown_items a (interleaving (ts ++ us) (first.found ++ second.found)))
+        ≡ irqs_rung s.routes (shown_items a (interleaving ts first.found)) ++ irqs_rung s.routes (shown_items b (interleaving us second.found))
     rung =
-        ap (λ es. rung_of s.routes (shown_items a es)) woven
-        ∙ rung_split s.routes (weave ts first.found) (weave us second.found) a b first.sends.leads
+        ap (λ es. irqs_rung s.routes (shown_items a es)) woven
+        ∙ rung_split s.routes (interleaving ts first.found) (interleaving us second.found) a b first.sends.leads
 
 -- a look alone
 pub looked : (a b : Machine) (s : Side) (l : Core) (k : Kept)
@@ -95,16 +95,16 @@ looked a b s l k run same = record {
   sends = run.sends;
   rings =
       subst (λ is. Rings is s.bell s.bell)
-      (sym (silent s.routes a.image a.core a.steps (weave (Looks ∷ []) run.found) (look_steps run.found)))
+      (sym (silent s.routes a.image a.core a.steps (interleaving (Looks ∷ []) run.found) (look_steps run.found)))
       (rings_none s.bell);
   few = omega arith;
   line = same;
-  place = refl;
+  core_id = refl;
   routes = refl;
 }
 
 -- an event that is no step and comes without a look
-pub happened : (e : Event) (ts : List Turn) → looks ts ≡ 0 → weave ts [] ≡ e ∷ [] → steps (e ∷ []) ≡ 0
+pub happened : (e : Event) (ts : List Turn) → looks ts ≡ 0 → interleaving ts [] ≡ e ∷ [] → steps (e ∷ []) ≡ 0
     → (a b : Machine) (s : Side) (k : Kept) → Sends (e ∷ []) a b (Some s.trace.bytes.items) (Some k.bytes.items)
     → Runs ts a b s (record s { trace = k })
 happened e ts no_look is no_step a b s k sends = record {
@@ -115,11 +115,11 @@ happened e ts no_look is no_step a b s k sends = record {
   sends = subst (λ es. Sends es a b (Some s.trace.bytes.items) (Some k.bytes.items)) (sym is) sends;
   rings =
       subst (λ is. Rings is s.bell s.bell)
-      (sym (ap (λ es. rung_of s.routes (shown_items a es)) is ∙ silent s.routes a.image a.core a.steps (e ∷ []) no_step))
+      (sym (ap (λ es. irqs_rung s.routes (shown_items a es)) is ∙ silent s.routes a.image a.core a.steps (e ∷ []) no_step))
       (rings_none s.bell);
   few = omega arith;
   line = same_line s.line;
-  place = refl;
+  core_id = refl;
   routes = refl;
 }
 
@@ -129,7 +129,7 @@ module _ (a b : Machine) (s : Side) (l : Core) (k : Kept)
   pub stepped : (c : Machine) (m : Kept) → IsSameLine s.line l
       → Sends (Step ∷ []) b c (Some k.bytes.items) (Some m.bytes.items)
       → (shown : Option What) → shown ≡ (step b.image b.core).1 → (u : Side)
-      → Rings (option_to_list (rung_of_shown s.routes shown)) s.bell u.bell
+      → Rings (option_to_list (irq_of_shown s.routes shown)) s.bell u.bell
       → length u.bell.calls ≤ length s.bell.calls + 1
       → IsSameBut (record s { line = l; trace = m }) u → Runs (Happens Step ∷ []) a c s u
   stepped c m same sends shown is u rings few rest =
@@ -137,7 +137,7 @@ module _ (a b : Machine) (s : Side) (l : Core) (k : Kept)
     where
       at : (found : List (List ℕ)) → length found ≡ 1 → AllByRecursion IsWholeLook found
           → l.calls ≡ s.line.calls ++ flat_map latches found
-          → Sends (weave (Looks ∷ []) found) a b (Some s.trace.bytes.items) (Some k.bytes.items)
+          → Sends (interleaving (Looks ∷ []) found) a b (Some s.trace.bytes.items) (Some k.bytes.items)
           → Runs (Happens Step ∷ []) a c s u
       at [] many whole latched came = absurd (omega (arith, many))
       at (ws ∷ []) many whole latched came = record {
@@ -146,27 +146,27 @@ module _ (a b : Machine) (s : Side) (l : Core) (k : Kept)
         whole = whole;
         latched = ap (λ (x : Core). x.calls) rest.line ∙ latched;
         sends =
-            subst (λ (x : Kept). Sends (arrived ws ++ Step ∷ []) a c (Some s.trace.bytes.items) (Some x.bytes.items))
+            subst (λ (x : Kept). Sends (look_arrivals ws ++ Step ∷ []) a c (Some s.trace.bytes.items) (Some x.bytes.items))
             (sym rest.trace)
-            (sends_on (arrived ws) (Step ∷ []) a b c (Some s.trace.bytes.items) (Some k.bytes.items)
+            (sends_on (look_arrivals ws) (Step ∷ []) a b c (Some s.trace.bytes.items) (Some k.bytes.items)
             (Some m.bytes.items) alone sends);
         rings = subst (λ is. Rings is s.bell u.bell) (sym rung) rings;
         few = few;
         line = subst (λ (x : Core). IsSameLine s.line x) (sym rest.line) same;
-        place = rest.place;
+        core_id = rest.core_id;
         routes = rest.routes;
       }
         where
-          alone : Sends (arrived ws) a b (Some s.trace.bytes.items) (Some k.bytes.items)
+          alone : Sends (look_arrivals ws) a b (Some s.trace.bytes.items) (Some k.bytes.items)
           alone =
-              subst (λ es. Sends es a b (Some s.trace.bytes.items) (Some k.bytes.items)) (append-nil (arrived ws)) came
+              subst (λ es. Sends es a b (Some s.trace.bytes.items) (Some k.bytes.items)) (append-nil (look_arrivals ws)) came
 
-          rung : rung_of s.routes (shown_items a (arrived ws ++ Step ∷ []))
-              ≡ option_to_list (rung_of_shown s.routes shown)
+          rung : irqs_rung s.routes (shown_items a (look_arrivals ws ++ Step ∷ []))
+              ≡ option_to_list (irq_of_shown s.routes shown)
           rung =
-              rung_split s.routes (arrived ws) (Step ∷ []) a b alone.leads
-              ∙ ap (λ is. is ++ rung_of s.routes (shown_items b (Step ∷ [])))
-              (silent s.routes a.image a.core a.steps (arrived ws) (no_steps (arrivals_from 0 ws)))
+              rung_split s.routes (look_arrivals ws) (Step ∷ []) a b alone.leads
+              ∙ ap (λ is. is ++ irqs_rung s.routes (shown_items b (Step ∷ [])))
+              (silent s.routes a.image a.core a.steps (look_arrivals ws) (no_steps (arrivals_from 0 ws)))
               ∙ step_rings s.routes b shown is
       at (ws ∷ vs ∷ found) many whole latched came = absurd (omega (arith, many))
 
@@ -175,16 +175,16 @@ module _ (a b : Machine) (s : Side) (l : Core) (k : Kept)
   step_begun c done = at run.found run.many run.sends
     where
       at : (found : List (List ℕ)) → length found ≡ 1
-          → Sends (weave (Looks ∷ []) found) a b (Some s.trace.bytes.items) (Some k.bytes.items)
+          → Sends (interleaving (Looks ∷ []) found) a b (Some s.trace.bytes.items) (Some k.bytes.items)
           → Begins (Happens Step ∷ []) a c
       at [] many came = absurd (omega (arith, many))
       at (ws ∷ []) many came = record {
         found = ws ∷ [];
         few = omega arith;
         done =
-            done_behind (arrived ws) (Step ∷ []) a b c
-            (let alone : Sends (arrived ws) a b (Some s.trace.bytes.items) (Some k.bytes.items) =
-            subst (λ es. Sends es a b (Some s.trace.bytes.items) (Some k.bytes.items)) (append-nil (arrived ws)) came in
+            done_behind (look_arrivals ws) (Step ∷ []) a b c
+            (let alone : Sends (look_arrivals ws) a b (Some s.trace.bytes.items) (Some k.bytes.items) =
+            subst (λ es. Sends es a b (Some s.trace.bytes.items) (Some k.bytes.items)) (append-nil (look_arrivals ws)) came in
             alone.leads) done;
       }
       at (ws ∷ vs ∷ found) many came = absurd (omega (arith, many))
@@ -193,11 +193,11 @@ module _ (a b : Machine) (s : Side) (l : Core) (k : Kept)
 pub can_on : (ts : List Turn) (n k : ℕ) (a b : Machine) (s t : Side) (words there : Row) → Runs ts a b s t
     → length ts + n ≤ k → CanRun k a s words there → CanRun n b t words there
 can_on ts n k a b s t words there run fits can = record {
-  able = still_able (weave ts run.found) a b s.line t.line words run.sends.leads run.line can.able;
+  able = still_able (interleaving ts run.found) a b s.line t.line words run.sends.leads run.line can.able;
   bell = ap (λ (l : Line). l.words) run.rings.line ∙ can.bell;
   may = subst (λ rs. MayRing rs there) (sym run.routes) can.may;
   few = omega (arith, run.sends.leads.steps, steps_woven ts run.found, fits, can.few);
-  early = omega (arith, time_led (weave ts run.found) a b run.sends.leads, ticks_woven ts run.found, fits, can.early);
+  early = omega (arith, time_led (interleaving ts run.found) a b run.sends.leads, ticks_woven ts run.found, fits, can.early);
   room =
       omega (
         arith,
@@ -222,7 +222,7 @@ pub all_begun : (ts : List Turn) (a b : Machine) (s t : Side) → Runs ts a b s 
 all_begun ts a b s t run = record {
   found = run.found;
   few = omega (arith, run.many);
-  done = all_done (weave ts run.found) a b run.sends.leads;
+  done = all_done (interleaving ts run.found) a b run.sends.leads;
 }
 
 -- behind all turns the line of the total was kept
@@ -239,7 +239,7 @@ ended ts a b s t k held total run empty counted took = record {
       took ∙ ap (λ h. t.trace.bytes.items ++ (h ++ total_text total)) empty
       ∙ ap (λ n. t.trace.bytes.items ++ total_text n) counted
       ∙ ap (λ x. x ++ total_text b.steps) run.sends.took
-      ∙ append_assoc s.trace.bytes.items (lines_of a (weave ts run.found)) (total_text b.steps);
+      ∙ append_assoc s.trace.bytes.items (lines_of a (interleaving ts run.found)) (total_text b.steps);
   rings = run.rings;
   few = run.few;
   line = run.line;

@@ -6,14 +6,14 @@ use Rattle.std.specs.List.{AllByRecursion}
 use Rattle.rt_ids.specs.Event.{Event, Arrive, Tick, Step}
 use Rattle.rt_code.specs.Image.{Image}
 use Rattle.rt_core.specs.Trace.{trace}
-use Rattle.rt_devices.specs.Work.{asked_by}
+use Rattle.rt_devices.specs.Work.{interrupt_asked}
 use Rattle.rt_script.specs.Script.{events}
 use Rattle.rt_script.specs.declared.line.Line.{Line}
 use Rattle.rt_trace.specs.declared.item.Item.{Item}
 use Rattle.rt_words.specs.History.{IsLegal, part}
 use Rattle.rt_words.specs.declared.call.Entry.{Entry}
 use Rattle.rt_live.specs.Going.{IsWholeLook}
-use Rattle.rt_live.specs.Weave.{Turn, Happens, Looks, looks, latches, weave}
+use Rattle.rt_live.specs.Interleaving.{Turn, Happens, Looks, looks, latches, interleaving}
 
 -- the script's events without the requests of interrupts, which are all the first core's
 abbrev pub is_of_both : Event → Bool
@@ -40,12 +40,12 @@ pub record Course : Type 0 where
   pub left : List ℕ
 
 -- the events that came to the core: its own, with what the looks found in front of each step and behind the last event
-abbrev pub woven : List Event → Course → List Event
-woven events course = weave (turns events) course.found
+abbrev pub course_events : List Event → Course → List Event
+course_events events course = interleaving (turns events) course.found
 
 -- what the core showed of them, from reset
-abbrev pub shown : Image → List Event → Course → List Item
-shown img events course = trace img (woven events course)
+abbrev pub course_items : Image → List Event → Course → List Item
+course_items img events course = trace img (course_events events course)
 
 -- Each look found sixteen words. One thread could have made the calls on the words of the core, from words of 0 on, and
 -- they left what was left. The core's own line, of the number 255, latched what its looks found, look behind look. The
@@ -56,5 +56,5 @@ pub record IsCourse (events : List Event) (other : ℕ) (pends : List ℕ) (cour
   pub whole : AllByRecursion IsWholeLook course.found
   pub legal : IsLegal course.history course.left
   pub own : part course.history 255 ≡ flat_map latches course.found
-  pub pended : map asked_by (part course.history other) ≡ map (λ irq. Some irq) pends
+  pub pended : map interrupt_asked (part course.history other) ≡ map (λ irq. Some irq) pends
   pub others : (number : ℕ) → number ≢ 255 → number ≢ other → part course.history number ≡ []

@@ -30,5 +30,5 @@ forward_of img other (what.Post irq) = forward img other irq
 forward_of img other shown = None
 
 -- the interrupts that the items of a core pend on the other one, in order
-abbrev pub forwarded : Image → Names → List Item → List ℕ
-forwarded img other items = filter_map (λ item. forward_of img other item.what) items
+abbrev pub forwarded_irqs : Image → Names → List Item → List ℕ
+forwarded_irqs img other items = filter_map (λ item. forward_of img other item.what) items

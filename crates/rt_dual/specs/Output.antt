@@ -10,14 +10,14 @@ use Rattle.rt_script.specs.declared.line.Line.{Line}
 use Rattle.rt_trace.specs.Text.{trace_text}
 use Rattle.rt_words.specs.Ending.{calls_in}
 use Rattle.rt_live.specs.Account.{account_of, account_text, declared_irqs}
-use Rattle.rt_live.specs.Weave.{Turn, weave}
-use Rattle.rt_dual.specs.Course.{Course, IsCourse, first_events, second_events, woven, shown}
-use Rattle.rt_dual.specs.Forwarded.{forwarded}
+use Rattle.rt_live.specs.Interleaving.{Turn, interleaving}
+use Rattle.rt_dual.specs.Course.{Course, IsCourse, first_events, second_events, course_events, course_items}
+use Rattle.rt_dual.specs.Forwarded.{forwarded_irqs}
 
 -- the trace of a core, with its total of core steps
 abbrev pub course_text : Image → List Event → Course → List ℕ
 course_text img events course =
-    trace_text img.names (record { items = shown img events course; total = Some (steps (woven events course)) })
+    trace_text img.names (record { items = course_items img events course; total = Some (steps (course_events events course)) })
 
 -- what was pended on the core by the other one
 abbrev pub account : Image → Course → List ℕ
@@ -34,9 +34,9 @@ pub record IsPairText (first second : Image) (script : List Line) (bytes : List 
   pub one : Course
   pub two : Course
   pub is_one : IsCourse (first_events script) 2
-      (forwarded second first.names (shown second (second_events script) two)) one
+      (forwarded_irqs second first.names (course_items second (second_events script) two)) one
   pub is_two : IsCourse (second_events script) 1
-      (forwarded first second.names (shown first (first_events script) one)) two
+      (forwarded_irqs first second.names (course_items first (first_events script) one)) two
   pub written : bytes
       ≡ core_text (codes "core 1\n") first (first_events script) one
       ++ core_text (codes "core 2\n") second (second_events script) two
@@ -49,4 +49,4 @@ pub record TookPart (first second : Image) (script : List Line) (before after : 
 
 -- the core has done the first of the events of these turns, for words that looks may find
 abbrev pub HasBegun : List Turn → Machine → Machine → Type 0
-HasBegun ts old new = (found : List (List ℕ)) × HasDone (weave ts found) old new
+HasBegun ts old new = (found : List (List ℕ)) × HasDone (interleaving ts found) old new

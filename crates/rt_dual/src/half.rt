@@ -4,7 +4,7 @@ ghost use Rattle.rt_live.specs.Ready.{irqs_of};
 ghost use Rattle.rt_dual.specs.Inside.Halves.{front, IsMade, CanClose, Settles};
 ghost use Rattle.rt_dual.specs.Inside.Own.{number_of, other_of};
 
-use crate::place::Place;
+use crate::core_id::CoreId;
 use rt_code::Image;
 use rt_ids::{Names, NoMemory, push_bytes};
 use rt_listing::listing;
@@ -38,12 +38,12 @@ pub struct Lines {
 
 /// What is written in front of the trace of a core: its line, the listing of its image and the trace's own line.
 #[inline(never)]
-fn front_of(alloc: Global, place: Place, image: &Image) -> Result<Vec<u8>, NoMemory>
-    ensures { IfOk result (λ text. text.items ≡ front place image.now) }
+fn front_of(alloc: Global, core_id: CoreId, image: &Image) -> Result<Vec<u8>, NoMemory>
+    ensures { IfOk result (λ text. text.items ≡ front core_id image.now) }
 {
     let listed = listing(alloc, image)?;
     let mut text = Vec::new(alloc);
-    push_bytes(&mut text, place.line())?;
+    push_bytes(&mut text, core_id.line())?;
     push_bytes(&mut text, listed.as_slice())?;
     push_bytes(&mut text, b"trace\n")?;
     Ok(text)
@@ -53,27 +53,31 @@ fn front_of(alloc: Global, place: Place, image: &Image) -> Result<Vec<u8>, NoMem
 #[inline(never)]
 fn words_of(
     alloc: Global,
-    place: Place,
+    core_id: CoreId,
     names: &Names,
 ) -> Result<(Words, Lines, Vec<AccountRow>), NoMemory>
     ensures { IfOk result (λ r.
-        IsMade names.now (number_of (other_of place)) r.0 r.1.own r.1.bell r.2.items) }
+        IsMade names.now (number_of (other_of core_id)) r.0 r.1.own r.1.bell r.2.items) }
 {
     let rows = rows_of(alloc, names)?;
     let (words, mut own) = Words::make(alloc, WORDS, bits_of(&rows))?;
-    let bell = own.split(&words, place.other().number());
+    let bell = own.split(&words, core_id.other().number());
     Ok((words, Lines { own, bell }, rows))
 }
 
 /// What belongs to a core, and the lines that call its words.
 #[inline(never)]
-pub(crate) fn half_of(alloc: Global, place: Place, image: &Image) -> Result<(Half, Lines), NoMemory>
-    ensures made { IfOk result (λ r. IsMade image.now.names (number_of (other_of place)) r.0.words r.1.own r.1.bell
+pub(crate) fn half_of(
+    alloc: Global,
+    core_id: CoreId,
+    image: &Image,
+) -> Result<(Half, Lines), NoMemory>
+    ensures made { IfOk result (λ r. IsMade image.now.names (number_of (other_of core_id)) r.0.words r.1.own r.1.bell
         r.0.rows.items) }
-    ensures front { IfOk result (λ r. r.0.front.items ≡ front place image.now) }
+    ensures front { IfOk result (λ r. r.0.front.items ≡ front core_id image.now) }
 {
-    let front = front_of(alloc, place, image)?;
-    let (words, lines, rows) = words_of(alloc, place, &image.names)?;
+    let front = front_of(alloc, core_id, image)?;
+    let (words, lines, rows) = words_of(alloc, core_id, &image.names)?;
     Ok((Half { words, rows, front }, lines))
 }
 

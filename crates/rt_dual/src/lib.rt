@@ -1,10 +1,10 @@
 // Two cores that run beside each other and pend each other's interrupts through shared atomic words.
 #![tactic(auto)]
 
+mod core_id;
 mod half;
 mod kept;
 mod pairing;
-mod place;
 mod routes;
 mod showing;
 mod side;

@@ -11,9 +11,9 @@ ghost use Rattle.rt_dual.specs.Inside.Both.{AreBefore, HaveEnded, CanWrite, IsWr
 ghost use Rattle.rt_dual.specs.Inside.Own.{events_at, HasNamesAt};
 ghost use Rattle.rt_dual.specs.Inside.Running.{CanRun, Ends, Begins};
 
+use crate::core_id::CoreId;
 use crate::half::{Half, account_of, half_of};
 use crate::kept::Kept;
-use crate::place::Place;
 use crate::routes::routes_of;
 use crate::side::Side;
 use crate::turns::run_side;
@@ -95,10 +95,10 @@ pub struct Both {
 fn both_of(alloc: Global, first: &Image, second: &Image) -> Result<Both, NoMemory>
     ensures { IfOk result (AreBefore first.now second.now) }
 {
-    let (one, lines_one) = half_of(alloc, Place::First, first)?;
-    let (two, lines_two) = half_of(alloc, Place::Second, second)?;
+    let (one, lines_one) = half_of(alloc, CoreId::First, first)?;
+    let (two, lines_two) = half_of(alloc, CoreId::Second, second)?;
     let left = Side {
-        place: Place::First,
+        core_id: CoreId::First,
         line: lines_one.own,
         bell: lines_two.bell,
         rung: 0,
@@ -106,7 +106,7 @@ fn both_of(alloc: Global, first: &Image, second: &Image) -> Result<Both, NoMemor
         trace: Kept::new(alloc),
     };
     let right = Side {
-        place: Place::Second,
+        core_id: CoreId::Second,
         line: lines_two.own,
         bell: lines_one.bell,
         rung: 0,
@@ -136,31 +136,31 @@ fn beside<R: Threads + Sync, G: Gate + Sync>(
 ) -> (Result<(), Failed>, Result<(), Failed>)
     requires first_can { CanRun (count script.now + 1) first.old left.old here.now there.now }
     requires second_can { CanRun (count script.now + 1) second.old right.old there.now here.now }
-    requires first_declared { HasNamesAt left.old.place first.old.image.names script.now }
-    requires second_declared { HasNamesAt right.old.place second.old.image.names script.now }
-    ensures first_ok { OnOk result.0 (Ends (turns (events_at left.old.place script.now)) first.old first.new left.old left.new) }
-    ensures first_err { OnErr result.0 (Begins (turns (events_at left.old.place script.now)) first.old first.new) }
+    requires first_declared { HasNamesAt left.old.core_id first.old.image.names script.now }
+    requires second_declared { HasNamesAt right.old.core_id second.old.image.names script.now }
+    ensures first_ok { OnOk result.0 (Ends (turns (events_at left.old.core_id script.now)) first.old first.new left.old left.new) }
+    ensures first_err { OnErr result.0 (Begins (turns (events_at left.old.core_id script.now)) first.old first.new) }
     ensures second_ok { OnOk result.1
-        (Ends (turns (events_at right.old.place script.now)) second.old second.new right.old right.new) }
-    ensures second_err { OnErr result.1 (Begins (turns (events_at right.old.place script.now)) second.old second.new) }
+        (Ends (turns (events_at right.old.core_id script.now)) second.old second.new right.old right.new) }
+    ensures second_err { OnErr result.1 (Begins (turns (events_at right.old.core_id script.now)) second.old second.new) }
 {
     join_mut(
         rt,
         &mut || -> Result<(), Failed>
             requires sync { IsSync G.row }
             requires can { CanRun (count script.now + 1) first.now left.now here.now there.now }
-            requires declared { HasNamesAt left.now.place first.now.image.names script.now }
-            ensures ok { OnOk result (Ends (turns (events_at left.entry.now.place script.entry.now))
+            requires declared { HasNamesAt left.now.core_id first.now.image.names script.now }
+            ensures ok { OnOk result (Ends (turns (events_at left.entry.now.core_id script.entry.now))
                 first.entry.now first.exit.now left.entry.now left.exit.now) }
-            ensures err { OnErr result (Begins (turns (events_at left.entry.now.place script.entry.now))
+            ensures err { OnErr result (Begins (turns (events_at left.entry.now.core_id script.entry.now))
                 first.entry.now first.exit.now) }
         { run_side(first, left, here, there, script, gate) },
         &mut || -> Result<(), Failed>
             requires can { CanRun (count script.now + 1) second.now right.now there.now here.now }
-            requires declared { HasNamesAt right.now.place second.now.image.names script.now }
-            ensures ok { OnOk result (Ends (turns (events_at right.entry.now.place script.entry.now))
+            requires declared { HasNamesAt right.now.core_id second.now.image.names script.now }
+            ensures ok { OnOk result (Ends (turns (events_at right.entry.now.core_id script.entry.now))
                 second.entry.now second.exit.now right.entry.now right.exit.now) }
-            ensures err { OnErr result (Begins (turns (events_at right.entry.now.place script.entry.now))
+            ensures err { OnErr result (Begins (turns (events_at right.entry.now.core_id script.entry.now))
                 second.entry.now second.exit.now) }
         { run_side(second, right, there, here, script, gate) },
     )

@@ -1,7 +1,7 @@
 ghost use Rattle.std.specs.Prelude.{◌≡◌, ℕ, ◌<◌, ◌≤◌, None, slice_index_or};
 ghost use Rattle.rt_ids.specs.declared.limits.TheConstants.{IRQ_NUMBERS};
 ghost use Rattle.rt_dual.specs.Forwarded.{enables, forward};
-ghost use Rattle.rt_dual.specs.Inside.Ringing.{rung_of_shown};
+ghost use Rattle.rt_dual.specs.Inside.Ringing.{irq_of_shown};
 
 use rt_code::Image;
 use rt_ids::limits::IRQ_NUMBERS;
@@ -47,8 +47,8 @@ pub fn routes_of(image: &Image, other: &Names) -> Routes
 }
 
 /// The interrupt that a core pends on the other one behind a step that shows this.
-pub(crate) fn rung(routes: &Routes, shown: &Option<What>) -> Option<Irq>
-    ensures { result ≡ rung_of_shown routes.now shown.now }
+pub(crate) fn irq_of_shown(routes: &Routes, shown: &Option<What>) -> Option<Irq>
+    ensures { result ≡ irq_of_shown routes.now shown.now }
 {
     match shown {
         Some(What::Post(posted)) => routes[usize::from(posted.get())],

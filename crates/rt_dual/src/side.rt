@@ -1,9 +1,9 @@
 ghost use Rattle.std.specs.Prelude.{◌≡◌, ◌+◌, ◌-◌, ◌^◌, ◌<◌, length, option_to_list};
-ghost use Rattle.rt_dual.specs.Inside.Ringing.{Rings, MayRing, rung_of_shown, IsSameBut};
+ghost use Rattle.rt_dual.specs.Inside.Ringing.{Rings, MayRing, irq_of_shown, IsSameBut};
 
+use crate::core_id::CoreId;
 use crate::kept::Kept;
-use crate::place::Place;
-use crate::routes::{Routes, rung};
+use crate::routes::{Routes, irq_of_shown};
 use rt_devices::Gate;
 use rt_trace::What;
 use rt_words::{CoreLine, DeviceLine, Words};
@@ -12,7 +12,7 @@ use rt_words::{CoreLine, DeviceLine, Words};
 #[derive(Drop)]
 pub struct Side {
     /// Which core it is.
-    pub place: Place,
+    pub core_id: CoreId,
     /// The core's line of its own words.
     pub line: CoreLine,
     /// Its line of the other core's words, by which it rings there.
@@ -33,13 +33,13 @@ impl Side {
         requires words { self.old.bell.words ≡ there.now }
         requires may { MayRing self.old.routes there.now }
         requires room { length self.old.bell.calls < 2 ^ 32 - 1 }
-        ensures rings { Rings (option_to_list (rung_of_shown self.old.routes shown.now)) self.old.bell self.new.bell }
+        ensures rings { Rings (option_to_list (irq_of_shown self.old.routes shown.now)) self.old.bell self.new.bell }
         ensures rest { IsSameBut self.old self.new }
     {
-        let Some(irq) = rung(&self.routes, shown) else {
+        let Some(irq) = irq_of_shown(&self.routes, shown) else {
             return;
         };
-        gate.before_pend(self.place.number(), self.rung);
+        gate.before_pend(self.core_id.number(), self.rung);
         self.bell.pend(there, irq);
         self.rung = self.rung.saturating_add(1);
     }

@@ -4,13 +4,13 @@ ghost use Rattle.std.specs.Prelude.{◌≡◌, ◌+◌, ◌^◌, ◌<◌, [], �
 ghost use Rattle.rt_ids.specs.Event.{Step};
 ghost use Rattle.rt_script.specs.Script.{count, count_of};
 ghost use Rattle.rt_run.specs.Writable.{IsWritable};
-ghost use Rattle.rt_live.specs.Weave.{Happens, Looks};
-ghost use Rattle.rt_live.specs.Inside.Own.{repeated};
+ghost use Rattle.rt_live.specs.Interleaving.{Happens, Looks};
+ghost use Rattle.rt_live.specs.Inside.Own.{repeated_turns};
 ghost use Rattle.rt_dual.specs.Course.{turns};
 ghost use Rattle.rt_dual.specs.Inside.Own.{turn_of, request_of, own_turns, events_at, HasNameAt, HasNamesAt, IsDeclaredAt};
 ghost use Rattle.rt_dual.specs.Inside.Running.{CanRun, Runs, Begins, Ends};
 
-use crate::place::Place;
+use crate::core_id::CoreId;
 use crate::showing::show_step;
 use crate::side::Side;
 use rt_core::Core;
@@ -24,8 +24,8 @@ use rt_trace::LineBuffer;
 use rt_words::Words;
 
 /// The gate is told of the first core's steps.
-fn tell<G: Gate>(place: Place, step: u64, gate: &G) {
-    if place == Place::First {
+fn tell<G: Gate>(core_id: CoreId, step: u64, gate: &G) {
+    if core_id == CoreId::First {
         gate.before_step(step);
     }
 }
@@ -45,7 +45,7 @@ fn step<G: Gate>(
     ensures none_held { OnOk result (held.new ≡ []) }
     ensures err { OnErr result (Begins (Happens Step ∷ []) core.old core.new) }
 {
-    tell(side.place, core.steps(), gate);
+    tell(side.core_id, core.steps(), gate);
     look(core, &mut side.line, words, &mut side.trace, held)?;
     let shown = show_step(core, &mut side.trace)?;
     side.ring(there, &shown, gate);
@@ -56,15 +56,15 @@ fn step<G: Gate>(
 fn request(core: &mut Core, side: &mut Side, irq: Irq, held: &mut LineBuffer) -> Result<(), Failed>
     requires writable { IsWritable core.old }
     requires few { core.old.steps < 2 ^ 31 }
-    requires declared { IsDeclaredAt side.old.place core.old.image.names irq }
+    requires declared { IsDeclaredAt side.old.core_id core.old.image.names irq }
     requires empty { held.old ≡ [] }
-    ensures ok { OnOk result (Runs (request_of side.old.place irq) core.old core.new side.old side.new) }
+    ensures ok { OnOk result (Runs (request_of side.old.core_id irq) core.old core.new side.old side.new) }
     ensures none_held { OnOk result (held.new ≡ []) }
-    ensures err { OnErr result (Begins (request_of side.old.place irq) core.old core.new) }
+    ensures err { OnErr result (Begins (request_of side.old.core_id irq) core.old core.new) }
 {
-    match side.place {
-        Place::First => send_pend(core, irq, &mut side.trace, held),
-        Place::Second => Ok(()),
+    match side.core_id {
+        CoreId::First => send_pend(core, irq, &mut side.trace, held),
+        CoreId::Second => Ok(()),
     }
 }
 
@@ -79,11 +79,11 @@ fn turn<G: Gate>(
     gate: &G,
 ) -> Result<(), Failed>
     requires can { CanRun 1 core.old side.old words.now there.now }
-    requires declared { HasNameAt side.old.place core.old.image.names asked.now }
+    requires declared { HasNameAt side.old.core_id core.old.image.names asked.now }
     requires empty { held.old ≡ [] }
-    ensures ok { OnOk result (Runs (turn_of side.old.place asked.now) core.old core.new side.old side.new) }
+    ensures ok { OnOk result (Runs (turn_of side.old.core_id asked.now) core.old core.new side.old side.new) }
     ensures none_held { OnOk result (held.new ≡ []) }
-    ensures err { OnErr result (Begins (turn_of side.old.place asked.now) core.old core.new) }
+    ensures err { OnErr result (Begins (turn_of side.old.core_id asked.now) core.old core.new) }
 {
     match asked {
         Line::Steps(_) => step(core, side, words, there, held, gate),
@@ -104,12 +104,12 @@ fn own_line<G: Gate>(
     gate: &G,
 ) -> Result<(), Failed>
     requires can { CanRun (count_of asked.now) core.old side.old words.now there.now }
-    requires declared { HasNameAt side.old.place core.old.image.names asked.now }
+    requires declared { HasNameAt side.old.core_id core.old.image.names asked.now }
     requires empty { held.old ≡ [] }
-    ensures ok { OnOk result (Runs (repeated (count_of asked.now) (turn_of side.old.place asked.now))
+    ensures ok { OnOk result (Runs (repeated_turns (count_of asked.now) (turn_of side.old.core_id asked.now))
         core.old core.new side.old side.new) }
     ensures none_held { OnOk result (held.new ≡ []) }
-    ensures err { OnErr result (Begins (repeated (count_of asked.now) (turn_of side.old.place asked.now))
+    ensures err { OnErr result (Begins (repeated_turns (count_of asked.now) (turn_of side.old.core_id asked.now))
         core.old core.new) }
 {
     for _done in 0..asked.count() {
@@ -129,11 +129,11 @@ fn own_lines<G: Gate>(
     gate: &G,
 ) -> Result<(), Failed>
     requires can { CanRun (count script.now) core.old side.old words.now there.now }
-    requires declared { HasNamesAt side.old.place core.old.image.names script.now }
+    requires declared { HasNamesAt side.old.core_id core.old.image.names script.now }
     requires empty { held.old ≡ [] }
-    ensures ok { OnOk result (Runs (own_turns side.old.place script.now) core.old core.new side.old side.new) }
+    ensures ok { OnOk result (Runs (own_turns side.old.core_id script.now) core.old core.new side.old side.new) }
     ensures none_held { OnOk result (held.new ≡ []) }
-    ensures err { OnErr result (Begins (own_turns side.old.place script.now) core.old core.new) }
+    ensures err { OnErr result (Begins (own_turns side.old.core_id script.now) core.old core.new) }
 {
     for asked in script {
         own_line(core, side, words, there, asked, held, gate)?;
@@ -170,9 +170,9 @@ pub(crate) fn run_side<G: Gate>(
     gate: &G,
 ) -> Result<(), Failed>
     requires can { CanRun (count script.now + 1) core.old side.old words.now there.now }
-    requires declared { HasNamesAt side.old.place core.old.image.names script.now }
-    ensures ok { OnOk result (Ends (turns (events_at side.old.place script.now)) core.old core.new side.old side.new) }
-    ensures err { OnErr result (Begins (turns (events_at side.old.place script.now)) core.old core.new) }
+    requires declared { HasNamesAt side.old.core_id core.old.image.names script.now }
+    ensures ok { OnOk result (Ends (turns (events_at side.old.core_id script.now)) core.old core.new side.old side.new) }
+    ensures err { OnErr result (Begins (turns (events_at side.old.core_id script.now)) core.old core.new) }
 {
     let mut held = LineBuffer::new();
     own_lines(core, side, words, there, script, &mut held, gate)?;

@@ -11,7 +11,7 @@ use Rattle.rt_ids.proofs.Greatest.{greatest_append}
 use Rattle.rt_app.specs.Spawned.{statement_spawns, spawns}
 use Rattle.rt_app.specs.Frame.{depth, is_loop, spawn_words}
 use Rattle.rt_frames.specs.declared.frame.Parts.{Parts}
-use Rattle.rt_frames.specs.Inside.Saturated.{saturated}
+use Rattle.rt_frames.specs.Inside.Saturated.{saturated_number}
 use Rattle.rt_frames.specs.Inside.FrameParts.{both, expression_parts, statement_parts, block_parts}
 use Rattle.rt_frames.proofs.Sums.{block_more, expressions_more}
 
@@ -43,10 +43,10 @@ parts_more = block_more block_parts statement_parts both then_parts both_assoc a
 branch_parts : (e : Expression) (a b : Block) → both (expression_parts e) (both (block_parts a) (block_parts b)) ≡ statement_parts (Branch e a b)
 branch_parts e a b = same _ _ _ _ _ _ _ _ _ _ (omega arith) (omega arith) refl (omega arith) (omega (arith, words_append (spawns a) (spawns b)))
 
-repeat_parts : (x first last : ℕ) (turn : Block) → record (block_parts turn) { variables = saturated ((block_parts turn).variables + 1); has_loop = true } ≡ statement_parts (Repeat x first last turn)
+repeat_parts : (x first last : ℕ) (turn : Block) → record (block_parts turn) { variables = saturated_number ((block_parts turn).variables + 1); has_loop = true } ≡ statement_parts (Repeat x first last turn)
 repeat_parts x first last turn = same _ _ _ _ _ _ _ _ _ _ (omega arith) refl refl refl refl
 
-locked_parts : (r : ℕ) (inner : Block) (at : ℕ) → record (block_parts inner) { locks = saturated ((block_parts inner).locks + 1) } ≡ statement_parts (Locked r inner at)
+locked_parts : (r : ℕ) (inner : Block) (at : ℕ) → record (block_parts inner) { locks = saturated_number ((block_parts inner).locks + 1) } ≡ statement_parts (Locked r inner at)
 locked_parts r inner at = same _ _ _ _ _ _ _ _ _ _ refl refl refl (omega arith) refl
 
 pub depths_more : (xs : List Expr) (i : ℕ) (x : Expr) → i < length xs → x ≡ get_or xs i x
@@ -58,13 +58,13 @@ pub branch_gives : (s : Statement) (e : Expression) (a b : Block) (x p q r all :
 branch_gives s e a b x p q r all is f g h i j =
     j ∙ ap (λ y. both y r) f ∙ ap (both (expression_parts e)) (i ∙ ap (λ y. both y q) g ∙ ap (both (block_parts a)) h) ∙ branch_parts e a b ∙ ap statement_parts (sym is)
 
-pub repeat_gives : (s : Statement) (x first last : ℕ) (turn : Block) (p all : Parts) → s ≡ Repeat x first last turn → p ≡ block_parts turn → all ≡ record p { variables = saturated (p.variables + 1); has_loop = true }
+pub repeat_gives : (s : Statement) (x first last : ℕ) (turn : Block) (p all : Parts) → s ≡ Repeat x first last turn → p ≡ block_parts turn → all ≡ record p { variables = saturated_number (p.variables + 1); has_loop = true }
     → all ≡ statement_parts s
 repeat_gives s x first last turn p all is e f =
-    f ∙ ap (λ (q : Parts). parts (saturated (q.variables + 1)) q.depth true q.locks q.spawns) e ∙ repeat_parts x first last turn ∙ ap statement_parts (sym is)
+    f ∙ ap (λ (q : Parts). parts (saturated_number (q.variables + 1)) q.depth true q.locks q.spawns) e ∙ repeat_parts x first last turn ∙ ap statement_parts (sym is)
 
-pub locked_gives : (s : Statement) (r : ℕ) (inner : Block) (at : ℕ) (p all : Parts) → s ≡ Locked r inner at → p ≡ block_parts inner → all ≡ record p { locks = saturated (p.locks + 1) } → all ≡ statement_parts s
-locked_gives s r inner at p all is e f = f ∙ ap (λ (q : Parts). parts q.variables q.depth q.has_loop (saturated (q.locks + 1)) q.spawns) e ∙ locked_parts r inner at ∙ ap statement_parts (sym is)
+pub locked_gives : (s : Statement) (r : ℕ) (inner : Block) (at : ℕ) (p all : Parts) → s ≡ Locked r inner at → p ≡ block_parts inner → all ≡ record p { locks = saturated_number (p.locks + 1) } → all ≡ statement_parts s
+locked_gives s r inner at p all is e f = f ∙ ap (λ (q : Parts). parts q.variables q.depth q.has_loop (saturated_number (q.locks + 1)) q.spawns) e ∙ locked_parts r inner at ∙ ap statement_parts (sym is)
 
 pub more_gives : (xs : List Stmt) (i : ℕ) (x : Stmt) (before one all : Parts) → i < length xs → x ≡ get_or xs i x → before ≡ block_parts (block_of (take i xs)) → one ≡ statement_parts (statement_of x) → all ≡ both before one
     → all ≡ block_parts (block_of (take (i + 1) xs))

@@ -1,4 +1,4 @@
--- The levels that have a handler, what their handlers need, and the bytes of the stack.
+-- The priorities that have a handler, what their handlers need, and the bytes of the stack.
 use Rattle.std.proofs.Common.{◌≡◌, ℕ, ◌+◌, ◌*◌, ◌<◌, ◌==◌, max, Bool, true, false, not, ◌&&◌, ◌||◌, List, [], ◌∷◌, ◌++◌, length, get_or, take, map, filter, cond, Some, None, Option, refl, sym, ap, ◌∙◌, arith, add-one}
 use Rattle.std.specs.List.{list_any}
 use Rattle.std.proofs.lemmas.List.{map_more, map-append}
@@ -12,8 +12,8 @@ use Rattle.rt_ids.specs.Exception.{entry_words}
 use Rattle.rt_ids.specs.Lists.{greatest, is_some_and}
 use Rattle.rt_app.specs.Level.{is_software, is_of_level}
 use Rattle.rt_app.specs.Frame.{frame_words}
-use Rattle.rt_app.specs.Stack.{is_bound_at, has_handler, timer_need, need, level_bytes, bytes_below}
-use Rattle.rt_frames.specs.Inside.Flags.{flagged, HasFlags, timer_numbers}
+use Rattle.rt_app.specs.Stack.{is_bound_at, has_handler, timer_need, need, priority_bytes, bytes_below}
+use Rattle.rt_frames.specs.Inside.Flags.{flags_with, HasFlags, timer_numbers}
 use Rattle.rt_frames.specs.Inside.Needs.{need_at}
 use Rattle.rt_frames.proofs.Flagging.{flagged_at, flagged_both}
 use Rattle.rt_ids.proofs.Greatest.{greatest_append}
@@ -26,14 +26,14 @@ any_timer : (p : ℕ) (mono : Option Mono) → list_any (λ n. n == p) (timer_nu
 any_timer p None = refl
 any_timer p (Some mono) = or-false (mono.priority == p)
 
-pub handlers_are : (app : App) (f0 f1 f2 : List Bool) → HasFlags f0 (λ n. false) → f1 ≡ flagged (map (λ t. t.priority) app.tasks) f0 → f2 ≡ flagged (timer_numbers app.mono) f1 → length f2 ≡ 256 → HasFlags f2 (has_handler app)
+pub handlers_are : (app : App) (f0 f1 f2 : List Bool) → HasFlags f0 (λ n. false) → f1 ≡ flags_with (map (λ t. t.priority) app.tasks) f0 → f2 ≡ flags_with (timer_numbers app.mono) f1 → length f2 ≡ 256 → HasFlags f2 (has_handler app)
 handlers_are app f0 f1 f2 none e1 e2 long = record {
   long = long;
   flag = λ p.
       let T = map (λ t. t.priority) app.tasks in
       let M = timer_numbers app.mono in
       let all = flagged_both T M f0 f1 f2 e1 e2 in
-      let some : 0 < length (flagged (T ++ M) f0) = rw (← all) (omega (arith, long)) in
+      let some : 0 < length (flags_with (T ++ M) f0) = rw (← all) (omega (arith, long)) in
       ap (λ f. get_or f p false) all ∙ flagged_at (T ++ M) f0 p some ∙ ap (λ b. b || list_any (λ n. n == p) (T ++ M)) (none.flag p) ∙ list_any-append (λ n. n == p) T M
       ∙ ap (λ b. b || list_any (λ n. n == p) M) (any_priority p app.tasks) ∙ ap (λ b. list_any (λ t. t.priority == p) app.tasks || b) (any_timer p app.mono);
 }
@@ -89,11 +89,11 @@ pub bytes_none : (app : App) → bytes_below app 0 ≡ 0
 unfolding bytes_below
 bytes_none app = refl
 
-pub bytes_more : (app : App) (p : ℕ) → bytes_below app (p + 1) ≡ bytes_below app p + level_bytes app p
+pub bytes_more : (app : App) (p : ℕ) → bytes_below app (p + 1) ≡ bytes_below app p + priority_bytes app p
 unfolding bytes_below
 bytes_more app p = rw add-one refl
 
 pub level_is : (app : App) (flags : List Bool) → HasFlags flags (has_handler app) → (p k : ℕ) → k ≡ p
-    → cond (get_or flags k false) (4 * (entry_words app.fpu + need app p)) 0 ≡ level_bytes app p
+    → cond (get_or flags k false) (4 * (entry_words app.fpu + need app p)) 0 ≡ priority_bytes app p
 level_is app flags has p k e =
     ap (λ b. cond b (4 * (entry_words app.fpu + need app p)) 0) (ap (λ j. get_or flags j false) e ∙ has.flag p)

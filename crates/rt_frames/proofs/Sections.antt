@@ -22,9 +22,9 @@ use Rattle.rt_app.specs.Cost.{Measure, lock_cost, block_cost}
 use Rattle.rt_app.specs.BodyCost.{cost_measure, dispatcher_section_cost, timer_section_cost, handle_section_cost}
 use Rattle.rt_app.specs.Sound.{IsSoundSpawn, IsSoundValue, IsSoundStatement, IsSoundBlock}
 use Rattle.rt_app.specs.Acceptance.{IsSound}
-use Rattle.rt_app.specs.Waiting.{Critical, spawn_sections, value_sections, statement_sections, block_sections, idle_sections, dispatcher_sections, tasks_sections, moved_sections, handler_sections, sections, holds_off, waiting_bound, free_section, ready_section}
+use Rattle.rt_app.specs.Waiting.{CriticalSection, spawn_sections, value_sections, statement_sections, block_sections, idle_sections, dispatcher_sections, tasks_sections, moved_sections, handler_sections, sections, holds_off, waiting_bound, free_section, ready_section}
 use Rattle.rt_frames.specs.Inside.Flags.{HasFlags}
-use Rattle.rt_frames.specs.Inside.Waits.{shared_at, free_at, ready_at, if_reaches, spawn_wait, value_wait, statement_wait, block_wait, idle_wait, dispatcher_wait, task_wait, tasks_wait, move_wait, moves_wait, timer_wait, wait_within}
+use Rattle.rt_frames.specs.Inside.Waits.{shared_ceiling, free_at, ready_at, if_reaches, spawn_wait, value_wait, statement_wait, block_wait, idle_wait, dispatcher_wait, task_wait, tasks_wait, move_wait, moves_wait, timer_wait, wait_within}
 use Rattle.rt_frames.specs.Inside.Bounded.{wait_of}
 use Rattle.rt_ids.proofs.Greatest.{greatest_append}
 use Rattle.rt_frames.proofs.Tables.{shared_at_is, free_at_is, ready_at_is, timer_at_is}
@@ -46,53 +46,53 @@ counted_and true d n = refl
 counted_and false d n = refl
 
 -- what sections cost that hold a priority off
-abbrev amount : ℕ → Critical → ℕ
+abbrev amount : ℕ → CriticalSection → ℕ
 amount p s = counted (holds_off p s) s.cost
 
-abbrev most : ℕ → List Critical → ℕ
+abbrev most : ℕ → List CriticalSection → ℕ
 most p cs = greatest (map (amount p) cs)
 
-most_append : (p : ℕ) (xs ys : List Critical) → most p (xs ++ ys) ≡ max (most p xs) (most p ys)
+most_append : (p : ℕ) (xs ys : List CriticalSection) → most p (xs ++ ys) ≡ max (most p xs) (most p ys)
 most_append p xs ys = ap greatest (map-append (amount p) xs ys) ∙ greatest_append (map (amount p) xs) (map (amount p) ys)
 
-kept : (b : Bool) (n : ℕ) (s : Critical) (cs : List Critical) → n ≡ greatest (map (λ x. x.cost) cs) → max (counted b s.cost) n ≡ greatest (map (λ x. x.cost) (cond b (s ∷ cs) cs))
+kept : (b : Bool) (n : ℕ) (s : CriticalSection) (cs : List CriticalSection) → n ≡ greatest (map (λ x. x.cost) cs) → max (counted b s.cost) n ≡ greatest (map (λ x. x.cost) (cond b (s ∷ cs) cs))
 kept true n s cs h = ap (max s.cost) h
 kept false n s cs h = omega (arith, h)
 
-most_is : (p : ℕ) (cs : List Critical) → most p cs ≡ greatest (map (λ s. s.cost) (filter (holds_off p) cs))
+most_is : (p : ℕ) (cs : List CriticalSection) → most p cs ≡ greatest (map (λ s. s.cost) (filter (holds_off p) cs))
 most_is p [] = refl
 most_is p (s ∷ cs) = kept (holds_off p s) (most p cs) s (filter (holds_off p) cs) (most_is p cs)
 
--- whether sections of a level, inside sections of ceilings up to a number, can hold a priority off
+-- whether sections of a priority, inside sections of ceilings up to a number, can hold a priority off
 abbrev can : ℕ → ℕ → ℕ → Bool
-can p level outer = nat_lt level p && nat_lt outer p
+can p priority outer = nat_lt priority p && nat_lt outer p
 
 -- one section, whose ceiling a table has
-one_at : (p level outer c k d : ℕ) → d ≡ c → amount p (record { level = level; outer = outer; ceiling = c; cost = k }) ≡ counted (can p level outer) (if_reaches p d k)
-one_at p level outer c k d e = counted_and (can p level outer) (nat_le p c) k ∙ ap (λ x. counted (can p level outer) (if_reaches p x k)) (sym e)
+one_at : (p priority outer c k d : ℕ) → d ≡ c → amount p (record { priority = priority; outer = outer; ceiling = c; cost = k }) ≡ counted (can p priority outer) (if_reaches p d k)
+one_at p priority outer c k d e = counted_and (can p priority outer) (nat_le p c) k ∙ ap (λ x. counted (can p priority outer) (if_reaches p x k)) (sym e)
 
 with_none : (n : ℕ) → max n 0 ≡ n
 with_none n = omega arith
 
-alone_at : (p level outer c k d : ℕ) → d ≡ c
-    → most p (record { level = level; outer = outer; ceiling = c; cost = k } ∷ []) ≡ counted (can p level outer) (if_reaches p d k)
-alone_at p level outer c k d e =
-    with_none (amount p (record { level = level; outer = outer; ceiling = c; cost = k })) ∙ one_at p level outer c k d e
+alone_at : (p priority outer c k d : ℕ) → d ≡ c
+    → most p (record { priority = priority; outer = outer; ceiling = c; cost = k } ∷ []) ≡ counted (can p priority outer) (if_reaches p d k)
+alone_at p priority outer c k d e =
+    with_none (amount p (record { priority = priority; outer = outer; ceiling = c; cost = k })) ∙ one_at p priority outer c k d e
 
 alone : (m n : ℕ) → max m (max n 0) ≡ max m n
 alone m n = omega arith
 
-two_at : (p level outer a i b j c d : ℕ) → c ≡ a → d ≡ b
-    → most p (record { level = level; outer = outer; ceiling = a; cost = i } ∷ record { level = level; outer = outer; ceiling = b; cost = j } ∷ [])
-    ≡ counted (can p level outer) (max (if_reaches p c i) (if_reaches p d j))
-two_at p level outer a i b j c d e f =
-    alone (amount p (record { level = level; outer = outer; ceiling = a; cost = i })) (amount p (record { level = level; outer = outer; ceiling = b; cost = j }))
-    ∙ ap (λ x. max x (amount p (record { level = level; outer = outer; ceiling = b; cost = j }))) (one_at p level outer a i c e) ∙ ap (max (counted (can p level outer) (if_reaches p c i))) (one_at p level outer b j d f)
-    ∙ both_counted (can p level outer) (if_reaches p c i) (if_reaches p d j)
+two_at : (p priority outer a i b j c d : ℕ) → c ≡ a → d ≡ b
+    → most p (record { priority = priority; outer = outer; ceiling = a; cost = i } ∷ record { priority = priority; outer = outer; ceiling = b; cost = j } ∷ [])
+    ≡ counted (can p priority outer) (max (if_reaches p c i) (if_reaches p d j))
+two_at p priority outer a i b j c d e f =
+    alone (amount p (record { priority = priority; outer = outer; ceiling = a; cost = i })) (amount p (record { priority = priority; outer = outer; ceiling = b; cost = j }))
+    ∙ ap (λ x. max x (amount p (record { priority = priority; outer = outer; ceiling = b; cost = j }))) (one_at p priority outer a i c e) ∙ ap (max (counted (can p priority outer) (if_reaches p c i))) (one_at p priority outer b j d f)
+    ∙ both_counted (can p priority outer) (if_reaches p c i) (if_reaches p d j)
 
-joined : (p level outer : ℕ) (xs ys : List Critical) (i j : ℕ) → most p xs ≡ counted (can p level outer) i → most p ys ≡ counted (can p level outer) j → most p (xs ++ ys) ≡ counted (can p level outer) (max i j)
-joined p level outer xs ys i j e f =
-    most_append p xs ys ∙ ap (λ x. max x (most p ys)) e ∙ ap (max (counted (can p level outer) i)) f ∙ both_counted (can p level outer) i j
+joined : (p priority outer : ℕ) (xs ys : List CriticalSection) (i j : ℕ) → most p xs ≡ counted (can p priority outer) i → most p ys ≡ counted (can p priority outer) j → most p (xs ++ ys) ≡ counted (can p priority outer) (max i j)
+joined p priority outer xs ys i j e f =
+    most_append p xs ys ∙ ap (λ x. max x (most p ys)) e ∙ ap (max (counted (can p priority outer) i)) f ∙ both_counted (can p priority outer) i j
 
 -- sections inside one of a ceiling
 below_both : (a c p : ℕ) → nat_lt (max a c) p ≡ (nat_lt a p && not (nat_le p c))
@@ -104,16 +104,16 @@ inside true true false cost within = omega arith
 inside true false d cost within = omega arith
 inside false b d cost within = omega arith
 
-lock_at : (p level outer c d cost within : ℕ) (cs : List Critical) → d ≡ c → most p cs ≡ counted (can p level (max outer c)) within
-    → most p (record { level = level; outer = outer; ceiling = c; cost = cost } ∷ cs) ≡ counted (can p level outer) (if nat_le p d then cost else within)
-lock_at p level outer c d cost within cs e f =
-    ap (λ x. max x (most p cs)) (one_at p level outer c cost c refl) ∙ ap (max (counted (can p level outer) (if_reaches p c cost))) f
-    ∙ ap (λ b. max (counted (can p level outer) (if_reaches p c cost)) (counted (nat_lt level p && b) within)) (below_both outer c p)
-    ∙ inside (nat_lt level p) (nat_lt outer p) (nat_le p c) cost within ∙ ap (λ x. counted (can p level outer) (if nat_le p x then cost else within)) (sym e)
+lock_at : (p priority outer c d cost within : ℕ) (cs : List CriticalSection) → d ≡ c → most p cs ≡ counted (can p priority (max outer c)) within
+    → most p (record { priority = priority; outer = outer; ceiling = c; cost = cost } ∷ cs) ≡ counted (can p priority outer) (if nat_le p d then cost else within)
+lock_at p priority outer c d cost within cs e f =
+    ap (λ x. max x (most p cs)) (one_at p priority outer c cost c refl) ∙ ap (max (counted (can p priority outer) (if_reaches p c cost))) f
+    ∙ ap (λ b. max (counted (can p priority outer) (if_reaches p c cost)) (counted (nat_lt priority p && b) within)) (below_both outer c p)
+    ∙ inside (nat_lt priority p) (nat_lt outer p) (nat_le p c) cost within ∙ ap (λ x. counted (can p priority outer) (if nat_le p x then cost else within)) (sym e)
 
 -- in no section
-outermost : (level p : ℕ) → can p level 0 ≡ nat_lt level p
-outermost level p = grind (arith, nat_tests)
+outermost : (priority p : ℕ) → can p priority 0 ≡ nat_lt priority p
+outermost priority p = grind (arith, nat_tests)
 
 any_at : {X : Type 0} (test : X → Bool) (xs : List X) (n : ℕ) (x : X) → slice_get xs n ≡ Some x → test x ≡ true → list_any test xs ≡ true
 any_at test [] n x at h = cc
@@ -131,48 +131,48 @@ module _ (app : App) (few : (q : ℕ) → list_any (is_of_level q) app.tasks ≡
   priority_at n t at = ap (λ (o : Option Task). or_zero (option_map (λ u. u.priority) o)) at
 
   -- a body, at a priority
-  module _ (p : ℕ) (m : Member) (level : ℕ) where
-    spawn_most : (outer : ℕ) (locked : List ℕ) (s : Spawn) → IsSoundSpawn app m locked s → most p (spawn_sections app level outer s) ≡ counted (can p level outer) (spawn_wait app (cost_measure app) (ceilings app) p s)
+  module _ (p : ℕ) (m : Member) (priority : ℕ) where
+    spawn_most : (outer : ℕ) (locked : List ℕ) (s : Spawn) → IsSoundSpawn app m locked s → most p (spawn_sections app priority outer s) ≡ counted (can p priority outer) (spawn_wait app (cost_measure app) (ceilings app) p s)
     spawn_most outer locked (Soon n args at) h =
-        two_at p level outer (ceiling app (section.Free n)) FREE_COST (ceiling app (section.Ready (task_priority app n))) READY_COST (free_at (ceilings app) n) (ready_at (ceilings app) (task_priority app n))
+        two_at p priority outer (ceiling app (section.Free n)) FREE_COST (ceiling app (section.Ready (task_priority app n))) READY_COST (free_at (ceilings app) n) (ready_at (ceilings app) (task_priority app n))
         (free_at_is app n h.0 h.1.is_there h.1.software) (level_at n (task_priority app n) h.0 h.1.is_there h.1.software (priority_at n h.0 h.1.is_there))
     spawn_most outer locked (After word delay n args at) h =
-        two_at p level outer (ceiling app (section.Free n)) FREE_COST (ceiling app section.Timer) (timer_section_cost app) (free_at (ceilings app) n) (or_zero (ceilings app).timer)
+        two_at p priority outer (ceiling app (section.Free n)) FREE_COST (ceiling app section.Timer) (timer_section_cost app) (free_at (ceilings app) n) (or_zero (ceilings app).timer)
         (free_at_is app n h.0 h.1.is_there h.1.software) (timer_at_is app h.4.0 h.4.1)
     spawn_most outer locked (Cancel word n handle at) h =
-        two_at p level outer (ceiling app section.Timer) (handle_section_cost app) (ceiling app (section.Free n)) FREE_COST
+        two_at p priority outer (ceiling app section.Timer) (handle_section_cost app) (ceiling app (section.Free n)) FREE_COST
         (or_zero (ceilings app).timer) (free_at (ceilings app) n) (timer_at_is app h.1.timed.0 h.1.timed.1)
         (free_at_is app n h.0 h.1.is_there h.1.software)
     spawn_most outer locked (Move word delay n handle at) h =
-        alone_at p level outer (ceiling app section.Timer) (handle_section_cost app) (or_zero (ceilings app).timer)
+        alone_at p priority outer (ceiling app section.Timer) (handle_section_cost app) (or_zero (ceilings app).timer)
         (timer_at_is app h.1.timed.0 h.1.timed.1)
 
-    value_most : (outer : ℕ) (locked : List ℕ) (v : Value) → IsSoundValue app m locked v → most p (value_sections app level outer v) ≡ counted (can p level outer) (value_wait app (cost_measure app) (ceilings app) p v)
-    value_most outer locked (Calc e) h = counted_none (can p level outer)
-    value_most outer locked (Now at) h = counted_none (can p level outer)
+    value_most : (outer : ℕ) (locked : List ℕ) (v : Value) → IsSoundValue app m locked v → most p (value_sections app priority outer v) ≡ counted (can p priority outer) (value_wait app (cost_measure app) (ceilings app) p v)
+    value_most outer locked (Calc e) h = counted_none (can p priority outer)
+    value_most outer locked (Now at) h = counted_none (can p priority outer)
     value_most outer locked (Call s) h = spawn_most outer locked s h
 
     mutual
       statement_most : (outer n : ℕ) (locked fixed : List ℕ) (s : Statement) → IsSoundStatement app m n locked fixed s
-          → most p (statement_sections app level outer s) ≡ counted (can p level outer) (statement_wait app (cost_measure app) (ceilings app) p s)
+          → most p (statement_sections app priority outer s) ≡ counted (can p priority outer) (statement_wait app (cost_measure app) (ceilings app) p s)
       statement_most outer n locked fixed (Bind x v) h = value_most outer locked v h.1
-      statement_most outer n locked fixed (Assign x e at) h = counted_none (can p level outer)
+      statement_most outer n locked fixed (Assign x e at) h = counted_none (can p priority outer)
       statement_most outer n locked fixed (Branch e a b) h =
-          joined p level outer (block_sections app level outer a) (block_sections app level outer b) (block_wait app (cost_measure app) (ceilings app) p a) (block_wait app (cost_measure app) (ceilings app) p b)
+          joined p priority outer (block_sections app priority outer a) (block_sections app priority outer b) (block_wait app (cost_measure app) (ceilings app) p a) (block_wait app (cost_measure app) (ceilings app) p b)
           (block_most outer _ locked fixed a h.1) (block_most outer _ locked fixed b h.2)
       statement_most outer n locked fixed (Repeat x first last turn) h = block_most outer _ locked _ turn h.4
       statement_most outer n locked fixed (Locked r inner at) h =
-          lock_at p level outer (ceiling app (section.Res r)) (shared_at (ceilings app) r) (lock_cost (block_cost (cost_measure app) inner)) (block_wait app (cost_measure app) (ceilings app) p inner)
-          (block_sections app level (max outer (ceiling app (section.Res r))) inner) (shared_at_is app r h.0.is_there) (block_most (max outer (ceiling app (section.Res r))) _ _ fixed inner h.1)
-      statement_most outer n locked fixed (Emit e) h = counted_none (can p level outer)
-      statement_most outer n locked fixed (Pend i) h = counted_none (can p level outer)
+          lock_at p priority outer (ceiling app (section.Res r)) (shared_ceiling (ceilings app) r) (lock_cost (block_cost (cost_measure app) inner)) (block_wait app (cost_measure app) (ceilings app) p inner)
+          (block_sections app priority (max outer (ceiling app (section.Res r))) inner) (shared_at_is app r h.0.is_there) (block_most (max outer (ceiling app (section.Res r))) _ _ fixed inner h.1)
+      statement_most outer n locked fixed (Emit e) h = counted_none (can p priority outer)
+      statement_most outer n locked fixed (Pend i) h = counted_none (can p priority outer)
       statement_most outer n locked fixed (Spawns s) h = spawn_most outer locked s h
 
       block_most : (outer n : ℕ) (locked fixed : List ℕ) (b : Block) → IsSoundBlock app m n locked fixed b
-          → most p (block_sections app level outer b) ≡ counted (can p level outer) (block_wait app (cost_measure app) (ceilings app) p b)
-      block_most outer n locked fixed Empty h = counted_none (can p level outer)
+          → most p (block_sections app priority outer b) ≡ counted (can p priority outer) (block_wait app (cost_measure app) (ceilings app) p b)
+      block_most outer n locked fixed Empty h = counted_none (can p priority outer)
       block_most outer n locked fixed (Then s rest) h =
-          joined p level outer (statement_sections app level outer s) (block_sections app level outer rest) (statement_wait app (cost_measure app) (ceilings app) p s) (block_wait app (cost_measure app) (ceilings app) p rest)
+          joined p priority outer (statement_sections app priority outer s) (block_sections app priority outer rest) (statement_wait app (cost_measure app) (ceilings app) p s) (block_wait app (cost_measure app) (ceilings app) p rest)
           (statement_most outer n locked fixed s h.0) (block_most outer _ locked fixed rest h.1)
 
   module _ (sound : IsSound app) (p : ℕ) where
@@ -207,21 +207,21 @@ module _ (app : App) (few : (q : ℕ) → list_any (is_of_level q) app.tasks ≡
         ∙ ap (λ x. max x (most p (tasks_sections app (n + 1) ts))) (task_most n t (first_from app.tasks n t ts from))
         ∙ ap (max (task_wait app (cost_measure app) (ceilings app) p n t)) (tasks_most (n + 1) ts (rest_from app.tasks n t ts from))
 
-    moved_most : (level n : ℕ) (t : Task) (b armed : Bool) → slice_get app.tasks n ≡ Some t → is_software t ≡ b
-        → most p (if b && armed then ready_section app level 0 t.priority READY_COST ∷ [] else [])
-        ≡ counted (can p level 0) (if b then (if armed then if_reaches p (ready_at (ceilings app) t.priority) READY_COST else 0) else 0)
-    moved_most level n t true true at soft =
-        alone_at p level 0 (ceiling app (section.Ready t.priority)) READY_COST (ready_at (ceilings app) t.priority)
+    moved_most : (priority n : ℕ) (t : Task) (b armed : Bool) → slice_get app.tasks n ≡ Some t → is_software t ≡ b
+        → most p (if b && armed then ready_section app priority 0 t.priority READY_COST ∷ [] else [])
+        ≡ counted (can p priority 0) (if b then (if armed then if_reaches p (ready_at (ceilings app) t.priority) READY_COST else 0) else 0)
+    moved_most priority n t true true at soft =
+        alone_at p priority 0 (ceiling app (section.Ready t.priority)) READY_COST (ready_at (ceilings app) t.priority)
         (level_at n t.priority t at soft refl)
-    moved_most level n t true false at soft = counted_none (can p level 0)
-    moved_most level n t false armed at soft = counted_none (can p level 0)
+    moved_most priority n t true false at soft = counted_none (can p priority 0)
+    moved_most priority n t false armed at soft = counted_none (can p priority 0)
 
-    moves_most : (level n : ℕ) (ts : List Task) → AreFrom app.tasks n ts → most p (moved_sections app level n ts) ≡ counted (can p level 0) (moves_wait app (ceilings app) p n ts)
-    moves_most level n [] from = counted_none (can p level 0)
-    moves_most level n (t ∷ ts) from =
-        joined p level 0 (if is_software t && is_armed app n then ready_section app level 0 t.priority READY_COST ∷ [] else []) (moved_sections app level (n + 1) ts)
+    moves_most : (priority n : ℕ) (ts : List Task) → AreFrom app.tasks n ts → most p (moved_sections app priority n ts) ≡ counted (can p priority 0) (moves_wait app (ceilings app) p n ts)
+    moves_most priority n [] from = counted_none (can p priority 0)
+    moves_most priority n (t ∷ ts) from =
+        joined p priority 0 (if is_software t && is_armed app n then ready_section app priority 0 t.priority READY_COST ∷ [] else []) (moved_sections app priority (n + 1) ts)
         (move_wait app (ceilings app) p n t) (moves_wait app (ceilings app) p (n + 1) ts)
-        (moved_most level n t (is_software t) (is_armed app n) (first_from app.tasks n t ts from) refl) (moves_most level (n + 1) ts (rest_from app.tasks n t ts from))
+        (moved_most priority n t (is_software t) (is_armed app n) (first_from app.tasks n t ts from) refl) (moves_most priority (n + 1) ts (rest_from app.tasks n t ts from))
 
     timer_most : (o : Option Mono) → app.mono ≡ o → most p (handler_sections app o) ≡ timer_wait app (cost_measure app) (ceilings app) p o
     timer_most None e = refl
@@ -263,8 +263,8 @@ wait_is : (app : App) (flags : List Bool) → HasFlags flags (has_handler app) �
 wait_is app flags has sound p = sym (all_most app (few_levels app flags has) sound p) ∙ most_is p (sections app)
 
 abbrev wait : ℕ → ℕ → Wait
-wait p n = record { level = p; steps = n }
+wait p n = record { priority = p; steps = n }
 
 pub waits_are : (app : App) (m : Measure) (c : Ceilings) (flags : List Bool) → m ≡ cost_measure app → c ≡ ceilings app → HasFlags flags (has_handler app) → IsSound app → (ps : List ℕ)
-    → map (wait_of app m c) ps ≡ map (λ p. let w : Wait = record { level = p; steps = waiting_bound app p } in w) ps
+    → map (wait_of app m c) ps ≡ map (λ p. let w : Wait = record { priority = p; steps = waiting_bound app p } in w) ps
 waits_are app m c flags measure is has sound ps = ap (λ n. map (wait_of app n c) ps) measure ∙ ap (λ d. map (wait_of app (cost_measure app) d) ps) is ∙ map_alike (λ p. wait p (wait_within app (cost_measure app) (ceilings app) p)) (λ p. wait p (waiting_bound app p)) (λ p. ap (wait p) (wait_is app flags has sound p)) ps

@@ -18,7 +18,7 @@ use Rattle.rt_app.specs.Bodies.{members, thread_members, task_members}
 use Rattle.rt_app.specs.Level.{arms, holds, is_armed, armed_capacities, armed_count, is_software, is_of_level}
 use Rattle.rt_app.specs.View.{task_of}
 use Rattle.rt_app.specs.declared.app.Task as code
-use Rattle.rt_frames.specs.Inside.Flags.{flagged, HasFlags, armed_by, level_numbers, thread_spawns, task_spawns}
+use Rattle.rt_frames.specs.Inside.Flags.{flags_with, HasFlags, delayed_targets, level_numbers, thread_spawns, task_spawns}
 use Rattle.rt_frames.proofs.Flagging.{flagged_at, armed_both}
 
 any_step : (passes : Bool) (n k : ℕ) (ns : List ℕ) (rest : Bool) → list_any (λ m. m == k) ns ≡ rest
@@ -30,11 +30,11 @@ map_if : (b : Bool) (s : Spawn) (ss : List Spawn) → map target (cond b (s ∷ 
 map_if true s ss = refl
 map_if false s ss = refl
 
-any_armed : (k : ℕ) (ss : List Spawn) → list_any (λ m. m == k) (armed_by ss) ≡ list_any (arms k) ss
+any_armed : (k : ℕ) (ss : List Spawn) → list_any (λ m. m == k) (delayed_targets ss) ≡ list_any (arms k) ss
 any_armed k [] = refl
 any_armed k (s ∷ ss) =
     ap (list_any (λ m. m == k)) (map_if (arms_message s) s (filter arms_message ss))
-    ∙ any_step (arms_message s) (target s) k (armed_by ss) (list_any (arms k) ss) (any_armed k ss)
+    ∙ any_step (arms_message s) (target s) k (delayed_targets ss) (list_any (arms k) ss) (any_armed k ss)
 
 any_thread : (test : Spawn → Bool) (id : BodyId) (b : Option Body) → list_any (holds test) (thread_members id b) ≡ list_any test (thread_spawns b)
 any_thread test id None = refl
@@ -57,8 +57,8 @@ any_member test app =
     )
     refl
 
-pub armed_are : (app : App) (f0 f1 f2 f3 : List Bool) → HasFlags f0 (λ n. false) → f1 ≡ flagged (armed_by (thread_spawns app.init)) f0 → f2 ≡ flagged (armed_by (thread_spawns app.idle)) f1
-    → f3 ≡ flagged (armed_by (flat_map task_spawns app.tasks)) f2 → length f3 ≡ 256 → HasFlags f3 (is_armed app)
+pub armed_are : (app : App) (f0 f1 f2 f3 : List Bool) → HasFlags f0 (λ n. false) → f1 ≡ flags_with (delayed_targets (thread_spawns app.init)) f0 → f2 ≡ flags_with (delayed_targets (thread_spawns app.idle)) f1
+    → f3 ≡ flags_with (delayed_targets (flat_map task_spawns app.tasks)) f2 → length f3 ≡ 256 → HasFlags f3 (is_armed app)
 armed_are app f0 f1 f2 f3 none e1 e2 e3 long = record {
   long = long;
   flag = λ n.
@@ -66,8 +66,8 @@ armed_are app f0 f1 f2 f3 none e1 e2 e3 long = record {
       let D = thread_spawns app.idle in
       let T = flat_map task_spawns app.tasks in
       let all = armed_both I (D ++ T) f0 f1 f3 e1 (armed_both D T f1 f2 f3 e2 e3) in
-      let some : 0 < length (flagged (armed_by (I ++ (D ++ T))) f0) = rw (← all) (omega (arith, long)) in
-      ap (λ f. get_or f n false) all ∙ flagged_at (armed_by (I ++ (D ++ T))) f0 n some ∙ ap (λ b. b || list_any (λ m. m == n) (armed_by (I ++ (D ++ T)))) (none.flag n)
+      let some : 0 < length (flags_with (delayed_targets (I ++ (D ++ T))) f0) = rw (← all) (omega (arith, long)) in
+      ap (λ f. get_or f n false) all ∙ flagged_at (delayed_targets (I ++ (D ++ T))) f0 n some ∙ ap (λ b. b || list_any (λ m. m == n) (delayed_targets (I ++ (D ++ T)))) (none.flag n)
       ∙ any_armed n (I ++ (D ++ T)) ∙ sym (any_member (arms n) app);
 }
 
@@ -82,11 +82,11 @@ any_level k (t ∷ ts) =
     ap (list_any (λ m. m == k)) (level_if (is_software t) t (filter is_software ts))
     ∙ any_step (is_software t) t.priority k (level_numbers ts) (list_any (is_of_level k) ts) (any_level k ts)
 
-pub levels_are : (ts : List Task) (f0 f1 : List Bool) → HasFlags f0 (λ n. false) → f1 ≡ flagged (level_numbers ts) f0 → length f1 ≡ 256 → HasFlags f1 (λ p. list_any (is_of_level p) ts)
+pub levels_are : (ts : List Task) (f0 f1 : List Bool) → HasFlags f0 (λ n. false) → f1 ≡ flags_with (level_numbers ts) f0 → length f1 ≡ 256 → HasFlags f1 (λ p. list_any (is_of_level p) ts)
 levels_are ts f0 f1 none e long = record {
   long = long;
   flag = λ n.
-      let some : 0 < length (flagged (level_numbers ts) f0) = rw (← e) (omega (arith, long)) in
+      let some : 0 < length (flags_with (level_numbers ts) f0) = rw (← e) (omega (arith, long)) in
       ap (λ f. get_or f n false) e ∙ flagged_at (level_numbers ts) f0 n some ∙ ap (λ b. b || list_any (λ m. m == n) (level_numbers ts)) (none.flag n) ∙ any_level n ts;
 }
 

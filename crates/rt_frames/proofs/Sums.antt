@@ -11,7 +11,7 @@ use Rattle.rt_app.specs.declared.app.Task as code
 use Rattle.rt_app.specs.declared.expr.Expr.{Expr}
 use Rattle.rt_app.specs.declared.stmt.Stmt.{Stmt}
 use Rattle.rt_app.specs.Spawned.{statement_spawns, spawns}
-use Rattle.rt_app.specs.Cost.{Measure, capped, expression_cost, expressions_cost, statement_cost, block_cost}
+use Rattle.rt_app.specs.Cost.{Measure, capped_cost, expression_cost, expressions_cost, statement_cost, block_cost}
 
 -- over the statements of a block: `put` puts what is of a statement before what is of the rest
 module _ {V : Type 0} (of_block : Block → V) (of_statement : Statement → V) (put : V → V → V)
@@ -30,34 +30,34 @@ module _ {V : Type 0} (of_block : Block → V) (of_statement : Statement → V) 
       ap (λ ys. of_block (block_of ys)) (take_more xs i x h) ∙ block_end (take i xs) (get_or xs i x)
       ∙ ap (λ s. put (of_block (block_of (take i xs))) (of_statement (statement_of s))) (sym e)
 
-capped_assoc : (a b c : ℕ) → capped (a + capped (b + c)) ≡ capped (capped (a + b) + c)
+capped_assoc : (a b c : ℕ) → capped_cost (a + capped_cost (b + c)) ≡ capped_cost (capped_cost (a + b) + c)
 capped_assoc a b c = omega arith
 
-capped_alone : (n : ℕ) → capped (n + 0) ≡ capped (0 + n)
+capped_alone : (n : ℕ) → capped_cost (n + 0) ≡ capped_cost (0 + n)
 capped_alone n = omega arith
 
 pub block_cost_more : (m : Measure) (xs : List Stmt) (i : ℕ) (x : Stmt) → i < length xs → x ≡ get_or xs i x
-    → block_cost m (block_of (take (i + 1) xs)) ≡ capped (block_cost m (block_of (take i xs)) + statement_cost m (statement_of x))
-block_cost_more m = block_more (block_cost m) (statement_cost m) (λ a b. capped (a + b)) (λ s rest. refl) capped_assoc (λ s. capped_alone (statement_cost m s))
+    → block_cost m (block_of (take (i + 1) xs)) ≡ capped_cost (block_cost m (block_of (take i xs)) + statement_cost m (statement_of x))
+block_cost_more m = block_more (block_cost m) (statement_cost m) (λ a b. capped_cost (a + b)) (λ s rest. refl) capped_assoc (λ s. capped_alone (statement_cost m s))
 
 -- the turns of a loop, where each sum on the way stops at the greatest number of 32 bits
-pub turns_sum : (turns block one all sum : ℕ) → one ≡ min (block + 6) (2 ^ 32 - 1) → all ≡ min (turns * one) (2 ^ 32 - 1) → sum ≡ min (4 + all) (2 ^ 32 - 1) → capped sum ≡ capped (4 + turns * (block + 6))
+pub turns_sum : (turns block one all sum : ℕ) → one ≡ min (block + 6) (2 ^ 32 - 1) → all ≡ min (turns * one) (2 ^ 32 - 1) → sum ≡ min (4 + all) (2 ^ 32 - 1) → capped_cost sum ≡ capped_cost (4 + turns * (block + 6))
 turns_sum zero block one all sum o a s = omega (arith, zero-mul one, zero-mul (block + 6))
 turns_sum (suc k) block one all sum o a s = either (cases_order (block + 6) (2 ^ 32))
   where
     grows : (n : ℕ) → n ≤ suc k * n
     grows n = omega arith
 
-    whole : block + 6 < 2 ^ 32 → capped sum ≡ capped (4 + suc k * (block + 6))
+    whole : block + 6 < 2 ^ 32 → capped_cost sum ≡ capped_cost (4 + suc k * (block + 6))
     whole few =
         let same : one ≡ block + 6 = omega arith in
         let product : suc k * one ≡ suc k * (block + 6) = ap (λ n. suc k * n) same in
         omega arith
 
-    stopped : 2 ^ 32 ≤ block + 6 → capped sum ≡ capped (4 + suc k * (block + 6))
+    stopped : 2 ^ 32 ≤ block + 6 → capped_cost sum ≡ capped_cost (4 + suc k * (block + 6))
     stopped many = omega (arith, grows one, grows (block + 6))
 
-    either : (block + 6 ≡ 2 ^ 32) ⊎ ((block + 6 < 2 ^ 32) ⊎ (2 ^ 32 < block + 6)) → capped sum ≡ capped (4 + suc k * (block + 6))
+    either : (block + 6 ≡ 2 ^ 32) ⊎ ((block + 6 < 2 ^ 32) ⊎ (2 ^ 32 < block + 6)) → capped_cost sum ≡ capped_cost (4 + suc k * (block + 6))
     either (inl same) = stopped (omega arith)
     either (inr (inl less)) = whole less
     either (inr (inr more)) = stopped (omega arith)
@@ -78,8 +78,8 @@ module _ {V : Type 0} (of_all : List Expression → V) (of_one : Expression → 
       ∙ ap (λ y. put (of_all (map expression_of (take i xs))) (of_one (expression_of y))) (sym e)
 
 pub expressions_cost_more : (xs : List Expr) (i : ℕ) (x : Expr) → i < length xs → x ≡ get_or xs i x
-    → expressions_cost (map expression_of (take (i + 1) xs)) ≡ capped (expressions_cost (map expression_of (take i xs)) + expression_cost (expression_of x))
-expressions_cost_more = expressions_more expressions_cost expression_cost (λ a b. capped (a + b)) (λ e es. refl) capped_assoc (λ e. capped_alone (expression_cost e))
+    → expressions_cost (map expression_of (take (i + 1) xs)) ≡ capped_cost (expressions_cost (map expression_of (take i xs)) + expression_cost (expression_of x))
+expressions_cost_more = expressions_more expressions_cost expression_cost (λ a b. capped_cost (a + b)) (λ e es. refl) capped_assoc (λ e. capped_alone (expression_cost e))
 
 pub spawns_more : (xs : List Stmt) (i : ℕ) (x : Stmt) → i < length xs → x ≡ get_or xs i x → spawns (block_of (take (i + 1) xs)) ≡ spawns (block_of (take i xs)) ++ statement_spawns (statement_of x)
 spawns_more = block_more spawns statement_spawns (λ a b. a ++ b) (λ s rest. refl) (λ a b c. sym (append_assoc a b c)) (λ s. append-nil (statement_spawns s))

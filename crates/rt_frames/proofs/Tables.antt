@@ -13,9 +13,9 @@ use Rattle.rt_app.specs.declared.costs.TheConstants.{PRIORITIES}
 use Rattle.rt_app.specs.Tree.{App, Task}
 use Rattle.rt_app.specs.Level.{is_software, is_of_level, levels}
 use Rattle.rt_app.specs.Ceiling.{resource_ceiling, free_ceiling, free_ceilings, timer_ceiling, ready_ceiling, ceiling, ceilings}
-use Rattle.rt_frames.specs.Inside.Waits.{or_zero_twice, ceiling_or_zero, shared_at, free_at, ready_at}
+use Rattle.rt_frames.specs.Inside.Waits.{or_zero_twice, ceiling_or_zero, shared_ceiling, free_at, ready_at}
 
-pub shared_at_is : (app : App) (r : ℕ) → r < length app.shared → shared_at (ceilings app) r ≡ ceiling app (section.Res r)
+pub shared_at_is : (app : App) (r : ℕ) → r < length app.shared → shared_ceiling (ceilings app) r ≡ ceiling app (section.Res r)
 shared_at_is app r h = get_or-map-range_with_len (resource_ceiling app) 0 (length app.shared) r r 0 h (omega arith)
 
 free_row : (app : App) (n k : ℕ) (ts : List Task) (t : Task) → slice_get ts k ≡ Some t → is_software t ≡ true → slice_get (free_ceilings app n ts) k ≡ Some (Some (free_ceiling app (n + k)))

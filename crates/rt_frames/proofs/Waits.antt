@@ -7,7 +7,7 @@ use Rattle.rt_app.specs.declared.stmt.Stmt.{Stmt}
 use Rattle.rt_app.specs.declared.app.Task as code
 use Rattle.rt_app.specs.Ceiling.{Ceilings}
 use Rattle.rt_app.specs.Cost.{Measure, statement_cost}
-use Rattle.rt_frames.specs.Inside.Waits.{shared_at, statement_wait, block_wait, tasks_wait, task_wait}
+use Rattle.rt_frames.specs.Inside.Waits.{shared_ceiling, statement_wait, block_wait, tasks_wait, task_wait}
 use Rattle.rt_lemmas.proofs.Numbers.{max_regrouped}
 use Rattle.rt_lemmas.proofs.Lists.{drop_as_cons}
 use Rattle.rt_frames.proofs.Sums.{block_more}
@@ -21,9 +21,9 @@ module _ (app : App) (m : Measure) (c : Ceilings) (p : ℕ) where
   block_wait_more = block_more (block_wait app m c p) (statement_wait app m c p) max (λ s rest. refl) max_regrouped (λ s. max_zero (statement_wait app m c p s))
 
   -- a section of a resource whose ceiling is below the priority
-  pub locked_below : (s : Statement) (r : ℕ) (inner : Block) (at k : ℕ) → s ≡ Locked r inner at → k ≡ shared_at c r → k < p → statement_wait app m c p s ≡ block_wait app m c p inner
+  pub locked_below : (s : Statement) (r : ℕ) (inner : Block) (at k : ℕ) → s ≡ Locked r inner at → k ≡ shared_ceiling c r → k < p → statement_wait app m c p s ≡ block_wait app m c p inner
   locked_below s r inner at k is e h =
-      let below : nat_le p (shared_at c r) ≡ false = grind (arith, nat_tests) in
+      let below : nat_le p (shared_ceiling c r) ≡ false = grind (arith, nat_tests) in
       ap (statement_wait app m c p) is ∙ ap (λ b. cond b (statement_cost m (Locked r inner at)) (block_wait app m c p inner)) below
 
   pub tasks_wait_more : (ts : List code.Task) (n : ℕ) (x : code.Task) → n < length ts → x ≡ get_or ts n x

@@ -22,8 +22,8 @@ use Rattle.rt_frames.specs.declared.frame.Parts.{Parts}
 use Rattle.rt_frames.specs.Inside.FrameParts.{block_parts}
 use Rattle.rt_app.specs.Variables.{variables_in, variables}
 use Rattle.rt_app.specs.Limits.{statements_in, statements_of, inner_blocks, blocks_of, KeepsBodyLimits, KeepsThreadLimits, KeepsTaskLimits, KeepsLimits}
-use Rattle.rt_app.specs.Stack.{is_bound_at, frames_of, is_timed_at, has_handler, need, level_bytes, bytes_below, thread_frame, thread_words, stack_bytes, handler_levels}
-use Rattle.rt_frames.specs.Inside.Saturated.{saturated}
+use Rattle.rt_app.specs.Stack.{is_bound_at, frames_of, is_timed_at, has_handler, need, priority_bytes, bytes_below, thread_frame, thread_words, stack_bytes, handler_priorities}
+use Rattle.rt_frames.specs.Inside.Saturated.{saturated_number}
 use Rattle.rt_frames.specs.Inside.Bounded.{member_bound}
 
 -- each lock is a block inside another
@@ -122,12 +122,12 @@ unfolding bytes_below
 bytes_few app h zero = omega arith
 bytes_few app h (suc n) =
     let own = if_few (has_handler app n) (entry_words app.fpu) (need app n) (entry_few app.fpu) (need_few app h n) in
-    more (bytes_below app n) (level_bytes app n) n (bytes_few app h n) own
+    more (bytes_below app n) (priority_bytes app n) n (bytes_few app h n) own
 
 stack_few : (app : App) → KeepsLimits app → stack_bytes app ≤ 2000000
 stack_few app h = omega (arith, thread_words_few app h, bytes_few app h 256)
 
-pub whole : (n : ℕ) → n ≤ 1100 → saturated n ≡ n
+pub whole : (n : ℕ) → n ≤ 1100 → saturated_number n ≡ n
 whole n h = omega arith
 
 abbrev bound_with : BodyBound → ℕ → BodyBound
@@ -160,7 +160,7 @@ bodies_are app h =
     )
     refl
 
-small : (n : ℕ) → n ≤ 2000000 → saturated n ≡ n
+small : (n : ℕ) → n ≤ 2000000 → saturated_number n ≡ n
 small n h = omega arith
 
 same_bounds : (bodies bodies' : List BodyBound) (waits waits' : List Wait) (words words' bytes bytes' : ℕ) → bodies ≡ bodies' → waits ≡ waits' → words ≡ words' → bytes ≡ bytes'
@@ -168,7 +168,7 @@ same_bounds : (bodies bodies' : List BodyBound) (waits waits' : List Wait) (word
 same_bounds bodies bodies' waits waits' words words' bytes bytes' e f g h = rw (e, f, g, h) refl
 
 pub bounds_are : (app : App) (m : Measure) (bodies : List BodyBound) (waits : List Wait) (words bytes : ℕ) → KeepsLimits app → m ≡ cost_measure app
-    → bodies ≡ map (member_bound m) (members app) → waits ≡ map (λ p. record { level = p; steps = waiting_bound app p }) (handler_levels app) → words ≡ saturated (thread_words app) → bytes ≡ saturated (stack_bytes app)
+    → bodies ≡ map (member_bound m) (members app) → waits ≡ map (λ p. record { priority = p; steps = waiting_bound app p }) (handler_priorities app) → words ≡ saturated_number (thread_words app) → bytes ≡ saturated_number (stack_bytes app)
     → ◌≡◌ {A = Bounds} (record { bodies = bodies; waits = waits; thread_words = words; stack_bytes = bytes }) (bounds app)
 bounds_are app m bodies waits words bytes limits measure e f g h =
     same_bounds bodies (bounds app).bodies waits (bounds app).waits words (thread_words app) bytes (stack_bytes app)

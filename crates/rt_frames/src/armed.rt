@@ -2,7 +2,7 @@ ghost use Rattle.std.specs.Prelude.{◌≡◌, ◌≤◌, ◌∷◌, [], map, op
 ghost use Rattle.rt_app.specs.View.{spawn_of, value_of, statement_of, block_of, body_of, task_of, app_of};
 ghost use Rattle.rt_app.specs.Spawned.{value_spawns, statement_spawns, spawns};
 ghost use Rattle.rt_app.specs.Level as level;
-ghost use Rattle.rt_frames.specs.Inside.Flags.{flagged, HasFlags, armed_by, thread_spawns, task_spawns};
+ghost use Rattle.rt_frames.specs.Inside.Flags.{flags_with, HasFlags, delayed_targets, thread_spawns, task_spawns};
 
 use crate::flags::{self, Flags, NUMBERS};
 use rt_app::{App, Body, Spawn, Stmt, Task, Value};
@@ -12,7 +12,7 @@ pub(crate) const MOST_ARMED: u32 = 65_280;
 
 /// Flags the task of a spawn, where it is one after a delay.
 fn flag_spawn(armed: &mut Flags, spawn: &Spawn)
-    ensures { armed.new ≡ flagged (armed_by (spawn_of spawn.now ∷ [])) armed.old }
+    ensures { armed.new ≡ flags_with (delayed_targets (spawn_of spawn.now ∷ [])) armed.old }
 {
     match spawn {
         Spawn::Soon(_task, _args, _at) => {}
@@ -24,7 +24,7 @@ fn flag_spawn(armed: &mut Flags, spawn: &Spawn)
 
 /// Flags the tasks that are armed by what a variable is bound to.
 fn flag_value(armed: &mut Flags, value: &Value)
-    ensures { armed.new ≡ flagged (armed_by (value_spawns (value_of value.now))) armed.old }
+    ensures { armed.new ≡ flags_with (delayed_targets (value_spawns (value_of value.now))) armed.old }
 {
     match value {
         Value::Calc(_expr) => {}
@@ -36,7 +36,7 @@ fn flag_value(armed: &mut Flags, value: &Value)
 /// Flags the tasks that are armed by a statement.
 #[cycle(block)]
 fn flag_statement(armed: &mut Flags, stmt: &Stmt)
-    ensures { armed.new ≡ flagged (armed_by (statement_spawns (statement_of stmt.now))) armed.old }
+    ensures { armed.new ≡ flags_with (delayed_targets (statement_spawns (statement_of stmt.now))) armed.old }
 {
     match stmt {
         Stmt::Bind(_variable, value) => flag_value(armed, value),
@@ -56,7 +56,7 @@ fn flag_statement(armed: &mut Flags, stmt: &Stmt)
 /// Flags the tasks that are armed by statements.
 #[cycle(block)]
 fn flag_block(armed: &mut Flags, stmts: &[Stmt])
-    ensures { armed.new ≡ flagged (armed_by (spawns (block_of stmts.now))) armed.old }
+    ensures { armed.new ≡ flags_with (delayed_targets (spawns (block_of stmts.now))) armed.old }
 {
     for stmt in stmts {
         flag_statement(armed, stmt);
@@ -65,7 +65,7 @@ fn flag_block(armed: &mut Flags, stmts: &[Stmt])
 
 /// Flags the tasks that are armed by `init` or `idle`, where it is declared.
 fn flag_thread(armed: &mut Flags, body: &Option<Body>)
-    ensures { armed.new ≡ flagged (armed_by (thread_spawns (option_map body_of body.now))) armed.old }
+    ensures { armed.new ≡ flags_with (delayed_targets (thread_spawns (option_map body_of body.now))) armed.old }
 {
     match body {
         None => {}
@@ -75,14 +75,14 @@ fn flag_thread(armed: &mut Flags, body: &Option<Body>)
 
 /// Flags the tasks that are armed by a task.
 fn flag_task(armed: &mut Flags, task: &Task)
-    ensures { armed.new ≡ flagged (armed_by (task_spawns (task_of task.now))) armed.old }
+    ensures { armed.new ≡ flags_with (delayed_targets (task_spawns (task_of task.now))) armed.old }
 {
     flag_block(armed, &task.body.block);
 }
 
 /// Flags the tasks that are armed by tasks.
 fn flag_tasks(armed: &mut Flags, tasks: &[Task])
-    ensures { armed.new ≡ flagged (armed_by (flat_map task_spawns (map task_of tasks.now))) armed.old }
+    ensures { armed.new ≡ flags_with (delayed_targets (flat_map task_spawns (map task_of tasks.now))) armed.old }
 {
     for task in tasks {
         flag_task(armed, task);
@@ -115,7 +115,7 @@ fn armed_capacity(task: &Task, is_armed: bool) -> u32
 /// How many messages of the tasks below this number may be armed at once.
 pub(crate) fn messages_before(app: &App, armed: &Flags, end: usize) -> u32
     requires { HasFlags armed.now (level.is_armed (app_of app.now)) }
-    ensures value { result ≡ level.armed_before (app_of app.now) end }
+    ensures value { result ≡ level.capacities_before (app_of app.now) end }
     ensures few { result ≤ MOST_ARMED }
 {
     let mut messages: u32 = 0;

@@ -83,32 +83,32 @@ fn body_bounds(alloc: Global, app: &App, measure: &Measure) -> Result<Vec<BodyBo
     Ok(bodies)
 }
 
-/// Appends the wait of a level, where it has a handler.
+/// Appends the wait of a priority, where it has a handler.
 fn push_wait(
     waits: &mut Vec<Wait>,
     app: &App,
     ceilings: &Ceilings,
     measure: &Measure,
     armed: &Flags,
-    level: u8,
+    priority: u8,
     has_handler: bool,
 ) -> Result<(), NoMemory>
     requires few { length (app_of app.now).tasks ≤ TASKS }
     requires armed { HasFlags armed.now (is_armed (app_of app.now)) }
-    ensures { let levels = (if has_handler then level ∷ [] else []) in
-        let own = map (wait_of (app_of app.now) measure.now ceilings.now) levels in
+    ensures { let priorities = (if has_handler then priority ∷ [] else []) in
+        let own = map (wait_of (app_of app.now) measure.now ceilings.now) priorities in
         OnOk result (waits.new.items ≡ waits.old.items ++ own) }
 {
     if has_handler {
         waits.push(Wait {
-            level,
-            steps: wait_within(app, ceilings, measure, armed, level),
+            priority,
+            steps: wait_within(app, ceilings, measure, armed, priority),
         })?;
     }
     Ok(())
 }
 
-/// How long jobs wait, of each level that has a handler.
+/// How long jobs wait, of each priority that has a handler.
 fn waits_of(
     alloc: Global,
     app: &App,
@@ -121,18 +121,18 @@ fn waits_of(
     requires armed { HasFlags armed.now (is_armed (app_of app.now)) }
     requires handled { HasFlags handlers.now (stack.has_handler (app_of app.now)) }
     ensures { let all = app_of app.now in
-        IfOk result (λ waits. waits.items ≡ map (wait_of all measure.now ceilings.now) (stack.handler_levels all)) }
+        IfOk result (λ waits. waits.items ≡ map (wait_of all measure.now ceilings.now) (stack.handler_priorities all)) }
 {
     let mut waits = Vec::new(alloc);
-    for level in 0..PRIORITIES {
-        let has_handler = handlers[usize::from(level)];
+    for priority in 0..PRIORITIES {
+        let has_handler = handlers[usize::from(priority)];
         push_wait(
             &mut waits,
             app,
             ceilings,
             measure,
             armed,
-            level as u8,
+            priority as u8,
             has_handler,
         )?;
     }

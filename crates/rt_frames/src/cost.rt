@@ -77,7 +77,7 @@ fn timer_size(app: &App) -> u32
 }
 
 /// A count as a number of 32 bits: the greatest one where it is above that.
-fn saturated(count: usize) -> u32
+fn saturated_count(count: usize) -> u32
     ensures { result ≡ min count (2 ^ 32 - 1) }
 {
     u32::try_from(count).unwrap_or(u32::MAX)
@@ -87,9 +87,9 @@ fn saturated(count: usize) -> u32
 fn dispatchers_size(app: &App) -> u32
     ensures { let all = app_of app.now in result ≡ min (sum_by (cost.dispatcher_size all) (levels all)) (2 ^ 32 - 1) }
 {
-    let levels = saturated(flags::count(&level_flags(app)));
+    let levels = saturated_count(flags::count(&level_flags(app)));
     let heads = levels.saturating_mul(DISPATCHER_COST);
-    let tasks = saturated(software_count(&app.tasks)).saturating_mul(DISPATCHER_TASK_SIZE);
+    let tasks = saturated_count(software_count(&app.tasks)).saturating_mul(DISPATCHER_TASK_SIZE);
     heads.saturating_add(tasks)
 }
 

@@ -1,5 +1,5 @@
 ghost use Rattle.std.specs.Prelude.{◌≡◌, ◌∷◌, [], count_by, false};
-ghost use Rattle.rt_frames.specs.Inside.Flags.{flagged, HasFlags};
+ghost use Rattle.rt_frames.specs.Inside.Flags.{flags_with, HasFlags};
 
 /// Numbers that a byte can tell.
 pub(crate) const NUMBERS: usize = 256;
@@ -16,7 +16,7 @@ pub(crate) fn none() -> Flags
 
 /// Flags a number.
 pub(crate) fn flag(flags: &mut Flags, number: u8)
-    ensures { flags.new ≡ flagged (number ∷ []) flags.old }
+    ensures { flags.new ≡ flags_with (number ∷ []) flags.old }
 {
     flags[usize::from(number)] = true;
 }

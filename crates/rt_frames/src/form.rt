@@ -89,8 +89,8 @@ fn has_hardware_alone(app: &App) -> bool
 
 /// Whether an application has hardware tasks alone, no monotonic, and no `pend` in any of its bodies: the form that
 /// response times are told for.
-pub fn is_of_t_form(app: &App) -> bool
-    ensures { result ≡ forms.is_of_t_form (app_of app.now) }
+pub fn has_response_times(app: &App) -> bool
+    ensures { result ≡ forms.has_response_times (app_of app.now) }
 {
     has_hardware_alone(app) && are_bodies_quiet(app)
 }
@@ -105,8 +105,8 @@ fn has_brief_init(app: &App) -> bool
 
 /// Whether an application has hardware tasks alone, no monotonic, and an `init` without a `pend` that costs few core
 /// steps: the form that a script to the stack bound is written for.
-pub fn is_of_w_form(app: &App) -> bool
-    ensures { result ≡ forms.is_of_w_form (app_of app.now) }
+pub fn has_deepest_script(app: &App) -> bool
+    ensures { result ≡ forms.has_deepest_script (app_of app.now) }
 {
     has_hardware_alone(app) && has_brief_init(app)
 }

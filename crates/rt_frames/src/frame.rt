@@ -5,7 +5,7 @@ ghost use Rattle.rt_app.specs.Frame as frame;
 ghost use Rattle.rt_app.specs.Stack as stack;
 ghost use Rattle.rt_app.specs.Limits.{KeepsBodyLimits};
 ghost use Rattle.rt_ids.specs.declared.limits.TheConstants.{ARGUMENTS};
-ghost use Rattle.rt_frames.specs.Inside.Saturated.{saturated};
+ghost use Rattle.rt_frames.specs.Inside.Saturated.{saturated_number};
 ghost use Rattle.rt_frames.specs.Inside.FrameParts.{both, expression_parts, spawn_parts, value_parts, statement_parts};
 ghost use Rattle.rt_frames.specs.Inside.FrameParts.{block_parts};
 
@@ -51,7 +51,7 @@ fn both(first: Parts, second: Parts) -> Parts
 
 /// The depth of an expression, up to the greatest number of 32 bits.
 fn depth(expr: &Expr) -> u32
-    ensures { result ≡ saturated (frame.depth (expression_of expr.now)) }
+    ensures { result ≡ saturated_number (frame.depth (expression_of expr.now)) }
 {
     match expr {
         Expr::Num(_number) => 1,
@@ -62,7 +62,7 @@ fn depth(expr: &Expr) -> u32
 
 /// The greatest depth of expressions, and 0 where there is none.
 fn greatest_depth(exprs: &[Expr]) -> u32
-    ensures { result ≡ saturated (greatest (map frame.depth (map expression_of exprs.now))) }
+    ensures { result ≡ saturated_number (greatest (map frame.depth (map expression_of exprs.now))) }
 {
     let mut most: u32 = 0;
     for expr in exprs {
@@ -122,7 +122,7 @@ fn value(value: &Value) -> Parts
 
 /// With one more variable.
 fn with_variable(parts: Parts) -> Parts
-    ensures { result ≡ record parts { variables = saturated (parts.variables + 1) } }
+    ensures { result ≡ record parts { variables = saturated_number (parts.variables + 1) } }
 {
     Parts {
         variables: parts.variables.saturating_add(1),
@@ -132,7 +132,7 @@ fn with_variable(parts: Parts) -> Parts
 
 /// Of a `for` with this turn.
 fn with_loop(turn: Parts) -> Parts
-    ensures { result ≡ record turn { variables = saturated (turn.variables + 1); has_loop = true } }
+    ensures { result ≡ record turn { variables = saturated_number (turn.variables + 1); has_loop = true } }
 {
     Parts {
         has_loop: true,
@@ -142,7 +142,7 @@ fn with_loop(turn: Parts) -> Parts
 
 /// Of a section with these statements.
 fn with_lock(inner: Parts) -> Parts
-    ensures { result ≡ record inner { locks = saturated (inner.locks + 1) } }
+    ensures { result ≡ record inner { locks = saturated_number (inner.locks + 1) } }
 {
     Parts {
         locks: inner.locks.saturating_add(1),
@@ -221,7 +221,7 @@ impl Slots {
 
 /// The words of a body's frame, with so many arguments, up to the greatest number of 32 bits.
 pub(crate) fn frame_words(args: u8, body: &Body) -> u32
-    ensures { result ≡ saturated (frame.frame_words args (body_of body.now)) }
+    ensures { result ≡ saturated_number (frame.frame_words args (body_of body.now)) }
 {
     let parts = block(&body.block);
     let variables = u32::from(args).saturating_add(parts.variables);
@@ -233,7 +233,7 @@ pub(crate) fn frame_words(args: u8, body: &Body) -> u32
 
 /// The words of the frame of `init` or `idle`, and none where it is not declared.
 pub(crate) fn thread_frame(body: &Option<Body>) -> u32
-    ensures { result ≡ saturated (stack.thread_frame (option_map body_of body.now)) }
+    ensures { result ≡ saturated_number (stack.thread_frame (option_map body_of body.now)) }
 {
     match body {
         None => 0,
@@ -243,7 +243,7 @@ pub(crate) fn thread_frame(body: &Option<Body>) -> u32
 
 /// The words of the frame of the thread, which runs `init` and then `idle`, up to the greatest number of 32 bits.
 pub(crate) fn thread_words(app: &App) -> u32
-    ensures { result ≡ saturated (stack.thread_words (app_of app.now)) }
+    ensures { result ≡ saturated_number (stack.thread_words (app_of app.now)) }
 {
     thread_frame(&app.init).max(thread_frame(&app.idle))
 }

@@ -2,7 +2,7 @@ ghost use Rattle.std.specs.Prelude.{◌≡◌, ◌<◌, ◌∷◌, [], map, leng
 ghost use Rattle.std.specs.List.{list_any, AllByRecursion};
 ghost use Rattle.rt_app.specs.View.{task_of, app_of};
 ghost use Rattle.rt_app.specs.Level as level;
-ghost use Rattle.rt_frames.specs.Inside.Flags.{flagged, HasFlags, level_numbers};
+ghost use Rattle.rt_frames.specs.Inside.Flags.{flags_with, HasFlags, level_numbers};
 
 use crate::flags::{self, Flags, NUMBERS};
 use rt_app::{App, Task};
@@ -31,7 +31,7 @@ pub(crate) fn software_count(tasks: &[Task]) -> usize
 
 /// Flags the priority of a task, where it is a software task.
 fn flag_level(flags: &mut Flags, task: &Task)
-    ensures { flags.new ≡ flagged (level_numbers (task_of task.now ∷ [])) flags.old }
+    ensures { flags.new ≡ flags_with (level_numbers (task_of task.now ∷ [])) flags.old }
 {
     if task.is_software() {
         flags::flag(flags, task.priority);
@@ -40,7 +40,7 @@ fn flag_level(flags: &mut Flags, task: &Task)
 
 /// Flags the priorities of software tasks.
 fn flag_levels(flags: &mut Flags, tasks: &[Task])
-    ensures { flags.new ≡ flagged (level_numbers (map task_of tasks.now)) flags.old }
+    ensures { flags.new ≡ flags_with (level_numbers (map task_of tasks.now)) flags.old }
 {
     for task in tasks {
         flag_level(flags, task);

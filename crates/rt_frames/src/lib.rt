@@ -16,7 +16,7 @@ pub mod words;
 
 pub use bound::bounds;
 pub use cost::{body_cost, body_size, shared_size, timer_cost};
-pub use form::{is_of_t_form, is_of_w_form};
+pub use form::{has_deepest_script, has_response_times};
 pub use frame::Slots;
 pub use level::{level_count, tasks_of_level};
 pub use measure::Measure;

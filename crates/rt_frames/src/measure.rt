@@ -40,8 +40,8 @@ impl Model for Measure {
 }
 
 /// A sum, stopped one above the greatest cost that a body may have.
-fn capped(sum: u32) -> u32
-    ensures { result ≡ cost.capped sum }
+fn capped_cost(sum: u32) -> u32
+    ensures { result ≡ cost.capped_cost sum }
 {
     sum.min(BODY_COST + 1)
 }
@@ -50,7 +50,7 @@ fn capped(sum: u32) -> u32
 fn lock_cost(inner: u32) -> u32
     ensures { result ≡ cost.lock_cost inner }
 {
-    capped(inner.saturating_add(2))
+    capped_cost(inner.saturating_add(2))
 }
 
 /// The core steps of an expression, which are its instructions too.
@@ -62,7 +62,7 @@ fn expression_cost(expr: &Expr) -> u32
         Expr::Read(_atom, _at) => 1,
         Expr::Oper(_op, left, right) => {
             let operands = expression_cost(left).saturating_add(expression_cost(right));
-            capped(operands.saturating_add(1))
+            capped_cost(operands.saturating_add(1))
         }
     }
 }
@@ -73,7 +73,7 @@ fn expressions_cost(exprs: &[Expr]) -> u32
 {
     let mut sum: u32 = 0;
     for expr in exprs {
-        sum = capped(sum.saturating_add(expression_cost(expr)));
+        sum = capped_cost(sum.saturating_add(expression_cost(expr)));
     }
     sum
 }
@@ -128,20 +128,20 @@ impl Measure {
     {
         match spawn {
             Spawn::Soon(_task, args, _at) => {
-                capped(SPAWN_COST.saturating_add(expressions_cost(args)))
+                capped_cost(SPAWN_COST.saturating_add(expressions_cost(args)))
             }
             Spawn::After(_word, delay, _task, args, _at) => {
                 let queue = MESSAGE_COST.saturating_mul(self.messages);
                 let own = SPAWN_AFTER_COST.saturating_add(queue);
                 let delayed = own.saturating_add(expression_cost(delay));
-                capped(delayed.saturating_add(expressions_cost(args)))
+                capped_cost(delayed.saturating_add(expressions_cost(args)))
             }
             Spawn::Cancel(_word, _task, handle, _at) => {
-                capped(self.by_handle().saturating_add(expression_cost(handle)))
+                capped_cost(self.by_handle().saturating_add(expression_cost(handle)))
             }
             Spawn::Move(_word, delay, _task, handle, _at) => {
                 let delayed = self.by_handle().saturating_add(expression_cost(delay));
-                capped(delayed.saturating_add(expression_cost(handle)))
+                capped_cost(delayed.saturating_add(expression_cost(handle)))
             }
         }
     }
@@ -151,30 +151,30 @@ impl Measure {
         ensures { result ≡ cost.bind_cost self.now (value_of value.now) }
     {
         match value {
-            Value::Calc(expr) => capped(expression_cost(expr).saturating_add(1)),
+            Value::Calc(expr) => capped_cost(expression_cost(expr).saturating_add(1)),
             Value::Now(_at) => 2,
-            Value::Call(spawn) => capped(self.spawn(spawn).saturating_add(1)),
+            Value::Call(spawn) => capped_cost(self.spawn(spawn).saturating_add(1)),
         }
     }
 
     /// Of the blocks of a branch: of both where code is counted, else of the longer one.
     fn blocks(&self, first: u32, second: u32) -> u32
-        ensures { result ≡ cost.capped (cost.branch_cost self.now first second) }
+        ensures { result ≡ cost.capped_cost (cost.branch_cost self.now first second) }
     {
         if self.is_size {
-            capped(first.saturating_add(second))
+            capped_cost(first.saturating_add(second))
         } else {
-            capped(first.max(second))
+            capped_cost(first.max(second))
         }
     }
 
     /// Of a branch by this condition, to blocks of these sums.
     fn branch(&self, condition: &Expr, first: u32, second: u32) -> u32
         ensures { let test = cost.expression_cost (expression_of condition.now) in
-            result ≡ cost.capped (test + 2 + cost.branch_cost self.now first second) }
+            result ≡ cost.capped_cost (test + 2 + cost.branch_cost self.now first second) }
     {
         let test = expression_cost(condition).saturating_add(2);
-        capped(test.saturating_add(self.blocks(first, second)))
+        capped_cost(test.saturating_add(self.blocks(first, second)))
     }
 
     /// The turns of a loop from a number up to another, as they are counted.
@@ -190,11 +190,11 @@ impl Measure {
 
     /// Of a loop from a number up to another, whose turn has a block of this sum.
     fn repeat(&self, first: u32, last: u32, turn: u32) -> u32
-        ensures { result ≡ cost.capped (LOOP_COST + cost.turns self.now first last * (turn + TURN_COST)) }
+        ensures { result ≡ cost.capped_cost (LOOP_COST + cost.turns self.now first last * (turn + TURN_COST)) }
     {
         let one = turn.saturating_add(TURN_COST);
         let all = self.turns(first, last).saturating_mul(one);
-        capped(LOOP_COST.saturating_add(all))
+        capped_cost(LOOP_COST.saturating_add(all))
     }
 
     /// Of a statement.
@@ -204,7 +204,7 @@ impl Measure {
     {
         match stmt {
             Stmt::Bind(_variable, value) => self.bind(value),
-            Stmt::Assign(_atom, expr, _at) => capped(expression_cost(expr).saturating_add(1)),
+            Stmt::Assign(_atom, expr, _at) => capped_cost(expression_cost(expr).saturating_add(1)),
             Stmt::Branch(condition, first, second) => {
                 self.branch(condition, self.block(first), self.block(second))
             }
@@ -212,7 +212,7 @@ impl Measure {
                 self.repeat(*first, *last, self.block(turn))
             }
             Stmt::Locked(_resource, inner, _at) => lock_cost(self.block(inner)),
-            Stmt::Emit(expr) => capped(expression_cost(expr).saturating_add(1)),
+            Stmt::Emit(expr) => capped_cost(expression_cost(expr).saturating_add(1)),
             Stmt::Pend(_irq) => 1,
             Stmt::Call(spawn) => self.spawn(spawn),
         }
@@ -225,7 +225,7 @@ impl Measure {
     {
         let mut sum: u32 = 0;
         for stmt in stmts {
-            sum = capped(sum.saturating_add(self.statement(stmt)));
+            sum = capped_cost(sum.saturating_add(self.statement(stmt)));
         }
         sum
     }
@@ -234,6 +234,6 @@ impl Measure {
     pub fn body(&self, body: &Body) -> u32
         ensures { result ≡ whole.body_cost self.now (body_of body.now) }
     {
-        capped(self.block(&body.block).saturating_add(1))
+        capped_cost(self.block(&body.block).saturating_add(1))
     }
 }

@@ -1,6 +1,6 @@
 ghost use Rattle.std.specs.Prelude.{◌≡◌, ◌≤◌, if◌then◌else◌};
 ghost use Rattle.rt_app.specs.View.{app_of};
-ghost use Rattle.rt_app.specs.Level.{is_armed, armed_messages, armed_before};
+ghost use Rattle.rt_app.specs.Level.{is_armed, armed_messages, capacities_before};
 ghost use Rattle.rt_app.specs.Sending.{capacity_of};
 
 use crate::armed::{self, MOST_ARMED, armed_flags};
@@ -63,7 +63,7 @@ impl<'a> ArmedRows<'a> {
 
     /// The row of the first place of a task; of one that has no rows, where it would have its first.
     pub fn first(&self, task: TaskId) -> u32
-        ensures value { result ≡ armed_before (app_of self.now) task }
+        ensures value { result ≡ capacities_before (app_of self.now) task }
         ensures few { result ≤ MOST_ARMED }
     {
         armed::messages_before(self.app, &self.armed, usize::from(task.0))

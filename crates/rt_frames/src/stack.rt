@@ -3,8 +3,8 @@ ghost use Rattle.rt_app.specs.View.{task_of, app_of};
 ghost use Rattle.rt_ids.specs.Exception.{entry_words};
 ghost use Rattle.rt_ids.specs.Lists.{greatest, is_some_and};
 ghost use Rattle.rt_app.specs.Stack as stack;
-ghost use Rattle.rt_frames.specs.Inside.Flags.{flagged, HasFlags, timer_numbers};
-ghost use Rattle.rt_frames.specs.Inside.Saturated.{saturated};
+ghost use Rattle.rt_frames.specs.Inside.Flags.{flags_with, HasFlags, timer_numbers};
+ghost use Rattle.rt_frames.specs.Inside.Saturated.{saturated_number};
 ghost use Rattle.rt_frames.specs.Inside.Needs.{task_need, need_at};
 
 use crate::flags::{self, Flags};
@@ -15,7 +15,7 @@ use rt_ids::entry_words;
 
 /// Flags the priorities of tasks.
 fn flag_priorities(flags: &mut Flags, tasks: &[Task])
-    ensures { flags.new ≡ flagged (map (λ t. t.priority) (map task_of tasks.now)) flags.old }
+    ensures { flags.new ≡ flags_with (map (λ t. t.priority) (map task_of tasks.now)) flags.old }
 {
     for task in tasks {
         flags::flag(flags, task.priority);
@@ -24,7 +24,7 @@ fn flag_priorities(flags: &mut Flags, tasks: &[Task])
 
 /// Flags the priority of the monotonic, where there is one.
 fn flag_timer(flags: &mut Flags, mono: &Option<Mono>)
-    ensures { flags.new ≡ flagged (timer_numbers mono.now) flags.old }
+    ensures { flags.new ≡ flags_with (timer_numbers mono.now) flags.old }
 {
     match mono {
         None => {}
@@ -32,7 +32,7 @@ fn flag_timer(flags: &mut Flags, mono: &Option<Mono>)
     }
 }
 
-/// Flags the levels that have a handler.
+/// Flags the priorities that have a handler.
 pub(crate) fn handler_flags(app: &App) -> Flags
     ensures { HasFlags result (stack.has_handler (app_of app.now)) }
 {
@@ -44,7 +44,7 @@ pub(crate) fn handler_flags(app: &App) -> Flags
 
 /// The words of the handler that runs a task, up to the greatest number of 32 bits.
 fn task_need(task: &Task) -> u32
-    ensures { result ≡ saturated (task_need (task_of task.now)) }
+    ensures { result ≡ saturated_number (task_need (task_of task.now)) }
 {
     let words = frame_words(task.args, &task.body);
     if task.is_software() {
@@ -54,36 +54,36 @@ fn task_need(task: &Task) -> u32
     }
 }
 
-/// The same, where the task has this level, and else none.
-fn need_at(task: &Task, level: u8) -> u32
-    ensures { result ≡ saturated (need_at level (task_of task.now)) }
+/// The same, where the task has this priority, and else none.
+fn need_at(task: &Task, priority: u8) -> u32
+    ensures { result ≡ saturated_number (need_at priority (task_of task.now)) }
 {
-    if task.priority == level {
+    if task.priority == priority {
         task_need(task)
     } else {
         0
     }
 }
 
-/// The greatest need of the tasks of this level, in words, up to the greatest number of 32 bits.
-fn tasks_need(tasks: &[Task], level: u8) -> u32
-    ensures { result ≡ saturated (greatest (map (need_at level) (map task_of tasks.now))) }
+/// The greatest need of the tasks of this priority, in words, up to the greatest number of 32 bits.
+fn tasks_need(tasks: &[Task], priority: u8) -> u32
+    ensures { result ≡ saturated_number (greatest (map (need_at priority) (map task_of tasks.now))) }
 {
     let mut most: u32 = 0;
     for task in tasks {
-        most = most.max(need_at(task, level));
+        most = most.max(need_at(task, priority));
     }
     most
 }
 
-/// The words of the timer handler, where it has this level.
-fn timer_need(mono: &Option<Mono>, level: u8) -> u32
-    ensures { result ≡ (if is_some_and (λ m. m.priority == level) mono.now then TIMER_WORDS else 0) }
+/// The words of the timer handler, where it has this priority.
+fn timer_need(mono: &Option<Mono>, priority: u8) -> u32
+    ensures { result ≡ (if is_some_and (λ m. m.priority == priority) mono.now then TIMER_WORDS else 0) }
 {
     match mono {
         None => 0,
         Some(mono) => {
-            if mono.priority == level {
+            if mono.priority == priority {
                 TIMER_WORDS
             } else {
                 0
@@ -92,21 +92,21 @@ fn timer_need(mono: &Option<Mono>, level: u8) -> u32
     }
 }
 
-/// The greatest need of the handlers of this level, in words, up to the greatest number of 32 bits.
-fn need(app: &App, level: u8) -> u32
-    ensures { result ≡ saturated (stack.need (app_of app.now) level) }
+/// The greatest need of the handlers of this priority, in words, up to the greatest number of 32 bits.
+fn need(app: &App, priority: u8) -> u32
+    ensures { result ≡ saturated_number (stack.need (app_of app.now) priority) }
 {
-    tasks_need(&app.tasks, level).max(timer_need(&app.mono, level))
+    tasks_need(&app.tasks, priority).max(timer_need(&app.mono, priority))
 }
 
-/// The bytes of a level, up to the greatest number of 32 bits.
-fn level_bytes(app: &App, level: u8, has_handler: bool) -> u32
+/// The bytes of a priority, up to the greatest number of 32 bits.
+fn priority_bytes(app: &App, priority: u8, has_handler: bool) -> u32
     ensures { let all = app_of app.now in
-        result ≡ saturated (if has_handler then 4 * (entry_words all.fpu + stack.need all level) else 0) }
+        result ≡ saturated_number (if has_handler then 4 * (entry_words all.fpu + stack.need all priority) else 0) }
 {
     if has_handler {
         entry_words(app.fpu)
-            .saturating_add(need(app, level))
+            .saturating_add(need(app, priority))
             .saturating_mul(4)
     } else {
         0
@@ -116,11 +116,11 @@ fn level_bytes(app: &App, level: u8, has_handler: bool) -> u32
 /// Bytes of the stack at the deepest, up to the greatest number of 32 bits.
 pub(crate) fn stack_bytes(app: &App, handlers: &Flags) -> u32
     requires { HasFlags handlers.now (stack.has_handler (app_of app.now)) }
-    ensures { result ≡ saturated (stack.stack_bytes (app_of app.now)) }
+    ensures { result ≡ saturated_number (stack.stack_bytes (app_of app.now)) }
 {
     let mut bytes = thread_words(app).saturating_mul(4);
-    for level in 0..PRIORITIES {
-        let own = level_bytes(app, level as u8, handlers[usize::from(level)]);
+    for priority in 0..PRIORITIES {
+        let own = priority_bytes(app, priority as u8, handlers[usize::from(priority)]);
         bytes = bytes.saturating_add(own);
     }
     bytes

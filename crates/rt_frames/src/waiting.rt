@@ -19,8 +19,8 @@ use rt_app::{App, Ceilings, ReadyCeiling, Spawn, Stmt, Task, Value};
 use rt_ids::{ResId, TaskId};
 
 /// The ceiling of a resource, and 0 where there is none.
-fn shared_at(ceilings: &Ceilings, resource: ResId) -> u8
-    ensures { result ≡ waiting.shared_at ceilings.now resource }
+fn shared_ceiling(ceilings: &Ceilings, resource: ResId) -> u8
+    ensures { result ≡ waiting.shared_ceiling ceilings.now resource }
 {
     match ceilings.shared.get(usize::from(resource.0)) {
         None => 0,
@@ -153,7 +153,7 @@ fn statement_wait(
             block_wait(app, ceilings, measure, priority, turn)
         }
         Stmt::Locked(resource, inner, _at) => {
-            if priority <= shared_at(ceilings, *resource) {
+            if priority <= shared_ceiling(ceilings, *resource) {
                 measure.statement(stmt)
             } else {
                 block_wait(app, ceilings, measure, priority, inner)

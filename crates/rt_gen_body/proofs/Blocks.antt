@@ -5,9 +5,9 @@ use Rattle.rt_gen_queue.proofs.Vocabulary.{IsSoundLock, Kind, Leaves, Line, List
 use Rattle.rt_gen_queue.proofs.Vocabulary.{Statement, Then, Values, [], accepted_are_sound, act, all_append, all_has}
 use Rattle.rt_gen_queue.proofs.Vocabulary.{all_weaker, ap, arith, block_steps, cap_steps, contains_cases}
 use Rattle.rt_gen_queue.proofs.Vocabulary.{contains_there, cost_measure, false_from_ne_true, guard_of, has_loop, inl}
-use Rattle.rt_gen_queue.proofs.Vocabulary.{inr, kind_of, leave_line, length, length-append, list_any, max, opening}
-use Rattle.rt_gen_queue.proofs.Vocabulary.{or_left, or_right, passed, refl, run, run_block, saved_slot, saved_slots}
-use Rattle.rt_gen_queue.proofs.Vocabulary.{saving, slice_index, spawns, statement_steps, storage, subst, suc, sym}
+use Rattle.rt_gen_queue.proofs.Vocabulary.{inr, kind_of, leave_line, length, length-append, list_any, max, opening_instr}
+use Rattle.rt_gen_queue.proofs.Vocabulary.{or_left, or_right, spot_after_step, refl, run, run_block, saved_slot, saved_slots}
+use Rattle.rt_gen_queue.proofs.Vocabulary.{slots_with_mask, slice_index, spawns, statement_steps, storage, subst, suc, sym}
 use Rattle.rt_gen_queue.proofs.Vocabulary.{variables, variables_in, zero, ℕ, ◌*◌, ◌++◌, ◌+◌, ◌-◌, ◌<◌, ◌==◌, ◌∙◌, ◌∷◌}
 use Rattle.rt_gen_queue.proofs.Vocabulary.{◌≡◌, ◌≤◌}
 use Rattle.std.proofs.Math.Nat.{suc-mul}
@@ -16,7 +16,7 @@ use Rattle.rt_ids.specs.declared.ids.Section.TheVariants as section
 use Rattle.rt_app.proofs.Members.{in_back, in_front}
 use Rattle.rt_app.specs.{Frame.is_loop, Sound.IsSoundBlock, Sound.IsSoundStatement, Spawned.statement_spawns}
 use Rattle.rt_app.specs.Accepted.{IsBlockPlaced, IsStatementPlaced, behind}
-use Rattle.rt_app.specs.Cost.{block_cost, capped, lock_cost}
+use Rattle.rt_app.specs.Cost.{block_cost, capped_cost, lock_cost}
 use Rattle.rt_gen_queue.proofs.{Entering.kind_fits, Masks.of_kinds, Masks.saved_beside, Owning.reads_inside}
 use Rattle.rt_gen_queue.proofs.{Placing.code_behind, Placing.code_front}
 use Rattle.rt_gen_queue.proofs.Layer.{Here, MayOpen, enters_here, leaves_here, spot}
@@ -26,7 +26,7 @@ use Rattle.rt_gen_body.proofs.Expressions.{Sets, assigns, binds_time, emits_valu
 use Rattle.rt_gen_body.proofs.Loops.{BlockPerforms, chooses, in_loop, loops}
 use Rattle.rt_gen_body.proofs.Owning.{open_as, resource_cell, spelled_agreed, spelled_inside, spelled_outside}
 use Rattle.rt_gen_body.proofs.Places.{Begins, Body, Fits, Inside, Performs, Scope, block_needs, fewer_visible, front_of}
-use Rattle.rt_gen_body.proofs.Places.{goes_behind, inside_as, level_inside, listed_by, named, needs, part_fits, sooner}
+use Rattle.rt_gen_body.proofs.Places.{goes_behind, inside_as, threshold_inside, listed_by, named, needs, part_fits, sooner}
 use Rattle.rt_gen_body.specs.Inside.Blocks.{block_code, guard_at, statement_code}
 use Rattle.rt_gen_body.specs.Inside.Values.{Context, next_slot}
 
@@ -35,27 +35,27 @@ section_cost : (app : App) (inner : Block) → 2 + block_steps (cost_measure app
     → lock_cost (block_cost (cost_measure app) inner) ≡ 2 + block_steps (cost_measure app) inner
 section_cost app inner few =
     ap lock_cost (cap_steps.blocks (cost_measure app) inner)
-    ∙ (let e : capped (2 + capped (block_steps (cost_measure app) inner)) ≡ 2
+    ∙ (let e : capped_cost (2 + capped_cost (block_steps (cost_measure app) inner)) ≡ 2
     + block_steps (cost_measure app) inner = omega arith in e)
 
 -- the slot that keeps a mask
-saved_all : (P : ℕ → Type 0) (g : Guard) (level slot : ℕ) → P slot
-    → AllByRecursion P (saved_slot (kind_of g level slot))
-saved_all P g level slot holds =
-    of_kinds g level (λ kind. AllByRecursion P (saved_slot (kind slot))) tt (holds, tt) (holds, tt)
+saved_all : (P : ℕ → Type 0) (g : Guard) (threshold slot : ℕ) → P slot
+    → AllByRecursion P (saved_slot (kind_of g threshold slot))
+saved_all P g threshold slot holds =
+    of_kinds g threshold (λ kind. AllByRecursion P (saved_slot (kind slot))) tt (holds, tt) (holds, tt)
 
 -- inside a section of a resource
 abbrev pub in_lock : Body → Scope → ℕ → Scope
 in_lock b p r = record p {
   locked = r ∷ p.locked;
-  level = max p.level (guard_at b.c r).ceiling;
+  threshold = max p.threshold (guard_at b.c r).ceiling;
   lock = next_slot p.lock;
 }
 
 module _ (b : Body) (p : Scope) (r place : ℕ) (inner : Block) (sound : IsSoundLock b.z.app b.m p.locked r)
     (fits : Fits b p (needs b.z.app (Locked r inner place))) where
   abbrev kind : Kind
-  kind = kind_of (guard_at b.c r) p.level p.lock
+  kind = kind_of (guard_at b.c r) p.threshold p.lock
 
   abbrev open_now : Held
   open_now = record { section = section.Res r; kind = kind }
@@ -64,19 +64,19 @@ module _ (b : Body) (p : Scope) (r place : ℕ) (inner : Block) (sound : IsSound
   guard : guard_at b.c r ≡ guard_of b.z.app (section.Res r)
   guard = ap (λ (c : Context). guard_at c r) b.facts.is ∙ guard_is b.z.app b.m r sound.is_there
 
-  opens : opening (guard_at b.c r).value kind
-      ≡ opening ((storage b.z.app).value ((storage b.z.app).ceiling (section.Res r))) kind
+  opens : opening_instr (guard_at b.c r).value kind
+      ≡ opening_instr ((storage b.z.app).value ((storage b.z.app).ceiling (section.Res r))) kind
   unfolding storage
-  opens = ap (λ (g : Guard). opening g.value kind) guard
+  opens = ap (λ (g : Guard). opening_instr g.value kind) guard
 
   may_open : {h : Here} {lines : List Line} {cost : ℕ} {vars : List ℕ} {vs : Values} → Begins b p h lines cost vars vs
       → MayOpen b.z h (section.Res r) kind
   may_open {h = h} begins = record {
     mask = subst (λ (g : Guard). IsKindFor (storage b.z.app) b.z.who b.z.who h.held (section.Res r)
-        (kind_of g p.level p.lock)) (sym guard)
-        (kind_fits b.z.app b.z.who h.held (section.Res r) p.level p.lock begins.inside.off
+        (kind_of g p.threshold p.lock)) (sym guard)
+        (kind_fits b.z.app b.z.who h.held (section.Res r) p.threshold p.lock begins.inside.off
         ((accepted_are_sound b.z.app b.facts.accepted).ceilings (section.Res r) sound.is_there));
-    slot = saved_all (λ d. (d < length h.slots) × (¬ Contains (saved_slots h.held) d)) (guard_at b.c r) p.level p.lock (
+    slot = saved_all (λ d. (d < length h.slots) × (¬ Contains (saved_slots h.held) d)) (guard_at b.c r) p.threshold p.lock (
       omega (arith, begins.known.frame, b.spawns, fits.masks),
       λ there.
           let P : ℕ → Type 0 = λ e. (b.top ≤ e) × (e < p.lock) in
@@ -100,31 +100,31 @@ module _ (b : Body) (p : Scope) (r place : ℕ) (inner : Block) (sound : IsSound
         high = omega (arith, fits.masks);
         saved =
             all_append (λ d. (b.top ≤ d) × (d < next_slot p.lock)) (saved_slot kind) (saved_slots held)
-            (saved_all (λ d. (b.top ≤ d) × (d < next_slot p.lock)) (guard_at b.c r) p.level p.lock
+            (saved_all (λ d. (b.top ≤ d) × (d < next_slot p.lock)) (guard_at b.c r) p.threshold p.lock
             (inside.low, omega arith))
             (all_weaker (λ d. (b.top ≤ d) × (d < p.lock)) (λ d. (b.top ≤ d) × (d < next_slot p.lock))
             (λ d between. (between.0, omega (arith, between.1))) (saved_slots held) inside.saved);
         are = (refl, inside.are);
-        off = subst (λ (g : Guard). HoldsOff b.z.app b.z.who b.z.who (open_now ∷ held) (max p.level g.ceiling))
-            (sym guard) (level_inside b.z.app b.z.who held p.level open_now inside.off);
+        off = subst (λ (g : Guard). HoldsOff b.z.app b.z.who b.z.who (open_now ∷ held) (max p.threshold g.ceiling))
+            (sym guard) (threshold_inside b.z.app b.z.who held p.threshold open_now inside.off);
       }
 
   pub locks : BlockPerforms b (in_lock b p r) inner
-      → Performs b p p.visible (λ at. statement_code b.c p.level p.lock at (Locked r inner place))
+      → Performs b p p.visible (λ at. statement_code b.c p.threshold p.lock at (Locked r inner place))
       (statement_steps (cost_measure b.z.app) (Locked r inner place)) (run b.z.app (Locked r inner place))
   locks stands = record {
     runs = λ {h} {vars} {vs} later begins is behind.
         let cost : ℕ = lock_cost (block_cost (cost_measure b.z.app) inner) in
         let cost_is = section_cost b.z.app inner fits.steps in
         let at : ℕ = h.at + 1 in
-        let code : List Line = block_code b.c (max p.level (guard_at b.c r).ceiling) (next_slot p.lock) at inner in
-        let last : List Line = leave_line (section.Res r) (guard_at b.c r) p.level p.lock ∷ [] in
+        let code : List Line = block_code b.c (max p.threshold (guard_at b.c r).ceiling) (next_slot p.lock) at inner in
+        let last : List Line = leave_line (section.Res r) (guard_at b.c r) p.threshold p.lock ∷ [] in
         let next : suc h.at ≡ at = omega arith in
         let has = subst (λ a. HasCode b.z.code a (code ++ last)) next begins.has.1 in
         let cell = resource_cell b.z.app r sound.is_there in
-        let same : (saved y : ℕ) → y < b.c.expressions → slice_index (saving kind saved h.slots) y
+        let same : (saved y : ℕ) → y < b.c.expressions → slice_index (slots_with_mask kind saved h.slots) y
         ≡ slice_index h.slots y =
-        λ saved y low. (saved_beside (guard_at b.c r) p.level p.lock saved h.slots).others y
+        λ saved y low. (saved_beside (guard_at b.c r) p.threshold p.lock saved h.slots).others y
         (omega (arith, b.floor, begins.inside.low)) in
         enters_here kind cost begins.has.0 opens (sooner (omega arith) begins) (may_open begins) is
         (λ saved ws cells queues taken.
@@ -137,9 +137,9 @@ module _ (b : Body) (p : Scope) (r place : ℕ) (inner : Block) (sound : IsSound
             in_slots = λ y here.
                 same saved y (omega (arith, begins.inside.below y here, begins.inside.room))
                 ∙ begins.known.in_slots y here;
-            in_cells = spelled_inside open_now (passed (spot b.z h)) taken begins.known.in_cells;
+            in_cells = spelled_inside open_now (spot_after_step (spot b.z h)) taken begins.known.in_cells;
             long = taken.same.long ∙ begins.known.long;
-            frame = (saved_beside (guard_at b.c r) p.level p.lock saved h.slots).long ∙ begins.known.frame;
+            frame = (saved_beside (guard_at b.c r) p.threshold p.lock saved h.slots).long ∙ begins.known.frame;
             variables = begins.known.variables;
           };
           inside = inside_lock begins.inside;
@@ -219,7 +219,7 @@ module _ (b : Body) where
         → IsSoundStatement b.z.app b.m p.count p.locked p.fixed s
         → IsStatementPlaced b.z.app (listed_by b.m) p.count p.visible s
         → Performs b p (behind b.z.app (listed_by b.m) p.count p.visible s)
-        (λ at. statement_code b.c p.level p.lock at s) (statement_steps (cost_measure b.z.app) s) (run b.z.app s)
+        (λ at. statement_code b.c p.threshold p.lock at s) (statement_steps (cost_measure b.z.app) s) (run b.z.app s)
     statement_stands (Bind x (Calc e)) p fits sound placed =
         sets_variable e (record { deep = fits.depth; reached = sound.1; meant = placed.1 })
         (next_sets sound.0 fits.variables)
@@ -241,7 +241,7 @@ module _ (b : Body) where
         (part_fits fits (omega arith) (omega arith, omega arith) (omega arith)
         (or_right (has_loop first) (has_loop second)) (in_back (spawns first) (spawns second))) sound.2 placed.2))
     statement_stands (Repeat x first last turn) p fits sound placed =
-        subst (λ (y : ℕ). Performs b p p.visible (λ at. statement_code b.c p.level p.lock at (Repeat y first last turn))
+        subst (λ (y : ℕ). Performs b p p.visible (λ at. statement_code b.c p.threshold p.lock at (Repeat y first last turn))
         (statement_steps (cost_measure b.z.app) (Repeat y first last turn)) (run b.z.app (Repeat y first last turn)))
         (sym sound.0)
         (loops first last turn
@@ -288,8 +288,8 @@ module _ (b : Body) where
         (in_back (statement_spawns s) (spawns rest))) sound.1 placed.1 in
         record {
           runs = λ {h} {vars} {vs} later begins is after.
-              let first : List Line = statement_code b.c p.level p.lock h.at s in
-              let others : List Line = block_code b.c p.level p.lock (h.at + length first) rest in
+              let first : List Line = statement_code b.c p.threshold p.lock h.at s in
+              let others : List Line = block_code b.c p.threshold p.lock (h.at + length first) rest in
               one.runs (run_block b.z.app rest later) (front_of first others (omega arith) begins) is
               (record {
                 on = λ t within settled.

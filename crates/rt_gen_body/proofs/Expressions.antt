@@ -4,7 +4,7 @@ use Rattle.rt_gen_queue.proofs.Vocabulary.{Agree, Assign, Bool, Clocks, Contains
 use Rattle.rt_gen_queue.proofs.Vocabulary.{Held, Holder, Instr, IsChangeable, Line, List, Num, Number, Oper, Own, Pend}
 use Rattle.rt_gen_queue.proofs.Vocabulary.{Read, Some, Values, [], ap, arith, does, eqb-true, expression_steps, false}
 use Rattle.rt_gen_queue.proofs.Vocabulary.{get_or-set_other, get_or-set_same, inl, inr, length, length-append}
-use Rattle.rt_gen_queue.proofs.Vocabulary.{length-set, nat_tests, number, operate, or_left, owns, plain, put_at, refl}
+use Rattle.rt_gen_queue.proofs.Vocabulary.{length-set, nat_tests, number, operate, or_left, owns, plain, values_with, refl}
 use Rattle.rt_gen_queue.proofs.Vocabulary.{run, slice_get, slice_index, slice_set, storage, subst, suc, sym, true}
 use Rattle.rt_gen_queue.proofs.Vocabulary.{value_in, ℕ, ◌++◌, ◌+◌, ◌<◌, ◌==◌, ◌∙◌, ◌∷◌, ◌≡◌, ◌≢◌, ◌≤◌, ◌⊎◌}
 use Rattle.std.proofs.lemmas.Grind.{get_or-set_at}
@@ -298,7 +298,7 @@ module _ {b : Body} {p : Scope} where
   stores_value : (e : Expression) (cell : ℕ) (holder : Holder) → Sound b p e → HasCell b.z.app holder cell
       → ((held : List Held) → OpenAre held p.locked → owns (storage b.z.app) b.z.who held holder ≡ true)
       → Performs b p p.visible (λ at. value_code b.c e ++ plain (instr.Store cell b.c.expressions) ∷ [])
-      (expression_steps e + 1) (λ later vars vs. later vars (put_at vs holder (Number (value_in vars vs e))))
+      (expression_steps e + 1) (λ later vars vs. later vars (values_with vs holder (Number (value_in vars vs e))))
   stores_value e cell holder sound has own = record {
     runs = λ {h} {vars} {vs} later begins is behind.
         with_value e 1 (omega arith) sound begins behind

@@ -3,7 +3,7 @@
 use Rattle.rt_gen_queue.proofs.Vocabulary.{AllByRecursion, App, Appends, BodyId, Ceilings, IsAccepted, IsPlan}
 use Rattle.rt_gen_queue.proofs.Vocabulary.{KeepsTaskLimits, Line, List, Made, None, Option, Plan, Some, Task, []}
 use Rattle.rt_gen_queue.proofs.Vocabulary.{accepted_are_sound, all_at, ap, app_of, append-nil, append_assoc, arith}
-use Rattle.rt_gen_queue.proofs.Vocabulary.{block_of, ceiling, eqb-true, false, frame_words, get_or, guarded, length}
+use Rattle.rt_gen_queue.proofs.Vocabulary.{block_of, ceiling, eqb-true, false, frame_words, get_or, guard_of_ceiling, length}
 use Rattle.rt_gen_queue.proofs.Vocabulary.{length-append, map, mapped_at, member_at, next_address, option_map, plain}
 use Rattle.rt_gen_queue.proofs.Vocabulary.{range_with_len, refl, set-append_seam, slice_get, slice_get_read, slice_set}
 use Rattle.rt_gen_queue.proofs.Vocabulary.{statements_in, subst, suc, sym, task_of, true, zero, ℕ, ◌++◌, ◌+◌, ◌<◌, ◌==◌}
@@ -56,14 +56,14 @@ between_seam o one two ahead old new =
     (set-append_seam (o ++ ahead ∷ one) old two new ∙ append_assoc o (ahead ∷ one) (new ∷ two))
 
 -- the code of a block, and of what stands behind it
-pub block_code-append : (c : Context) (level lock at : ℕ) (xs ys : List Stmt)
-    → block_code c level lock at (block_of (xs ++ ys))
-    ≡ block_code c level lock at (block_of xs) ++ block_code c level lock
-    (at + length (block_code c level lock at (block_of xs))) (block_of ys)
-block_code-append c level lock at [] ys = ap (λ n. block_code c level lock n (block_of ys)) (omega arith)
-block_code-append c level lock at (x ∷ xs) ys =
-    let first : List Line = statement_code c level lock at (statement_of x) in
-    rw (block_code-append c level lock (at + length first) xs ys) (simp (behind_at, append_assoc))
+pub block_code-append : (c : Context) (threshold lock at : ℕ) (xs ys : List Stmt)
+    → block_code c threshold lock at (block_of (xs ++ ys))
+    ≡ block_code c threshold lock at (block_of xs) ++ block_code c threshold lock
+    (at + length (block_code c threshold lock at (block_of xs))) (block_of ys)
+block_code-append c threshold lock at [] ys = ap (λ n. block_code c threshold lock n (block_of ys)) (omega arith)
+block_code-append c threshold lock at (x ∷ xs) ys =
+    let first : List Line = statement_code c threshold lock at (statement_of x) in
+    rw (block_code-append c threshold lock (at + length first) xs ys) (simp (behind_at, append_assoc))
 
 -- a second block that has no statements is the empty one, and before another the choice is between two
 pub no_second : (n : ℕ) (second : List Stmt) → n ≡ length second → true ≡ (n == 0) → block_of second ≡ tree.Empty
@@ -151,13 +151,13 @@ small_ceilings plan accepted planned bits tops same is =
     (all_from_members (λ r. r < length app.shared) all (contains_range (length app.shared)))))
 
 pub guards_are : (plan : Plan) → IsPlan plan → (bits : ℕ) (tops : List ℕ) (guards : List Guard)
-    → bits ≡ plan.app.now.bits → tops ≡ plan.ceil.shared → guards ≡ map (guarded bits) tops
+    → bits ≡ plan.app.now.bits → tops ≡ plan.ceil.shared → guards ≡ map (guard_of_ceiling bits) tops
     → guards ≡ guards_of (app_of plan.app.now)
 guards_are plan planned bits tops guards same is made =
     let app : App = app_of plan.app.now in
-    made ∙ ap (λ b. map (guarded b) tops) same ∙ ap (λ (cs : List ℕ). map (guarded app.bits) cs)
+    made ∙ ap (λ b. map (guard_of_ceiling b) tops) same ∙ ap (λ (cs : List ℕ). map (guard_of_ceiling app.bits) cs)
     (is ∙ ap (λ (c : Ceilings). c.shared) planned.ceilings)
-    ∙ map-map (guarded app.bits) (λ r. ceiling app (section.Res r)) (range_with_len 0 (length app.shared))
+    ∙ map-map (guard_of_ceiling app.bits) (λ r. ceiling app (section.Res r)) (range_with_len 0 (length app.shared))
 
 -- what is generated behind other code stands
 module _ {app : App} (accepted : IsAccepted app) (front : List Line) where

@@ -20,7 +20,7 @@ use Rattle.rt_gen_body.specs.Inside.{Blocks.block_code, Blocks.loop_back, Blocks
 -- a block does what it means, and leaves in scope what was
 abbrev pub BlockPerforms : Body → Scope → Block → Type 0
 BlockPerforms b p block =
-    Performs b p p.visible (λ at. block_code b.c p.level p.lock at block) (block_steps (cost_measure b.z.app) block)
+    Performs b p p.visible (λ at. block_code b.c p.threshold p.lock at block) (block_steps (cost_measure b.z.app) block)
     (run_block b.z.app block)
 
 module _ {b : Body} {p : Scope} where
@@ -54,9 +54,9 @@ module _ {b : Body} {p : Scope} where
 
   -- a block behind a jump
   begins_block : {h : Here} {lines : List Line} {cost : ℕ} {vars : List ℕ} {vs : Values} (block : Block) (at : ℕ)
-      → HasCode b.z.code at (block_code b.c p.level p.lock at block)
+      → HasCode b.z.code at (block_code b.c p.threshold p.lock at block)
       → suc (block_steps (cost_measure b.z.app) block) ≤ cost → Begins b p h lines cost vars vs
-      → Begins b p (record h { done = suc h.done; at = at }) (block_code b.c p.level p.lock at block)
+      → Begins b p (record h { done = suc h.done; at = at }) (block_code b.c p.threshold p.lock at block)
       (block_steps (cost_measure b.z.app) block) vars vs
   begins_block block at has less begins = next_begins has (omega arith) refl (λ x low. refl) begins
 
@@ -64,12 +64,12 @@ module _ {b : Body} {p : Scope} where
   -- jump over the second
   pub chooses : (e : Expression) (first second : Block) → Sound b p e → BlockPerforms b p first
       → BlockPerforms b p second
-      → Performs b p p.visible (λ at. statement_code b.c p.level p.lock at (Branch e first second))
+      → Performs b p p.visible (λ at. statement_code b.c p.threshold p.lock at (Branch e first second))
       (statement_steps (cost_measure b.z.app) (Branch e first second)) (run b.z.app (Branch e first second))
   chooses e first Empty sound one two = record {
     runs = λ {h} {vars} {vs} later begins is behind.
         let at : ℕ = h.at + length (value_code b.c e) + 1 in
-        decides e (at + length (block_code b.c p.level p.lock at first))
+        decides e (at + length (block_code b.c p.threshold p.lock at first))
         (suc (block_steps (cost_measure b.z.app) first))
         (λ stop. if stop then later vars vs else run_block b.z.app first later vars vs) (omega arith) sound begins is
         behind
@@ -86,9 +86,9 @@ module _ {b : Body} {p : Scope} where
     runs = λ {h} {vars} {vs} later begins is behind.
         let second : Block = Then s more in
         let at : ℕ = h.at + length (value_code b.c e) + 1 in
-        let code : List Line = block_code b.c p.level p.lock at first in
+        let code : List Line = block_code b.c p.threshold p.lock at first in
         let to : ℕ = at + length code + 1 in
-        let other : List Line = block_code b.c p.level p.lock to second in
+        let other : List Line = block_code b.c p.threshold p.lock to second in
         let over : List Line = plain (instr.Jump (to + length other)) ∷ other in
         let all = length-append code over in
         let steps : ℕ = max (block_steps (cost_measure b.z.app) first) (block_steps (cost_measure b.z.app) second) in
@@ -156,7 +156,7 @@ head_lines b p l =
 
 abbrev turn_lines : Body → Scope → Loop → ℕ → List Line
 turn_lines b p l at =
-    head_lines b p l ++ (block_code b.c p.level p.lock l.from l.turn ++ loop_back b.c p.count at)
+    head_lines b p l ++ (block_code b.c p.threshold p.lock l.from l.turn ++ loop_back b.c p.count at)
 
 -- the number that the loop has come to
 number_there : {b : Body} {p : Scope} {h : Here} {lines : List Line} {cost : ℕ} {vs : Values} (vars : List ℕ) (i : ℕ)
@@ -263,7 +263,7 @@ module _ {b : Body} {p : Scope} {l : Loop} where
       (λ y here. same y (omega (arith, loop.fixed y here, begins.inside.room)))))
   loop_turns (suc turns) {h = h} {later = later} i vars loop left begins is behind =
       let x : ℕ = p.count in
-      let turn : List Line = block_code b.c p.level p.lock l.from l.turn in
+      let turn : List Line = block_code b.c p.threshold p.lock l.from l.turn in
       let tail : List Line = loop_back b.c x h.at in
       let i_is = number_there vars i begins in
       let low : x < b.c.expressions = omega (arith, begins.inside.room) in
@@ -298,13 +298,13 @@ module _ {b : Body} {p : Scope} {l : Loop} where
 pub loops : {b : Body} {p : Scope} (first last : ℕ) (turn : Block)
     → (first < last → BlockPerforms b (in_loop p) turn) → p.count + 1 ≤ b.c.expressions → b.c.expressions < b.top
     → last < 2 ^ 32
-    → Performs b p p.visible (λ at. statement_code b.c p.level p.lock at (Repeat p.count first last turn))
+    → Performs b p p.visible (λ at. statement_code b.c p.threshold p.lock at (Repeat p.count first last turn))
     (statement_steps (cost_measure b.z.app) (Repeat p.count first last turn))
     (run b.z.app (Repeat p.count first last turn))
 loops {b = b} {p = p} first last turn stands room test word = record {
   runs = λ {h} {vars} {vs} later begins is behind.
       let x : ℕ = p.count in
-      let code : List Line = block_code b.c p.level p.lock (h.at + 4) turn in
+      let code : List Line = block_code b.c p.threshold p.lock (h.at + 4) turn in
       let l : Loop = record {
         turn = turn;
         from = h.at + 4;

@@ -1,12 +1,12 @@
 -- How an application keeps resources, each in a cell of its own that spells its value, and what is known of values as
 -- code goes on: a resource that may be read has the value that is in its cell. The sections that are open while a body
 -- runs are those of the resources that it has locked.
-use Rattle.rt_gen_queue.proofs.Vocabulary.{Agree, App, At, AtLevel, Bool, Content, Entry, Guarded, Held, Holder, Home}
+use Rattle.rt_gen_queue.proofs.Vocabulary.{Agree, App, At, AtPriority, Bool, Content, Entry, Guarded, Held, Holder, Home}
 use Rattle.rt_gen_queue.proofs.Vocabulary.{LeavesMine, List, MayLoad, MayStore, Number, Own, Runner, Section, Spot}
 use Rattle.rt_gen_queue.proofs.Vocabulary.{Starting, TakesOver, Values, [], ap, arith, eq-eqb, eqb-true, false}
 use Rattle.rt_gen_queue.proofs.Vocabulary.{false_from_ne_true, get_or-set_other, get_or-set_same, if◌then◌else◌, inl}
 use Rattle.rt_gen_queue.proofs.Vocabulary.{inr, is_constant, is_kept, is_open, is_same_holder, is_same_section, length}
-use Rattle.rt_gen_queue.proofs.Vocabulary.{list_any, local_is_home, memory, number, one_section, owns, put_at, reads}
+use Rattle.rt_gen_queue.proofs.Vocabulary.{list_any, local_is_home, memory, number, one_section, owns, values_with, reads}
 use Rattle.rt_gen_queue.proofs.Vocabulary.{reads_more, refl, resource_is_home, same_section, slice_index, slice_set}
 use Rattle.rt_gen_queue.proofs.Vocabulary.{storage, subst, sym, true, ℕ, ◌+◌, ◌<◌, ◌||◌, ◌∙◌, ◌∷◌, ◌≡◌, ◌≢◌, ◌⊎◌}
 use Rattle.rt_lemmas.proofs.Membership.{any_one}
@@ -171,7 +171,7 @@ module _ {z : Setting} where
   -- what is kept in a cell gets a new value
   pub spelled_put : {held : List Held} {cells : List ℕ} {vs : Values} {holder : Holder} {cell : ℕ} (v : ℕ)
       → HasCell z.app holder cell → length cells ≡ length (memory z.app) → IsSpelled z held cells vs
-      → IsSpelled z held (slice_set cells cell v) (put_at vs holder (Number v))
+      → IsSpelled z held (slice_set cells cell v) (values_with vs holder (Number v))
   spelled_put {cells = cells} {vs = vs} {holder = holder} {cell = cell} v has long known = record {
     has = λ {holder = other} {cell = place} at may.
         elim (same_or_other holder other) [
@@ -201,7 +201,7 @@ cell_of : (app : App) (who : Runner) (holder : Holder)
 cell_of app who (Guarded (section.Res r)) may within = (r, resource_cell app r within)
 cell_of app who (Own n) may within = (length app.shared + n, local_cell app n within)
 cell_of app Starting holder may within = absurd cc
-cell_of app (AtLevel p) holder may within = absurd cc
+cell_of app (AtPriority p) holder may within = absurd cc
 
 -- what was spelled once, and so has cells, is spelled where values are known
 pub spelled : {z : Setting} {cells : List ℕ} {vs : Values} (before : List ℕ) (queues : Holder → List Entry)

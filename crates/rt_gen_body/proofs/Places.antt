@@ -1,6 +1,6 @@
 -- What is known of a body, of what its code is generated with and of a place in it, what a statement asks of the frame
 -- there, and what it means that code does what it is to do.
-use Rattle.rt_gen_queue.proofs.Vocabulary.{AllByRecursion, App, AtLevel, BODY_COST, Block, Bool, Contains, Doing, Entry}
+use Rattle.rt_gen_queue.proofs.Vocabulary.{AllByRecursion, App, AtPriority, BODY_COST, Block, Bool, Contains, Doing, Entry}
 use Rattle.rt_gen_queue.proofs.Vocabulary.{Guarded, HasCode, Held, Holder, HoldsOff, IsAccepted, IsChangeable, IsIn}
 use Rattle.rt_gen_queue.proofs.Vocabulary.{IsSoundLock, IsWithin, Line, List, Member, NobodyKeeps, Own, Runner, Section}
 use Rattle.rt_gen_queue.proofs.Vocabulary.{Spawn, Starting, Statement, Values, [], all_weaker, arith, block_steps}
@@ -19,10 +19,10 @@ use Rattle.rt_gen_body.proofs.Owning.{IsSpelled, OpenAre}
 use Rattle.rt_gen_body.specs.Inside.{Values.Context, Whole.context_of}
 
 -- a section that opens raises the level that is held off
-pub level_inside : (app : App) (who : Runner) (held : List Held) (level : ℕ) (h : Held)
-    → HoldsOff app who who held level → HoldsOff app who who (h ∷ held) (max level (ceiling app h.section))
-level_inside app Starting held level h off = omega (arith, off)
-level_inside app (AtLevel p) held level h off = omega (arith, off)
+pub threshold_inside : (app : App) (who : Runner) (held : List Held) (threshold : ℕ) (h : Held)
+    → HoldsOff app who who held threshold → HoldsOff app who who (h ∷ held) (max threshold (ceiling app h.section))
+threshold_inside app Starting held threshold h off = omega (arith, off)
+threshold_inside app (AtPriority p) held threshold h off = omega (arith, off)
 
 -- what a body may do, and what its code is generated with
 pub record Facts (app : App) (who : Runner) (m : Member) (c : Context) : Type 0 where
@@ -53,13 +53,13 @@ pub record Body : Type 0 where
   pub word : words < 2 ^ 32
 
 -- Where a statement stands: the variables in scope, those of loops round it, the resources that are locked, how many
--- variables there are before it, the level that is held off, and the slot for the next mask.
+-- variables there are before it, the preemption threshold, and the slot for the next mask.
 pub record Scope : Type 0 where
   pub visible : List ℕ
   pub fixed : List ℕ
   pub locked : List ℕ
   pub count : ℕ
-  pub level : ℕ
+  pub threshold : ℕ
   pub lock : ℕ
 
 -- the local resources that a body lists
@@ -79,7 +79,7 @@ pub record Inside (b : Body) (p : Scope) (held : List Held) : Type 0 where
   pub high : p.lock ≤ b.c.spawns
   pub saved : SavedBetween b.top p.lock held
   pub are : OpenAre held p.locked
-  pub off : HoldsOff b.z.app b.z.who b.z.who held p.level
+  pub off : HoldsOff b.z.app b.z.who b.z.who held p.threshold
 
 -- further on, with more variables in scope, or more of loops
 pub inside_as : {b : Body} {p : Scope} {held : List Held} (visible fixed : List ℕ) (n : ℕ)

@@ -1,5 +1,5 @@
 -- What is promised of the code of each kind of body: it stands, from its entry through its blocks to its end.
-use Rattle.rt_gen_queue.proofs.Vocabulary.{Action, App, AtLevel, BODY_COST, Body as AppBody, BodyId, BodyRow, Bool}
+use Rattle.rt_gen_queue.proofs.Vocabulary.{Action, App, AtPriority, BODY_COST, Body as AppBody, BodyId, BodyRow, Bool}
 use Rattle.rt_gen_queue.proofs.Vocabulary.{Contains, Doing, Ends, Entry, HasCode, Holder, HoldsOff, IsAccepted, IsIn}
 use Rattle.rt_gen_queue.proofs.Vocabulary.{IsSound, Line, List, Member, None, Option, Rest, Returns, Runner, Some}
 use Rattle.rt_gen_queue.proofs.Vocabulary.{Spawn, Spot, Stands, StandsFrom, Starting, Task, Values, [], act, all_at, ap}
@@ -7,13 +7,13 @@ use Rattle.rt_gen_queue.proofs.Vocabulary.{append_assoc, arith, block_steps, bod
 use Rattle.rt_gen_queue.proofs.Vocabulary.{cost_measure, false, first_lock_slot, frame_words, get_or-take}
 use Rattle.rt_gen_queue.proofs.Vocabulary.{get_or_append_left, greatest, has_body, has_loop, if◌then◌else◌, is_software}
 use Rattle.rt_gen_queue.proofs.Vocabulary.{length, length-append, length-replicate, length-take-le, map, max, member_at}
-use Rattle.rt_gen_queue.proofs.Vocabulary.{members, memory, none-some, noted, nothing, option_map, or_left, passed}
+use Rattle.rt_gen_queue.proofs.Vocabulary.{members, memory, none-some, line_with_note, nothing, option_map, or_left, spot_after_step}
 use Rattle.rt_gen_queue.proofs.Vocabulary.{plain, range_with_len, refl, replicate, row_for, same_Some, slice_get}
 use Rattle.rt_gen_queue.proofs.Vocabulary.{slice_index, spawn_words, spawns, stands_with_more, storage, subst, suc, sym}
 use Rattle.rt_gen_queue.proofs.Vocabulary.{take, true, variables, zero, ℕ, ◌++◌, ◌+◌, ◌-◌, ◌<◌, ◌^◌, ◌∙◌, ◌∷◌, ◌≡◌, ◌≤◌}
 use Rattle.std.proofs.lemmas.List.FromFn.{get_or-range_with_len, length-range_with_len}
 use Rattle.rt_ids.specs.declared.ids.BodyId.TheVariants as body
-use Rattle.rt_app.specs.{BodyCost.cost_of, Cost.capped, Stack.thread_frame, Stack.thread_words, Statements.is_init}
+use Rattle.rt_app.specs.{BodyCost.cost_of, Cost.capped_cost, Stack.thread_frame, Stack.thread_words, Statements.is_init}
 use Rattle.rt_app.specs.Doings.{body_doing, declared_doing, task_doing}
 use Rattle.rt_app.specs.Frame.{block_depth, first_expression_slot, first_spawn_slot}
 use Rattle.rt_code.specs.{Stack.return_address, Standing.Finishes}
@@ -32,8 +32,8 @@ use Rattle.rt_gen_body.specs.Inside.Whole.{blocks_of, code_of, context_of, level
 pub cost_is : (app : App) (b : AppBody) → block_steps (cost_measure app) b.block + 1 ≤ BODY_COST
     → body_cost (cost_measure app) b ≡ block_steps (cost_measure app) b.block + 1
 cost_is app b few =
-    ap (λ n. capped (n + 1)) (cap_steps.blocks (cost_measure app) b.block)
-    ∙ (let e : capped (capped (block_steps (cost_measure app) b.block) + 1) ≡ block_steps (cost_measure app) b.block
+    ap (λ n. capped_cost (n + 1)) (cap_steps.blocks (cost_measure app) b.block)
+    ∙ (let e : capped_cost (capped_cost (block_steps (cost_measure app) b.block) + 1) ≡ block_steps (cost_measure app) b.block
     + 1 = omega arith in e)
 
 -- a loop has a slot for its test
@@ -57,14 +57,14 @@ contains_range args y (k, within, is) =
 abbrev pub lines_of : App → Member → ℕ → List Line
 lines_of app m at = block_code (context_of app m) (level_of app m) (first_lock_slot m.args m.body) at m.body.block
 
--- the runner of a body, and the level that it holds off at its start
+-- the runner of a body, and its preemption threshold at its start
 abbrev pub runner_if : Bool → ℕ → Runner
-runner_if starts level = if starts then Starting else AtLevel level
+runner_if starts threshold = if starts then Starting else AtPriority threshold
 
-level_at_start : (app : App) (starts : Bool) (p : ℕ)
+threshold_at_start : (app : App) (starts : Bool) (p : ℕ)
     → HoldsOff app (runner_if starts p) (runner_if starts p) [] (if starts then 2 ^ app.bits else p)
-level_at_start app true p = omega arith
-level_at_start app false p = omega arith
+threshold_at_start app true p = omega arith
+threshold_at_start app false p = omega arith
 
 -- a body of an application, in a frame of so many words
 pub record IsBody (z : Setting) (m : Member) (words : ℕ) : Type 0 where
@@ -100,7 +100,7 @@ module _ {z : Setting} {m : Member} {words : ℕ} (w : IsBody z m words) where
   off : HoldsOff z.app z.who z.who [] (level_of z.app m)
   off =
       subst (λ (who : Runner). HoldsOff z.app who who [] (level_of z.app m)) (sym w.runs)
-      (level_at_start z.app (is_init m.id) m.priority)
+      (threshold_at_start z.app (is_init m.id) m.priority)
 
   masks_room : first_spawn_slot m.args m.body ≤ words
   masks_room = omega (arith, w.room)
@@ -125,7 +125,7 @@ module _ {z : Setting} {m : Member} {words : ℕ} (w : IsBody z m words) where
     fixed = [];
     locked = [];
     count = m.args;
-    level = level_of z.app m;
+    threshold = level_of z.app m;
     lock = first_lock_slot m.args m.body;
   }
 
@@ -211,7 +211,7 @@ alone z = record z { caller = None }
 -- with all given back it is over
 finishes : (z : Setting) (until left at : ℕ) (action : Action) (t : State) → AllSpelled z t.cells t.queues t.vs
     → Finishes (storage z.app) z.code z.bodies z.thread z.who action
-    (passed (spot (alone z) (job until left at t (act action nothing t.vs))))
+    (spot_after_step (spot (alone z) (job until left at t (act action nothing t.vs))))
 finishes z until left at action t known = record {
   values = t.vs;
   follows = λ answer. nothing;
@@ -322,7 +322,7 @@ module _ {app : App} (accepted : IsAccepted app) (sound : IsSound app) where
       let entry : ℕ = length front in
       let at : ℕ = entry + length (blocks_of app m entry) in
       let there = body_between app body.Idle m front more in
-      let z : Setting = runs (AtLevel 0) entry ((front ++ code_of app body.Idle m entry) ++ more) bodies None in
+      let z : Setting = runs (AtPriority 0) entry ((front ++ code_of app body.Idle m entry) ++ more) bodies None in
       thread_stands z body.Idle app.idle entry accepted sound refl refl (omega arith) there.blocks
       (λ until left t time known.
       by_line (instr.Jump entry) (Some (note.End body.Idle)) there.last time
@@ -332,7 +332,7 @@ module _ {app : App} (accepted : IsAccepted app) (sound : IsSound app) where
       (short : frame_words t.args t.body < 2 ^ 32)
       (there : BodyThere app (body.Task n) (Some (of_task n t)) code entry) where
     task_body : {thread : ℕ} {bodies : List BodyRow} {caller : Option (List ℕ)}
-        → IsBody (runs (AtLevel t.priority) thread code bodies caller) (of_task n t) (frame_words t.args t.body)
+        → IsBody (runs (AtPriority t.priority) thread code bodies caller) (of_task n t) (frame_words t.args t.body)
     task_body = record {
       accepted = accepted;
       sound = sound;
@@ -344,29 +344,29 @@ module _ {app : App} (accepted : IsAccepted app) (sound : IsSound app) where
 
     last_is : (called : Bool) → is_software t ≡ called
         → slice_get code (entry + length (blocks_of app (Some (of_task n t)) entry))
-        ≡ Some (if called then noted instr.Back (note.End (body.Task n)) else plain instr.Ret)
+        ≡ Some (if called then line_with_note instr.Back (note.End (body.Task n)) else plain instr.Ret)
     last_is called kind = there.last ∙ rw (is, kind) refl
 
     -- the body of a task that is bound to an interrupt
     pub task_stands : is_software t ≡ false → (bodies : List BodyRow) (thread : ℕ)
-        → StandsFrom (storage app) code bodies thread (AtLevel t.priority) (length (memory app))
+        → StandsFrom (storage app) code bodies thread (AtPriority t.priority) (length (memory app))
         (frame_words t.args t.body) entry (body_cost (cost_measure app) t.body)
         (task_doing app n [] (act Returns nothing))
     task_stands bound bodies thread =
         rw is
-        (whole_stands (runs (AtLevel t.priority) thread code bodies None) entry Returns task_body
+        (whole_stands (runs (AtPriority t.priority) thread code bodies None) entry Returns task_body
         (all_at (λ t. is_software t ≡ false → t.args ≡ 0) app.tasks n t sound.hardware is bound) there.blocks
         (λ until left s time known.
         returns_here (last_is false bound) time refl refl refl refl (λ h kept.
-        known h (or_left ((storage app).is_kept (AtLevel t.priority) h)
-        ((storage app).is_constant (AtLevel t.priority) h) kept))))
+        known h (or_left ((storage app).is_kept (AtPriority t.priority) h)
+        ((storage app).is_constant (AtPriority t.priority) h) kept))))
 
     -- one that dispatchers call: its end goes back into the handler's frame
     pub called_stands : is_software t ≡ true → CalledBodyStands app n code (row_for (λ k. entry) n t)
     called_stands software =
         rw is
         (λ bodies thread steps frame behind goes left slots cells queues vs enough long known.
-        let z : Setting = runs (AtLevel t.priority) thread code bodies (Some frame) in
+        let z : Setting = runs (AtPriority t.priority) thread code bodies (Some frame) in
         let cost : ℕ = body_cost (cost_measure app) t.body in
         let w : IsBody z (of_task n t) (frame_words t.args t.body) = task_body in
         let cost_eq = cost_is app t.body (few_steps w) in
@@ -385,7 +385,7 @@ module _ {app : App} (accepted : IsAccepted app) (sound : IsSound app) where
               follows = λ answer. behind;
               is = refl;
               on = λ us agree.
-                  stands_with_more (storage app) bodies thread (AtLevel t.priority) code steps
+                  stands_with_more (storage app) bodies thread (AtPriority t.priority) code steps
                   (cost + steps - suc s.done)
                   (calm (left - s.done - 1) frame None (return_address frame) s.cells s.queues (behind us))
                   ((left - s.done - 1) ∷ []) (omega arith) (omega arith, tt)

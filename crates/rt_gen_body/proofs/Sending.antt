@@ -71,13 +71,13 @@ code_called b lines needs n t has there software =
     rw (ap (λ (c : Context). c.app) b.facts.is, has, there, software) refl
 
 module _ {b : Body} {p : Scope} {h : Here} {vars : List ℕ} {vs : Values} (q : Spawn) (rest : ℕ → Rest)
-    (begins : Begins b p h (goes_code b.c p.level h.at q) (goes_steps b.z.app q) vars vs)
-    (on : Answered b p h (length (goes_code b.c p.level h.at q)) (goes_steps b.z.app q) vars rest) where
+    (begins : Begins b p h (goes_code b.c p.threshold h.at q) (goes_steps b.z.app q) vars vs)
+    (on : Answered b p h (length (goes_code b.c p.threshold h.at q)) (goes_steps b.z.app q) vars rest) where
   abbrev left : ℕ
   left = h.until - h.done - goes_steps b.z.app q
 
   -- it goes by its law, since what is behind its lines is correct in as many steps as are left
-  by_law : {lines : List Line} → goes_code b.c p.level h.at q ≡ lines
+  by_law : {lines : List Line} → goes_code b.c p.threshold h.at q ≡ lines
       → (HasCode b.z.code h.at lines → StandsBefore b.z.app b.z.who b.z.code b.z.bodies b.z.thread
       (goes_steps b.z.app q) b.c.spawns lines rest left (spot b.z h) vs) → S b.z h
   by_law {lines = lines} lines_are law = record {
@@ -113,7 +113,7 @@ module _ {b : Body} {p : Scope} {h : Here} {vars : List ℕ} {vs : Values} (q : 
 
   -- it may use the timer queue, and the places of a task
   may_use : b.c.spawns + TIMER_QUEUE_WORDS ≤ b.words → b.m.priority ≤ ceiling b.z.app section.Timer
-      → MayUseTimer b.z.app b.z.who (goes_steps b.z.app q) p.level b.c.spawns (spot b.z h)
+      → MayUseTimer b.z.app b.z.who (goes_steps b.z.app q) p.threshold b.c.spawns (spot b.z h)
   may_use words within = record {
     cells = begins.known.long;
     frame = omega (arith, begins.known.frame);
@@ -133,18 +133,18 @@ module _ {b : Body} {p : Scope} {h : Here} {vars : List ℕ} {vs : Values} (q : 
 
 -- the code of what goes does its actions, once the values are in their slots
 goes_on : {b : Body} {p : Scope} {h : Here} {vars : List ℕ} {vs : Values} (q : Spawn) (rest : ℕ → Rest)
-    → SoundSpawn b p q → Begins b p h (goes_code b.c p.level h.at q) (goes_steps b.z.app q) vars vs
+    → SoundSpawn b p q → Begins b p h (goes_code b.c p.threshold h.at q) (goes_steps b.z.app q) vars vs
     → take (length (values_of q)) (drop b.c.spawns h.slots) ≡ map (value_in vars vs) (values_of q)
     → h.rest ≡ spawn_actions b.z.app (value_in vars vs) q rest vs
-    → Answered b p h (length (goes_code b.c p.level h.at q)) (goes_steps b.z.app q) vars rest → S b.z h
+    → Answered b p h (length (goes_code b.c p.threshold h.at q)) (goes_steps b.z.app q) vars rest → S b.z h
 goes_on {b = b} {p = p} {h = h} {vars = vars} {vs = vs} (Soon task args place) rest sound begins come is on =
     let q : Spawn = Soon task args place in
     let t : Task = sound.sound.0 in
     let one = sound.sound.1 in
     by_law q rest begins on
-    (code_called b (λ a. spawn_code a task p.level b.c.spawns h.at) (λ a. true) task t refl one.is_there one.software)
+    (code_called b (λ a. spawn_code a task p.threshold b.c.spawns h.at) (λ a. true) task t refl one.is_there one.software)
     (λ has behind k enough.
-    spawn_stands b.z.app task t b.z.code b.z.bodies b.z.thread b.z.who p.level b.c.spawns (left q rest begins on) k
+    spawn_stands b.z.app task t b.z.code b.z.bodies b.z.thread b.z.who p.threshold b.c.spawns (left q rest begins on) k
     (spot b.z h) (value_in vars vs) args place rest vs b.facts.accepted one.is_there one.software has
     (record {
       cells = begins.known.long;
@@ -180,10 +180,10 @@ goes_on {b = b} {p = p} {h = h} {vars = vars} {vs = vs} (After word delay task a
     let values = first_value (length args) b.c.spawns (value_in vars vs delay) h.slots (map (value_in vars vs) args)
     (omega (arith, sound.words, begins.known.frame)) come in
     by_law q rest begins on
-    (code_called b (λ a. after_code a task p.level b.c.spawns h.at) (λ a. is_some a.mono) task s.0 timed one.is_there
+    (code_called b (λ a. after_code a task p.threshold b.c.spawns h.at) (λ a. is_some a.mono) task s.0 timed one.is_there
     one.software)
     (λ has.
-    afters_stand b.z.app task s.0 b.z.code b.z.bodies b.z.thread b.z.who p.level b.c.spawns (left q rest begins on)
+    afters_stand b.z.app task s.0 b.z.code b.z.bodies b.z.thread b.z.who p.threshold b.c.spawns (left q rest begins on)
     (timer_section_cost b.z.app) (value_in vars vs delay) (spot b.z h) (map (value_in vars vs) args) rest vs
     b.facts.accepted timed one.is_there one.software s.3 (inl refl) has (may_use q rest begins on sound.words s.5)
     (may_take q rest begins on task one.within) values.0
@@ -196,10 +196,10 @@ goes_on {b = b} {p = p} {h = h} {vars = vars} {vs = vs} (Cancel word task handle
     let values = first_value 0 b.c.spawns (value_in vars vs handle) h.slots []
     (omega (arith, sound.words, begins.known.frame)) come in
     by_law q rest begins on
-    (code_called b (λ a. cancel_code a task p.level b.c.spawns h.at) (λ a. is_some a.mono) task s.0 timed one.is_there
+    (code_called b (λ a. cancel_code a task p.threshold b.c.spawns h.at) (λ a. is_some a.mono) task s.0 timed one.is_there
     one.software)
     (λ has.
-    cancels_all_stand b.z.app task s.0 b.z.code b.z.bodies b.z.thread b.z.who p.level b.c.spawns
+    cancels_all_stand b.z.app task s.0 b.z.code b.z.bodies b.z.thread b.z.who p.threshold b.c.spawns
     (left q rest begins on) (value_in vars vs handle) (spot b.z h) rest vs b.facts.accepted timed one.is_there
     one.software has (may_use q rest begins on sound.words one.within) (may_take q rest begins on task s.2) values.0 is)
 goes_on {b = b} {p = p} {h = h} {vars = vars} {vs = vs} (Move word delay task handle place) rest sound begins come is
@@ -212,10 +212,10 @@ goes_on {b = b} {p = p} {h = h} {vars = vars} {vs = vs} (Move word delay task ha
     let second = first_value 0 (b.c.spawns + 1) (value_in vars vs handle) h.slots []
     (omega (arith, sound.words, begins.known.frame)) values.1 in
     by_law q rest begins on
-    (code_called b (λ a. move_code a task p.level b.c.spawns h.at) (λ a. is_some a.mono) task sound.sound.0 timed
+    (code_called b (λ a. move_code a task p.threshold b.c.spawns h.at) (λ a. is_some a.mono) task sound.sound.0 timed
     one.is_there one.software)
     (λ has.
-    moves_all_stand b.z.app task sound.sound.0 b.z.code b.z.bodies b.z.thread b.z.who p.level b.c.spawns
+    moves_all_stand b.z.app task sound.sound.0 b.z.code b.z.bodies b.z.thread b.z.who p.threshold b.c.spawns
     (left q rest begins on) (value_in vars vs delay) (value_in vars vs handle) (spot b.z h) rest vs b.facts.accepted
     timed one.is_there one.software has (may_use q rest begins on sound.words one.within) values.0 second.0 is)
 
@@ -311,15 +311,15 @@ arguments_come {b = b} {p = p} (e ∷ es) {h = h} {vars = vars} {vs = vs} {slot 
 -- a spawn, and what follows by its answer
 sends_on : {b : Body} {p : Scope} {h : Here} {vars : List ℕ} {vs : Values} (q : Spawn) (rest : ℕ → Rest)
     → SoundSpawn b p q
-    → Begins b p h (send_code b.c p.level h.at q) (spawn_steps (cost_measure b.z.app) q) vars vs
+    → Begins b p h (send_code b.c p.threshold h.at q) (spawn_steps (cost_measure b.z.app) q) vars vs
     → h.rest ≡ spawn_actions b.z.app (value_in vars vs) q rest vs
-    → Answered b p h (length (send_code b.c p.level h.at q)) (spawn_steps (cost_measure b.z.app) q) vars rest
+    → Answered b p h (length (send_code b.c p.threshold h.at q)) (spawn_steps (cost_measure b.z.app) q) vars rest
     → S b.z h
 sends_on {b = b} {p = p} {h = h} {vars = vars} {vs = vs} q rest sound begins is answered =
     let values : List Expression = values_of q in
     let split = steps_split b q in
     let front : List Line = arguments_code b.c values b.c.spawns in
-    let code : ℕ → List Line = λ a. goes_code b.c p.level a q in
+    let code : ℕ → List Line = λ a. goes_code b.c p.threshold a q in
     let last : List Line = code (h.at + length front) in
     let size = length-append front last in
     let masks = b.masks in let floor = b.floor in
@@ -344,7 +344,7 @@ sends_on {b = b} {p = p} {h = h} {vars = vars} {vs = vs} q rest sound begins is 
 
 module _ {b : Body} {p : Scope} where
   pub sends : (q : Spawn) → SoundSpawn b p q
-      → Performs b p p.visible (λ at. send_code b.c p.level at q) (spawn_steps (cost_measure b.z.app) q)
+      → Performs b p p.visible (λ at. send_code b.c p.threshold at q) (spawn_steps (cost_measure b.z.app) q)
       (run b.z.app (Spawns q))
   sends q sound = record {
     runs = λ {h} {vars} {vs} later begins is behind.
@@ -354,12 +354,12 @@ module _ {b : Body} {p : Scope} where
 
   -- the answer of a spawn comes into a variable
   pub binds_sent : {x : ℕ} {more : List ℕ} (q : Spawn) → SoundSpawn b p q → Sets b p x more
-      → Performs b p more (λ at. bind_code b.c p.level at x (Call q)) (spawn_steps (cost_measure b.z.app) q + 1)
+      → Performs b p more (λ at. bind_code b.c p.threshold at x (Call q)) (spawn_steps (cost_measure b.z.app) q + 1)
       (λ later vars vs.
       spawn_actions b.z.app (value_in vars vs) q (λ answer. later (slice_set vars x answer)) vs)
   binds_sent {x = x} {more = more} q sound sets = record {
     runs = λ {h} {vars} {vs} later begins is behind.
-        let front : List Line = send_code b.c p.level h.at q in
+        let front : List Line = send_code b.c p.threshold h.at q in
         let last : List Line = plain (instr.Copy x b.c.spawns) ∷ [] in
         let small = sets.small begins.inside in
         sends_on q (λ answer. later (slice_set vars x answer)) sound (front_of front last (omega arith) begins) is

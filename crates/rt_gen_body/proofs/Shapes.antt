@@ -9,7 +9,7 @@ use Rattle.rt_gen_queue.proofs.Vocabulary.{accepted_are_sound, ap, arith, block_
 use Rattle.rt_gen_queue.proofs.Vocabulary.{eqb-true, expression_steps, false, first_lock_slot, get_or_from_slice_get}
 use Rattle.rt_gen_queue.proofs.Vocabulary.{has_body, if◌then◌else◌, irq_number, is_software, is_some, is_some_and}
 use Rattle.rt_gen_queue.proofs.Vocabulary.{leave_line, length, length-append, length-map, map, max, member_at, members}
-use Rattle.rt_gen_queue.proofs.Vocabulary.{names_of, none-some, noted, option_map, or_zero, plain, range_with_len, refl}
+use Rattle.rt_gen_queue.proofs.Vocabulary.{names_of, none-some, line_with_note, option_map, or_zero, plain, range_with_len, refl}
 use Rattle.rt_gen_queue.proofs.Vocabulary.{same_Some, slice_get, slice_get_within, slice_index, statement_steps, subst}
 use Rattle.rt_gen_queue.proofs.Vocabulary.{sum_by, sym, true, variables, variables_in, ℕ, ◌++◌, ◌+◌, ◌<◌, ◌==◌, ◌∷◌}
 use Rattle.rt_gen_queue.proofs.Vocabulary.{◌≡◌, ◌≤◌}
@@ -85,42 +85,42 @@ module _ {app : App} (m : Member) (accepted : IsAccepted app) where
       fine one.0 (timer_named app accepted parts.0) one.1)
 
   -- what goes of a spawn behind its values, which are as many as the rule leaves room for
-  goes_fine : (level at : ℕ) (s : Spawn) → (most : ℕ) × Fine app (goes_code c level at s) most
+  goes_fine : (threshold at : ℕ) (s : Spawn) → (most : ℕ) × Fine app (goes_code c threshold at s) most
       × (expressions_steps (values_of s) + most ≤ spawn_steps (size_measure app) s)
-  goes_fine level at (Soon task args place) = (
+  goes_fine threshold at (Soon task args place) = (
     SPAWN_COST,
     if_fine (is_some_and is_software (slice_get app.tasks task))
         (λ is.
         let one = spawned app task accepted is in
         record {
-          named = spawn_claimed app task one.0 one.1 level c.spawns at;
+          named = spawn_claimed app task one.0 one.1 threshold c.spawns at;
           few = omega (
             arith,
-            spawn_long app task level c.spawns at,
+            spawn_long app task threshold c.spawns at,
             arguments app task one.0 one.1,
             few_arguments app task one.0 one.1,
           );
         }),
     omega arith,
   )
-  goes_fine level at (After word delay task args place) = (
+  goes_fine threshold at (After word delay task args place) = (
     SPAWN_AFTER_COST,
     timed task (λ t irq facts. record {
-      named = after_claimed app irq c.spawns level task t facts at;
-      few = omega (arith, after_short app task level c.spawns at t facts);
+      named = after_claimed app irq c.spawns threshold task t facts at;
+      few = omega (arith, after_short app task threshold c.spawns at t facts);
     }),
     omega arith,
   )
-  goes_fine level at (Cancel word task handle place) = (
+  goes_fine threshold at (Cancel word task handle place) = (
     HANDLE_COST,
     timed task
-        (λ t irq facts. record { named = cancel_claimed app irq c.spawns level task t facts at; few = omega arith }),
+        (λ t irq facts. record { named = cancel_claimed app irq c.spawns threshold task t facts at; few = omega arith }),
     omega arith,
   )
-  goes_fine level at (Move word delay task handle place) = (
+  goes_fine threshold at (Move word delay task handle place) = (
     HANDLE_COST,
     timed task
-        (λ t irq facts. record { named = move_claimed app irq c.spawns level task t facts at; few = omega arith }),
+        (λ t irq facts. record { named = move_claimed app irq c.spawns threshold task t facts at; few = omega arith }),
     omega arith,
   )
 
@@ -152,9 +152,9 @@ module _ {app : App} (m : Member) (accepted : IsAccepted app) where
   arguments_fine [] slot = record { named = tt; few = omega arith }
   arguments_fine (e ∷ es) slot = both (expression_fine e slot c.expressions) (arguments_fine es (next_slot slot))
 
-  send_fine : (level at : ℕ) (s : Spawn) → Fine app (send_code c level at s) (spawn_steps (size_measure app) s)
-  send_fine level at s =
-      let behind = goes_fine level (at + length (values_code c s)) s in
+  send_fine : (threshold at : ℕ) (s : Spawn) → Fine app (send_code c threshold at s) (spawn_steps (size_measure app) s)
+  send_fine threshold at s =
+      let behind = goes_fine threshold (at + length (values_code c s)) s in
       fewer (both (arguments_fine (values_of s) c.spawns) behind.1) behind.2
 
   -- the two choices of blocks whose lines are, wherever they stand
@@ -167,57 +167,57 @@ module _ {app : App} (m : Member) (accepted : IsAccepted app) where
       let all = both (one (at + 1)) (both (one_line (plain (instr.Jump (to + length (second to)))) tt) (two to)) in
       record { named = all.named; few = omega (arith, all.few) }
 
-  lock_fine : (level lock at r : ℕ) (block : ℕ → ℕ → ℕ → List Line) {n : ℕ} → r < length app.shared
+  lock_fine : (threshold lock at r : ℕ) (block : ℕ → ℕ → ℕ → List Line) {n : ℕ} → r < length app.shared
       → ((inside slot a : ℕ) → Fine app (block inside slot a) n)
-      → Fine app (lock_code c level lock at r block) (2 + n)
-  lock_fine level lock at r block there fine =
+      → Fine app (lock_code c threshold lock at r block) (2 + n)
+  lock_fine threshold lock at r block there fine =
       let x = section.Res r in
       let g : Guard = guard_at c r in
       let has : HasSection (names_of app) x = omega (arith, length-map app.shared (λ s. s.name)) in
       fewer
-      (both (one_line (enter_line x g level lock) (enter_named (names_of app) x g level lock has, tt))
-      (both (fine (max level g.ceiling) (next_slot lock) (at + 1))
-      (one_line (leave_line x g level lock) (leave_named (names_of app) x g level lock has, tt)))) (omega arith)
+      (both (one_line (enter_line x g threshold lock) (enter_named (names_of app) x g threshold lock has, tt))
+      (both (fine (max threshold g.ceiling) (next_slot lock) (at + 1))
+      (one_line (leave_line x g threshold lock) (leave_named (names_of app) x g threshold lock has, tt)))) (omega arith)
 
   mutual
-    statement_fine : (s : Statement) (w : Where) (level lock at : ℕ)
+    statement_fine : (s : Statement) (w : Where) (threshold lock at : ℕ)
         → IsStatementPlaced app w.listed w.count w.visible s
-        → Fine app (statement_code c level lock at s) (statement_steps (size_measure app) s)
-    statement_fine (Bind x (Calc e)) w level lock at placed = valued e (plain (instr.Copy x c.expressions)) tt
-    statement_fine (Bind x (Now place)) w level lock at placed = record { named = tt; few = omega arith }
-    statement_fine (Bind x (Call s)) w level lock at placed =
-        both (send_fine level at s) (one_line (plain (instr.Copy x c.spawns)) tt)
-    statement_fine (Assign x e place) w level lock at placed =
+        → Fine app (statement_code c threshold lock at s) (statement_steps (size_measure app) s)
+    statement_fine (Bind x (Calc e)) w threshold lock at placed = valued e (plain (instr.Copy x c.expressions)) tt
+    statement_fine (Bind x (Now place)) w threshold lock at placed = record { named = tt; few = omega arith }
+    statement_fine (Bind x (Call s)) w threshold lock at placed =
+        both (send_fine threshold at s) (one_line (plain (instr.Copy x c.spawns)) tt)
+    statement_fine (Assign x e place) w threshold lock at placed =
         valued e (plain (store c x c.expressions)) (store_named x c.expressions)
-    statement_fine (Branch e first second) w level lock at placed =
+    statement_fine (Branch e first second) w threshold lock at placed =
         fewer
         (both (expression_fine e c.expressions (next_slot c.expressions))
-        (branch_fine (at + length (value_code c e)) (λ a. block_code c level lock a first)
-        (λ a. block_code c level lock a second) second (λ a. block_fine first w level lock a placed.1)
-        (λ a. block_fine second (record w { count = w.count + variables first }) level lock a placed.2)))
+        (branch_fine (at + length (value_code c e)) (λ a. block_code c threshold lock a first)
+        (λ a. block_code c threshold lock a second) second (λ a. block_fine first w threshold lock a placed.1)
+        (λ a. block_fine second (record w { count = w.count + variables first }) threshold lock a placed.2)))
         (omega arith)
-    statement_fine (Repeat x first last turn) w level lock at placed =
+    statement_fine (Repeat x first last turn) w threshold lock at placed =
         let inside : Where = record w { count = w.count + 1; visible = w.count ∷ w.visible } in
         let back : Fine app (loop_back c x (at + 1)) 3 = record { named = tt; few = omega arith } in
-        let all = both (block_fine turn inside level lock (at + 4) placed.1) back in
+        let all = both (block_fine turn inside threshold lock (at + 4) placed.1) back in
         record { named = all.named; few = omega (arith, all.few) }
-    statement_fine (Locked r inner place) w level lock at placed =
-        lock_fine level lock at r (λ inside slot a. block_code c inside slot a inner) placed.0
+    statement_fine (Locked r inner place) w threshold lock at placed =
+        lock_fine threshold lock at r (λ inside slot a. block_code c inside slot a inner) placed.0
         (λ inside slot a. block_fine inner w inside slot a placed.1)
-    statement_fine (Emit e) w level lock at placed = valued e (plain (instr.Emit c.expressions)) tt
-    statement_fine (Pend i) w level lock at placed =
+    statement_fine (Emit e) w threshold lock at placed = valued e (plain (instr.Emit c.expressions)) tt
+    statement_fine (Pend i) w threshold lock at placed =
         one_line (plain (instr.Post (slice_index c.numbers i)))
         (subst (HasIrq (names_of app)) (sym (number_is app i app.irqs)) (irq_declared app i placed), tt)
-    statement_fine (Spawns s) w level lock at placed = send_fine level at s
+    statement_fine (Spawns s) w threshold lock at placed = send_fine threshold at s
 
-    block_fine : (b : Block) (w : Where) (level lock at : ℕ) → IsBlockPlaced app w.listed w.count w.visible b
-        → Fine app (block_code c level lock at b) (block_steps (size_measure app) b)
-    block_fine Empty w level lock at placed = record { named = tt; few = omega arith }
-    block_fine (Then s rest) w level lock at placed =
-        both (statement_fine s w level lock at placed.0)
+    block_fine : (b : Block) (w : Where) (threshold lock at : ℕ) → IsBlockPlaced app w.listed w.count w.visible b
+        → Fine app (block_code c threshold lock at b) (block_steps (size_measure app) b)
+    block_fine Empty w threshold lock at placed = record { named = tt; few = omega arith }
+    block_fine (Then s rest) w threshold lock at placed =
+        both (statement_fine s w threshold lock at placed.0)
         (block_fine rest
-        (record w { count = w.count + variables_in s; visible = behind app w.listed w.count w.visible s }) level lock
-        (at + length (statement_code c level lock at s)) placed.1)
+        (record w { count = w.count + variables_in s; visible = behind app w.listed w.count w.visible s }) threshold lock
+        (at + length (statement_code c threshold lock at s)) placed.1)
 
 module _ (app : App) (accepted : IsAccepted app) where
   end_fine : (id : BodyId) (entry : ℕ) → Fine app (end_line app id entry ∷ []) 1
@@ -226,11 +226,11 @@ module _ (app : App) (accepted : IsAccepted app) where
   end_fine (body.Task n) entry = go (is_some_and is_software (slice_get app.tasks n)) refl
     where
       go : (b : Bool) → is_some_and is_software (slice_get app.tasks n) ≡ b
-          → Fine app ((if b then noted instr.Back (note.End (body.Task n)) else plain instr.Ret) ∷ []) 1
+          → Fine app ((if b then line_with_note instr.Back (note.End (body.Task n)) else plain instr.Ret) ∷ []) 1
       go false is = one_line (plain instr.Ret) tt
       go true is =
           let one = spawned app n accepted is in
-          one_line (noted instr.Back (note.End (body.Task n)))
+          one_line (line_with_note instr.Back (note.End (body.Task n)))
           (record { instr = tt; note = task_declared app n one.0 one.1 }, tt)
 
   -- no size of a body comes to the cap of its sum
@@ -290,23 +290,23 @@ abbrev pend_first : ℕ → List Line → List Line
 pend_first irq more = plain (instr.Post irq) ∷ more
 
 -- it brings in no variables, and its lines are these, where expressions are evaluated in the first slot
-block_fixed : (app : App) (c : Context) (level lock at : ℕ) (b : Block) {lines : List Line}
+block_fixed : (app : App) (c : Context) (threshold lock at : ℕ) (b : Block) {lines : List Line}
     → ((irq : ℕ) → slice_index c.numbers irq ≡ or_zero (irq_number app irq)) → fixed_block app b ≡ Some lines
-    → (variables b ≡ 0) × (c.expressions ≡ 0 → block_code c level lock at b ≡ lines)
-block_fixed app c level lock at Empty {lines = lines} known is = (refl, λ first. same_Some [] lines is)
-block_fixed app c level lock at (Then (Emit (Num value)) rest) {lines = lines} known is =
+    → (variables b ≡ 0) × (c.expressions ≡ 0 → block_code c threshold lock at b ≡ lines)
+block_fixed app c threshold lock at Empty {lines = lines} known is = (refl, λ first. same_Some [] lines is)
+block_fixed app c threshold lock at (Then (Emit (Num value)) rest) {lines = lines} known is =
     let one = made_of (emit_first value) (fixed_block app rest) lines is in
-    let more = block_fixed app c level lock (at + 2) rest known one.1 in (
+    let more = block_fixed app c threshold lock (at + 2) rest known one.1 in (
       omega (arith, more.0),
       λ first. rw (first, more.1 first) one.2,
     )
-block_fixed app c level lock at (Then (Pend irq) rest) {lines = lines} known is =
+block_fixed app c threshold lock at (Then (Pend irq) rest) {lines = lines} known is =
     let one = made_of (pend_first (or_zero (irq_number app irq))) (fixed_block app rest) lines is in
-    let more = block_fixed app c level lock (at + 1) rest known one.1 in (
+    let more = block_fixed app c threshold lock (at + 1) rest known one.1 in (
       omega (arith, more.0),
       λ first. rw (known irq, more.1 first) one.2,
     )
-block_fixed app c level lock at (Then other rest) {lines = lines} known is = absurd (none-some lines is)
+block_fixed app c threshold lock at (Then other rest) {lines = lines} known is = absurd (none-some lines is)
 
 module _ (app : App) where
   blocks_fixed : (member : Option Member) (at : ℕ) (lines : List Line) → fixed_body app member ≡ Some lines

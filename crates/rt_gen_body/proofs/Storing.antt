@@ -1,5 +1,5 @@
 -- What a body of an application may do.
-use Rattle.rt_gen_queue.proofs.Vocabulary.{App, AtLevel, Bool, Contains, Guarded, Held, IsAccepted, IsChangeable, IsIn}
+use Rattle.rt_gen_queue.proofs.Vocabulary.{App, AtPriority, Bool, Contains, Guarded, Held, IsAccepted, IsChangeable, IsIn}
 use Rattle.rt_gen_queue.proofs.Vocabulary.{IsSound, List, Member, None, Option, Own, Runner, Some, Starting, []}
 use Rattle.rt_gen_queue.proofs.Vocabulary.{and_both, and_left, any_passes, ap, arith, eq-eqb, eqb-true, false}
 use Rattle.rt_gen_queue.proofs.Vocabulary.{false_from_ne_true, find, flat_map, get_or-map-range_with_len, guard_of}
@@ -100,7 +100,7 @@ module _ {app : App} {who : Runner} {m : Member} {c : Context} (facts : Facts ap
       ∙ any_contained n (map (λ o. o.local) m.body.local) reached.1)
 
 module _ (app : App) (m : Member) (member : IsIn (members app) m) where
-  -- a body of its level that passes
+  -- a body of its priority that passes
   some_at : (test : Member → Bool) → is_init m.id ≡ false → test m ≡ true → is_some_at app test m.priority ≡ true
   some_at test no_start passes =
       any_passes (λ n. not (is_init n.id) && ((n.priority == m.priority) && test n)) (members app) member.0 m member.1
@@ -117,7 +117,7 @@ module _ (app : App) (m : Member) (member : IsIn (members app) m) where
       ∙ any_found (λ l. l.resource == r) also m.body.shared is)
 
   kept_free : (r : ℕ) (also : Listed → Bool) → is_init m.id ≡ false → is_some_and also (listing_in m r) ≡ true
-      → is_lock_free app r ≡ true → is_kept app (AtLevel m.priority) (Guarded (section.Res r)) ≡ true
+      → is_lock_free app r ≡ true → is_kept app (AtPriority m.priority) (Guarded (section.Res r)) ≡ true
   kept_free r also no_start is free =
       let one = any_one _ m.body.shared (any_found (λ l. l.resource == r) also m.body.shared is) in
       and_both (is_lock_free app r) _ free (some_at (lists r) no_start
@@ -127,7 +127,7 @@ module _ (app : App) (m : Member) (member : IsIn (members app) m) where
   -- without a lock it reaches what it lists to be read alone, and what it keeps
   reached_free : (r : ℕ) → is_init m.id ≡ false → (is_init m.id ≡ true) ⊎ (is_free app m r ≡ true)
       → (is_some_and (λ l. l.by_ref) (listing_in m r) ≡ true)
-      ⊎ (is_kept app (AtLevel m.priority) (Guarded (section.Res r)) ≡ true)
+      ⊎ (is_kept app (AtPriority m.priority) (Guarded (section.Res r)) ≡ true)
   reached_free r no_start (inl starts) = absurd cc
   reached_free r no_start (inr free) =
       elim (ref_or (is_lock_free app r) (listing_in m r) free) [
@@ -139,8 +139,8 @@ module _ (app : App) (accepted : IsAccepted app) (sound : IsSound app) (m : Memb
     (member : IsIn (members app) m) where
   -- a resource that it locks is kept by nobody, and read by nobody without its section
   nobody : (r : ℕ) → is_lockable app m r ≡ true → (q : ℕ)
-      → (is_kept app (AtLevel q) (Guarded (section.Res r)) ≡ false)
-      × (is_constant app (AtLevel q) (Guarded (section.Res r)) ≡ false)
+      → (is_kept app (AtPriority q) (Guarded (section.Res r)) ≡ false)
+      × (is_constant app (AtPriority q) (Guarded (section.Res r)) ≡ false)
   nobody r lockable q =
       let one = any_one _ (listings app)
       (listed_any app m member r (λ l. not l.by_ref && not (is_lock_free app r)) lockable) in
@@ -154,9 +154,9 @@ module _ (app : App) (accepted : IsAccepted app) (sound : IsSound app) (m : Memb
             cc (alike, is.1.0, ref.1)),
       )
 
-  -- what it may do: `init`, and what runs at a level
+  -- what it may do: `init`, and what runs at a priority
   pub facts_for : (starts : Bool) → is_init m.id ≡ starts
-      → Facts app (if starts then Starting else AtLevel m.priority) m (context_of app m)
+      → Facts app (if starts then Starting else AtPriority m.priority) m (context_of app m)
   unfolding storage
   facts_for true starts = record {
     accepted = accepted;
@@ -174,7 +174,7 @@ module _ (app : App) (accepted : IsAccepted app) (sound : IsSound app) (m : Memb
     is = refl;
     own = λ n owns. some_at app m member (owns_local n) no_start owns;
     free = λ r within other. elim (reached_free app m member r no_start other) [
-      | inl ref ↦ or_right (is_kept app (AtLevel m.priority) (Guarded (section.Res r))) _
+      | inl ref ↦ or_right (is_kept app (AtPriority m.priority) (Guarded (section.Res r))) _
           (listed_any app m member r (λ l. l.by_ref) ref)
       | inr kept ↦ or_left _ _ kept
     ];

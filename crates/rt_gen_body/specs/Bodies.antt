@@ -3,7 +3,7 @@
 -- its kind of body does (the RTIC 1 book: `init`, `idle`, hardware tasks, software tasks).
 use Rattle.std.specs.Prelude.{◌≡◌, ℕ, ◌<◌, true, false, ◌++◌, ⊤, List, [], length, slice_get, Option, Some, None}
 use Rattle.rt_ids.specs.Action.{Returns}
-use Rattle.rt_ids.specs.Storage.{Starting, AtLevel}
+use Rattle.rt_ids.specs.Storage.{Starting, AtPriority}
 use Rattle.rt_ids.specs.declared.ids.BodyId.{BodyId}
 use Rattle.rt_ids.specs.declared.ids.BodyId.TheVariants as body
 use Rattle.rt_app.specs.Tree.{Task, App}
@@ -25,7 +25,7 @@ abbrev pub TaskStands : App → ℕ → Option Task → List Line → ℕ → Ty
 TaskStands app n None code entry = ⊥
 TaskStands app n (Some t) code entry =
     (bodies : List BodyRow) (thread : ℕ)
-    → StandsFrom (storage app) code bodies thread (AtLevel t.priority) (length (memory app))
+    → StandsFrom (storage app) code bodies thread (AtPriority t.priority) (length (memory app))
     (frame_words t.args t.body) entry (body_cost (cost_measure app) t.body) (task_doing app n [] (act Returns nothing))
 
 -- the code of a declared task stands at an address: in its interrupt, or where its level's dispatcher calls it
@@ -43,7 +43,7 @@ BodyStands app body.Init code entry =
     (thread_words app) entry (cost_of (cost_measure app) app.init) (init_doing app)
 BodyStands app body.Idle code entry =
     (more : List Line) (bodies : List BodyRow)
-    → StandsFrom (storage app) (code ++ more) bodies entry (AtLevel 0) (length (memory app))
+    → StandsFrom (storage app) (code ++ more) bodies entry (AtPriority 0) (length (memory app))
     (thread_words app) entry (cost_of (cost_measure app) app.idle) (idle_doing app)
 BodyStands app (body.Task n) code entry = (more : List Line) → DeclaredStands app n (code ++ more) entry
 

@@ -11,16 +11,16 @@ use Rattle.rt_app.specs.Level.{is_software}
 use Rattle.rt_app.specs.Tree.{App, Num, Block, Empty, Then, Emit, Pend}
 use Rattle.rt_code.specs.declared.instr.Instr.TheVariants as instr
 use Rattle.rt_code.specs.declared.instr.Note.TheVariants as note
-use Rattle.rt_gen_queue.specs.Line.{Line, plain, noted}
+use Rattle.rt_gen_queue.specs.Line.{Line, plain, line_with_note}
 
 -- The last line of a body that begins at an address: `init` lets interrupts in, `idle` begins again, a hardware task
 -- returns from its interrupt, and a software task goes back to its dispatcher.
 abbrev pub end_line : App → BodyId → ℕ → Line
-end_line app body.Init entry = noted instr.Serve (note.End body.Init)
-end_line app body.Idle entry = noted (instr.Jump entry) (note.End body.Idle)
+end_line app body.Init entry = line_with_note instr.Serve (note.End body.Init)
+end_line app body.Idle entry = line_with_note (instr.Jump entry) (note.End body.Idle)
 end_line app (body.Task n) entry =
     if is_some_and is_software (slice_get app.tasks n)
-    then noted instr.Back (note.End (body.Task n))
+    then line_with_note instr.Back (note.End (body.Task n))
     else plain instr.Ret
 
 -- the lines of a block that emits literals and pends interrupts and does nothing else, in a body without variables

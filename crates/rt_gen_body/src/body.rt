@@ -11,7 +11,7 @@ ghost use Rattle.rt_app.specs.Names.{names_of};
 ghost use Rattle.rt_app.specs.Plan.{IsPlan};
 ghost use Rattle.rt_app.specs.View.{app_of, body_of};
 ghost use Rattle.rt_gen_queue.specs.Line.{IsNameable};
-ghost use Rattle.rt_gen_queue.specs.Guards.{guarded};
+ghost use Rattle.rt_gen_queue.specs.Guards.{guard_of_ceiling};
 ghost use Rattle.rt_gen_body.specs.Bodies.{IsBodyOf, BodyStands};
 ghost use Rattle.rt_gen_body.specs.Form.{end_line, HasForm};
 ghost use Rattle.rt_gen_body.specs.Inside.Whole.{guards_of, blocks_of, code_of};
@@ -32,7 +32,7 @@ fn guards(alloc: Global, bits: u8, ceilings: &[u8]) -> Result<Vec<Guard>, NoMemo
     requires few_bits { 3 ≤ bits }
     requires many_bits { bits ≤ 7 }
     requires greatest { AllByRecursion (λ c. c ≤ 2 ^ bits) ceilings.now }
-    ensures { IfOk result (λ guards. guards.items ≡ map (guarded bits) ceilings.now) }
+    ensures { IfOk result (λ guards. guards.items ≡ map (guard_of_ceiling bits) ceilings.now) }
 {
     let mut guards = Vec::new(alloc);
     for ceiling in ceilings {
@@ -41,17 +41,17 @@ fn guards(alloc: Global, bits: u8, ceilings: &[u8]) -> Result<Vec<Guard>, NoMemo
     Ok(guards)
 }
 
-/// What the body of a member is generated with: the plan, how sections mask, and the level that the body holds off.
+/// What the body of a member is generated with: the plan, how sections mask, and the preemption threshold of the body.
 #[derive(Clone, Copy)]
 struct Source<'a> {
     plan: &'a Plan<'a>,
     rows: &'a ArmedRows<'a>,
     guards: &'a [Guard],
-    level: u8,
+    threshold: u8,
 }
 
-/// The level that `init` holds off: all.
-fn all_levels(bits: u8) -> u8
+/// The preemption threshold of `init`, which holds off all.
+fn all_priorities(bits: u8) -> u8
     requires { bits ≤ 7 }
     ensures { result ≡ 2 ^ bits }
 {
@@ -72,7 +72,7 @@ fn blocks(
     requires few { args ≤ ARGUMENTS }
     requires limits { KeepsBodyLimits (body_of body.now) }
     ensures { OnOk result (Appends lines.old lines.new
-        (slots_code (app_of source.now.plan.now.app.now) source.now.guards.now args source.now.level
+        (slots_code (app_of source.now.plan.now.app.now) source.now.guards.now args source.now.threshold
         (body_of body.now) (next_address lines.old))) }
 {
     let plan = source.plan;
@@ -86,11 +86,11 @@ fn blocks(
         expressions: slots.expressions,
         spawns: slots.spawns,
     };
-    generator.block(source.level, slots.masks, &body.block, lines)
+    generator.block(source.threshold, slots.masks, &body.block, lines)
 }
 
 /// The lines of a body's blocks, none where it is not declared.
-fn declared(
+fn append_blocks(
     alloc: Global,
     plan: &Plan<'_>,
     rows: &ArmedRows<'_>,
@@ -109,14 +109,14 @@ fn declared(
     match id {
         BodyId::Init => match &app.init {
             Some(body) => {
-                let level = all_levels(app.bits);
+                let threshold = all_priorities(app.bits);
                 blocks(
                     alloc,
                     &Source {
                         plan,
                         rows,
                         guards,
-                        level,
+                        threshold,
                     },
                     0,
                     body,
@@ -132,7 +132,7 @@ fn declared(
                     plan,
                     rows,
                     guards,
-                    level: 0,
+                    threshold: 0,
                 },
                 0,
                 body,
@@ -142,14 +142,14 @@ fn declared(
         },
         BodyId::Task(number) => match app.task(number) {
             Some(task) => {
-                let level = task.priority;
+                let threshold = task.priority;
                 blocks(
                     alloc,
                     &Source {
                         plan,
                         rows,
                         guards,
-                        level,
+                        threshold,
                     },
                     task.args,
                     &task.body,
@@ -204,7 +204,7 @@ fn generate(
 {
     let guards = guards(alloc, plan.app.bits, &plan.ceil.shared)?;
     let entry = lines.next_address()?;
-    declared(alloc, plan, rows, &guards, id, lines)?;
+    append_blocks(alloc, plan, rows, &guards, id, lines)?;
     end(plan.app, &id, entry, lines)
 }
 

@@ -97,17 +97,17 @@ impl<'a> Generator<'a> {
         self.expression(expr, self.expressions, next_slot(self.expressions), code)
     }
 
-    /// The binding of a variable to a value, at a static level.
+    /// The binding of a variable to a value, at a static preemption threshold.
     pub(crate) fn bind(
         &self,
-        level: u8,
+        threshold: u8,
         variable: u16,
         value: &Value,
         code: &mut Lines,
     ) -> Result<(), NoMemory>
         requires { IsReady self.now }
         ensures { OnOk result (Appends code.old code.new
-            (simple.bind_code (context self.now) level (next_address code.old) variable (value_of value.now))) }
+            (simple.bind_code (context self.now) threshold (next_address code.old) variable (value_of value.now))) }
     {
         match value {
             Value::Calc(expr) => {
@@ -116,7 +116,7 @@ impl<'a> Generator<'a> {
             }
             Value::Now(_at) => code.push(Instr::Clock(u32::from(variable))),
             Value::Call(spawn) => {
-                self.send(level, spawn, code)?;
+                self.send(threshold, spawn, code)?;
                 code.push(Instr::Copy(u32::from(variable), self.spawns))
             }
         }

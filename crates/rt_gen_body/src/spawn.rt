@@ -37,19 +37,19 @@ impl<'a> Generator<'a> {
         Ok(())
     }
 
-    /// The lines of the spawn of a software task, whose arguments stand in the slots from one on, at a static level.
-    fn push_spawn(&self, level: u8, task: TaskId, code: &mut Lines) -> Result<(), NoMemory>
+    /// The lines of the spawn of a software task, whose arguments stand in the slots from one on, at a static preemption threshold.
+    fn push_spawn(&self, threshold: u8, task: TaskId, code: &mut Lines) -> Result<(), NoMemory>
         requires ready { IsReady self.now }
         requires software { is_some_and is_software (slice_get (context self.now).app.tasks task) ≡ true }
         ensures { OnOk result (Appends code.old code.new
-            (spawn_code (context self.now).app task level self.now.spawns (next_address code.old))) }
+            (spawn_code (context self.now).app task threshold self.now.spawns (next_address code.old))) }
     {
         let entry = code.next_address()?;
         gen_spawn(
             self.alloc,
             self.plan,
             task,
-            level,
+            threshold,
             self.spawns,
             entry,
             &mut code.lines,
@@ -57,25 +57,25 @@ impl<'a> Generator<'a> {
         Ok(())
     }
 
-    /// The spawn of a task whose arguments are there, at a static level; nothing where it is no software task.
-    fn message(&self, level: u8, number: TaskId, code: &mut Lines) -> Result<(), NoMemory>
+    /// The spawn of a task whose arguments are there, at a static preemption threshold; nothing where it is no software task.
+    fn message(&self, threshold: u8, number: TaskId, code: &mut Lines) -> Result<(), NoMemory>
         requires { IsReady self.now }
         ensures { OnOk result (Appends code.old code.new
-            (simple.message_code (context self.now) level (next_address code.old) number)) }
+            (simple.message_code (context self.now) threshold (next_address code.old) number)) }
     {
         if is_called(self.plan.app, number) {
-            self.push_spawn(level, number, code)
+            self.push_spawn(threshold, number, code)
         } else {
             Ok(())
         }
     }
 
     /// The lines of a call that goes to the timer queue for a software task, whose delay, arguments and handle stand in
-    /// the slots from one on, at a static level.
+    /// the slots from one on, at a static preemption threshold.
     fn push_timed(
         &self,
         kind: Timed,
-        level: u8,
+        threshold: u8,
         task: TaskId,
         code: &mut Lines,
     ) -> Result<(), NoMemory>
@@ -83,24 +83,42 @@ impl<'a> Generator<'a> {
         requires timed { IsSome (context self.now).app.mono }
         requires software { is_some_and is_software (slice_get (context self.now).app.tasks task) ≡ true }
         ensures { OnOk result (Appends code.old code.new
-            (simple.timed_lines kind (context self.now).app task level self.now.spawns (next_address code.old))) }
+            (simple.timed_lines kind (context self.now).app task threshold self.now.spawns (next_address code.old))) }
     {
         let entry = code.next_address()?;
         let (alloc, slot) = (self.alloc, self.spawns);
         let (plan, rows) = (self.plan, self.rows);
         match kind {
-            Timed::After => gen_after(alloc, plan, rows, task, level, slot, entry, &mut code.lines),
+            Timed::After => gen_after(
+                alloc,
+                plan,
+                rows,
+                task,
+                threshold,
+                slot,
+                entry,
+                &mut code.lines,
+            ),
             Timed::Cancel => gen_cancel(
                 alloc,
                 plan,
                 rows,
                 task,
-                level,
+                threshold,
                 slot,
                 entry,
                 &mut code.lines,
             ),
-            Timed::Move => gen_move(alloc, plan, rows, task, level, slot, entry, &mut code.lines),
+            Timed::Move => gen_move(
+                alloc,
+                plan,
+                rows,
+                task,
+                threshold,
+                slot,
+                entry,
+                &mut code.lines,
+            ),
         }
     }
 
@@ -111,21 +129,21 @@ impl<'a> Generator<'a> {
         self.plan.app.mono.is_some() && is_called(self.plan.app, number)
     }
 
-    /// What goes to the timer queue, whose values are there, at a static level; nothing where there is none for the
+    /// What goes to the timer queue, whose values are there, at a static preemption threshold; nothing where there is none for the
     /// task.
     fn append_timed(
         &self,
         kind: Timed,
-        level: u8,
+        threshold: u8,
         number: TaskId,
         code: &mut Lines,
     ) -> Result<(), NoMemory>
         requires { IsReady self.now }
         ensures { OnOk result (Appends code.old code.new
-            (simple.timed_code (context self.now) kind level (next_address code.old) number)) }
+            (simple.timed_code (context self.now) kind threshold (next_address code.old) number)) }
     {
         if self.is_timed(number) {
-            self.push_timed(kind, level, number, code)
+            self.push_timed(kind, threshold, number, code)
         } else {
             Ok(())
         }
@@ -151,43 +169,48 @@ impl<'a> Generator<'a> {
         }
     }
 
-    /// What goes of a spawn whose values are there, at a static level.
-    fn goes(&self, level: u8, spawn: &Spawn, code: &mut Lines) -> Result<(), NoMemory>
+    /// What goes of a spawn whose values are there, at a static preemption threshold.
+    fn goes(&self, threshold: u8, spawn: &Spawn, code: &mut Lines) -> Result<(), NoMemory>
         requires { IsReady self.now }
         ensures { OnOk result (Appends code.old code.new
-            (simple.goes_code (context self.now) level (next_address code.old) (spawn_of spawn.now))) }
+            (simple.goes_code (context self.now) threshold (next_address code.old) (spawn_of spawn.now))) }
     {
         match spawn {
-            Spawn::Soon(task, _args, _at) => self.message(level, *task, code),
+            Spawn::Soon(task, _args, _at) => self.message(threshold, *task, code),
             Spawn::After(_word, _delay, task, _args, _at) => self.append_timed(
                 Timed::After,
-                level,
+                threshold,
                 *task,
                 code,
             ),
             Spawn::Cancel(_word, task, _handle, _at) => self.append_timed(
                 Timed::Cancel,
-                level,
+                threshold,
                 *task,
                 code,
             ),
             Spawn::Move(_word, _delay, task, _handle, _at) => self.append_timed(
                 Timed::Move,
-                level,
+                threshold,
                 *task,
                 code,
             ),
         }
     }
 
-    /// A spawn, at a static level.
-    pub(crate) fn send(&self, level: u8, spawn: &Spawn, code: &mut Lines) -> Result<(), NoMemory>
+    /// A spawn, at a static preemption threshold.
+    pub(crate) fn send(
+        &self,
+        threshold: u8,
+        spawn: &Spawn,
+        code: &mut Lines,
+    ) -> Result<(), NoMemory>
         requires { IsReady self.now }
         ensures { OnOk result (Appends code.old code.new
-            (simple.send_code (context self.now) level (next_address code.old) (spawn_of spawn.now))) }
+            (simple.send_code (context self.now) threshold (next_address code.old) (spawn_of spawn.now))) }
     {
         self.values(spawn, code)?;
-        self.goes(level, spawn, code)?;
+        self.goes(threshold, spawn, code)?;
         Ok(())
     }
 }

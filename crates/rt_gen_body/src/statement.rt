@@ -32,7 +32,7 @@ fn guard_at(generator: &Generator<'_>, resource: ResId) -> Guard
     }
 }
 
-/// The number of a declared interrupt, by its place; one that is not declared has none, and 0 stands for it.
+/// The number of a declared interrupt, by its index; one that is not declared has none, and 0 stands for it.
 fn irq_number(generator: &Generator<'_>, irq: u8) -> Irq
     ensures { result ≡ slice_index (context generator.now).numbers irq }
 {
@@ -47,18 +47,18 @@ impl<'a> Generator<'a> {
     #[cycle(block)]
     fn choose_one(
         &self,
-        level: u8,
+        threshold: u8,
         lock: u32,
         first: &[Stmt],
         code: &mut Lines,
     ) -> Result<(), NoMemory>
         requires { IsReady self.now }
-        ensures { let block = λ (at : ℕ). blocks.block_code (context self.now) level lock at (block_of first.now) in
+        ensures { let block = λ (at : ℕ). blocks.block_code (context self.now) threshold lock at (block_of first.now) in
             OnOk result (Appends code.old code.new (blocks.one_code (context self.now) (next_address code.old) block)) }
     {
         let over = code.len();
         code.push(Instr::JumpZ(self.expressions, 0))?;
-        self.block(level, lock, first, code)?;
+        self.block(threshold, lock, first, code)?;
         let end = code.next_address()?;
         code.replace(over, Instr::JumpZ(self.expressions, end));
         Ok(())
@@ -68,23 +68,23 @@ impl<'a> Generator<'a> {
     #[cycle(block)]
     fn choose_first(
         &self,
-        level: u8,
+        threshold: u8,
         lock: u32,
         first: &[Stmt],
         code: &mut Lines,
     ) -> Result<usize, NoMemory>
         requires { IsReady self.now }
         ensures place { let at = next_address code.old + 1 in
-            let block = blocks.block_code (context self.now) level lock at (block_of first.now) in
+            let block = blocks.block_code (context self.now) threshold lock at (block_of first.now) in
             IfOk result (λ over. over ≡ length code.old.lines + 1 + length block) }
         ensures lines { let at = next_address code.old + 1 in
-            let block = blocks.block_code (context self.now) level lock at (block_of first.now) in
+            let block = blocks.block_code (context self.now) threshold lock at (block_of first.now) in
             OnOk result (Appends code.old code.new
             (blocks.first_code (context self.now) (next_address code.old) block)) }
     {
         let over = code.len();
         code.push(Instr::JumpZ(self.expressions, 0))?;
-        self.block(level, lock, first, code)?;
+        self.block(threshold, lock, first, code)?;
         let end = code.len();
         code.push(Instr::Jump(0))?;
         let to = code.next_address()?;
@@ -92,11 +92,11 @@ impl<'a> Generator<'a> {
         Ok(end)
     }
 
-    /// The second of two blocks, behind which the jump at a place is to lead.
+    /// The second of two blocks, behind which the jump at an index is to lead.
     #[cycle(block)]
     fn choose_second(
         &self,
-        level: u8,
+        threshold: u8,
         lock: u32,
         second: &[Stmt],
         over: usize,
@@ -105,10 +105,10 @@ impl<'a> Generator<'a> {
         requires ready { IsReady self.now }
         requires place { over < length code.old.lines }
         ensures { let at = next_address code.old in
-            let block = blocks.block_code (context self.now) level lock at (block_of second.now) in
+            let block = blocks.block_code (context self.now) threshold lock at (block_of second.now) in
             OnOk result (EndsWith code.old code.new over block) }
     {
-        self.block(level, lock, second, code)?;
+        self.block(threshold, lock, second, code)?;
         let end = code.next_address()?;
         code.replace(over, Instr::Jump(end));
         Ok(())
@@ -118,7 +118,7 @@ impl<'a> Generator<'a> {
     #[cycle(block)]
     fn lock(
         &self,
-        level: u8,
+        threshold: u8,
         lock: u32,
         resource: ResId,
         inner: &[Stmt],
@@ -128,16 +128,16 @@ impl<'a> Generator<'a> {
         ensures { let block = λ (inside slot at : ℕ).
             blocks.block_code (context self.now) inside slot at (block_of inner.now) in
             OnOk result (Appends code.old code.new
-            (blocks.lock_code (context self.now) level lock (next_address code.old) resource block)) }
+            (blocks.lock_code (context self.now) threshold lock (next_address code.old) resource block)) }
     {
         let guard = guard_at(self, resource);
         code.push_noted(
-            guard.opening(level, lock),
+            guard.opening_instr(threshold, lock),
             Note::Enter(Section::Res(resource)),
         )?;
-        self.block(level.max(guard.ceiling), next_slot(lock), inner, code)?;
+        self.block(threshold.max(guard.ceiling), next_slot(lock), inner, code)?;
         code.push_noted(
-            guard.closing(level, lock),
+            guard.closing_instr(threshold, lock),
             Note::Leave(Section::Res(resource)),
         )?;
         Ok(())
@@ -175,7 +175,7 @@ impl<'a> Generator<'a> {
     #[cycle(block)]
     fn repeat(
         &self,
-        level: u8,
+        threshold: u8,
         lock: u32,
         bounds: &Bounds,
         turn: &[Stmt],
@@ -183,7 +183,7 @@ impl<'a> Generator<'a> {
     ) -> Result<(), NoMemory>
         requires { IsReady self.now }
         ensures { let at = next_address code.old in
-            let block = blocks.block_code (context self.now) level lock (at + 4) (block_of turn.now) in
+            let block = blocks.block_code (context self.now) threshold lock (at + 4) (block_of turn.now) in
             OnOk result (Appends code.old code.new
             (blocks.loop_code (context self.now) at bounds.now.variable bounds.now.first bounds.now.last block)) }
     {
@@ -191,30 +191,36 @@ impl<'a> Generator<'a> {
         self.loop_head(bounds, code)?;
         let over = code.len();
         code.push(Instr::JumpZ(self.expressions, 0))?;
-        self.block(level, lock, turn, code)?;
+        self.block(threshold, lock, turn, code)?;
         self.loop_tail(bounds.variable, entry, code)?;
         let end = code.next_address()?;
         code.replace(over, Instr::JumpZ(self.expressions, end));
         Ok(())
     }
 
-    /// A statement, at a static level, with a slot for the mask of the next section.
+    /// A statement, at a static preemption threshold, with a slot for the mask of the next section.
     #[cycle(block)]
-    fn statement(&self, level: u8, lock: u32, stmt: &Stmt, code: &mut Lines) -> Result<(), NoMemory>
+    fn statement(
+        &self,
+        threshold: u8,
+        lock: u32,
+        stmt: &Stmt,
+        code: &mut Lines,
+    ) -> Result<(), NoMemory>
         requires { IsReady self.now }
         ensures { OnOk result (Appends code.old code.new
-            (blocks.statement_code (context self.now) level lock (next_address code.old) (statement_of stmt.now))) }
+            (blocks.statement_code (context self.now) threshold lock (next_address code.old) (statement_of stmt.now))) }
     {
         match stmt {
-            Stmt::Bind(variable, value) => self.bind(level, *variable, value, code),
+            Stmt::Bind(variable, value) => self.bind(threshold, *variable, value, code),
             Stmt::Assign(atom, expr, _at) => self.assign(*atom, expr, code),
             Stmt::Branch(test, first, second) => {
                 self.value(test, code)?;
                 if second.is_empty() {
-                    self.choose_one(level, lock, first, code)
+                    self.choose_one(threshold, lock, first, code)
                 } else {
-                    let over = self.choose_first(level, lock, first, code)?;
-                    self.choose_second(level, lock, second, over, code)
+                    let over = self.choose_first(threshold, lock, first, code)?;
+                    self.choose_second(threshold, lock, second, over, code)
                 }
             }
             Stmt::Repeat(variable, first, last, turn) => {
@@ -223,12 +229,14 @@ impl<'a> Generator<'a> {
                     first: *first,
                     last: *last,
                 };
-                self.repeat(level, lock, &bounds, turn, code)
+                self.repeat(threshold, lock, &bounds, turn, code)
             }
-            Stmt::Locked(resource, inner, _at) => self.lock(level, lock, *resource, inner, code),
+            Stmt::Locked(resource, inner, _at) => self.lock(
+                threshold, lock, *resource, inner, code,
+            ),
             Stmt::Emit(expr) => self.emit(expr, code),
             Stmt::Pend(irq) => code.push(Instr::Post(irq_number(self, *irq))),
-            Stmt::Call(spawn) => self.send(level, spawn, code),
+            Stmt::Call(spawn) => self.send(threshold, spawn, code),
         }
     }
 
@@ -236,17 +244,17 @@ impl<'a> Generator<'a> {
     #[cycle(block)]
     pub(crate) fn block(
         &self,
-        level: u8,
+        threshold: u8,
         lock: u32,
         stmts: &[Stmt],
         code: &mut Lines,
     ) -> Result<(), NoMemory>
         requires { IsReady self.now }
         ensures { OnOk result (Appends code.old code.new
-            (blocks.block_code (context self.now) level lock (next_address code.old) (block_of stmts.now))) }
+            (blocks.block_code (context self.now) threshold lock (next_address code.old) (block_of stmts.now))) }
     {
         for stmt in stmts {
-            self.statement(level, lock, stmt, code)?;
+            self.statement(threshold, lock, stmt, code)?;
         }
         Ok(())
     }

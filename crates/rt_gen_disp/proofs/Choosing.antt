@@ -24,7 +24,7 @@ use Rattle.rt_gen_disp.proofs.{Loading.all_load, Running.Chosen, Running.IsOldes
 use Rattle.rt_gen_disp.proofs.{Sizes.choice_long, Sizes.choices_grow}
 use Rattle.rt_gen_disp.proofs.Dispatchers.{Dispatcher, alone, job, rows, within}
 use Rattle.rt_gen_disp.proofs.Words.{Words, firsts, only_mask, own, times, words, words_are, words_of}
-use Rattle.rt_gen_disp.specs.Code.{argument_lines, called_at, choice_code, choices_code, exit_of, next_for, start_lines}
+use Rattle.rt_gen_disp.specs.Code.{argument_lines, callee_of, choice_code, choices_code, exit_of, next_for, start_lines}
 use Rattle.rt_gen_disp.specs.declared.{called.Called.Called, lines.Exit.Exit}
 
 -- the lines from the start of a message on, as a run on the frame
@@ -104,7 +104,7 @@ module _ {d : Dispatcher} {cells : List ℕ} {queues : Holder → List Entry} {v
     spread = record { entry = o; behind = o.place * t.args; count = t.args }
 
     abbrev start_code : ℕ → List Line
-    start_code from = start_lines (queue_at d.app d.level) (called_at d.app o.task row t) from
+    start_code from = start_lines (queue_at d.app d.level) (callee_of d.app o.task row t) from
 
     -- from the start of the message on, with its arguments in the first slots
     loaded_run : {done until deadline to from : ℕ} {w : Words} {after : List ℕ}
@@ -133,11 +133,11 @@ module _ {d : Dispatcher} {cells : List ℕ} {queues : Holder → List Entry} {v
           one = loaded.late 8 (omega arith) ∙ tells.unit_is;
           place = loaded.late 9 (omega arith) ∙ tells.place_is;
         }) (loaded.late 5 (omega arith) ∙ tells.left_is) in
-        let fits = start_fits (queue_at d.app d.level) (called_at d.app o.task row t) to in
+        let fits = start_fits (queue_at d.app d.level) (callee_of d.app o.task row t) to in
         subst (λ slots. S (job d) (chosen done until deadline to slots)) (words_are after long)
         (run.runs
         (record { time = (omega arith, (omega arith, (omega arith, tt))); saves = saves; long = refl; fit = fits })
-        (subst (HasCode d.code to) (start_placed (queue_at d.app d.level) (called_at d.app o.task row t) to)
+        (subst (HasCode d.code to) (start_placed (queue_at d.app d.level) (callee_of d.app o.task row t) to)
         (subst (λ a. HasCode d.code to (start_code a)) same has)))
 
     -- the code of the task of the message, behind the test
@@ -244,7 +244,7 @@ module _ {d : Dispatcher} {cells : List ℕ} {queues : Holder → List Entry} {v
           let lines : ℕ → List Line = λ k.
           plain (instr.Set 7 t.args) ∷ plain (instr.Calc op.Mul 7 9 7)
           ∷ (argument_lines (slice_index (layout d.app).inputs k) t.args
-          ++ start_lines (queue_at d.app d.level) (called_at d.app k row t) (at + (5 + t.args))) in
+          ++ start_lines (queue_at d.app d.level) (callee_of d.app k row t) (at + (5 + t.args))) in
           tested true e (omega (arith, time.job)) (omega (arith, time.section)) (set, (equal, (jump, tt))) tells
           (task_run (subst (λ n. IsTask d.app d.level d.entry n row t) same is) (omega (arith, time.job))
           (omega (arith, time.section)) (omega arith)
@@ -253,7 +253,7 @@ module _ {d : Dispatcher} {cells : List ℕ} {queues : Holder → List Entry} {v
       by_test {done = done} {until = until} {deadline = deadline} {w = w} false e before time has tells =
           let differs : n ≢ o.task = grind (arith, nat_tests) in
           let to : ℕ = at + (17 + t.args) in
-          let long = choice_long (queue_at d.app d.level) (called_at d.app n row t) (next_for exit n to) at in
+          let long = choice_long (queue_at d.app d.level) (callee_of d.app n row t) (next_for exit n to) at in
           tested false e (omega (arith, time.job)) (omega (arith, time.section))
           (has.0, (has.1.0, (has.1.1.0, tt))) tells
           (subst (λ to. S (job d) (chosen (steps_and 3 done) until deadline to (words (record w { other = 0 }))))

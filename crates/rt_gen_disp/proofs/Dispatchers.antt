@@ -1,5 +1,5 @@
 -- A dispatcher of an accepted application, and where it is while its code runs.
-use Rattle.rt_gen_queue.proofs.Vocabulary.{App, AtLevel, BodyRow, Contains, Doing, Entry, Guarded, Held, Holder}
+use Rattle.rt_gen_queue.proofs.Vocabulary.{App, AtPriority, BodyRow, Contains, Doing, Entry, Guarded, Held, Holder}
 use Rattle.rt_gen_queue.proofs.Vocabulary.{IsAccepted, Line, List, None, Section, Some, Task, Values, [], is_of_level}
 use Rattle.rt_gen_queue.proofs.Vocabulary.{levels, row_for, rows_for, slice_get, slice_index, storage, true, ℕ, ◌∷◌}
 use Rattle.rt_gen_queue.proofs.Vocabulary.{◌≡◌}
@@ -23,7 +23,7 @@ rows d = rows_for d.entry 0 d.app.tasks
 
 -- its code runs in a frame of its own
 abbrev pub job : Dispatcher → Setting
-job d = record { app = d.app; code = d.code; bodies = rows d; thread = d.thread; who = AtLevel d.level; caller = None }
+job d = record { app = d.app; code = d.code; bodies = rows d; thread = d.thread; who = AtPriority d.level; caller = None }
 
 -- a section, open alone
 abbrev pub alone : Dispatcher → Section → List Held

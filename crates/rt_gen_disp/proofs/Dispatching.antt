@@ -1,5 +1,5 @@
 -- The code of a dispatcher stands.
-use Rattle.rt_gen_queue.proofs.Vocabulary.{AreSpelled, At, AtLevel, BodyRow, Doing, Entry, Guarded, HasCode, Holder}
+use Rattle.rt_gen_queue.proofs.Vocabulary.{AreSpelled, At, AtPriority, BodyRow, Doing, Entry, Guarded, HasCode, Holder}
 use Rattle.rt_gen_queue.proofs.Vocabulary.{KeepsTaskLimits, Line, List, Messages, None, Rest, Section, SpellsReady}
 use Rattle.rt_gen_queue.proofs.Vocabulary.{StandsFrom, Values, [], accepted_are_sound, all_at, ap, arith, calm}
 use Rattle.rt_gen_queue.proofs.Vocabulary.{capacity_is, drop, home_of, is_of_level, length, map, memory, message_at}
@@ -178,7 +178,7 @@ module _ (d : Dispatcher) (at : ℕ) (choices : HasCode d.code (at + 18) (choice
       (spelled_taken x taken spelled) taken.spelled)
 
   dispatches : HasCode d.code at lines → (bodies : List BodyRow) → bodies ≡ rows d
-      → StandsFrom (storage d.app) d.code bodies d.thread (AtLevel d.level) (length (memory d.app)) DISPATCHER_WORDS
+      → StandsFrom (storage d.app) d.code bodies d.thread (AtPriority d.level) (length (memory d.app)) DISPATCHER_WORDS
       at (dispatcher_cost d.app d.level) (dispatcher_doing d.app d.level)
   dispatches front bodies rows_are slots cells queues vs words_long long kept =
       let m : Moment =

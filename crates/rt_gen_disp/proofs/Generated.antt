@@ -14,7 +14,7 @@ use Rattle.rt_code.specs.declared.instr.Instr.TheVariants as instr
 use Rattle.rt_gen_queue.{proofs.Planned.target_made, proofs.Planned.target_read, specs.declared.target.Target.Target}
 use Rattle.rt_gen_disp.proofs.Sizes.{choice_long}
 use Rattle.rt_gen_disp.specs.{Inside.Generating.task_code, declared.called.Called.Called, declared.lines.Exit.Exit}
-use Rattle.rt_gen_disp.specs.Code.{argument_lines, called_at, choice_code, choices_code, last_from, next_for}
+use Rattle.rt_gen_disp.specs.Code.{argument_lines, callee_of, choice_code, choices_code, last_from, next_for}
 
 -- one argument more
 pub arguments_more : (inputs k : ℕ)
@@ -55,7 +55,7 @@ rest_next s made n r t ts =
     elim (cases_Bool (is_of_level s.level t)) [
       | inl of ↦
           (let long =
-          choice_long (queue_at s.app s.level) (called_at s.app n r t) (next_for s.exit n (at + (17 + t.args))) at in
+          choice_long (queue_at s.app s.level) (callee_of s.app n r t) (next_for s.exit n (at + (17 + t.args))) at in
           let behind : at + (17 + t.args) ≡ made.entry + length (lines ++ own) =
           omega (arith, length-append lines own, long) in
           rw (of, and_left (is_software t) (t.priority == s.level) of)
@@ -127,6 +127,6 @@ with_row r args c = record { task = c.task; row = r; args = args; free = c.free;
 -- what is read of the plan's tables makes what the dispatcher has of a task
 pub called_made : {plan : Plan} (n r : ℕ) {t : Task} (accepted : IsAccepted (app_of plan.app.now))
     (planned : IsPlan plan) (there : slice_get (app_of plan.app.now).tasks n ≡ Some t) (software : is_software t ≡ true)
-    → with_row r t.args (target_read n accepted planned there software) ≡ called_at (app_of plan.app.now) n r t
+    → with_row r t.args (target_read n accepted planned there software) ≡ callee_of (app_of plan.app.now) n r t
 called_made n r {t = t} accepted planned there software =
     ap (with_row r t.args) (target_made n accepted planned there software)

@@ -1,10 +1,10 @@
 -- What a level keeps, or may read at any time, while its dispatcher runs, which no action of a dispatcher changes; and
 -- how a dispatcher opens the section of a queue.
-use Rattle.rt_gen_queue.proofs.Vocabulary.{Agree, App, AreSpelled, At, AtLevel, Bool, Content, Entry, Guarded, Held}
+use Rattle.rt_gen_queue.proofs.Vocabulary.{Agree, App, AreSpelled, At, AtPriority, Bool, Content, Entry, Guarded, Held}
 use Rattle.rt_gen_queue.proofs.Vocabulary.{Holder, Home, List, MayLoad, Number, Own, Section, SpellsReady, Spot}
 use Rattle.rt_gen_queue.proofs.Vocabulary.{TakesOver, Values, [], ap, arith, ceiling, false, home_of, if◌then◌else◌}
 use Rattle.rt_gen_queue.proofs.Vocabulary.{is_open, is_same_holder, kind_at, length, local_is_home, or_right, owns_open}
-use Rattle.rt_gen_queue.proofs.Vocabulary.{owns_reads, put_at, reads, refl, resource_is_home, same_section, slice_index}
+use Rattle.rt_gen_queue.proofs.Vocabulary.{owns_reads, values_with, reads, refl, resource_is_home, same_section, slice_index}
 use Rattle.rt_gen_queue.proofs.Vocabulary.{storage, subst, sym, true, ℕ, ◌+◌, ◌^◌, ◌||◌, ◌∙◌, ◌≡◌, ◌≤◌}
 use Rattle.rt_lemmas.proofs.Bools.{or_assoc}
 use Rattle.rt_ids.specs.declared.ids.Section.TheVariants as section
@@ -15,12 +15,12 @@ use Rattle.rt_gen_disp.proofs.{Dispatchers.Dispatcher, Dispatchers.alone, Dispat
 module _ (d : Dispatcher) where
   -- a section that is open alone is open, and what it guards may be read
   pub open_here : (x : Section) → is_open (alone d x) x ≡ true
-  open_here x = is_inside d.app (AtLevel d.level) [] (record { section = x; kind = kind_at d.app x d.level 14 }) x refl
+  open_here x = is_inside d.app (AtPriority d.level) [] (record { section = x; kind = kind_at d.app x d.level 14 }) x refl
 
-  pub reads_here : (x : Section) → reads (storage d.app) (AtLevel d.level) (alone d x) (Guarded x) ≡ true
+  pub reads_here : (x : Section) → reads (storage d.app) (AtPriority d.level) (alone d x) (Guarded x) ≡ true
   reads_here x =
-      owns_reads (storage d.app) (AtLevel d.level) (alone d x) (Guarded x)
-      (owns_open (storage d.app) (AtLevel d.level) (alone d x) x (open_here x))
+      owns_reads (storage d.app) (AtPriority d.level) (alone d x) (Guarded x)
+      (owns_open (storage d.app) (AtPriority d.level) (alone d x) x (open_here x))
 
   -- the section of a queue may be opened where none is
   pub may_enter : {h : Here} (x : Section) → h.held ≡ [] → IsQueue x → ceiling d.app x ≤ 2 ^ d.app.bits
@@ -33,7 +33,7 @@ module _ (d : Dispatcher) where
     top = top;
     within = within;
     closed = ap (λ held. is_open held x) none;
-    nobody = nobody_keeps d.app (AtLevel d.level) (AtLevel d.level) x queue;
+    nobody = nobody_keeps d.app (AtPriority d.level) (AtPriority d.level) x queue;
   }
 
 -- the ready queue of the level is given back, by what its cells spell
@@ -44,11 +44,11 @@ unfolding storage
 for_ready d cells entries content spells = (d.is, spells)
 
 abbrev MayRead : App → ℕ → Holder → Type 0
-MayRead app level h = ((storage app).is_kept (AtLevel level) h || (storage app).is_constant (AtLevel level) h) ≡ true
+MayRead app level h = ((storage app).is_kept (AtPriority level) h || (storage app).is_constant (AtPriority level) h) ≡ true
 
 -- with any sections open it may read the same and more
 reads_kept : (app : App) (level : ℕ) (held : List Held) (h : Holder) → MayRead app level h
-    → reads (storage app) (AtLevel level) held h ≡ true
+    → reads (storage app) (AtPriority level) held h ≡ true
 reads_kept app level held (Guarded x) may = or_assoc (is_open held x) _ _ ∙ or_right (is_open held x) _ may
 reads_kept app level held (Own n) may = may
 
@@ -56,7 +56,7 @@ reads_kept app level held (Own n) may = may
 not_queue : (app : App) (level : ℕ) (h : Holder) (x : Section) → MayRead app level h → IsQueue x
     → is_same_holder (Guarded x) h ≡ false
 not_queue app level h x may queue =
-    other_holder app (AtLevel level) [] x h (unread app (AtLevel level) [] x queue refl)
+    other_holder app (AtPriority level) [] x h (unread app (AtPriority level) [] x queue refl)
     (reads_kept app level [] h may)
 
 module _ {app : App} {level : ℕ} {cells : List ℕ} {queues : Holder → List Entry} {vs : Values} where
@@ -84,13 +84,13 @@ module _ {app : App} {level : ℕ} {cells : List ℕ} {queues : Holder → List 
 
   -- values that agree are spelled too
   pub spelled_agreed : {ws : Values} (held : List Held) → AreSpelled app level cells queues vs
-      → Agree (storage app) (AtLevel level) held ws vs → AreSpelled app level cells queues ws
+      → Agree (storage app) (AtPriority level) held ws vs → AreSpelled app level cells queues ws
   spelled_agreed held spelled agree =
       spelled_on spelled refl (λ h may. agree h (reads_kept app level held h may)) (λ c h may of. refl)
 
   -- and so are those with another content of a queue
   pub spelled_put : {later : Holder → List Entry} (x : Section) (content : Content) → IsQueue x
-      → AreSpelled app level cells queues vs → AreSpelled app level cells later (put_at vs (Guarded x) content)
+      → AreSpelled app level cells queues vs → AreSpelled app level cells later (values_with vs (Guarded x) content)
   spelled_put x content queue spelled =
       spelled_on spelled refl
       (λ h may. ap (λ (b : Bool). if b then content else vs h) (not_queue app level h x may queue))
@@ -112,10 +112,10 @@ module _ {app : App} {level : ℕ} {cells : List ℕ} {queues : Holder → List 
 
 -- others leave it as it is
 pub spelled_taken : {app : App} {level : ℕ} {s : Spot} {values vs : Values} {cells : List ℕ}
-    {queues : Holder → List Entry} (x : Section) → TakesOver (storage app) (AtLevel level) x s values vs cells queues
+    {queues : Holder → List Entry} (x : Section) → TakesOver (storage app) (AtPriority level) x s values vs cells queues
     → AreSpelled app level s.cells s.queues values → AreSpelled app level cells queues vs
 spelled_taken {app = app} {level = level} {s = s} x taken spelled =
     spelled_on spelled taken.same.long (λ h may. taken.agree h (reads_kept app level s.held h may))
     (λ c h may of. taken.same.touched c
-    (subst (λ (home : Home). MayLoad (storage app) (AtLevel level) s home) (sym (home_as app c ∙ of))
+    (subst (λ (home : Home). MayLoad (storage app) (AtPriority level) s home) (sym (home_as app c ∙ of))
     (reads_kept app level s.held h may)))

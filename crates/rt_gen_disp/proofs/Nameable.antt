@@ -7,7 +7,7 @@ use Rattle.rt_code.specs.declared.instr.Instr.TheVariants as instr
 use Rattle.rt_gen_queue.proofs.Masks.{enter_named, leave_named}
 use Rattle.rt_gen_queue.proofs.Nameable.{AreClaimed, claimed_both, claimed_each, nameable}
 use Rattle.rt_gen_disp.proofs.Sizes.{Grows, choices_grow}
-use Rattle.rt_gen_disp.specs.Code.{argument_lines, called_at, choice_code, choice_lines, choices_code, dispatcher_code}
+use Rattle.rt_gen_disp.specs.Code.{argument_lines, callee_of, choice_code, choice_lines, choices_code, dispatcher_code}
 use Rattle.rt_gen_disp.specs.Code.{exit_of, front_lines, next_for, start_lines}
 use Rattle.rt_gen_disp.specs.declared.{called.Called.Called, lines.Exit.Exit}
 
@@ -34,7 +34,7 @@ module _ (app : App) (p : ℕ) (irq : HasIrq (names_of app) (dispatcher_number a
         other = λ at n k t lines here other claimed. claimed;
         next = λ at n row k t more is claimed.
             claimed_both (names_of app) (choice_code app p exit at n row t) more
-            (choice_claimed (called_at app n row t) (next_for exit n (at + (17 + t.args))) at
+            (choice_claimed (callee_of app n row t) (next_for exit n (at + (17 + t.args))) at
             (slice_get_within app.tasks n t is.at)) claimed;
       } in
       let into = enter_named (names_of app) (section.Ready p) (queue_at app p).guard p 14 tt in

@@ -1,12 +1,12 @@
 -- What a dispatcher does once the oldest message is that of one of its tasks: it starts the message, gives its place
 -- back, calls the body and returns.
-use Rattle.rt_gen_queue.proofs.Vocabulary.{AreSpelled, AtLevel, BodyRow, Content, Ends, Enters, Entry, FREE_COST, Frees}
+use Rattle.rt_gen_queue.proofs.Vocabulary.{AreSpelled, AtPriority, BodyRow, Content, Ends, Enters, Entry, FREE_COST, Frees}
 use Rattle.rt_gen_queue.proofs.Vocabulary.{Guarded, Holder, Leaves, Line, List, Marked, Message, Messages, None, Number}
 use Rattle.rt_gen_queue.proofs.Vocabulary.{Option, Posts, Rest, Returns, Section, Some, SpellsFree, SpellsReady, Stands}
 use Rattle.rt_gen_queue.proofs.Vocabulary.{Task, Values, [], act, act_all, and_left, and_right, ap, arith, body_cost}
 use Rattle.rt_gen_queue.proofs.Vocabulary.{body_frame, caller_frame, calm, cost_measure, count, dispatcher_number, drop}
 use Rattle.rt_gen_queue.proofs.Vocabulary.{effect as action_effect, eq-eqb, eqb-true, false, free_at, inl, inr}
-use Rattle.rt_gen_queue.proofs.Vocabulary.{is_software, length, map, message_at, messages, nat_tests, none-some, noted}
+use Rattle.rt_gen_queue.proofs.Vocabulary.{is_software, length, map, message_at, messages, nat_tests, none-some, line_with_note}
 use Rattle.rt_gen_queue.proofs.Vocabulary.{nothing, number, operate, or_left, queue_at, queued_more, refl, row_for}
 use Rattle.rt_gen_queue.proofs.Vocabulary.{rows_for, same_Some, slice_get, slice_index, start_doing, storage, subst}
 use Rattle.rt_gen_queue.proofs.Vocabulary.{suc, sym, take, take-append-le, true, with_queue, zero, zero-add, ℕ, ◌+◌}
@@ -29,7 +29,7 @@ use Rattle.rt_gen_queue.proofs.Layer.{stores_at, writes_open}
 use Rattle.rt_gen_queue.proofs.Owning.{free_back, free_spelled, put_here, queue_here}
 use Rattle.rt_gen_queue.proofs.Returning.{Returned, free_home, frees, given_back, room_left}
 use Rattle.rt_gen_queue.specs.Called.{CalledAtLevel, CalledTaskStands}
-use Rattle.rt_gen_disp.{proofs.Sizes.IsTask, specs.Code.called_at, specs.Code.start_lines}
+use Rattle.rt_gen_disp.{proofs.Sizes.IsTask, specs.Code.callee_of, specs.Code.start_lines}
 use Rattle.rt_gen_disp.proofs.Dispatchers.{Dispatcher, Moment, Spelled, alone, job, outside, rows, within}
 use Rattle.rt_gen_disp.proofs.Kept.{for_ready, may_enter, open_here, reads_here, spelled_agreed, spelled_put}
 use Rattle.rt_gen_disp.proofs.Kept.{spelled_taken, spelled_written}
@@ -90,7 +90,7 @@ module _ {d : Dispatcher} (c : Chosen d) where
 
   -- its lines from its start on
   abbrev pub own_lines : ℕ → List Line
-  own_lines at = start_lines (queue_at d.app d.level) (called_at d.app c.number c.row c.task) at
+  own_lines at = start_lines (queue_at d.app d.level) (callee_of d.app c.number c.row c.task) at
 
   -- the sections of its free places and of the ready queue
   abbrev free : Section
@@ -147,9 +147,9 @@ module _ {d : Dispatcher} (c : Chosen d) where
         let all_fit = frame_fits w called few fits in
         calls_here called has.0 (next_in_time run)
         (record { own = refl; is_there = c.is.there; closed = refl; some = omega arith; fits = all_fit })
-        (subst (λ k. Stands (storage d.app) d.code (rows d) d.thread (AtLevel d.level) k
+        (subst (λ k. Stands (storage d.app) d.code (rows d) d.thread (AtPriority d.level) k
         (calm left inner (Some back) called.entry m.cells m.queues (body_rest vs))) steps_are
-        (subst (λ given. Stands (storage d.app) d.code (rows d) d.thread (AtLevel d.level) (cost_of_body + steps)
+        (subst (λ given. Stands (storage d.app) d.code (rows d) d.thread (AtPriority d.level) (cost_of_body + steps)
         (calm left inner (Some back) called.entry m.cells m.queues
         (task_doing d.app c.number given (act (Ends (body.Task c.number)) behind) vs))) args_are
         (body_stands (rows d) d.thread steps back behind
@@ -193,14 +193,14 @@ module _ {d : Dispatcher} (c : Chosen d) where
       let later : Holder → List Entry = with_queue m.queues free (entry_of ∷ entries) in
       let us : Values = action_effect (Frees c.number) ws in
       let content : us (Guarded free) ≡ Number (number (vs (Guarded free)) - 1) =
-      put_here d.app (AtLevel d.level) ws free (Number (number (ws (Guarded free)) - 1))
+      put_here d.app (AtPriority d.level) ws free (Number (number (ws (Guarded free)) - 1))
       ∙ ap (λ c. Number (number c - 1)) (agree (Guarded free) (reads_here d free)) in
       let kept : AreSpelled d.app d.level given later us =
       spelled_put free (Number (number (ws (Guarded free)) - 1)) tt
       (spelled_agreed (alone d free) (spelled_written free tt spelled is.long is.elsewhere) agree) in
       leaves d.level refl refl refl
       (subst (λ es. (storage d.app).Spells (Guarded free) (slice_index given) es (us (Guarded free)))
-      (sym (queue_here d.app (AtLevel d.level) m.queues free (entry_of ∷ entries)))
+      (sym (queue_here d.app (AtPriority d.level) m.queues free (entry_of ∷ entries)))
       (free_back (slice_index m.cells) entries (vs (Guarded free)) spells
       (subst (λ c'. SpellsFree d.app (slice_index given) c.number (entry_of ∷ entries) c') (sym content) is.spells)))
       (λ zs agree_too. call_run (omega arith) holds (spelled_agreed [] kept agree_too))))))
@@ -232,7 +232,7 @@ module _ {d : Dispatcher} (c : Chosen d) where
       → Spelled d ready m.cells queues ws → Straight (job d) own lines
       (within d ready deadline (record m { done = suc m.done; at = suc m.at; queues = queues })
       (entry_of ∷ []) (rest ws)) (words w))
-      → Straight (job d) own (noted instr.Mark (note.Start c.number 0) ∷ lines)
+      → Straight (job d) own (line_with_note instr.Mark (note.Start c.number 0) ∷ lines)
       (within d ready deadline m [] (act (Starts d.level message_of) rest vs)) (words w)
   started {m = m} {w = w} {vs = vs} {deadline = deadline} {es = es} rest oldest holds on =
       let h : Here = Now own (within d ready deadline m [] (act (Starts d.level message_of) rest vs)) (words w) in
@@ -257,11 +257,11 @@ module _ {d : Dispatcher} (c : Chosen d) where
             let first_off : Values → Content = λ vs. Messages (drop 1 (messages (vs (Guarded ready)))) in
             let was = agree (Guarded ready) (reads_here d ready) ∙ oldest.content in
             let content : us (Guarded ready) ≡ Messages (map (message_at d.app (slice_index m.cells)) es) =
-            put_here d.app (AtLevel d.level) ws ready (first_off ws) ∙ ap (λ c. Messages (drop 1 (messages c))) was in
+            put_here d.app (AtPriority d.level) ws ready (first_off ws) ∙ ap (λ c. Messages (drop 1 (messages c))) was in
             on us later
             (spelled_put ready (first_off ws) tt (spelled_agreed (alone d ready) oldest.spelled agree))
             (subst (λ xs. (storage d.app).Spells (Guarded ready) (slice_index m.cells) xs (us (Guarded ready)))
-            (sym (queue_here d.app (AtLevel d.level) m.queues ready es))
+            (sym (queue_here d.app (AtPriority d.level) m.queues ready es))
             (for_ready d (slice_index m.cells) es (us (Guarded ready))
             (subst (λ c'. SpellsReady d.app (slice_index m.cells) d.level es c') (sym content) oldest.rest))));
       }))

@@ -8,7 +8,7 @@ use Rattle.rt_gen_queue.proofs.Vocabulary.{◌≤◌}
 use Rattle.std.{proofs.lemmas.Bool.cases_Bool, specs.Prelude.count_by}
 use Rattle.rt_app.specs.BodyCost.{dispatcher_size}
 use Rattle.rt_gen_queue.specs.declared.queue.ReadyQueue.{ReadyQueue}
-use Rattle.rt_gen_disp.specs.Code.{called_at, choice_code, choice_lines, choices_code, dispatcher_code, exit_of}
+use Rattle.rt_gen_disp.specs.Code.{callee_of, choice_code, choice_lines, choices_code, dispatcher_code, exit_of}
 use Rattle.rt_gen_disp.specs.Code.{front_lines, next_for}
 use Rattle.rt_gen_disp.specs.declared.{called.Called.Called, lines.Exit.Exit}
 
@@ -74,7 +74,7 @@ dispatcher_short app p at all =
       other = λ at n k t lines here other short. short;
       next = λ at n row k t more is short.
           let limits : KeepsTaskLimits t = all_at KeepsTaskLimits app.tasks n t all is.at in
-          let long = choice_long (queue_at app p) (called_at app n row t) (next_for exit n (at + (17 + t.args))) at in
+          let long = choice_long (queue_at app p) (callee_of app n row t) (next_for exit n (at + (17 + t.args))) at in
           omega (arith, limits.args, long, length-append (choice_code app p exit at n row t) more);
     } in
     let choices = choices_grow grows app.tasks (at + 18) 0 0 (all_from app.tasks) (all_from _) in

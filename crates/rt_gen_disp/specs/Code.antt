@@ -13,7 +13,7 @@ use Rattle.rt_app.specs.Level.{is_software, is_of_level}
 use Rattle.rt_app.specs.Layout.{layout, free_at}
 use Rattle.rt_code.specs.declared.instr.Instr.TheVariants as instr
 use Rattle.rt_code.specs.declared.instr.Note.TheVariants as note
-use Rattle.rt_gen_queue.specs.Line.{Line, plain, noted}
+use Rattle.rt_gen_queue.specs.Line.{Line, plain, line_with_note}
 use Rattle.rt_gen_queue.specs.Guards.{guard_of, enter_line, leave_line}
 use Rattle.rt_gen_queue.specs.Queue.{queue_at}
 use Rattle.rt_gen_queue.specs.declared.queue.ReadyQueue.{ReadyQueue}
@@ -51,11 +51,11 @@ module _ (q : ReadyQueue) where
   -- given back, and the body runs
   abbrev pub start_lines : Called → ℕ → List Line
   start_lines c at =
-      noted instr.Mark (note.Start c.task 0) ∷ plain (instr.JumpZ LEFT (at + 3)) ∷ plain (instr.Post q.irq)
+      line_with_note instr.Mark (note.Start c.task 0) ∷ plain (instr.JumpZ LEFT (at + 3)) ∷ plain (instr.Post q.irq)
       ∷ leave_line (section.Ready q.level) q.guard q.level MASK
       ∷ enter_line (section.Free c.task) c.guard q.level MASK ∷ plain (instr.Load INDEX c.free)
       ∷ plain (instr.StoreAt (c.free + 1) INDEX PLACE) ∷ plain (instr.Calc op.Add INDEX INDEX ONE)
-      ∷ noted (instr.Store c.free INDEX) (note.Free c.task) ∷ leave_line (section.Free c.task) c.guard q.level MASK
+      ∷ line_with_note (instr.Store c.free INDEX) (note.Free c.task) ∷ leave_line (section.Free c.task) c.guard q.level MASK
       ∷ plain (instr.Call c.row 0) ∷ plain instr.Ret ∷ []
 
   -- from an address on: a message of the task is run, and one of another is left to the code at a further one
@@ -63,8 +63,8 @@ module _ (q : ReadyQueue) where
   choice_lines c next at = test_lines c next ++ (argument_lines c.inputs c.args ++ start_lines c (at + (5 + c.args)))
 
 -- a task by its number, whose body has this row
-abbrev pub called_at : App → ℕ → ℕ → Task → Called
-called_at app n row t = record {
+abbrev pub callee_of : App → ℕ → ℕ → Task → Called
+callee_of app n row t = record {
   task = n;
   row = row;
   args = t.args;
@@ -87,7 +87,7 @@ module _ (app : App) (level : ℕ) (exit : Exit) where
   -- the code of the choice of a task of the level, from an address on
   abbrev pub choice_code : ℕ → ℕ → ℕ → Task → List Line
   choice_code at n row t =
-      choice_lines (queue_at app level) (called_at app n row t) (next_for exit n (at + (17 + t.args))) at
+      choice_lines (queue_at app level) (callee_of app n row t) (next_for exit n (at + (17 + t.args))) at
 
   -- the code of the choices among these tasks, the first of which has this number, from an address on, with the rows of
   -- software tasks from another on

@@ -2,7 +2,7 @@
 -- of the tasks stand when they are called: a dispatcher starts the oldest message of its level, gives its place back,
 -- runs the task's body and returns, whatever others do to what is not its own, within the cost that is counted for it.
 use Rattle.std.specs.Prelude.{◌≡◌, ℕ, true, List, length, slice_get, Some, Contains}
-use Rattle.rt_ids.specs.Storage.{AtLevel}
+use Rattle.rt_ids.specs.Storage.{AtPriority}
 use Rattle.rt_app.specs.declared.costs.TheConstants.{DISPATCHER_WORDS}
 use Rattle.rt_app.specs.Tree.{Task, App}
 use Rattle.rt_app.specs.Level.{is_of_level, levels}
@@ -26,5 +26,5 @@ DispatchersStand =
     → ((n : ℕ) (t : Task) → slice_get app.tasks n ≡ Some t → is_of_level level t ≡ true
     → CalledBodyStands app n code (row_for entry n t))
     → (thread : ℕ)
-    → StandsFrom (storage app) code bodies thread (AtLevel level) (length (memory app)) DISPATCHER_WORDS at
+    → StandsFrom (storage app) code bodies thread (AtPriority level) (length (memory app)) DISPATCHER_WORDS at
     (dispatcher_cost app level) (dispatcher_doing app level)

@@ -3,7 +3,7 @@ ghost use Rattle.rt_app.specs.Accepted.{IsAccepted};
 ghost use Rattle.rt_app.specs.Level.{is_software};
 ghost use Rattle.rt_app.specs.Plan.{IsPlan};
 ghost use Rattle.rt_app.specs.View.{task_of, app_of};
-ghost use Rattle.rt_gen_disp.specs.Code.{called_at};
+ghost use Rattle.rt_gen_disp.specs.Code.{callee_of};
 
 use rt_app::{Plan, Task};
 use rt_gen_queue::Guard;
@@ -28,12 +28,12 @@ pub struct Called {
 }
 
 /// The software task of a number, whose body has this row.
-pub(crate) fn called_of(plan: &Plan<'_>, number: usize, row: u32, task: &Task) -> Called
+pub(crate) fn callee_of(plan: &Plan<'_>, number: usize, row: u32, task: &Task) -> Called
     requires accepted { IsAccepted (app_of plan.now.app.now) }
     requires planned { IsPlan plan.now }
     requires task { slice_get (app_of plan.now.app.now).tasks number ≡ Some (task_of task.now) }
     requires software { is_software (task_of task.now) ≡ true }
-    ensures is { result ≡ called_at (app_of plan.now.app.now) number row (task_of task.now) }
+    ensures is { result ≡ callee_of (app_of plan.now.app.now) number row (task_of task.now) }
     ensures few { result.args ≤ 4 }
 {
     let id = TaskId(number as u8);

@@ -15,7 +15,7 @@ ghost use Rattle.rt_gen_disp.specs.Code.{choices_code, dispatcher_code, last_fro
 ghost use Rattle.rt_gen_disp.specs.Inside.Generating.{task_code};
 ghost use Rattle.rt_gen_disp.specs.declared.lines.TheConstants.{MANY_LINES};
 
-use crate::called::called_of;
+use crate::called::callee_of;
 use crate::lines::{CHOICE_LINES, EMPTY_OFFSET, Exit, MANY_LINES, push_choice, push_front};
 use rt_app::{Plan, Task};
 use rt_code::Line;
@@ -69,7 +69,7 @@ fn push_task(
             }
             let at = address_with_room(lines)?;
             let next = exit.next_for(number, at + (CHOICE_LINES + u32::from(task.args)));
-            push_choice(queue, &called_of(plan, number, row, task), next, at, lines)
+            push_choice(queue, &callee_of(plan, number, row, task), next, at, lines)
         }
         None => Ok(()),
     }

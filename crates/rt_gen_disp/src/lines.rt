@@ -28,17 +28,17 @@ pub(crate) const CHOICE_LINES: u32 = 17;
 pub(crate) const MANY_LINES: u32 = 300;
 
 /// The line that opens a section at a level.
-fn entering(guard: Guard, level: u8, section: Section) -> Line
+fn enter_line(guard: Guard, level: u8, section: Section) -> Line
     ensures { result ≡ enter_line section guard level MASK }
 {
-    (guard.opening(level, MASK), Some(Note::Enter(section)))
+    (guard.opening_instr(level, MASK), Some(Note::Enter(section)))
 }
 
 /// The line that closes it.
-fn leaving(guard: Guard, level: u8, section: Section) -> Line
+fn leave_line(guard: Guard, level: u8, section: Section) -> Line
     ensures { result ≡ leave_line section guard level MASK }
 {
-    (guard.closing(level, MASK), Some(Note::Leave(section)))
+    (guard.closing_instr(level, MASK), Some(Note::Leave(section)))
 }
 
 /// The lines before the tasks, the first of which will stand at this address.
@@ -50,11 +50,11 @@ pub(crate) fn push_front(queue: &ReadyQueue, entry: u32, lines: &mut Lines) -> R
     let count = head + 1;
     let (guard, level) = (queue.guard, queue.level);
     lines.append(&[
-        entering(guard, level, Section::Ready(Prio(level))),
+        enter_line(guard, level, Section::Ready(Prio(level))),
         (Instr::Load(LEFT, count), None),
         (Instr::JumpZ(LEFT, entry + EMPTY_OFFSET), None),
         (Instr::Jump(entry + TAKING_OFFSET), None),
-        leaving(guard, level, Section::Ready(Prio(level))),
+        leave_line(guard, level, Section::Ready(Prio(level))),
         (Instr::Ret, None),
         (Instr::Load(INDEX, head), None),
         (Instr::LoadAt(WORD, head + 2, INDEX), None),
@@ -133,13 +133,13 @@ fn push_start(
         (Instr::Mark, Some(Note::Start(called.task, 0))),
         (Instr::JumpZ(LEFT, at + 3), None),
         (Instr::Post(queue.irq), None),
-        leaving(queue.guard, level, Section::Ready(Prio(level))),
-        entering(called.guard, level, Section::Free(called.task)),
+        leave_line(queue.guard, level, Section::Ready(Prio(level))),
+        enter_line(called.guard, level, Section::Free(called.task)),
         (Instr::Load(INDEX, free), None),
         (Instr::StoreAt(free + 1, INDEX, PLACE), None),
         (Instr::Calc(Op::Add, INDEX, INDEX, ONE), None),
         (Instr::Store(free, INDEX), Some(Note::Free(called.task))),
-        leaving(called.guard, level, Section::Free(called.task)),
+        leave_line(called.guard, level, Section::Free(called.task)),
         (Instr::Call(called.row, 0), None),
         (Instr::Ret, None),
     ])

@@ -77,9 +77,9 @@ module _ (app : App) (task : ℕ) (t : Task) (facts : Spawned app task t) where
 
   pub place_of : (e : Entry) → e.task ≡ task → e.place < capacity_of app task → IsPlaceOf app t.priority e
   place_of e of_task place =
-      let level = ap (λ n. is_some_and (is_of_level t.priority) (slice_get app.tasks n)) of_task
+      let threshold = ap (λ n. is_some_and (is_of_level t.priority) (slice_get app.tasks n)) of_task
       ∙ ap (is_some_and (is_of_level t.priority)) facts.at ∙ of_level in
-      (level, subst (λ (n : ℕ). e.place < capacity_of app n) (sym of_task) place)
+      (threshold, subst (λ (n : ℕ). e.place < capacity_of app n) (sym of_task) place)
 
   pub few_ready : ready_room app t.priority ≤ 1024
   few_ready = few_places app t.priority facts.accepted.limits.tasks (omega (arith, facts.accepted.limits.few_tasks))

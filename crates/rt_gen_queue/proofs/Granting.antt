@@ -1,10 +1,10 @@
 -- The code by which a spawn takes a place of its task, or finds none.
 use Rattle.rt_gen_queue.proofs.Vocabulary.{Agree, App, At, Bool, Content, Doing, Entry, FREE_COST, Guarded, HasCode}
-use Rattle.rt_gen_queue.proofs.Vocabulary.{Held, Holder, Leaves, LeavesMine, Line, List, Marked, Number, Refuses, Rest}
-use Rattle.rt_gen_queue.proofs.Vocabulary.{Section, Some, SpellsFree, Takes, TakesOver, Task, Values, [], act_all, ap}
+use Rattle.rt_gen_queue.proofs.Vocabulary.{Held, Holder, Leaves, LeavesMine, Line, List, Marked, Number, FindsFull, Rest}
+use Rattle.rt_gen_queue.proofs.Vocabulary.{Section, Some, SpellsFree, Places, TakesOver, Task, Values, [], act_all, ap}
 use Rattle.rt_gen_queue.proofs.Vocabulary.{arith, capacity_of, count, count_more, drop, end_code, false, free_at}
 use Rattle.rt_gen_queue.proofs.Vocabulary.{free_is_home, home_of, if◌then◌else◌, is_open, le-ltb, length, lt-ltb}
-use Rattle.rt_gen_queue.proofs.Vocabulary.{memory, mine, nat_lt, noted, number, one_itself, owns_open, passed, queued}
+use Rattle.rt_gen_queue.proofs.Vocabulary.{memory, mine, nat_lt, line_with_note, number, one_itself, owns_open, spot_after_step, queued}
 use Rattle.rt_gen_queue.proofs.Vocabulary.{queued_more, queues_same, reads_more, refl, slice_index, storage, subst, suc}
 use Rattle.rt_gen_queue.proofs.Vocabulary.{sym, take, take_code, take_place, target_of, true, with_queue, ℕ, ◌+◌, ◌-◌}
 use Rattle.rt_gen_queue.proofs.Vocabulary.{◌<◌, ◌∙◌, ◌∷◌, ◌≡◌, ◌≢◌, ◌≤◌}
@@ -22,12 +22,12 @@ use Rattle.rt_gen_queue.proofs.Layer.{writes_open}
 use Rattle.rt_gen_queue.proofs.Owning.{free_back, free_spelled, is_inside, spelled_put}
 use Rattle.rt_gen_queue.proofs.Words.{Arguments, Scratch, words}
 
-pub record MayTake (z : Setting) (f : Frame 9 8) (h : Here) (task level full : ℕ) (t : Task) : Type 0 where
+pub record MayTake (z : Setting) (f : Frame 9 8) (h : Here) (task threshold full : ℕ) (t : Task) : Type 0 where
   pub facts : Spawned z.app task t
-  pub code : HasCode z.code h.at (take_code z.app task level f.slot full)
+  pub code : HasCode z.code h.at (take_code z.app task threshold f.slot full)
   pub time : InTime (h.done + 8) h
   pub long : length h.cells ≡ length (memory z.app)
-  pub enter : MayEnter z f h (section.Free task) level
+  pub enter : MayEnter z f h (section.Free task) threshold
 
 -- a place of the task is in the hands
 pub record HasTaken (z : Setting) (h : Here) (task : ℕ) (vs : Values) (e : Entry) (cells : List ℕ)
@@ -50,10 +50,10 @@ at_full h o full cells queues rest =
 
 -- the lines inside the section, by the window
 abbrev middle : App → ℕ → ℕ → ℕ → List Line
-middle app task level full = take 6 (drop 1 (take_code app task level 0 full))
+middle app task threshold full = take 6 (drop 1 (take_code app task threshold 0 full))
 
-module _ {z : Setting} {f : Frame 9 8} {h : Here} {task level full : ℕ} {t : Task}
-    (may : MayTake z f h task level full t) where
+module _ {z : Setting} {f : Frame 9 8} {h : Here} {task threshold full : ℕ} {t : Task}
+    (may : MayTake z f h task threshold full t) where
   abbrev places : Section
   places = section.Free task
 
@@ -66,8 +66,8 @@ module _ {z : Setting} {f : Frame 9 8} {h : Here} {task level full : ℕ} {t : T
   count_home = let e : free_at z.app task ≡ free_at z.app task + 0 = omega arith in
       ap (home_of z.app) e ∙ free_home 0 (omega arith)
 
-  opens : is_open (opened z f places level ∷ h.held) places ≡ true
-  opens = is_inside z.app z.who h.held (opened z f places level) places refl
+  opens : is_open (opened z f places threshold ∷ h.held) places ≡ true
+  opens = is_inside z.app z.who h.held (opened z f places threshold) places refl
 
   -- the cell of the count, where the section is open
   counts : {g : Here} → is_open g.held places ≡ true → length g.cells ≡ length (memory z.app)
@@ -75,7 +75,7 @@ module _ {z : Setting} {f : Frame 9 8} {h : Here} {task level full : ℕ} {t : T
   counts inside long = record { opens = inside; long = long; home = count_home }
 
   module _ {vs ws : Values} {cells : List ℕ} {queues : Holder → List Entry}
-      (taken : TakesOver (storage z.app) z.who places (passed (spot z h)) vs ws cells queues) where
+      (taken : TakesOver (storage z.app) z.who places (spot_after_step (spot z h)) vs ws cells queues) where
     -- the place was nobody's own
     was_free : (e : Entry) (others : List Entry) → queues (Guarded places) ≡ e ∷ others → mine (spot z h) e ≡ 0
     was_free e others are =
@@ -101,12 +101,12 @@ module _ {z : Setting} {f : Frame 9 8} {h : Here} {task level full : ℕ} {t : T
     long = taken.same.long ∙ may.long
 
     granted_stands : {doing : Doing Values} {rest : Rest} {e : Entry} {es : List Entry} (a : Arguments) (s : Scratch)
-        → queues (Guarded places) ≡ e ∷ es → doing ≡ act_all (Takes task ∷ Leaves places ∷ []) rest ws
+        → queues (Guarded places) ≡ e ∷ es → doing ≡ act_all (Places task ∷ Leaves places ∷ []) rest ws
         → ((r : Scratch) (left : List ℕ) (more : Holder → List Entry) (us : Values)
         → HasTaken z h task vs e left more us
         → S z (Now f (with_place h e left more (rest us)) (words a (record r { word = e.place }))))
-        → Straight z f (drop 1 (take_code z.app task level 0 full))
-        (within h (opened z f places level) FREE_COST cells queues doing) (words a s)
+        → Straight z f (drop 1 (take_code z.app task threshold 0 full))
+        (within h (opened z f places threshold) FREE_COST cells queues doing) (words a s)
     granted_stands {e = e} {es = others} a s are is on =
         let spells = spelled (e ∷ others) are in
         let room = spells.room in
@@ -131,7 +131,7 @@ module _ {z : Setting} {f : Frame 9 8} {h : Here} {task level full : ℕ} {t : T
         let content : Content = Number (number (us (Guarded places)) + 1) in
         let content_is : Number (number (ws (Guarded places)) + 1) ≡ content =
         ap (λ c. Number (number c + 1)) (sym (agree (Guarded places) (reads_it tt may.enter taken))) in
-        leaves level refl refl refl
+        leaves threshold refl refl refl
         (spelled_put z.app (slice_index left) others content queues us places
         (free_back _ _ _ taken.spelled
         (subst (λ (c : Content). SpellsFree z.app (slice_index left) task others c) content_is
@@ -147,36 +147,36 @@ module _ {z : Setting} {f : Frame 9 8} {h : Here} {task level full : ℕ} {t : T
         })))))))))
 
     none_found : {doing : Doing Values} (a : Arguments) (s : Scratch) → queues (Guarded places) ≡ []
-        → ((r : Scratch) → S z (Now f (at_full h (opened z f places level) full cells queues doing) (words a r)))
-        → Straight z f (drop 1 (take_code z.app task level 0 full))
-        (within h (opened z f places level) FREE_COST cells queues doing) (words a s)
+        → ((r : Scratch) → S z (Now f (at_full h (opened z f places threshold) full cells queues doing) (words a r)))
+        → Straight z f (drop 1 (take_code z.app task threshold 0 full))
+        (within h (opened z f places threshold) FREE_COST cells queues doing) (words a s)
     none_found a s are on =
         loads 0 (reads_open (counts opens long) (spelled [] are).count) (jumps_off refl (on (record s { count = 0 })))
 
     -- there a note says so, and the section closes
     pub refused_stands : {rest : Rest} (a : Arguments) (s : Scratch)
-        → HasCode z.code full (drop 2 (end_code z.app task level f.slot (full + 2)))
+        → HasCode z.code full (drop 2 (end_code z.app task threshold f.slot (full + 2)))
         → ((us : Values) → LeavesMine (storage z.app) z.who (spot z h) cells queues
         → Agree (storage z.app) z.who h.held us vs
         → S z (Now f
         (record (ahead 5 h) { at = suc (suc full); cells = cells; queues = queues; rest = rest us })
         (words (record a { first = 0 }) s)))
-        → S z (Now f (at_full h (opened z f places level) full cells queues
-        (act_all (Refuses task ∷ Leaves places ∷ []) rest ws)) (words a s))
+        → S z (Now f (at_full h (opened z f places threshold) full cells queues
+        (act_all (FindsFull task ∷ Leaves places ∷ []) rest ws)) (words a s))
     refused_stands {rest = rest} a s has on =
         let free = (target_of z.app task).guard in
         let g : Here =
-        at_full h (opened z f places level) full cells queues (act_all (Refuses task ∷ Leaves places ∷ []) rest ws) in
+        at_full h (opened z f places threshold) full cells queues (act_all (FindsFull task ∷ Leaves places ∷ []) rest ws) in
         let zeroth : f.slot ≡ f.slot + 0 = omega arith in
-        let full_there = has.0 ∙ ap (λ d. Some (noted (instr.Set d 0) (note.Full task))) zeroth in
-        let leave_there = has.1.0 ∙ ap Some (sym (leave_placed places free level 8 f.slot)) in
+        let full_there = has.0 ∙ ap (λ d. Some (line_with_note (instr.Set d 0) (note.Full task))) zeroth in
+        let leave_there = has.1.0 ∙ ap Some (sym (leave_placed places free threshold 8 f.slot)) in
         let around = lasts_less (steps_and 3 h.done + 2) (h.done + 8) h.deadlines (omega arith) may.time.1 in
         let times : InTime (steps_and 3 h.done + 2) g = (omega (arith, may.time.0), (omega arith, around)) in
-        let fits = leave_fits places free level 8 9 8 in
-        let run : Straight z f (drop 2 (end_code z.app task level 0 (full + 2))) g (words a s) =
+        let fits = leave_fits places free threshold 8 9 8 in
+        let run : Straight z f (drop 2 (end_code z.app task threshold 0 (full + 2))) g (words a s) =
         refuses opens refl
         (λ us agree.
-        leaves level refl refl refl
+        leaves threshold refl refl refl
         (subst (λ (c : Content).
         (storage z.app).Spells (Guarded places) (slice_index cells) (queues (Guarded places)) c)
         (sym (agree (Guarded places) (reads_it tt may.enter taken)))
@@ -186,7 +186,7 @@ module _ {z : Setting} {f : Frame 9 8} {h : Here} {task level full : ℕ} {t : T
         (record { long = taken.same.long; touched = taken.same.touched; queued = taken.same.queued })
         (λ holder read.
         agree2 holder read
-        ∙ agree holder (reads_more (storage z.app) z.who (opened z f places level) h.held holder read)
+        ∙ agree holder (reads_more (storage z.app) z.who (opened z f places threshold) h.held holder read)
         ∙ taken.agree holder read)))) in
         run.runs
         (record { time = times; saves = saves_inside may.enter; long = refl; fit = rw fits refl })
@@ -213,31 +213,31 @@ module _ {z : Setting} {f : Frame 9 8} {h : Here} {task level full : ℕ} {t : T
       → HasTaken z h task vs e cells queues us
       → S z (Now f (with_place h e cells queues (granted us)) (words a (record r { word = e.place }))))
       → ((r : Scratch) (cells : List ℕ) (queues : Holder → List Entry) (us : Values)
-      → TakesOver (storage z.app) z.who places (passed (spot z h)) vs us cells queues
-      → S z (Now f (at_full h (opened z f places level) full cells queues
-      (act_all (Refuses task ∷ Leaves places ∷ []) refused us)) (words a r)))
+      → TakesOver (storage z.app) z.who places (spot_after_step (spot z h)) vs us cells queues
+      → S z (Now f (at_full h (opened z f places threshold) full cells queues
+      (act_all (FindsFull task ∷ Leaves places ∷ []) refused us)) (words a r)))
       → S z (Now f h (words a s))
   take_begins {granted = granted} {refused = refused} {vs = vs} a s is on off =
-      section_stands (words a s) (middle z.app task level full) may.enter refl refl may.time may.code
+      section_stands (words a s) (middle z.app task threshold full) may.enter refl refl may.time may.code
       (enters may.enter (omega arith) is
       (λ m ws cells queues taken. chosen m ws cells queues taken (queues (Guarded places)) refl))
     where
       follow : Values → Bool → Doing Values
       follow ws b =
-          if b then act_all (Takes task ∷ Leaves places ∷ []) granted ws
-          else act_all (Refuses task ∷ Leaves places ∷ []) refused ws
+          if b then act_all (Places task ∷ Leaves places ∷ []) granted ws
+          else act_all (FindsFull task ∷ Leaves places ∷ []) refused ws
 
       chosen : (m : ℕ) (ws : Values) (cells : List ℕ) (queues : Holder → List Entry)
-          (taken : TakesOver (storage z.app) z.who places (passed (spot z h)) vs ws cells queues)
+          (taken : TakesOver (storage z.app) z.who places (spot_after_step (spot z h)) vs ws cells queues)
           (entries : List Entry) → queues (Guarded places) ≡ entries
-          → Straight z f (drop 1 (take_code z.app task level 0 full))
-          (within h (opened z f places level) FREE_COST cells queues (follow ws (has_place z.app task ws)))
+          → Straight z f (drop 1 (take_code z.app task threshold 0 full))
+          (within h (opened z f places threshold) FREE_COST cells queues (follow ws (has_place z.app task ws)))
           (words a (record s { mask = m }))
       chosen m ws cells queues taken [] are =
           none_found taken a (record s { mask = m }) are
           (λ r.
           subst (λ (doing : Doing Values).
-          S z (Now f (at_full h (opened z f places level) full cells queues doing) (words a r)))
+          S z (Now f (at_full h (opened z f places threshold) full cells queues doing) (words a r)))
           (sym (ap (follow ws) (none_left taken are))) (off r cells queues ws taken))
       chosen m ws cells queues taken (e ∷ others) are =
           granted_stands taken a (record s { mask = m }) are (ap (follow ws) (place_left taken e others are))

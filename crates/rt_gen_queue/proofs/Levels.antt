@@ -1,7 +1,7 @@
 -- The ready queue of a level, as a plan has it in its tables.
 use Rattle.rt_gen_queue.proofs.Vocabulary.{App, Bool, Ceilings, Contains, IsAccepted, IsPlan, Layout, List, None, Plan}
 use Rattle.rt_gen_queue.proofs.Vocabulary.{Some, Task, [], accepted_are_sound, ap, app_of, arith, ceiling, cond}
-use Rattle.rt_gen_queue.proofs.Vocabulary.{eqb-true, false, filter, get_or, guarded, if◌then◌else◌, inl, inr}
+use Rattle.rt_gen_queue.proofs.Vocabulary.{eqb-true, false, filter, get_or, guard_of_ceiling, if◌then◌else◌, inl, inr}
 use Rattle.rt_gen_queue.proofs.Vocabulary.{irq_number, is_of_level, is_some, length, levels, ltb-true, map, mapped_at}
 use Rattle.rt_gen_queue.proofs.Vocabulary.{nat_lt, option_map, or_zero, position, queue_at, ready_at, refl, slice_get}
 use Rattle.rt_gen_queue.proofs.Vocabulary.{slice_get-get_or, slice_index, suc, sum_by, sum_by-cons, task_of, then_from}
@@ -33,7 +33,7 @@ room_first p t ts =
 abbrev pub row : App → ℕ → ReadyCeiling
 row app p = record { level = p; ceiling = ceiling app (section.Ready p) }
 
--- the place of a level among those of the tables, and the ceiling that they have for it
+-- the index of a level among those of the tables, and the ceiling that they have for it
 abbrev pub place_in : List ReadyCeiling → ℕ → ℕ
 place_in queues p = or_zero (position (λ r. r.level == p) queues)
 
@@ -56,7 +56,7 @@ position_there app p ps is =
         slice_get-get_or ps k 0 less ∙ ap Some (eqb-true (get_or ps k 0) p (passes_at_first (λ q. q == p) ps 0 less))
     go false within some = absurd cc
 
--- what is made of the levels, at the place of a level
+-- what is made of the levels, at the index of a level
 pub made_at_level : (app : App) (p : ℕ) (f : ℕ → ℕ) (ps : List ℕ) → Contains ps p
     → slice_index (map f ps) (place_in (map (row app) ps) p) ≡ f p
 made_at_level app p f ps is = read_at f ps (place_in (map (row app) ps) p) p 0 (position_there app p ps is)
@@ -83,7 +83,7 @@ queue_read plan p = record {
   level = p;
   at = slice_index plan.lay.ready (place_in plan.ceil.ready p);
   room = room_of p plan.app.now.tasks.items;
-  guard = guarded plan.app.now.bits (top_in plan.ceil.ready p);
+  guard = guard_of_ceiling plan.app.now.bits (top_in plan.ceil.ready p);
   irq = or_zero (then_from
       (option_map (λ d. d.irq)
       (slice_get (app_of plan.app.now).dispatchers (length (filter (λ r. nat_lt p r.level) plan.ceil.ready))))

@@ -47,27 +47,27 @@ level_declared app task t facts =
     dispatcher_named app (task_priority app task) facts.accepted
     (subst (λ q. Contains (levels app) q) (sym (priority app task t facts)) (known app task t facts))
 
-pub fill_claimed : (names : Names) (c : Target) (level slot : ℕ) → AreClaimed names (fill_lines c level slot)
-fill_claimed names c level slot =
+pub fill_claimed : (names : Names) (c : Target) (threshold slot : ℕ) → AreClaimed names (fill_lines c threshold slot)
+fill_claimed names c threshold slot =
     claimed_both names (store_code c.args c.inputs slot 0)
     (plain (instr.Set (slot + 7) (16 * c.task)) ∷ plain (instr.Calc op.Add (slot + 6) (slot + 6) (slot + 7)) ∷ [])
     (claimed_each names (λ j. plain (instr.StoreAt (c.inputs + j) (slot + 7) (slot + j))) (range_with_len 0 c.args)
     (λ j. tt)) tt
 
-pub spawn_claimed : (app : App) (task : ℕ) (t : Task) → Spawned app task t → (level slot at : ℕ)
-    → AreClaimed (names_of app) (spawn_code app task level slot at)
-spawn_claimed app task t facts level slot at =
+pub spawn_claimed : (app : App) (task : ℕ) (t : Task) → Spawned app task t → (threshold slot at : ℕ)
+    → AreClaimed (names_of app) (spawn_code app task threshold slot at)
+spawn_claimed app task t facts threshold slot at =
     let c : Target = target_of app task in
     let ready : Section = section.Ready c.queue.level in
     let has = task_declared app task t facts in
     let irq = level_declared app task t facts in
-    let enter = enter_named (names_of app) (section.Free task) c.guard level (slot + 8) has in
-    let leave = leave_named (names_of app) (section.Free task) c.guard level (slot + 8) has in
-    let into = enter_named (names_of app) ready c.queue.guard level (slot + 8) tt in
-    let out_of = leave_named (names_of app) ready c.queue.guard level (slot + 8) tt in
+    let enter = enter_named (names_of app) (section.Free task) c.guard threshold (slot + 8) has in
+    let leave = leave_named (names_of app) (section.Free task) c.guard threshold (slot + 8) has in
+    let into = enter_named (names_of app) ready c.queue.guard threshold (slot + 8) tt in
+    let out_of = leave_named (names_of app) ready c.queue.guard threshold (slot + 8) tt in
     let last =
-    claimed_both (names_of app) (fill_lines c level slot)
-    (ready_lines c level slot ++ end_lines c level slot (at + (26 + c.args) + 2))
-    (fill_claimed (names_of app) c level slot)
+    claimed_both (names_of app) (fill_lines c threshold slot)
+    (ready_lines c threshold slot ++ end_lines c threshold slot (at + (26 + c.args) + 2))
+    (fill_claimed (names_of app) c threshold slot)
     (into, (record { instr = tt; note = has }, (irq, (out_of, (record { instr = tt; note = has }, (leave, tt))))))
     in (enter, (record { instr = tt; note = has }, (leave, last)))

@@ -1,10 +1,10 @@
 -- What a job owns of the queues: their cells where their section is opens, and nothing of them where it is not.
-use Rattle.rt_gen_queue.proofs.Vocabulary.{Agree, App, At, AtLevel, Bool, Content, Entry, Guarded, Held, Holder, Home}
+use Rattle.rt_gen_queue.proofs.Vocabulary.{Agree, App, At, AtPriority, Bool, Content, Entry, Guarded, Held, Holder, Home}
 use Rattle.rt_gen_queue.proofs.Vocabulary.{In, LeavesMine, List, MayLoad, MayStore, NobodyKeeps, Own, Runner, Section}
 use Rattle.rt_gen_queue.proofs.Vocabulary.{SpellsFree, SpellsReady, SpellsTimer, Spot, Starting, Values, ap, count}
 use Rattle.rt_gen_queue.proofs.Vocabulary.{false, home_of, if◌then◌else◌, inl, inr, is_open, is_same_holder}
 use Rattle.rt_gen_queue.proofs.Vocabulary.{is_same_section, length, memory, one_section, or_left, owns_open, owns_reads}
-use Rattle.rt_gen_queue.proofs.Vocabulary.{put_at, reads, reads_more, refl, same_section, slice_get_within, slice_index}
+use Rattle.rt_gen_queue.proofs.Vocabulary.{values_with, reads, reads_more, refl, same_section, slice_get_within, slice_index}
 use Rattle.rt_gen_queue.proofs.Vocabulary.{storage, subst, sym, true, with_queue, ℕ, ◌<◌, ◌||◌, ◌∙◌, ◌∷◌, ◌≡◌, ◌≢◌}
 use Rattle.std.proofs.lemmas.Bool.{cases_Bool}
 use Rattle.rt_lemmas.proofs.{Bools.or_neither, Places.at_read}
@@ -25,15 +25,15 @@ no_ones : (app : App) (who : Runner) (x : Section) → IsQueue x → ((storage a
 unfolding storage
 no_ones app who (section.Res r) queue = absurd queue
 no_ones app Starting (section.Free n) queue = (refl, refl)
-no_ones app (AtLevel p) (section.Free n) queue = (refl, refl)
+no_ones app (AtPriority p) (section.Free n) queue = (refl, refl)
 no_ones app Starting (section.Ready p) queue = (refl, refl)
-no_ones app (AtLevel q) (section.Ready p) queue = (refl, refl)
+no_ones app (AtPriority q) (section.Ready p) queue = (refl, refl)
 no_ones app Starting section.Timer queue = (refl, refl)
-no_ones app (AtLevel q) section.Timer queue = (refl, refl)
+no_ones app (AtPriority q) section.Timer queue = (refl, refl)
 
 pub nobody_keeps : (app : App) (who runner : Runner) (x : Section) → IsQueue x → NobodyKeeps (storage app) who runner x
 nobody_keeps app who Starting x queue = (no_ones app Starting x queue).0
-nobody_keeps app who (AtLevel p) x queue = λ q. no_ones app (AtLevel q) x queue
+nobody_keeps app who (AtPriority p) x queue = λ q. no_ones app (AtPriority q) x queue
 
 pub home_as : (app : App) (c : ℕ) → (storage app).home c ≡ home_of app c
 unfolding storage
@@ -144,7 +144,7 @@ module _ (app : App) (who : Runner) where
         | inr differs ↦ differs
       ]
 
-  pub put_here : (vs : Values) (x : Section) (content : Content) → put_at vs (Guarded x) content (Guarded x) ≡ content
+  pub put_here : (vs : Values) (x : Section) (content : Content) → values_with vs (Guarded x) content (Guarded x) ≡ content
   put_here vs x content = ap (λ (b : Bool). if b then content else vs (Guarded x)) (same_section x)
 
   pub queue_here : (queues : Holder → List Entry) (x : Section) (entries : List Entry)
@@ -155,9 +155,9 @@ module _ (app : App) (who : Runner) where
 pub spelled_put : (app : App) (cells : ℕ → ℕ) (entries : List Entry) (content : Content) (queues : Holder → List Entry)
     (us : Values) (x : Section) → (storage app).Spells (Guarded x) cells entries content
     → (storage app).Spells (Guarded x) cells (with_queue queues x entries (Guarded x))
-    (put_at us (Guarded x) content (Guarded x))
+    (values_with us (Guarded x) content (Guarded x))
 spelled_put app cells entries content queues us x spells =
-    subst (λ (es : List Entry). (storage app).Spells (Guarded x) cells es (put_at us (Guarded x) content (Guarded x)))
+    subst (λ (es : List Entry). (storage app).Spells (Guarded x) cells es (values_with us (Guarded x) content (Guarded x)))
     (sym (queue_here app Starting queues x entries))
     (subst (λ (c : Content). (storage app).Spells (Guarded x) cells entries c)
     (sym (put_here app Starting us x content)) spells)
@@ -166,7 +166,7 @@ module _ (z : Setting) where
   -- values behind a section: what may be read without it is as it was
   pub agree_out : {after us ws : Values} (held : List Held) (h : Held) (x : Section) (content : Content)
       → reads (storage z.app) z.who held (Guarded x) ≡ false
-      → Agree (storage z.app) z.who held after (put_at us (Guarded x) content)
+      → Agree (storage z.app) z.who held after (values_with us (Guarded x) content)
       → Agree (storage z.app) z.who (h ∷ held) us ws → Agree (storage z.app) z.who held after ws
   agree_out {us = us} held h x content none last inner holder may =
       last holder may

@@ -41,9 +41,9 @@ stores_long count cell slot from = length-map-range_with_len _ from count
 pub fill_long : (app : App) (task slot : ℕ) → length (fill_code app task slot) ≡ 4 + arguments_of app task
 fill_long app task slot = simp (length-append, length-map-range_with_len) (omega arith)
 
-pub spawn_long : (app : App) (task level slot at : ℕ)
-    → length (spawn_code app task level slot at) ≡ 28 + arguments_of app task
-spawn_long app task level slot at = simp (length-append, length-map-range_with_len) (omega arith)
+pub spawn_long : (app : App) (task threshold slot at : ℕ)
+    → length (spawn_code app task threshold slot at) ≡ 28 + arguments_of app task
+spawn_long app task threshold slot at = simp (length-append, length-map-range_with_len) (omega arith)
 
 -- a line that stores an argument, and one more of them
 abbrev pub store_line : ℕ → ℕ → ℕ → Line

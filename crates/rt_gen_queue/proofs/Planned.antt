@@ -1,6 +1,6 @@
 -- What a spawn is made of, as a plan has it in its tables.
 use Rattle.rt_gen_queue.proofs.Vocabulary.{App, Bool, Ceilings, IsAccepted, IsPlan, Layout, Line, List, None, Option}
-use Rattle.rt_gen_queue.proofs.Vocabulary.{Plan, Some, Task, [], ap, app_of, arith, ceiling, free_at, guarded}
+use Rattle.rt_gen_queue.proofs.Vocabulary.{Plan, Some, Task, [], ap, app_of, arith, ceiling, free_at, guard_of_ceiling}
 use Rattle.rt_gen_queue.proofs.Vocabulary.{if◌then◌else◌, inputs_at, is_software, layout, lt-ltb, nat_lt, none-some}
 use Rattle.rt_gen_queue.proofs.Vocabulary.{or_zero, queue_at, same_Some, slice_get, slice_index, suc, sym, then_from}
 use Rattle.rt_gen_queue.proofs.Vocabulary.{true, zero, ℕ, ◌&&◌, ◌+◌, ◌<◌, ◌^◌, ◌∙◌, ◌∷◌, ◌≡◌, ◌≤◌}
@@ -50,7 +50,7 @@ free_top_is app n (u ∷ ts) (suc i) t there software =
     free_top_is app (n + 1) ts i t there software ∙ ap (λ k. ceiling app (section.Free k)) e
 
 -- the ceiling 0 masks nothing
-pub no_guard : (bits top : ℕ) → 3 ≤ bits → bits ≤ 7 → top ≡ 0 → record { ceiling = top; value = 256 } ≡ guarded bits top
+pub no_guard : (bits top : ℕ) → 3 ≤ bits → bits ≤ 7 → top ≡ 0 → record { ceiling = top; value = 256 } ≡ guard_of_ceiling bits top
 no_guard bits top few many e =
     ap (λ value. record { ceiling = top; value = value })
     (sym (tells_priorities.none bits few many) ∙ ap (hardware bits) (sym e))
@@ -86,7 +86,7 @@ module _ {plan : Plan} (task : ℕ) {t : Task} (accepted : IsAccepted (app_of pl
     args = t.args;
     free = slice_index plan.lay.free task;
     inputs = slice_index plan.lay.inputs task;
-    guard = guarded plan.app.now.bits top_read;
+    guard = guard_of_ceiling plan.app.now.bits top_read;
     queue = queue_at of_plan t.priority;
   }
 

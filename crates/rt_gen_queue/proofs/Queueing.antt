@@ -3,7 +3,7 @@ use Rattle.rt_gen_queue.proofs.Vocabulary.{Agree, At, Contains, Content, Entry, 
 use Rattle.rt_gen_queue.proofs.Vocabulary.{LeavesMine, List, Marked, MayLoad, Message, Messages, Posts, Readies, Rest}
 use Rattle.rt_gen_queue.proofs.Vocabulary.{Section, SpellsReady, TakesOver, Values, [], act_all, ap, arith, count}
 use Rattle.rt_gen_queue.proofs.Vocabulary.{count_more, dispatcher_number, drop, home_of, is_open, length, levels}
-use Rattle.rt_gen_queue.proofs.Vocabulary.{memory, message_at, message_word, messages, mine, one_itself, passed}
+use Rattle.rt_gen_queue.proofs.Vocabulary.{memory, message_at, message_word, messages, mine, one_itself, spot_after_step}
 use Rattle.rt_gen_queue.proofs.Vocabulary.{queued_more, reads_more, ready_actions, ready_at, ready_code, ready_is_home}
 use Rattle.rt_gen_queue.proofs.Vocabulary.{ready_room, refl, slice_index, storage, subst, sym, take, true, with_queue}
 use Rattle.rt_gen_queue.proofs.Vocabulary.{ℕ, ◌%◌, ◌++◌, ◌+◌, ◌<◌, ◌∙◌, ◌∷◌, ◌≡◌, ◌≤◌}
@@ -28,13 +28,13 @@ pub record HasMessage (z : Setting) (h : Here) (p task : ℕ) (e : Entry) (other
   pub message : message_at z.app (slice_index h.cells) e ≡ m
   pub long : length h.cells ≡ length (memory z.app)
 
-pub record MayReady (z : Setting) (f : Frame 9 8) (h : Here) (task p level : ℕ) (e : Entry) (others : List Entry)
+pub record MayReady (z : Setting) (f : Frame 9 8) (h : Here) (task p threshold : ℕ) (e : Entry) (others : List Entry)
     (m : Message) : Type 0 where
   pub known : Contains (levels z.app) p
   pub few : ready_room z.app p ≤ 1024
-  pub code : HasCode z.code h.at (ready_code z.app task p level f.slot)
+  pub code : HasCode z.code h.at (ready_code z.app task p threshold f.slot)
   pub time : InTime (h.done + 12) h
-  pub enter : MayEnter z f h (section.Ready p) level
+  pub enter : MayEnter z f h (section.Ready p) threshold
   pub hands : HasMessage z h p task e others m
 
 pub record HasReadied (z : Setting) (h : Here) (vs : Values) (cells : List ℕ) (queues : Holder → List Entry)
@@ -42,8 +42,8 @@ pub record HasReadied (z : Setting) (h : Here) (vs : Values) (cells : List ℕ) 
   pub own : LeavesMine (storage z.app) z.who (spot z h) cells queues
   pub agree : Agree (storage z.app) z.who h.held us vs
 
-module _ {z : Setting} {f : Frame 9 8} {h : Here} {task p level : ℕ} {e : Entry} {others : List Entry} {m : Message}
-    (may : MayReady z f h task p level e others m) where
+module _ {z : Setting} {f : Frame 9 8} {h : Here} {task p threshold : ℕ} {e : Entry} {others : List Entry} {m : Message}
+    (may : MayReady z f h task p threshold e others m) where
   abbrev ring : Section
   ring = section.Ready p
 
@@ -59,8 +59,8 @@ module _ {z : Setting} {f : Frame 9 8} {h : Here} {task p level : ℕ} {e : Entr
   head_home : home_of z.app first ≡ At (Guarded ring)
   head_home = let e : first ≡ first + 0 = omega arith in ap (home_of z.app) e ∙ ring_home 0 (omega arith)
 
-  opens : is_open (opened z f ring level ∷ h.held) ring ≡ true
-  opens = is_inside z.app z.who h.held (opened z f ring level) ring refl
+  opens : is_open (opened z f ring threshold ∷ h.held) ring ≡ true
+  opens = is_inside z.app z.who h.held (opened z f ring threshold) ring refl
 
   -- a cell of the ring, where the section is open
   of_ring : {g : Here} {c : ℕ} → home_of z.app c ≡ At (Guarded ring) → is_open g.held ring ≡ true
@@ -68,7 +68,7 @@ module _ {z : Setting} {f : Frame 9 8} {h : Here} {task p level : ℕ} {e : Entr
   of_ring home inside long = record { opens = inside; long = long; home = home }
 
   module _ {vs ws : Values} {cells : List ℕ} {queues : Holder → List Entry}
-      (taken : TakesOver (storage z.app) z.who ring (passed (spot z h)) vs ws cells queues) where
+      (taken : TakesOver (storage z.app) z.who ring (spot_after_step (spot z h)) vs ws cells queues) where
     -- inside, what is in the hands is in no list
     all_once : (y : Entry) → count y (e ∷ queues (Guarded ring)) ≤ 1
     all_once y =
@@ -79,11 +79,11 @@ module _ {z : Setting} {f : Frame 9 8} {h : Here} {task p level : ℕ} {e : Entr
     -- and its arguments are as they were stored
     message_left : message_at z.app (slice_index cells) e ≡ m
     message_left =
-        let some : 0 < mine (passed (spot z h)) e =
+        let some : 0 < mine (spot_after_step (spot z h)) e =
         omega (arith, count_more e e others, one_itself e, ap (count e) may.hands.hands) in
         message_alike z.app p (slice_index cells) (slice_index h.cells) e may.hands.place
         (λ c is. taken.same.touched c
-        (subst (λ (home : Home). MayLoad (storage z.app) z.who (passed (spot z h)) home) (sym (home_as z.app c ∙ is))
+        (subst (λ (home : Home). MayLoad (storage z.app) z.who (spot_after_step (spot z h)) home) (sym (home_as z.app c ∙ is))
         some))
         ∙ may.hands.message
 
@@ -94,8 +94,8 @@ module _ {z : Setting} {f : Frame 9 8} {h : Here} {task p level : ℕ} {e : Entr
         → ((r : Scratch) (left : List ℕ) (more : Holder → List Entry) (us : Values) → HasReadied z h vs left more us
         → S z
         (Now f (record (ahead 12 h) { places = others; cells = left; queues = more; rest = rest us }) (words a r)))
-        → Straight z f (drop 1 (ready_code z.app task p level 0))
-        (within h (opened z f ring level) READY_COST cells queues
+        → Straight z f (drop 1 (ready_code z.app task p threshold 0))
+        (within h (opened z f ring threshold) READY_COST cells queues
         (act_all (Readies p m ∷ Posts (dispatcher_number z.app p) ∷ Leaves ring ∷ []) rest ws))
         (words a (record s { word = message_word e }))
     readied_stands a s on =
@@ -142,7 +142,7 @@ module _ {z : Setting} {f : Frame 9 8} {h : Here} {task p level : ℕ} {e : Entr
         ready_back _ _ _ taken.spelled
         (subst (λ (c : Content). SpellsReady z.app (slice_index left) p (entries ++ e ∷ []) c) content_is
         (ready_put puts)) in
-        leaves level refl refl refl
+        leaves threshold refl refl refl
         (subst (λ (es : List Entry). (storage z.app).Spells (Guarded ring) (slice_index left) es (us2 (Guarded ring)))
         (sym (queue_here z.app z.who queues ring (entries ++ e ∷ []))) given)
         (λ after agree3.
@@ -157,7 +157,7 @@ module _ {z : Setting} {f : Frame 9 8} {h : Here} {task p level : ℕ} {e : Entr
           agree =
               agree_left tt may.enter taken new
               (λ holder read.
-              agree3 holder read ∙ agree2 holder (reads_more (storage z.app) z.who (opened z f ring level) h.held
+              agree3 holder read ∙ agree2 holder (reads_more (storage z.app) z.who (opened z f ring threshold) h.held
               holder read)) agree;
         })))))))))))))
 
@@ -167,7 +167,7 @@ module _ {z : Setting} {f : Frame 9 8} {h : Here} {task p level : ℕ} {e : Entr
       → S z (Now f (record (ahead 12 h) { places = others; cells = left; queues = more; rest = rest us }) (words a r)))
       → S z (Now f h (words a (record s { word = message_word e })))
   ready_stands a s is on =
-      section_stands (words a (record s { word = message_word e })) (take 10 (drop 1 (ready_code z.app task p level 0)))
+      section_stands (words a (record s { word = message_word e })) (take 10 (drop 1 (ready_code z.app task p threshold 0)))
       may.enter refl refl may.time may.code
       (enters may.enter (omega arith) is
       (λ mask vs cells queues taken. readied_stands taken a (record s { mask = mask }) on))

@@ -2,7 +2,7 @@
 use Rattle.rt_gen_queue.proofs.Vocabulary.{Agree, AllByRecursion, App, At, Content, Doing, Entry, Frees, Guarded, Line}
 use Rattle.rt_gen_queue.proofs.Vocabulary.{List, Number, Some, SpellsFree, Task, Values, [], ap, arith, capacity_is}
 use Rattle.rt_gen_queue.proofs.Vocabulary.{capacity_of, count, count_more, does, effect, free_at, free_is_home, home_of}
-use Rattle.rt_gen_queue.proofs.Vocabulary.{is_open, length, memory, noted, number, refl, same_Some, slice_get}
+use Rattle.rt_gen_queue.proofs.Vocabulary.{is_open, length, memory, line_with_note, number, refl, same_Some, slice_get}
 use Rattle.rt_gen_queue.proofs.Vocabulary.{slice_get_within, slice_index, slice_set, storage, subst, suc, true}
 use Rattle.rt_gen_queue.proofs.Vocabulary.{with_queue, zero, ℕ, ◌+◌, ◌-◌, ◌<◌, ◌∙◌, ◌∷◌, ◌≡◌, ◌≢◌, ◌≤◌}
 use Rattle.rt_ids.specs.declared.ids.Section.TheVariants as section
@@ -27,7 +27,7 @@ module _ {size mask : ℕ} {z : Setting} {f : Frame size mask} {lines : List Lin
       → ((left : List ℕ) (vs : Values) → Wrote c value h.cells left → Agree (storage z.app) z.who h.held vs values
       → Straight z f lines (behind_line h others left
       (with_queue h.queues (section.Free t) (e ∷ h.queues (Guarded (section.Free t)))) (rest (effect (Frees t) vs))) ws)
-      → Straight z f (noted (instr.Store c x) (note.Free t) ∷ lines) h ws
+      → Straight z f (line_with_note (instr.Store c x) (note.Free t) ∷ lines) h ws
   frees {c = c} {x = x} {t = t} {e = e} {others = others} {values = values} {rest = rest} value is writes gives on =
       by_noted (λ run has.
       let from = first_fits run in

@@ -20,7 +20,7 @@ use Rattle.rt_gen_queue.proofs.Words.{Arguments, Scratch, listed, words}
 use Rattle.rt_gen_queue.specs.Spawning.{SpawnsStand}
 
 pub spawn_stands : SpawnsStand
-spawn_stands app task t code bodies thread who level slot n k s value args place rest vs accepted at software has may
+spawn_stands app task t code bodies thread who threshold slot n k s value args place rest vs accepted at software has may
     fuel words_are is on =
     begins {z = z} s k
     (subst (λ (slots : List ℕ). S z (record h { slots = slots })) (sym (framed 9 8 s.slots slot long))
@@ -47,7 +47,7 @@ spawn_stands app task t code bodies thread who level slot n k s value args place
     f = frame_at 9 8 s.slots slot long
 
     lines : List Line
-    lines = spawn_code app task level slot s.address
+    lines = spawn_code app task threshold slot s.address
 
     count : ℕ
     count = arguments_of app task
@@ -62,17 +62,17 @@ spawn_stands app task t code bodies thread who level slot n k s value args place
     end = s.address + length lines
 
     end_at : full + 2 ≡ end
-    end_at = omega (arith, spawn_long app task level slot s.address)
+    end_at = omega (arith, spawn_long app task threshold slot s.address)
 
     ending : List Line
-    ending = end_code app task level slot (full + 2)
+    ending = end_code app task threshold slot (full + 2)
 
     readying : List Line
-    readying = ready_code app task (task_priority app task) level slot
+    readying = ready_code app task (task_priority app task) threshold slot
 
     has_fill : HasCode code (steps_and 8 s.address) (fill_code app task slot ++ (readying ++ ending))
     has_fill =
-        code_behind code s.address (steps_and 8 s.address) (take_code app task level slot full)
+        code_behind code s.address (steps_and 8 s.address) (take_code app task threshold slot full)
         (fill_code app task slot ++ (readying ++ ending)) (omega arith) has
 
     filled_to : ℕ
@@ -152,10 +152,10 @@ spawn_stands app task t code bodies thread who level slot n k s value args place
         outside d (inl less) = inl less
         outside d (inr more) = inr (omega arith)
 
-    may_take : MayTake z f h task level full t
+    may_take : MayTake z f h task threshold full t
     may_take = record {
       facts = facts;
-      code = code_front code s.address (take_code app task level slot full)
+      code = code_front code s.address (take_code app task threshold slot full)
           (fill_code app task slot ++ (readying ++ ending)) has;
       time = lasts 8 (omega arith);
       long = may.cells;
@@ -196,7 +196,7 @@ spawn_stands app task t code bodies thread who level slot n k s value args place
         (record {
           known = known app task t facts;
           few = few_ready app task t facts;
-          code = subst (λ q. HasCode code filled_to (ready_code app task q level slot)) p_is
+          code = subst (λ q. HasCode code filled_to (ready_code app task q threshold slot)) p_is
               (code_front code filled_to readying ending has_ready);
           time = lasts (steps_and (4 + count) 8 + 12) (omega (arith, soon, few));
           enter = record {

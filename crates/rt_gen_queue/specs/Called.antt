@@ -8,7 +8,7 @@ use Rattle.rt_ids.specs.Content.{Values}
 use Rattle.rt_ids.specs.Entry.{Entry}
 use Rattle.rt_ids.specs.Action.{Ends}
 use Rattle.rt_ids.specs.Doing.{Doing}
-use Rattle.rt_ids.specs.Storage.{AtLevel}
+use Rattle.rt_ids.specs.Storage.{AtPriority}
 use Rattle.rt_ids.specs.declared.ids.BodyId.TheVariants as body
 use Rattle.rt_app.specs.Tree.{Task, App}
 use Rattle.rt_app.specs.Level.{is_software}
@@ -53,7 +53,7 @@ pub record AreSpelled (app : App) (level : ℕ) (cells : List ℕ) (queues : Hol
   where
     pub long : length cells ≡ length (memory app)
     pub each : (h : Holder)
-        → ((storage app).is_kept (AtLevel level) h || (storage app).is_constant (AtLevel level) h) ≡ true
+        → ((storage app).is_kept (AtPriority level) h || (storage app).is_constant (AtPriority level) h) ≡ true
         → (storage app).Spells h (slice_index cells) (queues h) (vs h)
 
 -- A called body of a task of a level stands: where what is to be done behind its end stands within so many steps, at
@@ -64,12 +64,12 @@ CalledAtLevel app n level t code row =
     (bodies : List BodyRow) (thread steps : ℕ) (frame : List ℕ) (behind : Rest)
     → ((left : ℕ) (cells : List ℕ) (queues : Holder → List Entry) (vs : Values) → steps ≤ left
     → AreSpelled app level cells queues vs
-    → Stands (storage app) code bodies thread (AtLevel level) steps
+    → Stands (storage app) code bodies thread (AtPriority level) steps
     (calm left frame None (return_address frame) cells queues (behind vs)))
     → (left : ℕ) (slots cells : List ℕ) (queues : Holder → List Entry) (vs : Values)
     → body_cost (cost_measure app) t.body + steps ≤ left → length slots ≡ row.frame
     → AreSpelled app level cells queues vs
-    → Stands (storage app) code bodies thread (AtLevel level) (body_cost (cost_measure app) t.body + steps)
+    → Stands (storage app) code bodies thread (AtPriority level) (body_cost (cost_measure app) t.body + steps)
     (calm left slots (Some frame) row.entry cells queues
     (task_doing app n (take row.args slots) (act (Ends (body.Task n)) behind) vs))
 

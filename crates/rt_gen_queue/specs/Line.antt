@@ -15,8 +15,8 @@ abbrev pub plain : Instr → Line
 plain i = (i, None)
 
 -- a line with a note
-abbrev pub noted : Instr → Note → Line
-noted i told = (i, Some told)
+abbrev pub line_with_note : Instr → Note → Line
+line_with_note i told = (i, Some told)
 
 -- these lines stand in the code from an address on
 abbrev pub HasCode : List Line → ℕ → List Line → Type 0

@@ -31,7 +31,7 @@ module _ (app : App) where
 
   -- the lines that take a place of the task, or jump where none is left
   abbrev pub take_code : ℕ → ℕ → ℕ → ℕ → List Line
-  take_code task level slot full = take_lines (target_of task) level slot full
+  take_code task threshold slot full = take_lines (target_of task) threshold slot full
 
   -- the lines that write the arguments into the cells of the place, and make the word of the message
   abbrev pub fill_code : ℕ → ℕ → List Line
@@ -39,12 +39,12 @@ module _ (app : App) where
 
   -- the lines that put the message last into the ring of a level, and pend the level's dispatcher
   abbrev pub ready_code : ℕ → ℕ → ℕ → ℕ → List Line
-  ready_code task p level slot = ready_lines (target_at task p) level slot
+  ready_code task p threshold slot = ready_lines (target_at task p) threshold slot
 
   -- the lines of the two answers: 1 behind a message that was put, and 0 where no place was left
   abbrev pub end_code : ℕ → ℕ → ℕ → ℕ → List Line
-  end_code task level slot end = end_lines (target_of task) level slot end
+  end_code task threshold slot end = end_lines (target_of task) threshold slot end
 
   -- the code of a spawn, from an address on: 28 lines, and one for each argument
   abbrev pub spawn_code : ℕ → ℕ → ℕ → ℕ → List Line
-  spawn_code task level slot at = spawn_lines (target_of task) level slot at
+  spawn_code task threshold slot at = spawn_lines (target_of task) threshold slot at

@@ -7,7 +7,7 @@ use Rattle.rt_ids.specs.declared.ids.Section.TheVariants as section
 use Rattle.rt_ids.specs.declared.op.Op.TheVariants as op
 use Rattle.rt_code.specs.declared.instr.Instr.TheVariants as instr
 use Rattle.rt_code.specs.declared.instr.Note.TheVariants as note
-use Rattle.rt_gen_queue.specs.Line.{Line, plain, noted}
+use Rattle.rt_gen_queue.specs.Line.{Line, plain, line_with_note}
 use Rattle.rt_gen_queue.specs.Guards.{enter_line, leave_line}
 use Rattle.rt_gen_queue.specs.declared.target.Target.{Target}
 
@@ -18,18 +18,18 @@ store_code count cell slot from =
 
 -- The slots behind the arguments: a number of places or messages, a place in the ring, the place that is taken and then
 -- its message as a word, a number beside these, and what the mask was.
-module _ (c : Target) (level slot : ℕ) where
+module _ (c : Target) (threshold slot : ℕ) where
   -- a place of the task, or a jump where none is left
   abbrev pub take_lines : ℕ → List Line
   take_lines full =
-      enter_line (section.Free c.task) c.guard level (slot + 8)
+      enter_line (section.Free c.task) c.guard threshold (slot + 8)
       ∷ plain (instr.Load (slot + 4) c.free)
       ∷ plain (instr.JumpZ (slot + 4) full)
       ∷ plain (instr.Set (slot + 7) 1)
       ∷ plain (instr.Calc op.Sub (slot + 4) (slot + 4) (slot + 7))
       ∷ plain (instr.Store c.free (slot + 4))
-      ∷ noted (instr.LoadAt (slot + 6) (c.free + 1) (slot + 4)) (note.Placed c.task)
-      ∷ leave_line (section.Free c.task) c.guard level (slot + 8) ∷ []
+      ∷ line_with_note (instr.LoadAt (slot + 6) (c.free + 1) (slot + 4)) (note.Placed c.task)
+      ∷ leave_line (section.Free c.task) c.guard threshold (slot + 8) ∷ []
 
   -- the arguments go into the cells of the place, and the word of the message is made
   abbrev pub fill_lines : List Line
@@ -42,7 +42,7 @@ module _ (c : Target) (level slot : ℕ) where
   -- the message into the ring, behind those that are ready
   abbrev pub ready_lines : List Line
   ready_lines =
-      enter_line (section.Ready c.queue.level) c.queue.guard level (slot + 8)
+      enter_line (section.Ready c.queue.level) c.queue.guard threshold (slot + 8)
       ∷ plain (instr.Load (slot + 4) (c.queue.at + 1))
       ∷ plain (instr.Load (slot + 5) c.queue.at)
       ∷ plain (instr.Calc op.Add (slot + 5) (slot + 5) (slot + 4))
@@ -51,17 +51,17 @@ module _ (c : Target) (level slot : ℕ) where
       ∷ plain (instr.StoreAt (c.queue.at + 2) (slot + 5) (slot + 6))
       ∷ plain (instr.Set (slot + 7) 1)
       ∷ plain (instr.Calc op.Add (slot + 4) (slot + 4) (slot + 7))
-      ∷ noted (instr.Store (c.queue.at + 1) (slot + 4)) (note.Ready c.task)
+      ∷ line_with_note (instr.Store (c.queue.at + 1) (slot + 4)) (note.Ready c.task)
       ∷ plain (instr.Post c.queue.irq)
-      ∷ leave_line (section.Ready c.queue.level) c.queue.guard level (slot + 8) ∷ []
+      ∷ leave_line (section.Ready c.queue.level) c.queue.guard threshold (slot + 8) ∷ []
 
   -- the answers: 1 and a jump to the end, and 0, where no place is left
   abbrev pub end_lines : ℕ → List Line
   end_lines end =
       plain (instr.Set slot 1)
       ∷ plain (instr.Jump end)
-      ∷ noted (instr.Set slot 0) (note.Full c.task)
-      ∷ leave_line (section.Free c.task) c.guard level (slot + 8) ∷ []
+      ∷ line_with_note (instr.Set slot 0) (note.Full c.task)
+      ∷ leave_line (section.Free c.task) c.guard threshold (slot + 8) ∷ []
 
   -- the lines of a spawn, from an address on
   abbrev pub spawn_lines : ℕ → List Line

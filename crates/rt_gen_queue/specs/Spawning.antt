@@ -8,7 +8,7 @@ use Rattle.rt_ids.specs.Lists.{greatest}
 use Rattle.rt_ids.specs.Holder.{Holder}
 use Rattle.rt_ids.specs.Content.{Values}
 use Rattle.rt_ids.specs.Entry.{Entry}
-use Rattle.rt_ids.specs.Storage.{Runner, Starting, AtLevel}
+use Rattle.rt_ids.specs.Storage.{Runner, Starting, AtPriority}
 use Rattle.rt_ids.specs.declared.ids.Section.TheVariants as section
 use Rattle.rt_app.specs.declared.costs.TheConstants.{SPAWN_COST, SPAWN_WORDS}
 use Rattle.rt_app.specs.Tree.{Expression, Soon, Task, App}
@@ -26,22 +26,22 @@ use Rattle.rt_gen_queue.specs.Line.{Line, HasCode}
 use Rattle.rt_gen_queue.specs.SpawnCode.{spawn_code}
 
 module _ (app : App) (who : Runner) where
-  -- The level that what runs holds off, with these sections open: `init` holds off all, another runner all up to the
-  -- greatest of its level and the ceilings of its open sections.
+  -- The preemption threshold of what runs, with these sections open: `init` holds off all, another runner all up to the
+  -- greatest of its priority and the ceilings of its open sections.
   abbrev pub HoldsOff : Runner → List Held → ℕ → Type 0
-  HoldsOff Starting held level = 2 ^ app.bits ≤ level
-  HoldsOff (AtLevel p) held level = level ≡ max p (greatest (map (λ h. ceiling app h.section) held))
+  HoldsOff Starting held threshold = 2 ^ app.bits ≤ threshold
+  HoldsOff (AtPriority p) held threshold = threshold ≡ max p (greatest (map (λ h. ceiling app h.section) held))
 
   -- A job may spawn a task from here: all its memory is there, sixteen slots of its frame keep no mask, it is in
   -- neither of the two sections, and each may be entered by what runs; and there are the steps of a spawn.
-  pub record MaySpawn (task : ℕ) (t : Task) (level slot : ℕ) (s : Spot) : Type 0 where
+  pub record MaySpawn (task : ℕ) (t : Task) (threshold slot : ℕ) (s : Spot) : Type 0 where
     pub cells : length s.cells ≡ length (memory app)
     pub frame : slot + SPAWN_WORDS ≤ length s.slots
     pub masks : AllByRecursion (λ d. d < slot) (saved_slots s.held)
     pub closed : (is_open s.held (section.Free task) ≡ false) × (is_open s.held (section.Ready t.priority) ≡ false)
     pub within : IsWithin (storage app) who who (section.Free task)
         × IsWithin (storage app) who who (section.Ready t.priority)
-    pub off : HoldsOff who s.held level
+    pub off : HoldsOff who s.held threshold
     pub steps : AllByRecursion (λ n. SPAWN_COST ≤ n) s.lefts
 
   -- Behind the spawn: the answer is in the first slot, other slots, what the job may read, and its cells and queues
@@ -70,15 +70,15 @@ module _ (app : App) (who : Runner) where
 abbrev pub SpawnsStand : Type 0
 SpawnsStand =
     (app : App) (task : ℕ) (t : Task) (code : List Line) (bodies : List BodyRow) (thread : ℕ) (who : Runner)
-    (level slot n k : ℕ) (s : Spot) (value : Expression → ℕ) (args : List Expression) (place : ℕ) (rest : ℕ → Rest)
+    (threshold slot n k : ℕ) (s : Spot) (value : Expression → ℕ) (args : List Expression) (place : ℕ) (rest : ℕ → Rest)
     (vs : Values)
     → IsAccepted app → slice_get app.tasks task ≡ Some t → is_software t ≡ true
-    → HasCode code s.address (spawn_code app task level slot s.address)
-    → MaySpawn app who task t level slot s → SPAWN_COST + n ≤ k
+    → HasCode code s.address (spawn_code app task threshold slot s.address)
+    → MaySpawn app who task t threshold slot s → SPAWN_COST + n ≤ k
     → take t.args (drop slot s.slots) ≡ map value args
     → s.rest ≡ spawn_actions app value (Soon task args place) rest vs
     → ((granted used m : ℕ) (slots cells : List ℕ) (queues : Holder → List Entry) (ws : Values) → n ≤ m
     → HasSpawned app who slot s vs granted used slots cells queues ws
     → Stands (storage app) code bodies thread who m
-    (behind app who s (spawn_code app task level slot s.address) used slots cells queues (rest granted) ws))
+    (behind app who s (spawn_code app task threshold slot s.address) used slots cells queues (rest granted) ws))
     → Stands (storage app) code bodies thread who k s

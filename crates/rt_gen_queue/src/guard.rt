@@ -1,6 +1,6 @@
 ghost use Rattle.std.specs.Prelude.{◌≡◌, ◌≤◌, ◌^◌};
 ghost use Rattle.rt_code.specs.Masking as masking;
-ghost use Rattle.rt_gen_queue.specs.Guards.{guarded, kind_of};
+ghost use Rattle.rt_gen_queue.specs.Guards.{guard_of_ceiling, kind_of};
 
 use rt_code::Instr;
 use rt_ids::Prio;
@@ -21,7 +21,7 @@ impl Guard {
         requires few_bits { 3 ≤ bits }
         requires many_bits { bits ≤ 7 }
         requires greatest { ceiling ≤ 2 ^ bits }
-        ensures { result ≡ guarded bits ceiling }
+        ensures { result ≡ guard_of_ceiling bits ceiling }
     {
         let value = if ceiling == 0 {
             THREAD_VALUE
@@ -31,12 +31,12 @@ impl Guard {
         Guard { ceiling, value }
     }
 
-    /// The instruction that opens a section, at a level that what runs holds off already, with a slot for what the
+    /// The instruction that opens a section, at a preemption threshold that what runs holds off already, with a slot for what the
     /// mask was.
-    pub fn opening(self, level: u8, slot: u32) -> Instr
-        ensures { result ≡ masking.opening self.value (kind_of self level slot) }
+    pub fn opening_instr(self, threshold: u8, slot: u32) -> Instr
+        ensures { result ≡ masking.opening_instr self.value (kind_of self threshold slot) }
     {
-        if self.ceiling <= level {
+        if self.ceiling <= threshold {
             Instr::Mark
         } else if self.value == 0 {
             Instr::Mask(slot)
@@ -46,10 +46,10 @@ impl Guard {
     }
 
     /// The instruction that closes it.
-    pub fn closing(self, level: u8, slot: u32) -> Instr
-        ensures { result ≡ masking.closing (kind_of self level slot) }
+    pub fn closing_instr(self, threshold: u8, slot: u32) -> Instr
+        ensures { result ≡ masking.closing_instr (kind_of self threshold slot) }
     {
-        if self.ceiling <= level {
+        if self.ceiling <= threshold {
             Instr::Mark
         } else if self.value == 0 {
             Instr::Unmask(slot)

@@ -1,5 +1,5 @@
 ghost use Rattle.std.specs.Prelude.{◌≡◌, ◌∷◌, [], ◌<◌, length, slice_set, IfOk, OnOk};
-ghost use Rattle.rt_gen_queue.specs.Line.{plain, noted};
+ghost use Rattle.rt_gen_queue.specs.Line.{plain, line_with_note};
 ghost use Rattle.rt_gen_queue.specs.Making.{next_address, Appends};
 
 use crate::entry::next_entry;
@@ -16,8 +16,8 @@ pub fn plain(instr: Instr) -> Line
 }
 
 /// A line with a note.
-pub fn noted(instr: Instr, note: Note) -> Line
-    ensures { result ≡ noted instr note }
+pub fn line_with_note(instr: Instr, note: Note) -> Line
+    ensures { result ≡ line_with_note instr note }
 {
     (instr, Some(note))
 }
@@ -74,7 +74,7 @@ impl Lines {
 
     /// One more, with a note. An error tells that memory is used up.
     pub fn push_noted(&mut self, instr: Instr, note: Note) -> Result<(), NoMemory>
-        ensures { OnOk result (Appends self.old self.new (noted instr note ∷ [])) }
+        ensures { OnOk result (Appends self.old self.new (line_with_note instr note ∷ [])) }
     {
         self.lines.push((instr, Some(note)))?;
         Ok(())
@@ -89,11 +89,11 @@ impl Lines {
     }
 
     /// Another instruction in place of one that stands there without a note.
-    pub fn replace(&mut self, place: usize, instr: Instr)
-        requires { place < length self.old.lines }
-        ensures { self.new ≡ record self.old { lines = slice_set self.old.lines place (plain instr) } }
+    pub fn replace(&mut self, index: usize, instr: Instr)
+        requires { index < length self.old.lines }
+        ensures { self.new ≡ record self.old { lines = slice_set self.old.lines index (plain instr) } }
     {
-        self.lines[place] = (instr, None);
+        self.lines[index] = (instr, None);
     }
 
     /// The lines.

@@ -27,17 +27,17 @@ pub struct ReadyQueue {
     pub irq: Irq,
 }
 
-/// The cell of a table at a place, and 0 where none stands there.
-pub fn cell_at(cells: &[u16], place: usize) -> u16
-    ensures { result ≡ slice_index cells.now place }
+/// The cell of a table at an index, and 0 where none stands there.
+pub fn cell_at(cells: &[u16], index: usize) -> u16
+    ensures { result ≡ slice_index cells.now index }
 {
-    match cells.get(place) {
+    match cells.get(index) {
         Some(cell) => *cell,
         None => 0,
     }
 }
 
-/// The place of a level among those of the ready queues.
+/// The index of a level among those of the ready queues.
 fn find_level(queues: &[ReadyCeiling], level: u8) -> Option<usize>
     ensures { result ≡ position (λ r. r.level == level) queues.now }
 {
@@ -45,20 +45,20 @@ fn find_level(queues: &[ReadyCeiling], level: u8) -> Option<usize>
 }
 
 /// The same, and 0 where it is none of them.
-fn place_of(queues: &[ReadyCeiling], level: u8) -> usize
+fn index_of(queues: &[ReadyCeiling], level: u8) -> usize
     ensures { result ≡ or_zero (position (λ r. r.level == level) queues.now) }
 {
     match find_level(queues, level) {
-        Some(place) => place,
+        Some(index) => index,
         None => 0,
     }
 }
 
-/// The ceiling of the ready queue at a place, and 0 where none stands there.
-fn ceiling_at(queues: &[ReadyCeiling], place: usize) -> u8
-    ensures { result ≡ or_zero (option_map (λ r. r.ceiling) (slice_get queues.now place)) }
+/// The ceiling of the ready queue at an index, and 0 where none stands there.
+fn ceiling_at(queues: &[ReadyCeiling], index: usize) -> u8
+    ensures { result ≡ or_zero (option_map (λ r. r.ceiling) (slice_get queues.now index)) }
 {
-    match queues.get(place) {
+    match queues.get(index) {
         Some(queue) => queue.ceiling,
         None => 0,
     }
@@ -71,7 +71,7 @@ fn levels_above(queues: &[ReadyCeiling], level: u8) -> usize
     queues.iter().filter(|queue| queue.level > level).count()
 }
 
-/// The number of an interrupt, by its place, and 0 where it is not declared.
+/// The number of an interrupt, by its index, and 0 where it is not declared.
 pub fn irq_number(irqs: &[IrqDecl], irq: u8) -> Irq
     ensures { result ≡ or_zero (option_map (λ d. d.number) (slice_get irqs.now irq)) }
 {
@@ -81,12 +81,12 @@ pub fn irq_number(irqs: &[IrqDecl], irq: u8) -> Irq
     }
 }
 
-/// The number of the interrupt of a dispatcher, by its place, and 0 where there is none.
-fn dispatcher_number(app: &App, place: usize) -> Irq
-    ensures { result ≡ or_zero (then_from (option_map (λ d. d.irq) (slice_get (app_of app.now).dispatchers place))
+/// The number of the interrupt of a dispatcher, by its index, and 0 where there is none.
+fn dispatcher_number(app: &App, index: usize) -> Irq
+    ensures { result ≡ or_zero (then_from (option_map (λ d. d.irq) (slice_get (app_of app.now).dispatchers index))
         (handlers.irq_number (app_of app.now))) }
 {
-    match app.dispatchers.get(place) {
+    match app.dispatchers.get(index) {
         Some(dispatcher) => irq_number(&app.irqs, dispatcher.irq),
         None => Irq::new(0).unwrap(),
     }
@@ -124,12 +124,12 @@ pub fn queue_of(plan: &Plan<'_>, level: u8) -> ReadyQueue
     ensures { result ≡ queue_at (app_of plan.now.app.now) level }
 {
     let app = plan.app;
-    let place = place_of(&plan.ceil.ready, level);
+    let index = index_of(&plan.ceil.ready, level);
     ReadyQueue {
         level,
-        at: cell_at(&plan.lay.ready, place),
+        at: cell_at(&plan.lay.ready, index),
         room: ready_room(&app.tasks, level),
-        guard: Guard::of(app.bits, ceiling_at(&plan.ceil.ready, place)),
+        guard: Guard::of(app.bits, ceiling_at(&plan.ceil.ready, index)),
         irq: dispatcher_number(app, levels_above(&plan.ceil.ready, level)),
     }
 }

@@ -37,24 +37,24 @@ fn next_end(target: &Target, entry: u32) -> Result<u32, NoMemory>
 /// Appends all lines of a spawn, the first of which will stand at an address.
 fn append_spawn(
     target: &Target,
-    level: u8,
+    threshold: u8,
     slot: u32,
     entry: u32,
     lines: &mut Lines,
 ) -> Result<(), NoMemory>
     requires few { target.now.args ≤ 4 }
-    ensures { OnOk result (Appends lines.old lines.new (spawn_lines target.now level slot entry)) }
+    ensures { OnOk result (Appends lines.old lines.new (spawn_lines target.now threshold slot entry)) }
 {
     slot.checked_add(SPAWN_WORDS).ok_or(NoMemory)?;
     let end = next_end(target, entry)?;
-    lines.append(&take(target, level, slot, end - 2))?;
-    fill(target, level, slot, lines)?;
-    lines.append(&ready(target, level, slot))?;
-    lines.append(&answer(target, level, slot, end))?;
+    lines.append(&take(target, threshold, slot, end - 2))?;
+    fill(target, threshold, slot, lines)?;
+    lines.append(&ready(target, threshold, slot))?;
+    lines.append(&answer(target, threshold, slot, end))?;
     Ok(())
 }
 
-/// Appends the code of a spawn of a software task, at a static level, whose arguments stand in the slots from one on,
+/// Appends the code of a spawn of a software task, at a static preemption threshold, whose arguments stand in the slots from one on,
 /// and whose first line will stand at the address `entry`. It takes a place of the task, stores the arguments, puts the
 /// message into the ready queue of the task's level and pends the level's dispatcher; the answer comes into the first
 /// slot: 1, or 0 where no place is left. It writes the 16 slots from there on alone. Its lines name only what the
@@ -63,7 +63,7 @@ pub fn gen_spawn(
     alloc: Global,
     plan: &Plan<'_>,
     task: TaskId,
-    level: u8,
+    threshold: u8,
     slot: u32,
     entry: u32,
     code: &mut Vec<Line>,
@@ -72,7 +72,7 @@ pub fn gen_spawn(
     requires planned { IsPlan plan.now }
     requires software { is_some_and is_software (slice_get (app_of plan.now.app.now).tasks task) ≡ true }
     ensures code { OnOk result (code.new.items ≡ code.old.items
-        ++ spawn_code (app_of plan.now.app.now) task level slot entry) }
+        ++ spawn_code (app_of plan.now.app.now) task threshold slot entry) }
     ensures size { OnOk result (length code.new.items ≤ length code.old.items + SPAWN_COST) }
     ensures lines { OnOk result (AllByRecursion (IsNameable (names_of (app_of plan.now.app.now)))
         (drop (length code.old.items) code.new.items)) }
@@ -80,7 +80,7 @@ pub fn gen_spawn(
 {
     let target = find_target(plan, task);
     let mut lines = Lines::new(alloc, entry);
-    append_spawn(&target, level, slot, entry, &mut lines)?;
+    append_spawn(&target, threshold, slot, entry, &mut lines)?;
     code.extend_from_slice(lines.as_slice())?;
     Ok(())
 }

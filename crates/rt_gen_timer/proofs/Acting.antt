@@ -6,7 +6,7 @@ use Rattle.rt_ids.specs.declared.ids.Section.TheVariants as section
 use Rattle.rt_gen_queue.proofs.Layer.{Here, Lasts, MayRun, Now, Opens, S, Saves, Setting, Straight, all_fit, lasts_less}
 use Rattle.rt_gen_queue.proofs.Layer.{placed}
 use Rattle.rt_gen_timer.proofs.Window.{Slots, Words, words}
-use Rattle.rt_gen_timer.specs.TimerLines.{armings_of, given_of, handles_of, heap_of, instants_of, numbers_of}
+use Rattle.rt_gen_timer.specs.TimerLines.{armings_of, handle_count_of, handles_of, heap_of, instants_of, numbers_of}
 use Rattle.rt_gen_timer.specs.declared.queue.TimerQueue.{TimerQueue}
 
 -- Each end is so many steps away, and masks are kept where the window keeps them.
@@ -83,7 +83,7 @@ module _ {z : Setting} {q : TimerQueue} {h : Here} (columns : Columns z q h.held
   pub armings_open : Opens z h section.Timer (armings_of q)
   armings_open = cell_open 1 (omega arith) (omega arith)
 
-  pub given_open : Opens z h section.Timer (given_of q)
+  pub given_open : Opens z h section.Timer (handle_count_of q)
   given_open = cell_open 2 (omega arith) (omega arith)
 
   pub first_open : 0 < q.messages → Opens z h section.Timer (heap_of q)

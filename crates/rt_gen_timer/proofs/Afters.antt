@@ -1,15 +1,15 @@
 -- The code of a whole `spawn_after`: a place is taken and filled, and in the section of the timer queue its message is
 -- armed, with the handle for an answer; or none is left, and the answer is 0.
 use Rattle.rt_gen_queue.proofs.Vocabulary.{App, Arms, Content, Entry, Guarded, HasCode, Held, Holder, Home}
-use Rattle.rt_gen_queue.proofs.Vocabulary.{IsTimedPlace, Leaves, Line, List, Marked, MayLoad, Message, None, Refuses}
+use Rattle.rt_gen_queue.proofs.Vocabulary.{IsTimedPlace, Leaves, Line, List, Marked, MayLoad, Message, None, FindsFull}
 use Rattle.rt_gen_queue.proofs.Vocabulary.{Rest, SPAWN_AFTER_COST, Section, Some, TakesOver, Timed, Values, [], act}
 use Rattle.rt_gen_queue.proofs.Vocabulary.{act_all, all_weaker, and_both, ap, arguments_of, arith, arm_actions}
-use Rattle.rt_gen_queue.proofs.Vocabulary.{armed_before, armed_messages, armed_place, capacity_of, count_more, drop}
+use Rattle.rt_gen_queue.proofs.Vocabulary.{capacities_before, armed_messages, armed_place, capacity_of, count_more, drop}
 use Rattle.rt_gen_queue.proofs.Vocabulary.{enter, few_before, few_messages, fill_code, guard_of, is_armed, is_software}
 use Rattle.rt_gen_queue.proofs.Vocabulary.{is_some_and, kind_at, leave, leave_timer, length, length-append, length_push}
-use Rattle.rt_gen_queue.proofs.Vocabulary.{message_at, message_word, mine, noted, one_itself, passed, plain}
+use Rattle.rt_gen_queue.proofs.Vocabulary.{message_at, message_word, mine, line_with_note, one_itself, spot_after_step, plain}
 use Rattle.rt_gen_queue.proofs.Vocabulary.{queued_more, reads_more, refl, slice_get, slice_index, storage, subst, suc}
-use Rattle.rt_gen_queue.proofs.Vocabulary.{sym, take, take-append-le, take_code, take_place, timed, true, with_armed, ℕ}
+use Rattle.rt_gen_queue.proofs.Vocabulary.{sym, take, take-append-le, take_code, take_place, timer_content, true, with_armed, ℕ}
 use Rattle.rt_gen_queue.proofs.Vocabulary.{◌&&◌, ◌*◌, ◌++◌, ◌+◌, ◌<◌, ◌^◌, ◌∙◌, ◌∷◌, ◌≡◌, ◌≤◌}
 use Rattle.rt_ids.specs.declared.ids.Section.TheVariants as section
 use Rattle.rt_app.specs.declared.costs.TheConstants.{MESSAGE_COST}
@@ -60,7 +60,7 @@ worked v r = record v { count = r.count; hole = r.index; place = r.word; work = 
 
 -- a message is to be sent later
 record SendsLater (c : Call) (cost delay : ℕ) (args : List ℕ) (h : Here) : Type 0 where
-  pub call : Begins c (after_steps c.z.app) (after_code c.z.app c.task c.level c.slot h.at)
+  pub call : Begins c (after_steps c.z.app) (after_code c.z.app c.task c.threshold c.slot h.at)
       (take_place c.z.app c.task (arm_actions c.z.app cost delay (record { task = c.task; args = args }) c.rest)
       (c.rest 0)) h
   pub armed : is_armed c.z.app c.task ≡ true
@@ -70,7 +70,7 @@ record SendsLater (c : Call) (cost delay : ℕ) (args : List ℕ) (h : Here) : T
   pub args_are : take c.t.args (drop (suc c.slot) h.slots) ≡ args
 
 module _ {c : Call} {cost delay : ℕ} {args : List ℕ} {h : Here} (k : SendsLater c cost delay args h) where
-  open c use {z, task, t, level, slot, rest, values}
+  open c use {z, task, t, threshold, slot, rest, values}
   open c.z use {app, code, who}
   open k.call use {may, has, on}
 
@@ -95,20 +95,20 @@ module _ {c : Call} {cost delay : ℕ} {args : List ℕ} {h : Here} (k : SendsLa
 
   -- the lines, and their parts; those that arm the message by the first slot of the window
   abbrev lines : List Line
-  lines = after_code app task level slot h.at
+  lines = after_code app task threshold slot h.at
 
   abbrev filling : List Line
   filling = fill_code app task (slot + 1)
 
   abbrev arming : ℕ → List Line
-  arming first = arm_lines q first level (armed_task app task) (h.at + (12 + args_of))
+  arming first = arm_lines q first threshold (armed_task app task) (h.at + (12 + args_of))
 
   abbrev ending : List Line
-  ending = full_lines q slot level (armed_task app task) (full + 2)
+  ending = full_lines q slot threshold (armed_task app task) (full + 2)
 
   has_fill : HasCode code (h.at + 8) (filling ++ (arming slot ++ ending))
   has_fill =
-      code_behind code h.at (h.at + 8) (take_code app task level (slot + 1) full) (filling ++ (arming slot ++ ending))
+      code_behind code h.at (h.at + 8) (take_code app task threshold (slot + 1) full) (filling ++ (arming slot ++ ending))
       refl has
 
   has_arm : HasCode code (h.at + (12 + args_of)) (arming slot ++ ending)
@@ -148,7 +148,7 @@ module _ {c : Call} {cost delay : ℕ} {args : List ℕ} {h : Here} (k : SendsLa
       (sym (inner_window (f may) (v.answer ∷ []) (drop 10 (words v)) (nine_words (arguments_in v) r))) correct
 
   enter_places : {size mask : ℕ} (g : Frame size mask) → mask < size → slot ≤ g.slot
-      → MayEnter z g h place_section level
+      → MayEnter z g h place_section threshold
   enter_places g room above = record {
     room = room;
     masks = all_weaker (λ d. d < slot) (λ d. d < g.slot) (λ d less. omega (arith, less)) _ may.masks;
@@ -159,10 +159,10 @@ module _ {c : Call} {cost delay : ℕ} {args : List ℕ} {h : Here} (k : SendsLa
     nobody = nobody_keeps app who who place_section tt;
   }
 
-  abbrev may_take : MayTake z (nine (w may)) h task level full t
+  abbrev may_take : MayTake z (nine (w may)) h task threshold full t
   may_take = record {
     facts = may.facts;
-    code = code_front code h.at (take_code app task level (slot + 1) full) (filling ++ (arming slot ++ ending)) has;
+    code = code_front code h.at (take_code app task threshold (slot + 1) full) (filling ++ (arming slot ++ ending)) has;
     time = lasts 8 (omega arith);
     long = may.cells;
     enter = enter_places (nine (w may)) (omega arith) (omega arith);
@@ -170,29 +170,29 @@ module _ {c : Call} {cost delay : ℕ} {args : List ℕ} {h : Here} (k : SendsLa
 
   -- no place is left: the section closes, and the answer is 0
   none_stands : (r : Work) (cells : List ℕ) (queues : Holder → List Entry) (us : Values)
-      → TakesOver (storage app) who place_section (passed (spot z h)) values us cells queues
-      → S z (Now (nine (w may)) (at_full h (opened z (nine (w may)) place_section level) full cells queues
-      (act_all (Refuses task ∷ Leaves place_section ∷ []) (rest 0) us)) (nine_words (arguments_in (w may)) r))
+      → TakesOver (storage app) who place_section (spot_after_step (spot z h)) values us cells queues
+      → S z (Now (nine (w may)) (at_full h (opened z (nine (w may)) place_section threshold) full cells queues
+      (act_all (FindsFull task ∷ Leaves place_section ∷ []) (rest 0) us)) (nine_words (arguments_in (w may)) r))
   none_stands r cells queues us taken =
       let x : Section = place_section in
-      let o : Held = opened z (f may) x level in
+      let o : Held = opened z (f may) x threshold in
       let e : slot + 9 ≡ slot + 1 + 8 = omega arith in
       let g : Held → Here =
-      λ o. at_full h o full cells queues (act_all (Refuses task ∷ Leaves x ∷ []) (rest 0) us) in
+      λ o. at_full h o full cells queues (act_all (FindsFull task ∷ Leaves x ∷ []) (rest 0) us) in
       let all = lasts 8 (omega arith) in
-      subst (λ n. S z (Now (nine (w may)) (g (record { section = x; kind = kind_at app x level n }))
+      subst (λ n. S z (Now (nine (w may)) (g (record { section = x; kind = kind_at app x threshold n }))
       (nine_words (arguments_in (w may)) r))) e
       (from_nine (w may) r (g o)
       (run_stands {f = f may} {k = h.done + 8} (g o) (worked (w may) r)
-      (drop 1 (full_lines q 0 level (armed_task app task) (full + 2)))
+      (drop 1 (full_lines q 0 threshold (armed_task app task) (full + 2)))
       (record {
         time = (all.0, (omega arith, all.1));
         saves = saves_inside (enter_places (f may) (omega arith) (omega arith));
-      }) (omega arith) (ap (λ b. b && true) (leave_fits x (guard_of app x) level 9 24 9))
-      (has_full.0, (has_full.1.0 ∙ ap Some (sym (leave_placed x (guard_of app x) level 9 slot)), tt))
+      }) (omega arith) (ap (λ b. b && true) (leave_fits x (guard_of app x) threshold 9 24 9))
+      (has_full.0, (has_full.1.0 ∙ ap Some (sym (leave_placed x (guard_of app x) threshold 9 slot)), tt))
       (refuses (is_inside app who h.held o x refl) refl
       (λ us2 agree.
-      leaves level refl refl refl
+      leaves threshold refl refl refl
       (subst (λ (c : Content). (storage app).Spells (Guarded x) (slice_index cells) (queues (Guarded x)) c)
       (sym (agree (Guarded x) (reads_inside app who h.held o x refl))) taken.spelled)
       (λ us3 later.
@@ -246,7 +246,7 @@ module _ {c : Call} {cost delay : ℕ} {args : List ℕ} {h : Here} (k : SendsLa
       abbrev g : Here
       g = holding (h.done + (12 + args_of)) (h.at + (12 + args_of)) left
 
-      opens : MayOpen z (f may) level g
+      opens : MayOpen z (f may) threshold g
       opens = record {
         accepted = may.facts.accepted;
         timed = may.timed;
@@ -275,12 +275,12 @@ module _ {c : Call} {cost delay : ℕ} {args : List ℕ} {h : Here} (k : SendsLa
           }))))
 
       module _ {ws : Values} {inside : List ℕ} {queued : Holder → List Entry}
-          (took : TakesOver (storage app) who section.Timer (passed (spot z g)) us ws inside queued) where
+          (took : TakesOver (storage app) who section.Timer (spot_after_step (spot z g)) us ws inside queued) where
         abbrev i : Inside
         i = record {
           z = z;
           f = f may;
-          level = level;
+          threshold = threshold;
           cost = cost;
           h = g;
           before = us;
@@ -300,12 +300,12 @@ module _ {c : Call} {cost delay : ℕ} {args : List ℕ} {h : Here} (k : SendsLa
         -- its arguments are as they were stored
         message_inside : message_at app (slice_index inside) e ≡ message
         message_inside =
-            let some : 0 < mine (passed (spot z g)) e = omega (arith, count_more e e h.places, one_itself e) in
+            let some : 0 < mine (spot_after_step (spot z g)) e = omega (arith, count_more e e h.places, one_itself e) in
             message_alike app t.priority (slice_index inside) (slice_index left) e
             (place_of app task t may.facts e taken.of_task taken.place)
             (λ c is.
             took.same.touched c
-            (subst (λ (home : Home). MayLoad (storage app) who (passed (spot z g)) home) (sym (home_as app c ∙ is))
+            (subst (λ (home : Home). MayLoad (storage app) who (spot_after_step (spot z g)) home) (sym (home_as app c ∙ is))
             some))
             ∙ message_is may.facts taken.of_task (omega arith) filled
             ∙ ap (λ ws. record { task = task; args = ws }) args_stored
@@ -324,7 +324,7 @@ module _ {c : Call} {cost delay : ℕ} {args : List ℕ} {h : Here} (k : SendsLa
         }
 
         runs : Lasting (f may) (g.done + arm_steps k.turns.turns)
-            (opened z (f may) section.Timer level ∷ h.held) (h.until ∷ (g.done + cost) ∷ h.deadlines)
+            (opened z (f may) section.Timer threshold ∷ h.held) (h.until ∷ (g.done + cost) ∷ h.deadlines)
         runs =
             let all = sooner {j = g.done + arm_steps k.turns.turns} runs_on (omega (arith, k.turns.few, few_args)) in
             record {
@@ -339,7 +339,7 @@ module _ {c : Call} {cost delay : ℕ} {args : List ℕ} {h : Here} (k : SendsLa
         abbrev arms_then : ℕ → Rest
         arms_then instant =
             act (Arms instant message)
-            (λ vs. leave_timer app (rest (timed (vs (Guarded section.Timer))).given) vs)
+            (λ vs. leave_timer app (rest (timer_content (vs (Guarded section.Timer))).given) vs)
 
         -- inside, with that left to do
         abbrev here : (done at : ℕ) → List ℕ → ℕ → Values → Here
@@ -373,7 +373,7 @@ module _ {c : Call} {cost delay : ℕ} {args : List ℕ} {h : Here} (k : SendsLa
           in_loop v s hole = in_hand hand (rowed v) s hole
 
           abbrev note_lines : List Line
-          note_lines = noted (instr.StoreAt (heap_of q) 6 4) (note.Arm task 10) ∷ alarm_lines q 0 (g.at + 39)
+          note_lines = line_with_note (instr.StoreAt (heap_of q) 6 4) (note.Arm task 10) ∷ alarm_lines q 0 (g.at + 39)
 
           -- where the loop has left a hole
           last_stand : {b : Place} {begin : ℕ} {vs : Values} (v : Words) (s : Scratch)
@@ -386,16 +386,16 @@ module _ {c : Call} {cost delay : ℕ} {args : List ℕ} {h : Here} (k : SendsLa
               let place : b.hole < armed_messages app = omega (arith, risen.hollow.within, room push) in
               let columns = columns_now now (risen.beside.long ∙ has.long) in
               run_stands (here b.done (g.at + 38) b.cells instant vs) (in_loop v s b.hole)
-              (note_lines ++ leave app section.Timer level 9 ∷ []) runs
-              (omega (arith, begins.early, risen.within)) (leaving_fits app level note_lines [] refl refl)
-              (leaving_code z (f may) level (g.at + 38) note_lines [] (code_part code g.at (arming slot) 38 8
+              (note_lines ++ leave app section.Timer threshold 9 ∷ []) runs
+              (omega (arith, begins.early, risen.within)) (leaving_fits app threshold note_lines [] refl refl)
+              (leaving_code z (f may) threshold (g.at + 38) note_lines [] (code_part code g.at (arming slot) 38 8
               arming_has))
               (arms q (in_loop v s b.hole) (writes_open (heap_open columns place))
               (record { opens = columns.opens; hands = refl; of_task = (taken.of_task, refl) }) refl
               (λ after us2 one agree2.
               let beside : IsBeside q mid after = beside_more risen.beside (beside_one_place q place one) in
               let agrees : AgreeInside i us2 = λ holder read. agree2 holder read ∙ begins.agree holder read in
-              let armed : timed (us2 (Guarded section.Timer)) ≡ push.spells.timed = ap timed (queue_now now agrees) in
+              let armed : timer_content (us2 (Guarded section.Timer)) ≡ push.spells.timed = ap timer_content (queue_now now agrees) in
               at_address (g.at + 39) (omega arith)
               (settles now (with_armed instant message) (in_loop v s b.hole)
               (record {
@@ -410,7 +410,7 @@ module _ {c : Call} {cost delay : ℕ} {args : List ℕ} {h : Here} (k : SendsLa
               (λ last other us3 soon own later.
               ends
               (moved last (g.at + 46) refl (omega arith)
-              (armed_ends (with_armed instant message (timed (us2 (Guarded section.Timer)))).given _
+              (armed_ends (with_armed instant message (timer_content (us2 (Guarded section.Timer)))).given _
               (record {
                 small = omega (arith, ap (λ (t : Timed). t.given) armed, armings_few);
                 answered = sym (ap (λ (t : Timed). t.given + 1) armed);
@@ -444,7 +444,7 @@ module _ {c : Call} {cost delay : ℕ} {args : List ℕ} {h : Here} (k : SendsLa
             → Straight z (f may) (row_lines q 0 (armed_task app task)) (here done (g.at + 7) inside v.instant vs)
             (words v)
         row_begins {done = done} {vs = vs} v word early agree =
-            let first : armed_before app e.task ≡ armed_before app task = ap (armed_before app) taken.of_task in
+            let first : capacities_before app e.task ≡ capacities_before app task = ap (capacities_before app) taken.of_task in
             let before = few_before app may.facts.accepted task in
             row_stands v (armed_task app task) (columns_now now refl) (counts push) (timed_row app e timed_place)
             (omega (arith, first, before, word, taken.of_task)) (omega (arith, word, word_small))
@@ -468,9 +468,9 @@ module _ {c : Call} {cost delay : ℕ} {args : List ℕ} {h : Here} (k : SendsLa
           let x = section.Timer in
           let has = code_first code 23 g.at (arming slot) arming_has in
           run_stands g v (take 23 (arming 0)) runs_on (omega (arith, few_args))
-          (and_both (fits 24 9 (enter app x level 9).0) (all_fit 24 9 (drop 1 (take 23 (arming 0))))
-          (enter_fits x (guard_of app x) level 9 24 9) refl)
-          (has.0 ∙ ap Some (sym (enter_placed x (guard_of app x) level 9 slot)), has.1)
+          (and_both (fits 24 9 (enter app x threshold 9).0) (all_fit 24 9 (drop 1 (take 23 (arming 0))))
+          (enter_fits x (guard_of app x) threshold 9 24 9) refl)
+          (has.0 ∙ ap Some (sym (enter_placed x (guard_of app x) threshold 9 slot)), has.1)
           (enters (may_enter opens) (omega (arith, k.turns.enough))
           (ap (λ d. arm_actions app cost d message rest us) (sym k.delay_is))
           (λ mask ws inside queued took.
@@ -519,10 +519,10 @@ module _ {c : Call} {cost delay : ℕ} {args : List ℕ} {h : Here} (k : SendsLa
 
 -- the code of a `spawn_after` stands for its actions
 pub afters_stand : AftersStand
-afters_stand app task t code bodies thread who level slot n cost delay s args rest vs accepted mono there software armed
+afters_stand app task t code bodies thread who threshold slot n cost delay s args rest vs accepted mono there software armed
     costs has may places delay_is args_are is =
     let z : Setting = record { app = app; code = code; bodies = bodies; thread = thread; who = who; caller = None } in
-    let c : Call = record { z = z; task = task; t = t; level = level; slot = slot; rest = rest; values = vs } in
+    let c : Call = record { z = z; task = task; t = t; threshold = threshold; slot = slot; rest = rest; values = vs } in
     let second : suc slot ≡ slot + 1 = omega arith in
     stands_called c s (record { accepted = accepted; at = there; software = software }) mono may has is
     (λ until call.

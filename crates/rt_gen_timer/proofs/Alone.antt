@@ -1,6 +1,6 @@
 -- Where only cells of the timer queue are others, the messages of armed places are as they were.
 use Rattle.rt_gen_queue.proofs.Vocabulary.{App, Armed, At, Entry, Guarded, IsSome, IsTimedPlace, List, and_both, ap}
-use Rattle.rt_gen_queue.proofs.Vocabulary.{arith, armed_at, armed_messages, armed_place, arming_at, eq-eqb, handle_at}
+use Rattle.rt_gen_queue.proofs.Vocabulary.{arith, arming_of_entry, armed_messages, armed_place, arming_at, eq-eqb, handle_at}
 use Rattle.rt_gen_queue.proofs.Vocabulary.{home_of, instant_at, is_of_level, is_software, is_some_and, message_at, refl}
 use Rattle.rt_gen_queue.proofs.Vocabulary.{slice_index, sym, the_task, timer_at, true, ℕ, ◌*◌, ◌+◌, ◌-◌, ◌<◌, ◌==◌, ◌∙◌}
 use Rattle.rt_gen_queue.proofs.Vocabulary.{◌≡◌, ◌≤◌, ◌⊎◌}
@@ -19,7 +19,7 @@ abbrev pub handle_in : App → List ℕ → Entry → ℕ
 handle_in app cells = handle_at app (slice_index cells)
 
 abbrev pub armed_in : App → List ℕ → Entry → Armed
-armed_in app cells = armed_at app (slice_index cells)
+armed_in app cells = arming_of_entry app (slice_index cells)
 
 -- a place that may be armed has a row, and no other has that row
 pub timed_row : (app : App) (e : Entry) → IsTimedPlace app e → armed_place app e < armed_messages app
@@ -51,11 +51,11 @@ pub message_same : (app : App) (before after : List ℕ) → IsTimerAlone app be
     → IsTimedPlace app e → message_at app (slice_index before) e ≡ message_at app (slice_index after) e
 message_same app before after alone e is =
     let task = the_task is_software app e.task is.1 in
-    let level : is_of_level task.0.priority task.0 ≡ true =
+    let threshold : is_of_level task.0.priority task.0 ≡ true =
     and_both (is_software task.0) (task.0.priority == task.0.priority) task.2
     (eq-eqb task.0.priority task.0.priority refl) in
     message_alike app task.0.priority (slice_index before) (slice_index after) e
-    (ap (is_some_and (is_of_level task.0.priority)) task.1 ∙ level, is.2)
+    (ap (is_some_and (is_of_level task.0.priority)) task.1 ∙ threshold, is.2)
     (λ c of. sym (alone c (λ timer. (let clash = sym timer ∙ of in cc clash))))
 
 -- what is armed, where the instant and the handle are as they were too

@@ -2,7 +2,7 @@
 -- it stays arranged where a message is armed, leaves, or is put to another instant.
 use Rattle.rt_gen_queue.proofs.Vocabulary.{AllByRecursion, Armed, Entry, IsArranged, IsHeap, List, None, Option, Some}
 use Rattle.rt_gen_queue.proofs.Vocabulary.{[], above, all_append, all_behind, all_front, all_weaker, ap, arith}
-use Rattle.rt_gen_queue.proofs.Vocabulary.{armed_as, at, count, get_or-take, key_of, keys, least, least_instant, length}
+use Rattle.rt_gen_queue.proofs.Vocabulary.{message_of_handle, at, count, get_or-take, key_of, keys, least, least_instant, length}
 use Rattle.rt_gen_queue.proofs.Vocabulary.{length-append, length-take-le, length_push, map, map-append, one, one_itself}
 use Rattle.rt_gen_queue.proofs.Vocabulary.{refl, slice_set, subst, sum_by-append, sym, take, take_all, without_handle}
 use Rattle.rt_gen_queue.proofs.Vocabulary.{without_least, ℕ, ◌++◌, ◌+◌, ◌<◌, ◌^◌, ◌∙◌, ◌∷◌, ◌≡◌, ◌≢◌, ◌≤◌, ◌⊎◌}
@@ -34,7 +34,7 @@ pub record IsLeast (armed_at : Entry → Armed) (entries : List Entry) (e : Entr
 -- or the one of a task that has a handle
 abbrev pub IsOfHandle : (Entry → Armed) → List Entry → Entry → ℕ → ℕ → Type 0
 IsOfHandle armed_at entries e task handle =
-    IsPicked armed_at entries e (armed_as task handle) (without_handle task handle)
+    IsPicked armed_at entries e (message_of_handle task handle) (without_handle task handle)
 
 -- by a list that is split at it
 split_map : (armed_at : Entry → Armed) {entries : List Entry} {e : Entry} (s : IsSplit entries e)
@@ -161,16 +161,16 @@ module _ {instant arming : Entry → ℕ} {armings : ℕ} {heap entries : List E
 
       -- its handle is of none of another task
       pub handle_of_another : (task : ℕ) → (armed_at (at heap i)).message.task ≢ task
-          → armed_as task (armed_at (at heap i)).handle (map armed_at entries) ≡ None
+          → message_of_handle task (armed_at (at heap i)).handle (map armed_at entries) ≡ None
       handle_of_another task other =
           let s = splits entries (at heap i) (in_queue i within) in
-          ap (armed_as task (armed_at (at heap i)).handle) (split_map armed_at s)
+          ap (message_of_handle task (armed_at (at heap i)).handle) (split_map armed_at s)
           ∙ of_other_task (map armed_at s.before) (map armed_at s.behind) (armed_at (at heap i))
           (subst AreApart (split_map armed_at s) apart) task other
 
     -- no message of the heap has a handle: it is of none that is armed
     pub handle_missing : (task handle : ℕ) → ((i : ℕ) → i < length heap → (armed_at (at heap i)).handle ≢ handle)
-        → armed_as task handle (map armed_at entries) ≡ None
+        → message_of_handle task handle (map armed_at entries) ≡ None
     handle_missing task handle others =
         none_has task handle (map armed_at entries)
         (all_map armed_at (λ x. (armed_at x).handle ≢ handle) (λ b. b.handle ≢ handle) (λ x other. other) entries
@@ -216,7 +216,7 @@ module _ {instant arming : Entry → ℕ} {armings : ℕ} {heap entries : List E
     below = (listed_less before behind (at heap i) parts).below;
   }
 
-  -- the messages at other places of the heap are among the others
+  -- the messages at other positions in the heap are among the others
   pub elsewhere : {i : ℕ} (before behind : List Entry) → i < length heap → entries ≡ before ++ at heap i ∷ behind
       → (j : ℕ) → j < length heap → j ≢ i → 0 < count (at heap j) (before ++ behind)
   elsewhere {i = i} before behind within parts j less apart =

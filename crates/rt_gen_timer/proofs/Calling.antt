@@ -4,8 +4,8 @@ use Rattle.rt_gen_queue.proofs.Vocabulary.{Agree, AllByRecursion, Content, Delay
 use Rattle.rt_gen_queue.proofs.Vocabulary.{Holder, HoldsOff, IsSome, IsWithin, LeavesMine, Line, List, Rest}
 use Rattle.rt_gen_queue.proofs.Vocabulary.{SpellsTimer, Spot, TakesOver, Task, Timed, Values, ap, arith, count_more}
 use Rattle.rt_gen_queue.proofs.Vocabulary.{false, is_open, leave, leave_timer, length, map, may_load, memory, mine}
-use Rattle.rt_gen_queue.proofs.Vocabulary.{owns_open, passed, put_at, queued, queues_same, refl, saved_slots}
-use Rattle.rt_gen_queue.proofs.Vocabulary.{slice_index, storage, subst, sym, timed, with_queue, ℕ, ◌++◌, ◌+◌, ◌-◌, ◌<◌}
+use Rattle.rt_gen_queue.proofs.Vocabulary.{owns_open, spot_after_step, values_with, queued, queues_same, refl, saved_slots}
+use Rattle.rt_gen_queue.proofs.Vocabulary.{slice_index, storage, subst, sym, timer_content, with_queue, ℕ, ◌++◌, ◌+◌, ◌-◌, ◌<◌}
 use Rattle.rt_gen_queue.proofs.Vocabulary.{◌^◌, ◌∙◌, ◌∷◌, ◌≡◌, ◌≤◌}
 use Rattle.rt_ids.specs.declared.ids.Section.TheVariants as section
 use Rattle.rt_app.specs.declared.costs.TheConstants.{TIMER_QUEUE_WORDS}
@@ -22,18 +22,18 @@ use Rattle.rt_gen_timer.specs.TimerCalls.{MayUseTimer, StandsBefore}
 pub use Rattle.rt_gen_timer.proofs.Closing.{leaving_fits}
 
 -- lines with one that leaves the timer queue's section among them, as they stand in code
-pub leaving_code : (z : Setting) (f : Slots) (level at : ℕ) (front behind : List Line)
+pub leaving_code : (z : Setting) (f : Slots) (threshold at : ℕ) (front behind : List Line)
     → HasCode z.code at
-    (map (placed f.slot) front ++ leave z.app section.Timer level (f.slot + 9) ∷ map (placed f.slot) behind)
-    → HasCode z.code at (map (placed f.slot) (front ++ leave z.app section.Timer level 9 ∷ behind))
-leaving_code z f level at front behind has = leaving_placed z.app level z.code f at front behind has
+    (map (placed f.slot) front ++ leave z.app section.Timer threshold (f.slot + 9) ∷ map (placed f.slot) behind)
+    → HasCode z.code at (map (placed f.slot) (front ++ leave z.app section.Timer threshold 9 ∷ behind))
+leaving_code z f threshold at front behind has = leaving_placed z.app threshold z.code f at front behind has
 
--- a call that goes to the timer queue: for a task, at a level, with the first of its slots, and what is left behind it
+-- a call that goes to the timer queue: for a task, at a preemption threshold, with the first of its slots, and what is left behind it
 pub record Call : Type 0 where
   pub z : Setting
   pub task : ℕ
   pub t : Task
-  pub level : ℕ
+  pub threshold : ℕ
   pub slot : ℕ
   pub rest : ℕ → Rest
   pub values : Values
@@ -47,7 +47,7 @@ pub record MayCall (c : Call) (steps : ℕ) (h : Here) : Type 0 where
   pub masks : AllByRecursion (λ d. d < c.slot) (saved_slots h.held)
   pub closed : is_open h.held section.Timer ≡ false
   pub within : IsWithin (storage c.z.app) c.z.who c.z.who section.Timer
-  pub off : HoldsOff c.z.app c.z.who c.z.who h.held c.level
+  pub off : HoldsOff c.z.app c.z.who c.z.who h.held c.threshold
   pub time : InTime (h.done + steps) h
 
 -- what it leaves, with the words of its window
@@ -84,7 +84,7 @@ module _ {c : Call} {steps : ℕ} {h : Here} (may : MayCall c steps h) where
   on_window correct =
       subst (λ (slots : List ℕ). S c.z (record h { slots = slots })) (sym (window_of c.slot h.slots may.frame)) correct
 
-  pub may_open : MayOpen c.z f c.level h
+  pub may_open : MayOpen c.z f c.threshold h
   may_open = record {
     accepted = may.facts.accepted;
     timed = may.timed;
@@ -111,7 +111,7 @@ pub record Begins (c : Call) (steps : ℕ) (lines : List Line) (doing : Rest) (h
 pub record Inside : Type 0 where
   pub z : Setting
   pub f : Slots
-  pub level : ℕ
+  pub threshold : ℕ
   pub cost : ℕ
   pub h : Here
   pub before : Values
@@ -125,7 +125,7 @@ entries i = i.queues (Guarded section.Timer)
 -- the job there, with this left to do
 abbrev pub at_work : Inside → (done at : ℕ) → List Entry → List ℕ → (Holder → List Entry) → Doing Values → Here
 at_work i done at places cells queues rest =
-    record (within i.h (opened i.z i.f section.Timer i.level) i.cost cells queues rest) {
+    record (within i.h (opened i.z i.f section.Timer i.threshold) i.cost cells queues rest) {
       done = done;
       places = places;
       at = at;
@@ -133,9 +133,9 @@ at_work i done at places cells queues rest =
 
 -- what is known of it
 pub record IsInside (i : Inside) : Type 0 where
-  pub may : MayOpen i.z i.f i.level i.h
+  pub may : MayOpen i.z i.f i.threshold i.h
   pub long : length i.h.cells ≡ length (memory i.z.app)
-  pub taken : TakesOver (storage i.z.app) i.z.who section.Timer (passed (spot i.z i.h)) i.before i.values i.cells
+  pub taken : TakesOver (storage i.z.app) i.z.who section.Timer (spot_after_step (spot i.z i.h)) i.before i.values i.cells
       i.queues
   pub spells : SpellsTimer i.z.app (slice_index i.cells) (entries i) (i.values (Guarded section.Timer))
 
@@ -149,13 +149,13 @@ pub record LeavesQueue (i : Inside) (after : List ℕ) (es : List Entry) (t : Ti
 -- what may be read inside is as it was taken over
 abbrev pub AgreeInside : Inside → Values → Type 0
 AgreeInside i ws =
-    Agree (storage i.z.app) i.z.who (opened i.z i.f section.Timer i.level ∷ i.h.held) ws i.values
+    Agree (storage i.z.app) i.z.who (opened i.z i.f section.Timer i.threshold ∷ i.h.held) ws i.values
 
 module _ {i : Inside} (now : IsInside i) where
   pub columns_now : {after : List ℕ} → length after ≡ length i.cells
-      → Columns i.z (queue_of i.z.app) (opened i.z i.f section.Timer i.level ∷ i.h.held) after
+      → Columns i.z (queue_of i.z.app) (opened i.z i.f section.Timer i.threshold ∷ i.h.held) after
   columns_now long =
-      columns_inside i.z i.f i.level i.h.held now.may.timed (long ∙ now.taken.same.long ∙ now.long)
+      columns_inside i.z i.f i.threshold i.h.held now.may.timed (long ∙ now.taken.same.long ∙ now.long)
 
   -- so is what the queue has
   pub queue_now : {ws : Values} → AgreeInside i ws → ws (Guarded section.Timer) ≡ Delays now.spells.timed
@@ -177,16 +177,16 @@ module _ {i : Inside} (now : IsInside i) where
         queues = with_queue i.queues section.Timer es;
         rest = rest us;
       }) (words (record v { other = other })))
-      → Straight i.z i.f (alarm_lines (queue_of i.z.app) 0 at ++ leave i.z.app section.Timer i.level 9 ∷ lines)
+      → Straight i.z i.f (alarm_lines (queue_of i.z.app) 0 at ++ leave i.z.app section.Timer i.threshold 9 ∷ lines)
       (at_work i done at places after (with_queue i.queues section.Timer es)
       (leave_timer i.z.app rest
-      (put_at ws (Guarded section.Timer) (Delays (change (timed (ws (Guarded section.Timer)))))))) (words v)
+      (values_with ws (Guarded section.Timer) (Delays (change (timer_content (ws (Guarded section.Timer)))))))) (words v)
   settles {es = es} {after = after} {ws = ws} change v leaves agree counted on =
       let x = section.Timer in
       let enter = may_enter now.may in
-      let content : Content = Delays (change (timed (ws (Guarded x)))) in
-      let is : content ≡ Delays (change now.spells.timed) = ap (λ k. Delays (change (timed k))) (queue_now agree) in
-      closes_timer i.level v
+      let content : Content = Delays (change (timer_content (ws (Guarded x)))) in
+      let is : content ≡ Delays (change now.spells.timed) = ap (λ k. Delays (change (timer_content k))) (queue_now agree) in
+      closes_timer i.threshold v
       (record {
         accepted = now.may.accepted;
         mono = now.may.timed;
@@ -196,7 +196,7 @@ module _ {i : Inside} (now : IsInside i) where
             spelled_put i.z.app (slice_index after) es content i.queues ws x
             (subst (λ (k : Content). (storage i.z.app).Spells (Guarded x) (slice_index after) es k) (sym is)
             (timer_back _ _ _ now.taken.spelled leaves.spells));
-        few = subst (λ (k : Content). (timed k).given + (timed k).moved ≤ 2 ^ 32)
+        few = subst (λ (k : Content). (timer_content k).given + (timer_content k).moved ≤ 2 ^ 32)
             (sym (put_here i.z.app i.z.who ws x content ∙ is)) leaves.few;
       }) refl refl refl
       (λ last other zs soon later.
@@ -235,7 +235,7 @@ of_job c s = record c { z = record c.z { caller = s.caller } }
 -- The code of a call stands for its actions where it is correct: a job that may use the timer queue may call, and
 -- behind the call the answer is in the first slot, and slots outside the window are as they were.
 pub stands_called : (c : Call) (s : Spot) {lines : List Line} {doing : Rest} {steps n : ℕ}
-    → Spawned c.z.app c.task c.t → IsSome c.z.app.mono → MayUseTimer c.z.app c.z.who steps c.level c.slot s
+    → Spawned c.z.app c.task c.t → IsSome c.z.app.mono → MayUseTimer c.z.app c.z.who steps c.threshold c.slot s
     → HasCode c.z.code s.address lines → s.rest ≡ doing c.values
     → ((k : ℕ) → Begins (of_job c s) steps lines doing (begun s k) → S (of_job c s).z (begun s k))
     → StandsBefore c.z.app c.z.who c.z.code c.z.bodies c.z.thread steps c.slot lines c.rest n s c.values

@@ -1,9 +1,9 @@
 -- The code of a `cancel`: the message of the handle leaves the queue and its place becomes free, or there is none.
 use Rattle.rt_gen_queue.proofs.Vocabulary.{Agree, Cancels, Content, Enters, Entry, FREE_COST, Frees, Guarded, Leaves}
 use Rattle.rt_gen_queue.proofs.Vocabulary.{LeavesMine, Line, List, Marked, None, Number, Rest, Section, [], act}
-use Rattle.rt_gen_queue.proofs.Vocabulary.{act_all, ap, arith, armed_before, armed_messages, armed_place, at}
+use Rattle.rt_gen_queue.proofs.Vocabulary.{act_all, ap, arith, capacities_before, armed_messages, armed_place, at}
 use Rattle.rt_gen_queue.proofs.Vocabulary.{capacity_of, count, count_more, drop, few_messages, free_at}
-use Rattle.rt_gen_queue.proofs.Vocabulary.{handle_section_cost, leave, leave_timer, length, memory, noted, number}
+use Rattle.rt_gen_queue.proofs.Vocabulary.{handle_section_cost, leave, leave_timer, length, memory, line_with_note, number}
 use Rattle.rt_gen_queue.proofs.Vocabulary.{operate, queued_more, refl, slice_index, storage, subst, suc, sym, take}
 use Rattle.rt_gen_queue.proofs.Vocabulary.{target_of, with_queue, ℕ, ◌*◌, ◌++◌, ◌+◌, ◌-◌, ◌<◌, ◌∙◌, ◌∷◌, ◌≡◌, ◌≤◌}
 use Rattle.rt_ids.specs.Content.{with_cancelled}
@@ -36,25 +36,25 @@ use Rattle.rt_gen_timer.specs.TimerLines.{alarm_lines, answer_lines, calc, free_
 
 -- what is asked of it beside what is asked of each call
 record AsksCancel (c : Call) (handle : ℕ) (h : Here) : Type 0 where
-  pub call : Begins c (handle_steps c.z.app) (cancel_code c.z.app c.task c.level c.slot h.at)
+  pub call : Begins c (handle_steps c.z.app) (cancel_code c.z.app c.task c.threshold c.slot h.at)
       (cancel_actions c.z.app (handle_section_cost c.z.app) c.task handle (c.rest 0) (c.rest 1)) h
   pub places : MayUsePlaces c.z.app c.z.who c.task (spot c.z h)
   pub shown : slice_index h.slots c.slot ≡ handle
 
 module _ {c : Call} {handle : ℕ} {h : Here} (k : AsksCancel c handle h) where
-  open c use {z, task, level, slot, rest}
+  open c use {z, task, threshold, slot, rest}
   open c.z use {app, code, who}
   open k.call use {may, has, on}
 
   -- the lines, as they stand; and the last ones of the section and those behind it, by the window
   abbrev all : List Line
-  all = cancel_code app task level slot h.at
+  all = cancel_code app task threshold slot h.at
 
   abbrev last_lines : List Line
-  last_lines = noted instr.Mark (note.Cancel task 0) ∷ alarm_lines (queue_of app) 0 (h.at + 72)
+  last_lines = line_with_note instr.Mark (note.Cancel task 0) ∷ alarm_lines (queue_of app) 0 (h.at + 72)
 
   abbrev place_lines : List Line
-  place_lines = set (queue_of app) 0 13 (armed_before app task) ∷ calc (queue_of app) 0 op.Sub 7 7 13 ∷ []
+  place_lines = set (queue_of app) 0 13 (capacities_before app task) ∷ calc (queue_of app) 0 op.Sub 7 7 13 ∷ []
 
   -- what is left to do with the message in the hands
   abbrev freed_rest : Rest
@@ -110,7 +110,7 @@ module _ {c : Call} {handle : ℕ} {h : Here} (k : AsksCancel c handle h) where
     hands : e ∷ h.places ≡ given_up ∷ h.places
     hands = ap (λ y. y ∷ h.places) (parts_alike e given_up back.of_task refl)
 
-    enter : MayEnter z (f may) holding x level
+    enter : MayEnter z (f may) holding x threshold
     enter = record {
       room = omega arith;
       masks = may.masks;
@@ -124,7 +124,7 @@ module _ {c : Call} {handle : ℕ} {h : Here} (k : AsksCancel c handle h) where
     -- It becomes free in a section of its own, and is then the one that is taken next.
     gives_back : S z (Now (f may) holding (words b.words))
     gives_back =
-        section_stands (words b.words) (take 4 (drop 1 (free_lines (queue_of app) 0 level (target_of app task)))) enter
+        section_stands (words b.words) (take 4 (drop 1 (free_lines (queue_of app) 0 threshold (target_of app task)))) enter
         refl refl (sooner (runs_call seek) (omega (arith, back.in_time))).time (code_part code h.at all 81 6 has)
         (enters enter (omega arith) refl
         (λ mask vs cells queues taken.
@@ -144,7 +144,7 @@ module _ {c : Call} {handle : ℕ} {h : Here} (k : AsksCancel c handle h) where
               let one = count_more y given_up [] in
               omega (arith, taken.once y, more, ap (count y) hands, count_more y given_up h.places, one, nothing);
         } in
-        let opens = is_inside app who h.held (opened z (f may) x level) x refl in
+        let opens = is_inside app who h.held (opened z (f may) x threshold) x refl in
         let few : suc n ≤ c.t.capacity = room_left known in
         let small : c.t.capacity ≤ 16 =
         omega (arith, few_free app task c.t may.facts, capacity app task c.t may.facts) in
@@ -170,7 +170,7 @@ module _ {c : Call} {handle : ℕ} {h : Here} (k : AsksCancel c handle h) where
         let content : Content = Number (number (ws (Guarded x)) - 1) in
         let same : ws (Guarded x) ≡ vs (Guarded x) = agree (Guarded x) (reads_it tt enter taken) in
         let own = own_left tt enter taken (given_up ∷ entries) left given.long given.elsewhere in
-        leaves level refl refl refl
+        leaves threshold refl refl refl
         (spelled_put app (slice_index left) (given_up ∷ entries) content queues ws x
         (subst
         (λ (c : Content). (storage app).Spells (Guarded x) (slice_index left) (given_up ∷ entries)
@@ -237,20 +237,20 @@ module _ {c : Call} {handle : ℕ} {h : Here} (k : AsksCancel c handle h) where
     takes_out : {b : Place} (v : Words) → AreOut v → IsRemoved removal (here done (h.at + 17) o.cells) b
         → S z (Now (f may) (here b.done (h.at + 71) b.cells) (words v))
     takes_out {b = b} v are gone =
-        let first : ℕ = armed_before app task in
+        let first : ℕ = capacities_before app task in
         let place = place_of is.now.spells j is.inside in
         let row : armed_place app e < armed_messages app = row_of is.now.spells j is.inside in
-        let same : armed_before app e.task ≡ first = ap (armed_before app) is.of_task in
+        let same : capacities_before app e.task ≡ first = ap (capacities_before app) is.of_task in
         let armings = few_armings is.now.spells is.now.taken.few in
         let kept : IsAsBefore app o.cells b.cells = record { cells = gone.others } in
         let again = timer_left may.timed kept is.now.spells is.found gone.without gone.whole gone.count in
-        run_stands (here b.done (h.at + 71) b.cells) v (last_lines ++ leave app section.Timer level 9 ∷ place_lines)
+        run_stands (here b.done (h.at + 71) b.cells) v (last_lines ++ leave app section.Timer threshold 9 ∷ place_lines)
         (runs_seen seek) (omega (arith, gone.within, is.early, few))
-        (leaving_fits app level last_lines place_lines refl refl)
-        (leaving_code z (f may) level (h.at + 71) last_lines place_lines (code_part code h.at all 71 10 has))
+        (leaving_fits app threshold last_lines place_lines refl refl)
+        (leaving_code z (f may) threshold (h.at + 71) last_lines place_lines (code_part code h.at all 71 10 has))
         (cancels are.shown
         (record {
-          opens = is_inside app who h.held (opened z (f may) section.Timer level) section.Timer refl;
+          opens = is_inside app who h.held (opened z (f may) section.Timer threshold) section.Timer refl;
           stands = is.found.parts;
           of_task = is.of_task;
         }) refl
@@ -284,7 +284,7 @@ module _ {c : Call} {handle : ℕ} {h : Here} (k : AsksCancel c handle h) where
           agree = later;
         })))))))))
 
-    -- The message at a place of the heap leaves it and comes into the hands.
+    -- The message at a position in the heap leaves it and comes into the hands.
     found : (x r : ℕ) → S z (Now (f may) (here done (h.at + 17) o.cells) (words (seen_words seek is x r)))
     found x r =
         let n : ℕ = length is.now.spells.heap in
@@ -316,10 +316,10 @@ module _ {c : Call} {handle : ℕ} {h : Here} (k : AsksCancel c handle h) where
 
 -- the code of a `cancel` stands for its actions
 pub cancels_all_stand : CancelsStand
-cancels_all_stand app task t code bodies thread who level slot n handle s rest vs accepted mono there software has may
+cancels_all_stand app task t code bodies thread who threshold slot n handle s rest vs accepted mono there software has may
     places shown is =
     let z : Setting = record { app = app; code = code; bodies = bodies; thread = thread; who = who; caller = None } in
-    let c : Call = record { z = z; task = task; t = t; level = level; slot = slot; rest = rest; values = vs } in
+    let c : Call = record { z = z; task = task; t = t; threshold = threshold; slot = slot; rest = rest; values = vs } in
     stands_called c s (record { accepted = accepted; at = there; software = software }) mono may has is
     (λ until call.
     cancel_goes (record {

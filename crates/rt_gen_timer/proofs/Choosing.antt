@@ -17,25 +17,25 @@ pub same_choice : {rows app : code.App} (n : ℕ) (t : Task) {b c : Bool} → b 
 same_choice n t is same answer = ap (λ app. has_choice (app_of app) n t) (sym same) ∙ sym is ∙ answer
 
 -- where they may not be, nothing is added
-pub not_fired : (app : App) (level at n : ℕ) (t : Task) (made : Made) → has_choice app n t ≡ false
-    → Appends made made (task_code app level at n t)
-not_fired app level at n t made other =
-    let own : List Line = choice_lines (queue_of app) 0 level (armed_task app n) at in
+pub not_fired : (app : App) (threshold at n : ℕ) (t : Task) (made : Made) → has_choice app n t ≡ false
+    → Appends made made (task_code app threshold at n t)
+not_fired app threshold at n t made other =
+    let own : List Line = choice_lines (queue_of app) 0 threshold (armed_task app n) at in
     ap (λ (ls : List Line). record made { lines = ls })
     (sym (append-nil made.lines) ∙ ap (λ b. made.lines ++ (if b then own else [])) (sym other))
 
--- where the choices of a level begin, behind the lines made before
+-- where the choices of the timer handler begin, behind the lines made before
 pub record Start : Type 0 where
   pub app : App
-  pub level : ℕ
+  pub threshold : ℕ
   pub old : Made
 
 abbrev pub begun : code.App → ℕ → Made → Start
-begun app level old = record { app = app_of app; level = level; old = old }
+begun app threshold old = record { app = app_of app; threshold = threshold; old = old }
 
 -- lines, and those of the tasks from a number on
 abbrev with_rest : Start → Made → ℕ → List Task → Made
-with_rest s made n ts = record made { lines = made.lines ++ choices_code s.app s.level (next_address made) n ts }
+with_rest s made n ts = record made { lines = made.lines ++ choices_code s.app s.threshold (next_address made) n ts }
 
 -- All lines are those made so far and those of the tasks from a number on.
 abbrev pub AreLeft : Start → ℕ → Made → Type 0
@@ -43,14 +43,14 @@ AreLeft s n made = with_rest s s.old 0 s.app.tasks ≡ with_rest s made n (drop 
 
 -- behind the last task there are none
 pub choices_all : (s : Start) (n : ℕ) {made : Made} → length s.app.tasks ≤ n → AreLeft s n made
-    → Appends s.old made (choices_code s.app s.level (next_address s.old) 0 s.app.tasks)
+    → Appends s.old made (choices_code s.app s.threshold (next_address s.old) 0 s.app.tasks)
 choices_all s n {made = made} beyond left =
     sym (left ∙ ap (with_rest s made n) (drop_all n s.app.tasks beyond)
     ∙ ap (λ (ls : List Line). record made { lines = ls }) (append-nil made.lines))
 
 -- a task more
 pub choices_next : (s : Start) (n : ℕ) {t : Task} (mid : Made) {new : Made} → slice_get s.app.tasks n ≡ Some t
-    → AreLeft s n mid → Appends mid new (task_code s.app s.level (next_address mid) n t) → AreLeft s (n + 1) new
+    → AreLeft s n mid → Appends mid new (task_code s.app s.threshold (next_address mid) n t) → AreLeft s (n + 1) new
 choices_next s n {t = t} mid there left pushed =
     let others : List Task = drop (n + 1) s.app.tasks in
     let parts : drop n s.app.tasks ≡ t ∷ others =
@@ -64,10 +64,10 @@ choices_next s n {t = t} mid there left pushed =
     with ls = record mid { lines = ls }
 
     own : List Line
-    own = choice_lines (queue_of s.app) 0 s.level (armed_task s.app n) (next_address mid)
+    own = choice_lines (queue_of s.app) 0 s.threshold (armed_task s.app n) (next_address mid)
 
     others_at : ℕ → List Task → List Line
-    others_at at others = choices_code s.app s.level at (n + 1) others
+    others_at at others = choices_code s.app s.threshold at (n + 1) others
 
     by_choice : (b : Bool) (others : List Task)
         → with (mid.lines ++ (if b then own ++ others_at (next_address mid + 26) others

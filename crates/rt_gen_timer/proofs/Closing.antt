@@ -4,7 +4,7 @@ use Rattle.rt_gen_queue.proofs.Vocabulary.{Agree, App, Content, Entry, Guarded, 
 use Rattle.rt_gen_queue.proofs.Vocabulary.{List, Rest, SetsAlarm, Some, Values, [], and_both, ap, arith, armed_place}
 use Rattle.rt_gen_queue.proofs.Vocabulary.{delays, does, guard_of, least_instant, leave, leave_timer, length, map}
 use Rattle.rt_gen_queue.proofs.Vocabulary.{map-append, owns_open, owns_reads, reads, reads_more, refl, slice_index}
-use Rattle.rt_gen_queue.proofs.Vocabulary.{storage, subst, suc, sym, timed, true, ℕ, ◌++◌, ◌+◌, ◌^◌, ◌∙◌, ◌∷◌, ◌≡◌, ◌≤◌}
+use Rattle.rt_gen_queue.proofs.Vocabulary.{storage, subst, suc, sym, timer_content, true, ℕ, ◌++◌, ◌+◌, ◌^◌, ◌∙◌, ◌∷◌, ◌≡◌, ◌≤◌}
 use Rattle.rt_ids.specs.declared.ids.Section.TheVariants as section
 use Rattle.rt_gen_queue.proofs.{Numbers.steps_and, Owning.timer_spelled}
 use Rattle.rt_gen_queue.proofs.Entering.{fits_append, leave_fits, leave_placed, leaves, opened}
@@ -47,29 +47,29 @@ pub record MayClose (z : Setting) (h : Here) (w : Words) (values : Values) : Typ
   pub counted : w.count ≡ length (h.queues (Guarded section.Timer))
   pub spelled : (storage z.app).Spells (Guarded section.Timer) (slice_index h.cells)
       (h.queues (Guarded section.Timer)) (values (Guarded section.Timer))
-  pub few : (timed (values (Guarded section.Timer))).given + (timed (values (Guarded section.Timer))).moved ≤ 2 ^ 32
+  pub few : (timer_content (values (Guarded section.Timer))).given + (timer_content (values (Guarded section.Timer))).moved ≤ 2 ^ 32
 
 -- It closes within 6 steps, with the alarm set; only one slot is written.
 pub closes_timer : {z : Setting} {f : Slots} {lines : List Line} {h : Here} {outer : List Held} {deadline : ℕ}
-    {around : List ℕ} {rest : Rest} {values : Values} (level : ℕ) (w : Words) → MayClose z h w values
-    → h.held ≡ opened z f section.Timer level ∷ outer → h.deadlines ≡ deadline ∷ around
+    {around : List ℕ} {rest : Rest} {values : Values} (threshold : ℕ) (w : Words) → MayClose z h w values
+    → h.held ≡ opened z f section.Timer threshold ∷ outer → h.deadlines ≡ deadline ∷ around
     → h.rest ≡ leave_timer z.app rest values
     → ((done other : ℕ) (vs : Values) → done ≤ h.done + 6 → Agree (storage z.app) z.who outer vs values
     → Straight z f lines
     (record h { held = outer; done = done; deadlines = around; at = h.at + 7; rest = rest vs })
     (words (record w { other = other })))
-    → Straight z f (alarm_lines (queue_of z.app) 0 h.at ++ leave z.app section.Timer level 9 ∷ lines) h (words w)
-closes_timer {z = z} {f = f} {h = h} {outer = outer} {values = values} level w may innermost last doing on =
+    → Straight z f (alarm_lines (queue_of z.app) 0 h.at ++ leave z.app section.Timer threshold 9 ∷ lines) h (words w)
+closes_timer {z = z} {f = f} {h = h} {outer = outer} {values = values} threshold w may innermost last doing on =
     let x = section.Timer in
     let s = timer_spelled z.app (slice_index h.cells) (h.queues (Guarded x)) (values (Guarded x)) may.spelled in
-    let t_is : timed (values (Guarded x)) ≡ s.timed = ap timed s.is in
+    let t_is : timer_content (values (Guarded x)) ≡ s.timed = ap timer_content s.is in
     alarm_stands w s.heap may.columns (timer_irq z.app may.accepted may.mono)
     (may.counted ∙ sym s.arranged.long, omega (arith, s.room, s.arranged.long))
     (first_within h.cells s (subst (λ t. t.given + t.moved ≤ 2 ^ 32) t_is may.few)) doing
     (λ done other vs soon agree.
     let inside : reads (storage z.app) z.who h.held (Guarded x) ≡ true =
     owns_reads (storage z.app) z.who h.held (Guarded x) (owns_open (storage z.app) z.who h.held x may.columns.opens) in
-    leaves level innermost last refl
+    leaves threshold innermost last refl
     (subst (λ (c : Content). (storage z.app).Spells (Guarded x) (slice_index h.cells) (h.queues (Guarded x)) c)
     (sym (agree (Guarded x) inside)) may.spelled)
     (λ us after.
@@ -79,31 +79,31 @@ closes_timer {z = z} {f = f} {h = h} {outer = outer} {values = values} level w m
     after holder can
     ∙ agree holder
     (subst (λ (held : List Held). reads (storage z.app) z.who held holder ≡ true) (sym innermost)
-    (reads_more (storage z.app) z.who (opened z f x level) outer holder can))))))
+    (reads_more (storage z.app) z.who (opened z f x threshold) outer holder can))))))
 
-module _ (app : App) (level : ℕ) where
+module _ (app : App) (threshold : ℕ) where
   -- lines with one that leaves the section among them: that they fit the window, and where they are numbered from
   -- another slot on
   pub leaving_fits : (front behind : List Line) → all_fit 24 9 front ≡ true → all_fit 24 9 behind ≡ true
-      → all_fit 24 9 (front ++ leave app section.Timer level 9 ∷ behind) ≡ true
+      → all_fit 24 9 (front ++ leave app section.Timer threshold 9 ∷ behind) ≡ true
   leaving_fits front behind first second =
-      fits_append 24 9 front (leave app section.Timer level 9 ∷ behind) first
-      (and_both (fits 24 9 (leave app section.Timer level 9).0) (all_fit 24 9 behind)
-      (leave_fits section.Timer (guard_of app section.Timer) level 9 24 9) second)
+      fits_append 24 9 front (leave app section.Timer threshold 9 ∷ behind) first
+      (and_both (fits 24 9 (leave app section.Timer threshold 9).0) (all_fit 24 9 behind)
+      (leave_fits section.Timer (guard_of app section.Timer) threshold 9 24 9) second)
 
   pub leaving_placed : (code : List Line) (f : Slots) (at : ℕ) (front behind : List Line)
       → HasCode code at
-      (map (placed f.slot) front ++ leave app section.Timer level (f.slot + 9) ∷ map (placed f.slot) behind)
-      → HasCode code at (map (placed f.slot) (front ++ leave app section.Timer level 9 ∷ behind))
+      (map (placed f.slot) front ++ leave app section.Timer threshold (f.slot + 9) ∷ map (placed f.slot) behind)
+      → HasCode code at (map (placed f.slot) (front ++ leave app section.Timer threshold 9 ∷ behind))
   leaving_placed code f at front behind has =
       subst (HasCode code at)
       (ap (λ line. map (placed f.slot) front ++ line ∷ map (placed f.slot) behind)
-      (sym (leave_placed section.Timer (guard_of app section.Timer) level 9 f.slot))
-      ∙ sym (map-append (placed f.slot) front (leave app section.Timer level 9 ∷ behind))) has
+      (sym (leave_placed section.Timer (guard_of app section.Timer) threshold 9 f.slot))
+      ∙ sym (map-append (placed f.slot) front (leave app section.Timer threshold 9 ∷ behind))) has
 
   -- so it is where the alarm is set and the section closes
   abbrev pub closing_lines : ℕ → List Line → List Line
-  closing_lines at lines = alarm_lines (queue_of app) 0 at ++ leave app section.Timer level 9 ∷ lines
+  closing_lines at lines = alarm_lines (queue_of app) 0 at ++ leave app section.Timer threshold 9 ∷ lines
 
   pub closing_fit : (at : ℕ) (lines : List Line) → all_fit 24 9 lines ≡ true
       → all_fit 24 9 (closing_lines at lines) ≡ true
@@ -111,6 +111,6 @@ module _ (app : App) (level : ℕ) where
 
   pub closing_placed : (code : List Line) (f : Slots) (at : ℕ) (lines : List Line)
       → HasCode code at
-      (alarm_lines (queue_of app) f.slot at ++ leave app section.Timer level (f.slot + 9) ∷ map (placed f.slot) lines)
+      (alarm_lines (queue_of app) f.slot at ++ leave app section.Timer threshold (f.slot + 9) ∷ map (placed f.slot) lines)
       → HasCode code at (map (placed f.slot) (closing_lines at lines))
   closing_placed code f at lines has = leaving_placed code f at (alarm_lines (queue_of app) 0 at) lines has

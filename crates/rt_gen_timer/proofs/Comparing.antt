@@ -32,7 +32,7 @@ pub record Hand : Type 0 where
   pub size : ℕ
   pub hand : Entry
 
--- where a loop ends: the steps that are done, the place of the hole, the cells, and the messages of the heap
+-- where a loop ends: the steps that are done, the position of the hole, the cells, and the messages of the heap
 pub record Place : Type 0 where
   pub done : ℕ
   pub hole : ℕ
@@ -92,7 +92,7 @@ module _ {z : Setting} {f : Slots} {lines : List Line} {h : Here} where
       (or_numbers (nat_lt a c) ((a == c) && nat_lt b d) ∙ ap number_of (pairs_are a b c d one.small other.small))
       (on (number_of ((a == c) && nat_lt b d)) below)))))
 
-  -- The row of a message and its key are loaded, from a place of the heap that a slot has.
+  -- The row of a message and its key are loaded, from a position in the heap that a slot has.
   pub loads_key : {q : TimerQueue} {row instant arming : Entry → ℕ} {x : Entry} {ws : List ℕ} {p r i n j : ℕ}
       → Columns z q h.held h.cells → slice_index ws p ≡ j → j < q.messages
       → slice_index h.cells (heap_of q + j) ≡ row x → IsKept q row instant arming h.cells x

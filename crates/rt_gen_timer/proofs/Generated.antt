@@ -9,7 +9,7 @@ use Rattle.rt_gen_queue.proofs.Vocabulary.{option_map, or_zero, plain, refl, res
 use Rattle.rt_gen_queue.proofs.Vocabulary.{task_priority, then_from, timer_at, true, ℕ, ◌&&◌, ◌*◌, ◌++◌, ◌+◌, ◌^◌, ◌∙◌}
 use Rattle.rt_gen_queue.proofs.Vocabulary.{◌∷◌, ◌≡◌, ◌≤◌}
 use Rattle.rt_ids.specs.declared.ids.Section.TheVariants as section
-use Rattle.rt_app.specs.{Accepted.IsMonoPlaced, BodyCost.timer_size, Layout.timed_at}
+use Rattle.rt_app.specs.{Accepted.IsMonoPlaced, BodyCost.timer_size, Layout.timer_queue_at}
 use Rattle.rt_code.specs.Listable.{HasTask}
 use Rattle.rt_code.specs.declared.instr.Instr.TheVariants as instr
 use Rattle.rt_gen_queue.proofs.{Facts.Spawned, Facts.arguments, Facts.few_arguments, Masks.enter_named}
@@ -27,7 +27,7 @@ module _ (plan : Plan) (planned : IsPlan plan) (mono : Mono) (timed : plan.app.n
   of_plan = app_of plan.app.now
 
   pub first_planned : plan.lay.timer ≡ timer_at of_plan
-  first_planned = ap (λ (l : Layout). l.timer) planned.layout ∙ ap (timed_at of_plan) timed
+  first_planned = ap (λ (l : Layout). l.timer) planned.layout ∙ ap (timer_queue_at of_plan) timed
 
   pub top_planned : or_zero plan.ceil.timer ≡ ceiling of_plan section.Timer
   top_planned =
@@ -44,16 +44,16 @@ module _ (plan : Plan) (planned : IsPlan plan) (mono : Mono) (timed : plan.app.n
       omega (arith, top_planned, (accepted_are_sound of_plan accepted).ceilings section.Timer there)
 
 -- how many lines a `spawn_after` has
-pub after_short : (app : App) (task level slot at : ℕ) (t : Task) → Spawned app task t
-    → length (after_code app task level slot at) ≤ 65
-after_short app task level slot at t facts =
+pub after_short : (app : App) (task threshold slot at : ℕ) (t : Task) → Spawned app task t
+    → length (after_code app task threshold slot at) ≤ 65
+after_short app task threshold slot at t facts =
     let a = armed_task app task in
     let args : ℕ = arguments_of app task in
     let few = few_arguments app task t facts in
     let long = fill_long app task (slot + 1) in
     let last : List Line =
-    lines.arm_lines (queue_of app) slot level a (at + (12 + args))
-    ++ lines.full_lines (queue_of app) slot level a (at + (59 + args) + 2) in
+    lines.arm_lines (queue_of app) slot threshold a (at + (12 + args))
+    ++ lines.full_lines (queue_of app) slot threshold a (at + (59 + args) + 2) in
     omega (arith, length-append (fill_code app task (slot + 1)) last, long, arguments app task t facts, few)
 
 -- the interrupt of the monotonic is declared
@@ -67,20 +67,20 @@ timer_named app accepted some = go app.mono some accepted.mono
     go (Some m) some known = irq_declared app m.irq known
 
 -- how many lines the timer handler has
-choices_short : (app : App) (level : ℕ) (ts : List Task) (at n : ℕ)
-    → length (choices_code app level at n ts) ≤ 26 * armed_count app n ts
-choices_short app level [] at n = omega arith
-choices_short app level (t ∷ ts) at n =
-    go (is_software t) (is_armed app n) (λ a. choices_short app level ts a (n + 1))
+choices_short : (app : App) (threshold : ℕ) (ts : List Task) (at n : ℕ)
+    → length (choices_code app threshold at n ts) ≤ 26 * armed_count app n ts
+choices_short app threshold [] at n = omega arith
+choices_short app threshold (t ∷ ts) at n =
+    go (is_software t) (is_armed app n) (λ a. choices_short app threshold ts a (n + 1))
   where
     own : List Line
-    own = lines.choice_lines (queue_of app) 0 level (armed_task app n) at
+    own = lines.choice_lines (queue_of app) 0 threshold (armed_task app n) at
 
-    go : (b z : Bool) → ((a : ℕ) → length (choices_code app level a (n + 1) ts) ≤ 26 * armed_count app (n + 1) ts)
-        → length (if b && z then own ++ choices_code app level (at + 26) (n + 1) ts
-        else choices_code app level at (n + 1) ts) ≤ 26 * ((if z then 1 else 0) + armed_count app (n + 1) ts)
+    go : (b z : Bool) → ((a : ℕ) → length (choices_code app threshold a (n + 1) ts) ≤ 26 * armed_count app (n + 1) ts)
+        → length (if b && z then own ++ choices_code app threshold (at + 26) (n + 1) ts
+        else choices_code app threshold at (n + 1) ts) ≤ 26 * ((if z then 1 else 0) + armed_count app (n + 1) ts)
     go true true others =
-        omega (arith, others (at + 26), length-append own (choices_code app level (at + 26) (n + 1) ts))
+        omega (arith, others (at + 26), length-append own (choices_code app threshold (at + 26) (n + 1) ts))
     go true false others = omega (arith, others at)
     go false true others = omega (arith, others at)
     go false false others = omega (arith, others at)
@@ -93,15 +93,15 @@ timer_short app mono at =
     omega (arith, short, length-append choices (plain (instr.Jump (at + 10)) ∷ []))
 
 -- the lines of calls and of choices name only what the application declares
-module _ (app : App) (irq : HasIrq (names_of app) (queue_of app).irq) (slot level : ℕ) where
+module _ (app : App) (irq : HasIrq (names_of app) (queue_of app).irq) (slot threshold : ℕ) where
   abbrev Claimed : List Line → Type 0
   Claimed = AreClaimed (names_of app)
 
-  enters : IsNameable (names_of app) (lines.enter_timer (queue_of app) slot level)
-  enters = enter_named (names_of app) section.Timer (queue_of app).guard level (slot + MASK) tt
+  enters : IsNameable (names_of app) (lines.enter_timer (queue_of app) slot threshold)
+  enters = enter_named (names_of app) section.Timer (queue_of app).guard threshold (slot + MASK) tt
 
-  leaves : IsNameable (names_of app) (lines.leave_timer (queue_of app) slot level)
-  leaves = leave_named (names_of app) section.Timer (queue_of app).guard level (slot + MASK) tt
+  leaves : IsNameable (names_of app) (lines.leave_timer (queue_of app) slot threshold)
+  leaves = leave_named (names_of app) section.Timer (queue_of app).guard threshold (slot + MASK) tt
 
   module _ (task : ℕ) (t : Task) (facts : Spawned app task t) where
     abbrev c : Target
@@ -110,65 +110,65 @@ module _ (app : App) (irq : HasIrq (names_of app) (queue_of app).irq) (slot leve
     has : HasTask (names_of app) task
     has = task_declared app task t facts
 
-    enters_free : (mask : ℕ) → IsNameable (names_of app) (enter_line (section.Free task) c.guard level mask)
-    enters_free mask = enter_named (names_of app) (section.Free task) c.guard level mask has
+    enters_free : (mask : ℕ) → IsNameable (names_of app) (enter_line (section.Free task) c.guard threshold mask)
+    enters_free mask = enter_named (names_of app) (section.Free task) c.guard threshold mask has
 
-    leaves_free : (mask : ℕ) → IsNameable (names_of app) (leave_line (section.Free task) c.guard level mask)
-    leaves_free mask = leave_named (names_of app) (section.Free task) c.guard level mask has
+    leaves_free : (mask : ℕ) → IsNameable (names_of app) (leave_line (section.Free task) c.guard threshold mask)
+    leaves_free mask = leave_named (names_of app) (section.Free task) c.guard threshold mask has
 
-    pub after_claimed : (at : ℕ) → Claimed (after_code app task level slot at)
+    pub after_claimed : (at : ℕ) → Claimed (after_code app task threshold slot at)
     after_claimed at =
         let a = armed_task app task in
         let arm : List Line =
-        lines.arm_lines (queue_of app) slot level a (at + (12 + c.args))
-        ++ lines.full_lines (queue_of app) slot level a (at + (59 + c.args) + 2) in
+        lines.arm_lines (queue_of app) slot threshold a (at + (12 + c.args))
+        ++ lines.full_lines (queue_of app) slot threshold a (at + (59 + c.args) + 2) in
         let armed : Claimed arm = assumption (enters, irq, leaves, has, leaves_free (slot + MASK)) in
         let mask : ℕ = slot + ARGUMENTS + 8 in
-        let filled : Claimed (fill_lines c level (slot + ARGUMENTS) ++ arm) =
-        claimed_both (names_of app) (fill_lines c level (slot + ARGUMENTS)) arm
-        (fill_claimed (names_of app) c level (slot + ARGUMENTS)) armed in
+        let filled : Claimed (fill_lines c threshold (slot + ARGUMENTS) ++ arm) =
+        claimed_both (names_of app) (fill_lines c threshold (slot + ARGUMENTS)) arm
+        (fill_claimed (names_of app) c threshold (slot + ARGUMENTS)) armed in
         assumption (enters_free mask, has, leaves_free mask, filled)
 
-    pub cancel_claimed : (at : ℕ) → Claimed (cancel_code app task level slot at)
+    pub cancel_claimed : (at : ℕ) → Claimed (cancel_code app task threshold slot at)
     cancel_claimed at =
         assumption (enters, has, irq, leaves, enters_free (slot + MASK), leaves_free (slot + MASK))
 
-    pub move_claimed : (at : ℕ) → Claimed (move_code app task level slot at)
+    pub move_claimed : (at : ℕ) → Claimed (move_code app task threshold slot at)
     move_claimed at = assumption (enters, has, irq, leaves)
 
-    choice_claimed : (at : ℕ) → Claimed (lines.choice_lines (queue_of app) slot level (armed_task app task) at)
+    choice_claimed : (at : ℕ) → Claimed (lines.choice_lines (queue_of app) slot threshold (armed_task app task) at)
     choice_claimed at =
         let x = section.Ready (task_priority app task) in
-        let opens = enter_named (names_of app) x c.queue.guard level (slot + ARGUMENTS + 8) tt in
-        let closes = leave_named (names_of app) x c.queue.guard level (slot + ARGUMENTS + 8) tt in
+        let opens = enter_named (names_of app) x c.queue.guard threshold (slot + ARGUMENTS + 8) tt in
+        let closes = leave_named (names_of app) x c.queue.guard threshold (slot + ARGUMENTS + 8) tt in
         assumption (has, irq, leaves, opens, level_declared app task t facts, closes)
 
-module _ (app : App) (accepted : IsAccepted app) (irq : HasIrq (names_of app) (queue_of app).irq) (level : ℕ) where
+module _ (app : App) (accepted : IsAccepted app) (irq : HasIrq (names_of app) (queue_of app).irq) (threshold : ℕ) where
   choices_claimed : (ts : List Task) (at n : ℕ) → AreFrom app.tasks n ts
-      → AreClaimed (names_of app) (choices_code app level at n ts)
+      → AreClaimed (names_of app) (choices_code app threshold at n ts)
   choices_claimed [] at n from = tt
   choices_claimed (t ∷ ts) at n from =
       go (is_software t) (is_armed app n) refl (λ a. choices_claimed ts a (n + 1) (rest_from app.tasks n t ts from))
     where
       own : List Line
-      own = lines.choice_lines (queue_of app) 0 level (armed_task app n) at
+      own = lines.choice_lines (queue_of app) 0 threshold (armed_task app n) at
 
       go : (b z : Bool) → is_software t ≡ b
-          → ((a : ℕ) → AreClaimed (names_of app) (choices_code app level a (n + 1) ts))
-          → AreClaimed (names_of app) (if b && z then own ++ choices_code app level (at + 26) (n + 1) ts
-          else choices_code app level at (n + 1) ts)
+          → ((a : ℕ) → AreClaimed (names_of app) (choices_code app threshold a (n + 1) ts))
+          → AreClaimed (names_of app) (if b && z then own ++ choices_code app threshold (at + 26) (n + 1) ts
+          else choices_code app threshold at (n + 1) ts)
       go true true software others =
-          claimed_both (names_of app) own (choices_code app level (at + 26) (n + 1) ts)
-          (choice_claimed app irq 0 level n t
+          claimed_both (names_of app) own (choices_code app threshold (at + 26) (n + 1) ts)
+          (choice_claimed app irq 0 threshold n t
           (record { accepted = accepted; at = first_from app.tasks n t ts from; software = software }) at)
           (others (at + 26))
       go true false software others = others at
       go false z software others = others at
 
-  pub timer_claimed : (at : ℕ) → AreClaimed (names_of app) (timer_code app level at)
+  pub timer_claimed : (at : ℕ) → AreClaimed (names_of app) (timer_code app threshold at)
   timer_claimed at =
       let jump : List Line = plain (instr.Jump (at + 10)) ∷ [] in
-      let choices : List Line = choices_code app level (at + 73) 0 app.tasks in
+      let choices : List Line = choices_code app threshold (at + 73) 0 app.tasks in
       let claimed : AreClaimed (names_of app) (choices ++ jump) =
       claimed_both (names_of app) choices jump (choices_claimed app.tasks (at + 73) 0 (all_from app.tasks)) tt in
-      assumption (enters app irq 0 level, irq, leaves app irq 0 level, claimed)
+      assumption (enters app irq 0 threshold, irq, leaves app irq 0 threshold, claimed)

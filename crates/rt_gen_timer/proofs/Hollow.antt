@@ -27,7 +27,7 @@ beside_more first second = record {
   long = second.long ∙ first.long;
 }
 
--- one place of the heap is written
+-- one position in the heap is written
 pub beside_one_place : (q : TimerQueue) {i v : ℕ} {before after : List ℕ} → i < q.messages
     → Wrote (heap_of q + i) v before after → IsBeside q before after
 beside_one_place q within one = record { others = λ c out. one.others c (omega (arith, out)); long = one.long }

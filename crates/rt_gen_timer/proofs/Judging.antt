@@ -1,16 +1,16 @@
--- The timer handler: what it has where it begins and what its level keeps meanwhile; its first lines, by which the
+-- The timer handler: what it has where it begins and what its priority keeps meanwhile; its first lines, by which the
 -- section of the timer queue opens and by the clock the first message of the heap is due, or none is; and that it
 -- returns where none is.
-use Rattle.rt_gen_queue.proofs.Vocabulary.{Agree, App, Armed, At, AtLevel, BodyRow, Bool, Clocks, Content, Delays}
+use Rattle.rt_gen_queue.proofs.Vocabulary.{Agree, App, Armed, At, AtPriority, BodyRow, Bool, Clocks, Content, Delays}
 use Rattle.rt_gen_queue.proofs.Vocabulary.{Doing, Entry, Fires, Guarded, HasCode, Held, Holder, Home, IsAccepted}
 use Rattle.rt_gen_queue.proofs.Vocabulary.{IsSome, IsTimedPlace, IsWithin, LeavesMine, Line, List, MayLoad, None}
 use Rattle.rt_gen_queue.proofs.Vocabulary.{Number, Option, Own, Rest, Returns, Some, Spot, Values, [], act, act_all}
-use Rattle.rt_gen_queue.proofs.Vocabulary.{and_both, ap, arith, armed_at, armed_place, at, cases_lt, ceiling, delays}
+use Rattle.rt_gen_queue.proofs.Vocabulary.{and_both, ap, arith, arming_of_entry, armed_place, at, cases_lt, ceiling, delays}
 use Rattle.rt_gen_queue.proofs.Vocabulary.{does, drop, home_of, if◌then◌else◌, inl, inr, le-leb, le-ltb, leave_timer}
 use Rattle.rt_gen_queue.proofs.Vocabulary.{length, local_is_home, lt-ltb, map, memory, nat_le, nat_lt, nothing}
 use Rattle.rt_gen_queue.proofs.Vocabulary.{number_of, owns_reads, plain, reads, reads_more, ready_actions, refl}
 use Rattle.rt_gen_queue.proofs.Vocabulary.{resource_is_home, slice_index, storage, subst, sym, task_priority, then_from}
-use Rattle.rt_gen_queue.proofs.Vocabulary.{timed, timer_cost, true, ℕ, ◌++◌, ◌+◌, ◌<◌, ◌^◌, ◌∙◌, ◌∷◌, ◌≡◌, ◌≤◌}
+use Rattle.rt_gen_queue.proofs.Vocabulary.{timer_content, timer_cost, true, ℕ, ◌++◌, ◌+◌, ◌<◌, ◌^◌, ◌∙◌, ◌∷◌, ◌≡◌, ◌≤◌}
 use Rattle.std.proofs.lemmas.Bool.{lt-leb}
 use Rattle.rt_ids.specs.declared.ids.Section.TheVariants as section
 use Rattle.rt_app.specs.Doings.{due, fire_doing, timer_doing_in}
@@ -29,33 +29,33 @@ use Rattle.rt_gen_timer.proofs.Closing.{closes_timer, closing_fit, closing_lines
 use Rattle.rt_gen_timer.proofs.Spelled.{few_armings, row_of, spelled_column, spelled_count}
 use Rattle.rt_gen_timer.specs.{TimerCode.queue_of, TimerCode.timer_code, TimerLines.due_lines, TimerLines.heap_of}
 
--- what a level keeps is spelled
-pub record AreKept (app : App) (level : ℕ) (cells : List ℕ) (queues : Holder → List Entry) (vs : Values) : Type 0 where
-  pub spells : (h : Holder) → (storage app).is_kept (AtLevel level) h ≡ true
+-- what a priority keeps is spelled
+pub record AreKept (app : App) (threshold : ℕ) (cells : List ℕ) (queues : Holder → List Entry) (vs : Values) : Type 0 where
+  pub spells : (h : Holder) → (storage app).is_kept (AtPriority threshold) h ≡ true
       → (storage app).Spells h (slice_index cells) (queues h) (vs h)
 
 -- Others leave it: it is spelled by cells of its own alone.
-pub kept_on : {app : App} {level : ℕ} {s : Spot} {after : List ℕ} {later : Holder → List Entry} {vs ws : Values}
-    → AreKept app level s.cells s.queues vs → LeavesMine (storage app) (AtLevel level) s after later
-    → Agree (storage app) (AtLevel level) [] ws vs → AreKept app level after later ws
+pub kept_on : {app : App} {threshold : ℕ} {s : Spot} {after : List ℕ} {later : Holder → List Entry} {vs ws : Values}
+    → AreKept app threshold s.cells s.queues vs → LeavesMine (storage app) (AtPriority threshold) s after later
+    → Agree (storage app) (AtPriority threshold) [] ws vs → AreKept app threshold after later ws
 unfolding storage
-kept_on {app = app} {level = level} {s = s} {after = after} {later = later} {vs = vs} {ws = ws} kept left agree =
+kept_on {app = app} {threshold = threshold} {s = s} {after = after} {later = later} {vs = vs} {ws = ws} kept left agree =
     record { spells = go }
   where
-    readable : (held : List Held) (h : Holder) → (storage app).is_kept (AtLevel level) h ≡ true
-        → reads (storage app) (AtLevel level) held h ≡ true
+    readable : (held : List Held) (h : Holder) → (storage app).is_kept (AtPriority threshold) h ≡ true
+        → reads (storage app) (AtPriority threshold) held h ≡ true
     readable held h own =
-        owns_reads (storage app) (AtLevel level) held h (owns_kept (storage app) (AtLevel level) held h own)
+        owns_reads (storage app) (AtPriority threshold) held h (owns_kept (storage app) (AtPriority threshold) held h own)
 
-    one : (c : ℕ) (h : Holder) → (storage app).is_kept (AtLevel level) h ≡ true → home_of app c ≡ At h
+    one : (c : ℕ) (h : Holder) → (storage app).is_kept (AtPriority threshold) h ≡ true → home_of app c ≡ At h
         → vs h ≡ Number (slice_index s.cells c) → ws h ≡ Number (slice_index after c)
     one c h own home is =
-        let may : MayLoad (storage app) (AtLevel level) s ((storage app).home c) =
-        subst (λ (home : Home). MayLoad (storage app) (AtLevel level) s home) (sym (home_as app c ∙ home))
+        let may : MayLoad (storage app) (AtPriority threshold) s ((storage app).home c) =
+        subst (λ (home : Home). MayLoad (storage app) (AtPriority threshold) s home) (sym (home_as app c ∙ home))
         (readable s.held h own) in
         agree h (readable [] h own) ∙ is ∙ ap Number (sym (left.touched c may))
 
-    go : (h : Holder) → (storage app).is_kept (AtLevel level) h ≡ true
+    go : (h : Holder) → (storage app).is_kept (AtPriority threshold) h ≡ true
         → (storage app).Spells h (slice_index after) (later h) (ws h)
     go (Guarded (section.Res r)) own =
         let x : Holder = Guarded (section.Res r) in
@@ -67,14 +67,14 @@ kept_on {app = app} {level = level} {s = s} {after = after} {later = later} {vs 
         let was = kept.spells (Own n) own in
         (was.0, one (length app.shared + n) (Own n) own (local_is_home app n was.0) was.1)
 
--- A timer handler: its code, its level, its cost, the address where it begins, the slots behind its window, and what it
+-- A timer handler: its code, its threshold, its cost, the address where it begins, the slots behind its window, and what it
 -- has where it begins.
 pub record Handler : Type 0 where
   pub app : App
   pub code : List Line
   pub bodies : List BodyRow
   pub thread : ℕ
-  pub level : ℕ
+  pub threshold : ℕ
   pub cost : ℕ
   pub first : ℕ
   pub back : List ℕ
@@ -88,7 +88,7 @@ setting k = record {
   code = k.code;
   bodies = k.bodies;
   thread = k.thread;
-  who = AtLevel k.level;
+  who = AtPriority k.threshold;
   caller = None;
 }
 
@@ -114,15 +114,15 @@ begun k = record {
 pub record MayHandle (k : Handler) : Type 0 where
   pub accepted : IsAccepted k.app
   pub mono : IsSome k.app.mono
-  pub code : HasCode k.code k.first (timer_code k.app k.level k.first)
+  pub code : HasCode k.code k.first (timer_code k.app k.threshold k.first)
   pub least : 64 ≤ k.cost
-  pub kept : AreKept k.app k.level k.cells k.queues k.values
+  pub kept : AreKept k.app k.threshold k.cells k.queues k.values
   pub long : length k.cells ≡ length (memory k.app)
-  pub within : IsWithin (storage k.app) (AtLevel k.level) (AtLevel k.level) section.Timer
-  pub enters : (e : Entry) → IsTimedPlace k.app e → k.level ≤ ceiling k.app (section.Ready (task_priority k.app e.task))
+  pub within : IsWithin (storage k.app) (AtPriority k.threshold) (AtPriority k.threshold) section.Timer
+  pub enters : (e : Entry) → IsTimedPlace k.app e → k.threshold ≤ ceiling k.app (section.Ready (task_priority k.app e.task))
 
 -- so it may enter the section of the timer queue
-pub may_open : {k : Handler} → MayHandle k → MayOpen (setting k) (frame k) k.level (begun k)
+pub may_open : {k : Handler} → MayHandle k → MayOpen (setting k) (frame k) k.threshold (begun k)
 may_open may = record {
   accepted = may.accepted;
   timed = may.mono;
@@ -159,7 +159,7 @@ abbrev pub inside : Handler → Took → Inside
 inside k d = record {
   z = setting k;
   f = frame k;
-  level = k.level;
+  threshold = k.threshold;
   cost = k.cost;
   h = begun k;
   before = k.values;
@@ -175,7 +175,7 @@ in_section k d done at cells rest = at_work (inside k d) done at [] cells d.queu
 -- what is known there: what the queue spells, and that what may be read is as it was then
 pub record Known (k : Handler) (d : Took) : Type 0 where
   pub now : IsInside (inside k d)
-  pub agree : Agree (storage k.app) (AtLevel k.level) (opened (setting k) (frame k) section.Timer k.level ∷ []) d.us
+  pub agree : Agree (storage k.app) (AtPriority k.threshold) (opened (setting k) (frame k) section.Timer k.threshold ∷ []) d.us
       d.vs
 
 -- the words where a message may be due: the time, the count, the first row and its instant
@@ -203,30 +203,30 @@ module _ {k : Handler} {d : Took} (known : Known k d) where
   abbrev pub foremost_instant : ℕ
   foremost_instant = instant_in k.app d.cells foremost
 
-  armed_are : delays (d.us (Guarded section.Timer)) ≡ map (armed_at k.app (slice_index d.cells)) (entries (inside k d))
+  armed_are : delays (d.us (Guarded section.Timer)) ≡ map (arming_of_entry k.app (slice_index d.cells)) (entries (inside k d))
   armed_are = ap delays same_timed ∙ known.now.spells.messages
 
   -- nothing is due where nothing is armed
   none_due : (time : ℕ) → length known.now.spells.heap ≡ 0 → clock_rest k.app time d.us ≡ idle_rest k.app d.us
   none_due time none =
       ap (λ armed. fire_doing k.app (due k.app time armed) d.us)
-      (armed_are ∙ ap (map (armed_at k.app (slice_index d.cells))) (none_armed known.now.spells.arranged none))
+      (armed_are ∙ ap (map (arming_of_entry k.app (slice_index d.cells))) (none_armed known.now.spells.arranged none))
 
   module _ (some : 0 < length known.now.spells.heap) where
-    pub is_least : IsLeast (armed_at k.app (slice_index d.cells)) (entries (inside k d)) foremost
+    pub is_least : IsLeast (arming_of_entry k.app (slice_index d.cells)) (entries (inside k d)) foremost
     is_least =
-        first_is_armed known.now.spells.arranged (armed_at k.app (slice_index d.cells)) (λ x. refl)
+        first_is_armed known.now.spells.arranged (arming_of_entry k.app (slice_index d.cells)) (λ x. refl)
         (omega (arith, few_armings known.now.spells known.now.taken.few)) some
 
     -- whether it is due decides it
     decides : (time : ℕ) {b : Bool} → nat_le foremost_instant time ≡ b
         → clock_rest k.app time d.us
-        ≡ fire_doing k.app (if b then Some (armed_at k.app (slice_index d.cells) foremost) else None) d.us
+        ≡ fire_doing k.app (if b then Some (arming_of_entry k.app (slice_index d.cells) foremost) else None) d.us
     decides time is =
         ap (λ o. fire_doing k.app o d.us)
         (ap (due k.app time) armed_are
         ∙ ap (λ o. then_from o (λ (a : Armed). if nat_le a.instant time then Some a else None)) is_least.picked.found
-        ∙ ap {B = Option Armed} (λ b. if b then Some (armed_at k.app (slice_index d.cells) foremost) else None) is)
+        ∙ ap {B = Option Armed} (λ b. if b then Some (arming_of_entry k.app (slice_index d.cells) foremost) else None) is)
 
 module _ {k : Handler} (may : MayHandle k) where
   -- No message is due: the section closes with the alarm set, and it returns.
@@ -237,15 +237,15 @@ module _ {k : Handler} (may : MayHandle k) where
       let x = section.Timer in
       let same : d.us (Guarded x) ≡ d.vs (Guarded x) = same_timed known ∙ sym known.now.spells.is in
       run_stands {f = frame k} {k = done + 8} (in_section k d done (k.first + 10) d.cells (idle_rest k.app d.us)) v
-      (closing_lines k.app k.level (k.first + 10) (plain instr.Ret ∷ []))
+      (closing_lines k.app k.threshold (k.first + 10) (plain instr.Ret ∷ []))
       (record {
         time = (omega arith, (omega (arith, may.least), (omega arith, tt)));
         saves = saves_inside (may_enter (may_open may));
       })
-      (omega arith) (closing_fit k.app k.level (k.first + 10) (plain instr.Ret ∷ []) refl)
-      (closing_placed k.app k.level k.code (frame k) (k.first + 10) (plain instr.Ret ∷ [])
-      (code_part k.code k.first (timer_code k.app k.level k.first) 10 8 may.code))
-      (closes_timer k.level v
+      (omega arith) (closing_fit k.app k.threshold (k.first + 10) (plain instr.Ret ∷ []) refl)
+      (closing_placed k.app k.threshold k.code (frame k) (k.first + 10) (plain instr.Ret ∷ [])
+      (code_part k.code k.first (timer_code k.app k.threshold k.first) 10 8 may.code))
+      (closes_timer k.threshold v
       (record {
         accepted = may.accepted;
         mono = may.mono;
@@ -253,7 +253,7 @@ module _ {k : Handler} (may : MayHandle k) where
         counted = counted ∙ known.now.spells.arranged.long;
         spelled = subst (λ (c : Content). (storage k.app).Spells (Guarded x) (slice_index d.cells)
             (d.queues (Guarded x)) c) (sym same) known.now.taken.spelled;
-        few = subst (λ (c : Content). (timed c).given + (timed c).moved ≤ 2 ^ 32) (sym (same_timed known))
+        few = subst (λ (c : Content). (timer_content c).given + (timer_content c).moved ≤ 2 ^ 32) (sym (same_timed known))
             (omega (arith, few_armings known.now.spells known.now.taken.few));
       }) refl refl refl
       (λ finished other ws early agree.
@@ -268,7 +268,7 @@ module _ {k : Handler} (may : MayHandle k) where
             (λ holder read.
             agree holder read
             ∙ known.agree holder
-            (reads_more (storage k.app) (AtLevel k.level) (opened (setting k) (frame k) x k.level) [] holder read)
+            (reads_more (storage k.app) (AtPriority k.threshold) (opened (setting k) (frame k) x k.threshold) [] holder read)
             ∙ known.now.taken.agree holder read)).spells;
       }))
 
@@ -278,20 +278,20 @@ module _ {k : Handler} (may : MayHandle k) where
       (mask time other : ℕ) (d : Took) (known : Known k d) → 0 < length known.now.spells.heap
       → S (setting k) (Now (frame k)
       (in_section k d 10 (k.first + 18) d.cells
-      (due_rest k.app (armed_at k.app (slice_index d.cells) (foremost known)) d.us))
+      (due_rest k.app (arming_of_entry k.app (slice_index d.cells) (foremost known)) d.us))
       (words (judged_words w mask time (length known.now.spells.heap) (armed_place k.app (foremost known))
       (foremost_instant known) other)))
 
   -- Behind the clock it is told within 6 steps more whether it is, or none is.
   judges : {d : Took} (known : Known k d) (w : Words) (mask time : ℕ) → IsDue w
-      → Straight (setting k) (frame k) (drop 4 (due_lines (queue_of k.app) 0 k.level (k.first + 10) (k.first + 18)))
+      → Straight (setting k) (frame k) (drop 4 (due_lines (queue_of k.app) 0 k.threshold (k.first + 10) (k.first + 18)))
       (in_section k d 4 (steps_and 4 k.first) d.cells (clock_rest k.app time d.us))
       (words (record w { mask = mask; one = 1; two = 2; answer = time }))
   judges {d = d} known w mask time dues =
       let s = known.now.spells in
       let n : ℕ = length s.heap in
       let x = section.Timer in
-      let columns : Columns (setting k) (queue_of k.app) (opened (setting k) (frame k) x k.level ∷ []) d.cells =
+      let columns : Columns (setting k) (queue_of k.app) (opened (setting k) (frame k) x k.threshold ∷ []) d.cells =
       columns_now known.now refl in
       loads n (reads_open (count_open columns) (spelled_count s))
       (elim (cases_lt 0 n) [
@@ -319,7 +319,7 @@ module _ {k : Handler} (may : MayHandle k) where
                   (judged_words w mask time n row instant (number_of (nat_lt time instant))) (omega arith) refl)))))
               | inr most ↦
                   jumps_off (ap number_of (le-ltb time instant most))
-                  (rest_is (due_rest k.app (armed_at k.app (slice_index d.cells) (foremost known)) d.us)
+                  (rest_is (due_rest k.app (arming_of_entry k.app (slice_index d.cells) (foremost known)) d.us)
                   (decides known some time (le-leb instant time most))
                   (dues mask time (number_of (nat_lt time instant)) d known some))
             ])))))
@@ -329,12 +329,12 @@ module _ {k : Handler} (may : MayHandle k) where
   pub judges_stand : (w : Words) → IsDue w → S (setting k) (Now (frame k) (begun k) (words w))
   judges_stand w dues =
       let x = section.Timer in
-      let front : HasCode k.code k.first (due_lines (queue_of k.app) 0 k.level (k.first + 10) (k.first + 18)) =
-      code_first k.code 10 k.first (timer_code k.app k.level k.first) may.code in
-      run_stands {f = frame k} {k = 10} (begun k) w (due_lines (queue_of k.app) 0 k.level (k.first + 10) (k.first + 18))
+      let front : HasCode k.code k.first (due_lines (queue_of k.app) 0 k.threshold (k.first + 10) (k.first + 18)) =
+      code_first k.code 10 k.first (timer_code k.app k.threshold k.first) may.code in
+      run_stands {f = frame k} {k = 10} (begun k) w (due_lines (queue_of k.app) 0 k.threshold (k.first + 10) (k.first + 18))
       (record { time = (omega arith, (omega arith, tt)); saves = saves_below (frame k) [] tt }) (omega arith)
-      (and_both _ _ (enter_fits x (queue_of k.app).guard k.level 9 24 9) refl)
-      (front.0 ∙ ap Some (sym (enter_placed x (queue_of k.app).guard k.level 9 0)), front.1)
+      (and_both _ _ (enter_fits x (queue_of k.app).guard k.threshold 9 24 9) refl)
+      (front.0 ∙ ap Some (sym (enter_placed x (queue_of k.app).guard k.threshold 9 0)), front.1)
       (enters {values = k.values} {rest = λ vs. does Clocks vs (clock_rest k.app)} (may_enter (may_open may))
       (omega (arith, may.least)) refl
       (λ mask vs cells queues taken.

@@ -3,7 +3,7 @@
 use Rattle.rt_gen_queue.proofs.Vocabulary.{AllByRecursion, App, AreHandled, Armed, Delays, Entry, IsArranged, IsSome}
 use Rattle.rt_gen_queue.proofs.Vocabulary.{IsTimedPlace, List, SpellsTimer, Timed, [], all_append, all_counted, ap}
 use Rattle.rt_gen_queue.proofs.Vocabulary.{arith, armed_messages, armed_place, armings_at, at, count}
-use Rattle.rt_gen_queue.proofs.Vocabulary.{get_or_from_slice_get, given_at, handles_at, heap_at, inl, inr, instants_at}
+use Rattle.rt_gen_queue.proofs.Vocabulary.{get_or_from_slice_get, handle_count_at, handles_at, heap_at, inl, inr, instants_at}
 use Rattle.rt_gen_queue.proofs.Vocabulary.{length, map, map-append, message_at, numbers_at, refl, slice_get_within}
 use Rattle.rt_gen_queue.proofs.Vocabulary.{slice_index, subst, sym, timer_at, ℕ, ◌*◌, ◌++◌, ◌+◌, ◌<◌, ◌∙◌, ◌∷◌, ◌≡◌}
 use Rattle.rt_gen_queue.proofs.Vocabulary.{◌≢◌, ◌≤◌, ◌⊎◌}
@@ -151,7 +151,7 @@ module _ {app : App} {others : List Entry} {e : Entry} (are : AreOthers app othe
         pub room : length next ≤ armed_messages app
         pub count : slice_index mid (timer_at app) ≡ length next
         pub armings : slice_index mid (armings_at app) ≡ timed.given + timed.moved
-        pub given : slice_index mid (given_at app) ≡ timed.given
+        pub given : slice_index mid (handle_count_at app) ≡ timed.given
         pub column : (j : ℕ) → j < length next → slice_index after (heap_at app + j) ≡ armed_place app (at next j)
         pub arranged : IsArranged (instant_in app mid) (number_in app mid) (timed.given + timed.moved) next with_last
 
@@ -170,7 +170,7 @@ module _ {app : App} {others : List Entry} {e : Entry} (are : AreOthers app othe
             room = omega (arith, last.room, last.arranged.long);
             count = unmoved (timer_at app) (omega arith) ∙ last.count ∙ last.arranged.long;
             armings = unmoved (armings_at app) (omega arith) ∙ last.armings;
-            given = unmoved (given_at app) (omega arith) ∙ last.given;
+            given = unmoved (handle_count_at app) (omega arith) ∙ last.given;
             heap = next;
             column = λ j x there.
                 last.column j (slice_get_within next j x there)

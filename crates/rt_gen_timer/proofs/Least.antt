@@ -1,6 +1,6 @@
 -- Of a list of armed messages: the least one, and the one of a handle, by the places of the list.
 use Rattle.rt_gen_queue.proofs.Vocabulary.{AllByRecursion, Armed, Bool, IfSome, List, None, Option, Some, []}
-use Rattle.rt_gen_queue.proofs.Vocabulary.{all_weaker, ap, arith, armed_as, cond, eq-eqb, false, find, least}
+use Rattle.rt_gen_queue.proofs.Vocabulary.{all_weaker, ap, arith, message_of_handle, cond, eq-eqb, false, find, least}
 use Rattle.rt_gen_queue.proofs.Vocabulary.{least_instant, min, ne_eqb, not, refl, suc, true, without_handle}
 use Rattle.rt_gen_queue.proofs.Vocabulary.{without_least, ℕ, ◌++◌, ◌+◌, ◌<◌, ◌==◌, ◌∙◌, ◌∷◌, ◌≡◌, ◌≢◌, ◌≤◌, ◌⊎◌}
 use Rattle.std.proofs.lemmas.Bool.{and_from, and_left, and_right}
@@ -88,7 +88,7 @@ other_task task handle b other =
 
 -- where no message has a handle, none is found by it
 pub none_has : (task handle : ℕ) (armed : List Armed) → AllByRecursion (λ b. b.handle ≢ handle) armed
-    → armed_as task handle armed ≡ None
+    → message_of_handle task handle armed ≡ None
 none_has task handle armed others =
     none_found (has_handle task handle) armed
     (all_weaker (λ b. b.handle ≢ handle) (λ b. has_handle task handle b ≡ false) (other_handle task handle) armed
@@ -96,7 +96,7 @@ none_has task handle armed others =
 
 module _ (before behind : List Armed) (a : Armed) (apart : AreApart (before ++ a ∷ behind)) where
   -- where handles are apart, a message is the one of its task and handle, and the others are left without it
-  pub armed_as_is : (armed_as a.message.task a.handle (before ++ a ∷ behind) ≡ Some a)
+  pub armed_as_is : (message_of_handle a.message.task a.handle (before ++ a ∷ behind) ≡ Some a)
       × (without_handle a.message.task a.handle (before ++ a ∷ behind) ≡ before ++ behind)
   armed_as_is =
       found_first (has_handle a.message.task a.handle) before behind a
@@ -113,7 +113,7 @@ module _ (before behind : List Armed) (a : Armed) (apart : AreApart (before ++ a
       (along_others (λ a b. a.handle ≢ b.handle) before behind a apart)
 
   -- no message of a task has the handle that one of another task has
-  pub of_other_task : (task : ℕ) → a.message.task ≢ task → armed_as task a.handle (before ++ a ∷ behind) ≡ None
+  pub of_other_task : (task : ℕ) → a.message.task ≢ task → message_of_handle task a.handle (before ++ a ∷ behind) ≡ None
   of_other_task task other =
       none_found (has_handle task a.handle) (before ++ a ∷ behind)
       (all_around (λ b. has_handle task a.handle b ≡ false) before behind a (other_task task a.handle a other)

@@ -3,7 +3,7 @@
 use Rattle.rt_gen_queue.proofs.Vocabulary.{AllByRecursion, App, AreHandled, Armed, Content, Delays, Entry, IsSome}
 use Rattle.rt_gen_queue.proofs.Vocabulary.{IsTimedPlace, List, Option, SpellsTimer, all_counted, ap, arith}
 use Rattle.rt_gen_queue.proofs.Vocabulary.{armed_messages, armed_place, armings_at, at, count, get_or_from_slice_get}
-use Rattle.rt_gen_queue.proofs.Vocabulary.{given_at, handles_at, heap_at, inl, inr, instants_at, key_of, map}
+use Rattle.rt_gen_queue.proofs.Vocabulary.{handle_count_at, handles_at, heap_at, inl, inr, instants_at, key_of, map}
 use Rattle.rt_gen_queue.proofs.Vocabulary.{map-append, numbers_at, refl, slice_get_within, slice_index, subst, sym}
 use Rattle.rt_gen_queue.proofs.Vocabulary.{timer_at, ℕ, ◌++◌, ◌+◌, ◌<◌, ◌∙◌, ◌∷◌, ◌≡◌, ◌≢◌, ◌≤◌, ◌⊎◌}
 use Rattle.rt_gen_timer.proofs.{Alike.AreSame, Alike.arranged_same, Alike.maps_alike, Alone.IsTimerAlone}
@@ -70,7 +70,7 @@ module _ {app : App} {before after : List ℕ} (mono : IsSome app.mono) (kept : 
         room = omega (arith, fewer.long, whole.long, whole.room);
         count = counted ∙ sym whole.long ∙ fewer.long;
         armings = kept.cells (armings_at app) (omega arith) (inl (omega arith)) ∙ s.armings;
-        given = kept.cells (given_at app) (omega arith) (inl (omega arith)) ∙ s.given;
+        given = kept.cells (handle_count_at app) (omega arith) (inl (omega arith)) ∙ s.given;
         heap = next;
         column = λ j x is.
             whole.column j (omega (arith, whole.long, slice_get_within next j x is))

@@ -1,7 +1,7 @@
 -- The notes of the timer queue's code: a message is armed, goes last for another instant, or comes out of the queue
 -- into the hands, for a cancel or because it fires.
 use Rattle.rt_gen_queue.proofs.Vocabulary.{Agree, Arms, Cancels, Doing, Entry, Fires, Guarded, Line, List, Message}
-use Rattle.rt_gen_queue.proofs.Vocabulary.{Moves, Some, Values, [], does, effect, is_open, noted, refl, slice_get}
+use Rattle.rt_gen_queue.proofs.Vocabulary.{Moves, Some, Values, [], does, effect, is_open, line_with_note, refl, slice_get}
 use Rattle.rt_gen_queue.proofs.Vocabulary.{slice_index, slice_set, storage, true, with_queue, ℕ, ◌++◌, ◌+◌, ◌∷◌, ◌≡◌}
 use Rattle.rt_ids.specs.declared.ids.Section.TheVariants as section
 use Rattle.rt_code.specs.declared.instr.Instr.TheVariants as instr
@@ -44,7 +44,7 @@ module _ {z : Setting} {f : Slots} {lines : List Line} {h : Here} {values : Valu
       → Agree (storage z.app) z.who h.held vs values
       → Straight z f lines (queued h others left (h.queues (Guarded section.Timer) ++ e ∷ [])
       (rest (effect (Arms w.instant m) vs))) (words w))
-      → Straight z f (noted (instr.StoreAt (heap_of q) 6 4) (note.Arm task 10) ∷ lines) h (words w)
+      → Straight z f (line_with_note (instr.StoreAt (heap_of q) 6 4) (note.Arm task 10) ∷ lines) h (words w)
   arms q {task = task} {e = e} {others = others} {m = m} w writes may doing on =
       by_noted (λ run has.
       asks (Some (note.Arm task (f.slot + 10)))
@@ -72,7 +72,7 @@ module _ {z : Setting} {f : Slots} {lines : List Line} {h : Here} {values : Valu
       → Agree (storage z.app) z.who h.held vs values
       → Straight z f lines (queued h h.places left (before ++ (behind ++ e ∷ []))
       (rest (effect (Moves task handle w.instant) vs))) (words w))
-      → Straight z f (noted (instr.StoreAt (heap_of q) 6 4) (note.Move task 1 10) ∷ lines) h (words w)
+      → Straight z f (line_with_note (instr.StoreAt (heap_of q) 6 4) (note.Move task 1 10) ∷ lines) h (words w)
   moves q {task = task} {handle = handle} {e = e} {before = before} {behind = behind} w shown writes may doing on =
       by_noted (λ run has.
       asks (Some (note.Move task (f.slot + 1) (f.slot + 10)))
@@ -101,7 +101,7 @@ module _ {z : Setting} {f : Slots} {lines : List Line} {h : Here} {values : Valu
         → ((vs : Values) → Agree (storage z.app) z.who h.held vs values
         → Straight z f lines (queued h (e ∷ h.places) h.cells (before ++ behind)
         (rest (effect (Cancels task handle) vs))) ws)
-        → Straight z f (noted instr.Mark (note.Cancel task 0) ∷ lines) h ws
+        → Straight z f (line_with_note instr.Mark (note.Cancel task 0) ∷ lines) h ws
     cancels {handle = handle} shown may doing on =
         by_noted (λ run has.
         asks (Some (note.Cancel task (f.slot + 0))) mark_gives
@@ -122,7 +122,7 @@ module _ {z : Setting} {f : Slots} {lines : List Line} {h : Here} {values : Valu
         → h.rest ≡ does (Fires m) values (λ answer. rest)
         → ((vs : Values) → Agree (storage z.app) z.who h.held vs values
         → Straight z f lines (queued h (e ∷ h.places) h.cells (before ++ behind) (rest (effect (Fires m) vs))) ws)
-        → Straight z f (noted instr.Mark (note.Fire task) ∷ lines) h ws
+        → Straight z f (line_with_note instr.Mark (note.Fire task) ∷ lines) h ws
     fires {m = m} may of_task doing on =
         by_noted (λ run has.
         asks (Some (note.Fire task)) mark_gives

@@ -2,7 +2,7 @@
 -- down from where it stands, or there is none.
 use Rattle.rt_gen_queue.proofs.Vocabulary.{Clocks, Entry, Guarded, HasCode, Line, List, Moves, None, Rest, Values, act}
 use Rattle.rt_gen_queue.proofs.Vocabulary.{ap, arith, armed_messages, armed_place, at, does, few_messages}
-use Rattle.rt_gen_queue.proofs.Vocabulary.{handle_section_cost, leave, leave_timer, length, min, noted, refl}
+use Rattle.rt_gen_queue.proofs.Vocabulary.{handle_section_cost, leave, leave_timer, length, min, line_with_note, refl}
 use Rattle.rt_gen_queue.proofs.Vocabulary.{slice_index, subst, suc, sym, take, with_moved, ℕ, ◌*◌, ◌++◌, ◌+◌, ◌<◌, ◌^◌}
 use Rattle.rt_gen_queue.proofs.Vocabulary.{◌∙◌, ◌∷◌, ◌≡◌, ◌≤◌}
 use Rattle.rt_ids.specs.declared.ids.Section.TheVariants as section
@@ -30,13 +30,13 @@ use Rattle.rt_gen_timer.specs.TimerLines.{alarm_lines, answer_lines, heap_of, pu
 
 -- the message of a handle is to be put to another instant
 record AsksMove (c : Call) (delay handle : ℕ) (h : Here) : Type 0 where
-  pub call : Begins c (handle_steps c.z.app) (move_code c.z.app c.task c.level c.slot h.at)
+  pub call : Begins c (handle_steps c.z.app) (move_code c.z.app c.task c.threshold c.slot h.at)
       (move_actions c.z.app (handle_section_cost c.z.app) delay c.task handle (c.rest 0) (c.rest 1)) h
   pub delay_is : slice_index h.slots c.slot ≡ delay
   pub shown : slice_index h.slots (suc c.slot) ≡ handle
 
 module _ {c : Call} {delay handle : ℕ} {h : Here} (k : AsksMove c delay handle h) where
-  open c use {z, task, level, slot, rest}
+  open c use {z, task, threshold, slot, rest}
   open c.z use {app, code}
   open k.call use {may, has, on}
 
@@ -45,7 +45,7 @@ module _ {c : Call} {delay handle : ℕ} {h : Here} (k : AsksMove c delay handle
 
   -- the lines, as they stand; and by the window the note and the alarm, and those behind the section
   abbrev all : List Line
-  all = move_code app task level slot h.at
+  all = move_code app task threshold slot h.at
 
   abbrev put_off : List Line
   put_off = put_off_lines q slot (armed_task app task) (h.at + 17)
@@ -54,7 +54,7 @@ module _ {c : Call} {delay handle : ℕ} {h : Here} (k : AsksMove c delay handle
   put_off_code = code_part code h.at all 17 59 has
 
   abbrev note_lines : List Line
-  note_lines = noted (instr.StoreAt (heap_of q) 6 4) (note.Move task 1 10) ∷ alarm_lines q 0 (h.at + 76)
+  note_lines = line_with_note (instr.StoreAt (heap_of q) 6 4) (note.Move task 1 10) ∷ alarm_lines q 0 (h.at + 76)
 
   abbrev none_lines : List Line
   none_lines = answer_lines q 0 0 (h.at + 87)
@@ -146,10 +146,10 @@ module _ {c : Call} {delay handle : ℕ} {h : Here} (k : AsksMove c delay handle
           let room : b.hole < armed_messages app = omega (arith, settled.hollow.within, few_sizes) in
           let columns = columns_now is.now (settled.beside.long ∙ again.long) in
           run_stands (here b.done (h.at + 75) b.cells (moves_then instant) us) (left_words v s b.hole)
-          (note_lines ++ leave app section.Timer level 9 ∷ none_lines) (runs_seen seek)
+          (note_lines ++ leave app section.Timer threshold 9 ∷ none_lines) (runs_seen seek)
           (omega (arith, begins.early, settled.within, few_sizes))
-          (leaving_fits app level note_lines none_lines refl refl)
-          (leaving_code z (f may) level (h.at + 75) note_lines none_lines (code_part code h.at all 75 10 has))
+          (leaving_fits app threshold note_lines none_lines refl refl)
+          (leaving_code z (f may) threshold (h.at + 75) note_lines none_lines (code_part code h.at all 75 10 has))
           (moves q (left_words v s b.hole) begins.shown (writes_open (heap_open columns room))
           (record { opens = columns.opens; stands = is.found.parts; of_task = is.of_task }) refl
           (λ left us2 one agree2.
@@ -236,10 +236,10 @@ module _ {c : Call} {delay handle : ℕ} {h : Here} (k : AsksMove c delay handle
 
 -- the code of a `reschedule_after` stands for its actions
 pub moves_all_stand : MovesStand
-moves_all_stand app task t code bodies thread who level slot n delay handle s rest vs accepted mono there software has
+moves_all_stand app task t code bodies thread who threshold slot n delay handle s rest vs accepted mono there software has
     may late shown is =
     let z : Setting = record { app = app; code = code; bodies = bodies; thread = thread; who = who; caller = None } in
-    let c : Call = record { z = z; task = task; t = t; level = level; slot = slot; rest = rest; values = vs } in
+    let c : Call = record { z = z; task = task; t = t; threshold = threshold; slot = slot; rest = rest; values = vs } in
     let second : suc slot ≡ slot + 1 = omega arith in
     stands_called c s (record { accepted = accepted; at = there; software = software }) mono may has is
     (λ until call.

@@ -27,16 +27,16 @@ timer_irq app accepted timed = go app.mono accepted.mono timed
         is ∙ ap (λ o. Some (or_zero o)) (sym is)
 
 -- what is asked for to enter the section of the timer queue
-pub record MayOpen (z : Setting) (f : Slots) (level : ℕ) (h : Here) : Type 0 where
+pub record MayOpen (z : Setting) (f : Slots) (threshold : ℕ) (h : Here) : Type 0 where
   pub accepted : IsAccepted z.app
   pub timed : IsSome z.app.mono
   pub masks : AllByRecursion (λ d. d < f.slot) (saved_slots h.held)
-  pub off : HoldsOff z.app z.who z.who h.held level
+  pub off : HoldsOff z.app z.who z.who h.held threshold
   pub within : IsWithin (storage z.app) z.who z.who section.Timer
   pub closed : is_open h.held section.Timer ≡ false
 
-pub may_enter : {z : Setting} {f : Slots} {level : ℕ} {h : Here} → MayOpen z f level h
-    → MayEnter z f h section.Timer level
+pub may_enter : {z : Setting} {f : Slots} {threshold : ℕ} {h : Here} → MayOpen z f threshold h
+    → MayEnter z f h section.Timer threshold
 may_enter {z = z} may = record {
   room = omega arith;
   masks = may.masks;
@@ -48,11 +48,11 @@ may_enter {z = z} may = record {
 }
 
 -- inside it its cells are the columns
-pub columns_inside : (z : Setting) (f : Slots) (level : ℕ) (outer : List Held) → IsSome z.app.mono → {cells : List ℕ}
+pub columns_inside : (z : Setting) (f : Slots) (threshold : ℕ) (outer : List Held) → IsSome z.app.mono → {cells : List ℕ}
     → length cells ≡ length (memory z.app)
-    → Columns z (queue_of z.app) (opened z f section.Timer level ∷ outer) cells
-columns_inside z f level outer timed long = record {
-  opens = is_inside z.app z.who outer (opened z f section.Timer level) section.Timer refl;
+    → Columns z (queue_of z.app) (opened z f section.Timer threshold ∷ outer) cells
+columns_inside z f threshold outer timed long = record {
+  opens = is_inside z.app z.who outer (opened z f section.Timer threshold) section.Timer refl;
   long = long;
   homes = timer_is_home z.app timed;
 }

@@ -2,11 +2,11 @@
 -- then. It goes last, with the next number and its handle, and the others are as before.
 use Rattle.rt_gen_queue.proofs.Vocabulary.{AllByRecursion, App, AreHandled, Armed, Content, Delays, Entry, IsArranged}
 use Rattle.rt_gen_queue.proofs.Vocabulary.{IsSome, IsTimedPlace, Line, List, MayArm, SpellsTimer, [], ap, append_assoc}
-use Rattle.rt_gen_queue.proofs.Vocabulary.{arith, armed_as, armed_place, at, given_at, heap_at, key_of, length}
+use Rattle.rt_gen_queue.proofs.Vocabulary.{arith, message_of_handle, armed_place, at, handle_count_at, heap_at, key_of, length}
 use Rattle.rt_gen_queue.proofs.Vocabulary.{length_push, map, map-append, operate, refl, slice_index, subst, sym}
 use Rattle.rt_gen_queue.proofs.Vocabulary.{timer_at, with_moved, without_handle, ℕ, ◌++◌, ◌+◌, ◌<◌, ◌^◌, ◌∙◌, ◌∷◌, ◌≡◌}
 use Rattle.rt_gen_queue.proofs.Vocabulary.{◌≢◌}
-use Rattle.rt_ids.specs.Content.{postponed}
+use Rattle.rt_ids.specs.Content.{postponed_message}
 use Rattle.rt_ids.specs.declared.op.Op.TheVariants as op
 use Rattle.rt_gen_queue.proofs.{Layer.Here, Layer.Setting, Layer.Straight, Layer.ahead, Layer.calculates, Layer.loads}
 use Rattle.rt_gen_queue.proofs.{Layer.reads_open, Layer.stores, Layer.stores_at, Layer.writes_open, Numbers.added}
@@ -59,7 +59,7 @@ module _ {z : Setting} {f : Slots} {q : TimerQueue} {lines : List Line} {h : Her
         long = third.long ∙ second.long ∙ first.long;
       }))))))
 
--- The message of a handle, at a place of the heap, may be put to another instant.
+-- The message of a handle, at a position in the heap, may be put to another instant.
 pub record MayMove (app : App) (entries : List Entry) (content : Content) (before : List ℕ) (i task handle : ℕ)
     : Type 0 where
   pub mono : IsSome app.mono
@@ -136,10 +136,10 @@ module _ {app : App} {entries : List Entry} {content : Content} {before : List �
     armed_then : (with_moved task handle instant may.spells.timed).armed
         ≡ map (armed_in app before) the_others ++ put_off ∷ []
     armed_then =
-        ap (λ list. list ++ postponed instant (armed_as task handle may.spells.timed.armed))
+        ap (λ list. list ++ postponed_message instant (message_of_handle task handle may.spells.timed.armed))
         (ap (without_handle task handle) may.spells.messages ∙ may.found.others)
-        ∙ ap (λ o. map (armed_in app before) the_others ++ postponed instant o)
-        (ap (armed_as task handle) may.spells.messages ∙ may.found.found)
+        ∙ ap (λ o. map (armed_in app before) the_others ++ postponed_message instant o)
+        (ap (message_of_handle task handle) may.spells.messages ∙ may.found.found)
 
     handled_then : AreHandled (with_moved task handle instant may.spells.timed)
     handled_then =
@@ -173,7 +173,7 @@ module _ {app : App} {entries : List Entry} {content : Content} {before : List �
           count = again.others (timer_at app) (omega arith) (omega arith) (omega arith) ∙ spelled_count s
               ∙ sym settled.long;
           armings = again.armings ∙ long;
-          given = again.others (given_at app) (omega arith) (omega arith) (omega arith) ∙ s.given;
+          given = again.others (handle_count_at app) (omega arith) (omega arith) (omega arith) ∙ s.given;
           column = λ j less. column j (omega (arith, settled.long));
           arranged = subst
               (λ n. IsArranged (instant_in app mid) (number_in app mid) n next (the_others ++ the_one ∷ [])) long

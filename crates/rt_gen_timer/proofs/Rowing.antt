@@ -11,7 +11,7 @@ use Rattle.rt_gen_queue.proofs.Numbers.{added}
 use Rattle.rt_gen_timer.proofs.Acting.{Columns, armings_open, columns_on, count_open, given_open, handle_open}
 use Rattle.rt_gen_timer.proofs.Acting.{instant_open, number_open}
 use Rattle.rt_gen_timer.proofs.Window.{Slots, Words, words}
-use Rattle.rt_gen_timer.specs.TimerLines.{armings_of, given_of, handles_of, instants_of, numbers_of, row_lines}
+use Rattle.rt_gen_timer.specs.TimerLines.{armings_of, handle_count_of, handles_of, instants_of, numbers_of, row_lines}
 use Rattle.rt_gen_timer.specs.declared.{armed.ArmedTask.ArmedTask, queue.TimerQueue.TimerQueue}
 
 -- a difference of 32 bits that does not wrap
@@ -24,14 +24,14 @@ module _ (q : TimerQueue) where
   -- there were so many armings and so many handles so far, and so many messages are armed; each may be one more
   pub record HasCounts (a g n : ℕ) (cells : List ℕ) : Type 0 where
     pub armings : slice_index cells (armings_of q) ≡ a
-    pub given : slice_index cells (given_of q) ≡ g
+    pub given : slice_index cells (handle_count_of q) ≡ g
     pub count : slice_index cells q.at ≡ n
     pub small : (a + 1 < 2 ^ 32) × (g + 1 < 2 ^ 32) × (n + 1 < 2 ^ 32)
 
   -- a message more has this row; of other cells only the counts are written
   pub record HasRow (row instant a g n : ℕ) (before after : List ℕ) : Type 0 where
     pub armings : slice_index after (armings_of q) ≡ a + 1
-    pub given : slice_index after (given_of q) ≡ g + 1
+    pub given : slice_index after (handle_count_of q) ≡ g + 1
     pub count : slice_index after q.at ≡ n + 1
     pub instants : slice_index after (instants_of q + row) ≡ instant
     pub numbers : slice_index after (numbers_of q + row) ≡ a
@@ -55,7 +55,7 @@ with_row w row a g n = record w {
 
 -- what six stores leave: the counts are one more, and the row has what is stored at it
 row_written : {q : TimerQueue} {row instant a g n : ℕ} {c0 c1 c2 c3 c4 c5 c6 : List ℕ}
-    → Wrote (armings_of q) (a + 1) c0 c1 → Wrote (given_of q) (g + 1) c1 c2 → Wrote q.at (n + 1) c2 c3
+    → Wrote (armings_of q) (a + 1) c0 c1 → Wrote (handle_count_of q) (g + 1) c1 c2 → Wrote q.at (n + 1) c2 c3
     → Wrote (instants_of q + row) instant c3 c4 → Wrote (numbers_of q + row) a c4 c5
     → Wrote (handles_of q + row) (g + 1) c5 c6 → row < q.messages → HasRow q row instant a g n c0 c6
 row_written {q = q} {row = row} {c3 = c3} {c6 = c6} w1 w2 w3 w4 w5 w6 there =
@@ -64,7 +64,7 @@ row_written {q = q} {row = row} {c3 = c3} {c6 = c6} w1 w2 w3 w4 w5 w6 there =
     record {
       armings = behind (armings_of q) (omega arith) ∙ w3.others (armings_of q) (omega arith)
           ∙ w2.others (armings_of q) (omega arith) ∙ w1.here;
-      given = behind (given_of q) (omega arith) ∙ w3.others (given_of q) (omega arith) ∙ w2.here;
+      given = behind (handle_count_of q) (omega arith) ∙ w3.others (handle_count_of q) (omega arith) ∙ w2.here;
       count = behind q.at (omega arith) ∙ w3.here;
       instants = w6.others (instants_of q + row) (omega arith) ∙ w5.others (instants_of q + row) (omega arith)
           ∙ w4.here;
@@ -92,7 +92,7 @@ module _ {z : Setting} {f : Slots} {q : TimerQueue} {lines : List Line} {h : Her
       (stores (a + 1) refl (writes_open (armings_open columns))
       (λ c1 w1.
       let columns1 = columns_on columns w1.long in
-      loads g (reads_open (given_open columns1) (w1.others (given_of q) (omega arith) ∙ counts.given))
+      loads g (reads_open (given_open columns1) (w1.others (handle_count_of q) (omega arith) ∙ counts.given))
       (calculates (g + 1) (added g 1 (g + 1) refl counts.small.1)
       (stores (g + 1) refl (writes_open (given_open columns1))
       (λ c2 w2.

@@ -2,7 +2,7 @@
 -- for in the heap, from its last place down to the first; or none has it, the section closes, and the answer is 1.
 use Rattle.rt_gen_queue.proofs.Vocabulary.{App, Armed, Bool, Doing, Enters, Entry, Guarded, HANDLE_COST, HasCode}
 use Rattle.rt_gen_queue.proofs.Vocabulary.{Holder, Leaves, Line, List, Option, Rest, Some, Values, [], act, ap, arith}
-use Rattle.rt_gen_queue.proofs.Vocabulary.{armed_as, armed_at, armed_messages, armed_place, at, cases_eq, false}
+use Rattle.rt_gen_queue.proofs.Vocabulary.{message_of_handle, arming_of_entry, armed_messages, armed_place, at, cases_eq, false}
 use Rattle.rt_gen_queue.proofs.Vocabulary.{few_messages, guard_of, handle_at, handle_section_cost, if◌then◌else◌, inl}
 use Rattle.rt_gen_queue.proofs.Vocabulary.{inr, is_armed_as, is_some, leave, length, nat_lt, nat_tests, number_of}
 use Rattle.rt_gen_queue.proofs.Vocabulary.{plain, refl, slice_index, subst, suc, sym, take, true, zero, ℕ, ◌&&◌, ◌*◌}
@@ -63,7 +63,7 @@ record MaySearch (z : Setting) (f : Slots) (g : Search) (h : Here) (w : Words) :
   pub handles : (j : ℕ) → j < length g.heap
       → slice_index h.cells (handles_of g.queue + g.row (at g.heap j)) ≡ g.handle (at g.heap j)
 
--- the message at a place of the heap has the handle, and its row is one of the task's
+-- the message at a position in the heap has the handle, and its row is one of the task's
 record IsOwned (g : Search) (j : ℕ) : Type 0 where
   pub inside : j < length g.heap
   pub is : g.handle (at g.heap j) ≡ g.wanted
@@ -208,9 +208,9 @@ pub record Sought : Type 0 where
 pub record MaySeek (c : Call) (h : Here) (k : Sought) : Type 0 where
   pub may : MayCall c (handle_steps c.z.app) h
   pub code : HasCode c.z.code h.at
-      (find_lines (queue_of c.z.app) c.slot c.level (armed_task c.z.app c.task) k.slot (h.at + k.missing) h.at)
+      (find_lines (queue_of c.z.app) c.slot c.threshold (armed_task c.z.app c.task) k.slot (h.at + k.missing) h.at)
   pub none : HasCode c.z.code (h.at + k.missing)
-      (lines.leave_timer (queue_of c.z.app) c.slot c.level ∷ lines.set (queue_of c.z.app) c.slot 0 1 ∷ [])
+      (lines.leave_timer (queue_of c.z.app) c.slot c.threshold ∷ lines.set (queue_of c.z.app) c.slot 0 1 ∷ [])
   pub known : is_there 24 k.slot ≡ true
   pub shown : (mask n : ℕ) → Shows (opened_words (w may) mask n) k.slot k.handle
   pub is : h.rest
@@ -231,7 +231,7 @@ module _ {c : Call} {h : Here} {k : Sought} (seek : MaySeek c h k) where
   seen o = record {
     z = c.z;
     f = f seek.may;
-    level = c.level;
+    threshold = c.threshold;
     cost = handle_section_cost c.z.app;
     h = h;
     before = c.values;
@@ -242,7 +242,7 @@ module _ {c : Call} {h : Here} {k : Sought} (seek : MaySeek c h k) where
 
   -- there are these steps for what is in the section
   pub runs_seen : Lasting (f seek.may) (h.done + (128 + 96 * armed_messages c.z.app))
-      (opened c.z (f seek.may) section.Timer c.level ∷ h.held)
+      (opened c.z (f seek.may) section.Timer c.threshold ∷ h.held)
       (h.until ∷ (h.done + handle_section_cost c.z.app) ∷ h.deadlines)
   runs_seen =
       let last : ℕ = h.done + (128 + 96 * armed_messages c.z.app) in
@@ -253,12 +253,12 @@ module _ {c : Call} {h : Here} {k : Sought} (seek : MaySeek c h k) where
   pub runs_call : Runs (f seek.may) (h.done + handle_steps c.z.app) h
   runs_call = record { time = seek.may.time; saves = saves_below (f seek.may) h.held seek.may.masks }
 
-  -- The message of the handle is at a place of the heap.
+  -- The message of the handle is at a position in the heap.
   pub record IsSeen (o : Taken) (done j : ℕ) : Type 0 where
     pub now : IsInside (seen o)
     pub inside : j < length now.spells.heap
     pub of_task : (at now.spells.heap j).task ≡ c.task
-    pub found : IsOfHandle (armed_at c.z.app (slice_index o.cells)) (entries (seen o)) (at now.spells.heap j) c.task
+    pub found : IsOfHandle (arming_of_entry c.z.app (slice_index o.cells)) (entries (seen o)) (at now.spells.heap j) c.task
         k.handle
     pub early : done ≤ h.done + (6 * armed_messages c.z.app + 12)
 
@@ -298,10 +298,10 @@ module _ {c : Call} {h : Here} {k : Sought} (seek : MaySeek c h k) where
   closes o {done = done} v now early missed =
       let behind : List Line = plain (instr.Set 0 1) ∷ [] in
       run_stands (here o done (h.at + k.missing) (follow o.values false)) v
-      (leave c.z.app section.Timer c.level 9 ∷ behind) runs_seen (omega (arith, early))
-      (leaving_fits c.z.app c.level [] behind refl refl)
-      (leaving_code c.z (f seek.may) c.level (h.at + k.missing) [] behind seek.none)
-      (leaves c.level refl refl refl now.taken.spelled
+      (leave c.z.app section.Timer c.threshold 9 ∷ behind) runs_seen (omega (arith, early))
+      (leaving_fits c.z.app c.threshold [] behind refl refl)
+      (leaving_code c.z (f seek.may) c.threshold (h.at + k.missing) [] behind seek.none)
+      (leaves c.threshold refl refl refl now.taken.spelled
       (λ us later.
       sets
       (ends
@@ -339,7 +339,7 @@ module _ {c : Call} {h : Here} {k : Sought} (seek : MaySeek c h k) where
       finds_stand {z = c.z} {f = f seek.may} {g = g} {h = here o (steps_and 5 h.done) (h.at + 5) (to_do o)}
       {w = opened_words (w seek.may) o.mask (length s.heap)}
       (record {
-        code = code_part c.z.code h.at (find_lines g.queue c.slot c.level g.task k.slot g.missing h.at) 5 12 seek.code;
+        code = code_part c.z.code h.at (find_lines g.queue c.slot c.threshold g.task k.slot g.missing h.at) 5 12 seek.code;
         runs = sooner runs_seen (omega (arith, few));
         small = omega (arith, few, few_messages c.z.app seek.may.facts.accepted);
         room = few;
@@ -354,7 +354,7 @@ module _ {c : Call} {h : Here} {k : Sought} (seek : MaySeek c h k) where
       let of_task : (at s.heap j).task ≡ c.task =
       own_task s c.task seek.may.facts.at j one.inside one.least one.less in
       let found = found_of s j k.handle one.inside one.is of_task in
-      let as_armed = ap (armed_as c.task k.handle) (armed_is s) ∙ found.found in
+      let as_armed = ap (message_of_handle c.task k.handle) (armed_is s) ∙ found.found in
       moved done (h.at + 17) refl (omega arith)
       (rest_is (k.found o.values) (ap (λ (a : Option Armed). follow o.values (is_some a)) as_armed)
       (on o done j x r
@@ -374,13 +374,13 @@ module _ {c : Call} {h : Here} {k : Sought} (seek : MaySeek c h k) where
   pub seeks : OnSeen → OnNone → S c.z (Now (f seek.may) h (words (w seek.may)))
   seeks on missed =
       let x = section.Timer in
-      let front : HasCode c.z.code h.at (open_lines (queue_of c.z.app) c.slot c.level) =
+      let front : HasCode c.z.code h.at (open_lines (queue_of c.z.app) c.slot c.threshold) =
       code_first c.z.code 5 h.at
-      (find_lines (queue_of c.z.app) c.slot c.level (armed_task c.z.app c.task) k.slot (h.at + k.missing) h.at)
+      (find_lines (queue_of c.z.app) c.slot c.threshold (armed_task c.z.app c.task) k.slot (h.at + k.missing) h.at)
       seek.code in
-      run_stands h (w seek.may) (open_lines (queue_of c.z.app) 0 c.level) runs_call (omega arith)
-      (ap (λ b. b && true) (enter_fits x (guard_of c.z.app x) c.level 9 24 9))
-      (front.0 ∙ ap Some (sym (enter_placed x (guard_of c.z.app x) c.level 9 c.slot)), front.1)
+      run_stands h (w seek.may) (open_lines (queue_of c.z.app) 0 c.threshold) runs_call (omega arith)
+      (ap (λ b. b && true) (enter_fits x (guard_of c.z.app x) c.threshold 9 24 9))
+      (front.0 ∙ ap Some (sym (enter_placed x (guard_of c.z.app x) c.threshold 9 c.slot)), front.1)
       (enters (may_enter (may_open seek.may)) (omega arith) seek.is
       (λ mask vs cells queues taken.
       let o : Taken = record { mask = mask; values = vs; cells = cells; queues = queues } in

@@ -220,7 +220,7 @@ BehindSink z f k turns i h xs w =
     (b : Place) (t : Scratch) → IsSunk k turns i h xs b
     → S z (Now f (record h { done = b.done; at = h.at + 31; cells = b.cells }) (words (sinking k w t b.hole)))
 
--- and with two keys loaded, from two places of the heap
+-- and with two keys loaded, from two positions in the heap
 abbrev two_keys : Hand → List Entry → Scratch → ℕ → ℕ → Scratch
 two_keys k xs s left right = record s {
   other = left;

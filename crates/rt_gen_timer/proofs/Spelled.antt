@@ -1,8 +1,8 @@
 -- The timer queue of an application is a heap in cells, as its section finds it: its messages stand in rows of their
 -- own tasks, its first message has the least armed instant, and a handle that none of them has is of no armed message.
 use Rattle.rt_gen_queue.proofs.Vocabulary.{App, Armed, Content, Entry, IsArranged, IsTimedPlace, List, MayArm, None}
-use Rattle.rt_gen_queue.proofs.Vocabulary.{Some, SpellsTimer, Task, [], all_counted, ap, arith, armed_as, armed_at}
-use Rattle.rt_gen_queue.proofs.Vocabulary.{armed_before, armed_messages, armed_place, at, capacity_of, delays}
+use Rattle.rt_gen_queue.proofs.Vocabulary.{Some, SpellsTimer, Task, [], all_counted, ap, arith, message_of_handle, arming_of_entry}
+use Rattle.rt_gen_queue.proofs.Vocabulary.{capacities_before, armed_messages, armed_place, at, capacity_of, delays}
 use Rattle.rt_gen_queue.proofs.Vocabulary.{handle_at, if◌then◌else◌, inl, inr, is_armed, is_software, least_instant}
 use Rattle.rt_gen_queue.proofs.Vocabulary.{length, map, option_map, or_zero, refl, slice_get, slice_get-get_or}
 use Rattle.rt_gen_queue.proofs.Vocabulary.{slice_index, subst, sym, the_task, ℕ, ◌+◌, ◌<◌, ◌^◌, ◌∙◌, ◌∷◌, ◌≡◌, ◌≢◌, ◌≤◌}
@@ -16,7 +16,7 @@ use Rattle.rt_gen_timer.specs.{TimerCode.armed_task, TimerCode.queue_of, TimerLi
 
 module _ {app : App} {cells : ℕ → ℕ} {entries : List Entry} {content : Content}
     (s : SpellsTimer app cells entries content) where
-  -- a place of the heap has a place of a task that may be armed
+  -- a position in the heap has a place of a task that may be armed
   pub place_of : (j : ℕ) → j < length s.heap → IsTimedPlace app (at s.heap j)
   place_of j within = all_counted (IsTimedPlace app) entries (at s.heap j) s.places (in_queue s.arranged j within)
 
@@ -37,11 +37,11 @@ module _ {app : App} {cells : ℕ → ℕ} {entries : List Entry} {content : Con
       s.column j (at s.heap j) (slice_get-get_or s.heap j (record { task = 0; place = 0 }) within)
 
   -- the armed messages are those of the list
-  pub armed_is : delays content ≡ map (armed_at app cells) entries
+  pub armed_is : delays content ≡ map (arming_of_entry app cells) entries
   armed_is = ap delays s.is ∙ s.messages
 
   -- no two of them have one handle
-  apart : AreApart (map (armed_at app cells) entries)
+  apart : AreApart (map (arming_of_entry app cells) entries)
   apart = subst AreApart s.messages (apart_of s.timed s.handled)
 
   module _ (task : ℕ) {t : Task} (there : slice_get app.tasks task ≡ Some t) where
@@ -80,15 +80,15 @@ module _ {app : App} {cells : ℕ → ℕ} {entries : List Entry} {content : Con
       let place = place_of j within in
       let its_rows : (armed_task app task).rows ≡ capacity_of app task =
       ap {B = ℕ} (λ b. if b then capacity_of app task else 0) (ap (is_armed app) (sym same) ∙ place.0) in
-      absurd (omega (arith, out, place.2, its_rows, ap (armed_before app) same, ap (capacity_of app) same))
+      absurd (omega (arith, out, place.2, its_rows, ap (capacities_before app) same, ap (capacity_of app) same))
 
   -- What the search found is the armed message of the task that has the handle.
   pub found_of : {task : ℕ} (j wanted : ℕ) → j < length s.heap → handle_at app cells (at s.heap j) ≡ wanted
-      → (at s.heap j).task ≡ task → IsOfHandle (armed_at app cells) entries (at s.heap j) task wanted
+      → (at s.heap j).task ≡ task → IsOfHandle (arming_of_entry app cells) entries (at s.heap j) task wanted
   found_of j wanted within is of_task =
-      subst (λ n. IsOfHandle (armed_at app cells) entries (at s.heap j) n wanted) of_task
-      (subst (IsOfHandle (armed_at app cells) entries (at s.heap j) (at s.heap j).task) is
-      (handle_found s.arranged (armed_at app cells) apart j within))
+      subst (λ n. IsOfHandle (arming_of_entry app cells) entries (at s.heap j) n wanted) of_task
+      (subst (IsOfHandle (arming_of_entry app cells) entries (at s.heap j) (at s.heap j).task) is
+      (handle_found s.arranged (arming_of_entry app cells) apart j within))
 
   -- Where no message of the heap has the handle, or one whose row is none of the task's, no armed message of the task
   -- has it.
@@ -96,13 +96,13 @@ module _ {app : App} {cells : ℕ → ℕ} {entries : List Entry} {content : Con
       → ((j : ℕ) → j < length s.heap → handle_at app cells (at s.heap j) ≢ wanted)
       ⊎ ((j : ℕ) × (j < length s.heap) × (handle_at app cells (at s.heap j) ≡ wanted)
       × IsOutside task (armed_place app (at s.heap j)))
-      → armed_as task wanted (delays content) ≡ None
+      → message_of_handle task wanted (delays content) ≡ None
   missing_of task wanted (inl none) =
-      ap (armed_as task wanted) armed_is ∙ handle_missing s.arranged (armed_at app cells) task wanted none
+      ap (message_of_handle task wanted) armed_is ∙ handle_missing s.arranged (arming_of_entry app cells) task wanted none
   missing_of task wanted (inr (j, within, is, out)) =
-      ap (armed_as task wanted) armed_is
-      ∙ ap (λ handle. armed_as task handle (map (armed_at app cells) entries)) (sym is)
-      ∙ handle_of_another s.arranged (armed_at app cells) apart j within task (other_task task j within out)
+      ap (message_of_handle task wanted) armed_is
+      ∙ ap (λ handle. message_of_handle task handle (map (arming_of_entry app cells) entries)) (sym is)
+      ∙ handle_of_another s.arranged (arming_of_entry app cells) apart j within task (other_task task j within out)
 
 module _ (cells : List ℕ) {app : App} {entries : List Entry} {content : Content}
     (s : SpellsTimer app (slice_index cells) entries content) where
@@ -137,7 +137,7 @@ module _ (cells : List ℕ) {app : App} {entries : List Entry} {content : Conten
   first_within most = go s.heap s.arranged (whole_within most)
     where
       read : Entry → Armed
-      read = armed_at app (slice_index cells)
+      read = arming_of_entry app (slice_index cells)
 
       go : (heap : List Entry)
           → IsArranged (instant_in app cells) (number_in app cells) (s.timed.given + s.timed.moved) heap entries

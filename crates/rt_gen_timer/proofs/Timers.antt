@@ -1,14 +1,14 @@
 -- The timer handler where a message is due: the first message of the heap leaves it and fires, the section closes with
 -- the alarm set, the message becomes ready at its task's level, and the handler returns. So the code of the whole
--- handler stands, at the level of the monotonic.
-use Rattle.rt_gen_queue.proofs.Vocabulary.{App, AtLevel, Contains, Entry, HasCode, Holder, IsAccepted, IsSome}
+-- handler stands, at the priority of the monotonic.
+use Rattle.rt_gen_queue.proofs.Vocabulary.{App, AtPriority, Contains, Entry, HasCode, Holder, IsAccepted, IsSome}
 use Rattle.rt_gen_queue.proofs.Vocabulary.{IsTimedPlace, IsWithin, Line, List, Message, Mono, Returns, Some, Task}
-use Rattle.rt_gen_queue.proofs.Vocabulary.{Values, [], act_all, ap, arith, armed_at, armed_place, capacity_of, ceiling}
+use Rattle.rt_gen_queue.proofs.Vocabulary.{Values, [], act_all, ap, arith, arming_of_entry, armed_place, capacity_of, ceiling}
 use Rattle.rt_gen_queue.proofs.Vocabulary.{drop, few_before, few_messages, guard_of, if◌then◌else◌, is_software, least}
 use Rattle.rt_gen_queue.proofs.Vocabulary.{length, levels, lt-ltb, memory, message_at, message_word, nat_lt, nothing}
 use Rattle.rt_gen_queue.proofs.Vocabulary.{number_of, or_left, plain, ready_actions, ready_code, ready_room, refl}
 use Rattle.rt_gen_queue.proofs.Vocabulary.{slice_get, slice_get_within, slice_index, storage, subst, sym, task_priority}
-use Rattle.rt_gen_queue.proofs.Vocabulary.{the_task, timed, timer_cost, true, with_queue, without_least, ℕ, ◌*◌, ◌++◌}
+use Rattle.rt_gen_queue.proofs.Vocabulary.{the_task, timer_content, timer_cost, true, with_queue, without_least, ℕ, ◌*◌, ◌++◌}
 use Rattle.rt_gen_queue.proofs.Vocabulary.{◌+◌, ◌-◌, ◌<◌, ◌^◌, ◌∙◌, ◌∷◌, ◌≡◌, ◌≤◌}
 use Rattle.rt_ids.specs.{Content.with_fired, declared.limits.TheConstants.CAPACITY}
 use Rattle.rt_ids.specs.declared.ids.Section.TheVariants as section
@@ -67,10 +67,10 @@ module _ (app : App) (accepted : IsAccepted app) (e : Entry) (is : IsTimedPlace 
   word_small : message_word e < 2 ^ 32
   word_small = omega (arith, small app e.task task_is.0 spawned, few_free app e.task task_is.0 spawned, is.2)
 
-within_ready : (app : App) (level p : ℕ) → level ≤ ceiling app (section.Ready p)
-    → IsWithin (storage app) (AtLevel level) (AtLevel level) (section.Ready p)
+within_ready : (app : App) (threshold p : ℕ) → threshold ≤ ceiling app (section.Ready p)
+    → IsWithin (storage app) (AtPriority threshold) (AtPriority threshold) (section.Ready p)
 unfolding storage
-within_ready app level p less = less
+within_ready app threshold p less = less
 
 -- The message of a place is in the hands; it is to become ready.
 record Carried : Type 0 where
@@ -98,9 +98,9 @@ record MayRise (k : Handler) (c : Carried) : Type 0 where
   pub of_task : c.m.task ≡ c.e.task
   pub message : message_at k.app (slice_index c.cells) c.e ≡ c.m
   pub long : length c.cells ≡ length (memory k.app)
-  pub kept : AreKept k.app k.level c.cells c.queues c.values
+  pub kept : AreKept k.app k.threshold c.cells c.queues c.values
   pub has : HasCode k.code c.at
-      (ready_code k.app c.e.task (task_priority k.app c.e.task) k.level 1 ++ plain instr.Ret ∷ [])
+      (ready_code k.app c.e.task (task_priority k.app c.e.task) k.threshold 1 ++ plain instr.Ret ∷ [])
   pub in_time : c.done + 13 ≤ timer_cost k.app
 
 -- its words are those that a spawn works in
@@ -115,11 +115,11 @@ readies_stand : (k : Handler) (c : Carried) (w : Words) → MayRise k c
     → S (setting k) (Now (frame k) (in_hands k c) (words (record w { place = message_word c.e })))
 readies_stand k c w may =
     let p : ℕ = task_priority k.app c.e.task in
-    let ready = ready_code k.app c.e.task p k.level 1 in
+    let ready = ready_code k.app c.e.task p k.threshold 1 in
     let accepted = may.handle.accepted in
     let there = task_is k.app accepted c.e may.timed in
     let spawns = spawned k.app accepted c.e may.timed in
-    let asked : MayReady (setting k) (carried_frame k w) (in_hands k c) c.e.task p k.level c.e [] c.m =
+    let asked : MayReady (setting k) (carried_frame k w) (in_hands k c) c.e.task p k.threshold c.e [] c.m =
     record {
       known = of_level k.app accepted c.e may.timed (Contains (levels k.app)) (known k.app c.e.task there.0 spawns);
       few = of_level k.app accepted c.e may.timed (λ p. ready_room k.app p ≤ 1024)
@@ -132,9 +132,9 @@ readies_stand k c w may =
         off = omega arith;
         top = of_level k.app accepted c.e may.timed (λ p. ceiling k.app (section.Ready p) ≤ 2 ^ k.app.bits)
             (ready_top k.app c.e.task there.0 spawns);
-        within = within_ready k.app k.level p (may.handle.enters c.e may.timed);
+        within = within_ready k.app k.threshold p (may.handle.enters c.e may.timed);
         closed = refl;
-        nobody = nobody_keeps k.app (AtLevel k.level) (AtLevel k.level) (section.Ready p) tt;
+        nobody = nobody_keeps k.app (AtPriority k.threshold) (AtPriority k.threshold) (section.Ready p) tt;
       };
       hands = record {
         of_task = (refl, may.of_task);
@@ -173,7 +173,7 @@ module _ {k : Handler} (u : Due k) where
   timed_place : IsTimedPlace k.app e
   timed_place = place_of u.known.now.spells 0 u.some
 
-  abbrev picked : IsPicked (armed_at k.app (slice_index u.d.cells)) (entries (inside k u.d)) e least without_least
+  abbrev picked : IsPicked (arming_of_entry k.app (slice_index u.d.cells)) (entries (inside k u.d)) e least without_least
   picked = (is_least u.known u.some).picked
 
   abbrev removal : Removal
@@ -193,7 +193,7 @@ module _ {k : Handler} (u : Due k) where
   -- where the handler is in its section, by now
   abbrev here : List ℕ → ℕ → ℕ → Here
   here cells done at =
-      in_section k u.d done at cells (due_rest k.app (armed_at k.app (slice_index u.d.cells) e) u.d.us)
+      in_section k u.d done at cells (due_rest k.app (arming_of_entry k.app (slice_index u.d.cells) e) u.d.us)
 
   -- all that is done there
   abbrev last_step : ℕ
@@ -221,8 +221,8 @@ module _ {k : Handler} (u : Due k) where
         let to_word : ℕ = CAPACITY * e.task - a.first in
         let fire : List Line = fire_lines (queue_of k.app) 0 a (at + 26) in
         let ready : List Line =
-        ready_code k.app e.task (task_priority k.app e.task) k.level 1 ++ plain instr.Ret ∷ [] in
-        let closing : List Line = fire ++ closing_lines k.app k.level (at + 6) [] in
+        ready_code k.app e.task (task_priority k.app e.task) k.threshold 1 ++ plain instr.Ret ∷ [] in
+        let closing : List Line = fire ++ closing_lines k.app k.threshold (at + 6) [] in
         let own : number_of (nat_lt v.place (a.first + a.rows)) ≡ 1 =
         ap (λ p. number_of (nat_lt p (a.first + a.rows))) row
         ∙ ap number_of (lt-ltb (armed_place k.app e) (a.first + a.rows) (row_own k.app u.may.accepted e timed_place)) in
@@ -231,9 +231,9 @@ module _ {k : Handler} (u : Due k) where
         let opens = (columns_now now {after = b.cells} gone.long).opens in
         let again = timer_left u.may.mono before now.spells picked gone.without gone.whole gone.count in
         run_stands (here b.cells done at) v closing runs_here (omega (arith, less, gone.within))
-        (closing_fit k.app k.level (at + 6) [] refl)
+        (closing_fit k.app k.threshold (at + 6) [] refl)
         (subst (λ (line : Line). HasCode k.code at (fire ++ (alarm_lines (queue_of k.app) 0 (at + 6) ++ line ∷ [])))
-        (sym (leave_placed x (guard_of k.app x) k.level 9 0)) (code_front k.code at closing ready found))
+        (sym (leave_placed x (guard_of k.app x) k.threshold 9 0)) (code_front k.code at closing ready found))
         (sets
         (calculates 1 own
         (stays (omega arith)
@@ -287,7 +287,7 @@ module _ {k : Handler} (u : Due k) where
   takes_first w =
       let s = u.known.now.spells in
       let w1 : Words = record w { place = armed_place k.app e } in
-      let lines : List Line = timer_code k.app k.level k.first in
+      let lines : List Line = timer_code k.app k.threshold k.first in
       let its = the_task is_software k.app e.task timed_place.1 in
       run_stands (here u.d.cells 10 (k.first + 18)) (record w1 { count = length heap; one = 1; two = 2 })
       (set (queue_of k.app) 0 6 0 ∷ []) runs_here (omega arith) refl (code_part k.code k.first lines 18 1 u.may.code)
@@ -316,8 +316,8 @@ module _ {k : Handler} (u : Due k) where
         tasks = λ j t there. (let from : 0 + j ≡ j = omega arith in ap (slice_get k.app.tasks) from ∙ there);
         least = omega arith;
         among = omega (arith, slice_get_within k.app.tasks e.task its.0 its.1);
-        code = code_behind k.code k.first (k.first + 73) (front_lines (queue_of k.app) 0 k.level k.first)
-            (choices_code k.app k.level (k.first + 73) 0 k.app.tasks ++ plain (instr.Jump (k.first + 10)) ∷ []) refl
+        code = code_behind k.code k.first (k.first + 73) (front_lines (queue_of k.app) 0 k.threshold k.first)
+            (choices_code k.app k.threshold (k.first + 73) 0 k.app.tasks ++ plain (instr.Jump (k.first + 10)) ∷ []) refl
             u.may.code;
         runs = sooner runs_here (omega (arith, gone.within));
         row = refl;
@@ -326,7 +326,7 @@ module _ {k : Handler} (u : Due k) where
 
 -- the handler may enter the section of the timer queue
 within_timer : (app : App) (mono : Mono) → app.mono ≡ Some mono
-    → IsWithin (storage app) (AtLevel mono.priority) (AtLevel mono.priority) section.Timer
+    → IsWithin (storage app) (AtPriority mono.priority) (AtPriority mono.priority) section.Timer
 unfolding storage
 within_timer app mono is = timer_within app mono is
 
@@ -338,7 +338,7 @@ timers_stand app accepted mono is cost costs code first has bodies thread slots 
       code = code;
       bodies = bodies;
       thread = thread;
-      level = mono.priority;
+      threshold = mono.priority;
       cost = cost;
       first = first;
       back = drop 24 slots;
@@ -355,8 +355,8 @@ timers_stand app accepted mono is cost costs code first has bodies thread slots 
       kept = record {
         spells = λ holder own.
             spelled holder
-            (or_left ((storage app).is_kept (AtLevel mono.priority) holder)
-            ((storage app).is_constant (AtLevel mono.priority) holder) own);
+            (or_left ((storage app).is_kept (AtPriority mono.priority) holder)
+            ((storage app).is_constant (AtPriority mono.priority) holder) own);
       };
       long = long;
       within = within_timer app mono is;

@@ -17,7 +17,7 @@ use Rattle.rt_gen_timer.specs.TimerLines.{choice_lines}
 module _ (k : Handler) where
   -- the choice of a task, from an address on
   abbrev pub choice_at : ℕ → ℕ → List Line
-  choice_at n to = choice_lines (queue_of k.app) 0 k.level (armed_task k.app n) to
+  choice_at n to = choice_lines (queue_of k.app) 0 k.threshold (armed_task k.app n) to
 
   -- The tasks from a number on may be tried, that of the message among them, with its row in a slot.
   pub record MayTry (e : Entry) (n : ℕ) (ts : List Task) (behind : List Line) (h : Here) (w : Words) : Type 0 where
@@ -25,7 +25,7 @@ module _ (k : Handler) where
     pub tasks : (j : ℕ) (t : Task) → slice_get ts j ≡ Some t → slice_get k.app.tasks (n + j) ≡ Some t
     pub least : n ≤ e.task
     pub among : e.task < n + length ts
-    pub code : HasCode k.code h.at (choices_code k.app k.level h.at n ts ++ behind)
+    pub code : HasCode k.code h.at (choices_code k.app k.threshold h.at n ts ++ behind)
     pub runs : Runs (frame k) (h.done + 3 * armed_count k.app n ts) h
     pub row : w.place ≡ armed_place k.app e
 
@@ -62,7 +62,7 @@ module _ (k : Handler) where
     -- the tasks behind it may be tried
     behind_one : {done at other : ℕ} → n < e.task
         → done + 3 * armed_count k.app (n + 1) ts ≤ h.done + 3 * armed_count k.app n (t ∷ ts)
-        → HasCode k.code at (choices_code k.app k.level at (n + 1) ts ++ behind)
+        → HasCode k.code at (choices_code k.app k.threshold at (n + 1) ts ++ behind)
         → MayTry e (n + 1) ts behind (record h { done = done; at = at }) (record w { other = other })
     behind_one less soon code = record {
       place = may.place;
@@ -79,8 +79,8 @@ module _ (k : Handler) where
     tries_one : Tries e (n + 1) ts behind → Found e n (t ∷ ts) h w → (b : Bool)
         → (is_software t && is_armed k.app n) ≡ b
         → HasCode k.code h.at
-        ((if b then choice_at n h.at ++ choices_code k.app k.level (h.at + 26) (n + 1) ts
-        else choices_code k.app k.level h.at (n + 1) ts) ++ behind)
+        ((if b then choice_at n h.at ++ choices_code k.app k.threshold (h.at + 26) (n + 1) ts
+        else choices_code k.app k.threshold h.at (n + 1) ts) ++ behind)
         → S (setting k) (Now (frame k) h (words w))
     tries_one again found false armed code =
         elim (cases_eq e.task n) [
@@ -93,7 +93,7 @@ module _ (k : Handler) where
         let one : armed_count k.app n (t ∷ ts) ≡ 1 + armed_count k.app (n + 1) ts =
         ap (λ (b : Bool). (if b then 1 else 0) + armed_count k.app (n + 1) ts)
         (and_right (is_software t) (is_armed k.app n) armed) in
-        let more : List Line = choices_code k.app k.level (h.at + 26) (n + 1) ts in
+        let more : List Line = choices_code k.app k.threshold (h.at + 26) (n + 1) ts in
         let whole : HasCode k.code h.at (choice_at n h.at ++ (more ++ behind)) =
         subst (HasCode k.code h.at) (append_assoc (choice_at n h.at) more behind) code in
         elim (cases_eq e.task n) [

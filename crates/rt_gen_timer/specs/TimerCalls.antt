@@ -9,7 +9,7 @@ use Rattle.std.specs.List.{AllByRecursion}
 use Rattle.rt_ids.specs.Holder.{Holder}
 use Rattle.rt_ids.specs.Content.{Values}
 use Rattle.rt_ids.specs.Entry.{Entry}
-use Rattle.rt_ids.specs.Storage.{Runner, AtLevel}
+use Rattle.rt_ids.specs.Storage.{Runner, AtPriority}
 use Rattle.rt_ids.specs.declared.ids.Section.TheVariants as section
 use Rattle.rt_app.specs.declared.app.Mono.{Mono}
 use Rattle.rt_app.specs.declared.costs.TheConstants.{SPAWN_AFTER_COST, MESSAGE_COST, HANDLE_COST, HANDLE_MESSAGE_COST}
@@ -41,13 +41,13 @@ module _ (app : App) where
   module _ (who : Runner) where
     -- A job may use the timer queue from here, in so many steps: all its memory is there, 24 slots of its frame keep no
     -- mask, it is not in the queue's section, and may enter it; and there are these steps.
-    pub record MayUseTimer (steps level slot : ℕ) (s : Spot) : Type 0 where
+    pub record MayUseTimer (steps threshold slot : ℕ) (s : Spot) : Type 0 where
       pub cells : length s.cells ≡ length (memory app)
       pub frame : slot + TIMER_QUEUE_WORDS ≤ length s.slots
       pub masks : AllByRecursion (λ d. d < slot) (saved_slots s.held)
       pub closed : is_open s.held section.Timer ≡ false
       pub within : IsWithin (storage app) who who section.Timer
-      pub off : HoldsOff app who who s.held level
+      pub off : HoldsOff app who who s.held threshold
       pub enough : AllByRecursion (λ n. steps ≤ n) s.lefts
 
     -- a job may also enter the section of the free places of a task, in which it is not
@@ -80,47 +80,47 @@ module _ (app : App) where
 abbrev pub AftersStand : Type 0
 AftersStand =
     (app : App) (task : ℕ) (t : Task) (code : List Line) (bodies : List BodyRow) (thread : ℕ) (who : Runner)
-    (level slot n cost delay : ℕ) (s : Spot) (args : List ℕ) (rest : ℕ → Rest) (vs : Values)
+    (threshold slot n cost delay : ℕ) (s : Spot) (args : List ℕ) (rest : ℕ → Rest) (vs : Values)
     → let steps : ℕ = SPAWN_AFTER_COST + MESSAGE_COST * armed_messages app in
     IsAccepted app → IsSome app.mono → slice_get app.tasks task ≡ Some t → is_software t ≡ true
     → is_armed app task ≡ true → IsSectionCost app cost
-    → HasCode code s.address (after_code app task level slot s.address)
-    → MayUseTimer app who steps level slot s → MayUsePlaces app who task s
+    → HasCode code s.address (after_code app task threshold slot s.address)
+    → MayUseTimer app who steps threshold slot s → MayUsePlaces app who task s
     → slice_index s.slots slot ≡ delay → take t.args (drop (slot + 1) s.slots) ≡ args
     → s.rest ≡ take_place app task (arm_actions app cost delay (record { task = task; args = args }) rest) (rest 0) vs
-    → StandsBefore app who code bodies thread steps slot (after_code app task level slot s.address) rest n s vs
+    → StandsBefore app who code bodies thread steps slot (after_code app task threshold slot s.address) rest n s vs
 
 -- The code of a `cancel` stands for its actions.
 abbrev pub CancelsStand : Type 0
 CancelsStand =
     (app : App) (task : ℕ) (t : Task) (code : List Line) (bodies : List BodyRow) (thread : ℕ) (who : Runner)
-    (level slot n handle : ℕ) (s : Spot) (rest : ℕ → Rest) (vs : Values)
+    (threshold slot n handle : ℕ) (s : Spot) (rest : ℕ → Rest) (vs : Values)
     → let steps : ℕ = HANDLE_COST + HANDLE_MESSAGE_COST * armed_messages app in
     IsAccepted app → IsSome app.mono → slice_get app.tasks task ≡ Some t → is_software t ≡ true
-    → HasCode code s.address (cancel_code app task level slot s.address)
-    → MayUseTimer app who steps level slot s → MayUsePlaces app who task s
+    → HasCode code s.address (cancel_code app task threshold slot s.address)
+    → MayUseTimer app who steps threshold slot s → MayUsePlaces app who task s
     → slice_index s.slots slot ≡ handle
     → s.rest ≡ cancel_actions app (handle_section_cost app) task handle (rest 0) (rest 1) vs
-    → StandsBefore app who code bodies thread steps slot (cancel_code app task level slot s.address) rest n s vs
+    → StandsBefore app who code bodies thread steps slot (cancel_code app task threshold slot s.address) rest n s vs
 
 -- The code of a `reschedule_after` stands for its actions. It uses no place.
 abbrev pub MovesStand : Type 0
 MovesStand =
     (app : App) (task : ℕ) (t : Task) (code : List Line) (bodies : List BodyRow) (thread : ℕ) (who : Runner)
-    (level slot n delay handle : ℕ) (s : Spot) (rest : ℕ → Rest) (vs : Values)
+    (threshold slot n delay handle : ℕ) (s : Spot) (rest : ℕ → Rest) (vs : Values)
     → let steps : ℕ = HANDLE_COST + HANDLE_MESSAGE_COST * armed_messages app in
     IsAccepted app → IsSome app.mono → slice_get app.tasks task ≡ Some t → is_software t ≡ true
-    → HasCode code s.address (move_code app task level slot s.address)
-    → MayUseTimer app who steps level slot s
+    → HasCode code s.address (move_code app task threshold slot s.address)
+    → MayUseTimer app who steps threshold slot s
     → slice_index s.slots slot ≡ delay → slice_index s.slots (slot + 1) ≡ handle
     → s.rest ≡ move_actions app (handle_section_cost app) delay task handle (rest 0) (rest 1) vs
-    → StandsBefore app who code bodies thread steps slot (move_code app task level slot s.address) rest n s vs
+    → StandsBefore app who code bodies thread steps slot (move_code app task threshold slot s.address) rest n s vs
 
--- The code of the timer handler stands at the level of the monotonic, with a section of each of the two costs.
+-- The code of the timer handler stands at the priority of the monotonic, with a section of each of the two costs.
 abbrev pub TimersStand : Type 0
 TimersStand =
     (app : App) → IsAccepted app → (mono : Mono) → app.mono ≡ Some mono → (cost : ℕ) → IsSectionCost app cost
     → (code : List Line) (at : ℕ) → HasCode code at (timer_code app mono.priority at)
     → (bodies : List BodyRow) (thread : ℕ)
-    → StandsFrom (storage app) code bodies thread (AtLevel mono.priority) (length (memory app)) TIMER_WORDS at
+    → StandsFrom (storage app) code bodies thread (AtPriority mono.priority) (length (memory app)) TIMER_WORDS at
     (timer_cost app) (timer_doing_in app cost)

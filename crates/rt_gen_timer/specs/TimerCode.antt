@@ -5,7 +5,7 @@ use Rattle.std.specs.Prelude.{ℕ, ◌+◌, ◌&&◌, List, [], ◌∷◌, ◌++
 use Rattle.rt_ids.specs.Lists.{or_zero}
 use Rattle.rt_ids.specs.declared.ids.Section.TheVariants as section
 use Rattle.rt_app.specs.Tree.{Task, App}
-use Rattle.rt_app.specs.Level.{is_software, is_armed, armed_messages, armed_before}
+use Rattle.rt_app.specs.Level.{is_software, is_armed, armed_messages, capacities_before}
 use Rattle.rt_app.specs.Layout.{timer_at}
 use Rattle.rt_app.specs.Holding.{storage}
 use Rattle.rt_app.specs.Sending.{capacity_of}
@@ -31,33 +31,33 @@ module _ (app : App) where
   abbrev pub armed_task : ℕ → ArmedTask
   armed_task n = record {
     target = target_of app n;
-    first = armed_before app n;
+    first = capacities_before app n;
     rows = if is_armed app n then capacity_of app n else 0;
   }
 
-  -- a `spawn_after` of a task in a body at a level, whose 24 slots begin at one, from an address on
+  -- a `spawn_after` of a task in a body at a preemption threshold, whose 24 slots begin at one, from an address on
   abbrev pub after_code : ℕ → ℕ → ℕ → ℕ → List Line
-  after_code task level slot at = after_lines queue_of slot level (armed_task task) at
+  after_code task threshold slot at = after_lines queue_of slot threshold (armed_task task) at
 
-  -- a `cancel` of a message of a task in a body at a level, likewise
+  -- a `cancel` of a message of a task in a body at a preemption threshold, likewise
   abbrev pub cancel_code : ℕ → ℕ → ℕ → ℕ → List Line
-  cancel_code task level slot at = cancel_lines queue_of slot level (armed_task task) at
+  cancel_code task threshold slot at = cancel_lines queue_of slot threshold (armed_task task) at
 
-  -- a `reschedule_after` of a message of a task in a body at a level, likewise
+  -- a `reschedule_after` of a message of a task in a body at a preemption threshold, likewise
   abbrev pub move_code : ℕ → ℕ → ℕ → ℕ → List Line
-  move_code task level slot at = move_lines queue_of slot level (armed_task task) at
+  move_code task threshold slot at = move_lines queue_of slot threshold (armed_task task) at
 
   -- the choices of the timer handler among these tasks, the first of which has this number, from an address on
   abbrev pub choices_code : ℕ → ℕ → ℕ → List Task → List Line
-  choices_code level at n [] = []
-  choices_code level at n (t ∷ more) =
+  choices_code threshold at n [] = []
+  choices_code threshold at n (t ∷ more) =
       if is_software t && is_armed app n
-      then choice_lines queue_of 0 level (armed_task n) at ++ choices_code level (at + 26) (n + 1) more
-      else choices_code level at (n + 1) more
+      then choice_lines queue_of 0 threshold (armed_task n) at ++ choices_code threshold (at + 26) (n + 1) more
+      else choices_code threshold at (n + 1) more
 
-  -- The timer handler at a level, from an address on. A message that is of no task would leave the section as where
+  -- The timer handler at a priority, from an address on. A message that is of no task would leave the section as where
   -- none is due, which no message does.
   abbrev pub timer_code : ℕ → ℕ → List Line
-  timer_code level at =
-      front_lines queue_of 0 level at
-      ++ (choices_code level (at + 73) 0 app.tasks ++ plain (instr.Jump (at + 10)) ∷ [])
+  timer_code threshold at =
+      front_lines queue_of 0 threshold at
+      ++ (choices_code threshold (at + 73) 0 app.tasks ++ plain (instr.Jump (at + 10)) ∷ [])

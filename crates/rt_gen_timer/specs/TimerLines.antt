@@ -9,7 +9,7 @@ use Rattle.rt_ids.specs.declared.op.Op.{Op}
 use Rattle.rt_ids.specs.declared.op.Op.TheVariants as op
 use Rattle.rt_code.specs.declared.instr.Instr.TheVariants as instr
 use Rattle.rt_code.specs.declared.instr.Note.TheVariants as note
-use Rattle.rt_gen_queue.specs.Line.{Line, plain, noted}
+use Rattle.rt_gen_queue.specs.Line.{Line, plain, line_with_note}
 use Rattle.rt_gen_queue.specs.Guards.{enter_line, leave_line}
 use Rattle.rt_gen_queue.specs.SpawnLines.{take_lines, fill_lines, ready_lines}
 use Rattle.rt_gen_queue.specs.declared.target.Target.{Target}
@@ -25,8 +25,8 @@ abbrev pub armings_of : TimerQueue → ℕ
 armings_of q = q.at + 1
 
 -- the cell of the count of handles that were given
-abbrev pub given_of : TimerQueue → ℕ
-given_of q = q.at + 2
+abbrev pub handle_count_of : TimerQueue → ℕ
+handle_count_of q = q.at + 2
 
 -- the first cell of the column of instants
 abbrev pub instants_of : TimerQueue → ℕ
@@ -102,7 +102,7 @@ module _ (q : TimerQueue) (slot : ℕ) where
       ∷ copy HOLE OTHER
       ∷ plain (instr.Jump at) ∷ [])
 
-  -- the row of a message, its instant and its number from a place of the heap
+  -- the row of a message, its instant and its number from a position in the heap
   abbrev pub key_lines : ℕ → ℕ → ℕ → ℕ → List Line
   key_lines place row instant number =
       load_at row (heap_of q) place
@@ -131,7 +131,7 @@ module _ (q : TimerQueue) (slot : ℕ) where
       ∷ copy HOLE OTHER
       ∷ plain (instr.Jump at) ∷ [])))))
 
-  -- The place of the heap whose message has the handle in a slot, from the hole down to the first place, and the row of
+  -- The position in the heap whose message has the handle in a slot, from the hole down to the first place, and the row of
   -- that message; or a jump where none has it. A turn has 6 lines.
   abbrev pub search_lines : ℕ → ℕ → ℕ → List Line
   search_lines handle missing at =
@@ -202,7 +202,7 @@ module _ (q : TimerQueue) (slot : ℕ) where
       ∷ jump_zero OTHER next
       ∷ set OTHER (CAPACITY * a.target.task - a.first)
       ∷ calc op.Add PLACE PLACE OTHER
-      ∷ noted instr.Mark (note.Fire a.target.task) ∷ []
+      ∷ line_with_note instr.Mark (note.Fire a.target.task) ∷ []
 
   -- the number of a new arming, and one more in its cell
   abbrev pub number_lines : List Line
@@ -210,12 +210,12 @@ module _ (q : TimerQueue) (slot : ℕ) where
       load NUMBER (armings_of q) ∷ calc op.Add OTHER NUMBER ONE ∷ store (armings_of q) OTHER ∷ []
 
   -- A message whose word is in a slot becomes a row of the columns, with the next number and the next handle, which is
-  -- the answer; and the heap has one place more. 16 lines.
+  -- the answer; and the heap has one position more. 16 lines.
   abbrev pub row_lines : ArmedTask → List Line
   row_lines a =
       constant_lines
       ++ (number_lines
-      ++ load ANSWER (given_of q) ∷ calc op.Add ANSWER ANSWER ONE ∷ store (given_of q) ANSWER
+      ++ load ANSWER (handle_count_of q) ∷ calc op.Add ANSWER ANSWER ONE ∷ store (handle_count_of q) ANSWER
       ∷ set HAND (CAPACITY * a.target.task - a.first) ∷ calc op.Sub HAND PLACE HAND
       ∷ load HOLE q.at ∷ calc op.Add COUNT HOLE ONE ∷ store q.at COUNT
       ∷ store_at (instants_of q) HAND INSTANT ∷ store_at (numbers_of q) HAND NUMBER
@@ -235,23 +235,23 @@ module _ (q : TimerQueue) (slot : ℕ) where
       ++ (again_lines
       ++ (rise_lines (at + 12)
       ++ (sink_lines (at + 27)
-      ++ noted (instr.StoreAt (heap_of q) (slot + HOLE) (slot + HAND))
+      ++ line_with_note (instr.StoreAt (heap_of q) (slot + HOLE) (slot + HAND))
       (note.Move a.target.task (slot + ARGUMENTS) (slot + INSTANT)) ∷ []))))
 
   -- an answer, and a jump
   abbrev pub answer_lines : ℕ → ℕ → List Line
   answer_lines answer end = set ANSWER answer ∷ plain (instr.Jump end) ∷ []
 
-  module _ (level : ℕ) where
+  module _ (threshold : ℕ) where
     -- the section of the timer queue opens
     abbrev pub enter_timer : Line
-    enter_timer = enter_line section.Timer q.guard level (slot + MASK)
+    enter_timer = enter_line section.Timer q.guard threshold (slot + MASK)
 
     -- the section of the timer queue closes
     abbrev pub leave_timer : Line
-    leave_timer = leave_line section.Timer q.guard level (slot + MASK)
+    leave_timer = leave_line section.Timer q.guard threshold (slot + MASK)
 
-    -- The message whose word is in a slot is armed: it gets a number, the next handle and the next place of the heap,
+    -- The message whose word is in a slot is armed: it gets a number, the next handle and the next position in the heap,
     -- and goes up from there. From an address on, 46 lines.
     abbrev pub arm_lines : ArmedTask → ℕ → List Line
     arm_lines a at =
@@ -259,34 +259,34 @@ module _ (q : TimerQueue) (slot : ℕ) where
         ∷ (time_lines (at + 1)
         ++ (row_lines a
         ++ (rise_lines (at + 23)
-        ++ noted (instr.StoreAt (heap_of q) (slot + HOLE) (slot + HAND)) (note.Arm a.target.task (slot + INSTANT))
+        ++ line_with_note (instr.StoreAt (heap_of q) (slot + HOLE) (slot + HAND)) (note.Arm a.target.task (slot + INSTANT))
         ∷ (alarm_lines (at + 39) ++ leave_timer ∷ []))))
 
     -- a jump behind the message that is armed, and the answer 0 where no place is left. 3 lines.
     abbrev pub full_lines : ArmedTask → ℕ → List Line
     full_lines a end =
         plain (instr.Jump end)
-        ∷ noted (instr.Set (slot + ANSWER) 0) (note.Full a.target.task)
-        ∷ leave_line (section.Free a.target.task) a.target.guard level (slot + MASK) ∷ []
+        ∷ line_with_note (instr.Set (slot + ANSWER) 0) (note.Full a.target.task)
+        ∷ leave_line (section.Free a.target.task) a.target.guard threshold (slot + MASK) ∷ []
 
     -- Of a `spawn_after`: a place is taken, the message is armed, and the answer is its handle; or no place is left,
     -- and the answer is 0. 61 lines, and one for each argument.
     abbrev pub after_lines : ArmedTask → ℕ → List Line
     after_lines a at =
         let full : ℕ = at + (59 + a.target.args) in
-        take_lines a.target level (slot + ARGUMENTS) full
-        ++ (fill_lines a.target level (slot + ARGUMENTS)
+        take_lines a.target threshold (slot + ARGUMENTS) full
+        ++ (fill_lines a.target threshold (slot + ARGUMENTS)
         ++ (arm_lines a (at + (12 + a.target.args)) ++ full_lines a (full + 2)))
 
     -- the place in a slot becomes free again. 6 lines.
     abbrev pub free_lines : Target → List Line
     free_lines c =
-        enter_line (section.Free c.task) c.guard level (slot + MASK)
+        enter_line (section.Free c.task) c.guard threshold (slot + MASK)
         ∷ load COUNT c.free
         ∷ store_at (c.free + 1) COUNT PLACE
         ∷ calc op.Add COUNT COUNT ONE
-        ∷ noted (instr.Store c.free (slot + COUNT)) (note.Free c.task)
-        ∷ leave_line (section.Free c.task) c.guard level (slot + MASK) ∷ []
+        ∷ line_with_note (instr.Store c.free (slot + COUNT)) (note.Free c.task)
+        ∷ leave_line (section.Free c.task) c.guard threshold (slot + MASK) ∷ []
 
     -- the section opens, and the hole is behind the last message. 5 lines.
     abbrev pub open_lines : List Line
@@ -311,7 +311,7 @@ module _ (q : TimerQueue) (slot : ℕ) where
     cancel_lines a at =
         find_lines a ANSWER (at + 89) at
         ++ (remove_lines (at + 17)
-        ++ noted instr.Mark (note.Cancel a.target.task (slot + ANSWER))
+        ++ line_with_note instr.Mark (note.Cancel a.target.task (slot + ANSWER))
         ∷ (alarm_lines (at + 72)
         ++ (place_lines a
         ++ (free_lines a.target
@@ -338,7 +338,7 @@ module _ (q : TimerQueue) (slot : ℕ) where
         ∷ calc op.Lt OTHER ANSWER INSTANT
         ∷ jump_zero OTHER due ∷ [])
 
-    -- the section closes, and it returns; behind that, the first place of the heap is the hole
+    -- the section closes, and it returns; behind that, the first position in the heap is the hole
     abbrev pub idle_lines : List Line
     idle_lines = leave_timer ∷ plain instr.Ret ∷ set HOLE 0 ∷ []
 
@@ -355,4 +355,4 @@ module _ (q : TimerQueue) (slot : ℕ) where
         fire_lines a (at + 26)
         ++ (alarm_lines (at + 6)
         ++ leave_timer
-        ∷ (ready_lines a.target level (slot + ARGUMENTS) ++ plain instr.Ret ∷ []))
+        ∷ (ready_lines a.target threshold (slot + ARGUMENTS) ++ plain instr.Ret ∷ []))

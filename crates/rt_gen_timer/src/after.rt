@@ -14,12 +14,15 @@ use rt_ids::{NoMemory, Section};
 
 impl Emitter {
     /// The lines behind a message that is armed, with the answer 0 where no place is left.
-    fn full(&self, armed: &ArmedTask, level: u8, end: u32) -> [Line; 3]
+    fn full(&self, armed: &ArmedTask, threshold: u8, end: u32) -> [Line; 3]
         requires slots { self.now.slot + TIMER_QUEUE_WORDS < 2 ^ 32 }
-        ensures { result ≡ spec.full_lines self.now.queue self.now.slot level armed.now end }
+        ensures { result ≡ spec.full_lines self.now.queue self.now.slot threshold armed.now end }
     {
         let task = armed.target.task;
-        let closing = armed.target.guard.closing(level, self.slot + MASK);
+        let closing = armed
+            .target
+            .guard
+            .closing_instr(threshold, self.slot + MASK);
         [
             (Instr::Jump(end), None),
             (Instr::Set(self.slot + ANSWER, 0), Some(Note::Full(task))),
@@ -31,7 +34,7 @@ impl Emitter {
     pub(crate) fn push_after(
         &self,
         armed: &ArmedTask,
-        level: u8,
+        threshold: u8,
         at: u32,
         lines: &mut Lines,
     ) -> Result<(), NoMemory>
@@ -41,15 +44,15 @@ impl Emitter {
         requires arguments { armed.now.target.args ≤ 4 }
         requires before { armed.now.first ≤ CAPACITY * armed.now.target.task }
         ensures { OnOk result (Appends lines.old lines.new
-            (spec.after_lines self.now.queue self.now.slot level armed.now at)) }
+            (spec.after_lines self.now.queue self.now.slot threshold armed.now at)) }
     {
         let args = u32::from(armed.target.args);
         let first = self.slot + ARGUMENTS;
         let full = at + (59 + args);
-        lines.append(&take(&armed.target, level, first, full))?;
-        fill(&armed.target, level, first, lines)?;
-        self.push_arm(armed, level, at + (12 + args), lines)?;
-        lines.append(&self.full(armed, level, full + 2))?;
+        lines.append(&take(&armed.target, threshold, first, full))?;
+        fill(&armed.target, threshold, first, lines)?;
+        self.push_arm(armed, threshold, at + (12 + args), lines)?;
+        lines.append(&self.full(armed, threshold, full + 2))?;
         Ok(())
     }
 }

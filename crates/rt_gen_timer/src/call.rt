@@ -34,7 +34,7 @@ pub(crate) fn push_call(
     emitter: &Emitter,
     armed: &ArmedTask,
     call: &Call,
-    level: u8,
+    threshold: u8,
     at: u32,
     lines: &mut Lines,
 ) -> Result<(), NoMemory>
@@ -46,11 +46,11 @@ pub(crate) fn push_call(
     requires before { armed.now.first ≤ CAPACITY * armed.now.target.task }
     requires first { armed.now.first ≤ CAPACITY * TASKS }
     ensures { OnOk result (Appends lines.old lines.new
-        (spec.lines_of call.now emitter.now.queue emitter.now.slot level armed.now at)) }
+        (spec.lines_of call.now emitter.now.queue emitter.now.slot threshold armed.now at)) }
 {
     match call {
-        Call::After(_) => emitter.push_after(armed, level, at, lines),
-        Call::Cancel(_) => emitter.push_cancel(armed, level, at, lines),
-        Call::Move(_) => emitter.push_move(armed, level, at, lines),
+        Call::After(_) => emitter.push_after(armed, threshold, at, lines),
+        Call::Cancel(_) => emitter.push_cancel(armed, threshold, at, lines),
+        Call::Move(_) => emitter.push_move(armed, threshold, at, lines),
     }
 }

@@ -2,7 +2,7 @@ ghost use Rattle.std.specs.Prelude.{◌≡◌, ◌+◌, ◌*◌, ◌<◌, ◌≤
 ghost use Rattle.rt_ids.specs.declared.limits.TheConstants.{CAPACITY, TASKS};
 ghost use Rattle.rt_app.specs.declared.costs.TheConstants.{TIMER_QUEUE_WORDS};
 ghost use Rattle.rt_code.specs.declared.instr.Instr.TheVariants as instr;
-ghost use Rattle.rt_gen_queue.specs.Line.{noted};
+ghost use Rattle.rt_gen_queue.specs.Line.{line_with_note};
 ghost use Rattle.rt_gen_queue.specs.Making.{Appends};
 ghost use Rattle.rt_gen_timer.specs.TimerLines as spec;
 
@@ -31,9 +31,9 @@ impl Emitter {
             self.load(NUMBER, queue.armings()),
             self.calc(Op::Add, OTHER, NUMBER, ONE),
             self.store(queue.armings(), OTHER),
-            self.load(ANSWER, queue.given()),
+            self.load(ANSWER, queue.handle_count()),
             self.calc(Op::Add, ANSWER, ANSWER, ONE),
-            self.store(queue.given(), ANSWER),
+            self.store(queue.handle_count(), ANSWER),
             self.set(HAND, words - armed.first),
             self.calc(Op::Sub, HAND, PLACE, HAND),
             self.load(HOLE, queue.count()),
@@ -65,7 +65,7 @@ impl Emitter {
     fn settle(&self, note: Note) -> Line
         requires few { self.now.queue.messages ≤ CAPACITY * TASKS }
         requires slots { self.now.slot + TIMER_QUEUE_WORDS < 2 ^ 32 }
-        ensures { result ≡ noted (instr.StoreAt (spec.heap_of self.now.queue) (self.now.slot + HOLE)
+        ensures { result ≡ line_with_note (instr.StoreAt (spec.heap_of self.now.queue) (self.now.slot + HOLE)
             (self.now.slot + HAND)) note }
     {
         let heap = self.queue.heap();
@@ -77,7 +77,7 @@ impl Emitter {
     pub(crate) fn push_arm(
         &self,
         armed: &ArmedTask,
-        level: u8,
+        threshold: u8,
         at: u32,
         lines: &mut Lines,
     ) -> Result<(), NoMemory>
@@ -86,27 +86,27 @@ impl Emitter {
         requires room { at + 46 < 2 ^ 32 }
         requires before { armed.now.first ≤ CAPACITY * armed.now.target.task }
         ensures { OnOk result (Appends lines.old lines.new
-            (spec.arm_lines self.now.queue self.now.slot level armed.now at)) }
+            (spec.arm_lines self.now.queue self.now.slot threshold armed.now at)) }
     {
         let note = Note::Arm(armed.target.task, self.slot + INSTANT);
-        lines.append(&[self.enter(level)])?;
+        lines.append(&[self.enter(threshold)])?;
         lines.append(&self.time(at + 1))?;
         lines.append(&self.row(armed))?;
         lines.append(&self.rise(at + 23))?;
         lines.append(&[self.settle(note)])?;
         lines.append(&self.alarm(at + 39))?;
-        lines.append(&[self.leave(level)])?;
+        lines.append(&[self.leave(threshold)])?;
         Ok(())
     }
 
     /// The lines that open the section and begin behind the last message.
-    fn open(&self, level: u8) -> [Line; 5]
+    fn open(&self, threshold: u8) -> [Line; 5]
         requires slots { self.now.slot + TIMER_QUEUE_WORDS < 2 ^ 32 }
-        ensures { result ≡ spec.open_lines self.now.queue self.now.slot level }
+        ensures { result ≡ spec.open_lines self.now.queue self.now.slot threshold }
     {
         let count = self.queue.count();
         [
-            self.enter(level),
+            self.enter(threshold),
             self.set(ONE, 1),
             self.set(TWO, 2),
             self.load(COUNT, count),
@@ -118,7 +118,7 @@ impl Emitter {
     fn push_find(
         &self,
         armed: &ArmedTask,
-        level: u8,
+        threshold: u8,
         handle: u32,
         missing: u32,
         at: u32,
@@ -131,35 +131,35 @@ impl Emitter {
         requires slots { self.now.slot + TIMER_QUEUE_WORDS < 2 ^ 32 }
         requires room { at + 17 < 2 ^ 32 }
         ensures { OnOk result (Appends lines.old lines.new
-            (spec.find_lines self.now.queue self.now.slot level armed.now handle missing at)) }
+            (spec.find_lines self.now.queue self.now.slot threshold armed.now handle missing at)) }
     {
-        lines.append(&self.open(level))?;
+        lines.append(&self.open(threshold))?;
         lines.append(&self.search(handle, missing, at + 5))?;
         lines.append(&self.own(armed, missing))?;
         Ok(())
     }
 
     /// The lines that close the section and make the place of a row.
-    fn place(&self, armed: &ArmedTask, level: u8) -> [Line; 3]
+    fn place(&self, armed: &ArmedTask, threshold: u8) -> [Line; 3]
         requires slots { self.now.slot + TIMER_QUEUE_WORDS < 2 ^ 32 }
-        ensures { result ≡ spec.place_lines self.now.queue self.now.slot level armed.now }
+        ensures { result ≡ spec.place_lines self.now.queue self.now.slot threshold armed.now }
     {
         [
-            self.leave(level),
+            self.leave(threshold),
             self.set(OTHER, armed.first),
             self.calc(Op::Sub, PLACE, PLACE, OTHER),
         ]
     }
 
     /// The lines of the answers 0 and, where there is no such message, 1.
-    fn missing(&self, level: u8, end: u32) -> [Line; 4]
+    fn missing_lines(&self, threshold: u8, end: u32) -> [Line; 4]
         requires slots { self.now.slot + TIMER_QUEUE_WORDS < 2 ^ 32 }
-        ensures { result ≡ spec.missing_lines self.now.queue self.now.slot level end }
+        ensures { result ≡ spec.missing_lines self.now.queue self.now.slot threshold end }
     {
         [
             self.set(ANSWER, 0),
             (Instr::Jump(end), None),
-            self.leave(level),
+            self.leave(threshold),
             self.set(ANSWER, 1),
         ]
     }
@@ -168,7 +168,7 @@ impl Emitter {
     pub(crate) fn push_cancel(
         &self,
         armed: &ArmedTask,
-        level: u8,
+        threshold: u8,
         at: u32,
         lines: &mut Lines,
     ) -> Result<(), NoMemory>
@@ -178,16 +178,16 @@ impl Emitter {
         requires slots { self.now.slot + TIMER_QUEUE_WORDS < 2 ^ 32 }
         requires room { at + 91 < 2 ^ 32 }
         ensures { OnOk result (Appends lines.old lines.new
-            (spec.cancel_lines self.now.queue self.now.slot level armed.now at)) }
+            (spec.cancel_lines self.now.queue self.now.slot threshold armed.now at)) }
     {
         let note = Note::Cancel(armed.target.task, self.slot + ANSWER);
-        self.push_find(armed, level, ANSWER, at + 89, at, lines)?;
+        self.push_find(armed, threshold, ANSWER, at + 89, at, lines)?;
         self.push_remove(at + 17, lines)?;
         lines.append(&[(Instr::Mark, Some(note))])?;
         lines.append(&self.alarm(at + 72))?;
-        lines.append(&self.place(armed, level))?;
-        lines.append(&self.free(&armed.target, level))?;
-        lines.append(&self.missing(level, at + 91))?;
+        lines.append(&self.place(armed, threshold))?;
+        lines.append(&self.free(&armed.target, threshold))?;
+        lines.append(&self.missing_lines(threshold, at + 91))?;
         Ok(())
     }
 
@@ -217,7 +217,7 @@ impl Emitter {
     pub(crate) fn push_move(
         &self,
         armed: &ArmedTask,
-        level: u8,
+        threshold: u8,
         at: u32,
         lines: &mut Lines,
     ) -> Result<(), NoMemory>
@@ -227,13 +227,13 @@ impl Emitter {
         requires slots { self.now.slot + TIMER_QUEUE_WORDS < 2 ^ 32 }
         requires room { at + 104 < 2 ^ 32 }
         ensures { OnOk result (Appends lines.old lines.new
-            (spec.move_lines self.now.queue self.now.slot level armed.now at)) }
+            (spec.move_lines self.now.queue self.now.slot threshold armed.now at)) }
     {
-        self.push_find(armed, level, ARGUMENTS, at + 85, at, lines)?;
+        self.push_find(armed, threshold, ARGUMENTS, at + 85, at, lines)?;
         self.push_again(armed, at + 17, lines)?;
         lines.append(&self.alarm(at + 76))?;
-        lines.append(&[self.leave(level)])?;
-        lines.append(&self.missing(level, at + 87))?;
+        lines.append(&[self.leave(threshold)])?;
+        lines.append(&self.missing_lines(threshold, at + 87))?;
         Ok(())
     }
 }

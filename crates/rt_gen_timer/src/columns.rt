@@ -20,8 +20,8 @@ impl TimerQueue {
     }
 
     /// The cell of the number of handles given so far.
-    pub(crate) fn given(&self) -> u32
-        ensures { result ≡ spec.given_of self.now }
+    pub(crate) fn handle_count(&self) -> u32
+        ensures { result ≡ spec.handle_count_of self.now }
     {
         self.count() + 2
     }

@@ -14,7 +14,7 @@ ghost use Rattle.rt_gen_timer.specs.TimerCode as spec;
 ghost use Rattle.rt_gen_timer.specs.Inside.Calls as calls;
 ghost use Rattle.rt_gen_timer.specs.declared.generate.TheConstants.{MANY_LINES};
 
-use crate::armed::armed_of;
+use crate::armed::armed_task;
 use crate::call::{Call, push_call};
 use crate::emitter::Emitter;
 use crate::queue::queue_of;
@@ -54,14 +54,14 @@ pub(crate) fn emitter_of(
     Ok(Emitter { queue, slot })
 }
 
-/// Appends the code of a call to code, at a static level; its first line will stand at the address `entry`. An error
+/// Appends the code of a call to code, at a static preemption threshold; its first line will stand at the address `entry`. An error
 /// leaves the code as it was.
 fn append_call(
     alloc: Global,
     plan: &Plan<'_>,
     rows: &ArmedRows<'_>,
     call: &Call,
-    level: u8,
+    threshold: u8,
     slot: u32,
     entry: u32,
     code: &mut Vec<Line>,
@@ -73,21 +73,21 @@ fn append_call(
     requires software { is_some_and is_software (slice_get (app_of plan.now.app.now).tasks (calls.task_of call.now))
         ≡ true }
     ensures code { OnOk result (code.new.items ≡ code.old.items
-        ++ calls.code_of (app_of plan.now.app.now) call.now level slot entry) }
+        ++ calls.code_of (app_of plan.now.app.now) call.now threshold slot entry) }
     ensures size { OnOk result (length code.new.items ≤ length code.old.items + calls.cost_of call.now) }
     ensures lines { OnOk result (AllByRecursion (IsNameable (names_of (app_of plan.now.app.now)))
         (drop (length code.old.items) code.new.items)) }
     ensures left { OnErr result (code.new.items ≡ code.old.items) }
 {
     let emitter = emitter_of(plan, rows, slot, entry)?;
-    let armed = armed_of(plan, rows, call.task());
+    let armed = armed_task(plan, rows, call.task());
     let mut lines = Lines::new(alloc, entry);
-    push_call(&emitter, &armed, call, level, entry, &mut lines)?;
+    push_call(&emitter, &armed, call, threshold, entry, &mut lines)?;
     code.extend_from_slice(lines.as_slice())?;
     Ok(())
 }
 
-/// Appends the code of a `spawn_after` of a software task, at a static level, to code; its first line will stand at the
+/// Appends the code of a `spawn_after` of a software task, at a static preemption threshold, to code; its first line will stand at the
 /// address `entry`. The delay and then the arguments stand in the slots from one on. It takes a place of the task and
 /// arms its message; the answer comes into the first slot: the message's handle, or 0 where no place is left. It
 /// writes the 24 slots from there on alone. Its lines name only what the application declares, and there are at most
@@ -97,7 +97,7 @@ pub fn gen_after(
     plan: &Plan<'_>,
     rows: &ArmedRows<'_>,
     task: TaskId,
-    level: u8,
+    threshold: u8,
     slot: u32,
     entry: u32,
     code: &mut Vec<Line>,
@@ -108,17 +108,17 @@ pub fn gen_after(
     requires timed { IsSome (app_of plan.now.app.now).mono }
     requires software { is_some_and is_software (slice_get (app_of plan.now.app.now).tasks task) ≡ true }
     ensures code { OnOk result (code.new.items ≡ code.old.items
-        ++ spec.after_code (app_of plan.now.app.now) task level slot entry) }
+        ++ spec.after_code (app_of plan.now.app.now) task threshold slot entry) }
     ensures size { OnOk result (length code.new.items ≤ length code.old.items + SPAWN_AFTER_COST) }
     ensures lines { OnOk result (AllByRecursion (IsNameable (names_of (app_of plan.now.app.now)))
         (drop (length code.old.items) code.new.items)) }
     ensures left { OnErr result (code.new.items ≡ code.old.items) }
 {
     let call = Call::After(task);
-    append_call(alloc, plan, rows, &call, level, slot, entry, code)
+    append_call(alloc, plan, rows, &call, threshold, slot, entry, code)
 }
 
-/// Appends the code of a `cancel` of a message of a software task, at a static level, to code; its first line will
+/// Appends the code of a `cancel` of a message of a software task, at a static preemption threshold, to code; its first line will
 /// stand at the address `entry`. The handle stands in a slot, into which the answer comes: 0 where an armed message of
 /// the task had the handle and was taken back, else 1. It writes the 24 slots from there on alone. Its lines name only
 /// what the application declares, and there are at most 256 of them. An error leaves the code as it was.
@@ -127,7 +127,7 @@ pub fn gen_cancel(
     plan: &Plan<'_>,
     rows: &ArmedRows<'_>,
     task: TaskId,
-    level: u8,
+    threshold: u8,
     slot: u32,
     entry: u32,
     code: &mut Vec<Line>,
@@ -138,17 +138,17 @@ pub fn gen_cancel(
     requires timed { IsSome (app_of plan.now.app.now).mono }
     requires software { is_some_and is_software (slice_get (app_of plan.now.app.now).tasks task) ≡ true }
     ensures code { OnOk result (code.new.items ≡ code.old.items
-        ++ spec.cancel_code (app_of plan.now.app.now) task level slot entry) }
+        ++ spec.cancel_code (app_of plan.now.app.now) task threshold slot entry) }
     ensures size { OnOk result (length code.new.items ≤ length code.old.items + HANDLE_COST) }
     ensures lines { OnOk result (AllByRecursion (IsNameable (names_of (app_of plan.now.app.now)))
         (drop (length code.old.items) code.new.items)) }
     ensures left { OnErr result (code.new.items ≡ code.old.items) }
 {
     let call = Call::Cancel(task);
-    append_call(alloc, plan, rows, &call, level, slot, entry, code)
+    append_call(alloc, plan, rows, &call, threshold, slot, entry, code)
 }
 
-/// Appends the code of a `reschedule_after` of a message of a software task, at a static level, to code; its first line
+/// Appends the code of a `reschedule_after` of a message of a software task, at a static preemption threshold, to code; its first line
 /// will stand at the address `entry`. The delay and then the handle stand in the slots from one on. The answer comes
 /// into the first: 0 where an armed message of the task had the handle and waits anew, else 1. It writes the 24 slots
 /// from there on alone. Its lines name only what the application declares, and there are at most 256 of them. An error
@@ -158,7 +158,7 @@ pub fn gen_move(
     plan: &Plan<'_>,
     rows: &ArmedRows<'_>,
     task: TaskId,
-    level: u8,
+    threshold: u8,
     slot: u32,
     entry: u32,
     code: &mut Vec<Line>,
@@ -169,12 +169,12 @@ pub fn gen_move(
     requires timed { IsSome (app_of plan.now.app.now).mono }
     requires software { is_some_and is_software (slice_get (app_of plan.now.app.now).tasks task) ≡ true }
     ensures code { OnOk result (code.new.items ≡ code.old.items
-        ++ spec.move_code (app_of plan.now.app.now) task level slot entry) }
+        ++ spec.move_code (app_of plan.now.app.now) task threshold slot entry) }
     ensures size { OnOk result (length code.new.items ≤ length code.old.items + HANDLE_COST) }
     ensures lines { OnOk result (AllByRecursion (IsNameable (names_of (app_of plan.now.app.now)))
         (drop (length code.old.items) code.new.items)) }
     ensures left { OnErr result (code.new.items ≡ code.old.items) }
 {
     let call = Call::Move(task);
-    append_call(alloc, plan, rows, &call, level, slot, entry, code)
+    append_call(alloc, plan, rows, &call, threshold, slot, entry, code)
 }

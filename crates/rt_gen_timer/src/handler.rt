@@ -28,14 +28,14 @@ pub(crate) const FRONT_LINES: u32 = 73;
 impl Emitter {
     /// The lines that open the section, and lead to an address where nothing is armed and to another where a message is
     /// due.
-    fn due(&self, level: u8, idle: u32, due: u32) -> [Line; 10]
+    fn due(&self, threshold: u8, idle: u32, due: u32) -> [Line; 10]
         requires few { self.now.queue.messages ≤ CAPACITY * TASKS }
         requires slots { self.now.slot + TIMER_QUEUE_WORDS < 2 ^ 32 }
-        ensures { result ≡ spec.due_lines self.now.queue self.now.slot level idle due }
+        ensures { result ≡ spec.due_lines self.now.queue self.now.slot threshold idle due }
     {
         let queue = self.queue;
         [
-            self.enter(level),
+            self.enter(threshold),
             self.set(ONE, 1),
             self.set(TWO, 2),
             (Instr::Clock(self.slot + ANSWER), None),
@@ -49,24 +49,29 @@ impl Emitter {
     }
 
     /// The lines that return where no message is due, and the first one where one is.
-    fn idle(&self, level: u8) -> [Line; 3]
+    fn idle(&self, threshold: u8) -> [Line; 3]
         requires slots { self.now.slot + TIMER_QUEUE_WORDS < 2 ^ 32 }
-        ensures { result ≡ spec.idle_lines self.now.queue self.now.slot level }
+        ensures { result ≡ spec.idle_lines self.now.queue self.now.slot threshold }
     {
-        [self.leave(level), (Instr::Ret, None), self.set(HOLE, 0)]
+        [self.leave(threshold), (Instr::Ret, None), self.set(HOLE, 0)]
     }
 
     /// Appends the lines of the timer handler before the tasks.
-    pub(crate) fn push_front(&self, level: u8, at: u32, lines: &mut Lines) -> Result<(), NoMemory>
+    pub(crate) fn push_front(
+        &self,
+        threshold: u8,
+        at: u32,
+        lines: &mut Lines,
+    ) -> Result<(), NoMemory>
         requires few { self.now.queue.messages ≤ CAPACITY * TASKS }
         requires slots { self.now.slot + TIMER_QUEUE_WORDS < 2 ^ 32 }
         requires room { at + FRONT_LINES < 2 ^ 32 }
         ensures { OnOk result (Appends lines.old lines.new
-            (spec.front_lines self.now.queue self.now.slot level at)) }
+            (spec.front_lines self.now.queue self.now.slot threshold at)) }
     {
-        lines.append(&self.due(level, at + IDLE_OFFSET, at + DUE_OFFSET))?;
+        lines.append(&self.due(threshold, at + IDLE_OFFSET, at + DUE_OFFSET))?;
         lines.append(&self.alarm(at + IDLE_OFFSET))?;
-        lines.append(&self.idle(level))?;
+        lines.append(&self.idle(threshold))?;
         self.push_remove(at + (DUE_OFFSET + 1), lines)?;
         Ok(())
     }
@@ -96,7 +101,7 @@ impl Emitter {
     pub(crate) fn push_choice(
         &self,
         armed: &ArmedTask,
-        level: u8,
+        threshold: u8,
         at: u32,
         lines: &mut Lines,
     ) -> Result<(), NoMemory>
@@ -107,12 +112,12 @@ impl Emitter {
         requires rows { armed.now.rows ≤ CAPACITY }
         requires before { armed.now.first ≤ CAPACITY * armed.now.target.task }
         ensures { OnOk result (Appends lines.old lines.new
-            (spec.choice_lines self.now.queue self.now.slot level armed.now at)) }
+            (spec.choice_lines self.now.queue self.now.slot threshold armed.now at)) }
     {
         lines.append(&self.fire(armed, at + CHOICE_LINES))?;
         lines.append(&self.alarm(at + 6))?;
-        lines.append(&[self.leave(level)])?;
-        lines.append(&ready(&armed.target, level, self.slot + ARGUMENTS))?;
+        lines.append(&[self.leave(threshold)])?;
+        lines.append(&ready(&armed.target, threshold, self.slot + ARGUMENTS))?;
         lines.append(&[(Instr::Ret, None)])?;
         Ok(())
     }

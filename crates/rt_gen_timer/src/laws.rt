@@ -19,7 +19,7 @@ pub fn moves_stand()
 {}
 
 /// The code of the timer handler of an accepted application, from a frame with any words, makes the due message ready
-/// or sets the alarm alone, within its cost and its section's, and gives back what its level keeps.
+/// or sets the alarm alone, within its cost and its section's, and gives back what its priority keeps.
 pub fn timers_stand()
     ensures { TimersStand }
 {}

@@ -16,21 +16,21 @@ use rt_ids::limits::LONGEST_DELAY;
 use rt_ids::{NoMemory, Op, Section};
 
 impl Emitter {
-    /// The line that opens the section of the timer queue, at a level that what runs holds off already.
-    pub(crate) fn enter(&self, level: u8) -> Line
+    /// The line that opens the section of the timer queue, at a preemption threshold that what runs holds off already.
+    pub(crate) fn enter(&self, threshold: u8) -> Line
         requires slots { self.now.slot + TIMER_QUEUE_WORDS < 2 ^ 32 }
-        ensures { result ≡ spec.enter_timer self.now.queue self.now.slot level }
+        ensures { result ≡ spec.enter_timer self.now.queue self.now.slot threshold }
     {
-        let opening = self.queue.guard.opening(level, self.slot + MASK);
+        let opening = self.queue.guard.opening_instr(threshold, self.slot + MASK);
         (opening, Some(Note::Enter(Section::Timer)))
     }
 
     /// The line that closes it.
-    pub(crate) fn leave(&self, level: u8) -> Line
+    pub(crate) fn leave(&self, threshold: u8) -> Line
         requires slots { self.now.slot + TIMER_QUEUE_WORDS < 2 ^ 32 }
-        ensures { result ≡ spec.leave_timer self.now.queue self.now.slot level }
+        ensures { result ≡ spec.leave_timer self.now.queue self.now.slot threshold }
     {
-        let closing = self.queue.guard.closing(level, self.slot + MASK);
+        let closing = self.queue.guard.closing_instr(threshold, self.slot + MASK);
         (closing, Some(Note::Leave(Section::Timer)))
     }
 
@@ -140,14 +140,14 @@ impl Emitter {
     }
 
     /// The lines by which the place in a slot becomes free again.
-    pub(crate) fn free(&self, target: &Target, level: u8) -> [Line; 6]
+    pub(crate) fn free(&self, target: &Target, threshold: u8) -> [Line; 6]
         requires slots { self.now.slot + TIMER_QUEUE_WORDS < 2 ^ 32 }
-        ensures { result ≡ spec.free_lines self.now.queue self.now.slot level target.now }
+        ensures { result ≡ spec.free_lines self.now.queue self.now.slot threshold target.now }
     {
         let (task, free) = (target.task, u32::from(target.free));
         let (count, mask) = (self.slot + COUNT, self.slot + MASK);
-        let opening = target.guard.opening(level, mask);
-        let closing = target.guard.closing(level, mask);
+        let opening = target.guard.opening_instr(threshold, mask);
+        let closing = target.guard.closing_instr(threshold, mask);
         [
             (opening, Some(Note::Enter(Section::Free(task)))),
             self.load(COUNT, free),

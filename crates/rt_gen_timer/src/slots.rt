@@ -13,7 +13,7 @@ pub const HAND: u32 = 4;
 /// How many messages are armed.
 pub const COUNT: u32 = 5;
 
-/// The place of the heap for which a message is looked for.
+/// The position in the heap for which a message is looked for.
 pub const HOLE: u32 = 6;
 
 /// A place of a task, the word of its message, or the row of a message that leaves.
@@ -34,13 +34,13 @@ pub const NUMBER: u32 = 11;
 /// The number 1.
 pub const ONE: u32 = 12;
 
-/// A place of the heap above or below the hole.
+/// A position in the heap above or below the hole.
 pub const OTHER: u32 = 13;
 
-/// The place of the right child, or of the left one where there is no right.
+/// The position of the right child, or of the left one where there is no right.
 pub const RIGHT: u32 = 14;
 
-/// The row of the message at the other place, its instant and the number of its arming.
+/// The row of the message at the other position, its instant and the number of its arming.
 pub const OTHER_ROW: u32 = 15;
 
 pub const OTHER_INSTANT: u32 = 16;

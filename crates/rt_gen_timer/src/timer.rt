@@ -16,7 +16,7 @@ ghost use Rattle.rt_gen_timer.specs.TimerCode as spec;
 ghost use Rattle.rt_gen_timer.specs.Inside.Choices.{task_code};
 ghost use Rattle.rt_gen_timer.specs.declared.generate.TheConstants.{MANY_LINES};
 
-use crate::armed::armed_of;
+use crate::armed::armed_task;
 use crate::emitter::Emitter;
 use crate::generate::{MANY_LINES, emitter_of};
 use crate::handler::IDLE_OFFSET;
@@ -52,7 +52,7 @@ fn push_task(
     emitter: &Emitter,
     number: usize,
     task: &Task,
-    level: u8,
+    threshold: u8,
     lines: &mut Lines,
 ) -> Result<(), NoMemory>
     requires accepted { IsAccepted (app_of plan.now.app.now) }
@@ -62,7 +62,7 @@ fn push_task(
     requires few { emitter.now.queue.messages ≤ CAPACITY * TASKS }
     requires task { slice_get (app_of plan.now.app.now).tasks number ≡ Some (task_of task.now) }
     requires small { number < TASKS }
-    ensures { OnOk result (Appends lines.old lines.new (task_code (app_of plan.now.app.now) level
+    ensures { OnOk result (Appends lines.old lines.new (task_code (app_of plan.now.app.now) threshold
         (next_address lines.old) number (task_of task.now))) }
 {
     let id = TaskId(number as u8);
@@ -70,7 +70,7 @@ fn push_task(
         return Ok(());
     }
     let at = address_with_room(lines)?;
-    emitter.push_choice(&armed_of(plan, rows, id), level, at, lines)
+    emitter.push_choice(&armed_task(plan, rows, id), threshold, at, lines)
 }
 
 /// The lines of the tasks of which messages may be armed.
@@ -78,7 +78,7 @@ fn push_tasks(
     plan: &Plan<'_>,
     rows: &ArmedRows<'_>,
     emitter: &Emitter,
-    level: u8,
+    threshold: u8,
     lines: &mut Lines,
 ) -> Result<(), NoMemory>
     requires accepted { IsAccepted (app_of plan.now.app.now) }
@@ -87,11 +87,11 @@ fn push_tasks(
     requires emitter { emitter.now ≡ record { queue = spec.queue_of (app_of plan.now.app.now); slot = 0 } }
     requires few { emitter.now.queue.messages ≤ CAPACITY * TASKS }
     ensures { let app = app_of plan.now.app.now in OnOk result (Appends lines.old lines.new
-        (spec.choices_code app level (next_address lines.old) 0 app.tasks)) }
+        (spec.choices_code app threshold (next_address lines.old) 0 app.tasks)) }
 {
     for number in 0..plan.app.tasks.len() {
         let task = &plan.app.tasks[number];
-        push_task(plan, rows, emitter, number, task, level, lines)?;
+        push_task(plan, rows, emitter, number, task, threshold, lines)?;
     }
     Ok(())
 }
@@ -100,7 +100,7 @@ fn push_tasks(
 fn generate(
     plan: &Plan<'_>,
     rows: &ArmedRows<'_>,
-    level: u8,
+    threshold: u8,
     lines: &mut Lines,
 ) -> Result<(), NoMemory>
     requires accepted { IsAccepted (app_of plan.now.app.now) }
@@ -108,12 +108,12 @@ fn generate(
     requires rows { rows.now ≡ plan.now.app.now }
     requires timed { IsSome (app_of plan.now.app.now).mono }
     ensures { OnOk result (Appends lines.old lines.new
-        (spec.timer_code (app_of plan.now.app.now) level (next_address lines.old))) }
+        (spec.timer_code (app_of plan.now.app.now) threshold (next_address lines.old))) }
 {
     let entry = lines.next_address()?;
     let emitter = emitter_of(plan, rows, 0, entry)?;
-    emitter.push_front(level, entry, lines)?;
-    push_tasks(plan, rows, &emitter, level, lines)?;
+    emitter.push_front(threshold, entry, lines)?;
+    push_tasks(plan, rows, &emitter, threshold, lines)?;
     lines.push(Instr::Jump(entry + IDLE_OFFSET))?;
     Ok(())
 }

@@ -10,7 +10,7 @@ use Rattle.rt_ast.specs.Tree.{App}
 use Rattle.rt_grammar.specs.Language.{Language, gives, ◌>>=◌, ◌>>◌, or_else, repeat}
 use Rattle.rt_grammar.specs.Tokens.{word, sign, name, this_name, limited_number, adds, names}
 use Rattle.rt_grammar.specs.Limits.{within}
-use Rattle.rt_grammar.specs.Resources.{interrupts, monotonic, shared, locals}
+use Rattle.rt_grammar.specs.Resources.{interrupts, monotonic, shared_resources, locals}
 use Rattle.rt_grammar.specs.Options.{OfInit, OfIdle}
 use Rattle.rt_grammar.specs.Bodies.{thread_body, task}
 
@@ -59,7 +59,7 @@ application most = do
   first ← head
   irqs ← interrupts
   mono ← monotonic
-  ss ← shared
+  ss ← shared_resources
   ls ← locals
   init ← thread_body most OfInit (codes "init")
   idle ← thread_body most OfIdle (codes "idle")

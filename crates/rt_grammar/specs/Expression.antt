@@ -47,14 +47,14 @@ strengths =
     ∷ ((codes "*", op.Mul) ∷ (codes "/", op.Div) ∷ (codes "%", op.Rem) ∷ []) ∷ []
 
 -- an operation on two operands, which begins where the left one does
-abbrev pub joined : Op → Operand → Operand → Operand
-joined o left right = record { at = left.at; tree = Oper o left.tree right.tree }
+abbrev pub joined_operand : Op → Operand → Operand → Operand
+joined_operand o left right = record { at = left.at; tree = Oper o left.tree right.tree }
 
 -- operands with operators of one strength between them, which group to the left
 abbrev pub chain : Signs → Language Operand → Language Operand
 chain signs operand = do
   first ← operand
-  repeat (λ left. do o ← operator signs; right ← operand; gives (joined o left right)) first
+  repeat (λ left. do o ← operator signs; right ← operand; gives (joined_operand o left right)) first
 
 -- operands with operators of these strengths between them, the weakest outermost
 abbrev pub chains : List Signs → Language Operand → Language Operand
@@ -68,7 +68,7 @@ comparison atom ended = do
   ended left false or (do
     o ← operator comparisons
     right ← chains strengths atom
-    ended (joined o left right) true)
+    ended (joined_operand o left right) true)
 
 -- a number or a name
 abbrev pub plain_atom : Language Operand

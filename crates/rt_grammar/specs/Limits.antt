@@ -6,16 +6,16 @@ use Rattle.rt_ids.specs.declared.limits.TheConstants.{NESTING, STATEMENTS, TURNS
 use Rattle.rt_grammar.specs.Tokens.{limit_if}
 
 -- the limit on statements, at one behind so many
-abbrev pub counted : ℕ → Option Limit
-counted before = limit_if (nat_le STATEMENTS before) limit.Statements
+abbrev pub statement_limit : ℕ → Option Limit
+statement_limit before = limit_if (nat_le STATEMENTS before) limit.Statements
 
 -- the limit on nesting, at a block of this nesting
-abbrev pub nested : ℕ → Option Limit
-nested nesting = limit_if (nat_lt NESTING nesting) limit.Nesting
+abbrev pub nesting_limit : ℕ → Option Limit
+nesting_limit nesting = limit_if (nat_lt NESTING nesting) limit.Nesting
 
 -- the limit on turns, at the second number
-abbrev pub turned : ℕ → ℕ → Option Limit
-turned first last = limit_if (nat_lt TURNS (last - first)) limit.Turns
+abbrev pub turn_limit : ℕ → ℕ → Option Limit
+turn_limit first last = limit_if (nat_lt TURNS (last - first)) limit.Turns
 
 -- the limit on a number, which has to be from the least to the greatest
 abbrev pub within : ℕ → ℕ → Limit → ℕ → Option Limit

@@ -66,8 +66,8 @@ capacity_option owner o = only_if (is_task owner && is_none o.capacity) (do
   gives (record o { capacity = Some n.value }))
 
 -- a shared resource that a body lists, by its name or by reference
-abbrev pub listed : Language ListedTree
-listed =
+abbrev pub listed_resource : Language ListedTree
+listed_resource =
     (do at ← sign (codes "&"); x ← name; gives (record { name = x; by_ref = true; at = at }))
     or (do x ← name; gives (record { name = x; by_ref = false; at = x.at }))
 
@@ -77,7 +77,7 @@ shared_option owner o = only_if (not (is_init owner) && is_none o.shared) (do
   word (codes "shared")
   sign (codes "=")
   sign (codes "[")
-  xs ← list (codes "]") (adds (λ before. listed)) []
+  xs ← list (codes "]") (adds (λ before. listed_resource)) []
   gives (record o { shared = Some xs }))
 
 -- the local resources that a body lists

@@ -61,18 +61,18 @@ lock_free before = do
   gives (record { name = x; first = n; lock_free = true })
 
 -- a shared resource that is accessed under its lock, where so many stand before it
-abbrev pub locked : ℕ → Language SharedTree
-locked before = do
+abbrev pub locked_resource : ℕ → Language SharedTree
+locked_resource before = do
   x ← limited_name (at_most SHARED limit.Shared before)
   n ← first_value
   gives (record { name = x; first = n; lock_free = false })
 
 -- the shared resources, or nothing
-abbrev pub shared : Language (List SharedTree)
-shared = or_else [] (do
+abbrev pub shared_resources : Language (List SharedTree)
+shared_resources = or_else [] (do
   word (codes "shared")
   sign (codes "{")
-  list (codes "}") (adds (λ before. lock_free before or locked before)) [])
+  list (codes "}") (adds (λ before. lock_free before or locked_resource before)) [])
 
 -- a local resource, where so many stand before it
 abbrev pub local : ℕ → Language LocalTree

@@ -7,7 +7,7 @@ use Rattle.rt_ast.specs.Tree.{Statement, Bind, Assign, Emit, Pend, Spawns}
 use Rattle.rt_grammar.specs.Language.{Language, gives, ◌>>=◌, ◌>>◌}
 use Rattle.rt_grammar.specs.Tokens.{limited_word, sign, name, limited_name}
 use Rattle.rt_grammar.specs.Expression.{expression}
-use Rattle.rt_grammar.specs.Limits.{counted}
+use Rattle.rt_grammar.specs.Limits.{statement_limit}
 use Rattle.rt_grammar.specs.Spawn.{spawn, value}
 
 -- what is read of a body: a tree, and the statements before what is behind it
@@ -17,7 +17,7 @@ Counted A = A × ℕ
 -- a `let`
 abbrev pub bind : ℕ → ℕ → Language (Counted Statement)
 bind most before = do
-  limited_word (codes "let") (counted before)
+  limited_word (codes "let") (statement_limit before)
   x ← name
   sign (codes "=")
   v ← value most
@@ -27,7 +27,7 @@ bind most before = do
 -- an assignment
 abbrev pub assign : ℕ → ℕ → Language (Counted Statement)
 assign most before = do
-  x ← limited_name (counted before)
+  x ← limited_name (statement_limit before)
   sign (codes "=")
   e ← expression most
   sign (codes ";")
@@ -36,7 +36,7 @@ assign most before = do
 -- an `emit`
 abbrev pub emit : ℕ → ℕ → Language (Counted Statement)
 emit most before = do
-  limited_word (codes "emit") (counted before)
+  limited_word (codes "emit") (statement_limit before)
   e ← expression most
   sign (codes ";")
   gives (Emit e, suc before)
@@ -44,7 +44,7 @@ emit most before = do
 -- a `pend`
 abbrev pub pend : ℕ → Language (Counted Statement)
 pend before = do
-  limited_word (codes "pend") (counted before)
+  limited_word (codes "pend") (statement_limit before)
   irq ← name
   sign (codes ";")
   gives (Pend irq, suc before)
@@ -52,6 +52,6 @@ pend before = do
 -- a spawn, a cancel or a reschedule whose answer is not kept
 abbrev pub call : ℕ → ℕ → Language (Counted Statement)
 call most before = do
-  s ← spawn most (counted before)
+  s ← spawn most (statement_limit before)
   sign (codes ";")
   gives (Spawns s, suc before)

@@ -10,7 +10,7 @@ use Rattle.rt_grammar.specs.Language.{Language, gives, ◌>>=◌, ◌>>◌, ◌o
 use Rattle.rt_grammar.specs.Tokens.{first_of, word, limited_word, sign, limited_sign}
 use Rattle.rt_grammar.specs.Tokens.{name, limited_name, number, limited_number}
 use Rattle.rt_grammar.specs.Expression.{expression}
-use Rattle.rt_grammar.specs.Limits.{counted, nested, turned}
+use Rattle.rt_grammar.specs.Limits.{statement_limit, nesting_limit, turn_limit}
 use Rattle.rt_grammar.specs.Simple.{Counted, bind, assign, emit, pend, call}
 
 -- a block of a nesting, behind so many statements
@@ -20,7 +20,7 @@ Blocks = ℕ → ℕ → Language (Counted Block)
 -- an `if`, with or without an `else`
 abbrev pub branch : ℕ → Blocks → ℕ → ℕ → Language (Counted Statement)
 branch most block nesting before = do
-  limited_word (codes "if") (counted before)
+  limited_word (codes "if") (statement_limit before)
   e ← expression most
   first ← block (suc nesting) (suc before)
   second ← or_else (Empty, first.1) (word (codes "else") >> block (suc nesting) first.1)
@@ -29,12 +29,12 @@ branch most block nesting before = do
 -- a `for` over a range of numbers
 abbrev pub loop : Blocks → ℕ → ℕ → Language (Counted Statement)
 loop block nesting before = do
-  limited_word (codes "for") (counted before)
+  limited_word (codes "for") (statement_limit before)
   x ← name
   word (codes "in")
   first ← number
   sign (codes "..")
-  last ← limited_number (turned first.value)
+  last ← limited_number (turn_limit first.value)
   turn ← block (suc nesting) (suc before)
   gives (Repeat x first.value last.value turn.0, turn.1)
 
@@ -42,14 +42,14 @@ loop block nesting before = do
 abbrev pub further : Blocks → Blocks
 further inside nesting before = do
   sign (codes ",")
-  r ← limited_name (first_of (nested nesting) (counted before))
+  r ← limited_name (first_of (nesting_limit nesting) (statement_limit before))
   inner ← inside (suc nesting) (suc before)
   gives (Then (Locked r inner.0) Empty, inner.1)
 
 -- what is behind a lock's name is its block, or a further name
 abbrev pub lock : Blocks → ℕ → ℕ → Language (Counted Statement)
 lock inside nesting before = do
-  limited_word (codes "lock") (counted before)
+  limited_word (codes "lock") (statement_limit before)
   r ← name
   inner ← inside (suc nesting) (suc before)
   gives (Locked r inner.0, inner.1)
@@ -72,9 +72,9 @@ one_more most block inside nesting so_far = do
   gives (so_far.0 ++ s.0 ∷ [], s.1)
 
 -- statements in braces, which pass the limit on nesting where they stand too deep
-abbrev pub braced : ℕ → Blocks → Blocks → Blocks
-braced most block inside nesting before = do
-  limited_sign (codes "{") (nested nesting)
+abbrev pub braced_block : ℕ → Blocks → Blocks → Blocks
+braced_block most block inside nesting before = do
+  limited_sign (codes "{") (nesting_limit nesting)
   all ← repeat (one_more most block inside nesting) ([], before)
   sign (codes "}")
   gives (block_of all.0, all.1)
@@ -83,10 +83,10 @@ braced most block inside nesting before = do
 abbrev mutual
   pub block : ℕ → ℕ → Blocks
   block most zero nesting before = never
-  block most (suc deep) nesting before = braced most (block most deep) (inside most deep) nesting before
+  block most (suc deep) nesting before = braced_block most (block most deep) (inside most deep) nesting before
 
   -- what is behind a lock's name, with at most so many blocks inside each other
   pub inside : ℕ → ℕ → Blocks
   inside most zero nesting before = never
   inside most (suc deep) nesting before =
-      braced most (block most deep) (inside most deep) nesting before or further (inside most deep) nesting before
+      braced_block most (block most deep) (inside most deep) nesting before or further (inside most deep) nesting before

@@ -5,7 +5,7 @@ use Rattle.std.specs.Prelude.{Vec}
 use Rattle.std.specs.Global.{Global}
 use Rattle.indexmap.specs.IndexMap.{insert_entry}
 use Rattle.indexmap.specs.IndexSet.{insert_key}
-use Rattle.rt_ids.specs.Inside.Kept.{text, kept}
+use Rattle.rt_ids.specs.Inside.Kept.{text, kept_names}
 use Rattle.std.specs.Map.{lookup}
 use Rattle.std.specs.Option.{option_map, option_and_then}
 use Rattle.std.proofs.lemmas.Bool.{false≢true}
@@ -19,7 +19,7 @@ use Rattle.rt_ids.specs.Names.{Names, AreNames, irq_of, task_of, resource_of, wi
 use Rattle.rt_ids.specs.Word.{IsName}
 use Rattle.rt_ids.proofs.Lists.{list_any-map, position-map, find_by_position, is_some-position, is_some-find, none_from_is_some, all_push, place_pushed, place_taken}
 
--- a name that no test finds stands at no place
+-- a name that no test finds stands at no index
 nowhere : (names : List (List ℕ)) (name : List ℕ) → list_any (bytes_eq name) names ≡ false → (i : ℕ) → slice_get names i ≡ Some name → ⊥
 nowhere [] name none i at = none-some name at
 nowhere (x ∷ xs) name none zero at =
@@ -138,7 +138,7 @@ looked_up test (irq ∷ irqs) = by (looked_up test irqs) (test (text irq.0))
     by rest true = refl
     by rest false = rest
 
--- the first interrupt of a number stands at the first place of the number among all numbers
+-- the first interrupt of a number stands at the first index of the number among all numbers
 module _ (irqs : List (Vec ℕ Global × ℕ)) (number : ℕ) where
   abbrev seen_irq : Vec ℕ Global × ℕ → List ℕ × ℕ
   seen_irq irq = (text irq.0, irq.1)
@@ -153,11 +153,11 @@ module _ (irqs : List (Vec ℕ Global × ℕ)) (number : ℕ) where
       find_by_position (λ irq. second irq == number) (map seen_irq irqs)
       ∙ ap (option_and_then (slice_get (map seen_irq irqs))) (sym (position-map second (λ n. n == number) (map seen_irq irqs)) ∙ ap (position (λ n. n == number)) same)
 
-  pub irq_found : (place : ℕ) (name : Vec ℕ Global) (n : ℕ) → position (λ n. n == number) (map (λ irq. irq.1) irqs) ≡ Some place → slice_get irqs place ≡ Some (name, n)
+  pub irq_found : (index : ℕ) (name : Vec ℕ Global) (n : ℕ) → position (λ n. n == number) (map (λ irq. irq.1) irqs) ≡ Some index → slice_get irqs index ≡ Some (name, n)
       → option_map (λ irq. irq.0) numbered ≡ Some (text name)
-  irq_found place name n at there =
+  irq_found index name n at there =
       ap (option_map (λ irq. irq.0))
-      (by_place ∙ ap (option_and_then (slice_get (map seen_irq irqs))) at ∙ slice_get-map seen_irq irqs place ∙ ap (option_map seen_irq) there)
+      (by_place ∙ ap (option_and_then (slice_get (map seen_irq irqs))) at ∙ slice_get-map seen_irq irqs index ∙ ap (option_map seen_irq) there)
 
   pub irq_missing : position (λ n. n == number) (map (λ irq. irq.1) irqs) ≡ None → option_map (λ irq. irq.0) numbered ≡ None
   irq_missing none = ap (option_map (λ irq. irq.0)) (by_place ∙ ap (option_and_then (slice_get (map seen_irq irqs))) none)
@@ -183,41 +183,41 @@ module _ (v : Vec ℕ Global) where
   key_last : (names : List (Vec ℕ Global)) → list_any (bytes_eq (text v)) (map text names) ≡ false → insert_key same_text names v ≡ names ++ v ∷ []
   key_last names none = rw (sym (list_any-map text (bytes_eq (text v)) names), none) refl
 
-module _ (irqs : List (Vec ℕ Global × ℕ)) (tasks shared : List (Vec ℕ Global)) (self : Names) (view_is : kept irqs tasks shared ≡ self) (are : AreNames (kept irqs tasks shared))
+module _ (irqs : List (Vec ℕ Global × ℕ)) (tasks shared : List (Vec ℕ Global)) (self : Names) (view_is : kept_names irqs tasks shared ≡ self) (are : AreNames (kept_names irqs tasks shared))
     (v : Vec ℕ Global) (name : List ℕ) (is : v.items ≡ name) (named : IsName name) where
   pub irq_kept : (number : ℕ) (new : List (Vec ℕ Global × ℕ)) → new ≡ insert_entry same_text irqs v number → irq_of self name ≡ None → length self.irqs < IRQS
-      → (kept new tasks shared ≡ with_irq self name number) × AreNames (kept new tasks shared)
+      → (kept_names new tasks shared ≡ with_irq self name number) × AreNames (kept_names new tasks shared)
   irq_kept number new at none room =
       let view : Vec ℕ Global × ℕ → List ℕ × ℕ = λ irq. (text irq.0, irq.1) in
-      let unknown : irq_of (kept irqs tasks shared) (text v) ≡ None = ap (λ names. irq_of names (text v)) view_is ∙ ap (irq_of self) is ∙ none in
+      let unknown : irq_of (kept_names irqs tasks shared) (text v) ≡ None = ap (λ names. irq_of names (text v)) view_is ∙ ap (irq_of self) is ∙ none in
       let fits : length (map view irqs) < IRQS = subst (λ (names : Names). length names.irqs < IRQS) (sym view_is) room in
-      let last : new ≡ irqs ++ (v, number) ∷ [] = at ∙ entry_last v irqs number (new_irq (kept irqs tasks shared) (text v) unknown) in
+      let last : new ≡ irqs ++ (v, number) ∷ [] = at ∙ entry_last v irqs number (new_irq (kept_names irqs tasks shared) (text v) unknown) in
       let grown : map view new ≡ map view irqs ++ (text v, number) ∷ [] = ap (map view) last ∙ map_push view irqs (v, number) in
-      let whole : kept new tasks shared ≡ with_irq (kept irqs tasks shared) (text v) number = ap (λ es. record { irqs = es; tasks = map text tasks; shared = map text shared }) grown in (
+      let whole : kept_names new tasks shared ≡ with_irq (kept_names irqs tasks shared) (text v) number = ap (λ es. record { irqs = es; tasks = map text tasks; shared = map text shared }) grown in (
         whole ∙ ap (λ names. with_irq names (text v) number) view_is ∙ ap (λ n. with_irq self n number) is,
-        subst AreNames (sym whole) (irq_added (kept irqs tasks shared) (text v) number are (subst IsName (sym is) named) unknown fits),
+        subst AreNames (sym whole) (irq_added (kept_names irqs tasks shared) (text v) number are (subst IsName (sym is) named) unknown fits),
       )
 
   pub task_kept : (new : List (Vec ℕ Global)) → new ≡ insert_key same_text tasks v → task_of self name ≡ None → length self.tasks < TASKS
-      → (kept irqs new shared ≡ with_task self name) × AreNames (kept irqs new shared)
+      → (kept_names irqs new shared ≡ with_task self name) × AreNames (kept_names irqs new shared)
   task_kept new at none room =
-      let unknown : task_of (kept irqs tasks shared) (text v) ≡ None = ap (λ names. task_of names (text v)) view_is ∙ ap (task_of self) is ∙ none in
+      let unknown : task_of (kept_names irqs tasks shared) (text v) ≡ None = ap (λ names. task_of names (text v)) view_is ∙ ap (task_of self) is ∙ none in
       let fits : length (map text tasks) < TASKS = subst (λ (names : Names). length names.tasks < TASKS) (sym view_is) room in
-      let last : new ≡ tasks ++ v ∷ [] = at ∙ key_last v tasks (new_task (kept irqs tasks shared) (text v) unknown) in
+      let last : new ≡ tasks ++ v ∷ [] = at ∙ key_last v tasks (new_task (kept_names irqs tasks shared) (text v) unknown) in
       let grown : map text new ≡ map text tasks ++ text v ∷ [] = ap (map text) last ∙ map_push text tasks v in
-      let whole : kept irqs new shared ≡ with_task (kept irqs tasks shared) (text v) = ap (λ names. record (kept irqs tasks shared) { tasks = names }) grown in (
+      let whole : kept_names irqs new shared ≡ with_task (kept_names irqs tasks shared) (text v) = ap (λ names. record (kept_names irqs tasks shared) { tasks = names }) grown in (
         whole ∙ ap (λ names. with_task names (text v)) view_is ∙ ap (with_task self) is,
-        subst AreNames (sym whole) (task_added (kept irqs tasks shared) (text v) are (subst IsName (sym is) named) unknown fits),
+        subst AreNames (sym whole) (task_added (kept_names irqs tasks shared) (text v) are (subst IsName (sym is) named) unknown fits),
       )
 
   pub resource_kept : (new : List (Vec ℕ Global)) → new ≡ insert_key same_text shared v → resource_of self name ≡ None → length self.shared < SHARED
-      → (kept irqs tasks new ≡ with_resource self name) × AreNames (kept irqs tasks new)
+      → (kept_names irqs tasks new ≡ with_resource self name) × AreNames (kept_names irqs tasks new)
   resource_kept new at none room =
-      let unknown : resource_of (kept irqs tasks shared) (text v) ≡ None = ap (λ names. resource_of names (text v)) view_is ∙ ap (resource_of self) is ∙ none in
+      let unknown : resource_of (kept_names irqs tasks shared) (text v) ≡ None = ap (λ names. resource_of names (text v)) view_is ∙ ap (resource_of self) is ∙ none in
       let fits : length (map text shared) < SHARED = subst (λ (names : Names). length names.shared < SHARED) (sym view_is) room in
-      let last : new ≡ shared ++ v ∷ [] = at ∙ key_last v shared (new_resource (kept irqs tasks shared) (text v) unknown) in
+      let last : new ≡ shared ++ v ∷ [] = at ∙ key_last v shared (new_resource (kept_names irqs tasks shared) (text v) unknown) in
       let grown : map text new ≡ map text shared ++ text v ∷ [] = ap (map text) last ∙ map_push text shared v in
-      let whole : kept irqs tasks new ≡ with_resource (kept irqs tasks shared) (text v) = ap (λ names. record (kept irqs tasks shared) { shared = names }) grown in (
+      let whole : kept_names irqs tasks new ≡ with_resource (kept_names irqs tasks shared) (text v) = ap (λ names. record (kept_names irqs tasks shared) { shared = names }) grown in (
         whole ∙ ap (λ names. with_resource names (text v)) view_is ∙ ap (with_resource self) is,
-        subst AreNames (sym whole) (resource_added (kept irqs tasks shared) (text v) are (subst IsName (sym is) named) unknown fits),
+        subst AreNames (sym whole) (resource_added (kept_names irqs tasks shared) (text v) are (subst IsName (sym is) named) unknown fits),
       )

@@ -1,4 +1,4 @@
--- On lists: what stands at a place, and what is found.
+-- On lists: what stands at an index, and what is found.
 use Rattle.std.proofs.Common.{◌≡◌, ℕ, zero, suc, ◌+◌, ◌<◌, ◌⊎◌, inl, inr, Bool, true, false, cond, not, nat_lt, ◌||◌, List, [], ◌∷◌, ◌++◌, length, map, take, find, position, slice_get, Option, None, Some, is_some, refl, sym, ap, ◌∙◌, arith}
 use Rattle.std.specs.List.{AllByRecursion, list_any, prefix_len, position_from, position_or_len}
 use Rattle.std.specs.Option.{option_map, option_and_then}
@@ -51,7 +51,7 @@ pub all_push : {A : Type 0} (P : A → Type 0) (xs : List A) (x : A) → AllByRe
 all_push P [] x all h = (h, tt)
 all_push P (y ∷ xs) x all h = (all.0, all_push P xs x all.1 h)
 
--- a place that is taken with one thing more behind
+-- an index that is taken with one thing more behind
 pub place_pushed : {X : Type 0} (xs : List X) (y : X) (i : ℕ) (x : X) → slice_get (xs ++ y ∷ []) i ≡ Some x
     → (slice_get xs i ≡ Some x) ⊎ ((i ≡ length xs) × (y ≡ x))
 place_pushed [] y zero x at = inr (refl, same_Some y x at)
@@ -59,7 +59,7 @@ place_pushed [] y (suc i) x at = absurd (none-some x at)
 place_pushed (z ∷ xs) y zero x at = inl at
 place_pushed (z ∷ xs) y (suc i) x at = elim (place_pushed xs y i x at) [ inl here ↦ inl here | inr last ↦ inr (ap suc last.0, last.1) ]
 
--- a place among the first ones is the same place
+-- an index among the first ones is the same index
 pub place_taken : {X : Type 0} (xs : List X) (n i : ℕ) (x : X) → slice_get (take n xs) i ≡ Some x → (i < n) × (slice_get xs i ≡ Some x)
 place_taken [] zero i x at = absurd (none-some x at)
 place_taken [] (suc n) i x at = absurd (none-some x at)
@@ -71,7 +71,7 @@ place_taken (y ∷ xs) (suc n) (suc i) x at = let rest = place_taken xs n i x at
 pub taken_next : {X : Type 0} (xs : List X) (n : ℕ) (x : X) → slice_get xs n ≡ Some x → take n xs ++ x ∷ [] ≡ take (n + 1) xs
 taken_next xs n x at = ap (λ y. take n xs ++ y ∷ []) (sym (get_or_from_slice_get xs n x x at)) ∙ sym (take_more xs n x (slice_get_within xs n x at))
 
--- what is found is what stands at the first place that passes
+-- what is found is what stands at the first index that passes
 pub find_by_position : {X : Type 0} (test : X → Bool) (xs : List X) → find test xs ≡ option_and_then (slice_get xs) (position test xs)
 find_by_position test xs = find_at test xs ∙ by (position_or_len test xs) (nat_lt (position_or_len test xs) (length xs)) refl
   where

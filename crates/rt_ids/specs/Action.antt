@@ -6,7 +6,7 @@ use Rattle.rt_ids.specs.declared.ids.BodyId.{BodyId}
 use Rattle.rt_ids.specs.declared.ids.Section.{Section}
 use Rattle.rt_ids.specs.declared.ids.Section.TheVariants as section
 use Rattle.rt_ids.specs.Holder.{Guarded}
-use Rattle.rt_ids.specs.Content.{Message, Number, Messages, Delays, Values, number, messages, timed, put_at}
+use Rattle.rt_ids.specs.Content.{Message, Number, Messages, Delays, Values, number, messages, timer_content, values_with}
 use Rattle.rt_ids.specs.Content.{with_armed, with_fired, with_cancelled, with_moved}
 
 -- a visible action of a body, as a label of a transition system; its sections are the critical sections of Baker (1991)
@@ -21,8 +21,8 @@ pub data Action : Type 0 where
   -- it reads the time, which is answered
   Clocks : Action
   -- it takes a place of a task, or finds none
-  Takes : (task : ℕ) → Action
-  Refuses : (task : ℕ) → Action
+  Places : (task : ℕ) → Action
+  FindsFull : (task : ℕ) → Action
   -- it puts a message last among the ready ones of a level, or takes the oldest of them to start it
   Readies : (level : ℕ) → (message : Message) → Action
   Starts : (level : ℕ) → (message : Message) → Action
@@ -43,16 +43,16 @@ pub data Action : Type 0 where
 
 -- what an action changes in the contents of sections: the column of changes in the table of actions
 abbrev pub effect : Action → Values → Values
-effect (Takes t) vs = put_at vs (Guarded (section.Free t)) (Number (number (vs (Guarded (section.Free t))) + 1))
-effect (Frees t) vs = put_at vs (Guarded (section.Free t)) (Number (number (vs (Guarded (section.Free t))) - 1))
+effect (Places t) vs = values_with vs (Guarded (section.Free t)) (Number (number (vs (Guarded (section.Free t))) + 1))
+effect (Frees t) vs = values_with vs (Guarded (section.Free t)) (Number (number (vs (Guarded (section.Free t))) - 1))
 effect (Readies p m) vs =
-    put_at vs (Guarded (section.Ready p)) (Messages (messages (vs (Guarded (section.Ready p))) ++ m ∷ []))
-effect (Starts p m) vs = put_at vs (Guarded (section.Ready p))
+    values_with vs (Guarded (section.Ready p)) (Messages (messages (vs (Guarded (section.Ready p))) ++ m ∷ []))
+effect (Starts p m) vs = values_with vs (Guarded (section.Ready p))
     (Messages (drop 1 (messages (vs (Guarded (section.Ready p))))))
-effect (Arms i m) vs = put_at vs (Guarded section.Timer) (Delays (with_armed i m (timed (vs (Guarded section.Timer)))))
-effect (Fires m) vs = put_at vs (Guarded section.Timer) (Delays (with_fired (timed (vs (Guarded section.Timer)))))
+effect (Arms i m) vs = values_with vs (Guarded section.Timer) (Delays (with_armed i m (timer_content (vs (Guarded section.Timer)))))
+effect (Fires m) vs = values_with vs (Guarded section.Timer) (Delays (with_fired (timer_content (vs (Guarded section.Timer)))))
 effect (Cancels n h) vs =
-    put_at vs (Guarded section.Timer) (Delays (with_cancelled n h (timed (vs (Guarded section.Timer)))))
+    values_with vs (Guarded section.Timer) (Delays (with_cancelled n h (timer_content (vs (Guarded section.Timer)))))
 effect (Moves n h i) vs =
-    put_at vs (Guarded section.Timer) (Delays (with_moved n h i (timed (vs (Guarded section.Timer)))))
+    values_with vs (Guarded section.Timer) (Delays (with_moved n h i (timer_content (vs (Guarded section.Timer)))))
 effect a vs = vs

@@ -14,7 +14,7 @@ bit_of words irq = bit_at (slice_index words (irq / 32)) (irq % 32)
 abbrev pub holds : ℕ → ℕ → ℕ → Bool
 holds k bits irq = (irq / 32 == k) && (bit_at bits (irq % 32) == 1)
 
--- the numbers of the bits of this word that are set and below this place, rising
+-- the numbers of the bits of this word that are set and below this index, rising
 abbrev pub arrivals_below : ℕ → ℕ → ℕ → List ℕ
 arrivals_below k bits places = map (λ bit. 32 * k + bit) (filter (λ bit. bit_at bits bit == 1) (numbers_below places))
 
@@ -23,6 +23,6 @@ abbrev pub arrivals : ℕ → ℕ → List ℕ
 arrivals k bits = arrivals_below k bits 32
 
 -- the pending interrupts with these too
-abbrev pub pended : List ℕ → List Bool → List Bool
-pended [] pending = pending
-pended (irq ∷ irqs) pending = pended irqs (slice_set pending irq true)
+abbrev pub pending_with : List ℕ → List Bool → List Bool
+pending_with [] pending = pending
+pending_with (irq ∷ irqs) pending = pending_with irqs (slice_set pending irq true)

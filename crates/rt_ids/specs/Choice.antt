@@ -13,7 +13,7 @@ abbrev pub best : {A : Type 0} → (A → Bool) → (A → A → Bool) → List 
 best passes beats [] = None
 best passes beats (x ∷ xs) = if passes x then better_of beats x (best passes beats xs) else best passes beats xs
 
--- an item stands at some place of a list
+-- an item stands at some index of a list
 abbrev pub IsIn : {A : Type 0} → List A → A → Type 0
 IsIn xs x = (i : ℕ) × (slice_get xs i ≡ Some x)
 

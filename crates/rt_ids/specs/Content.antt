@@ -56,14 +56,14 @@ messages (Messages ms) = ms
 messages (Delays timed) = []
 
 -- the timer queue that a content is, and one with nothing armed where it is none
-abbrev pub timed : Content → Timed
-timed (Number n) = nothing_armed
-timed (Messages messages) = nothing_armed
-timed (Delays t) = t
+abbrev pub timer_content : Content → Timed
+timer_content (Number n) = nothing_armed
+timer_content (Messages messages) = nothing_armed
+timer_content (Delays t) = t
 
 -- the armed messages of a content
 abbrev pub delays : Content → List Armed
-delays content = (timed content).armed
+delays content = (timer_content content).armed
 
 -- one more arming may come: the number of armings, first ones and later ones, stays a number of 31 bits
 abbrev pub MayArm : Content → Type 0
@@ -72,8 +72,8 @@ MayArm (Messages messages) = Unit {0}
 MayArm (Delays t) = t.given + t.moved < 2 ^ 31
 
 -- the values with another content at one holder
-abbrev pub put_at : Values → Holder → Content → Values
-put_at values holder content other = if is_same_holder holder other then content else values other
+abbrev pub values_with : Values → Holder → Content → Values
+values_with values holder content other = if is_same_holder holder other then content else values other
 
 -- the lesser of a number and of one that may not be there
 abbrev pub lesser : ℕ → Option ℕ → ℕ
@@ -103,8 +103,8 @@ abbrev pub has_handle : ℕ → ℕ → Armed → Bool
 has_handle task handle a = (a.message.task == task) && (a.handle == handle)
 
 -- the armed message of a task that has a handle, where there is one
-abbrev pub armed_as : ℕ → ℕ → List Armed → Option Armed
-armed_as task handle armed = find (has_handle task handle) armed
+abbrev pub message_of_handle : ℕ → ℕ → List Armed → Option Armed
+message_of_handle task handle armed = find (has_handle task handle) armed
 
 -- the armed messages without the one of a task that has a handle
 abbrev pub without_handle : ℕ → ℕ → List Armed → List Armed
@@ -126,13 +126,13 @@ abbrev pub with_cancelled : ℕ → ℕ → Timed → Timed
 with_cancelled task handle t = record t { armed = without_handle task handle t.armed }
 
 -- a message that was found, for another instant, and nothing where none was found
-abbrev pub postponed : ℕ → Option Armed → List Armed
-postponed instant None = []
-postponed instant (Some a) = record a { instant = instant } ∷ []
+abbrev pub postponed_message : ℕ → Option Armed → List Armed
+postponed_message instant None = []
+postponed_message instant (Some a) = record a { instant = instant } ∷ []
 
 -- the timer queue after the message of a task and a handle goes last, for another instant; it keeps its handle
 abbrev pub with_moved : ℕ → ℕ → ℕ → Timed → Timed
 with_moved task handle instant t = record t {
   moved = t.moved + 1;
-  armed = without_handle task handle t.armed ++ postponed instant (armed_as task handle t.armed);
+  armed = without_handle task handle t.armed ++ postponed_message instant (message_of_handle task handle t.armed);
 }

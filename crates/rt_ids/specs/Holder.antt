@@ -7,7 +7,7 @@ use Rattle.rt_ids.specs.declared.ids.Section.TheVariants as section
 -- something that holds a value or a queue: what a section guards, or a local resource
 pub data Holder : Type 0 where
   Guarded : (section : Section) → Holder
-  -- a local resource, by its place in the order of declaration
+  -- a local resource, by its index in the order of declaration
   Own : (local : ℕ) → Holder
 
 -- whether two sections are one

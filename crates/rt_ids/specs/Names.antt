@@ -1,4 +1,4 @@
--- The names that an application declares, in order of declaration. A task or a shared resource is its place in the
+-- The names that an application declares, in order of declaration. A task or a shared resource is its index in the
 -- list. As RTIC 1 has functions for tasks and fields for resources, of which Rust takes no two of one name, names of
 -- one kind differ. The code keeps maps in order of insertion.
 use Rattle.std.specs.Prelude.{ℕ, ◌≤◌, List, [], ◌∷◌, ◌++◌, length, map, find, position, bytes_eq, Option, option_map}

@@ -16,11 +16,11 @@ irq_named names number = find (λ irq. irq.1 == number) names.irqs
 abbrev pub irq_name : Names → ℕ → List ℕ
 irq_name names number = unwrap_or (option_map (λ irq. irq.0) (irq_named names number)) []
 
--- the name of a task, given by its place in the order of declaration
+-- the name of a task, given by its index in the order of declaration
 abbrev pub task_name : Names → ℕ → List ℕ
 task_name names task = slice_index_or names.tasks task []
 
--- the name of a shared resource, given by its place in the order of declaration
+-- the name of a shared resource, given by its index in the order of declaration
 abbrev pub resource_name : Names → ℕ → List ℕ
 resource_name names resource = slice_index_or names.shared resource []
 

@@ -8,8 +8,8 @@ use Rattle.rt_ids.specs.declared.op.Op.{Op}
 use Rattle.rt_ids.specs.declared.op.Op.TheVariants as op
 
 -- what 32 bits keep of a number
-abbrev pub wrapped : ℕ → ℕ
-wrapped n = n % 2 ^ 32
+abbrev pub wrapped_number : ℕ → ℕ
+wrapped_number n = n % 2 ^ 32
 
 -- a test as a number: 1 for true, and 0 for false
 abbrev pub number_of : Bool → ℕ
@@ -17,15 +17,15 @@ number_of holds = if holds then 1 else 0
 
 -- what an operation gives on two numbers of 32 bits: again a number of 32 bits
 abbrev pub operate : Op → ℕ → ℕ → ℕ
-operate op.Add a b = wrapped (a + b)
-operate op.Sub a b = wrapped (a + (2 ^ 32 - b))
-operate op.Mul a b = wrapped (a * b)
+operate op.Add a b = wrapped_number (a + b)
+operate op.Sub a b = wrapped_number (a + (2 ^ 32 - b))
+operate op.Mul a b = wrapped_number (a * b)
 operate op.Div a b = if b == 0 then 0 else a / b
 operate op.Rem a b = if b == 0 then a else a % b
 operate op.And a b = bit_and a b
 operate op.Or a b = bit_or a b
 operate op.Xor a b = bit_xor a b
-operate op.Shl a b = if nat_lt b 32 then wrapped (a * 2 ^ b) else 0
+operate op.Shl a b = if nat_lt b 32 then wrapped_number (a * 2 ^ b) else 0
 operate op.Shr a b = if nat_lt b 32 then a / 2 ^ b else 0
 operate op.Eq a b = number_of (a == b)
 operate op.Ne a b = number_of (not (a == b))

@@ -15,10 +15,10 @@ pub data Home : Type 0 where
   -- no value of the application
   Nowhere : Home
 
--- who runs: `init`, which runs at the greatest priority and so may a task, or what runs at a level, `idle` at 0
+-- who runs: `init`, which runs at the greatest priority and so may a task, or what runs at a priority, `idle` at 0
 pub data Runner : Type 0 where
   Starting : Runner
-  AtLevel : (level : ℕ) → Runner
+  AtPriority : (priority : ℕ) → Runner
 
 -- a memory layout with all that code correctness asks of it: homes of cells, contents, ceilings, and what is kept
 -- without a section

@@ -1,7 +1,7 @@
 use crate::priority::Prio;
 use std::marker::Model;
 
-/// A task, by its place in the order of declaration. Contracts see the number.
+/// A task, by its index in the order of declaration. Contracts see the number.
 #[derive(Clone, Copy, Debug, PartialEq, Eq, PartialOrd, Ord, Hash)]
 pub struct TaskId(pub u8);
 
@@ -15,7 +15,7 @@ impl Model for TaskId {
     ghost inverse = { λ n. record { 0 = n } };
 }
 
-/// A shared resource, by its place in the order of declaration. Contracts see the number.
+/// A shared resource, by its index in the order of declaration. Contracts see the number.
 #[derive(Clone, Copy, Debug, PartialEq, Eq, PartialOrd, Ord, Hash)]
 pub struct ResId(pub u8);
 

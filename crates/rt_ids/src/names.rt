@@ -23,13 +23,13 @@ pub struct Names {
 
 impl Model for Names {
     ghost use Rattle.rt_ids.specs.Names.{Names, AreNames};
-    ghost use Rattle.rt_ids.specs.Inside.Kept.{kept};
+    ghost use Rattle.rt_ids.specs.Inside.Kept.{kept_names};
 
     ghost Value = { Names };
 
-    ghost view = { λ names. kept names.irqs.entries names.tasks.keys names.shared.keys };
+    ghost view = { λ names. kept_names names.irqs.entries names.tasks.keys names.shared.keys };
 
-    ghost invariant = { λ names. AreNames (kept names.irqs.entries names.tasks.keys names.shared.keys) };
+    ghost invariant = { λ names. AreNames (kept_names names.irqs.entries names.tasks.keys names.shared.keys) };
 }
 
 impl Drop for Names {
@@ -114,11 +114,11 @@ impl Names {
         self.shared.len()
     }
 
-    /// The interrupt at a place in the order of declaration, with its number.
-    pub fn irq_at(&self, place: usize) -> Option<(&[u8], Irq)>
-        ensures { option_map (λ irq. (irq.0.now, irq.1)) result ≡ slice_get self.now.irqs place }
+    /// The interrupt at an index in the order of declaration, with its number.
+    pub fn irq_at(&self, index: usize) -> Option<(&[u8], Irq)>
+        ensures { option_map (λ irq. (irq.0.now, irq.1)) result ≡ slice_get self.now.irqs index }
     {
-        match self.irqs.get_index(place) {
+        match self.irqs.get_index(index) {
             Some((name, number)) => Some((name.as_slice(), *number)),
             None => None,
         }
@@ -156,7 +156,7 @@ impl Names {
         ensures { result ≡ task_of self.now name.now }
     {
         match self.tasks.get_index_of(name) {
-            Some(place) => Some(TaskId(place as u8)),
+            Some(index) => Some(TaskId(index as u8)),
             None => None,
         }
     }
@@ -166,7 +166,7 @@ impl Names {
         ensures { result ≡ resource_of self.now name.now }
     {
         match self.shared.get_index_of(name) {
-            Some(place) => Some(ResId(place as u8)),
+            Some(index) => Some(ResId(index as u8)),
             None => None,
         }
     }
@@ -175,8 +175,8 @@ impl Names {
     pub fn irq_name(&self, number: Irq) -> Option<&[u8]>
         ensures { option_map (λ name. name.now) result ≡ option_map (λ irq. irq.0) (naming.irq_named self.now number) }
     {
-        let place = place_of(self.irqs.values().as_slice(), number)?;
-        let (name, _) = self.irqs.get_index(place)?;
+        let index = place_of(self.irqs.values().as_slice(), number)?;
+        let (name, _) = self.irqs.get_index(index)?;
         Some(name.as_slice())
     }
 
@@ -192,7 +192,7 @@ impl Names {
     }
 }
 
-/// The first place of an interrupt.
+/// The first index of an interrupt.
 fn place_of(irqs: &[Irq], irq: Irq) -> Option<usize>
     ensures { result ≡ position (λ n. n == irq) irqs.now }
 {
@@ -204,8 +204,8 @@ fn copy_irqs(alloc: Global, from: &Names, to: &mut Names) -> Result<(), NoMemory
     requires { to.old.irqs ≡ [] }
     ensures { OnOk result (to.new ≡ record to.old { irqs = from.now.irqs }) }
 {
-    for place in 0..from.irq_count() {
-        let Some(irq) = from.irq_at(place) else {
+    for index in 0..from.irq_count() {
+        let Some(irq) = from.irq_at(index) else {
             unreachable!()
         };
         to.add_irq(alloc, irq.0, irq.1)?;
@@ -218,8 +218,8 @@ fn copy_tasks(alloc: Global, from: &Names, to: &mut Names) -> Result<(), NoMemor
     requires { to.old.tasks ≡ [] }
     ensures { OnOk result (to.new ≡ record to.old { tasks = from.now.tasks }) }
 {
-    for place in 0..from.task_count() as u8 {
-        let Some(name) = from.task_at(TaskId(place)) else {
+    for index in 0..from.task_count() as u8 {
+        let Some(name) = from.task_at(TaskId(index)) else {
             unreachable!()
         };
         to.add_task(alloc, name)?;
@@ -232,8 +232,8 @@ fn copy_resources(alloc: Global, from: &Names, to: &mut Names) -> Result<(), NoM
     requires { to.old.shared ≡ [] }
     ensures { OnOk result (to.new ≡ record to.old { shared = from.now.shared }) }
 {
-    for place in 0..from.resource_count() as u8 {
-        let Some(name) = from.resource_at(ResId(place)) else {
+    for index in 0..from.resource_count() as u8 {
+        let Some(name) = from.resource_at(ResId(index)) else {
             unreachable!()
         };
         to.add_resource(alloc, name)?;

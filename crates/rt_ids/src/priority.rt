@@ -28,7 +28,7 @@ impl Prio {
         requires greatest { self ≤ 2 ^ bits }
         ensures { result ≡ hardware bits self }
     {
-        let levels = 1u8 << bits;
-        (levels - self.0) << (8 - bits)
+        let priorities = 1u8 << bits;
+        (priorities - self.0) << (8 - bits)
     }
 }

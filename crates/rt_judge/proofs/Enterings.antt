@@ -16,10 +16,10 @@ use Rattle.rt_code.specs.declared.instr.Note.{Note}
 use Rattle.rt_code.specs.declared.instr.Note.TheVariants as note
 use Rattle.rt_points.specs.Point.{Point, sections}
 use Rattle.rt_points.specs.declared.point.Owner.TheVariants.{Starting, Thread, Handling}
-use Rattle.rt_points.specs.Level.{owner_value}
+use Rattle.rt_points.specs.ExecutionPriority.{owner_value}
 use Rattle.rt_judge.specs.Inside.Kept.{EntersBy, FreeAt}
-use Rattle.rt_judge.specs.Inside.Entering.{Enterer, level_behind, IsGreatestLevel, IsLeastValue, IsLeastOrNone, IsEntering}
-use Rattle.rt_judge.specs.Inside.Entering.{TellsOfSections, least, with_entering, added, entered, EntersNone}
+use Rattle.rt_judge.specs.Inside.Entering.{Enterer, priority_behind, IsGreatestPriority, IsLeastValue, IsLeastOrNone, IsEntering}
+use Rattle.rt_judge.specs.Inside.Entering.{TellsOfSections, least, with_entering, row_with_entering, rows_with_entering, EntersNone}
 use Rattle.rt_judge.specs.Inside.Values.{outside_value}
 use Rattle.rt_judge.specs.declared.entering.Entering.{Entering}
 use Rattle.rt_judge.specs.declared.entering.Sections.{Sections}
@@ -54,7 +54,7 @@ pub value_of_next : (img : Image) (p : Point) → IsValueOf img p (outside_value
 value_of_next img p = elim p.owner as (λ o. p.owner ≡ o → IsValueOf img p (outside_value img o)) [
   | Starting ↦ λ e. e
   | Thread ↦ λ e. ((λ is. let both : Thread ≡ Starting = sym e ∙ is in cc), ap (owner_value img) e)
-  | Handling place ↦ λ e. ((λ is. let both : Handling place ≡ Starting = sym e ∙ is in cc), ap (owner_value img) e)
+  | Handling index ↦ λ e. ((λ is. let both : Handling index ≡ Starting = sym e ∙ is in cc), ap (owner_value img) e)
 ] refl
 
 seen_before : (img : Image) (ps : List Point) (p : Point) (y : Section) (q : Point) (j : Instr) → Enterer img ps y q j
@@ -75,18 +75,18 @@ module _ (img : Image) (ps : List Point) (p : Point) (i : Instr) (x : Section) (
       now same (one_instr img p i j x y stands enters) (one_section img p i j x y stands enters))
       (Contains-push_cases ps p q e.seen)
 
-  abbrev level_now : ℕ
-  level_now = level_behind img p i x
+  abbrev priority_now : ℕ
+  priority_now = priority_behind img p i x
 
-  level_same : (q : Point) (j : Instr) → p ≡ q → i ≡ j → level_behind img q j x ≡ level_now
-  level_same q j same one = sym (ap (λ r. level_behind img r i x) same ∙ ap (λ k. level_behind img q k x) one)
+  priority_same : (q : Point) (j : Instr) → p ≡ q → i ≡ j → priority_behind img q j x ≡ priority_now
+  priority_same q j same one = sym (ap (λ r. priority_behind img r i x) same ∙ ap (λ k. priority_behind img q k x) one)
 
-  greatest : (old : ℕ) → IsGreatestLevel img ps x old → IsGreatestLevel img (ps ++ p ∷ []) x (max old level_now)
+  greatest : (old : ℕ) → IsGreatestPriority img ps x old → IsGreatestPriority img (ps ++ p ∷ []) x (max old priority_now)
   greatest old g = ⊎_elim
       (λ lower. record {
         all = λ q j e. by_cases x q j e
             (λ before. let le = g.all q j before in omega (arith, le, lower))
-            (λ same one _. let is = level_same q j same one in omega (arith, is, lower));
+            (λ same one _. let is = priority_same q j same one in omega (arith, is, lower));
         point = p;
         instr = i;
         enterer = here;
@@ -95,15 +95,15 @@ module _ (img : Image) (ps : List Point) (p : Point) (i : Instr) (x : Section) (
       (λ higher. record {
         all = λ q j e. by_cases x q j e
             (λ before. let le = g.all q j before in omega (arith, le, higher))
-            (λ same one _. let is = level_same q j same one in omega (arith, is, higher));
+            (λ same one _. let is = priority_same q j same one in omega (arith, is, higher));
         point = g.point;
         instr = g.instr;
         enterer = seen_before img ps p x g.point g.instr g.enterer;
         is = let e = g.is in omega (arith, e, higher);
       })
-      (cases_lt old level_now)
+      (cases_lt old priority_now)
     where
-      at_most : (old : ℕ) → old < level_now → level_behind img p i x ≡ max old level_now
+      at_most : (old : ℕ) → old < priority_now → priority_behind img p i x ≡ max old priority_now
       at_most old lower = omega (arith, lower)
 
   value_same : (q : Point) (value : ℕ) → p ≡ q → owner_value img p.owner ≡ value → owner_value img q.owner ≡ value
@@ -156,33 +156,33 @@ module _ (img : Image) (ps : List Point) (p : Point) (i : Instr) (x : Section) (
       (cases_lt u v)
 
   -- a row with the next who enters
-  module _ (e : Entering) (of : e.section ≡ x) (level : e.level ≡ level_behind img p i x) (value : IsValueOf img p e.value) where
+  module _ (e : Entering) (of : e.section ≡ x) (priority : e.priority ≡ priority_behind img p i x) (value : IsValueOf img p e.value) where
     first_row : ((q : Point) (j : Instr) → ¬ Enterer img ps x q j) → IsEntering img (ps ++ p ∷ []) x e
     first_row none = record {
-      level = record {
+      priority = record {
         all = λ q j enters. by_cases x q j enters
             (λ before. absurd (none q j before))
-            (λ same one _. let is = level_same q j same one in let now = now_is in omega (arith, is, now, level));
+            (λ same one _. let is = priority_same q j same one in let now = now_is in omega (arith, is, now, priority));
         point = p;
         instr = i;
         enterer = here;
-        is = sym level;
+        is = sym priority;
       };
       value = least_value None e.value (λ q j before. absurd (none q j before)) value;
     }
       where
-        now_is : level_now ≡ level_behind img p i x
+        now_is : priority_now ≡ priority_behind img p i x
         now_is = refl
 
     other_row : (row : Entering) → row.section ≢ x → IsEntering img ps row.section row
         → IsEntering img (ps ++ p ∷ []) row.section row
     other_row row apart is = record {
-      level = record {
-        all = λ q j enters. by_cases row.section q j enters (is.level.all q j) (λ _ _ same. absurd (apart (sym same)));
-        point = is.level.point;
-        instr = is.level.instr;
-        enterer = seen_before img ps p row.section is.level.point is.level.instr is.level.enterer;
-        is = is.level.is;
+      priority = record {
+        all = λ q j enters. by_cases row.section q j enters (is.priority.all q j) (λ _ _ same. absurd (apart (sym same)));
+        point = is.priority.point;
+        instr = is.priority.instr;
+        enterer = seen_before img ps p row.section is.priority.point is.priority.instr is.priority.enterer;
+        is = is.priority.is;
       };
       value = other_value row.value is.value;
     }
@@ -204,17 +204,17 @@ module _ (img : Image) (ps : List Point) (p : Point) (i : Instr) (x : Section) (
         let old = subst (λ y. IsEntering img ps y row) same is in
         subst (λ y. IsEntering img (ps ++ p ∷ []) y (with_entering e row)) (sym same)
         (record {
-          level = subst (λ n. IsGreatestLevel img (ps ++ p ∷ []) x (max row.level n)) (sym (level ∙ sym now_is))
-              (greatest row.level old.level);
+          priority = subst (λ n. IsGreatestPriority img (ps ++ p ∷ []) x (max row.priority n)) (sym (priority ∙ sym now_is))
+              (greatest row.priority old.priority);
           value = least_value row.value e.value old.value value;
         })
       where
-        now_is : level_now ≡ level_behind img p i x
+        now_is : priority_now ≡ priority_behind img p i x
         now_is = refl
 
     -- the rows, each of its own section
     step_row : (row : Entering) → IsEntering img ps row.section row
-        → IsEntering img (ps ++ p ∷ []) (added e row).section (added e row)
+        → IsEntering img (ps ++ p ∷ []) (row_with_entering e row).section (row_with_entering e row)
     step_row row is = ⊎_elim
         (λ same. subst (λ r. IsEntering img (ps ++ p ∷ []) r.section r) (sym (added_here row same))
         (same_row row (same_is row.section e.section same ∙ of) is))
@@ -227,26 +227,26 @@ module _ (img : Image) (ps : List Point) (p : Point) (i : Instr) (x : Section) (
         either true = inl refl
         either false = inr refl
 
-        added_here : (row : Entering) → is_same_section row.section e.section ≡ true → added e row ≡ with_entering e row
+        added_here : (row : Entering) → is_same_section row.section e.section ≡ true → row_with_entering e row ≡ with_entering e row
         added_here row same = rw same refl
 
-        added_apart : (row : Entering) → is_same_section row.section e.section ≡ false → added e row ≡ row
+        added_apart : (row : Entering) → is_same_section row.section e.section ≡ false → row_with_entering e row ≡ row
         added_apart row apart = rw apart refl
 
-    section_added : (row : Entering) → (added e row).section ≡ row.section
+    section_added : (row : Entering) → (row_with_entering e row).section ≡ row.section
     section_added row = elim (is_same_section row.section e.section) as
-        (λ b. is_same_section row.section e.section ≡ b → (added e row).section ≡ row.section) [
+        (λ b. is_same_section row.section e.section ≡ b → (row_with_entering e row).section ≡ row.section) [
           | true ↦ λ same. rw same refl
           | false ↦ λ apart. rw apart refl
         ] refl
 
-    any_added : (y : Section) (rows : List Entering) → list_any (λ row. is_same_section row.section y) (map (added e) rows)
+    any_added : (y : Section) (rows : List Entering) → list_any (λ row. is_same_section row.section y) (map (row_with_entering e) rows)
         ≡ list_any (λ row. is_same_section row.section y) rows
     any_added y [] = refl
     any_added y (row ∷ rows) = rw (section_added row, any_added y rows) refl
 
     rows_on : (rows : List Entering) → AllByRecursion (λ row. IsEntering img ps row.section row) rows
-        → AllByRecursion (λ row. IsEntering img (ps ++ p ∷ []) row.section row) (map (added e) rows)
+        → AllByRecursion (λ row. IsEntering img (ps ++ p ∷ []) row.section row) (map (row_with_entering e) rows)
     rows_on [] all = tt
     rows_on (row ∷ rows) all = (step_row row all.0, rows_on rows all.1)
 
@@ -264,7 +264,7 @@ module _ (img : Image) (ps : List Point) (p : Point) (i : Instr) (x : Section) (
 
     -- what the rows have, with the next
     module _ (s t : Sections) (tells : TellsOfSections img ps s) (free : t.free ≡ (s.free && not (list_any (λ o. is_same_section o.section x) p.inside)))
-        (rows : t.rows.items ≡ entered e s.rows.items) where
+        (rows : t.rows.items ≡ rows_with_entering e s.rows.items) where
       free_here : IsTrue (not (list_any (λ o. is_same_section o.section x) p.inside)) ↔ FreeAt img p
       free_here = (
         λ closed j y enters inside.
@@ -276,11 +276,11 @@ module _ (img : Image) (ps : List Point) (p : Point) (i : Instr) (x : Section) (
             (λ yes. open_free i x stands (any_inside x p.inside yes)),
       )
 
-      rows_now : AllByRecursion (λ row. IsEntering img (ps ++ p ∷ []) row.section row) (entered e s.rows.items)
+      rows_now : AllByRecursion (λ row. IsEntering img (ps ++ p ∷ []) row.section row) (rows_with_entering e s.rows.items)
       rows_now = elim (list_any (λ row. is_same_section row.section e.section) s.rows.items) as
           (λ b. list_any (λ row. is_same_section row.section e.section) s.rows.items ≡ b
           → AllByRecursion (λ row. IsEntering img (ps ++ p ∷ []) row.section row)
-          (if b then map (added e) s.rows.items else s.rows.items ++ e ∷ [])) [
+          (if b then map (row_with_entering e) s.rows.items else s.rows.items ++ e ∷ [])) [
             | true ↦ λ there. rows_on s.rows.items tells.rows
             | false ↦ λ none. all_append (λ row. IsEntering img (ps ++ p ∷ []) row.section row) s.rows.items (e ∷ [])
                 (rows_apart s.rows.items none tells.rows) (
@@ -292,10 +292,10 @@ module _ (img : Image) (ps : List Point) (p : Point) (i : Instr) (x : Section) (
           ] refl
 
       each_now : (y : Section) (q : Point) (j : Instr) → Enterer img (ps ++ p ∷ []) y q j
-          → list_any (λ row. is_same_section row.section y) (entered e s.rows.items) ≡ true
+          → list_any (λ row. is_same_section row.section y) (rows_with_entering e s.rows.items) ≡ true
       each_now y q j enters = elim (list_any (λ row. is_same_section row.section e.section) s.rows.items) as
           (λ b. list_any (λ row. is_same_section row.section e.section) s.rows.items ≡ b
-          → list_any (λ row. is_same_section row.section y) (if b then map (added e) s.rows.items else s.rows.items ++ e ∷ []) ≡ true) [
+          → list_any (λ row. is_same_section row.section y) (if b then map (row_with_entering e) s.rows.items else s.rows.items ++ e ∷ []) ≡ true) [
             | true ↦ λ there. any_added y s.rows.items ∙ by_cases y q j enters (tells.each y q j)
                 (λ _ _ same. subst (λ z. list_any (λ row. is_same_section row.section z) s.rows.items ≡ true) (of ∙ same) there)
             | false ↦ λ none. by_cases y q j enters
@@ -324,12 +324,12 @@ row_more : (img : Image) (ps : List Point) (p : Point)
     → ((y : Section) (q : Point) (j : Instr) → Enterer img (ps ++ p ∷ []) y q j → Enterer img ps y q j)
     → (row : Entering) → IsEntering img ps row.section row → IsEntering img (ps ++ p ∷ []) row.section row
 row_more img ps p before row is = record {
-  level = record {
-    all = λ q j e. is.level.all q j (before row.section q j e);
-    point = is.level.point;
-    instr = is.level.instr;
-    enterer = seen_before img ps p row.section is.level.point is.level.instr is.level.enterer;
-    is = is.level.is;
+  priority = record {
+    all = λ q j e. is.priority.all q j (before row.section q j e);
+    point = is.priority.point;
+    instr = is.priority.instr;
+    enterer = seen_before img ps p row.section is.priority.point is.priority.instr is.priority.enterer;
+    is = is.priority.is;
   };
   value = value_more row.value is.value;
 }

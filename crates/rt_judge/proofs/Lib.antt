@@ -1,4 +1,4 @@
-pub mod Levels
+pub mod ExecutionPriority
 pub mod SameSections
 pub mod ExitLists
 pub mod Bounds

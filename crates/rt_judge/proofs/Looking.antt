@@ -25,12 +25,12 @@ use Rattle.rt_points.specs.declared.point.Opened.{Opened}
 use Rattle.rt_points.specs.declared.rule.TheConstants.{MOST_OPEN}
 use Rattle.rt_points.specs.Leading.{IsPoint, Begins, Enters, Leads, LeadsTo, owner_after, handler_at, starts_at}
 use Rattle.rt_judge.specs.Inside.Points.{point}
-use Rattle.rt_judge.specs.Inside.Places.{point_of, place_of}
+use Rattle.rt_judge.specs.Inside.Visits.{point_of, place_of}
 use Rattle.rt_judge.specs.Inside.Walks.{Table, Has, IsWalked}
 use Rattle.rt_judge.specs.Inside.Finds.{Finds, points_of}
 use Rattle.rt_judge.specs.Inside.Looks.{LooksFrom, LooksBehind, LooksFromEntry, Looks, Looked, LookedBelow, IsThread, IsOf, IsBelow}
 use Rattle.rt_judge.specs.declared.findings.Findings.{Findings}
-use Rattle.rt_judge.specs.declared.walk.Place.{Place}
+use Rattle.rt_judge.specs.declared.walk.Visit.{Visit}
 
 is_eq_same : (x y : ℕ) → eq_by_cmp nat_cmp x y ≡ true → x ≡ y
 is_eq_same x y is = grind (arith, is)
@@ -45,13 +45,13 @@ entries_points owner (d ∷ entries) e is = elim (contains_cases d entries e is)
   | inr behind ↦ contains_there (point d.0 owner d.1) (points_of owner entries) (point e.0 owner e.1) (entries_points owner entries e behind)
 ]
 
-has_points : (owner : Owner) (t : Table) (place : Place) → Has t place → Contains (points_of owner t.entries) (point_of owner place)
-has_points owner t place has =
-    entries_points owner t.entries (place.address, place.nesting)
-    (Contains-from_lookup is_eq_same place.address place.nesting t.entries has)
+has_points : (owner : Owner) (t : Table) (visit : Visit) → Has t visit → Contains (points_of owner t.entries) (point_of owner visit)
+has_points owner t visit has =
+    entries_points owner t.entries (visit.address, visit.nesting)
+    (Contains-from_lookup is_eq_same visit.address visit.nesting t.entries has)
 
 points_have : (img : Image) (owner : Owner) (t : Table) → IsOrdered nat_cmp t
-    → ((place : Place) → Has t place → IsPoint img (point_of owner place)) → (entries : List (ℕ × List Opened))
+    → ((visit : Visit) → Has t visit → IsPoint img (point_of owner visit)) → (entries : List (ℕ × List Opened))
     → ((e : ℕ × List Opened) → Contains entries e → Contains t.entries e) → AllByRecursion (IsPoint img) (points_of owner entries)
 points_have img owner t ordered sound [] inside = tt
 points_have img owner t ordered sound (e ∷ entries) inside = (
@@ -62,7 +62,7 @@ points_have img owner t ordered sound (e ∷ entries) inside = (
 )
 
 -- a walk from where an owner begins has all its points
-module _ (img : Image) (owner : Owner) (starts : List Place) (old new : Findings) (bs : List Place)
+module _ (img : Image) (owner : Owner) (starts : List Visit) (old new : Findings) (bs : List Visit)
     (looked : LooksFrom img owner starts old new bs) (complete : (p : Point) → IsPoint img p → p.owner ≡ owner → Has looked.table (place_of p)) where
   of_owner : (p : Point) → p.owner ≡ owner → point_of owner (place_of p) ≡ p
   of_owner p same = λ i. record { address = p.address; owner = sym same i; inside = p.inside }
@@ -94,11 +94,11 @@ not_starting : (i : Instr) (owner : Owner) → owner_after i owner ≡ Starting 
 not_starting i owner e = ⊎_elim (λ same. sym same ∙ e) (λ both. both.0) (serves i owner)
 
 -- all points of `init`
-module _ (img : Image) (t : Table) (bs : List Place) (start : Place) (begins : start ≡ record { address = 0; nesting = [] })
+module _ (img : Image) (t : Table) (bs : List Visit) (start : Visit) (begins : start ≡ record { address = 0; nesting = [] })
     (walked : IsWalked img Starting (start ∷ []) t bs) where
   pub starting_has : (p : Point) → IsPoint img p → p.owner ≡ Starting → Has t (place_of p)
   starting_has p Begins mine = subst (Has t) begins (walked.began start (contains_here start []))
-  starting_has p (Enters place h is) mine = absurd (let e : Handling place ≡ Starting = mine in cc)
+  starting_has p (Enters visit h is) mine = absurd (let e : Handling visit ≡ Starting = mine in cc)
   starting_has s (Leads p q is to) mine =
       let was : p.owner ≡ Starting = not_starting to.line.0 p.owner (sym to.owner ∙ mine) in
       walked.closed (place_of p) q (starting_has p is was)
@@ -111,10 +111,10 @@ module _ (img : Image) (t : Table) (bs : List Place) (start : Place) (begins : s
       walked.left (place_of p) q (starting_has p is was) (subst (λ o. LeadsTo img (point p.address o p.inside) q) was to)
       (λ e. absurd (let both : Thread ≡ Starting = sym now ∙ e in cc))
 
-  module _ (u : Table) (cs : List Place) (behind : IsWalked img Thread bs u cs) where
+  module _ (u : Table) (cs : List Visit) (behind : IsWalked img Thread bs u cs) where
     pub thread_has : (p : Point) → IsPoint img p → p.owner ≡ Thread → Has u (place_of p)
     thread_has p Begins mine = absurd (let e : Starting ≡ Thread = mine in cc)
-    thread_has p (Enters place h is) mine = absurd (let e : Handling place ≡ Thread = mine in cc)
+    thread_has p (Enters visit h is) mine = absurd (let e : Handling visit ≡ Thread = mine in cc)
     thread_has s (Leads p q is to) mine = ⊎_elim
         (λ same.
         let was : p.owner ≡ Thread = sym same ∙ sym to.owner ∙ mine in
@@ -124,21 +124,21 @@ module _ (img : Image) (t : Table) (bs : List Place) (start : Place) (begins : s
         (serves to.line.0 p.owner)
 
 -- all points of a handler
-module _ (img : Image) (place : ℕ) (h : Handler) (is : handler_at img place ≡ Some h) (t : Table) (bs : List Place) (start : Place)
-    (begins : start ≡ record { address = h.entry; nesting = [] }) (walked : IsWalked img (Handling place) (start ∷ []) t bs) where
-  pub handler_has : (p : Point) → IsPoint img p → p.owner ≡ Handling place → Has t (place_of p)
-  handler_has p Begins mine = absurd (let e : Starting ≡ Handling place = mine in cc)
+module _ (img : Image) (visit : ℕ) (h : Handler) (is : handler_at img visit ≡ Some h) (t : Table) (bs : List Visit) (start : Visit)
+    (begins : start ≡ record { address = h.entry; nesting = [] }) (walked : IsWalked img (Handling visit) (start ∷ []) t bs) where
+  pub handler_has : (p : Point) → IsPoint img p → p.owner ≡ Handling visit → Has t (place_of p)
+  handler_has p Begins mine = absurd (let e : Starting ≡ Handling visit = mine in cc)
   handler_has p (Enters other g there) mine =
-      let same : other ≡ place = let e : Handling other ≡ Handling place = mine in cc in
+      let same : other ≡ visit = let e : Handling other ≡ Handling visit = mine in cc in
       let one : h ≡ g = let e : Some h ≡ Some g = sym is ∙ ap (handler_at img) (sym same) ∙ there in cc in
       subst (λ (k : Handler). Has t (record { address = k.entry; nesting = [] })) one
       (subst (Has t) begins (walked.began start (contains_here start [])))
   handler_has s (Leads p q from to) mine = ⊎_elim
       (λ same.
-      let was : p.owner ≡ Handling place = sym same ∙ sym to.owner ∙ mine in
+      let was : p.owner ≡ Handling visit = sym same ∙ sym to.owner ∙ mine in
       walked.closed (place_of p) q (handler_has p from was)
       (subst (λ o. LeadsTo img (point p.address o p.inside) q) was to) mine)
-      (λ served. absurd (let both : Thread ≡ Handling place = sym served.1 ∙ sym to.owner ∙ mine in cc))
+      (λ served. absurd (let both : Thread ≡ Handling visit = sym served.1 ∙ sym to.owner ∙ mine in cc))
       (serves to.line.0 p.owner)
 
 -- one after another
@@ -158,23 +158,23 @@ looks_then img M N O a b c split first second = record {
 }
 
 -- a handler that is not enabled has no points
-pub none_of : (img : Image) (place : ℕ) (f : Findings) → handler_at img place ≡ None → (p : Point) → IsPoint img p
-    → p.owner ≡ Handling place → ⊥
-none_of img place f none p Begins mine = absurd (let e : Starting ≡ Handling place = mine in cc)
-none_of img place f none p (Enters other g there) mine =
-    let same : other ≡ place = let e : Handling other ≡ Handling place = mine in cc in
+pub none_of : (img : Image) (visit : ℕ) (f : Findings) → handler_at img visit ≡ None → (p : Point) → IsPoint img p
+    → p.owner ≡ Handling visit → ⊥
+none_of img visit f none p Begins mine = absurd (let e : Starting ≡ Handling visit = mine in cc)
+none_of img visit f none p (Enters other g there) mine =
+    let same : other ≡ visit = let e : Handling other ≡ Handling visit = mine in cc in
     let e : None ≡ Some g = sym none ∙ ap (handler_at img) (sym same) ∙ there in absurd (none-some g e)
-none_of img place f none s (Leads p q from to) mine = ⊎_elim
-    (λ same. none_of img place f none p from (sym same ∙ sym to.owner ∙ mine))
-    (λ served. absurd (let both : Thread ≡ Handling place = sym served.1 ∙ sym to.owner ∙ mine in cc))
+none_of img visit f none s (Leads p q from to) mine = ⊎_elim
+    (λ same. none_of img visit f none p from (sym same ∙ sym to.owner ∙ mine))
+    (λ served. absurd (let both : Thread ≡ Handling visit = sym served.1 ∙ sym to.owner ∙ mine in cc))
     (serves to.line.0 p.owner)
 
 pub owner_below : (img : Image) (p : Point) → IsPoint img p → IsBelow (length img.irqs) p.owner
 owner_below img p Begins = tt
-owner_below img p (Enters place h is) = elim (slice_get img.irqs place) as
-    (λ row. slice_get img.irqs place ≡ row → then_from row (λ r. r.handler) ≡ Some h → place < length img.irqs) [
+owner_below img p (Enters visit h is) = elim (slice_get img.irqs visit) as
+    (λ row. slice_get img.irqs visit ≡ row → then_from row (λ r. r.handler) ≡ Some h → visit < length img.irqs) [
       | None ↦ λ e bad. absurd (none-some h bad)
-      | Some row ↦ λ e good. slice_get_within img.irqs place row e
+      | Some row ↦ λ e good. slice_get_within img.irqs visit row e
     ] refl is
 owner_below img s (Leads p q from to) = ⊎_elim
     (λ same. subst (IsBelow (length img.irqs)) (sym same ∙ sym to.owner) (owner_below img p from))
@@ -191,37 +191,37 @@ looks_weaker img M O a b wider looks = record {
   finds = looks.finds;
 }
 
-pub looks_thread : (img : Image) (a b c : Findings) (starts bs : List Place) → starts ≡ record { address = 0; nesting = [] } ∷ []
+pub looks_thread : (img : Image) (a b c : Findings) (starts bs : List Visit) → starts ≡ record { address = 0; nesting = [] } ∷ []
     → LooksFrom img Starting starts a b bs → LooksBehind img bs b c → Looks img IsThread a c
 looks_thread img a b c starts bs begins first behind =
-    let start : Place = record { address = 0; nesting = [] } in
-    let from : LooksFrom img Starting (start ∷ []) a b bs = subst (λ (s : List Place). LooksFrom img Starting s a b bs) begins first in
+    let start : Visit = record { address = 0; nesting = [] } in
+    let from : LooksFrom img Starting (start ∷ []) a b bs = subst (λ (s : List Visit). LooksFrom img Starting s a b bs) begins first in
     looks_then img (λ o. o ≡ Starting) (λ o. o ≡ Thread) IsThread a b c (λ o is. is)
     (looks_of img Starting (start ∷ []) a b bs from (starting_has img from.table bs start refl from.walked))
     (looks_of img Thread bs b c behind.0 behind.1
     (thread_has img from.table bs start refl from.walked behind.1.table behind.0 behind.1.walked))
 
-pub looks_handler : (img : Image) (place : ℕ) (h : Handler) (a b : Findings) → handler_at img place ≡ Some h
-    → LooksFromEntry img place h.entry a b → Looks img (IsOf place) a b
-looks_handler img place h a b is looks =
-    let start : Place = record { address = h.entry; nesting = [] } in
-    looks_of img (Handling place) (start ∷ []) a b looks.0 looks.1
-    (handler_has img place h is looks.1.table looks.0 start refl looks.1.walked)
+pub looks_handler : (img : Image) (visit : ℕ) (h : Handler) (a b : Findings) → handler_at img visit ≡ Some h
+    → LooksFromEntry img visit h.entry a b → Looks img (IsOf visit) a b
+looks_handler img visit h a b is looks =
+    let start : Visit = record { address = h.entry; nesting = [] } in
+    looks_of img (Handling visit) (start ∷ []) a b looks.0 looks.1
+    (handler_has img visit h is looks.1.table looks.0 start refl looks.1.walked)
 
-pub looks_nowhere : (img : Image) (place : ℕ) (f : Findings) → handler_at img place ≡ None → Looks img (IsOf place) f f
-looks_nowhere img place f none = record {
+pub looks_nowhere : (img : Image) (visit : ℕ) (f : Findings) → handler_at img visit ≡ None → Looks img (IsOf visit) f f
+looks_nowhere img visit f none = record {
   points = [];
   sound = tt;
-  all = λ p is mine. absurd (none_of img place f none p is mine);
-  one = λ p q is_p is_q mine same at. absurd (none_of img place f none p is_p mine);
-  few = λ p is mine. absurd (none_of img place f none p is mine);
+  all = λ p is mine. absurd (none_of img visit f none p is mine);
+  one = λ p q is_p is_q mine same at. absurd (none_of img visit f none p is_p mine);
+  few = λ p is mine. absurd (none_of img visit f none p is mine);
   finds = λ ps found. subst (λ (qs : List Point). Finds img qs f) (sym (append-nil ps)) found;
 }
 
 thread_only : (o : Owner) → IsBelow 0 o → IsThread o
 thread_only Starting is = inl refl
 thread_only Thread is = inr refl
-thread_only (Handling place) is = absurd (omega (arith, is))
+thread_only (Handling visit) is = absurd (omega (arith, is))
 
 pub looked_none : (img : Image) (a b : Findings) → Finds img [] a → Looks img IsThread a b → LookedBelow img 0 b
 looked_none img a b found looks = (a, found, looks_weaker img IsThread (IsBelow 0) a b thread_only looks)
@@ -229,7 +229,7 @@ looked_none img a b found looks = (a, found, looks_weaker img IsThread (IsBelow 
 one_more : (n : ℕ) (o : Owner) → IsBelow (n + 1) o → IsBelow n o ⊎ IsOf n o
 one_more n Starting is = inl tt
 one_more n Thread is = inl tt
-one_more n (Handling place) is = ⊎_elim (λ same. inr (ap Handling same)) (λ apart. inl (omega (arith, is, apart))) (cases_eq place n)
+one_more n (Handling visit) is = ⊎_elim (λ same. inr (ap Handling same)) (λ apart. inl (omega (arith, is, apart))) (cases_eq visit n)
 
 pub looked_more : (img : Image) (n : ℕ) (a b : Findings) → LookedBelow img n a → Looks img (IsOf n) a b → LookedBelow img (n + 1) b
 looked_more img n a b looked looks =
@@ -238,7 +238,7 @@ looked_more img n a b looked looks =
 below_more : (n m : ℕ) (o : Owner) → n ≤ m → IsBelow n o → IsBelow m o
 below_more n m Starting le is = tt
 below_more n m Thread le is = tt
-below_more n m (Handling place) le is = omega (arith, le, is)
+below_more n m (Handling visit) le is = omega (arith, le, is)
 
 pub looked_all : (img : Image) (n : ℕ) (f : Findings) → length img.irqs ≤ n → LookedBelow img n f → Looked img f
 looked_all img n f all looked =

@@ -14,8 +14,8 @@ use Rattle.rt_code.specs.Image.{Image}
 use Rattle.rt_code.specs.declared.instr.Instr.{Instr}
 use Rattle.rt_code.specs.declared.instr.Note.{Note}
 use Rattle.rt_points.specs.Point.{Point, sections}
-use Rattle.rt_points.specs.Level.{owner_value}
-use Rattle.rt_points.specs.Rules.{touched, IsStore}
+use Rattle.rt_points.specs.ExecutionPriority.{owner_value}
+use Rattle.rt_points.specs.Rules.{touched_cell, IsStore}
 use Rattle.rt_points.specs.declared.point.Opened.{Opened}
 use Rattle.rt_points.specs.declared.point.Owner.TheVariants.{Starting}
 use Rattle.rt_judge.specs.Inside.Touching.{Toucher, SomeIfTrue, IsTouching, TellsOfTouching, TellsOfCells, is_stored, is_open}
@@ -136,7 +136,7 @@ module _ (img : Image) (ps : List Point) (p : Point) (i : Instr) (told : Option 
     (stands : slice_get img.code p.address ≡ Some (i, told)) where
   -- who touches a cell is one of before, or the next
   by_cases : {G : Type 0} (k : ℕ) (q : Point) (b : Access) → Toucher img (ps ++ p ∷ []) k q b
-      → (Toucher img ps k q b → G) → (p ≡ q → p.owner ≢ Starting → touched i ≡ Some b → cell_of b ≡ k → G) → G
+      → (Toucher img ps k q b → G) → (p ≡ q → p.owner ≢ Starting → touched_cell i ≡ Some b → cell_of b ≡ k → G) → G
   by_cases k q b t before now = ⊎_elim
       (λ seen. before (record {
         seen = seen;
@@ -152,10 +152,10 @@ module _ (img : Image) (ps : List Point) (p : Point) (i : Instr) (told : Option 
       let is : slice_get img.code p.address ≡ told_line t.instr t.told =
       ap (λ (r : Point). slice_get img.code r.address) same ∙ t.stands in
       let one : i ≡ t.instr = ap (instr_in i) (sym was ∙ is) in
-      now same (subst (λ (r : Point). r.owner ≢ Starting) (sym same) t.outside) (ap touched one ∙ t.by) t.touches)
+      now same (subst (λ (r : Point). r.owner ≢ Starting) (sym same) t.outside) (ap touched_cell one ∙ t.by) t.touches)
       (Contains-push_cases ps p q t.seen)
 
-  pub takes_no_touch : (rows : List (Option Touching)) → (p.owner ≡ Starting) ⊎ (touched i ≡ None)
+  pub takes_no_touch : (rows : List (Option Touching)) → (p.owner ≡ Starting) ⊎ (touched_cell i ≡ None)
       → TellsOfCells img ps rows → TellsOfCells img (ps ++ p ∷ []) rows
   takes_no_touch rows none tells k row at = row_more img ps p k
       (λ q b t. by_cases k q b t (λ h. h) (λ same outside by is. absurd (⊎_elim
@@ -165,8 +165,8 @@ module _ (img : Image) (ps : List Point) (p : Point) (i : Instr) (told : Option 
 
   -- the next point touches a cell
   module _ (touch : Touch) (a : Access) (outside : p.owner ≢ Starting) (value : owner_value img p.owner ≡ touch.value)
-      (by : touched i ≡ Some a) (at : cell_of a ≡ touch.cell) (stores : is_stored (Some a) ≡ touch.stored) where
-    same_access : (b : Access) → touched i ≡ Some b → a ≡ b
+      (by : touched_cell i ≡ Some a) (at : cell_of a ≡ touch.cell) (stores : is_stored (Some a) ≡ touch.stored) where
+    same_access : (b : Access) → touched_cell i ≡ Some b → a ≡ b
     same_access b other = same_Some a b (sym by ∙ other)
 
     apart : (k : ℕ) → k ≢ touch.cell → (q : Point) (b : Access) → Toucher img (ps ++ p ∷ []) k q b → Toucher img ps k q b
@@ -276,14 +276,14 @@ module _ (img : Image) (ps : List Point) (p : Point) (i : Instr) (told : Option 
 -- the access of a touch
 pub record HasAccess (i : Instr) (touch : Touch) : Type 0 where
   pub access : Access
-  pub by : touched i ≡ Some access
+  pub by : touched_cell i ≡ Some access
   pub at : cell_of access ≡ touch.cell
   pub stores : is_stored (Some access) ≡ touch.stored
 
-pub access_of_touch : (i : Instr) (touch : Touch) → option_map cell_of (touched i) ≡ Some touch.cell
-    → is_stored (touched i) ≡ touch.stored → HasAccess i touch
-access_of_touch i touch cell stores = elim (touched i) as
-    (λ (o : Option Access). touched i ≡ o → option_map cell_of o ≡ Some touch.cell → is_stored o ≡ touch.stored → HasAccess i touch) [
+pub access_of_touch : (i : Instr) (touch : Touch) → option_map cell_of (touched_cell i) ≡ Some touch.cell
+    → is_stored (touched_cell i) ≡ touch.stored → HasAccess i touch
+access_of_touch i touch cell stores = elim (touched_cell i) as
+    (λ (o : Option Access). touched_cell i ≡ o → option_map cell_of o ≡ Some touch.cell → is_stored o ≡ touch.stored → HasAccess i touch) [
       | None ↦ λ e at s. absurd (none-some touch.cell at)
       | Some a ↦ λ e at s. record { access = a; by = e; at = same_Some (cell_of a) touch.cell at; stores = s }
     ] refl cell stores

@@ -15,15 +15,15 @@ use Rattle.rt_code.specs.declared.instr.Instr.{Instr}
 use Rattle.rt_code.specs.declared.instr.Note.{Note}
 use Rattle.rt_points.specs.Checked.{Keeps, IsChecked, IsLeastBroken, rule_number}
 use Rattle.rt_points.specs.Leading.{IsPoint}
-use Rattle.rt_points.specs.Level.{owner_value}
+use Rattle.rt_points.specs.ExecutionPriority.{owner_value}
 use Rattle.rt_points.specs.Point.{Point, sections}
 use Rattle.rt_points.specs.Rules.{NestsInOneWay, HasRightNumbers, StaysInCode, OperatesWell, NotesWell, EntersWell, GuardsCells}
-use Rattle.rt_points.specs.Rules.{IsOperable, IsNotedWell, HoldsOff, EntersAt, Touches, IsContended, IsGuardedBy, IsStore, HasItsCell, touched}
+use Rattle.rt_points.specs.Rules.{IsOperable, IsNotedWell, HoldsOff, EntersAt, Touches, IsContended, IsGuardedBy, IsStore, HasItsCell, touched_cell}
 use Rattle.rt_points.specs.declared.point.Owner.TheVariants.{Starting}
 use Rattle.rt_points.specs.declared.rule.Rule.{Rule}
 use Rattle.rt_points.specs.declared.rule.Rule.TheVariants as rule
 use Rattle.rt_judge.specs.Inside.Kept.{TellsOfAll, HasLine, OperatesAt, NotesAt, FreeAt, EntersBy}
-use Rattle.rt_judge.specs.Inside.Entering.{Enterer, IsEntering, IsLeastOrNone, TellsOfSections, holds_off, level_behind, none_or}
+use Rattle.rt_judge.specs.Inside.Entering.{Enterer, IsEntering, IsLeastOrNone, TellsOfSections, holds_off, priority_behind, none_or}
 use Rattle.rt_judge.specs.Inside.Touching.{Toucher, IsTouching, TellsOfTouching, SomeIfTrue, is_guarded, is_row_guarded}
 use Rattle.rt_judge.specs.Inside.Looks.{Looked}
 use Rattle.rt_judge.specs.declared.entering.Entering.{Entering}
@@ -64,17 +64,17 @@ is_false b fail tells p = let pass = tells.1 p in cc
 
 -- a test that fails somewhere in a list
 record FailsAt {X : Type 0} (test : X → Bool) (xs : List X) : Type 0 where
-  place : ℕ
+  index : ℕ
   item : X
-  at : slice_get xs place ≡ Some item
+  at : slice_get xs index ≡ Some item
   fails : test item ≡ false
 
 fails_at : {X : Type 0} (test : X → Bool) (xs : List X) → list_all test xs ≡ false → FailsAt test xs
 fails_at test [] fail = absurd cc
 fails_at {X} test (x ∷ xs) fail = elim (test x) as (λ b. test x ≡ b → (b && list_all test xs) ≡ false → FailsAt test (x ∷ xs)) [
   | true ↦ λ e rest. let later = fails_at test xs rest in
-      record { place = suc later.place; item = later.item; at = later.at; fails = later.fails }
-  | false ↦ λ e rest. record { place = 0; item = x; at = refl; fails = e }
+      record { index = suc later.index; item = later.item; at = later.at; fails = later.fails }
+  | false ↦ λ e rest. record { index = 0; item = x; at = refl; fails = e }
 ] refl fail
 
 holds_at : {X : Type 0} (test : X → Bool) (xs : List X) (i : ℕ) (x : X) → list_all test xs ≡ true → slice_get xs i ≡ Some x → test x ≡ true
@@ -115,16 +115,16 @@ module _ (img : Image) (f : Findings) (looked : Looked img f) where
   -- a row that holds off everyone who enters
   row_high : (row : Entering) → IsEntering img looked.points row.section row → holds_off row ≡ true → (p q : Point) (i j : Instr)
       → Enterer img looked.points row.section p i → Enterer img looked.points row.section q j → q.owner ≢ Starting
-      → level_behind img p i row.section ≤ owner_value img q.owner
+      → priority_behind img p i row.section ≤ owner_value img q.owner
   row_high row is pass p q i j enters others outside = by_value row.value is.value pass
     where
-      by_value : (v : Option ℕ) → IsLeastOrNone img looked.points row.section v → none_or (λ value. nat_le row.level value) v ≡ true
-          → level_behind img p i row.section ≤ owner_value img q.owner
+      by_value : (v : Option ℕ) → IsLeastOrNone img looked.points row.section v → none_or (λ value. nat_le row.priority value) v ≡ true
+          → priority_behind img p i row.section ≤ owner_value img q.owner
       by_value None none pass = absurd (outside (none q j others))
       by_value (Some v) l pass =
-          let high = is.level.all p i enters in
+          let high = is.priority.all p i enters in
           let low = l.all q j others outside in
-          let holds : row.level ≤ v = le_of row.level v pass in
+          let holds : row.priority ≤ v = le_of row.priority v pass in
           omega (arith, high, low, holds)
 
   pub enters : (f.sections.free && list_all holds_off f.sections.rows.items) ≡ true → EntersWell img
@@ -140,7 +140,7 @@ module _ (img : Image) (f : Findings) (looked : Looked img f) where
             let is = all_at (λ (r : Entering). IsEntering img looked.points r.section r) f.sections.rows.items row.0 row.1
             looked.finds.sections.rows row.2 in
             let high = holds_at holds_off f.sections.rows.items row.0 row.1 all row.2 in
-            subst (λ y. level_behind img p i y ≤ owner_value img q.owner) same
+            subst (λ y. priority_behind img p i y ≤ owner_value img q.owner) same
             (row_high row.1 is high p q i j
             (subst (λ y. Enterer img looked.points y p i) (sym same) (enterer p i x stands))
             (subst (λ y. Enterer img looked.points y q j) (sym same) (enterer q j x other)) outside);
@@ -149,24 +149,24 @@ module _ (img : Image) (f : Findings) (looked : Looked img f) where
   row_low : (row : Entering) → IsEntering img looked.points row.section row → holds_off row ≡ false → ¬ EntersWell img
   row_low row is fail all = by_value row.value is.value fail
     where
-      by_value : (v : Option ℕ) → IsLeastOrNone img looked.points row.section v → none_or (λ value. nat_le row.level value) v ≡ false → ⊥
+      by_value : (v : Option ℕ) → IsLeastOrNone img looked.points row.section v → none_or (λ value. nat_le row.priority value) v ≡ false → ⊥
       by_value None none fail = absurd cc
       by_value (Some v) l fail =
-          let p = is.level.point in
+          let p = is.priority.point in
           let q = l.point in
-          let holds = (all p is.level.instr row.section (enters_at p is.level.instr row.section is.level.enterer)).others q l.instr
+          let holds = (all p is.priority.instr row.section (enters_at p is.priority.instr row.section is.priority.enterer)).others q l.instr
           l.outside (enters_at q l.instr row.section l.enterer) in
-          let level : level_behind img p is.level.instr row.section ≡ row.level = is.level.is in
+          let priority : priority_behind img p is.priority.instr row.section ≡ row.priority = is.priority.is in
           let value : owner_value img q.owner ≡ v = l.is in
-          let above : v < row.level = lt_of row.level v fail in
-          let low : level_behind img p is.level.instr row.section ≤ owner_value img q.owner = holds in
-          absurd (omega (arith, level, value, above, low))
+          let above : v < row.priority = lt_of row.priority v fail in
+          let low : priority_behind img p is.priority.instr row.section ≤ owner_value img q.owner = holds in
+          absurd (omega (arith, priority, value, above, low))
 
   pub not_enters : (f.sections.free && list_all holds_off f.sections.rows.items) ≡ false → ¬ EntersWell img
   not_enters fail all = elim f.sections.free as (λ b. f.sections.free ≡ b → (b && list_all holds_off f.sections.rows.items) ≡ false → ⊥) [
     | true ↦ λ e rest.
         let row = fails_at holds_off f.sections.rows.items rest in
-        row_low row.item (all_at (λ (r : Entering). IsEntering img looked.points r.section r) f.sections.rows.items row.place row.item
+        row_low row.item (all_at (λ (r : Entering). IsEntering img looked.points r.section r) f.sections.rows.items row.index row.item
         looked.finds.sections.rows row.at) row.fails all
     | false ↦ λ e rest. is_false f.sections.free e looked.finds.sections.free
         (all_weaker (IsPoint img) (FreeAt img) (λ p is i x at. (all p i x (is, at)).free) looked.points looked.sound)
@@ -260,4 +260,4 @@ module _ (img : Image) (f : Findings) (looked : Looked img f) where
   pub not_guards : list_all is_row_guarded f.cells.rows.items ≡ false → ¬ GuardsCells img
   not_guards fail =
       let row = fails_at is_row_guarded f.cells.rows.items fail in
-      row_unguarded row.place row.item (looked.finds.cells row.place row.item row.at) row.fails
+      row_unguarded row.index row.item (looked.finds.cells row.index row.item row.at) row.fails

@@ -1,7 +1,7 @@
 -- What private contracts say.
 pub mod Exits
 pub mod Points
-pub mod Places
+pub mod Visits
 pub mod Walks
 pub mod Values
 pub mod Kept

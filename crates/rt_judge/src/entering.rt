@@ -5,7 +5,7 @@ ghost use Rattle.rt_points.specs.Point.{Point};
 ghost use Rattle.rt_judge.specs.Inside.Points.{point};
 ghost use Rattle.rt_judge.specs.Inside.Entering as spec;
 
-use crate::level::{level_value, outside_value};
+use crate::execution_priority::{execution_priority, outside_value};
 use crate::nesting::{Nesting, is_inside, is_same_section};
 use rt_code::{Image, Line, Note};
 use rt_ids::{NoMemory, Section};
@@ -16,8 +16,8 @@ use std::alloc::Global;
 #[derive(Clone, Copy)]
 pub struct Entering {
     pub section: Section,
-    /// The greatest level value behind an entering.
-    pub level: u32,
+    /// The greatest execution priority behind an entering.
+    pub priority: u32,
     /// The least priority value of those who enter, `init` aside.
     pub value: Option<u32>,
 }
@@ -42,7 +42,7 @@ fn least(one: Option<u32>, other: Option<u32>) -> Option<u32>
 }
 
 /// The section that a note enters.
-fn entered(note: &Option<Note>) -> Option<Section>
+fn entered_section(note: &Option<Note>) -> Option<Section>
     ensures { MatchOption result (spec.EntersNone note.now) (λ x. note.now ≡ Some (Note.Enter x)) }
 {
     match *note {
@@ -57,17 +57,17 @@ impl Entering {
         ensures { result ≡ spec.holds_off self.now }
     {
         match self.value {
-            Some(value) => self.level <= value,
+            Some(value) => self.priority <= value,
             None => true,
         }
     }
 
     /// One more entering, which is added to a row of its section.
     fn add(&mut self, other: &Entering)
-        ensures { self.new ≡ spec.added other.now self.old }
+        ensures { self.new ≡ spec.row_with_entering other.now self.old }
     {
         if is_same_section(self.section, other.section) {
-            self.level = self.level.max(other.level);
+            self.priority = self.priority.max(other.priority);
             self.value = least(self.value, other.value);
         }
     }
@@ -82,7 +82,7 @@ fn has_row(rows: &[Entering], section: Section) -> bool
 
 /// Adds an entering to the rows of its section.
 fn add_to_rows(rows: &mut [Entering], entering: &Entering)
-    ensures { rows.new ≡ map (spec.added entering.now) rows.old }
+    ensures { rows.new ≡ map (spec.row_with_entering entering.now) rows.old }
 {
     for row in rows.iter_mut() {
         row.add(entering);
@@ -117,7 +117,7 @@ impl Sections {
 
     /// One more entering.
     fn enter(&mut self, entering: &Entering) -> Result<(), NoMemory>
-        ensures rows { OnOk result (self.new.rows.items ≡ spec.entered entering.now self.old.rows.items) }
+        ensures rows { OnOk result (self.new.rows.items ≡ spec.rows_with_entering entering.now self.old.rows.items) }
         ensures free { self.new.free ≡ self.old.free }
     {
         if has_row(&self.rows, entering.section) {
@@ -144,11 +144,11 @@ impl Sections {
             → spec.TellsOfSections image.now ps self.old
             → spec.TellsOfSections image.now (ps ++ point address owner nesting.now ∷ []) self.new) }
     {
-        let is_inside = is_inside(nesting.opened(), &section);
+        let is_inside = is_inside(nesting.open_sections(), &section);
         let behind = nesting.behind(alloc, line.0, line.1)?;
         let entering = Entering {
             section,
-            level: level_value(image, owner, behind.opened()),
+            priority: execution_priority(image, owner, behind.open_sections()),
             value: outside_value(image, owner),
         };
         self.free = self.free && !is_inside;
@@ -169,7 +169,7 @@ impl Sections {
             → spec.TellsOfSections image.now ps self.old
             → spec.TellsOfSections image.now (ps ++ point address owner nesting.now ∷ []) self.new) }
     {
-        match entered(&line.1) {
+        match entered_section(&line.1) {
             Some(section) => self.take_enter(alloc, image, owner, line, nesting, section),
             None => Ok(()),
         }

@@ -57,8 +57,8 @@ impl Findings {
             → spec.Finds image.now ps self.old
             → spec.Finds image.now (ps ++ point address owner nesting.now ∷ []) self.new) }
     {
-        let is_operable = is_operable(image, owner, nesting.opened(), &line.0);
-        let is_noted_well = is_noted_well(image, owner, nesting.opened(), &line.0, &line.1);
+        let is_operable = is_operable(image, owner, nesting.open_sections(), &line.0);
+        let is_noted_well = is_noted_well(image, owner, nesting.open_sections(), &line.0, &line.1);
         self.operands &= is_operable;
         self.notes &= is_noted_well;
         self.sections.take(alloc, image, owner, line, nesting)?;

@@ -2,9 +2,9 @@
 #![tactic(auto)]
 
 mod entering;
+mod execution_priority;
 mod exits;
 mod findings;
-mod level;
 mod nesting;
 mod notes;
 mod numbers;

@@ -9,7 +9,7 @@ use rt_points::{Kind, Opened};
 use std::alloc::Global;
 use std::marker::Model;
 
-/// The sections that are open at a place in the code, innermost first. Contracts see the list.
+/// The sections that are open at an address of the code, innermost first. Contracts see the list.
 #[derive(Drop)]
 pub struct Nesting {
     opened: Vec<Opened>,
@@ -35,7 +35,7 @@ impl Nesting {
     }
 
     /// The open sections, innermost first.
-    pub fn opened(&self) -> &[Opened]
+    pub fn open_sections(&self) -> &[Opened]
         ensures { result.now ≡ self.now }
     {
         self.opened.as_slice()
@@ -45,11 +45,11 @@ impl Nesting {
     pub fn is_same(&self, other: &Nesting) -> bool
         ensures { IsTrue result ↔ (self.now ≡ other.now) }
     {
-        are_same(self.opened(), other.opened())
+        are_same(self.open_sections(), other.open_sections())
     }
 
     /// With one more section open.
-    fn entered(&self, alloc: Global, opened: Opened) -> Result<Nesting, NoMemory>
+    fn nesting_with(&self, alloc: Global, opened: Opened) -> Result<Nesting, NoMemory>
         ensures { IfOk result (λ nesting. nesting ≡ opened ∷ self.now) }
     {
         let mut all = Vec::with_capacity(alloc, self.opened.len().saturating_add(1))?;
@@ -59,7 +59,7 @@ impl Nesting {
     }
 
     /// With the innermost section left, where there is one.
-    fn left(&self, alloc: Global) -> Result<Nesting, NoMemory>
+    fn without_innermost(&self, alloc: Global) -> Result<Nesting, NoMemory>
         ensures { IfOk result (λ nesting. nesting ≡ drop 1 self.now) }
     {
         let outer = match self.opened.as_slice().split_first() {
@@ -92,9 +92,9 @@ impl Nesting {
         match note {
             Some(Note::Enter(section)) => {
                 let kind = kind_of(instr);
-                self.entered(alloc, Opened { section, kind })
+                self.nesting_with(alloc, Opened { section, kind })
             }
-            Some(Note::Leave(_)) => self.left(alloc),
+            Some(Note::Leave(_)) => self.without_innermost(alloc),
             _ => self.copy(alloc),
         }
     }
@@ -125,8 +125,8 @@ fn are_same(one: &[Opened], other: &[Opened]) -> bool
     if one.len() != other.len() {
         return false;
     }
-    for (place, opened) in one.iter().enumerate() {
-        if !is_same_opened(opened, &other[place]) {
+    for (index, opened) in one.iter().enumerate() {
+        if !is_same_opened(opened, &other[index]) {
             return false;
         }
     }

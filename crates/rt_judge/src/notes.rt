@@ -2,7 +2,7 @@ ghost use Rattle.std.specs.Prelude.{◌≡◌, ◌↔◌, ℕ, IsTrue};
 ghost use Rattle.rt_points.specs.Rules as rules;
 ghost use Rattle.rt_judge.specs.Inside.Points.{point};
 
-use crate::level::level_value;
+use crate::execution_priority::execution_priority;
 use rt_code::{Image, Instr, Note};
 use rt_ids::{BodyId, Section};
 use rt_points::{Kind, Opened, Owner};
@@ -16,7 +16,7 @@ fn opens(instr: &Instr) -> bool
 
 /// Whether an instruction undoes how a section was entered.
 fn closes(instr: &Instr, kind: Kind) -> bool
-    ensures { IsTrue result ↔ (instr.now ≡ rules.closing kind) }
+    ensures { IsTrue result ↔ (instr.now ≡ rules.leaving_instr kind) }
 {
     match (kind, *instr) {
         (Kind::Mark, Instr::Mark) => true,
@@ -65,8 +65,8 @@ fn has_its_note(instr: &Instr, note: &Option<Note>) -> bool
 }
 
 /// The slot that an instruction writes.
-fn written(instr: &Instr) -> Option<u32>
-    ensures { result ≡ rules.written instr.now }
+fn written_slot(instr: &Instr) -> Option<u32>
+    ensures { result ≡ rules.written_slot instr.now }
 {
     match *instr {
         Instr::Set(slot, _)
@@ -93,9 +93,9 @@ fn saves(kind: Kind, slot: u32) -> bool
 
 /// Whether an instruction writes no slot that an open section saved.
 fn is_unsaved(opened: &[Opened], instr: &Instr) -> bool
-    ensures { IsTrue result ↔ rules.IsUnsaved opened.now (rules.written instr.now) }
+    ensures { IsTrue result ↔ rules.IsUnsaved opened.now (rules.written_slot instr.now) }
 {
-    match written(instr) {
+    match written_slot(instr) {
         Some(slot) => opened.iter().all(|o| !saves(o.kind, slot)),
         None => true,
     }
@@ -112,7 +112,7 @@ fn masks_well(image: &Image, owner: Owner, opened: &[Opened], instr: &Instr) -> 
     ensures { (address : ℕ) → IsTrue result ↔ rules.MasksWell image.now (point address owner opened.now) instr.now }
 {
     match *instr {
-        Instr::Raise(_, value) => 0 < value && value < level_value(image, owner, opened),
+        Instr::Raise(_, value) => 0 < value && value < execution_priority(image, owner, opened),
         Instr::Mask(_) => {
             !matches!(owner, Owner::Starting) && opened.iter().all(|o| !is_mask(o.kind))
         }

@@ -7,8 +7,8 @@ ghost use Rattle.rt_judge.specs.Inside.Greatest as spec;
 
 use rt_code::{Image, IrqRow};
 use rt_ids::limits::THREAD_VALUE;
+use rt_image_tables::{numbers_differ, values_are_implemented};
 use rt_points::STACK_BYTES;
-use rt_program::{numbers_differ, values_are_implemented};
 
 /// The frame of the handler of a row, where it has this priority value.
 fn frame_at(row: &IrqRow, value: u16) -> Option<u32>

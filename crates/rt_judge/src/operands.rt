@@ -6,7 +6,7 @@ ghost use Rattle.rt_points.specs.Rules as rules;
 ghost use Rattle.rt_judge.specs.Inside.Points.{point};
 ghost use Rattle.rt_judge.specs.Inside.Touching.{is_stored};
 
-use crate::level::frame_of;
+use crate::execution_priority::frame_of;
 use rt_code::{Image, Instr};
 use rt_points::{Opened, Owner};
 
@@ -49,8 +49,8 @@ fn has_its_slots(instr: &Instr, frame: u32) -> bool
 }
 
 /// The cell that an instruction names.
-pub fn touched(instr: &Instr) -> Option<u32>
-    ensures { result ≡ option_map cell_of (rules.touched instr.now) }
+pub fn touched_cell(instr: &Instr) -> Option<u32>
+    ensures { result ≡ option_map cell_of (rules.touched_cell instr.now) }
 {
     match *instr {
         Instr::Load(_, cell) | Instr::Store(cell, _) => Some(cell),
@@ -60,16 +60,16 @@ pub fn touched(instr: &Instr) -> Option<u32>
 
 /// Whether an instruction stores the cell that it names.
 pub fn is_store(instr: &Instr) -> bool
-    ensures { result ≡ is_stored (rules.touched instr.now) }
+    ensures { result ≡ is_stored (rules.touched_cell instr.now) }
 {
     matches!(instr, Instr::Store(_, _))
 }
 
 /// Whether the cell that an instruction names is one of so many.
 fn has_its_cell(instr: &Instr, cells: usize) -> bool
-    ensures { IsTrue result ↔ rules.HasItsCell cells (rules.touched instr.now) }
+    ensures { IsTrue result ↔ rules.HasItsCell cells (rules.touched_cell instr.now) }
 {
-    match touched(instr) {
+    match touched_cell(instr) {
         Some(cell) => (cell as usize) < cells,
         None => true,
     }

@@ -5,9 +5,9 @@ ghost use Rattle.rt_points.specs.Point.{Point};
 ghost use Rattle.rt_judge.specs.Inside.Points.{point};
 ghost use Rattle.rt_judge.specs.Inside.Touching as spec;
 
-use crate::level::outside_value;
+use crate::execution_priority::outside_value;
 use crate::nesting::{Nesting, is_inside};
-use crate::operands::{is_store, touched};
+use crate::operands::{is_store, touched_cell};
 use rt_code::{Image, Line};
 use rt_ids::{NoMemory, Section};
 use rt_points::{Opened, Owner};
@@ -95,7 +95,7 @@ impl Touching {
 }
 
 /// What is known of a cell, with one more touch.
-fn touched_again(
+fn touching_with(
     alloc: Global,
     row: &Option<Touching>,
     touch: &Touch,
@@ -123,7 +123,7 @@ fn touch_of(image: &Image, owner: Owner, line: &Line) -> Option<Touch>
     ensures { spec.IsTouchOf image.now owner line.now.0 result }
 {
     match outside_value(image, owner) {
-        Some(value) => match touched(&line.0) {
+        Some(value) => match touched_cell(&line.0) {
             Some(cell) => Some(Touch {
                 cell: cell as usize,
                 stored: is_store(&line.0),
@@ -161,7 +161,7 @@ impl Cells {
             (spec.IsTouched self.old.rows.items self.new.rows.items touch.now opened.now) }
         ensures rows { length self.new.rows.items ≡ length self.old.rows.items }
     {
-        let touching = touched_again(alloc, &self.rows[touch.cell], touch, opened)?;
+        let touching = touching_with(alloc, &self.rows[touch.cell], touch, opened)?;
         self.rows[touch.cell] = Some(touching);
         Ok(())
     }
@@ -184,7 +184,7 @@ impl Cells {
         match touch_of(image, owner, line) {
             Some(touch) => {
                 if touch.cell < self.rows.len() {
-                    self.touch(alloc, &touch, nesting.opened())
+                    self.touch(alloc, &touch, nesting.open_sections())
                 } else {
                     Ok(())
                 }

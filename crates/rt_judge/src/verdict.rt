@@ -6,11 +6,11 @@ ghost use Rattle.rt_points.specs.Rules.{NestsInOneWay};
 ghost use Rattle.rt_judge.specs.Inside.Looks as spec;
 ghost use Rattle.rt_judge.specs.Inside.Walks.{ArePoints};
 
+use crate::execution_priority::handler_at;
 use crate::findings::Findings;
-use crate::level::handler_at;
 use crate::nesting::Nesting;
 use crate::numbers::has_right_numbers;
-use crate::walk::{Place, walk_from};
+use crate::walk::{Visit, walk_from};
 use rt_code::Image;
 use rt_ids::NoMemory;
 use rt_points::{Owner, Rule};
@@ -26,11 +26,11 @@ pub enum Verified {
 }
 
 /// The place at which an owner begins, with nothing open.
-fn start(alloc: Global, address: u32) -> Result<Vec<Place>, NoMemory>
+fn start(alloc: Global, address: u32) -> Result<Vec<Visit>, NoMemory>
     ensures { IfOk result (λ starts. starts.items ≡ record { address = address; nesting = [] } ∷ []) }
 {
     let mut starts = Vec::new(alloc);
-    starts.push(Place {
+    starts.push(Visit {
         address,
         nesting: Nesting::new(alloc),
     })?;
@@ -44,8 +44,8 @@ fn look_from(
     image: &Image,
     findings: &mut Findings,
     owner: Owner,
-    starts: Vec<Place>,
-) -> Result<Option<Vec<Place>>, NoMemory>
+    starts: Vec<Visit>,
+) -> Result<Option<Vec<Visit>>, NoMemory>
     requires limits { IsWithinLimits image.now }
     requires points { ArePoints image.now owner starts.items }
     ensures { IfOk result (λ behind. MatchOption behind (¬ NestsInOneWay image.now)
@@ -65,7 +65,7 @@ fn look_behind(
     alloc: Global,
     image: &Image,
     findings: &mut Findings,
-    behind: Vec<Place>,
+    behind: Vec<Visit>,
 ) -> Result<bool, NoMemory>
     requires limits { IsWithinLimits image.now }
     requires points { ArePoints image.now Owner.Thread behind.items }
@@ -96,16 +96,16 @@ fn look_from_entry(
     alloc: Global,
     image: &Image,
     findings: &mut Findings,
-    place: usize,
+    index: usize,
     entry: u32,
 ) -> Result<bool, NoMemory>
     requires limits { IsWithinLimits image.now }
-    requires point { IsPoint image.now (starts_at entry (Owner.Handling place)) }
+    requires point { IsPoint image.now (starts_at entry (Owner.Handling index)) }
     ensures { IfOk result (λ kept. MatchBool kept
-        (spec.LooksFromEntry image.now place entry findings.old findings.new) (¬ NestsInOneWay image.now)) }
+        (spec.LooksFromEntry image.now index entry findings.old findings.new) (¬ NestsInOneWay image.now)) }
 {
     let starts = start(alloc, entry)?;
-    match look_from(alloc, image, findings, Owner::Handling(place), starts)? {
+    match look_from(alloc, image, findings, Owner::Handling(index), starts)? {
         Some(_) => Ok(true),
         None => Ok(false),
     }
@@ -116,14 +116,14 @@ fn look_at_handler(
     alloc: Global,
     image: &Image,
     findings: &mut Findings,
-    place: usize,
+    index: usize,
 ) -> Result<bool, NoMemory>
     requires { IsWithinLimits image.now }
     ensures { IfOk result (λ kept. MatchBool kept
-        (spec.Looks image.now (spec.IsOf place) findings.old findings.new) (¬ NestsInOneWay image.now)) }
+        (spec.Looks image.now (spec.IsOf index) findings.old findings.new) (¬ NestsInOneWay image.now)) }
 {
-    match handler_at(image, place) {
-        Some(handler) => look_from_entry(alloc, image, findings, place, handler.entry),
+    match handler_at(image, index) {
+        Some(handler) => look_from_entry(alloc, image, findings, index, handler.entry),
         None => Ok(true),
     }
 }
@@ -137,8 +137,8 @@ fn look(alloc: Global, image: &Image) -> Result<Option<Findings>, NoMemory>
     if !look_at_thread(alloc, image, &mut findings)? {
         return Ok(None);
     }
-    for place in 0..image.irqs.len() {
-        if !look_at_handler(alloc, image, &mut findings, place)? {
+    for index in 0..image.irqs.len() {
+        if !look_at_handler(alloc, image, &mut findings, index)? {
             return Ok(None);
         }
     }

@@ -18,7 +18,7 @@ use std::collections::BTreeMap;
 
 /// An address with the sections that are open there.
 #[derive(Drop)]
-pub struct Place {
+pub struct Visit {
     pub address: u32,
     pub nesting: Nesting,
 }
@@ -29,12 +29,12 @@ pub struct Walk {
     /// The addresses that were come to, each with the sections that are open there.
     pub table: BTreeMap<u32, Nesting>,
     /// What is yet to be looked at.
-    pub waiting: Vec<Place>,
+    pub waiting: Vec<Visit>,
     /// Where another owner goes on.
-    pub behind: Vec<Place>,
+    pub behind: Vec<Visit>,
 }
 
-/// What a place is to the table of a walk.
+/// What a visit is to the table of a walk.
 #[derive(Clone, Copy)]
 pub enum Meeting {
     New,
@@ -44,16 +44,16 @@ pub enum Meeting {
 }
 
 impl Walk {
-    fn meet(&self, place: &Place) -> Meeting
-        ensures { (img : Program) (owner : Runner) → spec.Meets img owner self.now.table place.now result }
+    fn meet(&self, visit: &Visit) -> Meeting
+        ensures { (img : Program) (owner : Runner) → spec.Meets img owner self.now.table visit.now result }
     {
-        if place.nesting.opened().len() > MOST_OPEN {
+        if visit.nesting.open_sections().len() > MOST_OPEN {
             return Meeting::Ambiguous;
         }
-        match self.table.get(&place.address) {
+        match self.table.get(&visit.address) {
             None => Meeting::New,
             Some(known) => {
-                if known.is_same(&place.nesting) {
+                if known.is_same(&visit.nesting) {
                     Meeting::Known
                 } else {
                     Meeting::Ambiguous
@@ -62,21 +62,21 @@ impl Walk {
         }
     }
 
-    /// Goes to a place, where another owner goes on or not.
-    fn go(&mut self, is_end: bool, place: Place) -> Result<(), NoMemory>
+    /// Goes to a visit, where another owner goes on or not.
+    fn go(&mut self, is_end: bool, visit: Visit) -> Result<(), NoMemory>
         ensures table { self.new.table ≡ self.old.table }
-        ensures waiting { OnOk result (self.new.waiting.items ≡ spec.more (not is_end) place self.old.waiting.items) }
-        ensures behind { OnOk result (self.new.behind.items ≡ spec.more is_end place self.old.behind.items) }
+        ensures waiting { OnOk result (self.new.waiting.items ≡ spec.more (not is_end) visit self.old.waiting.items) }
+        ensures behind { OnOk result (self.new.behind.items ≡ spec.more is_end visit self.old.behind.items) }
     {
         if is_end {
-            self.behind.push(place)?;
+            self.behind.push(visit)?;
         } else {
-            self.waiting.push(place)?;
+            self.waiting.push(visit)?;
         }
         Ok(())
     }
 
-    /// Goes from a place over its line to an address.
+    /// Goes from a visit over its line to an address.
     fn go_to(
         &mut self,
         alloc: Global,
@@ -91,88 +91,88 @@ impl Walk {
         ensures behind { OnOk result (self.new.behind.items
             ≡ spec.more (ends_init line.now.0 owner) (spec.next line.now nesting.now to) self.old.behind.items) }
     {
-        let place = Place {
+        let visit = Visit {
             address: to,
             nesting: nesting.behind(alloc, line.0, line.1)?,
         };
-        self.go(ends_init(&line.0, owner), place)
+        self.go(ends_init(&line.0, owner), visit)
     }
 
-    /// Goes from a place over its line wherever it leads.
+    /// Goes from a visit over its line wherever it leads.
     fn follow_line(
         &mut self,
         alloc: Global,
         owner: Owner,
         line: &Line,
-        place: &Place,
+        visit: &Visit,
     ) -> Result<(), NoMemory>
-        requires { place.now.address + 1 < 2 ^ 32 }
+        requires { visit.now.address + 1 < 2 ^ 32 }
         ensures table { self.new.table ≡ self.old.table }
         ensures waiting { OnOk result (self.new.waiting.items
-            ≡ self.old.waiting.items ++ spec.if_so (not (ends_init line.now.0 owner)) (spec.next_places line.now place.now)) }
+            ≡ self.old.waiting.items ++ spec.if_so (not (ends_init line.now.0 owner)) (spec.next_visits line.now visit.now)) }
         ensures behind { OnOk result (self.new.behind.items
-            ≡ self.old.behind.items ++ spec.if_so (ends_init line.now.0 owner) (spec.next_places line.now place.now)) }
+            ≡ self.old.behind.items ++ spec.if_so (ends_init line.now.0 owner) (spec.next_visits line.now visit.now)) }
     {
-        match exits_of(&line.0, place.address) {
+        match exits_of(&line.0, visit.address) {
             Exits::Nowhere => Ok(()),
-            Exits::One(to) => self.go_to(alloc, owner, line, &place.nesting, to),
+            Exits::One(to) => self.go_to(alloc, owner, line, &visit.nesting, to),
             Exits::Two(to, other) => {
-                self.go_to(alloc, owner, line, &place.nesting, to)?;
-                self.go_to(alloc, owner, line, &place.nesting, other)
+                self.go_to(alloc, owner, line, &visit.nesting, to)?;
+                self.go_to(alloc, owner, line, &visit.nesting, other)
             }
         }
     }
 
-    /// Goes wherever a place leads.
+    /// Goes wherever a visit leads.
     fn follow(
         &mut self,
         alloc: Global,
         image: &Image,
         owner: Owner,
-        place: &Place,
+        visit: &Visit,
     ) -> Result<(), NoMemory>
         requires { IsWithinLimits image.now }
         ensures table { self.new.table ≡ self.old.table }
         ensures waiting { OnOk result (self.new.waiting.items
-            ≡ self.old.waiting.items ++ spec.waits image.now owner place.now) }
+            ≡ self.old.waiting.items ++ spec.waits image.now owner visit.now) }
         ensures behind { OnOk result (self.new.behind.items
-            ≡ self.old.behind.items ++ spec.goes_behind image.now owner place.now) }
+            ≡ self.old.behind.items ++ spec.goes_behind image.now owner visit.now) }
     {
-        match line_at(image, place.address) {
-            Some(line) => self.follow_line(alloc, owner, &line, place),
+        match line_at(image, visit.address) {
+            Some(line) => self.follow_line(alloc, owner, &line, visit),
             None => Ok(()),
         }
     }
 
-    /// Takes a new place into the table.
+    /// Takes a new visit into the table.
     fn take_in(
         &mut self,
         alloc: Global,
         image: &Image,
         owner: Owner,
-        place: Place,
+        visit: Visit,
     ) -> Result<(), NoMemory>
         requires limits { IsWithinLimits image.now }
-        requires new { get nat_cmp self.old.table place.address ≡ None }
-        ensures table { OnOk result (spec.IsAdded self.old.table self.new.table place) }
+        requires new { get nat_cmp self.old.table visit.address ≡ None }
+        ensures table { OnOk result (spec.IsAdded self.old.table self.new.table visit) }
         ensures waiting { OnOk result (self.new.waiting.items
-            ≡ self.old.waiting.items ++ spec.waits image.now owner place) }
+            ≡ self.old.waiting.items ++ spec.waits image.now owner visit) }
         ensures behind { OnOk result (self.new.behind.items
-            ≡ self.old.behind.items ++ spec.goes_behind image.now owner place) }
+            ≡ self.old.behind.items ++ spec.goes_behind image.now owner visit) }
     {
-        self.follow(alloc, image, owner, &place)?;
-        self.table.insert(place.address, place.nesting)?;
+        self.follow(alloc, image, owner, &visit)?;
+        self.table.insert(visit.address, visit.nesting)?;
         Ok(())
     }
 }
 
-/// The addresses that an owner comes to from these places, or None where two ways to one of them have other sections
+/// The addresses that an owner comes to from these visits, or None where two ways to one of them have other sections
 /// open, or too many are.
 pub fn walk_from(
     alloc: Global,
     image: &Image,
     owner: Owner,
-    starts: Vec<Place>,
+    starts: Vec<Visit>,
 ) -> Result<Option<Walk>, NoMemory>
     requires limits { IsWithinLimits image.now }
     requires points { spec.ArePoints image.now owner starts.items }
@@ -184,9 +184,9 @@ pub fn walk_from(
         waiting: starts,
         behind: Vec::new(alloc),
     };
-    while let Some(place) = walk.waiting.pop() {
-        match walk.meet(&place) {
-            Meeting::New => walk.take_in(alloc, image, owner, place)?,
+    while let Some(visit) = walk.waiting.pop() {
+        match walk.meet(&visit) {
+            Meeting::New => walk.take_in(alloc, image, owner, visit)?,
             Meeting::Known => {}
             Meeting::Ambiguous => return Ok(None),
         }

@@ -11,9 +11,9 @@ use Rattle.rt_trace.specs.declared.item.What.TheVariants as what
 use Rattle.rt_app.specs.Tree.{App}
 use Rattle.rt_laws.specs.State.{Role, Init, Idle, Waiting, Serving, Job, State, first}
 use Rattle.rt_laws.specs.Giving.{next_instant, is_due, return_item, next_item, item_given}
-use Rattle.rt_laws.specs.Allowed.{May, stepped, after}
+use Rattle.rt_laws.specs.Allowed.{May, state_after_silence, after}
 use Rattle.rt_laws.specs.Run.{RunsOn}
-use Rattle.rt_laws.specs.ByItems.{label_of, done_after, after_all, silent, after_item, RunsByItems, RunsAreByItems, FrontsAreRuns}
+use Rattle.rt_laws.specs.ByItems.{label_of, steps_after, after_all, silent, after_item, RunsByItems, RunsAreByItems, FrontsAreRuns}
 
 -- an item that no step gives
 abbrev IsEvent : What → Type 0
@@ -46,7 +46,7 @@ no_event s [] w is event = none-some w is
 no_event s (job ∷ others) w is event = no_event_next s job.role job.rest w is event
 
 module _ (app : App) where
-  stepped_owing : (s : State) (js : List Job) → (stepped s js).owing ≡ s.owing
+  stepped_owing : (s : State) (js : List Job) → (state_after_silence s js).owing ≡ s.owing
   stepped_owing s [] = refl
   stepped_owing s (job ∷ others) = refl
 
@@ -80,11 +80,11 @@ module _ (app : App) where
 
     item_comes : (label : Label) → label ≡ label_of s.owing w → n ≤ m → RunsOn app s (silent (m - n))
         → May app mid label
-        → RunsByItems app (after app mid label) (done_after m label) items total
+        → RunsByItems app (after app mid label) (steps_after m label) items total
         → RunsByItems app s n (record { step = m; what = w } ∷ items) total
     item_comes label is le quiet may rest = (
       record { in_order = le; quiet = quiet; allowed = subst (May app mid) is may },
-      subst (λ l. RunsByItems app (after app mid l) (done_after m l) items total) is rest,
+      subst (λ l. RunsByItems app (after app mid l) (steps_after m l) items total) is rest,
     )
 
   from_here : (s : State) (m : ℕ) (labels : List Label) → RunsOn app s labels
@@ -154,7 +154,7 @@ module _ (app : App) where
 
   item_of_label : (owing : Bool) (w : What) (m : ℕ) (labels : List Label)
       → items_of m (label_of owing w ∷ labels) ≡ record { step = m; what = w } ∷ items_of
-      (done_after m (label_of owing w)) labels
+      (steps_after m (label_of owing w)) labels
   item_of_label owing (what.Pend irq) m labels = refl
   item_of_label owing what.Tick m labels = refl
   item_of_label true what.Alarm m labels = refl
@@ -162,7 +162,7 @@ module _ (app : App) where
   item_of_label owing w m labels = refl
 
   step_of_label : (label : Label) (m : ℕ) (labels : List Label)
-      → m + steps_of (label ∷ labels) ≡ done_after m label + steps_of labels
+      → m + steps_of (label ∷ labels) ≡ steps_after m label + steps_of labels
   step_of_label (Arrived irq) m labels = refl
   step_of_label Ticked m labels = refl
   step_of_label Rang m labels = refl
@@ -182,7 +182,7 @@ module _ (app : App) where
       let comes = runs.0 in
       let le = comes.in_order in
       let label : Label = label_of s.owing item.what in
-      let rest = backward items (after_item app s n item) (done_after item.step label) total runs.1 in
+      let rest = backward items (after_item app s n item) (steps_after item.step label) total runs.1 in
       let k : ℕ = item.step - n in
       let here : n + k ≡ item.step = omega arith in
       record {
@@ -215,7 +215,7 @@ pub front_runs : (app : App) (front behind : List Item) (s : State) (n total : �
     → RunsByItems app s n (front ++ behind) total → (k : ℕ) × RunsByItems app s n front k
 front_runs app [] behind s n total runs = (n, (le_refl n, none_silent app s n))
 front_runs app (item ∷ front) behind s n total runs =
-    let rest = front_runs app front behind (after_item app s n item) (done_after item.step (label_of s.owing item.what))
+    let rest = front_runs app front behind (after_item app s n item) (steps_after item.step (label_of s.owing item.what))
     total runs.1 in
     (rest.0, (runs.0, rest.1))
 

@@ -4,7 +4,7 @@ use Rattle.std.proofs.lemmas.Bool.Decides.{nat_tests}
 use Rattle.rt_ids.specs.Choice.{IsOrder}
 use Rattle.rt_ids.proofs.Best.{best_is_best}
 use Rattle.rt_laws.specs.Services.{priority_of}
-use Rattle.rt_laws.specs.Level.{may_start, goes_before, IsNoLater, CandidateIsHighest}
+use Rattle.rt_laws.specs.Preemption.{may_start, goes_before, IsNoLater, CandidateIsHighest}
 
 -- by any priorities
 module _ (priority : ℕ → ℕ) where

@@ -8,15 +8,15 @@ use Rattle.rt_lemmas.proofs.Bools.{and_parts}
 use Rattle.rt_lemmas.proofs.Numbers.{one_add}
 use Rattle.rt_ids.specs.Lists.{is_some_and, or_zero}
 use Rattle.rt_ids.specs.Holder.{Guarded}
-use Rattle.rt_ids.specs.Content.{Message, Armed, Values, Number, Messages, number, messages, delays, has_instant, least_instant, least, has_handle, armed_as, without_least, without_handle, postponed}
-use Rattle.rt_ids.specs.Action.{Action, Takes, Frees, Readies, Starts, Arms, Fires, Cancels, Moves, effect}
+use Rattle.rt_ids.specs.Content.{Message, Armed, Values, Number, Messages, number, messages, delays, has_instant, least_instant, least, has_handle, message_of_handle, without_least, without_handle, postponed_message}
+use Rattle.rt_ids.specs.Action.{Action, Places, Frees, Readies, Starts, Arms, Fires, Cancels, Moves, effect}
 use Rattle.rt_ids.specs.declared.ids.Section.{Section}
 use Rattle.rt_ids.specs.declared.ids.Section.TheVariants as section
 use Rattle.rt_app.specs.Tree.{Task, App}
 use Rattle.rt_app.specs.Bodies.{task_priority}
 use Rattle.rt_app.specs.Level.{is_software, is_of_level}
 use Rattle.rt_laws.specs.State.{Role}
-use Rattle.rt_laws.specs.Places.{Hand, in_transit, armed_of, ready_of}
+use Rattle.rt_laws.specs.Places.{Hand, in_transit, arming_count, ready_of}
 use Rattle.rt_laws.specs.Queues.{KeepsOrder}
 use Rattle.rt_laws.proofs.Fine.{OfLevel, SameQueues, Queued, ActsFine}
 use Rattle.rt_laws.proofs.Pending.{found_passes}
@@ -61,7 +61,7 @@ module _ (app : App) where
   -- the places that are out are those in transit, armed and ready
   abbrev pub Counted : List Hand → Values → Type 0
   Counted hands vs =
-      (t : ℕ) → number (vs (Guarded (section.Free t))) ≡ in_transit t hands + armed_of t vs + ready_of app t vs
+      (t : ℕ) → number (vs (Guarded (section.Free t))) ≡ in_transit t hands + arming_count t vs + ready_of app t vs
 
   -- so they are where queues hold the same
   pub counted_same : (hands : List Hand) (vs ws : Values) → SameQueues ws vs → Counted hands vs → Counted hands ws
@@ -69,17 +69,17 @@ module _ (app : App) where
       ap number (same (section.Free t) tt) ∙ counted t
       ∙ ap (λ c. in_transit t hands + count_by (λ a. a.message.task == t) (delays c) + ready_of app t vs)
       (sym (same section.Timer tt))
-      ∙ ap (λ c. in_transit t hands + armed_of t ws + count_by (λ m. m.task == t) (messages c))
+      ∙ ap (λ c. in_transit t hands + arming_count t ws + count_by (λ m. m.task == t) (messages c))
       (sym (same (section.Ready (task_priority app t)) tt))
 
   -- a message of a level is of a task of that priority
   level_of : (p : ℕ) (m : Message) → OfLevel app p m → p ≡ task_priority app m.task
-  level_of p m level = go (slice_get app.tasks m.task) level
+  level_of p m is = go (slice_get app.tasks m.task) is
     where
       go : (o : Option Task) → is_some_and (is_of_level p) o ≡ true
           → p ≡ or_zero (option_map (λ (t : Task). t.priority) o)
-      go None level = cc
-      go (Some t) level = sym (eqb-true t.priority p (and_parts (is_software t) (t.priority == p) level).1)
+      go None is = cc
+      go (Some t) is = sym (eqb-true t.priority p (and_parts (is_software t) (t.priority == p) is).1)
 
 -- plain sums, with what is out, in one job's hands, in the others', armed and ready
 one_more : (out c a r : ℕ) → out ≡ 0 + c + a + r → out + 1 ≡ 1 + c + a + r
@@ -106,7 +106,7 @@ add_none n = omega arith
 -- one task's places: so many are in one job's hands, and so many in the others'
 module _ (app : App) (t c : ℕ) (vs : Values) where
   abbrev Equal : ℕ → Values → Type 0
-  Equal h ws = number (ws (Guarded (section.Free t))) ≡ h + c + armed_of t ws + ready_of app t ws
+  Equal h ws = number (ws (Guarded (section.Free t))) ≡ h + c + arming_count t ws + ready_of app t ws
 
   abbrev out : ℕ → ℕ
   out n = number (vs (Guarded (section.Free n)))
@@ -126,14 +126,14 @@ module _ (app : App) (t c : ℕ) (vs : Values) where
   abbrev level : ℕ
   level = task_priority app t
 
-  takes : (n : ℕ) → Equal 0 vs → Equal (one_if (n == t)) (effect (Takes n) vs)
+  takes : (n : ℕ) → Equal 0 vs → Equal (one_if (n == t)) (effect (Places n) vs)
   takes n before = go (n == t) refl
     where
       go : (b : Bool) → (n == t) ≡ b
           → number (if b then Number (out n + 1) else vs (Guarded (section.Free t)))
-          ≡ one_if b + c + armed_of t vs + ready_of app t vs
+          ≡ one_if b + c + arming_count t vs + ready_of app t vs
       go true same =
-          one_more (out n) c (armed_of t vs) (ready_of app t vs) (ap (λ k. out k) (eqb-true n t same) ∙ before)
+          one_more (out n) c (arming_count t vs) (ready_of app t vs) (ap (λ k. out k) (eqb-true n t same) ∙ before)
       go false other = before
 
   frees : (n : ℕ) → Equal (one_if (n == t)) vs → Equal 0 (effect (Frees n) vs)
@@ -141,26 +141,26 @@ module _ (app : App) (t c : ℕ) (vs : Values) where
     where
       go : (b : Bool) → (n == t) ≡ b → Equal (one_if b) vs
           → number (if b then Number (out n - 1) else vs (Guarded (section.Free t)))
-          ≡ 0 + c + armed_of t vs + ready_of app t vs
+          ≡ 0 + c + arming_count t vs + ready_of app t vs
       go true same is =
-          one_less (out n) c (armed_of t vs) (ready_of app t vs) (ap (λ k. out k) (eqb-true n t same) ∙ is)
+          one_less (out n) c (arming_count t vs) (ready_of app t vs) (ap (λ k. out k) (eqb-true n t same) ∙ is)
       go false other is = is
 
   arms : (i : ℕ) (m : Message) → Equal (one_if (m.task == t)) vs → Equal 0 (effect (Arms i m) vs)
-  arms i m = to_armed (out t) (one_if (m.task == t)) c (armed_of t vs) (armed_of t (effect (Arms i m) vs))
+  arms i m = to_armed (out t) (one_if (m.task == t)) c (arming_count t vs) (arming_count t (effect (Arms i m) vs))
       (ready_of app t vs) (sum_by_push (λ (a : Armed). one_if (a.message.task == t)) armed _)
 
   fires : (m : Message) (a : Armed) → least armed ≡ Some a → a.message ≡ m → Equal 0 vs
       → Equal (one_if (m.task == t)) (effect (Fires m) vs)
   fires m a is same =
-      from_armed (out t) (one_if (m.task == t)) c (armed_of t vs) (armed_of t (effect (Fires m) vs)) (ready_of app t vs)
+      from_armed (out t) (one_if (m.task == t)) c (arming_count t vs) (arming_count t (effect (Fires m) vs)) (ready_of app t vs)
       (subst (λ (k : Message). armed_in (without_least armed) + one_if (k.task == t) ≡ armed_in armed) same
       (count_found (has_instant (least_instant armed)) (λ b. b.message.task == t) armed a is))
 
-  cancels : (n h : ℕ) (a : Armed) → armed_as n h armed ≡ Some a → Equal 0 vs
+  cancels : (n h : ℕ) (a : Armed) → message_of_handle n h armed ≡ Some a → Equal 0 vs
       → Equal (one_if (n == t)) (effect (Cancels n h) vs)
   cancels n h a is =
-      from_armed (out t) (one_if (n == t)) c (armed_of t vs) (armed_of t (effect (Cancels n h) vs)) (ready_of app t vs)
+      from_armed (out t) (one_if (n == t)) c (arming_count t vs) (arming_count t (effect (Cancels n h) vs)) (ready_of app t vs)
       (subst (λ (k : ℕ). armed_in (without_handle n h armed) + one_if (k == t) ≡ armed_in armed) of_task
       (count_found (has_handle n h) (λ b. b.message.task == t) armed a is))
     where
@@ -168,13 +168,13 @@ module _ (app : App) (t c : ℕ) (vs : Values) where
       of_task = eqb-true a.message.task n
           (and_parts (a.message.task == n) (a.handle == h) (found_passes (has_handle n h) armed a is)).0
 
-  moves : (n h i held : ℕ) (a : Armed) → armed_as n h armed ≡ Some a → Equal held vs
+  moves : (n h i held : ℕ) (a : Armed) → message_of_handle n h armed ≡ Some a → Equal held vs
       → Equal held (effect (Moves n h i) vs)
   moves n h i held a is before = before ∙ ap (λ k. held + c + k + ready_of app t vs) (sym as_many)
     where
-      as_many : armed_of t (effect (Moves n h i) vs) ≡ armed_of t vs
+      as_many : arming_count t (effect (Moves n h i) vs) ≡ arming_count t vs
       as_many =
-          ap (λ o. armed_in (without_handle n h armed ++ postponed i o)) is
+          ap (λ o. armed_in (without_handle n h armed ++ postponed_message i o)) is
           ∙ sum_by_push (λ (b : Armed). one_if (b.message.task == t)) (without_handle n h armed)
           (record a { instant = i })
           ∙ count_found (has_handle n h) (λ b. b.message.task == t) armed a is
@@ -186,7 +186,7 @@ module _ (app : App) (t c : ℕ) (vs : Values) where
   readies : (p : ℕ) (m : Message) → p ≡ task_priority app m.task → Equal (one_if (m.task == t)) vs
       → Equal 0 (effect (Readies p m) vs)
   readies p m own =
-      to_ready (out t) (one_if (m.task == t)) c (armed_of t vs) (ready_of app t vs)
+      to_ready (out t) (one_if (m.task == t)) c (arming_count t vs) (ready_of app t vs)
       (ready_of app t (effect (Readies p m) vs)) (go (p == level) (m.task == t) refl refl)
     where
       go : (b d : Bool) → (p == level) ≡ b → (m.task == t) ≡ d
@@ -202,7 +202,7 @@ module _ (app : App) (t c : ℕ) (vs : Values) where
   starts : (p : ℕ) (m : Message) (more : List Message) → p ≡ task_priority app m.task → ready p ≡ m ∷ more
       → Equal 0 vs → Equal (one_if (m.task == t)) (effect (Starts p m) vs)
   starts p m more own is =
-      from_ready (out t) (one_if (m.task == t)) c (armed_of t vs) (ready_of app t vs)
+      from_ready (out t) (one_if (m.task == t)) c (arming_count t vs) (ready_of app t vs)
       (ready_of app t (effect (Starts p m) vs)) (go (p == level) (m.task == t) refl refl)
     where
       turned : (n k : ℕ) → n + k ≡ k + n
@@ -230,20 +230,20 @@ module _ (app : App) (role : Role) (q : ℕ) (held : List Section) (time : ℕ) 
   apart : (t h : ℕ) → in_hand t hand ≡ h → Counted app (hand ∷ hands) vs → Equal app t (others t) vs h vs
   apart t h is counted =
       counted t
-      ∙ ap (λ k. k + armed_of t vs + ready_of app t vs)
+      ∙ ap (λ k. k + arming_count t vs + ready_of app t vs)
       (transit_first t hand hands ∙ ap (λ k. k + others t) is)
 
   together : (t : ℕ) (now : Hand) (ws : Values) → Equal app t (others t) vs (in_hand t now) ws
-      → number (ws (Guarded (section.Free t))) ≡ in_transit t (now ∷ hands) + armed_of t ws + ready_of app t ws
+      → number (ws (Guarded (section.Free t))) ≡ in_transit t (now ∷ hands) + arming_count t ws + ready_of app t ws
   together t now ws equal =
-      equal ∙ ap (λ k. k + armed_of t ws + ready_of app t ws) (sym (transit_first t now hands))
+      equal ∙ ap (λ k. k + arming_count t ws + ready_of app t ws) (sym (transit_first t now hands))
 
   -- so are they behind an action that fits
   pub effect_counted : (action : Action) → Suits hand action → ActsFine app role q held action
       → KeepsOrder app time vs action → Counted app (hand ∷ hands) vs
       → Counted app (hand_then hand action ∷ hands) (effect action vs)
-  effect_counted (Takes n) suits fine order counted t =
-      together t (Some n) (effect (Takes n) vs)
+  effect_counted (Places n) suits fine order counted t =
+      together t (Some n) (effect (Places n) vs)
       (takes app t (others t) vs n (apart t 0 (ap (in_hand t) suits) counted))
   effect_counted (Frees n) suits fine order counted t =
       together t None (effect (Frees n) vs)

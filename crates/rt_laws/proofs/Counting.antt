@@ -2,17 +2,17 @@
 use Rattle.std.proofs.Common.{ℕ, suc, ◌+◌, ◌-◌, ◌≤◌, ◌==◌, true, false, if◌then◌else◌, List, [], ◌∷◌, sym, subst, refl}
 use Rattle.std.proofs.Common.{arith}
 use Rattle.rt_ids.specs.Holder.{Guarded}
-use Rattle.rt_ids.specs.Content.{Content, Number, number, timed}
-use Rattle.rt_ids.specs.Action.{Action, Takes, Frees, Arms, Moves, effect}
+use Rattle.rt_ids.specs.Content.{Content, Number, number, timer_content}
+use Rattle.rt_ids.specs.Action.{Action, Places, Frees, Arms, Moves, effect}
 use Rattle.rt_ids.specs.declared.ids.Section.TheVariants as section
 use Rattle.rt_trace.specs.Label.{Label}
 use Rattle.rt_app.specs.Tree.{App}
 use Rattle.rt_app.specs.Accepted.{IsAccepted}
 use Rattle.rt_laws.specs.State.{Job, State, first_values, first}
-use Rattle.rt_laws.specs.Acting.{spent}
-use Rattle.rt_laws.specs.Allowed.{stepped, after}
+use Rattle.rt_laws.specs.Acting.{job_after_step}
+use Rattle.rt_laws.specs.Allowed.{state_after_silence, after}
 use Rattle.rt_laws.specs.ByItems.{after_all}
-use Rattle.rt_laws.specs.Sight.{Sight}
+use Rattle.rt_laws.specs.Observer.{Observer}
 use Rattle.rt_laws.specs.Counts.{AreWithin, CountsRiseByOne}
 use Rattle.rt_laws.proofs.Fine.{SameQueues}
 use Rattle.rt_laws.proofs.Keeping.{run_well}
@@ -23,8 +23,8 @@ use Rattle.rt_laws.proofs.Well.{StateWell}
 same_within : (n : ℕ) (s t : State) → t.time ≤ n → SameQueues t.values s.values → AreWithin n s → AreWithin n t
 same_within n s t time same within = record {
   time = time;
-  given = subst (λ (c : Content). (timed c).given ≤ n) (sym (same section.Timer tt)) within.given;
-  moved = subst (λ (c : Content). (timed c).moved ≤ n) (sym (same section.Timer tt)) within.moved;
+  given = subst (λ (c : Content). (timer_content c).given ≤ n) (sym (same section.Timer tt)) within.given;
+  moved = subst (λ (c : Content). (timer_content c).moved ≤ n) (sym (same section.Timer tt)) within.moved;
   places = λ i. subst (λ (c : Content). number c ≤ n) (sym (same (section.Free i) tt)) (within.places i);
 }
 
@@ -47,8 +47,8 @@ module _ (n : ℕ) (s : State) (within : AreWithin n s) where
   looser : AreWithin (suc n) s
   looser = record {
     time = up s.time n within.time;
-    given = up (timed timer).given n within.given;
-    moved = up (timed timer).moved n within.moved;
+    given = up (timer_content timer).given n within.given;
+    moved = up (timer_content timer).moved n within.moved;
     places = λ i. up (free i) n (within.places i);
   }
 
@@ -62,7 +62,7 @@ module _ (n : ℕ) (s : State) (within : AreWithin n s) where
 
   -- what an action changes
   effect_within : (action : Action) → AreWithin (suc n) (record s { values = effect action s.values })
-  effect_within (Takes k) = record {
+  effect_within (Places k) = record {
     time = looser.time;
     given = looser.given;
     moved = looser.moved;
@@ -76,25 +76,25 @@ module _ (n : ℕ) (s : State) (within : AreWithin n s) where
   }
   effect_within (Arms i m) = record {
     time = looser.time;
-    given = more (timed timer).given n within.given;
+    given = more (timer_content timer).given n within.given;
     moved = looser.moved;
     places = looser.places;
   }
   effect_within (Moves k h i) = record {
     time = looser.time;
     given = looser.given;
-    moved = more (timed timer).moved n within.moved;
+    moved = more (timer_content timer).moved n within.moved;
     places = looser.places;
   }
   effect_within action =
       record { time = looser.time; given = looser.given; moved = looser.moved; places = looser.places }
 
   -- a silent step changes none
-  silent_within : (js : List Job) → AreWithin n (stepped s js)
+  silent_within : (js : List Job) → AreWithin n (state_after_silence s js)
   silent_within [] = within
-  silent_within (job ∷ others) = same_within n s (record s { jobs = spent job ∷ others }) within.time (λ x queue. refl) within
+  silent_within (job ∷ others) = same_within n s (record s { jobs = job_after_step job ∷ others }) within.time (λ x queue. refl) within
 
-rises : (app : App) → IsAccepted app → (s : State) (v : Sight) → StateWell app s v → (n : ℕ) → AreWithin n s
+rises : (app : App) → IsAccepted app → (s : State) (v : Observer) → StateWell app s v → (n : ℕ) → AreWithin n s
     → (label : Label) → AreWithin (suc n) (after app s label)
 rises app accepted s v well n within label =
     let one = by_one_action app accepted s v well label in

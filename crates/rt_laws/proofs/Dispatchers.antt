@@ -58,9 +58,9 @@ module _ (app : App) (accepted : IsAccepted app) where
   dispatching p = dispatcher_service p (dispatcher_of app p)
 
   dispatcher_in : (p i : ℕ) → Contains (levels app) p → dispatcher_of app p ≡ Some i
-      → IsIn (services app) (record { irq = i; handler = Dispatches p; level = p })
+      → IsIn (services app) (record { irq = i; handler = Dispatches p; priority = p })
   dispatcher_in p i level is =
-      let w : Service = record { irq = i; handler = Dispatches p; level = p } in
+      let w : Service = record { irq = i; handler = Dispatches p; priority = p } in
       contains_at (services app) w
       (contains_back (task_services 0 app.tasks) (flat_map dispatching (levels app) ++ timer_service app.mono) w
       (contains_front (flat_map dispatching (levels app)) (timer_service app.mono) w
@@ -68,21 +68,21 @@ module _ (app : App) (accepted : IsAccepted app) where
       (subst (λ o. Contains (dispatcher_service p o) w) (sym is) (contains_here w [])))))
 
   pub dispatcher_serves : (p : ℕ) → Contains (levels app) p → (v : Service)
-      → service_at app (dispatcher_number app p) ≡ Some v → (v.handler ≡ Dispatches p) × (v.level ≡ p)
+      → service_at app (dispatcher_number app p) ≡ Some v → (v.handler ≡ Dispatches p) × (v.priority ≡ p)
   dispatcher_serves p level v = go (dispatcher_of app p) refl (sound.dispatched p level)
     where
       go : (o : Option ℕ) → dispatcher_of app p ≡ o → IsSome o
           → service_at app (or_zero (then_from o (irq_number app))) ≡ Some v
-          → (v.handler ≡ Dispatches p) × (v.level ≡ p)
+          → (v.handler ≡ Dispatches p) × (v.priority ≡ p)
       go None own some at = absurd (cc)
       go (Some i) own some at =
-          let w : Service = record { irq = i; handler = Dispatches p; level = p } in
+          let w : Service = record { irq = i; handler = Dispatches p; priority = p } in
           let there : IsIn (services app) w = dispatcher_in p i level own in
           let row = some_at app.irqs i (all_at _ (services app) there.0 w sound.served there.1).0 in
           let number : irq_number app i ≡ Some row.0.number = ap (option_map (λ d. d.number)) row.1 in
           let same : v ≡ w = only_service row.0.number v w there number
           (subst (λ n. service_at app n ≡ Some v) (ap or_zero number) at) in
-          (ap (λ (s : Service). s.handler) same, ap (λ (s : Service). s.level) same)
+          (ap (λ (s : Service). s.handler) same, ap (λ (s : Service). s.priority) same)
 
   pub dispatcher_small : (p : ℕ) → Contains (levels app) p → dispatcher_number app p < IRQ_NUMBERS
   dispatcher_small p level = go (dispatcher_of app p) refl (sound.dispatched p level)
@@ -97,7 +97,7 @@ module _ (app : App) (accepted : IsAccepted app) where
 
   module _ (mono : Mono) (is : app.mono ≡ Some mono) where
     abbrev timer : Service
-    timer = record { irq = mono.irq; handler = Times; level = mono.priority }
+    timer = record { irq = mono.irq; handler = Times; priority = mono.priority }
 
     timer_in : IsIn (services app) timer
     timer_in =
@@ -118,11 +118,11 @@ module _ (app : App) (accepted : IsAccepted app) where
         )
 
     pub timer_serves : (v : Service) → service_at app (timer_number app) ≡ Some v
-        → (v.handler ≡ Times) × (v.level ≡ mono.priority)
+        → (v.handler ≡ Times) × (v.priority ≡ mono.priority)
     timer_serves v at =
         let same : v ≡ timer = only_service timer_row.0 v timer timer_in timer_row.1
         (subst (λ n. service_at app n ≡ Some v) (timer_is timer_row.0 timer_row.1) at) in
-        (ap (λ (s : Service). s.handler) same, ap (λ (s : Service). s.level) same)
+        (ap (λ (s : Service). s.handler) same, ap (λ (s : Service). s.priority) same)
 
     pub timer_small : timer_number app < IRQ_NUMBERS
     timer_small = subst (λ n. n < IRQ_NUMBERS) (sym (timer_is timer_row.0 timer_row.1)) timer_row.2

@@ -8,8 +8,8 @@ use Rattle.rt_lemmas.proofs.Lists.{find_has}
 use Rattle.rt_ids.specs.Lists.{is_some_and}
 use Rattle.rt_ids.specs.Choice.{IsIn}
 use Rattle.rt_ids.specs.Holder.{Guarded, is_same_section}
-use Rattle.rt_ids.specs.Content.{Message, Armed, Content, Values, Number, Messages, Delays, number, messages, timed, delays, put_at, has_instant, least_instant, least, has_handle, armed_as, without_handle, postponed, with_armed, with_fired, with_cancelled, with_moved}
-use Rattle.rt_ids.specs.Action.{Action, Enters, Leaves, Takes, Refuses, Frees, Readies, Starts, Arms, Fires, Cancels, Moves, Ends, Returns, effect}
+use Rattle.rt_ids.specs.Content.{Message, Armed, Content, Values, Number, Messages, Delays, number, messages, timer_content, delays, values_with, has_instant, least_instant, least, has_handle, message_of_handle, without_handle, postponed_message, with_armed, with_fired, with_cancelled, with_moved}
+use Rattle.rt_ids.specs.Action.{Action, Enters, Leaves, Places, FindsFull, Frees, Readies, Starts, Arms, Fires, Cancels, Moves, Ends, Returns, effect}
 use Rattle.rt_ids.specs.Doing.{Doing, over, does}
 use Rattle.rt_ids.specs.declared.ids.BodyId.TheVariants as body
 use Rattle.rt_ids.specs.declared.ids.Section.{Section}
@@ -19,9 +19,9 @@ use Rattle.rt_app.specs.Level.{is_software, is_of_level, is_armed}
 use Rattle.rt_app.specs.Ceiling.{ceiling}
 use Rattle.rt_app.specs.Waiting.{waiting_bound}
 use Rattle.rt_app.specs.Sending.{Rest, act, act_all, capacity_of}
-use Rattle.rt_laws.specs.State.{Role, Init, Idle, Serving, first_values, reached}
+use Rattle.rt_laws.specs.State.{Role, Init, Idle, Serving, first_values, reached_values}
 use Rattle.rt_laws.specs.Queues.{queue_of, InQueue, KeepsOrder}
-use Rattle.rt_laws.specs.Level.{greatest_ceiling}
+use Rattle.rt_laws.specs.Preemption.{greatest_ceiling}
 use Rattle.rt_laws.proofs.Handled.{Handled, all_drop, all_remove, handled_armed, handled_less, handled_moved}
 
 -- a message to a task of a level; a message to a task that may be armed
@@ -39,7 +39,7 @@ IsTimedOne app a = IsTimed app a.message
 pub record Queued (app : App) (vs : Values) : Type 0 where
   pub ready : (p : ℕ) → AllByRecursion (OfLevel app p) (messages (vs (Guarded (section.Ready p))))
   pub timer : AllByRecursion (IsTimedOne app) (delays (vs (Guarded section.Timer)))
-  pub handles : Handled (timed (vs (Guarded section.Timer)))
+  pub handles : Handled (timer_content (vs (Guarded section.Timer)))
   pub out : (n : ℕ) → number (vs (Guarded (section.Free n))) ≤ capacity_of app n
 
 -- so it is at reset
@@ -147,12 +147,12 @@ module _ (app : App) (role : Role) (q : ℕ) where
 
   -- what is reached is the same in the queues
   pub reached_same : (n : ℕ) (held : List Section) (rest : Doing Values) (vs : Values) → IsFine n held vs rest
-      → SameQueues (reached rest vs) vs
+      → SameQueues (reached_values rest vs) vs
   reached_same n held over vs fine x queue = refl
   reached_same n held (does action made next) vs fine x queue = fine.3 x queue
 
   pub reached_queued : (n : ℕ) (held : List Section) (rest : Doing Values) (vs base : Values) → IsFine n held base rest
-      → Queued app vs → Queued app (reached rest vs)
+      → Queued app vs → Queued app (reached_values rest vs)
   reached_queued n held over vs base fine queued = queued
   reached_queued n held (does action made next) vs base fine queued = fine.0
 
@@ -180,14 +180,14 @@ module _ (app : App) (vs : Values) (queued : Queued app vs) where
   without_one n = all_remove (IsTimedOne app) n (delays (vs (Guarded section.Timer))) queued.timer
 
   put_off : (i : ℕ) (o : Option Armed) → ((a : Armed) → o ≡ Some a → IsTimedOne app a)
-      → AllByRecursion (IsTimedOne app) (postponed i o)
+      → AllByRecursion (IsTimedOne app) (postponed_message i o)
   put_off i None each = tt
   put_off i (Some a) each = (each a refl, tt)
 
   -- what an action changes keeps them so
   pub queued_effect : (role : Role) (q : ℕ) (held : List Section) (action : Action) → ActsFine app role q held action
       → (time : ℕ) → KeepsOrder app time vs action → Queued app (effect action vs)
-  queued_effect role q held (Takes n) fine time order = record {
+  queued_effect role q held (Places n) fine time order = record {
     ready = queued.ready;
     timer = queued.timer;
     handles = queued.handles;
@@ -220,9 +220,9 @@ module _ (app : App) (vs : Values) (queued : Queued app vs) where
   queued_effect role q held (Arms i m) fine time order = record {
     ready = queued.ready;
     timer = all_append (IsTimedOne app) (delays (vs (Guarded section.Timer)))
-        (record { instant = i; message = m; handle = (timed (vs (Guarded section.Timer))).given + 1 } ∷ [])
+        (record { instant = i; message = m; handle = (timer_content (vs (Guarded section.Timer))).given + 1 } ∷ [])
         queued.timer (fine, tt);
-    handles = handled_armed i m (timed (vs (Guarded section.Timer))) queued.handles;
+    handles = handled_armed i m (timer_content (vs (Guarded section.Timer))) queued.handles;
     out = queued.out;
   }
   queued_effect role q held (Fires m) fine time order =
@@ -231,7 +231,7 @@ module _ (app : App) (vs : Values) (queued : Queued app vs) where
         ready = queued.ready;
         timer = without_one (position_or_len (has_instant (least_instant armed)) armed);
         handles = handled_less (position_or_len (has_instant (least_instant armed)) armed)
-            (timed (vs (Guarded section.Timer))) queued.handles;
+            (timer_content (vs (Guarded section.Timer))) queued.handles;
         out = queued.out;
       }
   queued_effect role q held (Cancels n h) fine time order =
@@ -239,7 +239,7 @@ module _ (app : App) (vs : Values) (queued : Queued app vs) where
       record {
         ready = queued.ready;
         timer = without_one (position_or_len (has_handle n h) armed);
-        handles = handled_less (position_or_len (has_handle n h) armed) (timed (vs (Guarded section.Timer)))
+        handles = handled_less (position_or_len (has_handle n h) armed) (timer_content (vs (Guarded section.Timer)))
             queued.handles;
         out = queued.out;
       }
@@ -247,11 +247,11 @@ module _ (app : App) (vs : Values) (queued : Queued app vs) where
       let armed : List Armed = delays (vs (Guarded section.Timer)) in
       record {
         ready = queued.ready;
-        timer = all_append (IsTimedOne app) (without_handle n h armed) (postponed i (armed_as n h armed))
+        timer = all_append (IsTimedOne app) (without_handle n h armed) (postponed_message i (message_of_handle n h armed))
             (without_one (position_or_len (has_handle n h) armed))
-            (put_off i (armed_as n h armed)
+            (put_off i (message_of_handle n h armed)
             (λ a is. find_has (IsTimedOne app) (has_handle n h) armed a queued.timer is));
-        handles = handled_moved n h i (timed (vs (Guarded section.Timer))) queued.handles;
+        handles = handled_moved n h i (timer_content (vs (Guarded section.Timer))) queued.handles;
         out = queued.out;
       }
   queued_effect role q held action fine time order =
@@ -266,7 +266,7 @@ same_section section.Timer section.Timer h = refl
 same_section x y h = cc
 
 put_beside : (x y : Section) (content : Content) (vs : Values) → ¬ (x ≡ y)
-    → put_at vs (Guarded x) content (Guarded y) ≡ vs (Guarded y)
+    → values_with vs (Guarded x) content (Guarded y) ≡ vs (Guarded y)
 put_beside x y content vs differs = go (is_same_section x y) refl
   where
     go : (b : Bool) → is_same_section x y ≡ b → (if b then content else vs (Guarded y)) ≡ vs (Guarded y)
@@ -277,7 +277,7 @@ put_beside x y content vs differs = go (is_same_section x y) refl
 pub effect_beside : (action : Action) (vs : Values) (held : List Section) (y : Section) → InQueue held action
     → ¬ IsIn held y
     → effect action vs (Guarded y) ≡ vs (Guarded y)
-effect_beside (Takes n) vs held y inside out =
+effect_beside (Places n) vs held y inside out =
     put_beside (section.Free n) y _ vs (λ same. out (subst (IsIn held) same inside))
 effect_beside (Frees n) vs held y inside out =
     put_beside (section.Free n) y _ vs (λ same. out (subst (IsIn held) same inside))
@@ -298,15 +298,15 @@ effect_beside action vs held y inside out = refl
 -- it makes the same of what is the same where its section is open
 put_same : (x y : Section) (change : Content → Content) (vs ws : Values) → vs (Guarded x) ≡ ws (Guarded x)
     → vs (Guarded y) ≡ ws (Guarded y)
-    → put_at vs (Guarded x) (change (vs (Guarded x))) (Guarded y)
-    ≡ put_at ws (Guarded x) (change (ws (Guarded x))) (Guarded y)
+    → values_with vs (Guarded x) (change (vs (Guarded x))) (Guarded y)
+    ≡ values_with ws (Guarded x) (change (ws (Guarded x))) (Guarded y)
 put_same x y change vs ws here there =
     ap (λ c. if is_same_section x y then change c else vs (Guarded y)) here
     ∙ ap (λ c. if is_same_section x y then change (ws (Guarded x)) else c) there
 
 pub effect_same : (action : Action) (held : List Section) (vs ws : Values) → InQueue held action → SameOpen held vs ws
     → SameOpen held (effect action vs) (effect action ws)
-effect_same (Takes n) held vs ws inside same y queue is =
+effect_same (Places n) held vs ws inside same y queue is =
     put_same (section.Free n) y (λ c. Number (number c + 1)) vs ws (same (section.Free n) tt inside) (same y queue is)
 effect_same (Frees n) held vs ws inside same y queue is =
     put_same (section.Free n) y (λ c. Number (number c - 1)) vs ws (same (section.Free n) tt inside) (same y queue is)
@@ -317,16 +317,16 @@ effect_same (Starts p m) held vs ws inside same y queue is =
     put_same (section.Ready p) y (λ c. Messages (drop 1 (messages c))) vs ws (same (section.Ready p) tt inside)
     (same y queue is)
 effect_same (Arms i m) held vs ws inside same y queue is =
-    put_same section.Timer y (λ c. Delays (with_armed i m (timed c))) vs ws (same section.Timer tt inside)
+    put_same section.Timer y (λ c. Delays (with_armed i m (timer_content c))) vs ws (same section.Timer tt inside)
     (same y queue is)
 effect_same (Fires m) held vs ws inside same y queue is =
-    put_same section.Timer y (λ c. Delays (with_fired (timed c))) vs ws (same section.Timer tt inside)
+    put_same section.Timer y (λ c. Delays (with_fired (timer_content c))) vs ws (same section.Timer tt inside)
     (same y queue is)
 effect_same (Cancels n h) held vs ws inside same y queue is =
-    put_same section.Timer y (λ c. Delays (with_cancelled n h (timed c))) vs ws (same section.Timer tt inside)
+    put_same section.Timer y (λ c. Delays (with_cancelled n h (timer_content c))) vs ws (same section.Timer tt inside)
     (same y queue is)
 effect_same (Moves n h i) held vs ws inside same y queue is =
-    put_same section.Timer y (λ c. Delays (with_moved n h i (timed c))) vs ws (same section.Timer tt inside)
+    put_same section.Timer y (λ c. Delays (with_moved n h i (timer_content c))) vs ws (same section.Timer tt inside)
     (same y queue is)
 effect_same action held vs ws inside same y queue is = same y queue is
 
@@ -334,13 +334,13 @@ effect_same action held vs ws inside same y queue is = same y queue is
 pub order_kept : (app : App) (time later : ℕ) (vs ws : Values) (action : Action) → time ≤ later
     → IfSome (queue_of action) (λ x. ws (Guarded x) ≡ vs (Guarded x)) → KeepsOrder app time vs action
     → KeepsOrder app later ws action
-order_kept app time later vs ws (Takes n) le same order = subst (λ c. number c < capacity_of app n) (sym same) order
-order_kept app time later vs ws (Refuses n) le same order = ap number same ∙ order
+order_kept app time later vs ws (Places n) le same order = subst (λ c. number c < capacity_of app n) (sym same) order
+order_kept app time later vs ws (FindsFull n) le same order = ap number same ∙ order
 order_kept app time later vs ws (Starts p m) le same order = (order.0, ap messages same ∙ order.1)
 order_kept app time later vs ws (Fires m) le same order =
     let due = order.3 in (order.0, ap (λ c. least (delays c)) same ∙ order.1, order.2, omega arith)
 order_kept app time later vs ws (Cancels n h) le same order =
-    (order.0, ap (λ c. armed_as n h (delays c)) same ∙ order.1)
+    (order.0, ap (λ c. message_of_handle n h (delays c)) same ∙ order.1)
 order_kept app time later vs ws (Moves n h i) le same order =
-    (order.0, ap (λ c. armed_as n h (delays c)) same ∙ order.1)
+    (order.0, ap (λ c. message_of_handle n h (delays c)) same ∙ order.1)
 order_kept app time later vs ws action le same order = tt

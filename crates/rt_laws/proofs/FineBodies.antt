@@ -9,8 +9,8 @@ use Rattle.rt_lemmas.proofs.Lists.{all_front, all_behind}
 use Rattle.rt_ids.specs.Lists.{is_some_and, or_zero}
 use Rattle.rt_ids.specs.Choice.{IsIn}
 use Rattle.rt_ids.specs.Holder.{Guarded, Own}
-use Rattle.rt_ids.specs.Content.{Content, Values, number, timed, delays, armed_as, Message, Number, put_at}
-use Rattle.rt_ids.specs.Action.{Enters, Leaves, Emits, Posts, Clocks, Takes, Refuses, Frees, Arms, Cancels, Moves, SetsAlarm}
+use Rattle.rt_ids.specs.Content.{Content, Values, number, timer_content, delays, message_of_handle, Message, Number, values_with}
+use Rattle.rt_ids.specs.Action.{Enters, Leaves, Emits, Posts, Clocks, Places, FindsFull, Frees, Arms, Cancels, Moves, SetsAlarm}
 use Rattle.rt_ids.specs.Doing.{does}
 use Rattle.rt_ids.specs.declared.ids.Section.{Section}
 use Rattle.rt_ids.specs.declared.ids.Section.TheVariants as section
@@ -25,12 +25,12 @@ use Rattle.rt_app.specs.Ceiling.{ceiling}
 use Rattle.rt_app.specs.Handlers.{irq_number}
 use Rattle.rt_app.specs.Cost.{lock_cost, block_cost}
 use Rattle.rt_app.specs.BodyCost.{cost_measure, timer_section_cost, handle_section_cost}
-use Rattle.rt_app.specs.Waiting.{Critical, statement_sections, block_sections, spawn_sections}
+use Rattle.rt_app.specs.Waiting.{CriticalSection, statement_sections, block_sections, spawn_sections}
 use Rattle.rt_app.specs.Sending.{act, capacity_of, Rest, act_all, has_place, take_place, ready_actions, instant_after, leave_timer, arm_actions, is_armed_as, cancel_actions, move_actions, spawn_actions}
 use Rattle.rt_app.specs.Meaning.{Later, value_in, assign, turns_from, run, run_block}
 use Rattle.rt_app.specs.Sound.{IsSoundSpawn, IsSoundStatement, IsSoundBlock}
 use Rattle.rt_laws.specs.State.{Role}
-use Rattle.rt_laws.specs.Level.{greatest_ceiling}
+use Rattle.rt_laws.specs.Preemption.{greatest_ceiling}
 use Rattle.rt_laws.proofs.Fine.{IsQueue, SameQueues, Queued, rebase, first_fine, OfLevel, IsTimed, Within, IsCounted, EntersFine, IsFine, FineRest, act_fine, AllFine, acts_fine}
 
 -- the sections of locks of these resources
@@ -47,13 +47,13 @@ no_queue [] x queue is = none-some x is.1
 no_queue (q ∷ locked) x queue (zero, at) = subst IsQueue (sym (same_Some (section.Res q) x at)) queue
 no_queue (q ∷ locked) x queue (suc i, at) = no_queue locked x queue (i, at)
 
-pub level_is : (app : App) (n : ℕ) (t : Task) → slice_get app.tasks n ≡ Some t → task_priority app n ≡ t.priority
-level_is app n t is = ap (λ o. or_zero (option_map (λ t. t.priority) o)) is
+pub priority_is_of : (app : App) (n : ℕ) (t : Task) → slice_get app.tasks n ≡ Some t → task_priority app n ≡ t.priority
+priority_is_of app n t is = ap (λ o. or_zero (option_map (λ t. t.priority) o)) is
 
 -- A job of a role and a priority runs a member; what it may enter, and which sections count for the waiting bound.
-module _ (app : App) (role : Role) (q : ℕ) (m : Member) (P : Critical → Type 0)
+module _ (app : App) (role : Role) (q : ℕ) (m : Member) (P : CriticalSection → Type 0)
     (within : (c : ℕ) → m.priority ≤ c → Within role q c)
-    (counts : (outer c cost : ℕ) → P (record { level = q; outer = outer; ceiling = c; cost = cost })
+    (counts : (outer c cost : ℕ) → P (record { priority = q; outer = outer; ceiling = c; cost = cost })
     → IsCounted app role q outer c cost) where
   abbrev FineHere : List Section → Rest → Type 0
   FineHere held rest = FineRest app role q held rest
@@ -64,7 +64,7 @@ module _ (app : App) (role : Role) (q : ℕ) (m : Member) (P : Critical → Type
   -- in a section of a queue, or of a resource
   entered : (held : List Section) (outer : ℕ) (x : Section) (cost : ℕ) → greatest_ceiling app held ≡ outer
       → m.priority ≤ ceiling app x → ¬ IsIn held x
-      → P (record { level = q; outer = outer; ceiling = ceiling app x; cost = cost })
+      → P (record { priority = q; outer = outer; ceiling = ceiling app x; cost = cost })
       → EntersFine app role q held x cost
   entered held outer x cost same least once counted = record {
     within = within (ceiling app x) least;
@@ -82,22 +82,22 @@ module _ (app : App) (role : Role) (q : ℕ) (m : Member) (P : Critical → Type
     where
       chosen : Rest
       chosen vs =
-          if has_place app n vs then act_all (Takes n ∷ Leaves (section.Free n) ∷ []) granted vs
-          else act_all (Refuses n ∷ Leaves (section.Free n) ∷ []) refused vs
+          if has_place app n vs then act_all (Places n ∷ Leaves (section.Free n) ∷ []) granted vs
+          else act_all (FindsFull n ∷ Leaves (section.Free n) ∷ []) refused vs
 
       go : (k : ℕ) (vs : Values) → Queued app vs → (b : Bool) → has_place app n vs ≡ b
           → IsFine app role q k (section.Free n ∷ held) vs
-          (if b then act_all (Takes n ∷ Leaves (section.Free n) ∷ []) granted vs else act_all
-          (Refuses n ∷ Leaves (section.Free n) ∷ []) refused vs)
+          (if b then act_all (Places n ∷ Leaves (section.Free n) ∷ []) granted vs else act_all
+          (FindsFull n ∷ Leaves (section.Free n) ∷ []) refused vs)
       go k vs queued true test =
-          first_fine app role q (section.Free n ∷ held) (Takes n) (act (Leaves (section.Free n)) granted) tt (0, refl)
+          first_fine app role q (section.Free n ∷ held) (Places n) (act (Leaves (section.Free n)) granted) tt (0, refl)
           (act_fine app role q (section.Free n ∷ held) (Leaves (section.Free n)) granted (held, refl)
           (tt, λ k vs. tt) first) k vs queued
           (ltb-true (number (vs (Guarded (section.Free n)))) (capacity_of app n) test)
       go k vs queued false test =
           let full = ltb-false (number (vs (Guarded (section.Free n)))) (capacity_of app n) test in
           let few = queued.out n in
-          first_fine app role q (section.Free n ∷ held) (Refuses n) (act (Leaves (section.Free n)) refused) tt (0, refl)
+          first_fine app role q (section.Free n ∷ held) (FindsFull n) (act (Leaves (section.Free n)) refused) tt (0, refl)
           (act_fine app role q (section.Free n ∷ held) (Leaves (section.Free n)) refused (held, refl)
           (tt, λ k vs. tt) second) k vs queued
           (omega arith)
@@ -135,10 +135,10 @@ module _ (app : App) (role : Role) (q : ℕ) (m : Member) (P : Critical → Type
       tt,
       λ time xs r alike.
           act_fine app role q (section.Timer ∷ held) (Arms (instant_after app time delay) message)
-          (λ vs. leave_timer app (rest (timed (vs (Guarded section.Timer))).given) vs) armed
+          (λ vs. leave_timer app (rest (timer_content (vs (Guarded section.Timer))).given) vs) armed
           ((0, refl), λ k vs. tt)
-          (λ k vs queued. leave_fine held (rest (timed (vs (Guarded section.Timer))).given)
-          (later (timed (vs (Guarded section.Timer))).given) k vs queued)
+          (λ k vs queued. leave_fine held (rest (timer_content (vs (Guarded section.Timer))).given)
+          (later (timer_content (vs (Guarded section.Timer))).given) k vs queued)
           time xs r,
     ),
   )
@@ -176,7 +176,7 @@ module _ (app : App) (role : Role) (q : ℕ) (m : Member) (P : Critical → Type
       go k vs queued true test =
           first_fine app role q (section.Timer ∷ held) (Cancels n handle) (leave_timer app back) tt (0, refl)
           (leave_fine held back back_fine) k vs queued
-          (found (armed_as n handle (delays (vs (Guarded section.Timer)))) test)
+          (found (message_of_handle n handle (delays (vs (Guarded section.Timer)))) test)
       go k vs queued false test =
           act_fine app role q (section.Timer ∷ held) (Leaves section.Timer) missing (held, refl) (tt, λ k vs. tt)
           second k vs queued
@@ -199,7 +199,7 @@ module _ (app : App) (role : Role) (q : ℕ) (m : Member) (P : Critical → Type
           → IsFine app role q k (section.Timer ∷ held) vs
           (if b then does Clocks vs put_off else act (Leaves section.Timer) missing vs)
       go k vs queued true test =
-          let here = found (armed_as n handle (delays (vs (Guarded section.Timer)))) test in (
+          let here = found (message_of_handle n handle (delays (vs (Guarded section.Timer)))) test in (
             queued,
             tt,
             tt,
@@ -208,7 +208,7 @@ module _ (app : App) (role : Role) (q : ℕ) (m : Member) (P : Critical → Type
             λ time ws good same.
                 first_fine app role q (section.Timer ∷ held) (Moves n handle (instant_after app time delay))
                 (leave_timer app moved) tt (0, refl) (leave_fine held moved first) time ws good
-                (here.0, ap (λ c. armed_as n handle (delays c)) (same section.Timer tt (0, refl)) ∙ here.1),
+                (here.0, ap (λ c. message_of_handle n handle (delays c)) (same section.Timer tt (0, refl)) ∙ here.1),
           )
       go k vs queued false test =
           act_fine app role q (section.Timer ∷ held) (Leaves section.Timer) missing (held, refl) (tt, λ k vs. tt)
@@ -222,7 +222,7 @@ module _ (app : App) (role : Role) (q : ℕ) (m : Member) (P : Critical → Type
   spawn_fine locked outer value (Soon n args at) rest sound counted same later =
       let t = sound.0 in
       let there = sound.1.is_there in
-      let level : task_priority app n ≡ t.priority = level_is app n t there in
+      let as_declared : task_priority app n ≡ t.priority = priority_is_of app n t there in
       let held : List Section = held_of locked in
       let message : Message = record { task = n; args = map value args } in
       take_fine held n (act_all (ready_actions app (task_priority app n) message) (rest 1)) (rest 0)
@@ -231,19 +231,19 @@ module _ (app : App) (role : Role) (q : ℕ) (m : Member) (P : Critical → Type
       (acts_fine app role q held (ready_actions app (task_priority app n) message) (rest 1)
       (ready_fine held (task_priority app n) message
       (entered held outer (section.Ready (task_priority app n)) READY_COST same
-      (subst (λ p. m.priority ≤ ceiling app (section.Ready p)) (sym level) sound.2)
+      (subst (λ p. m.priority ≤ ceiling app (section.Ready p)) (sym as_declared) sound.2)
       (no_queue locked (section.Ready (task_priority app n)) tt) counted.1.0)
-      (of_level n t there level sound.1.software))
+      (of_level n t there as_declared sound.1.software))
       (later 1))
       (later 0)
     where
       of_level : (n : ℕ) (t : Task) → slice_get app.tasks n ≡ Some t → task_priority app n ≡ t.priority
           → is_software t ≡ true
           → is_some_and (is_of_level (task_priority app n)) (slice_get app.tasks n) ≡ true
-      of_level n t there level software =
+      of_level n t there as_declared software =
           ap (is_some_and (is_of_level (task_priority app n))) there
           ∙ and_both (is_software t) (t.priority == task_priority app n) software
-          (eq-eqb t.priority (task_priority app n) (sym level))
+          (eq-eqb t.priority (task_priority app n) (sym as_declared))
   spawn_fine locked outer value (After word delay n args at) rest sound counted same later =
       let held : List Section = held_of locked in
       let message : Message = record { task = n; args = map value args } in
@@ -279,19 +279,19 @@ module _ (app : App) (role : Role) (q : ℕ) (m : Member) (P : Critical → Type
       → FineLater held (assign x n later)
   assign_fine held (atom.Var x) n later fine = λ vars k vs queued. fine (slice_set vars x n) k vs queued
   assign_fine held (atom.Shared r) n later fine = λ vars k vs queued.
-      rebase app role q k held (put_at vs (Guarded (section.Res r)) (Number n)) vs _
-      (fine vars k (put_at vs (Guarded (section.Res r)) (Number n))
+      rebase app role q k held (values_with vs (Guarded (section.Res r)) (Number n)) vs _
+      (fine vars k (values_with vs (Guarded (section.Res r)) (Number n))
       (record { ready = queued.ready; timer = queued.timer; handles = queued.handles; out = queued.out }))
       (beside r vs (Number n))
     where
-      beside : (r : ℕ) (vs : Values) (content : Content) → SameQueues (put_at vs (Guarded (section.Res r)) content) vs
+      beside : (r : ℕ) (vs : Values) (content : Content) → SameQueues (values_with vs (Guarded (section.Res r)) content) vs
       beside r vs content (section.Res k) queue = absurd queue
       beside r vs content (section.Free k) queue = refl
       beside r vs content (section.Ready k) queue = refl
       beside r vs content section.Timer queue = refl
   assign_fine held (atom.Local l) n later fine = λ vars k vs queued.
-      rebase app role q k held (put_at vs (Own l) (Number n)) vs _
-      (fine vars k (put_at vs (Own l) (Number n))
+      rebase app role q k held (values_with vs (Own l) (Number n)) vs _
+      (fine vars k (values_with vs (Own l) (Number n))
       (record { ready = queued.ready; timer = queued.timer; handles = queued.handles; out = queued.out }))
       (λ x queue. refl)
 

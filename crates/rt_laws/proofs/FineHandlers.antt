@@ -23,7 +23,7 @@ use Rattle.rt_app.specs.Bodies.{Member, members, task_priority}
 use Rattle.rt_app.specs.Level.{is_software, is_of_level, is_armed, levels}
 use Rattle.rt_app.specs.Ceiling.{ceiling}
 use Rattle.rt_app.specs.BodyCost.{dispatcher_section_cost, timer_section_cost}
-use Rattle.rt_app.specs.Waiting.{Critical, waiting_bound, holds_off, sections, block_sections, idle_sections, tasks_sections, dispatcher_sections, moved_sections, handler_sections, ready_section, free_section}
+use Rattle.rt_app.specs.Waiting.{CriticalSection, waiting_bound, holds_off, sections, block_sections, idle_sections, tasks_sections, dispatcher_sections, moved_sections, handler_sections, ready_section, free_section}
 use Rattle.rt_app.specs.Handlers.{Service, services, dispatcher_of, bound_service, task_services, dispatcher_service, timer_service}
 use Rattle.rt_app.specs.Sending.{Rest, act, act_all, ready_actions, dispatcher_number}
 use Rattle.rt_app.specs.Doings.{nothing, declared_doing, init_doing, idle_doing, task_doing, start_doing, dispatcher_doing, due, fire_doing, timer_doing, handler_doing}
@@ -34,7 +34,7 @@ use Rattle.rt_app.proofs.SoundCeilings.{those_all}
 use Rattle.rt_app.proofs.TimerCeilings.{timer_within, mover_within}
 use Rattle.rt_laws.specs.State.{Role, Init, Idle, Serving}
 use Rattle.rt_laws.proofs.Fine.{OfLevel, IsTimedOne, Queued, IsCounted, EntersFine, IsFine, FineRest, AllFine, first_fine, act_fine, acts_fine}
-use Rattle.rt_laws.proofs.FineBodies.{level_is, block_fine}
+use Rattle.rt_laws.proofs.FineBodies.{priority_is_of, block_fine}
 
 pub all_in : {X : Type 0} (P : X → Type 0) (xs : List X) → ((x : X) → IsIn xs x → P x) → AllByRecursion P xs
 all_in P [] each = tt
@@ -77,16 +77,16 @@ due_holds app P time armed all = by (least armed) (λ a is. find_has P _ armed a
 
 module _ (app : App) where
   -- no section costs more than the bound of a priority that it may hold off
-  abbrev Bounded : Critical → Type 0
-  Bounded s = (p : ℕ) → s.level < p → s.outer < p → p ≤ s.ceiling → s.cost ≤ waiting_bound app p
+  abbrev Bounded : CriticalSection → Type 0
+  Bounded s = (p : ℕ) → s.priority < p → s.outer < p → p ≤ s.ceiling → s.cost ≤ waiting_bound app p
 
   all_bounded : AllByRecursion Bounded (sections app)
   all_bounded = all_in Bounded (sections app)
-      (λ s is p level outer within. greatest_has (λ s. s.cost) (holds_off p) (sections app) is.0 s is.1
-      (all_hold (nat_lt s.level p) (nat_lt s.outer p) (nat_le p s.ceiling) (lt-ltb s.level p level)
+      (λ s is p above outer within. greatest_has (λ s. s.cost) (holds_off p) (sections app) is.0 s is.1
+      (all_hold (nat_lt s.priority p) (nat_lt s.outer p) (nat_le p s.ceiling) (lt-ltb s.priority p above)
       (lt-ltb s.outer p outer) (le-leb p s.ceiling within)))
 
-  abbrev on_handlers : List Critical
+  abbrev on_handlers : List CriticalSection
   on_handlers = handler_sections app app.mono
 
   idle_bounded : AllByRecursion Bounded (idle_sections app app.idle)
@@ -97,7 +97,7 @@ module _ (app : App) where
   handlers_bounded = all_behind Bounded (tasks_sections app 0 app.tasks) on_handlers
       (all_behind Bounded (idle_sections app app.idle) (tasks_sections app 0 app.tasks ++ on_handlers) all_bounded)
 
-  abbrev of_task : ℕ → Task → List Critical
+  abbrev of_task : ℕ → Task → List CriticalSection
   of_task n t = block_sections app t.priority 0 t.body.block ++ dispatcher_sections app n t
 
   task_bounded : (n k : ℕ) (ts : List Task) (t : Task) → AllByRecursion Bounded (tasks_sections app n ts)
@@ -121,7 +121,7 @@ module _ (app : App) where
       (all_behind Bounded (idle_sections app app.idle)
       (tasks_sections app 0 app.tasks ++ on_handlers) all_bounded)) at)
 
-  abbrev dispatched : ℕ → Task → List Critical
+  abbrev dispatched : ℕ → Task → List CriticalSection
   dispatched n t = ready_section app t.priority 0 t.priority (dispatcher_section_cost app t.priority)
       ∷ free_section app t.priority 0 n ∷ []
 
@@ -132,30 +132,30 @@ module _ (app : App) where
       (all_behind Bounded (block_sections app t.priority 0 t.body.block) (dispatcher_sections app n t)
       (bounded_at n t at))
 
-  abbrev moved : ℕ → ℕ → Task → List Critical
-  moved level n t = if is_software t && is_armed app n then ready_section app level 0 t.priority READY_COST ∷ [] else []
+  abbrev moved : ℕ → ℕ → Task → List CriticalSection
+  moved priority n t = if is_software t && is_armed app n then ready_section app priority 0 t.priority READY_COST ∷ [] else []
 
-  moved_bounded : (level n k : ℕ) (ts : List Task) (t : Task) → AllByRecursion Bounded (moved_sections app level n ts)
-      → slice_get ts k ≡ Some t → AllByRecursion Bounded (moved level (n + k) t)
-  moved_bounded level n k [] t all at = absurd (none-some t at)
-  moved_bounded level n zero (u ∷ ts) t all at =
+  moved_bounded : (priority n k : ℕ) (ts : List Task) (t : Task) → AllByRecursion Bounded (moved_sections app priority n ts)
+      → slice_get ts k ≡ Some t → AllByRecursion Bounded (moved priority (n + k) t)
+  moved_bounded priority n k [] t all at = absurd (none-some t at)
+  moved_bounded priority n zero (u ∷ ts) t all at =
       let e : n ≡ n + 0 = omega arith in
-      subst (λ v. AllByRecursion Bounded (moved level (n + 0) v)) (same_Some u t at)
-      (subst (λ i. AllByRecursion Bounded (moved level i u)) e
-      (all_front Bounded (moved level n u) (moved_sections app level (n + 1) ts) all))
-  moved_bounded level n (suc k) (u ∷ ts) t all at =
+      subst (λ v. AllByRecursion Bounded (moved priority (n + 0) v)) (same_Some u t at)
+      (subst (λ i. AllByRecursion Bounded (moved priority i u)) e
+      (all_front Bounded (moved priority n u) (moved_sections app priority (n + 1) ts) all))
+  moved_bounded priority n (suc k) (u ∷ ts) t all at =
       let e : n + 1 + k ≡ n + suc k = omega arith in
-      subst (λ i. AllByRecursion Bounded (moved level i t)) e
-      (moved_bounded level (n + 1) k ts t
-      (all_behind Bounded (moved level n u) (moved_sections app level (n + 1) ts) all) at)
+      subst (λ i. AllByRecursion Bounded (moved priority i t)) e
+      (moved_bounded priority (n + 1) k ts t
+      (all_behind Bounded (moved priority n u) (moved_sections app priority (n + 1) ts) all) at)
 
-  -- a counted section that stands in no other counts for the waiting bound at its body's level
-  count : (role : Role) (q outer c cost : ℕ) → Bounded (record { level = q; outer = outer; ceiling = c; cost = cost })
+  -- a counted section that stands in no other counts for the waiting bound at its body's priority
+  count : (role : Role) (q outer c cost : ℕ) → Bounded (record { priority = q; outer = outer; ceiling = c; cost = cost })
       → IsCounted app role q outer c cost
   count role q outer c cost bounded p above top below within = bounded p above below within
 
   enters_alone : (irq q : ℕ) (x : Section) (cost : ℕ) → q ≤ ceiling app x
-      → Bounded (record { level = q; outer = 0; ceiling = ceiling app x; cost = cost })
+      → Bounded (record { priority = q; outer = 0; ceiling = ceiling app x; cost = cost })
       → EntersFine app (Serving irq) q [] x cost
   enters_alone irq q x cost within bounded = record {
     within = within;
@@ -242,7 +242,7 @@ module _ (app : App) (accepted : IsAccepted app) where
         one : (t : Task) → slice_get app.tasks m.task ≡ Some t → (is_software t ≡ true) × (t.priority ≡ p)
             → IsFine app (Serving irq) p k (section.Ready p ∷ []) vs (start_doing app p (m ∷ more) vs)
         one t at is =
-            let level : task_priority app m.task ≡ t.priority = level_is app m.task t at in
+            let as_declared : task_priority app m.task ≡ t.priority = priority_is_of app m.task t at in
             let least : t.priority ≤ ceiling app (section.Free m.task) = omega arith in
             let enters : EntersFine app (Serving irq) p [] (section.Free m.task) FREE_COST =
             subst (λ q. EntersFine app (Serving irq) q [] (section.Free m.task) FREE_COST) is.1
@@ -302,9 +302,9 @@ module _ (app : App) (accepted : IsAccepted app) where
         let found = some_passing is_software (slice_get app.tasks a.message.task) timed.1 in
         let n : ℕ = a.message.task in
         let p : ℕ = task_priority app n in
-        let level : p ≡ found.0.priority = level_is app n found.0 found.1 in
+        let as_declared : p ≡ found.0.priority = priority_is_of app n found.0 found.1 in
         let of_it : OfLevel app p a.message = ap (is_some_and (is_of_level p)) found.1
-        ∙ and_both (is_software found.0) (found.0.priority == p) found.2 (eq-eqb found.0.priority p (sym level)) in
+        ∙ and_both (is_software found.0) (found.0.priority == p) found.2 (eq-eqb found.0.priority p (sym as_declared)) in
         let least : mono.priority ≤ ceiling app (section.Ready p) =
         mover_within app mono is n p of_it timed.0 in
         let bounded : AllByRecursion (Bounded app) (moved app mono.priority n found.0) =
@@ -317,7 +317,7 @@ module _ (app : App) (accepted : IsAccepted app) where
         (and_both (is_software found.0) (is_armed app n) found.2 timed.0) bounded in
         let enters : EntersFine app (Serving irq) mono.priority [] (section.Ready p) READY_COST =
         enters_alone app irq mono.priority (section.Ready p) READY_COST least
-        (subst (λ q. Bounded app (ready_section app mono.priority 0 q READY_COST)) (sym level) ready.0) in
+        (subst (λ q. Bounded app (ready_section app mono.priority 0 q READY_COST)) (sym as_declared) ready.0) in
         let behind_it : List Action = SetsAlarm ∷ Leaves section.Timer ∷ ready_actions app p a.message ++ Returns
         ∷ [] in
         first_fine app (Serving irq) mono.priority (section.Timer ∷ []) (Fires a.message)
@@ -387,7 +387,7 @@ module _ (app : App) (accepted : IsAccepted app) where
 
     -- each handler, at the priority that it is served at
     abbrev FineService : Service → Type 0
-    FineService v = FineServing v.level [] (handler_doing app v.handler)
+    FineService v = FineServing v.priority [] (handler_doing app v.handler)
 
     tasks_fine : (n : ℕ) (ts : List Task) → AreFrom app.tasks n ts → AllByRecursion FineService (task_services n ts)
     tasks_fine n [] from = tt

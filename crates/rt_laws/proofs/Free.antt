@@ -14,10 +14,10 @@ use Rattle.rt_trace.specs.declared.item.What.TheVariants as what
 use Rattle.rt_app.specs.Tree.{App}
 use Rattle.rt_app.specs.Ceiling.{ceiling}
 use Rattle.rt_laws.specs.State.{Role, Init, Idle, Waiting, Serving, Job, State}
-use Rattle.rt_laws.specs.Level.{level, greatest_ceiling}
+use Rattle.rt_laws.specs.Preemption.{system_ceiling, greatest_ceiling}
 use Rattle.rt_laws.specs.Giving.{next_instant, is_due, return_item, next_item, item_given}
 use Rattle.rt_laws.specs.Allowed.{May}
-use Rattle.rt_laws.specs.Sight.{Seen, Sight}
+use Rattle.rt_laws.specs.Observer.{Seen, Observer}
 use Rattle.rt_laws.specs.Properties.{AreExclusive, FindsFree, LeavesInnermost}
 use Rattle.rt_laws.proofs.Fine.{Within, EntersFine, IsFine}
 use Rattle.rt_laws.proofs.FineHandlers.{all_in}
@@ -31,19 +31,19 @@ within_greatest f (y ∷ xs) x (suc i, at) = let more : f x ≤ greatest (map f 
     omega arith
 
 module _ (app : App) where
-  -- what a job of the stack is inside raises the level
-  inside_level : (js : List Job) (vs : List Seen) → StackWell app js vs → (k : ℕ) (b : Seen) (x : Section)
-      → slice_get vs k ≡ Some b → IsIn b.inside x → ceiling app x ≤ level app js
-  inside_level [] [] stack k b x at is = absurd (none-some b at)
-  inside_level [] (seen ∷ seens) stack k b x at is = absurd stack
-  inside_level (job ∷ others) [] stack k b x at is = absurd stack
-  inside_level (job ∷ others) (seen ∷ seens) stack zero b x at is =
+  -- what a job of the stack is inside raises the system ceiling
+  inside_ceiling : (js : List Job) (vs : List Seen) → StackWell app js vs → (k : ℕ) (b : Seen) (x : Section)
+      → slice_get vs k ≡ Some b → IsIn b.inside x → ceiling app x ≤ system_ceiling app js
+  inside_ceiling [] [] stack k b x at is = absurd (none-some b at)
+  inside_ceiling [] (seen ∷ seens) stack k b x at is = absurd stack
+  inside_ceiling (job ∷ others) [] stack k b x at is = absurd stack
+  inside_ceiling (job ∷ others) (seen ∷ seens) stack zero b x at is =
       let own : IsIn job.sections x =
       subst (λ xs. IsIn xs x) stack.0.inside (subst (λ c. IsIn c.inside x) (sym (same_Some seen b at)) is) in
       let most : ceiling app x ≤ greatest_ceiling app job.sections = within_greatest (ceiling app) job.sections x own in
       omega arith
-  inside_level (job ∷ others) (seen ∷ seens) stack (suc k) b x at is =
-      let most : ceiling app x ≤ level app others = inside_level others seens stack.2 k b x at is in
+  inside_ceiling (job ∷ others) (seen ∷ seens) stack (suc k) b x at is =
+      let most : ceiling app x ≤ system_ceiling app others = inside_ceiling others seens stack.2 k b x at is in
       omega arith
 
   none_there : (seens : List Seen) → StackWell app [] seens → (k : ℕ) (b : Seen) → slice_get seens k ≡ Some b → ⊥
@@ -61,7 +61,7 @@ module _ (app : App) where
   apart Waiting q others seens above stack x within k b at is =
       none_there seens (subst (λ js. StackWell app js seens) above.0 stack) k b at
   apart (Serving irq) q others seens above stack x within k b at is =
-      let most = inside_level others seens stack k b x at is in
+      let most = inside_ceiling others seens stack k b x at is in
       let over = above.1 in
       absurd (omega arith)
 
@@ -122,7 +122,7 @@ module _ (app : App) where
             apart job.role job.priority others seens stack.1 stack.2 x entry.1.within at.0 b at.1 inside),
       )
 
-  pub finds_free : (s : State) (v : Sight) (label : Label) → StateWell app s v → May app s label → FindsFree v label
+  pub finds_free : (s : State) (v : Observer) (label : Label) → StateWell app s v → May app s label → FindsFree v label
   finds_free s v (Stepped (Some (what.Enter x))) well may = free_at s s.jobs v.jobs x well.stack may.1
   finds_free s v label well may = tt
 
@@ -161,7 +161,7 @@ module _ (app : App) where
     tt,
   )
 
-  pub leaves_innermost : (s : State) (v : Sight) (label : Label) → StateWell app s v → May app s label
+  pub leaves_innermost : (s : State) (v : Observer) (label : Label) → StateWell app s v → May app s label
       → LeavesInnermost v label
   leaves_innermost s v (Stepped (Some (what.Leave x value))) well may =
       innermost_at s s.jobs v.jobs x value well.stack may.1

@@ -4,7 +4,7 @@ use Rattle.std.specs.List.{AllByRecursion, position_or_len, remove}
 use Rattle.std.proofs.lemmas.Option.{same_Some, none-some}
 use Rattle.rt_lemmas.proofs.Membership.{all_append, all_at}
 use Rattle.rt_lemmas.proofs.Lists.{find_has}
-use Rattle.rt_ids.specs.Content.{Message, Armed, Timed, has_handle, armed_as, without_handle, postponed, with_armed, with_moved}
+use Rattle.rt_ids.specs.Content.{Message, Armed, Timed, has_handle, message_of_handle, without_handle, postponed_message, with_armed, with_moved}
 use Rattle.rt_app.specs.Handled.{AreHandled}
 
 -- of a list of armed messages no two have one handle
@@ -115,7 +115,7 @@ handled_less n t h = record {
 
 -- a message that goes last
 pub handled_moved : (n handle i : ℕ) (t : Timed) → Handled t → Handled (with_moved n handle i t)
-handled_moved n handle i t h = go (armed_as n handle t.armed) refl
+handled_moved n handle i t h = go (message_of_handle n handle t.armed) refl
   where
     without : List Armed
     without = without_handle n handle t.armed
@@ -127,9 +127,9 @@ handled_moved n handle i t h = go (armed_as n handle t.armed) refl
     apart = apart_remove (position_or_len (has_handle n handle) t.armed) t.armed h.apart
 
     moved_so : Option Armed → Timed
-    moved_so o = record t { moved = t.moved + 1; armed = without ++ postponed i o }
+    moved_so o = record t { moved = t.moved + 1; armed = without ++ postponed_message i o }
 
-    go : (o : Option Armed) → armed_as n handle t.armed ≡ o → Handled (moved_so o)
+    go : (o : Option Armed) → message_of_handle n handle t.armed ≡ o → Handled (moved_so o)
     go None is = record {
       given = subst (AllByRecursion (IsGiven t.given)) (sym (append-nil without)) given;
       apart = subst AreApart (sym (append-nil without)) apart;

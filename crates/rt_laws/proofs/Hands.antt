@@ -4,8 +4,8 @@
 use Rattle.std.proofs.Common.{◌≡◌, ℕ, zero, suc, ◌==◌, Bool, true, false, if◌then◌else◌, List, [], ◌∷◌, ◌++◌, replicate, slice_get, slice_set, map, Option, Some, None, refl}
 use Rattle.rt_ids.specs.Lists.{then_from}
 use Rattle.rt_ids.specs.Holder.{Guarded, Own}
-use Rattle.rt_ids.specs.Content.{Message, Armed, Values, Number, messages, timed, delays, put_at}
-use Rattle.rt_ids.specs.Action.{Action, Enters, Leaves, Clocks, Takes, Refuses, Readies, Starts, Frees, Arms, Fires, Cancels, Moves, Ends, Returns}
+use Rattle.rt_ids.specs.Content.{Message, Armed, Values, Number, messages, timer_content, delays, values_with}
+use Rattle.rt_ids.specs.Action.{Action, Enters, Leaves, Clocks, Places, FindsFull, Readies, Starts, Frees, Arms, Fires, Cancels, Moves, Ends, Returns}
 use Rattle.rt_ids.specs.Doing.{Doing, over, does}
 use Rattle.rt_ids.specs.declared.ids.BodyId.TheVariants as body
 use Rattle.rt_ids.specs.declared.ids.Section.TheVariants as section
@@ -24,7 +24,7 @@ use Rattle.rt_laws.specs.Places.{Hand}
 
 -- what is in the hands behind an action
 abbrev pub hand_then : Hand → Action → Hand
-hand_then hand (Takes n) = Some n
+hand_then hand (Places n) = Some n
 hand_then hand (Starts p m) = Some m.task
 hand_then hand (Fires m) = Some m.task
 hand_then hand (Cancels n h) = Some n
@@ -35,7 +35,7 @@ hand_then hand action = hand
 
 -- an action may come with these hands
 abbrev pub Suits : Hand → Action → Type 0
-Suits hand (Takes n) = hand ≡ None
+Suits hand (Places n) = hand ≡ None
 Suits hand (Starts p m) = hand ≡ None
 Suits hand (Fires m) = hand ≡ None
 Suits hand (Cancels n h) = hand ≡ None
@@ -63,8 +63,8 @@ module _ (app : App) where
   take_fits n granted refused first second vs = (tt, λ k ws. go (has_place app n ws) ws)
     where
       go : (b : Bool) (ws : Values) → Fits None
-          (if b then act_all (Takes n ∷ Leaves (section.Free n) ∷ []) granted ws
-          else act_all (Refuses n ∷ Leaves (section.Free n) ∷ []) refused ws)
+          (if b then act_all (Places n ∷ Leaves (section.Free n) ∷ []) granted ws
+          else act_all (FindsFull n ∷ Leaves (section.Free n) ∷ []) refused ws)
       go true ws = (refl, λ k xs. (tt, λ l ys. first ys))
       go false ws = (tt, λ k xs. (tt, λ l ys. second ys))
 
@@ -92,7 +92,7 @@ module _ (app : App) where
               tt,
               λ i zs. (
                 tt,
-                λ j us. later (timed (ys (Guarded section.Timer))).given us,
+                λ j us. later (timer_content (ys (Guarded section.Timer))).given us,
               ),
             ),
           ),
@@ -128,8 +128,8 @@ module _ (app : App) where
 
   assign_fits : (x : Atom) (n : ℕ) (later : Later) → LaterFits later → LaterFits (assign x n later)
   assign_fits (atom.Var x) n later fits vars vs = fits (slice_set vars x n) vs
-  assign_fits (atom.Shared r) n later fits vars vs = fits vars (put_at vs (Guarded (section.Res r)) (Number n))
-  assign_fits (atom.Local l) n later fits vars vs = fits vars (put_at vs (Own l) (Number n))
+  assign_fits (atom.Shared r) n later fits vars vs = fits vars (values_with vs (Guarded (section.Res r)) (Number n))
+  assign_fits (atom.Local l) n later fits vars vs = fits vars (values_with vs (Own l) (Number n))
 
   mutual
     statement_fits : (s : Statement) (later : Later) → LaterFits later → LaterFits (run app s later)

@@ -15,11 +15,11 @@ use Rattle.rt_app.specs.Handlers.{Service, services}
 use Rattle.rt_app.specs.Doings.{init_doing, handler_doing}
 use Rattle.rt_app.specs.BodyCost.{cost_measure, cost_of}
 use Rattle.rt_laws.specs.Services.{service_at, priority_of, timer_number, handler_cost}
-use Rattle.rt_laws.specs.State.{reached, Init, Serving, Job, State, begun, first_values, first}
-use Rattle.rt_laws.specs.Level.{level, candidate}
+use Rattle.rt_laws.specs.State.{reached_values, Init, Serving, Job, State, new_job, first_values, first}
+use Rattle.rt_laws.specs.Preemption.{system_ceiling, candidate}
 use Rattle.rt_laws.specs.Giving.{item_given, gives}
-use Rattle.rt_laws.specs.Allowed.{MayStep, Turn, May, started, after}
-use Rattle.rt_laws.specs.Sight.{Seen, Sight, outside, first_sight, sees}
+use Rattle.rt_laws.specs.Allowed.{MayStep, Turn, May, state_after_start, after}
+use Rattle.rt_laws.specs.Observer.{Seen, Observer, outside, first_sight, sees}
 use Rattle.rt_laws.specs.Waiting.{stepper, is_take, is_return}
 use Rattle.rt_laws.proofs.Order.{next_order, all_kept}
 use Rattle.rt_laws.proofs.Fine.{first_queued, reached_queued, reached_same, Queued, IsFine}
@@ -29,7 +29,7 @@ use Rattle.rt_laws.proofs.Pending.{priority_is, starts_above}
 use Rattle.rt_laws.proofs.Steps.{Led, acts_well, silent_well}
 
 -- the running job, before its step and behind it
-pub record Step (app : App) (s : State) (v : Sight) (shown : Option What) (t : State) (u : Sight) : Type 0 where
+pub record Step (app : App) (s : State) (v : Observer) (shown : Option What) (t : State) (u : Observer) : Type 0 where
   pub job : Job
   pub others : List Job
   pub seen : Seen
@@ -43,7 +43,7 @@ pub record Step (app : App) (s : State) (v : Sight) (shown : Option What) (t : S
   pub quiet : candidate app s ≡ None
   pub led : Led app job seen others seens shown t u
 
-module _ (app : App) (s : State) (v : Sight) (label : Label) (t : State) (u : Sight) where
+module _ (app : App) (s : State) (v : Observer) (label : Label) (t : State) (u : Observer) where
   pub data Happens : Type 0 where
     -- nothing of the jobs changes
     Quietly : StateWell app t u → t.jobs ≡ s.jobs → u.jobs ≡ v.jobs → stepper v label ≡ []
@@ -80,7 +80,7 @@ module _ (app : App) (accepted : IsAccepted app) where
       begins = init_fine app accepted 0 (first_values app) (first_queued app)
 
   -- the stack has a running job that may step, where a turn is there
-  pub turn_silent : (s : State) (v : Sight) (js : List Job) (vs : List Seen) → s.jobs ≡ js → v.jobs ≡ vs
+  pub turn_silent : (s : State) (v : Observer) (js : List Job) (vs : List Seen) → s.jobs ≡ js → v.jobs ≡ vs
       → StackWell app js vs → v.pending ≡ s.pending → Queued app s.values
       → AllKept app s.time s.values js → MayStep js → candidate app s ≡ None
       → Step app (record s { jobs = js }) (record v { jobs = vs }) None
@@ -104,7 +104,7 @@ module _ (app : App) (accepted : IsAccepted app) where
         seen seens stack.1 stack.2 order.1 job.rest stack.0 order.0;
   }
 
-  turn_given : (s : State) (v : Sight) (js : List Job) (vs : List Seen) (w : What) → s.jobs ≡ js → v.jobs ≡ vs
+  turn_given : (s : State) (v : Observer) (js : List Job) (vs : List Seen) (w : What) → s.jobs ≡ js → v.jobs ≡ vs
       → StackWell app js vs → v.pending ≡ s.pending → Queued app s.values
       → AllKept app s.time s.values js → MayStep js → candidate app s ≡ None
       → item_given (record s { jobs = js }) js ≡ Some w
@@ -129,7 +129,7 @@ module _ (app : App) (accepted : IsAccepted app) where
         seen seens stack.1 stack.2 order.1 job.rest stack.0 order.0 w is;
   }
 
-  module _ (s : State) (v : Sight) (well : StateWell app s v) where
+  module _ (s : State) (v : Observer) (well : StateWell app s v) where
     abbrev HappensAt : Label → Type 0
     HappensAt label = Happens app s v label (after app s label) (sees app v label)
 
@@ -140,34 +140,34 @@ module _ (app : App) (accepted : IsAccepted app) where
 
     takes : (irq depth : ℕ) (o : Option Service) → service_at app irq ≡ o → candidate app s ≡ Some irq
         → Happens app s v (Stepped (Some (what.Take irq depth)))
-        (started app (record s { pending = slice_set s.pending irq false }) irq o)
+        (state_after_start app (record s { pending = slice_set s.pending irq false }) irq o)
         (sees app v (Stepped (Some (what.Take irq depth))))
     takes irq depth None at is =
         let above = starts_above app s irq is in
-        let none : priority_of app irq ≡ 0 = ap (λ o. or_zero (option_map (λ (x : Service). x.level) o)) at in
+        let none : priority_of app irq ≡ 0 = ap (λ o. or_zero (option_map (λ (x : Service). x.priority) o)) at in
         absurd (omega arith)
     takes irq depth (Some x) at is =
         let over = starts_above app s irq is in
-        let level_is : priority_of app irq ≡ x.level = priority_is app irq x at in
+        let priority_is_of : priority_of app irq ≡ x.priority = priority_is app irq x at in
         let rest : Doing Values = handler_doing app x.handler s.values in
-        let fine : IsFine app (Serving irq) x.level 0 [] s.values rest =
+        let fine : IsFine app (Serving irq) x.priority 0 [] s.values rest =
         find_has (λ (x : Service). (n : ℕ) (vs : Values) → Queued app vs
-        → IsFine app (Serving irq) x.level n [] vs (handler_doing app x.handler vs)) _ (services app) x
+        → IsFine app (Serving irq) x.priority n [] vs (handler_doing app x.handler vs)) _ (services app) x
         (services_fine app accepted irq) at 0 s.values well.queued in
-        let job : Job = begun (Serving irq) x.level (handler_cost app x.handler) rest in
+        let job : Job = new_job (Serving irq) x.priority (handler_cost app x.handler) rest in
         let begins : JobWell app job (outside (priority_of app irq)) =
-        subst (λ q. JobWell app job (outside q)) (sym level_is)
-        (begun_well app (Serving irq) x.level (handler_cost app x.handler) 0 s.values rest fine) in
+        subst (λ q. JobWell app job (outside q)) (sym priority_is_of)
+        (begun_well app (Serving irq) x.priority (handler_cost app x.handler) 0 s.values rest fine) in
         ByTake irq depth job refl (record {
-          stack = (begins, (level_is, subst (λ q. level app s.jobs < q) level_is over), well.stack);
+          stack = (begins, (priority_is_of, subst (λ q. system_ceiling app s.jobs < q) priority_is_of over), well.stack);
           pending = ap (λ p. slice_set p irq false) well.pending;
-          queued = reached_queued app (Serving irq) x.level 0 [] rest s.values s.values fine well.queued;
+          queued = reached_queued app (Serving irq) x.priority 0 [] rest s.values s.values fine well.queued;
           order = (
-            next_order app (Serving irq) x.level 0 s.time [] rest s.values s.values (omega arith) fine,
-            all_kept app s.time s.time s.jobs s.values (reached rest s.values) (le_refl s.time)
-                (λ y queue there. reached_same app (Serving irq) x.level 0 [] rest s.values fine y queue) well.order,
+            next_order app (Serving irq) x.priority 0 s.time [] rest s.values s.values (omega arith) fine,
+            all_kept app s.time s.time s.jobs s.values (reached_values rest s.values) (le_refl s.time)
+                (λ y queue there. reached_same app (Serving irq) x.priority 0 [] rest s.values fine y queue) well.order,
           );
-        }) refl refl refl (sym level_is) is
+        }) refl refl refl (sym priority_is_of) is
 
     pub happens : (label : Label) → May app s label → HappensAt label
     happens (Arrived irq) may = Quietly
@@ -202,7 +202,7 @@ module _ (app : App) (accepted : IsAccepted app) where
     happens (Stepped (Some w)) may =
         ByStep (Some w) (given_step w may.0 may.1) refl (λ i. refl) (λ i same. ap Stepped same)
 
-  pub after_well : (s : State) (v : Sight) → StateWell app s v → (label : Label)
+  pub after_well : (s : State) (v : Observer) → StateWell app s v → (label : Label)
       → Happens app s v label (after app s label) (sees app v label)
       → StateWell app (after app s label) (sees app v label)
   after_well s v well label (Quietly good jobs views none take return) = good

@@ -5,7 +5,7 @@ use Rattle.std.specs.List.{AllByRecursion}
 use Rattle.std.proofs.lemmas.Bool.{eqb-true}
 use Rattle.std.proofs.lemmas.Option.{same_Some, none-some}
 use Rattle.rt_ids.specs.Holder.{Guarded}
-use Rattle.rt_ids.specs.Content.{Armed, Content, Values, timed, delays, lesser, least_instant, has_instant, least, without_handle, postponed}
+use Rattle.rt_ids.specs.Content.{Armed, Content, Values, timer_content, delays, lesser, least_instant, has_instant, least, without_handle, postponed_message}
 use Rattle.rt_ids.specs.Action.{Action, Arms, Moves, SetsAlarm, Returns, effect}
 use Rattle.rt_ids.specs.Doing.{Doing, over, does}
 use Rattle.rt_ids.specs.declared.ids.Section.{Section}
@@ -13,12 +13,12 @@ use Rattle.rt_ids.specs.declared.ids.Section.TheVariants as section
 use Rattle.rt_trace.specs.declared.item.What.{What}
 use Rattle.rt_trace.specs.declared.item.What.TheVariants as what
 use Rattle.rt_app.specs.Tree.{App}
-use Rattle.rt_laws.specs.State.{Role, Init, Idle, Waiting, Serving, Job, State, first, reached}
+use Rattle.rt_laws.specs.State.{Role, Init, Idle, Waiting, Serving, Job, State, first, reached_values}
 use Rattle.rt_laws.specs.Giving.{next_instant, is_due, return_item, next_item, item_given}
-use Rattle.rt_laws.specs.Acting.{answer, acted}
-use Rattle.rt_laws.specs.Allowed.{given}
+use Rattle.rt_laws.specs.Acting.{answer, state_after_doing}
+use Rattle.rt_laws.specs.Allowed.{state_after_item}
 use Rattle.rt_laws.specs.ByItems.{after_all}
-use Rattle.rt_laws.specs.Sight.{Seen}
+use Rattle.rt_laws.specs.Observer.{Seen}
 use Rattle.rt_laws.specs.Instants.{ArmsLast, MovesLast, FiresFirst, EqualInstantsFireInOrder}
 use Rattle.rt_laws.proofs.Fine.{Queued, IsFine, held_after, queued_effect, effect_same, reached_same}
 use Rattle.rt_laws.proofs.Well.{NextKept, AllKept, StackWell}
@@ -50,7 +50,7 @@ module _ (app : App) (s : State) (queued : Queued app s.values) where
 
     -- the code changes nothing of the timer queue on its way to its next action
     timer_is : (action : Action) (made : Values) (next : ℕ → Values → Doing Values) → Asked (does action made next)
-        → reached (next (answer s action) (effect action s.values)) (effect action s.values) (Guarded section.Timer)
+        → reached_values (next (answer s action) (effect action s.values)) (effect action s.values) (Guarded section.Timer)
         ≡ effect action s.values (Guarded section.Timer)
     timer_is action made next asked =
         reached_same app role q (answer s action) (held_after held action) (next (answer s action) vs) vs
@@ -62,40 +62,40 @@ module _ (app : App) (s : State) (queued : Queued app s.values) where
         vs = effect action s.values
 
     goes_last : (rest : Doing Values) → Asked rest → (w : What) → next_item s role rest ≡ Some w
-        → GoesLast s (acted app s job others rest) w
+        → GoesLast s (state_after_doing app s job others rest) w
     goes_last over asked w is = absurd (none-some w is)
     goes_last (does (Arms i m) made next) asked w is =
         let same = timer_is (Arms i m) made next asked in
-        subst (GoesLast s (acted app s job others (does (Arms i m) made next))) (same_Some (what.Arm m.task i) w is)
+        subst (GoesLast s (state_after_doing app s job others (does (Arms i m) made next))) (same_Some (what.Arm m.task i) w is)
         (record {
           message = m;
           of_task = refl;
-          given = ap (λ (c : Content). (timed c).given) same
-              ∙ next_number (timed (s.values (Guarded section.Timer))).given;
+          given = ap (λ (c : Content). (timer_content c).given) same
+              ∙ next_number (timer_content (s.values (Guarded section.Timer))).given;
           last = ap delays same
               ∙ ap (λ n. delays (s.values (Guarded section.Timer)) ++ record { instant = i; message = m; handle = n }
-              ∷ []) (next_number (timed (s.values (Guarded section.Timer))).given);
+              ∷ []) (next_number (timer_content (s.values (Guarded section.Timer))).given);
         })
     goes_last (does (Moves n h i) made next) asked w is =
         let found = asked.1.1 in
-        subst (GoesLast s (acted app s job others (does (Moves n h i) made next))) (same_Some (what.Move n h i) w is)
+        subst (GoesLast s (state_after_doing app s job others (does (Moves n h i) made next))) (same_Some (what.Move n h i) w is)
         (record {
           moved = found.0;
           was_armed = found.1;
           last = ap delays (timer_is (Moves n h i) made next asked)
-              ∙ ap (λ o. without_handle n h (delays (s.values (Guarded section.Timer))) ++ postponed i o) found.1;
+              ∙ ap (λ o. without_handle n h (delays (s.values (Guarded section.Timer))) ++ postponed_message i o) found.1;
         })
     goes_last (does SetsAlarm made next) asked w is =
-        subst (GoesLast s (acted app s job others (does SetsAlarm made next)))
+        subst (GoesLast s (state_after_doing app s job others (does SetsAlarm made next)))
         (same_Some (if is_due s.time (next_instant s) then what.Alarm else what.AlarmSet) w is)
-        (by_alarm s (acted app s job others (does SetsAlarm made next)) (is_due s.time (next_instant s)))
+        (by_alarm s (state_after_doing app s job others (does SetsAlarm made next)) (is_due s.time (next_instant s)))
     goes_last (does Returns made next) asked w is =
-        by_return s (acted app s job others (does Returns made next)) role w is
+        by_return s (state_after_doing app s job others (does Returns made next)) role w is
     goes_last (does action made next) asked w is =
-        subst (GoesLast s (acted app s job others (does action made next))) (same_Some _ w is) tt
+        subst (GoesLast s (state_after_doing app s job others (does action made next))) (same_Some _ w is) tt
 
   gives_last : (js : List Job) (vs : List Seen) → StackWell app js vs → AllKept app s.time s.values js
-      → (w : What) → item_given s js ≡ Some w → GoesLast s (given app s js) w
+      → (w : What) → item_given s js ≡ Some w → GoesLast s (state_after_item app s js) w
   gives_last [] vs stack order w is = absurd (none-some w is)
   gives_last (job ∷ others) [] stack order w is = absurd stack
   gives_last (job ∷ others) (seen ∷ seens) stack order w is =

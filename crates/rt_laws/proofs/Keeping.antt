@@ -2,16 +2,16 @@
 use Rattle.std.proofs.Common.{◌≡◌, ℕ, ◌<◌, List, [], ◌∷◌, sym, subst, arith}
 use Rattle.std.specs.List.{AllByRecursion}
 use Rattle.rt_ids.specs.Holder.{Guarded}
-use Rattle.rt_ids.specs.Content.{timed}
+use Rattle.rt_ids.specs.Content.{timer_content}
 use Rattle.rt_ids.specs.declared.ids.Section.TheVariants as section
 use Rattle.rt_trace.specs.Label.{Label}
 use Rattle.rt_app.specs.Tree.{App}
 use Rattle.rt_app.specs.Accepted.{IsAccepted}
 use Rattle.rt_laws.specs.State.{Role, Init, Idle, Waiting, Serving, Job, State, first}
-use Rattle.rt_laws.specs.Level.{level}
+use Rattle.rt_laws.specs.Preemption.{system_ceiling}
 use Rattle.rt_laws.specs.Allowed.{May, after}
 use Rattle.rt_laws.specs.Run.{RunsOn}
-use Rattle.rt_laws.specs.Sight.{Seen, Sight, first_sight, sees}
+use Rattle.rt_laws.specs.Observer.{Seen, Observer, first_sight, sees}
 use Rattle.rt_laws.specs.Waiting.{WaitsWell, ServesWell}
 use Rattle.rt_laws.specs.Properties.{AtEach, AreExclusive, FindsFree, LeavesInnermost}
 use Rattle.rt_laws.specs.ByItems.{after_all}
@@ -25,22 +25,22 @@ use Rattle.rt_laws.proofs.Waiting.{waits_well}
 use Rattle.rt_laws.proofs.Serving.{serves_well}
 
 module _ (app : App) (accepted : IsAccepted app) where
-  pub next_well : (s : State) (v : Sight) (label : Label) → StateWell app s v → May app s label
+  pub next_well : (s : State) (v : Observer) (label : Label) → StateWell app s v → May app s label
       → StateWell app (after app s label) (sees app v label)
   next_well s v label well may = after_well app accepted s v well label (happens app accepted s v well label may)
 
   -- what holds at each label of a run
-  at_each : (P : Sight → Label → List Label → Type 0)
-      → ((s : State) (v : Sight) (label : Label) (labels : List Label) → StateWell app s v → May app s label
+  at_each : (P : Observer → Label → List Label → Type 0)
+      → ((s : State) (v : Observer) (label : Label) (labels : List Label) → StateWell app s v → May app s label
       → RunsOn app (after app s label) labels → P v label labels)
-      → (labels : List Label) (s : State) (v : Sight) → StateWell app s v → RunsOn app s labels → AtEach P app v labels
+      → (labels : List Label) (s : State) (v : Observer) → StateWell app s v → RunsOn app s labels → AtEach P app v labels
   at_each P each [] s v well runs = tt
   at_each P each (label ∷ labels) s v well runs = (
     each s v label labels well runs.0 runs.1,
     at_each P each labels (after app s label) (sees app v label) (next_well s v label well runs.0) runs.1,
   )
 
-  one_section : (s : State) (v : Sight) (label : Label) (labels : List Label) → StateWell app s v → May app s label
+  one_section : (s : State) (v : Observer) (label : Label) (labels : List Label) → StateWell app s v → May app s label
       → RunsOn app (after app s label) labels
       → WaitsWell app v label labels × ServesWell app v label labels
   one_section s v label labels well may runs = (
@@ -72,10 +72,10 @@ runs_nest_sections app accepted labels runs =
 pub judged_traces_keep_laws : JudgedTracesKeepLaws
 judged_traces_keep_laws app trace accepted judged = runs_keep_laws app accepted judged.run.labels judged.run.allowed
 
-below_level : (app : App) (q : ℕ) (js : List Job) → level app js < q → AllByRecursion (λ other. other.priority < q) js
-below_level app q [] less = tt
-below_level app q (job ∷ others) less = let deeper : level app others < q = omega arith in
-    (omega arith, below_level app q others deeper)
+below_ceiling : (app : App) (q : ℕ) (js : List Job) → system_ceiling app js < q → AllByRecursion (λ other. other.priority < q) js
+below_ceiling app q [] less = tt
+below_ceiling app q (job ∷ others) less = let deeper : system_ceiling app others < q = omega arith in
+    (omega arith, below_ceiling app q others deeper)
 
 highest_first : (app : App) (js : List Job) (vs : List Seen) → StackWell app js vs → IsHighestFirst js
 highest_first app [] vs stack = tt
@@ -90,18 +90,18 @@ highest_first app (job ∷ others) (seen ∷ seens) stack = by job.role stack.1
     by Init above = none above
     by Idle above = none above.0
     by Waiting above = none above.0
-    by (Serving irq) above = below_level app job.priority others above.1
+    by (Serving irq) above = below_ceiling app job.priority others above.1
 
 -- what is well stays so, behind the labels of a run
-well_after : (app : App) → IsAccepted app → (labels : List Label) (s : State) (v : Sight) → StateWell app s v
-    → RunsOn app s labels → (u : Sight) × StateWell app (after_all app s labels) u
+well_after : (app : App) → IsAccepted app → (labels : List Label) (s : State) (v : Observer) → StateWell app s v
+    → RunsOn app s labels → (u : Observer) × StateWell app (after_all app s labels) u
 well_after app accepted [] s v well runs = (v, well)
 well_after app accepted (label ∷ labels) s v well runs =
     well_after app accepted labels (after app s label) (sees app v label)
     (next_well app accepted s v label well runs.0) runs.1
 
 pub run_well : (app : App) → IsAccepted app → (labels : List Label) → RunsOn app (first app) labels
-    → (u : Sight) × StateWell app (after_all app (first app) labels) u
+    → (u : Observer) × StateWell app (after_all app (first app) labels) u
 run_well app accepted labels runs =
     well_after app accepted labels (first app) (first_sight app) (first_well app accepted) runs
 
@@ -112,7 +112,7 @@ the_highest_runs app accepted labels runs =
 
 pub runs_keep_handles : RunsKeepHandles
 runs_keep_handles app accepted labels runs =
-    are_handled (timed ((after_all app (first app) labels).values (Guarded section.Timer)))
+    are_handled (timer_content ((after_all app (first app) labels).values (Guarded section.Timer)))
     (run_well app accepted labels runs).1.queued.handles
 
 pub runs_keep_queues : RunsKeepQueues

@@ -16,11 +16,11 @@ use Rattle.rt_app.specs.Handlers.{Service, services}
 use Rattle.rt_app.specs.Doings.{init_doing, idle_doing, handler_doing}
 use Rattle.rt_app.specs.Accepted.{IsAccepted}
 use Rattle.rt_laws.specs.Services.{service_at, timer_number}
-use Rattle.rt_laws.specs.State.{Role, Init, Idle, Serving, Job, State, reached, first_values, first}
+use Rattle.rt_laws.specs.State.{Role, Init, Idle, Serving, Job, State, reached_values, first_values, first}
 use Rattle.rt_laws.specs.Giving.{next_instant, is_due}
-use Rattle.rt_laws.specs.Acting.{spent, pended, idling, answer, acted}
-use Rattle.rt_laws.specs.Allowed.{started, stepped, given, after}
-use Rattle.rt_laws.specs.Sight.{Seen, Sight}
+use Rattle.rt_laws.specs.Acting.{job_after_step, state_after_pend, idle_job, answer, state_after_doing}
+use Rattle.rt_laws.specs.Allowed.{state_after_start, state_after_silence, state_after_item, after}
+use Rattle.rt_laws.specs.Observer.{Seen, Observer}
 use Rattle.rt_laws.proofs.Fine.{SameQueues, Queued, IsFine, held_after, first_queued, queued_effect, effect_same}
 use Rattle.rt_laws.proofs.Fine.{reached_same}
 use Rattle.rt_laws.proofs.FineHandlers.{init_fine, idle_fine, services_fine}
@@ -48,7 +48,7 @@ module _ (app : App) (accepted : IsAccepted app) where
   module _ (s : State) (queued : Queued app s.values) where
     -- the thread begins `idle`, or waits
     idles : (o : Option Body) (others : List Job) → ByOneAction s
-        (record s { jobs = idling app s.values o ∷ others; values = reached (idling app s.values o).rest s.values })
+        (record s { jobs = idle_job app s.values o ∷ others; values = reached_values (idle_job app s.values o).rest s.values })
     idles None others = as_before s _ (still s.time) (λ x queue. refl)
     idles (Some b) others = as_before s _ (still s.time)
         (reached_same app Idle 0 0 [] (idle_doing app s.values) s.values (idle_fine app accepted 0 s.values queued))
@@ -60,7 +60,7 @@ module _ (app : App) (accepted : IsAccepted app) where
       -- behind an action, with the values that the code has made on its way to the next
       behind : (action : Action) (made : Values) (next : ℕ → Values → Doing Values) → Asked (does action made next)
           → (t : State) → t.time ≡ s.time
-          → t.values ≡ reached (next (answer s action) (effect action s.values)) (effect action s.values)
+          → t.values ≡ reached_values (next (answer s action) (effect action s.values)) (effect action s.values)
           → ByOneAction s t
       behind action made next asked t time values = record {
         action = action;
@@ -78,16 +78,16 @@ module _ (app : App) (accepted : IsAccepted app) where
               (queued_effect app s.values queued role q held action asked.0.1 s.time asked.1.1)
               (effect_same action held s.values made asked.1.0 asked.1.2)
 
-      acts : (rest : Doing Values) → Asked rest → ByOneAction s (acted app s job others rest)
+      acts : (rest : Doing Values) → Asked rest → ByOneAction s (state_after_doing app s job others rest)
       acts over asked = as_before s _ (still s.time) (λ x queue. refl)
       acts (does SetsAlarm made next) asked =
           let on : State = record s {
-            jobs = record (spent job) { rest = next 0 s.values } ∷ others;
-            values = reached (next 0 s.values) s.values;
+            jobs = record (job_after_step job) { rest = next 0 s.values } ∷ others;
+            values = reached_values (next 0 s.values) s.values;
           } in
           elim (is_due s.time (next_instant s)) as
           (λ b. ByOneAction s
-          (if b then pended (timer_number app) (record on { alarm = None })
+          (if b then state_after_pend (timer_number app) (record on { alarm = None })
           else record on { alarm = next_instant s })) [
             | true ↦ behind SetsAlarm made next asked _ refl refl
             | false ↦ behind SetsAlarm made next asked _ refl refl
@@ -98,7 +98,7 @@ module _ (app : App) (accepted : IsAccepted app) where
       acts (does action made next) asked = behind action made next asked _ refl refl
 
     gives : (js : List Job) (vs : List Seen) → StackWell app js vs → AllKept app s.time s.values js
-        → ByOneAction s (given app s js)
+        → ByOneAction s (state_after_item app s js)
     gives [] vs stack order = as_before s _ (still s.time) (λ x queue. refl)
     gives (job ∷ others) [] stack order = absurd stack
     gives (job ∷ others) (seen ∷ seens) stack order =
@@ -107,21 +107,21 @@ module _ (app : App) (accepted : IsAccepted app) where
 
     -- the handling of an interrupt starts
     starts : (irq : ℕ) (o : Option Service) → service_at app irq ≡ o
-        → ByOneAction s (started app (record s { pending = slice_set s.pending irq false }) irq o)
+        → ByOneAction s (state_after_start app (record s { pending = slice_set s.pending irq false }) irq o)
     starts irq None at = as_before s _ (still s.time) (λ x queue. refl)
     starts irq (Some x) at =
         as_before s _ (still s.time)
-        (reached_same app (Serving irq) x.level 0 [] (handler_doing app x.handler s.values) s.values
+        (reached_same app (Serving irq) x.priority 0 [] (handler_doing app x.handler s.values) s.values
         (find_has (λ (x : Service). (n : ℕ) (vs : Values) → Queued app vs
-        → IsFine app (Serving irq) x.level n [] vs (handler_doing app x.handler vs)) _ (services app) x
+        → IsFine app (Serving irq) x.priority n [] vs (handler_doing app x.handler vs)) _ (services app) x
         (services_fine app accepted irq) at 0 s.values queued))
 
     -- a silent step
-    keeps : (js : List Job) → ByOneAction s (stepped s js)
+    keeps : (js : List Job) → ByOneAction s (state_after_silence s js)
     keeps [] = as_before s _ (still s.time) (λ x queue. refl)
     keeps (job ∷ others) = as_before s _ (still s.time) (λ x queue. refl)
 
-  pub by_one_action : (s : State) (v : Sight) → StateWell app s v → (label : Label)
+  pub by_one_action : (s : State) (v : Observer) → StateWell app s v → (label : Label)
       → ByOneAction s (after app s label)
   by_one_action s v well (Arrived irq) = as_before s _ (still s.time) (λ x queue. refl)
   by_one_action s v well Ticked = as_before s _ (le_refl (suc s.time)) (λ x queue. refl)

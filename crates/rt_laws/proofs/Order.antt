@@ -3,13 +3,13 @@ use Rattle.std.proofs.Common.{◌≡◌, ℕ, ◌≤◌, List, [], ◌∷◌, Op
 use Rattle.rt_ids.specs.Choice.{IsIn}
 use Rattle.rt_ids.specs.Holder.{Guarded}
 use Rattle.rt_ids.specs.Content.{Values}
-use Rattle.rt_ids.specs.Action.{Action, Takes, Refuses, Readies, Starts, Frees, Arms, Fires, Cancels, Moves, Clocks}
+use Rattle.rt_ids.specs.Action.{Action, Places, FindsFull, Readies, Starts, Frees, Arms, Fires, Cancels, Moves, Clocks}
 use Rattle.rt_ids.specs.Doing.{Doing, over, does}
 use Rattle.rt_ids.specs.declared.ids.Section.{Section}
 use Rattle.rt_app.specs.Tree.{App}
 use Rattle.rt_app.specs.Ceiling.{ceiling}
-use Rattle.rt_laws.specs.State.{Role, Init, Idle, Waiting, Serving, Job, State, reached}
-use Rattle.rt_laws.specs.Level.{level, greatest_ceiling}
+use Rattle.rt_laws.specs.State.{Role, Init, Idle, Waiting, Serving, Job, State, reached_values}
+use Rattle.rt_laws.specs.Preemption.{system_ceiling, greatest_ceiling}
 use Rattle.rt_laws.specs.Acting.{answer}
 use Rattle.rt_laws.specs.Queues.{queue_of, NextKeepsOrder, AllKeepOrder}
 use Rattle.rt_laws.specs.Served.{IsOpen}
@@ -27,8 +27,8 @@ same_some P each None = tt
 same_some P each (Some x) = each x
 
 queues_only : (action : Action) → IfSome (queue_of action) IsQueue
-queues_only (Takes n) = tt
-queues_only (Refuses n) = tt
+queues_only (Places n) = tt
+queues_only (FindsFull n) = tt
 queues_only (Frees n) = tt
 queues_only (Readies p m) = tt
 queues_only (Starts p m) = tt
@@ -47,7 +47,7 @@ module _ (app : App) where
   -- what is left to do keeps the order as it comes to its action
   pub next_order : (role : Role) (q n time : ℕ) (held : List Section) (rest : Doing Values) (vs base : Values)
       → n ≤ time → IsFine app role q n held base rest
-      → NextKept app time (reached rest vs) held rest
+      → NextKept app time (reached_values rest vs) held rest
   next_order role q n time held over vs base le fine = tt
   next_order role q n time held (does action made next) vs base le fine = (
     fine.2,
@@ -88,11 +88,11 @@ module _ (app : App) where
       next_in_order sections over kept = tt
       next_in_order sections (does action made next) kept = (kept.0, kept.1)
 
-  pub some_level : (js : List Job) (x : Section) → IsOpen js x → ceiling app x ≤ level app js
-  some_level [] x is = absurd is
-  some_level (job ∷ others) x (inl is) = let here : ceiling app x ≤ greatest_ceiling app job.sections =
+  pub some_ceiling : (js : List Job) (x : Section) → IsOpen js x → ceiling app x ≤ system_ceiling app js
+  some_ceiling [] x is = absurd is
+  some_ceiling (job ∷ others) x (inl is) = let here : ceiling app x ≤ greatest_ceiling app job.sections =
       within_greatest (ceiling app) job.sections x is in omega arith
-  some_level (job ∷ others) x (inr is) = let deeper : ceiling app x ≤ level app others = some_level others x is in
+  some_ceiling (job ∷ others) x (inr is) = let deeper : ceiling app x ≤ system_ceiling app others = some_ceiling others x is in
       omega arith
 
   -- no job below has a section open that the job above may be in
@@ -102,6 +102,6 @@ module _ (app : App) where
   apart_below Idle q others x above within is = subst (λ js. IsOpen js x) above.0 is
   apart_below Waiting q others x above within is = subst (λ js. IsOpen js x) above.0 is
   apart_below (Serving irq) q others x above within is =
-      let most = some_level others x is in
+      let most = some_ceiling others x is in
       let over = above.1 in
       absurd (omega arith)

@@ -6,7 +6,7 @@ use Rattle.std.proofs.lemmas.Option.{same_Some, none-some}
 use Rattle.rt_ids.specs.declared.ids.Section.{Section}
 use Rattle.rt_app.specs.Tree.{App}
 use Rattle.rt_app.specs.Ceiling.{ceiling}
-use Rattle.rt_laws.specs.Level.{greatest_ceiling}
+use Rattle.rt_laws.specs.Preemption.{greatest_ceiling}
 use Rattle.rt_laws.specs.Waiting.{outer_or, outermost}
 
 outer_map : (f : ℕ → ℕ) (n : ℕ) (b : Bool) (o : Option ℕ)

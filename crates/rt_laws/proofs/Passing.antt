@@ -3,8 +3,8 @@
 use Rattle.std.proofs.Common.{ℕ, zero, suc, ◌==◌, Bool, true, false, if◌then◌else◌, List, [], ◌∷◌, ◌++◌, replicate, slice_get, slice_set, Option, Some, None}
 use Rattle.rt_ids.specs.Lists.{then_from}
 use Rattle.rt_ids.specs.Holder.{Guarded, Own}
-use Rattle.rt_ids.specs.Content.{Message, Values, Number, put_at}
-use Rattle.rt_ids.specs.Action.{Action, Enters, Leaves, Emits, Posts, Clocks, Takes, Refuses, Ends, Returns}
+use Rattle.rt_ids.specs.Content.{Message, Values, Number, values_with}
+use Rattle.rt_ids.specs.Action.{Action, Enters, Leaves, Emits, Posts, Clocks, Places, FindsFull, Ends, Returns}
 use Rattle.rt_ids.specs.Doing.{Doing, does}
 use Rattle.rt_ids.specs.declared.ids.BodyId.TheVariants as body
 use Rattle.rt_ids.specs.declared.ids.Section.{Section}
@@ -29,8 +29,8 @@ pub record IsPassed (Holds : Doing Values → Type 0) : Type 0 where
   pub locks : (r cost : ℕ) → Passes Holds (Enters (section.Res r) cost)
   pub places : (n cost : ℕ) → Passes Holds (Enters (section.Free n) cost)
   pub leaves : (x : Section) → Passes Holds (Leaves x)
-  pub takes : (n : ℕ) → Passes Holds (Takes n)
-  pub refuses : (n : ℕ) → Passes Holds (Refuses n)
+  pub takes : (n : ℕ) → Passes Holds (Places n)
+  pub refuses : (n : ℕ) → Passes Holds (FindsFull n)
   pub emits : (value : ℕ) → Passes Holds (Emits value)
   pub posts : (irq : ℕ) → Passes Holds (Posts irq)
   pub clocks : Passes Holds Clocks
@@ -52,8 +52,8 @@ module _ (app : App) (Holds : Doing Values → Type 0) (passes : IsPassed Holds)
       passes.places n FREE_COST vs _ (λ k ws. go (has_place app n ws) ws)
     where
       go : (b : Bool) (ws : Values) → Holds
-          (if b then act_all (Takes n ∷ Leaves (section.Free n) ∷ []) granted ws
-          else act_all (Refuses n ∷ Leaves (section.Free n) ∷ []) refused ws)
+          (if b then act_all (Places n ∷ Leaves (section.Free n) ∷ []) granted ws
+          else act_all (FindsFull n ∷ Leaves (section.Free n) ∷ []) refused ws)
       go true ws = passes.takes n ws _ (λ k xs. passes.leaves (section.Free n) xs _ (λ l ys. first ys))
       go false ws = passes.refuses n ws _ (λ k xs. passes.leaves (section.Free n) xs _ (λ l ys. second ys))
 
@@ -66,8 +66,8 @@ module _ (app : App) (Holds : Doing Values → Type 0) (passes : IsPassed Holds)
 
   assign_holds : (x : Atom) (n : ℕ) (later : Later) → LaterHolds later → LaterHolds (assign x n later)
   assign_holds (atom.Var x) n later holds vars vs = holds (slice_set vars x n) vs
-  assign_holds (atom.Shared r) n later holds vars vs = holds vars (put_at vs (Guarded (section.Res r)) (Number n))
-  assign_holds (atom.Local l) n later holds vars vs = holds vars (put_at vs (Own l) (Number n))
+  assign_holds (atom.Shared r) n later holds vars vs = holds vars (values_with vs (Guarded (section.Res r)) (Number n))
+  assign_holds (atom.Local l) n later holds vars vs = holds vars (values_with vs (Own l) (Number n))
 
   -- each spawn hands it on
   module _ (spawns : (value : Expression → ℕ) (s : Spawn) (rest : ℕ → Rest) → ((n : ℕ) → RestHolds (rest n))

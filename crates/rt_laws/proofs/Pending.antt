@@ -11,7 +11,7 @@ use Rattle.rt_app.specs.Tree.{App}
 use Rattle.rt_app.specs.Handlers.{Service, services, irq_number}
 use Rattle.rt_laws.specs.Services.{service_at, priority_of}
 use Rattle.rt_laws.specs.State.{State}
-use Rattle.rt_laws.specs.Level.{level, may_start, candidate, IsNoLater}
+use Rattle.rt_laws.specs.Preemption.{system_ceiling, may_start, candidate, IsNoLater}
 use Rattle.rt_laws.proofs.Candidate.{candidate_is_highest}
 
 pub still_set : (xs : List Bool) (i j : ℕ) → slice_index_or xs j false ≡ true
@@ -50,8 +50,8 @@ made_number f None n h = absurd (none-some n h)
 made_number f (Some x) n h = (x, refl, same_Some (f x) n h)
 
 module _ (app : App) where
-  pub priority_is : (irq : ℕ) (v : Service) → service_at app irq ≡ Some v → priority_of app irq ≡ v.level
-  priority_is irq v at = ap (λ o. or_zero (option_map (λ (s : Service). s.level) o)) at
+  pub priority_is : (irq : ℕ) (v : Service) → service_at app irq ≡ Some v → priority_of app irq ≡ v.priority
+  priority_is irq v at = ap (λ o. or_zero (option_map (λ (s : Service). s.priority) o)) at
 
   -- an interrupt that is served is declared
   declared : (irq : ℕ) (v : Service) → service_at app irq ≡ Some v → IsIn (map (λ d. d.number) app.irqs) irq
@@ -65,36 +65,36 @@ module _ (app : App) where
   abbrev numbers : List ℕ
   numbers = map (λ d. d.number) app.irqs
 
-  -- where nothing is to be taken, no pending interrupt is above the level
+  -- where nothing is to be taken, no pending interrupt is above the system ceiling
   pub held_off : (s : State) (irq : ℕ) (v : Service) → service_at app irq ≡ Some v
       → slice_index_or s.pending irq false ≡ true → candidate app s ≡ None
-      → v.level ≤ level app s.jobs
+      → v.priority ≤ system_ceiling app s.jobs
   held_off s irq v at pending none =
       let best : IsBest (may_start app s) (IsNoLater app) numbers None =
       subst (IsBest (may_start app s) (IsNoLater app) numbers) none (candidate_is_highest app s) in
       let in_list = declared irq v at in
       let not_now : may_start app s irq ≡ false =
       all_at (λ x. may_start app s x ≡ false) numbers in_list.0 irq best in_list.1 in
-      let least : priority_of app irq ≤ level app s.jobs =
-      ltb-false (level app s.jobs) (priority_of app irq)
-      (ap (λ b. b && nat_lt (level app s.jobs) (priority_of app irq)) (sym pending) ∙ not_now) in
-      subst (λ q. q ≤ level app s.jobs) (priority_is irq v at) least
+      let least : priority_of app irq ≤ system_ceiling app s.jobs =
+      ltb-false (system_ceiling app s.jobs) (priority_of app irq)
+      (ap (λ b. b && nat_lt (system_ceiling app s.jobs) (priority_of app irq)) (sym pending) ∙ not_now) in
+      subst (λ q. q ≤ system_ceiling app s.jobs) (priority_is irq v at) least
 
-  -- what is to be taken is above the level
-  pub starts_above : (s : State) (irq : ℕ) → candidate app s ≡ Some irq → level app s.jobs < priority_of app irq
+  -- what is to be taken is above the system ceiling
+  pub starts_above : (s : State) (irq : ℕ) → candidate app s ≡ Some irq → system_ceiling app s.jobs < priority_of app irq
   starts_above s irq is =
       let best : IsBest (may_start app s) (IsNoLater app) numbers (Some irq) =
       subst (IsBest (may_start app s) (IsNoLater app) numbers) is (candidate_is_highest app s) in
-      ltb-true (level app s.jobs) (priority_of app irq)
-      (and_parts (slice_index_or s.pending irq false) (nat_lt (level app s.jobs) (priority_of app irq)) best.1).1
+      ltb-true (system_ceiling app s.jobs) (priority_of app irq)
+      (and_parts (slice_index_or s.pending irq false) (nat_lt (system_ceiling app s.jobs) (priority_of app irq)) best.1).1
 
   -- and of no lower priority than any that is pending
   pub goes_first : (s : State) (irq other : ℕ) (v : Service) → service_at app irq ≡ Some v
       → slice_index_or s.pending irq false ≡ true → candidate app s ≡ Some other
-      → v.level ≤ priority_of app other
+      → v.priority ≤ priority_of app other
   goes_first s irq other v at pending is =
       subst (λ q. q ≤ priority_of app other) (priority_is irq v at)
-      (go (nat_lt (level app s.jobs) (priority_of app irq)) refl)
+      (go (nat_lt (system_ceiling app s.jobs) (priority_of app irq)) refl)
     where
       first : may_start app s irq ≡ true → priority_of app irq ≤ priority_of app other
       first passes =
@@ -105,12 +105,12 @@ module _ (app : App) where
           (all_at (λ x. may_start app s x ≡ true → IsNoLater app other x)
           numbers in_list.0 irq best.2 in_list.1 passes)
 
-      go : (b : Bool) → nat_lt (level app s.jobs) (priority_of app irq) ≡ b
+      go : (b : Bool) → nat_lt (system_ceiling app s.jobs) (priority_of app irq) ≡ b
           → priority_of app irq ≤ priority_of app other
       go true above = first (and_both (slice_index_or s.pending irq false)
-          (nat_lt (level app s.jobs) (priority_of app irq)) pending above)
+          (nat_lt (system_ceiling app s.jobs) (priority_of app irq)) pending above)
       go false below =
-          let least : priority_of app irq ≤ level app s.jobs =
-          ltb-false (level app s.jobs) (priority_of app irq) below in
+          let least : priority_of app irq ≤ system_ceiling app s.jobs =
+          ltb-false (system_ceiling app s.jobs) (priority_of app irq) below in
           let over = starts_above s other is in
           omega arith

@@ -17,14 +17,14 @@ use Rattle.rt_app.specs.Handlers.{Service, services}
 use Rattle.rt_app.specs.Doings.{init_doing, idle_doing, handler_doing}
 use Rattle.rt_app.specs.Accepted.{IsAccepted}
 use Rattle.rt_laws.specs.Services.{service_at, priority_of, timer_number}
-use Rattle.rt_laws.specs.State.{Role, Init, Idle, Serving, Job, State, reached, first_values, first}
-use Rattle.rt_laws.specs.Level.{candidate}
+use Rattle.rt_laws.specs.State.{Role, Init, Idle, Serving, Job, State, reached_values, first_values, first}
+use Rattle.rt_laws.specs.Preemption.{candidate}
 use Rattle.rt_laws.specs.Giving.{next_instant, is_due, return_item, next_item, item_given}
-use Rattle.rt_laws.specs.Acting.{spent, pended, idling, answer, acted}
-use Rattle.rt_laws.specs.Allowed.{MayStep, May, started, stepped, given, after}
+use Rattle.rt_laws.specs.Acting.{job_after_step, state_after_pend, idle_job, answer, state_after_doing}
+use Rattle.rt_laws.specs.Allowed.{MayStep, May, state_after_start, state_after_silence, state_after_item, after}
 use Rattle.rt_laws.specs.Run.{RunsOn}
 use Rattle.rt_laws.specs.ByItems.{after_all}
-use Rattle.rt_laws.specs.Sight.{Seen, Sight, first_sight, sees}
+use Rattle.rt_laws.specs.Observer.{Seen, Observer, first_sight, sees}
 use Rattle.rt_laws.specs.Places.{Hand, hands_behind, hands_from, CountsPlaces}
 use Rattle.rt_laws.proofs.Fine.{Queued, IsFine, held_after, first_queued, queued_effect, effect_same, reached_same}
 use Rattle.rt_laws.proofs.FineHandlers.{init_fine, idle_fine, services_fine}
@@ -54,19 +54,19 @@ module _ (app : App) (accepted : IsAccepted app) (s : State) (queued : Queued ap
 
     -- the state behind the next action, where its item is seen
     abbrev PlacedBy : Doing Values → What → Type 0
-    PlacedBy rest w = Placed app (hands_behind (hand ∷ hands) (Stepped (Some w))) (acted app s job others rest)
+    PlacedBy rest w = Placed app (hands_behind (hand ∷ hands) (Stepped (Some w))) (state_after_doing app s job others rest)
 
     -- it goes on behind an action
     goes : (action : Action) (made : Values) (next : ℕ → Values → Doing Values) → Asked (does action made next)
         → (t : State) (after : Job) → t.jobs ≡ after ∷ others
         → after.rest ≡ next (answer s action) (effect action s.values)
-        → t.values ≡ reached (next (answer s action) (effect action s.values)) (effect action s.values)
+        → t.values ≡ reached_values (next (answer s action) (effect action s.values)) (effect action s.values)
         → Placed app (hand_then hand action ∷ hands) t
     goes action made next asked t after jobs rest_is values = record {
       fits = subst (λ js. AllFit js (hand_then hand action ∷ hands)) (sym jobs)
           (subst (Fits (hand_then hand action)) (sym rest_is) (asked.2.1 (answer s action) vs), below);
       counted = subst (Counted app (hand_then hand action ∷ hands)) (sym values)
-          (counted_same app (hand_then hand action ∷ hands) vs (reached rest vs)
+          (counted_same app (hand_then hand action ∷ hands) vs (reached_values rest vs)
           (reached_same app role q (answer s action) (held_after held action) rest vs rest_fine)
           (effect_counted app role q held s.time s.values queued hand hands action asked.2.0 asked.0.1 asked.1.1
           counted));
@@ -85,11 +85,11 @@ module _ (app : App) (accepted : IsAccepted app) (s : State) (queued : Queued ap
 
     -- the thread begins `idle`, or waits
     idles : hand ≡ None → (o : Option Body) → Placed app (hand ∷ hands)
-        (record s { jobs = idling app s.values o ∷ others; values = reached (idling app s.values o).rest s.values })
+        (record s { jobs = idle_job app s.values o ∷ others; values = reached_values (idle_job app s.values o).rest s.values })
     idles empty None = record { fits = (tt, below); counted = counted }
     idles empty (Some b) = record {
       fits = (subst (λ h. Fits h (idle_doing app s.values)) (sym empty) (idle_fits app s.values), below);
-      counted = counted_same app (hand ∷ hands) s.values (reached (idle_doing app s.values) s.values)
+      counted = counted_same app (hand ∷ hands) s.values (reached_values (idle_doing app s.values) s.values)
           (reached_same app Idle 0 0 [] (idle_doing app s.values) s.values (idle_fine app accepted 0 s.values queued))
           counted;
     }
@@ -98,14 +98,14 @@ module _ (app : App) (accepted : IsAccepted app) (s : State) (queued : Queued ap
     acts over asked w is = absurd (none-some w is)
     acts (does SetsAlarm made next) asked w is =
         let on : State = record s {
-          jobs = record (spent job) { rest = next 0 s.values } ∷ others;
-          values = reached (next 0 s.values) s.values;
+          jobs = record (job_after_step job) { rest = next 0 s.values } ∷ others;
+          values = reached_values (next 0 s.values) s.values;
         } in
         subst (PlacedBy (does SetsAlarm made next))
         (same_Some (if is_due s.time (next_instant s) then what.Alarm else what.AlarmSet) w is)
         (elim (is_due s.time (next_instant s)) as
         (λ b. Placed app (hands_behind (hand ∷ hands) (Stepped (Some (if b then what.Alarm else what.AlarmSet))))
-        (if b then pended (timer_number app) (record on { alarm = None }) else record on { alarm = next_instant s })) [
+        (if b then state_after_pend (timer_number app) (record on { alarm = None }) else record on { alarm = next_instant s })) [
           | true ↦ goes SetsAlarm made next asked _ _ refl refl refl
           | false ↦ goes SetsAlarm made next asked _ _ refl refl refl
         ])
@@ -130,7 +130,7 @@ module _ (app : App) (accepted : IsAccepted app) (s : State) (queued : Queued ap
   gives_placed : (js : List Job) (vs : List Seen) (hands : List Hand) → StackWell app js vs
       → AllKept app s.time s.values js → MayStep js → (w : What) → item_given s js ≡ Some w
       → AllFit js hands → Counted app hands s.values
-      → Placed app (hands_behind hands (Stepped (Some w))) (given app s js)
+      → Placed app (hands_behind hands (Stepped (Some w))) (state_after_item app s js)
   gives_placed [] vs hands stack order may w is fits counted = absurd may
   gives_placed (job ∷ others) [] hands stack order may w is fits counted = absurd stack
   gives_placed (job ∷ others) (seen ∷ seens) [] stack order may w is fits counted = absurd fits
@@ -140,7 +140,7 @@ module _ (app : App) (accepted : IsAccepted app) (s : State) (queued : Queued ap
 
   -- a silent step
   silent_placed : (js : List Job) (hands : List Hand) → MayStep js → AllFit js hands → Counted app hands s.values
-      → Placed app hands (stepped s js)
+      → Placed app hands (state_after_silence s js)
   silent_placed [] hands may fits counted = absurd may
   silent_placed (job ∷ others) [] may fits counted = absurd fits
   silent_placed (job ∷ others) (hand ∷ hands) may fits counted = record { fits = fits; counted = counted }
@@ -148,22 +148,22 @@ module _ (app : App) (accepted : IsAccepted app) (s : State) (queued : Queued ap
   -- the handling of an interrupt starts, with empty hands
   takes_placed : (hands : List Hand) → Placed app hands s → (irq : ℕ) → candidate app s ≡ Some irq
       → (o : Option Service) → service_at app irq ≡ o
-      → Placed app (None ∷ hands) (started app (record s { pending = slice_set s.pending irq false }) irq o)
+      → Placed app (None ∷ hands) (state_after_start app (record s { pending = slice_set s.pending irq false }) irq o)
   takes_placed hands placed irq is None at =
       let above = starts_above app s irq is in
-      let none : priority_of app irq ≡ 0 = ap (λ o. or_zero (option_map (λ (x : Service). x.level) o)) at in
+      let none : priority_of app irq ≡ 0 = ap (λ o. or_zero (option_map (λ (x : Service). x.priority) o)) at in
       absurd (omega arith)
   takes_placed hands placed irq is (Some x) at = record {
     fits = (handler_fits app x.handler s.values, placed.fits);
-    counted = counted_same app (None ∷ hands) s.values (reached (handler_doing app x.handler s.values) s.values)
-        (reached_same app (Serving irq) x.level 0 [] (handler_doing app x.handler s.values) s.values
+    counted = counted_same app (None ∷ hands) s.values (reached_values (handler_doing app x.handler s.values) s.values)
+        (reached_same app (Serving irq) x.priority 0 [] (handler_doing app x.handler s.values) s.values
         (find_has (λ (x : Service). (n : ℕ) (vs : Values) → Queued app vs
-        → IsFine app (Serving irq) x.level n [] vs (handler_doing app x.handler vs)) _ (services app) x
+        → IsFine app (Serving irq) x.priority n [] vs (handler_doing app x.handler vs)) _ (services app) x
         (services_fine app accepted irq) at 0 s.values queued)) placed.counted;
   }
 
 module _ (app : App) (accepted : IsAccepted app) where
-  next_placed : (s : State) (v : Sight) (label : Label) → StateWell app s v → (hands : List Hand) → Placed app hands s
+  next_placed : (s : State) (v : Observer) (label : Label) → StateWell app s v → (hands : List Hand) → Placed app hands s
       → May app s label → Placed app (hands_behind hands label) (after app s label)
   next_placed s v (Arrived irq) well hands placed may = record { fits = placed.fits; counted = placed.counted }
   next_placed s v Ticked well hands placed may = record { fits = placed.fits; counted = placed.counted }
@@ -179,14 +179,14 @@ module _ (app : App) (accepted : IsAccepted app) where
   first_placed : Placed app (None ∷ []) (first app)
   first_placed = record {
     fits = (init_fits app (first_values app), tt);
-    counted = counted_same app (None ∷ []) (first_values app) (reached (init_doing app (first_values app))
+    counted = counted_same app (None ∷ []) (first_values app) (reached_values (init_doing app (first_values app))
         (first_values app))
         (reached_same app Init (2 ^ app.bits) 0 [] (init_doing app (first_values app)) (first_values app)
         (init_fine app accepted 0 (first_values app) (first_queued app)))
         (λ t. refl);
   }
 
-  all_placed : (labels : List Label) (s : State) (v : Sight) → StateWell app s v → (hands : List Hand)
+  all_placed : (labels : List Label) (s : State) (v : Observer) → StateWell app s v → (hands : List Hand)
       → Placed app hands s → RunsOn app s labels → Placed app (hands_from hands labels) (after_all app s labels)
   all_placed [] s v well hands placed runs = placed
   all_placed (label ∷ labels) s v well hands placed runs =

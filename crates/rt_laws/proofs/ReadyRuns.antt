@@ -21,17 +21,17 @@ use Rattle.rt_app.specs.Sending.{dispatcher_number}
 use Rattle.rt_app.specs.Doings.{init_doing, handler_doing}
 use Rattle.rt_app.specs.Accepted.{IsAccepted}
 use Rattle.rt_laws.specs.Services.{service_at, priority_of, timer_number, handler_cost}
-use Rattle.rt_laws.specs.State.{Init, Serving, Job, State, begun, reached, first_values, first}
-use Rattle.rt_laws.specs.Level.{level, candidate}
+use Rattle.rt_laws.specs.State.{Init, Serving, Job, State, new_job, reached_values, first_values, first}
+use Rattle.rt_laws.specs.Preemption.{system_ceiling, candidate}
 use Rattle.rt_laws.specs.Giving.{item_given}
-use Rattle.rt_laws.specs.Acting.{spent}
-use Rattle.rt_laws.specs.Allowed.{MayStep, May, started, stepped, given, after}
+use Rattle.rt_laws.specs.Acting.{job_after_step}
+use Rattle.rt_laws.specs.Allowed.{MayStep, May, state_after_start, state_after_silence, state_after_item, after}
 use Rattle.rt_laws.specs.Run.{RunsOn}
 use Rattle.rt_laws.specs.ByItems.{after_all}
-use Rattle.rt_laws.specs.Sight.{Seen, Sight, first_sight, sees}
+use Rattle.rt_laws.specs.Observer.{Seen, Observer, first_sight, sees}
 use Rattle.rt_laws.specs.Served.{IsOpen, BeginsWith}
 use Rattle.rt_laws.specs.Laws.{RunsServeReady}
-use Rattle.rt_laws.proofs.Order.{some_level}
+use Rattle.rt_laws.proofs.Order.{some_ceiling}
 use Rattle.rt_laws.proofs.Pending.{priority_is, starts_above, still_beside}
 use Rattle.rt_laws.proofs.Fine.{first_queued, IsFine, Queued, reached_same}
 use Rattle.rt_laws.proofs.FineHandlers.{init_fine, services_fine}
@@ -65,22 +65,22 @@ module _ (app : App) (accepted : IsAccepted app) (p : ℕ) (of_level : Contains 
   -- the handling of an interrupt has started
   abbrev ServedBehind : State → ℕ → Service → Type 0
   ServedBehind s irq x =
-      LevelServed app p (slice_set s.pending irq false) (reached (handler_doing app x.handler s.values) s.values)
-      (begun (Serving irq) x.level (handler_cost app x.handler) (handler_doing app x.handler s.values) ∷ s.jobs)
+      LevelServed app p (slice_set s.pending irq false) (reached_values (handler_doing app x.handler s.values) s.values)
+      (new_job (Serving irq) x.priority (handler_cost app x.handler) (handler_doing app x.handler s.values) ∷ s.jobs)
 
   -- an interrupt is taken that is not the dispatcher's, where a job is inside
   takes : (s : State) → Queued app s.values → KeepsState app p s → (irq : ℕ) → candidate app s ≡ Some irq
       → (o : Option Service) → service_at app irq ≡ o
-      → KeepsState app p (started app (record s { pending = slice_set s.pending irq false }) irq o)
+      → KeepsState app p (state_after_start app (record s { pending = slice_set s.pending irq false }) irq o)
   takes s queued keeps irq is None at =
       let over = starts_above app s irq is in
-      let none : priority_of app irq ≡ 0 = ap (λ o. or_zero (option_map (λ (x : Service). x.level) o)) at in
+      let none : priority_of app irq ≡ 0 = ap (λ o. or_zero (option_map (λ (x : Service). x.priority) o)) at in
       absurd (omega arith)
   takes s queued keeps irq is (Some x) at = record {
     long = length-set s.pending irq false ∙ keeps.long;
     all = (
       IsOutside (λ is. none-some queue is.1) (handler_serves app p x.handler s.values),
-      all_kept app p s.pending later s.values (reached rest s.values) s.jobs
+      all_kept app p s.pending later s.values (reached_values rest s.values) s.jobs
           (λ there. (λ yet. still_beside s.pending irq dispatcher false (beside there) yet, same)) keeps.all,
     );
     served = go keeps.served;
@@ -92,25 +92,25 @@ module _ (app : App) (accepted : IsAccepted app) (p : ℕ) (of_level : Contains 
       rest : Doing Values
       rest = handler_doing app x.handler s.values
 
-      fine : IsFine app (Serving irq) x.level 0 [] s.values rest
+      fine : IsFine app (Serving irq) x.priority 0 [] s.values rest
       fine = find_has (λ (x : Service). (n : ℕ) (vs : Values) → Queued app vs
-          → IsFine app (Serving irq) x.level n [] vs (handler_doing app x.handler vs)) _ (services app) x
+          → IsFine app (Serving irq) x.priority n [] vs (handler_doing app x.handler vs)) _ (services app) x
           (services_fine app accepted irq) at 0 s.values queued
 
-      same : messages (reached rest s.values (Guarded queue)) ≡ messages (s.values (Guarded queue))
-      same = ap messages (reached_same app (Serving irq) x.level 0 [] rest s.values fine queue tt)
+      same : messages (reached_values rest s.values (Guarded queue)) ≡ messages (s.values (Guarded queue))
+      same = ap messages (reached_same app (Serving irq) x.priority 0 [] rest s.values fine queue tt)
 
-      is_its : irq ≡ dispatcher → (x.handler ≡ Dispatches p) × (x.level ≡ p)
+      is_its : irq ≡ dispatcher → (x.handler ≡ Dispatches p) × (x.priority ≡ p)
       is_its equal = dispatcher_serves app accepted p of_level x (subst (λ i. service_at app i ≡ Some x) equal at)
 
       beside : IsOpen s.jobs queue → ¬ (irq ≡ dispatcher)
       beside there equal =
-          let most : ceiling app queue ≤ level app s.jobs = some_level app s.jobs queue there in
+          let most : ceiling app queue ≤ system_ceiling app s.jobs = some_ceiling app s.jobs queue there in
           let least : p ≤ ceiling app queue = omega arith in
           let over = starts_above app s irq is in
-          let level_is : priority_of app irq ≡ x.level = priority_is app irq x at in
+          let priority_is_of : priority_of app irq ≡ x.priority = priority_is app irq x at in
           let own = (is_its equal).1 in
-          absurd (omega (arith, most, least, over, level_is, own))
+          absurd (omega (arith, most, least, over, priority_is_of, own))
 
       go : LevelServed app p s.pending s.values s.jobs
           → ServedBehind s irq x
@@ -131,7 +131,7 @@ module _ (app : App) (accepted : IsAccepted app) (p : ℕ) (of_level : Contains 
 
   -- a silent step
   silent_kept : (s : State) (js : List Job) → MayStep js → Keeps app p s.pending s.values js
-      → KeepsState app p (stepped s js)
+      → KeepsState app p (state_after_silence s js)
   silent_kept s [] may keeps = absurd may
   silent_kept s (job ∷ others) may keeps = record {
     long = keeps.long;
@@ -139,12 +139,12 @@ module _ (app : App) (accepted : IsAccepted app) (p : ℕ) (of_level : Contains 
     served = go keeps.served;
   }
     where
-      on : JobServes app p s.pending s.values job → JobServes app p s.pending s.values (spent job)
+      on : JobServes app p s.pending s.values job → JobServes app p s.pending s.values (job_after_step job)
       on (IsOutside out good) = IsOutside out good
       on (IsInside posted outer is out known good) = IsInside posted outer is out known good
 
       go : LevelServed app p s.pending s.values (job ∷ others)
-          → LevelServed app p s.pending s.values (spent job ∷ others)
+          → LevelServed app p s.pending s.values (job_after_step job ∷ others)
       go (Open there) = Open there
       go (Nothing none) = Nothing none
       go (Posted yet) = Posted yet
@@ -153,12 +153,12 @@ module _ (app : App) (accepted : IsAccepted app) (p : ℕ) (of_level : Contains 
   -- a step that gives an item
   given_kept : (s : State) (js : List Job) (vs : List Seen) → StackWell app js vs → Queued app s.values
       → AllKept app s.time s.values js → MayStep js → (w : What) → item_given s js ≡ Some w
-      → Keeps app p s.pending s.values js → KeepsState app p (given app s js)
+      → Keeps app p s.pending s.values js → KeepsState app p (state_after_item app s js)
   given_kept s [] vs stack queued order may w is keeps = absurd may
   given_kept s (job ∷ others) [] stack queued order may w is keeps = absurd stack
   given_kept s (job ∷ others) (seen ∷ seens) stack queued order may w is keeps = go keeps.all.0
     where
-      go : JobServes app p s.pending s.values job → KeepsState app p (given app s (job ∷ others))
+      go : JobServes app p s.pending s.values job → KeepsState app p (state_after_item app s (job ∷ others))
       go (IsOutside out good) =
           outside app accepted p s keeps.long (dispatcher_small app accepted p of_level) queued job.role job.priority
           job.left job.sections job.lefts others seen stack.1 keeps.all.1 job.rest stack.0 order.0 out good
@@ -168,7 +168,7 @@ module _ (app : App) (accepted : IsAccepted app) (p : ℕ) (of_level : Contains 
           job.priority job.left job.sections job.lefts others seen stack.1 keeps.all.1 job.rest stack.0 order.0
           posted outer in_it out known good w is
 
-  next_kept : (s : State) (v : Sight) (label : Label) → StateWell app s v → KeepsState app p s → May app s label
+  next_kept : (s : State) (v : Observer) (label : Label) → StateWell app s v → KeepsState app p s → May app s label
       → KeepsState app p (after app s label)
   next_kept s v (Arrived irq) well keeps may = posts_kept app p s.pending s.values s.jobs irq keeps
   next_kept s v Ticked well keeps may = keeps
@@ -179,7 +179,7 @@ module _ (app : App) (accepted : IsAccepted app) (p : ℕ) (of_level : Contains 
   next_kept s v (Stepped (Some w)) well keeps may =
       given_kept s s.jobs v.jobs well.stack well.queued well.order may.0.step w may.1 keeps
 
-  all_served : (labels : List Label) (s : State) (v : Sight) → StateWell app s v → KeepsState app p s
+  all_served : (labels : List Label) (s : State) (v : Observer) → StateWell app s v → KeepsState app p s
       → RunsOn app s labels → KeepsState app p (after_all app s labels)
   all_served [] s v well keeps runs = keeps
   all_served (label ∷ labels) s v well keeps runs =

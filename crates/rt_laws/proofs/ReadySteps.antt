@@ -19,10 +19,10 @@ use Rattle.rt_app.specs.Ceiling.{ceiling}
 use Rattle.rt_app.specs.Accepted.{IsAccepted}
 use Rattle.rt_app.specs.Sending.{dispatcher_number}
 use Rattle.rt_laws.specs.Services.{timer_number}
-use Rattle.rt_laws.specs.State.{Role, Idle, Job, State, reached}
+use Rattle.rt_laws.specs.State.{Role, Idle, Job, State, reached_values}
 use Rattle.rt_laws.specs.Giving.{next_instant, is_due, next_item}
-use Rattle.rt_laws.specs.Acting.{spent, pended, idling, answer, alarm_set, acted}
-use Rattle.rt_laws.specs.Sight.{Seen}
+use Rattle.rt_laws.specs.Acting.{job_after_step, state_after_pend, idle_job, answer, alarm_set, state_after_doing}
+use Rattle.rt_laws.specs.Observer.{Seen}
 use Rattle.rt_laws.specs.Served.{IsOpen, BeginsWith}
 use Rattle.rt_laws.proofs.Order.{apart_below}
 use Rattle.rt_laws.proofs.Pending.{still_set}
@@ -61,7 +61,7 @@ module _ (app : App) (accepted : IsAccepted app) (p : ℕ) (s : State) (long : l
 
   -- the state behind what is to be done first
   abbrev Kept : Doing Values → Type 0
-  Kept rest = KeepsState app p (acted app s (running rest) others rest)
+  Kept rest = KeepsState app p (state_after_doing app s (running rest) others rest)
 
   module _ (action : Action) (made : Values) (next : ℕ → Values → Doing Values)
       (well : JobWell app (running (does action made next)) seen) (asked : Asked (does action made next)) where
@@ -76,44 +76,44 @@ module _ (app : App) (accepted : IsAccepted app) (p : ℕ) (s : State) (long : l
         (queued_effect app s.values queued role q sections action well.fine.1 s.time asked.1)
         (effect_same action sections s.values made asked.0 asked.2)
 
-    reached_is : ready (reached rest vs) ≡ ready vs
+    reached_is : ready (reached_values rest vs) ≡ ready vs
     reached_is = ap messages
         (reached_same app role q (answer s action) (held_after sections action) rest vs rest_fine queue tt)
 
-    untouched : ¬ IsIn sections queue → ready (reached rest vs) ≡ ready s.values
+    untouched : ¬ IsIn sections queue → ready (reached_values rest vs) ≡ ready s.values
     untouched out = reached_is ∙ ap messages (effect_beside action s.values sections queue asked.0 out)
 
-    below : IsOpen others queue → ready (reached rest vs) ≡ ready s.values
+    below : IsOpen others queue → ready (reached_values rest vs) ≡ ready s.values
     below there = untouched (λ own. apart_below app role q others queue above
         (all_at (λ x. Within role q (ceiling app x)) sections own.0 queue well.within own.1) there)
 
     away : ¬ IsIn sections queue → ¬ BeginsWith queue (dispatcher_section_cost app p) (does action made next)
         → (after : Job) → ¬ IsIn after.sections queue → Serves app p Away after.rest
         → LevelServed app p s.pending s.values (running (does action made next) ∷ others)
-        → Keeps app p s.pending (reached rest vs) (after ∷ others)
+        → Keeps app p s.pending (reached_values rest vs) (after ∷ others)
     away out before after still good served =
-        goes_outside app p s.pending long s.values (reached rest vs) (running (does action made next)) after others
+        goes_outside app p s.pending long s.values (reached_values rest vs) (running (does action made next)) after others
         out before still good (untouched out) all served
 
     -- what it knows of the queue is so as it goes on
     known_so : (ms : List Message) (posted : Bool) → ready vs ≡ ms → Serves app p (Inside ms posted) rest
-        → Serves app p (Inside (ready (reached rest vs)) posted) rest
+        → Serves app p (Inside (ready (reached_values rest vs)) posted) rest
     known_so ms posted is good = subst (λ ms. Serves app p (Inside ms posted) rest) (sym (reached_is ∙ is)) good
 
     inside : (later : List Bool) → length later ≡ IRQ_NUMBERS → (after : Job) (posted : Bool) (outer : List Section)
         → after.sections ≡ queue ∷ outer → ¬ IsIn outer queue → (posted ≡ true → IsPosted app p later)
-        → Serves app p (Inside (ready (reached rest vs)) posted) after.rest
+        → Serves app p (Inside (ready (reached_values rest vs)) posted) after.rest
         → (IsPosted app p s.pending → IsPosted app p later)
-        → Keeps app p later (reached rest vs) (after ∷ others)
+        → Keeps app p later (reached_values rest vs) (after ∷ others)
     inside later still after posted outer is out known good keeps =
-        goes_inside app p s.pending later still s.values (reached rest vs) after others posted outer is out known good
+        goes_inside app p s.pending later still s.values (reached_values rest vs) after others posted outer is out known good
         (λ there. (keeps, below there)) all
 
   -- the alarm is set, or comes at once
   alarm_kept : (t : State) (instant : Option ℕ) → KeepsState app p t → KeepsState app p (alarm_set app instant t)
   alarm_kept t instant keeps = elim (is_due t.time instant) as
       (λ b. KeepsState app p
-      (if b then pended (timer_number app) (record t { alarm = None }) else record t { alarm = instant })) [
+      (if b then state_after_pend (timer_number app) (record t { alarm = None }) else record t { alarm = instant })) [
         | true ↦ posts_kept app p t.pending t.values t.jobs (timer_number app) keeps
         | false ↦ keeps
       ]
@@ -122,15 +122,15 @@ module _ (app : App) (accepted : IsAccepted app) (p : ℕ) (s : State) (long : l
   restarts : (o : Option Body) (left_to_do : Doing Values) → ¬ IsIn sections queue
       → ¬ BeginsWith queue (dispatcher_section_cost app p) left_to_do
       → LevelServed app p s.pending s.values (running left_to_do ∷ others)
-      → Keeps app p s.pending (reached (idling app s.values o).rest s.values) (idling app s.values o ∷ others)
+      → Keeps app p s.pending (reached_values (idle_job app s.values o).rest s.values) (idle_job app s.values o ∷ others)
   restarts None left_to_do out before served =
-      goes_outside app p s.pending long s.values s.values (running left_to_do) (idling app s.values None) others
+      goes_outside app p s.pending long s.values s.values (running left_to_do) (idle_job app s.values None) others
       out before (λ is. none-some queue is.1) tt refl all served
   restarts (Some b) left_to_do out before served =
-      goes_outside app p s.pending long s.values (reached (idling app s.values (Some b)).rest s.values)
-      (running left_to_do) (idling app s.values (Some b)) others out before (λ is. none-some queue is.1)
+      goes_outside app p s.pending long s.values (reached_values (idle_job app s.values (Some b)).rest s.values)
+      (running left_to_do) (idle_job app s.values (Some b)) others out before (λ is. none-some queue is.1)
       (idle_serves app p s.values)
-      (ap messages (reached_same app Idle 0 0 [] (idling app s.values (Some b)).rest s.values
+      (ap messages (reached_same app Idle 0 0 [] (idle_job app s.values (Some b)).rest s.values
       (idle_fine app accepted 0 s.values queued) queue tt)) all served
 
   -- a job that is outside
@@ -141,13 +141,13 @@ module _ (app : App) (accepted : IsAccepted app) (p : ℕ) (s : State) (long : l
   outside (does (Enters (section.Ready r) cost) made next) well asked out good served w is = go (r == p) refl
     where
       after : Job
-      after = record (spent (running (does (Enters (section.Ready r) cost) made next))) {
+      after = record (job_after_step (running (does (Enters (section.Ready r) cost) made next))) {
         rest = next 0 s.values;
         sections = section.Ready r ∷ sections;
         lefts = (cost - 1) ∷ map (λ n. n - 1) lefts;
       }
 
-      go : (b : Bool) → (r == p) ≡ b → Keeps app p s.pending (reached (next 0 s.values) s.values) (after ∷ others)
+      go : (b : Bool) → (r == p) ≡ b → Keeps app p s.pending (reached_values (next 0 s.values) s.values) (after ∷ others)
       go true test =
           let same : r ≡ p = eqb-true r p test in
           inside (Enters (section.Ready r) cost) made next well asked s.pending long after false sections
@@ -178,8 +178,8 @@ module _ (app : App) (accepted : IsAccepted app) (p : ℕ) (s : State) (long : l
       posts_kept app p s.pending _ _ irq
       (away (Posts irq) made next well asked out (λ no_entry. no_entry) _ out (good 0 s.values) served)
   outside (does SetsAlarm made next) well asked out good served w is =
-      let after : Job = record (spent (running (does SetsAlarm made next))) { rest = next 0 s.values } in
-      alarm_kept (record s { jobs = after ∷ others; values = reached (next 0 s.values) s.values }) (next_instant s)
+      let after : Job = record (job_after_step (running (does SetsAlarm made next))) { rest = next 0 s.values } in
+      alarm_kept (record s { jobs = after ∷ others; values = reached_values (next 0 s.values) s.values }) (next_instant s)
       (away SetsAlarm made next well asked out (λ no_entry. no_entry) after out (good 0 s.values) served)
   outside (does (Ends body.Init) made next) well asked out good served w is =
       restarts app.idle (does (Ends body.Init) made next) out (λ no_entry. no_entry) served
@@ -229,7 +229,7 @@ module _ (app : App) (accepted : IsAccepted app) (p : ℕ) (s : State) (long : l
       (known_so (Posts irq) made next well asked (ready s.values) true refl (good.1 0 s.values))
       (still_set s.pending irq (dispatcher_number app p))
   inside_too (does (Leaves x) made next) well asked posted outer in_it out known good w is =
-      goes_out app p s.pending long s.values (reached (next 0 s.values) s.values) _ others posted
+      goes_out app p s.pending long s.values (reached_values (next 0 s.values) s.values) _ others posted
       (subst (λ xs. ¬ IsIn (drop 1 xs) queue) (sym in_it) out) (good.1 0 s.values)
       (reached_is (Leaves x) made next well asked) good.0 known all
   inside_too (does action made next) well asked posted outer in_it out known good w is = absurd good

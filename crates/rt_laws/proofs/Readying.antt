@@ -2,7 +2,7 @@
 -- timer handler and the dispatcher itself, whatever the values are on the way.
 use Rattle.std.proofs.Common.{◌≡◌, ℕ, ◌⊎◌, Bool, true, false, if◌then◌else◌, List, [], ◌∷◌, ◌++◌, drop, map, Option, Some, None, refl, sym, ap, subst, inl, inr}
 use Rattle.rt_ids.specs.Holder.{Guarded}
-use Rattle.rt_ids.specs.Content.{Message, Armed, Values, messages, timed, delays}
+use Rattle.rt_ids.specs.Content.{Message, Armed, Values, messages, timer_content, delays}
 use Rattle.rt_ids.specs.Action.{Enters, Leaves, Posts, Clocks, Readies, Starts, Frees, Cancels, Moves, Ends, Returns}
 use Rattle.rt_ids.specs.Doing.{Doing, over, does}
 use Rattle.rt_ids.specs.declared.ids.BodyId.TheVariants as body
@@ -74,7 +74,7 @@ module _ (app : App) (p : ℕ) where
       take_holds app (Serves Away) passes n
       (arm_actions app (timer_section_cost app) (value delay) (record { task = n; args = map value args }) rest)
       (rest 0)
-      (λ vs k ws time xs l ys i zs j us. later (timed (ys (Guarded section.Timer))).given us) (later 0)
+      (λ vs k ws time xs l ys i zs j us. later (timer_content (ys (Guarded section.Timer))).given us) (later 0)
   spawn_serves value (Cancel word n handle at) rest later = λ vs k ws. go (is_armed_as app n (value handle) ws) ws
     where
       back : Rest

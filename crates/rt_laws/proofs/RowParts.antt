@@ -7,7 +7,7 @@ use Rattle.rt_app.specs.Tree.{App, Task, Body, Block, Statement, Then, Empty}
 use Rattle.rt_app.specs.declared.app.IrqDecl.{IrqDecl}
 use Rattle.rt_app.specs.declared.app.Shared.{Shared}
 use Rattle.rt_laws.specs.State.{State, Job}
-use Rattle.rt_laws.specs.Level.{level, candidate}
+use Rattle.rt_laws.specs.Preemption.{system_ceiling, candidate}
 use Rattle.rt_laws.specs.Giving.{gives}
 use Rattle.rt_laws.specs.Allowed.{after}
 
@@ -60,14 +60,14 @@ software name priority capacity args body = record {
 abbrev pub last : Statement → Block
 last s = Then s Empty
 
--- what the machine is at: its level, the interrupt that is to be taken, and the item of the running job's next action
+-- what the machine is at: its system ceiling, the interrupt that is to be taken, and the item of the running job's next action
 pub record Moment : Type 0 where
-  pub level : ℕ
+  pub ceiling : ℕ
   pub candidate : Option ℕ
   pub gives : Option What
 
 abbrev pub moment : App → State → Moment
-moment app s = record { level = level app s.jobs; candidate = candidate app s; gives = gives s }
+moment app s = record { ceiling = system_ceiling app s.jobs; candidate = candidate app s; gives = gives s }
 
 -- a step that gives an item
 abbrev pub shows : What → Label

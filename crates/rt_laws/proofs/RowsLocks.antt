@@ -10,7 +10,7 @@ use Rattle.rt_app.specs.Tree.{Num, Read, Oper, Assign, Locked, Emit, Then, App}
 use Rattle.rt_app.specs.Waiting.{waiting_bound}
 use Rattle.rt_laws.specs.State.{first}
 use Rattle.rt_laws.specs.ByItems.{after_all, silent}
-use Rattle.rt_laws.specs.Sight.{Seen, first_sight, sees_all}
+use Rattle.rt_laws.specs.Observer.{Seen, first_sight, sees_all}
 use Rattle.rt_laws.specs.Waiting.{steppers, lower, is_take}
 use Rattle.rt_laws.proofs.RowParts.{irq, shared, listing, hardware, last, Moment, moment, shows, lefts_of}
 
@@ -42,8 +42,8 @@ locks = record {
 abbrev at : List Label → Moment
 at labels = moment locks (after_all locks (first locks) labels)
 
--- `init` is absent, and ends at once. Before that the level is the greatest priority, 8, so nothing is taken.
-masked : at (Arrived 2 ∷ []) ≡ record { level = 8; candidate = None; gives = Some (what.End body.Init) }
+-- `init` is absent, and ends at once. Before that the system ceiling is the greatest priority, 8, so nothing is taken.
+masked : at (Arrived 2 ∷ []) ≡ record { ceiling = 8; candidate = None; gives = Some (what.End body.Init) }
 unfolding locks
 masked = refl
 
@@ -51,7 +51,7 @@ masked = refl
 unfoldable pub ended : List Label
 ended = Arrived 0 ∷ shows (what.End body.Init) ∷ []
 
-takes_lo : at ended ≡ record { level = 0; candidate = Some 0; gives = None }
+takes_lo : at ended ≡ record { ceiling = 0; candidate = Some 0; gives = None }
 unfolding locks ended
 takes_lo = refl
 
@@ -60,13 +60,13 @@ takes_lo = refl
 unfoldable pub inside : List Label
 inside = ended ++ shows (what.Take 0 40) ∷ shows (what.Enter (section.Res 0)) ∷ Arrived 1 ∷ Arrived 2 ∷ []
 
-holds_both_off : at inside ≡ record { level = 3; candidate = None; gives = Some (what.Leave (section.Res 0) (Some 6)) }
+holds_both_off : at inside ≡ record { ceiling = 3; candidate = None; gives = Some (what.Leave (section.Res 0) (Some 6)) }
 unfolding locks ended inside
 holds_both_off = refl
 
 -- Once it is left, the one of the greatest priority is to be taken, and then the other, before `lo` goes on.
 takes_hi : at (inside ++ shows (what.Leave (section.Res 0) (Some 6)) ∷ [])
-    ≡ record { level = 1; candidate = Some 2; gives = Some (what.Emit 9) }
+    ≡ record { ceiling = 1; candidate = Some 2; gives = Some (what.Emit 9) }
 unfolding locks ended inside
 takes_hi = refl
 

@@ -9,7 +9,7 @@ use Rattle.rt_trace.specs.Label.{Label, Arrived}
 use Rattle.rt_trace.specs.declared.item.What.TheVariants as what
 use Rattle.rt_laws.specs.State.{State, first}
 use Rattle.rt_laws.specs.ByItems.{after_all}
-use Rattle.rt_laws.specs.Places.{hands_after, in_transit, armed_of, ready_of}
+use Rattle.rt_laws.specs.Places.{hands_after, in_transit, arming_count, ready_of}
 use Rattle.rt_laws.proofs.RowParts.{labels_of}
 use Rattle.rt_laws.proofs.RowsHandles.{undo}
 
@@ -47,7 +47,7 @@ one_in_transit : in_transit 1 (hands_after taken_back) ≡ 1
 unfolding taken_back
 one_in_transit = refl
 
-one_armed : armed_of 1 behind_cancel.values ≡ 1
+one_armed : arming_count 1 behind_cancel.values ≡ 1
 unfolding undo taken_back behind_cancel those_below
 one_armed = refl
 

@@ -8,10 +8,10 @@ use Rattle.rt_app.specs.Tree.{App}
 use Rattle.rt_app.specs.Accepted.{IsAccepted}
 use Rattle.rt_laws.specs.Services.{priority_of}
 use Rattle.rt_laws.specs.State.{Role, Serving, Job, State}
-use Rattle.rt_laws.specs.Level.{level}
+use Rattle.rt_laws.specs.Preemption.{system_ceiling}
 use Rattle.rt_laws.specs.Allowed.{May, after}
 use Rattle.rt_laws.specs.Run.{RunsOn}
-use Rattle.rt_laws.specs.Sight.{Seen, Sight, sees}
+use Rattle.rt_laws.specs.Observer.{Seen, Observer, sees}
 use Rattle.rt_laws.specs.Waiting.{stepper, steppers, lower, is_return, ServesWell}
 use Rattle.rt_laws.proofs.Well.{alone_at_bottom, IsAbove, StackWell, StateWell, IsThread, Changes, GoesOn, Restarts, ComesBack}
 use Rattle.rt_laws.proofs.Pending.{starts_above}
@@ -36,12 +36,12 @@ module _ (app : App) (accepted : IsAccepted app) (irq : ℕ) where
   own_priority : (role : Role) (q : ℕ) (others : List Job) → role ≡ Serving irq → IsAbove app role q others → p ≡ q
   own_priority role q others is above = (subst (λ r. IsAbove app r q others) is above).0
 
-  pub up_level : (js : List Job) (vs : List Seen) → StackWell app js vs → Up irq p js → p ≤ level app js
-  up_level [] vs stack up = absurd up
-  up_level (job ∷ others) [] stack up = absurd stack
-  up_level (job ∷ others) (seen ∷ seens) stack (inl is) = let same : p ≡ job.priority =
+  pub up_ceiling : (js : List Job) (vs : List Seen) → StackWell app js vs → Up irq p js → p ≤ system_ceiling app js
+  up_ceiling [] vs stack up = absurd up
+  up_ceiling (job ∷ others) [] stack up = absurd stack
+  up_ceiling (job ∷ others) (seen ∷ seens) stack (inl is) = let same : p ≡ job.priority =
       own_priority job.role job.priority others is stack.1 in omega arith
-  up_level (job ∷ others) (seen ∷ seens) stack (inr deeper) = let over = deeper.0 in omega arith
+  up_ceiling (job ∷ others) (seen ∷ seens) stack (inr deeper) = let over = deeper.0 in omega arith
 
   pub up_top : (job : Job) (others : List Job) → IsAbove app job.role job.priority others → Up irq p (job ∷ others)
       → p ≤ job.priority
@@ -70,10 +70,10 @@ module _ (app : App) (accepted : IsAccepted app) (irq : ℕ) where
   up_after label job others seen seens shown jobs views above (inr deeper) item goes_on
       (ComesBack j js vs role_is given) = subst (Up irq p) (sym js) deeper.1
 
-  abbrev serving : Sight → List Label → List Seen
+  abbrev serving : Observer → List Label → List Seen
   serving v labels = lower p (steppers app (is_return irq) v labels)
 
-  serves : (labels : List Label) (s : State) (v : Sight) → StateWell app s v → RunsOn app s labels → Up irq p s.jobs
+  serves : (labels : List Label) (s : State) (v : Observer) → StateWell app s v → RunsOn app s labels → Up irq p s.jobs
       → serving v labels ≡ []
   serves [] s v well runs up = refl
   serves (label ∷ labels) s v well runs up =
@@ -89,7 +89,7 @@ module _ (app : App) (accepted : IsAccepted app) (irq : ℕ) where
           ∙ next (subst (Up irq p) (sym jobs) up)
       by (ByTake j d job is good jobs views role priority best) next =
           let over = starts_above app s j best in
-          let least : p ≤ level app s.jobs = up_level s.jobs v.jobs well.stack up in
+          let least : p ≤ system_ceiling app s.jobs = up_ceiling s.jobs v.jobs well.stack up in
           ap (lower p) (steppers_on app (is_return irq) v label labels [] (ap (is_return irq) is) (ap (stepper v) is))
           ∙ next (subst (Up irq p) (sym jobs) (inr (omega arith, up)))
       by (ByStep shown step steps no_take return) next = one (is_return irq label) refl
@@ -110,7 +110,7 @@ module _ (app : App) (accepted : IsAccepted app) (irq : ℕ) where
               (sees app v label).jobs step.above up_here return goes_on step.led.moves)
 
 module _ (app : App) (accepted : IsAccepted app) where
-  pub serves_well : (s : State) (v : Sight) (label : Label) (labels : List Label) → StateWell app s v
+  pub serves_well : (s : State) (v : Observer) (label : Label) (labels : List Label) → StateWell app s v
       → May app s label → RunsOn app (after app s label) labels → ServesWell app v label labels
   serves_well s v (Stepped (Some (what.Take irq depth))) labels well may runs =
       let label : Label = Stepped (Some (what.Take irq depth)) in

@@ -3,12 +3,12 @@ use Rattle.std.proofs.Common.{◌≡◌, ℕ, zero, suc, ◌-◌, ◌≤◌, ◌
 use Rattle.std.specs.List.{AllByRecursion}
 use Rattle.rt_app.specs.Tree.{App}
 use Rattle.rt_laws.specs.State.{Role, Init, Idle, Waiting, Serving, Job, State}
-use Rattle.rt_laws.specs.Level.{candidate}
-use Rattle.rt_laws.specs.Acting.{spent}
+use Rattle.rt_laws.specs.Preemption.{candidate}
+use Rattle.rt_laws.specs.Acting.{job_after_step}
 use Rattle.rt_laws.specs.Allowed.{HasStep}
 use Rattle.rt_laws.specs.Run.{RunsOn}
 use Rattle.rt_laws.specs.ByItems.{after_all, silent}
-use Rattle.rt_laws.specs.Silent.{HasSteps, MaySpend, spent_by, spending, SilentStepsByCost}
+use Rattle.rt_laws.specs.Silent.{HasSteps, MaySpend, job_after_steps, jobs_after_steps, SilentStepsByCost}
 
 none_off : (ns : List ℕ) → map (λ n. n - 0) ns ≡ ns
 none_off [] = refl
@@ -26,11 +26,11 @@ job_same : (job : Job) (left other : ℕ) (lefts others : List ℕ) → left ≡
 job_same job left other lefts others same also =
     ap (λ n. record job { left = n; lefts = lefts }) same ∙ ap (λ ns. record job { left = other; lefts = ns }) also
 
-spent_none : (job : Job) → job ≡ spent_by 0 job
+spent_none : (job : Job) → job ≡ job_after_steps 0 job
 spent_none job = job_same job job.left (job.left - 0) job.lefts (map (λ n. n - 0) job.lefts) (omega arith)
     (sym (none_off job.lefts))
 
-spent_more : (k : ℕ) (job : Job) → spent_by k (spent job) ≡ spent_by (suc k) job
+spent_more : (k : ℕ) (job : Job) → job_after_steps k (job_after_step job) ≡ job_after_steps (suc k) job
 spent_more k job =
     job_same job (job.left - 1 - k) (job.left - suc k) (map (λ n. n - k) (map (λ n. n - 1) job.lefts))
     (map (λ n. n - suc k) job.lefts)
@@ -82,11 +82,11 @@ module _ (app : App) (s : State) where
   abbrev with_jobs : List Job → State
   with_jobs js = record s { jobs = js }
 
-  leads_at : (k : ℕ) (js : List Job) → after_all app (with_jobs js) (silent k) ≡ with_jobs (spending k js)
+  leads_at : (k : ℕ) (js : List Job) → after_all app (with_jobs js) (silent k) ≡ with_jobs (jobs_after_steps k js)
   leads_at zero [] = refl
   leads_at zero (job ∷ others) = ap (λ j. with_jobs (j ∷ others)) (spent_none job)
   leads_at (suc k) [] = leads_at k []
-  leads_at (suc k) (job ∷ others) = leads_at k (spent job ∷ others)
+  leads_at (suc k) (job ∷ others) = leads_at k (job_after_step job ∷ others)
       ∙ ap (λ j. with_jobs (j ∷ others)) (spent_more k job)
 
   may_at : (k : ℕ) (js : List Job) → s.owing ≡ false → candidate app (with_jobs js) ≡ None → MaySpend k js
@@ -100,7 +100,7 @@ module _ (app : App) (s : State) where
       step =
           (one_step job.role job.left k may.0, lefts_one k job.lefts may.1);
     },
-    may_at k (spent job ∷ others) owing none (steps_less job.role job.left k may.0, lefts_less k job.lefts may.1),
+    may_at k (job_after_step job ∷ others) owing none (steps_less job.role job.left k may.0, lefts_less k job.lefts may.1),
   )
 
   spend_at : (k : ℕ) (js : List Job) → RunsOn app (with_jobs js) (silent (suc k)) → MaySpend (suc k) js
@@ -109,7 +109,7 @@ module _ (app : App) (s : State) where
       let step = runs.0.step in (first_step job.role job.left step.0, lefts_first job.lefts step.1)
   spend_at (suc k) (job ∷ others) runs =
       let step = runs.0.step in
-      let behind = spend_at k (spent job ∷ others) runs.1 in
+      let behind = spend_at k (job_after_step job ∷ others) runs.1 in
       (steps_more job.role job.left (suc k) step.0 behind.0, lefts_more (suc k) job.lefts step.1 behind.1)
 
 pub silent_steps_by_cost : SilentStepsByCost

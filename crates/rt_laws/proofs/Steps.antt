@@ -5,7 +5,7 @@ use Rattle.rt_lemmas.proofs.Membership.{all_at}
 use Rattle.rt_ids.specs.Choice.{IsIn}
 use Rattle.rt_ids.specs.Holder.{Guarded}
 use Rattle.rt_ids.specs.Content.{Values}
-use Rattle.rt_ids.specs.Action.{Action, Enters, Leaves, Emits, Posts, Clocks, Takes, Refuses, Readies, Starts, Frees, Arms, Fires, Cancels, Moves, SetsAlarm, Ends, Returns, effect}
+use Rattle.rt_ids.specs.Action.{Action, Enters, Leaves, Emits, Posts, Clocks, Places, FindsFull, Readies, Starts, Frees, Arms, Fires, Cancels, Moves, SetsAlarm, Ends, Returns, effect}
 use Rattle.rt_ids.specs.Doing.{Doing, over, does}
 use Rattle.rt_ids.specs.declared.ids.BodyId.TheVariants as body
 use Rattle.rt_ids.specs.declared.ids.Section.{Section}
@@ -16,11 +16,11 @@ use Rattle.rt_app.specs.Tree.{App, Body}
 use Rattle.rt_app.specs.Ceiling.{ceiling}
 use Rattle.rt_app.specs.Accepted.{IsAccepted}
 use Rattle.rt_laws.specs.Services.{timer_number}
-use Rattle.rt_laws.specs.State.{Role, Idle, Job, State, reached}
+use Rattle.rt_laws.specs.State.{Role, Idle, Job, State, reached_values}
 use Rattle.rt_laws.specs.Giving.{next_instant, is_due, return_item, next_item}
-use Rattle.rt_laws.specs.Acting.{spent, pended, idling, answer}
+use Rattle.rt_laws.specs.Acting.{job_after_step, state_after_pend, idle_job, answer}
 use Rattle.rt_laws.specs.Allowed.{after}
-use Rattle.rt_laws.specs.Sight.{Seen, Sight, sees, entering, leaving}
+use Rattle.rt_laws.specs.Observer.{Seen, Observer, sees, seen_after_enter, seen_after_leave}
 use Rattle.rt_laws.proofs.Order.{answer_now, next_order, all_kept, apart_below}
 use Rattle.rt_laws.proofs.Fine.{IsQueue, Within, reached_queued, reached_same, effect_beside, effect_same, Queued, IsFine, held_after, queued_effect}
 use Rattle.rt_laws.proofs.FineHandlers.{idle_fine}
@@ -28,11 +28,11 @@ use Rattle.rt_laws.proofs.Well.{NextKept, AllKept, alone_at_bottom, WithinAll, J
 
 -- what a step leads to, and how it changes the stack
 pub record Led (app : App) (job : Job) (seen : Seen) (others : List Job) (seens : List Seen) (shown : Option What)
-    (s : State) (v : Sight) : Type 0 where
+    (s : State) (v : Observer) : Type 0 where
   pub well : StateWell app s v
   pub moves : Changes app job seen others seens shown s.jobs v.jobs
 
-module _ (app : App) (accepted : IsAccepted app) (s : State) (v : Sight) (pending : v.pending ≡ s.pending)
+module _ (app : App) (accepted : IsAccepted app) (s : State) (v : Observer) (pending : v.pending ≡ s.pending)
     (queued : Queued app s.values)
     (role : Role) (q left : ℕ) (sections : List Section) (lefts : List ℕ) (others : List Job) (seen : Seen)
     (seens : List Seen)
@@ -45,7 +45,7 @@ module _ (app : App) (accepted : IsAccepted app) (s : State) (v : Sight) (pendin
   abbrev state_with : Doing Values → State
   state_with rest = record s { jobs = running rest ∷ others }
 
-  abbrev sight : Sight
+  abbrev sight : Observer
   sight = record v { jobs = seen ∷ seens }
 
   abbrev LedBy : Doing Values → What → Type 0
@@ -82,19 +82,19 @@ module _ (app : App) (accepted : IsAccepted app) (s : State) (v : Sight) (pendin
     rest_fine = well.fine.5 (answer s action) vs vs_queued
         (effect_same action sections s.values made asked.0 asked.2)
 
-    values_queued : Queued app (reached rest vs)
+    values_queued : Queued app (reached_values rest vs)
     values_queued = reached_queued app role q (answer s action)
         (held_after sections action) rest vs vs rest_fine vs_queued
 
-    order_after : AllKept app s.time (reached rest vs) others
+    order_after : AllKept app s.time (reached_values rest vs) others
     order_after =
-        others_kept (reached rest vs) well.within
+        others_kept (reached_values rest vs) well.within
         (λ x queue out. reached_same app role q (answer s action) (held_after sections action) rest vs rest_fine x queue
         ∙ effect_beside action s.values sections x asked.0 out)
 
     -- it goes on as another job
-    goes : (shown : Option What) (job : Job) (view : Seen) (t : State) (u : Sight)
-        → t.jobs ≡ job ∷ others → u.jobs ≡ view ∷ seens → t.pending ≡ u.pending → t.values ≡ reached rest vs
+    goes : (shown : Option What) (job : Job) (view : Seen) (t : State) (u : Observer)
+        → t.jobs ≡ job ∷ others → u.jobs ≡ view ∷ seens → t.pending ≡ u.pending → t.values ≡ reached_values rest vs
         → t.time ≡ s.time
         → job.rest ≡ rest → job.sections ≡ held_after sections action
         → JobWell app job view → job.role ≡ role → job.priority ≡ q → Nearer app (running before) seen job view
@@ -112,9 +112,9 @@ module _ (app : App) (accepted : IsAccepted app) (s : State) (v : Sight) (pendin
         queued = subst (Queued app) (sym values) values_queued;
         order = subst (λ js. AllKept app t.time t.values js) (sym jobs)
             (subst (λ w. AllKept app t.time w (job ∷ others)) (sym values)
-            (subst (λ time. AllKept app time (reached rest vs) (job ∷ others)) (sym time) (
-              subst (λ r. NextKept app s.time (reached rest vs) job.sections r) (sym rest_is)
-                  (subst (λ xs. NextKept app s.time (reached rest vs) xs rest) (sym sections_are)
+            (subst (λ time. AllKept app time (reached_values rest vs) (job ∷ others)) (sym time) (
+              subst (λ r. NextKept app s.time (reached_values rest vs) job.sections r) (sym rest_is)
+                  (subst (λ xs. NextKept app s.time (reached_values rest vs) xs rest) (sym sections_are)
                   (next_order app role q (answer s action) s.time (held_after sections action) rest vs vs
                   (answer_now s action) rest_fine)),
               order_after,
@@ -123,12 +123,12 @@ module _ (app : App) (accepted : IsAccepted app) (s : State) (v : Sight) (pendin
       moves = GoesOn job view jobs views role_is priority_is nearer;
     }
 
-    plain : (shown : Option What) (t : State) (u : Sight) → held_after sections action ≡ sections
-        → t.jobs ≡ record (spent (running before)) { rest = rest } ∷ others → u.jobs ≡ seen ∷ seens
+    plain : (shown : Option What) (t : State) (u : Observer) → held_after sections action ≡ sections
+        → t.jobs ≡ record (job_after_step (running before)) { rest = rest } ∷ others → u.jobs ≡ seen ∷ seens
         → t.pending ≡ u.pending
-        → t.values ≡ reached rest vs → t.time ≡ s.time → Led app (running before) seen others seens shown t u
+        → t.values ≡ reached_values rest vs → t.time ≡ s.time → Led app (running before) seen others seens shown t u
     plain shown t u same jobs views pendings values time =
-        goes shown (record (spent (running before)) { rest = rest }) seen t u jobs views pendings values time refl
+        goes shown (record (job_after_step (running before)) { rest = rest }) seen t u jobs views pendings values time refl
         (sym same)
         (spends_well app (running before) seen well rest (answer s action) vs
         (subst (λ xs. IsFine app role q (answer s action) xs vs rest) same rest_fine))
@@ -145,28 +145,28 @@ module _ (app : App) (accepted : IsAccepted app) (s : State) (v : Sight) (pendin
       let rest : Doing Values = next 0 s.values in
       let on : State = record s {
         jobs =
-            record (spent (running (does SetsAlarm made next))) { rest = rest } ∷ others;
+            record (job_after_step (running (does SetsAlarm made next))) { rest = rest } ∷ others;
         values =
-            reached rest s.values;
+            reached_values rest s.values;
       } in
       subst (goal SetsAlarm made next) is
       (subst (λ b. Led app (running (does SetsAlarm made next)) seen others seens (Some what.Alarm)
-      (if b then pended (timer_number app) (record on { alarm = None }) else record on { alarm = next_instant s })
+      (if b then state_after_pend (timer_number app) (record on { alarm = None }) else record on { alarm = next_instant s })
       (sees app sight (Stepped (Some what.Alarm)))) (sym due)
-      (plain SetsAlarm made next well asked (Some what.Alarm) (pended (timer_number app) (record on { alarm = None }))
+      (plain SetsAlarm made next well asked (Some what.Alarm) (state_after_pend (timer_number app) (record on { alarm = None }))
       (sees app sight (Stepped (Some what.Alarm))) refl refl refl
       (ap (λ p. slice_set p (timer_number app) true) (sym pending)) refl refl))
   alarms made next well asked w false due is =
       let rest : Doing Values = next 0 s.values in
       let on : State = record s {
         jobs =
-            record (spent (running (does SetsAlarm made next))) { rest = rest } ∷ others;
+            record (job_after_step (running (does SetsAlarm made next))) { rest = rest } ∷ others;
         values =
-            reached rest s.values;
+            reached_values rest s.values;
       } in
       subst (goal SetsAlarm made next) is
       (subst (λ b. Led app (running (does SetsAlarm made next)) seen others seens (Some what.AlarmSet)
-      (if b then pended (timer_number app) (record on { alarm = None }) else record on { alarm = next_instant s })
+      (if b then state_after_pend (timer_number app) (record on { alarm = None }) else record on { alarm = next_instant s })
       (sees app sight (Stepped (Some what.AlarmSet)))) (sym due)
       (plain SetsAlarm made next well asked (Some what.AlarmSet) (record on { alarm = next_instant s })
       (sees app sight (Stepped (Some what.AlarmSet))) refl refl refl (sym pending) refl refl))
@@ -174,44 +174,44 @@ module _ (app : App) (accepted : IsAccepted app) (s : State) (v : Sight) (pendin
   -- the thread begins `idle`, or waits
   restarts : (left_to_do : Doing Values) (view : Seen) (shown : Option What) → IsThread role → sections ≡ []
       → JobWell app (running left_to_do) seen → view.priority ≡ 0 → view.inside ≡ seen.inside → view.since ≡ seen.since
-      → (o : Option Body) (u : Sight) → u.jobs ≡ view ∷ seens → u.pending ≡ v.pending
+      → (o : Option Body) (u : Observer) → u.jobs ≡ view ∷ seens → u.pending ≡ v.pending
       → Led app (running left_to_do) seen others seens shown
-      (record s { jobs = idling app s.values o ∷ others; values = reached (idling app s.values o).rest s.values }) u
+      (record s { jobs = idle_job app s.values o ∷ others; values = reached_values (idle_job app s.values o).rest s.values }) u
   restarts left_to_do view shown thread closed well low inside since o u views pendings = record {
     well = record {
-      stack = subst (λ us. StackWell app (idling app s.values o ∷ others) us) (sym views)
+      stack = subst (λ us. StackWell app (idle_job app s.values o ∷ others) us) (sym views)
           (begins o, at_bottom o, below);
       pending = pendings ∙ pending;
       queued = values o;
       order = order_anew o;
     };
-    moves = Restarts (idling app s.values o) view refl views thread (outside_all o);
+    moves = Restarts (idle_job app s.values o) view refl views thread (outside_all o);
   }
     where
-      outside_all : (o : Option Body) → (idling app s.values o).sections ≡ []
+      outside_all : (o : Option Body) → (idle_job app s.values o).sections ≡ []
       outside_all None = refl
       outside_all (Some b) = refl
 
-      at_bottom : (o : Option Body) → IsAbove app (idling app s.values o).role (idling app s.values o).priority others
+      at_bottom : (o : Option Body) → IsAbove app (idle_job app s.values o).role (idle_job app s.values o).priority others
       at_bottom None = (alone_at_bottom app role q others thread above, refl)
       at_bottom (Some b) = (alone_at_bottom app role q others thread above, refl)
 
-      values : (o : Option Body) → Queued app (reached (idling app s.values o).rest s.values)
+      values : (o : Option Body) → Queued app (reached_values (idle_job app s.values o).rest s.values)
       values None = queued
-      values (Some b) = reached_queued app Idle 0 0 [] (idling app s.values (Some b)).rest s.values s.values
+      values (Some b) = reached_queued app Idle 0 0 [] (idle_job app s.values (Some b)).rest s.values s.values
           (idle_fine app accepted 0 s.values queued) queued
 
       order_anew : (o : Option Body)
-          → AllKept app s.time (reached (idling app s.values o).rest s.values) (idling app s.values o ∷ others)
+          → AllKept app s.time (reached_values (idle_job app s.values o).rest s.values) (idle_job app s.values o ∷ others)
       order_anew None = (tt, order)
       order_anew (Some b) = (
-        next_order app Idle 0 0 s.time [] (idling app s.values (Some b)).rest s.values s.values (omega arith)
+        next_order app Idle 0 0 s.time [] (idle_job app s.values (Some b)).rest s.values s.values (omega arith)
             (idle_fine app accepted 0 s.values queued),
-        subst (λ js. AllKept app s.time (reached (idling app s.values (Some b)).rest s.values) js)
+        subst (λ js. AllKept app s.time (reached_values (idle_job app s.values (Some b)).rest s.values) js)
             (sym (alone_at_bottom app role q others thread above)) tt,
       )
 
-      begins : (o : Option Body) → JobWell app (idling app s.values o) view
+      begins : (o : Option Body) → JobWell app (idle_job app s.values o) view
       begins None = record {
         priority = low;
         inside = inside ∙ well.inside ∙ closed;
@@ -244,7 +244,7 @@ module _ (app : App) (accepted : IsAccepted app) (s : State) (v : Sight) (pendin
   acts_well (does (Enters x cost) made next) well asked w is =
       let rest : Doing Values = next 0 s.values in
       subst (goal (Enters x cost) made next) (same_Some (what.Enter x) w is)
-      (goes (Enters x cost) made next well asked (Some (what.Enter x)) _ (entering x v.steps seen) _ _ refl refl
+      (goes (Enters x cost) made next well asked (Some (what.Enter x)) _ (seen_after_enter x v.steps seen) _ _ refl refl
       (sym pending) refl refl refl refl
       (enters_well app (running (does (Enters x cost) made next)) seen well x cost v.steps rest 0 s.values well.fine.1
       (rest_fine (Enters x cost) made next well asked)) refl refl
@@ -252,7 +252,7 @@ module _ (app : App) (accepted : IsAccepted app) (s : State) (v : Sight) (pendin
   acts_well (does (Leaves x) made next) well asked w is =
       let rest : Doing Values = next 0 s.values in
       subst (goal (Leaves x) made next) (same_Some (what.Leave x _) w is)
-      (goes (Leaves x) made next well asked (Some (what.Leave x _)) _ (leaving seen) _ _ refl refl
+      (goes (Leaves x) made next well asked (Some (what.Leave x _)) _ (seen_after_leave seen) _ _ refl refl
       (sym pending) refl refl refl refl
       (leaves_well app (running (does (Leaves x) made next)) seen well rest 0 s.values
       (rest_fine (Leaves x) made next well asked))
@@ -268,12 +268,12 @@ module _ (app : App) (accepted : IsAccepted app) (s : State) (v : Sight) (pendin
   acts_well (does Clocks made next) well asked w is =
       subst (goal Clocks made next) (same_Some (what.Clock s.time) w is)
       (plain Clocks made next well asked (Some (what.Clock s.time)) _ _ refl refl refl (sym pending) refl refl)
-  acts_well (does (Takes n) made next) well asked w is =
-      subst (goal (Takes n) made next) (same_Some (what.Placed n) w is)
-      (plain (Takes n) made next well asked (Some (what.Placed n)) _ _ refl refl refl (sym pending) refl refl)
-  acts_well (does (Refuses n) made next) well asked w is =
-      subst (goal (Refuses n) made next) (same_Some (what.Full n) w is)
-      (plain (Refuses n) made next well asked (Some (what.Full n)) _ _ refl refl refl (sym pending) refl refl)
+  acts_well (does (Places n) made next) well asked w is =
+      subst (goal (Places n) made next) (same_Some (what.Placed n) w is)
+      (plain (Places n) made next well asked (Some (what.Placed n)) _ _ refl refl refl (sym pending) refl refl)
+  acts_well (does (FindsFull n) made next) well asked w is =
+      subst (goal (FindsFull n) made next) (same_Some (what.Full n) w is)
+      (plain (FindsFull n) made next well asked (Some (what.Full n)) _ _ refl refl refl (sym pending) refl refl)
   acts_well (does (Readies p m) made next) well asked w is =
       subst (goal (Readies p m) made next) (same_Some (what.Ready m.task) w is)
       (plain (Readies p m) made next well asked (Some (what.Ready m.task)) _ _ refl refl refl (sym pending) refl refl)
@@ -338,6 +338,6 @@ module _ (app : App) (accepted : IsAccepted app) (s : State) (v : Sight) (pendin
       queued = queued;
       order = (asked, order);
     };
-    moves = GoesOn (spent (running left_to_do)) seen refl refl refl refl
+    moves = GoesOn (job_after_step (running left_to_do)) seen refl refl refl refl
         (spends_nearer app (running left_to_do) seen well left_to_do);
   }

@@ -20,17 +20,17 @@ use Rattle.rt_app.specs.Handlers.{Times, Service, services}
 use Rattle.rt_app.specs.Doings.{init_doing, handler_doing}
 use Rattle.rt_app.specs.Accepted.{IsAccepted}
 use Rattle.rt_laws.specs.Services.{service_at, priority_of, timer_number, handler_cost}
-use Rattle.rt_laws.specs.State.{Init, Serving, Job, State, begun, reached, first_values, first}
-use Rattle.rt_laws.specs.Level.{level, candidate}
+use Rattle.rt_laws.specs.State.{Init, Serving, Job, State, new_job, reached_values, first_values, first}
+use Rattle.rt_laws.specs.Preemption.{system_ceiling, candidate}
 use Rattle.rt_laws.specs.Giving.{is_due, item_given}
-use Rattle.rt_laws.specs.Acting.{spent}
-use Rattle.rt_laws.specs.Allowed.{MayStep, May, started, stepped, given, after}
+use Rattle.rt_laws.specs.Acting.{job_after_step}
+use Rattle.rt_laws.specs.Allowed.{MayStep, May, state_after_start, state_after_silence, state_after_item, after}
 use Rattle.rt_laws.specs.Run.{RunsOn}
 use Rattle.rt_laws.specs.ByItems.{after_all}
-use Rattle.rt_laws.specs.Sight.{Seen, Sight, first_sight, sees}
+use Rattle.rt_laws.specs.Observer.{Seen, Observer, first_sight, sees}
 use Rattle.rt_laws.specs.Served.{IsOpen, BeginsWith}
 use Rattle.rt_laws.specs.Laws.{RunsServeDue}
-use Rattle.rt_laws.proofs.Order.{some_level}
+use Rattle.rt_laws.proofs.Order.{some_ceiling}
 use Rattle.rt_laws.proofs.Pending.{priority_is, starts_above, still_beside}
 use Rattle.rt_laws.proofs.Fine.{first_queued, IsFine, Queued, reached_same}
 use Rattle.rt_laws.proofs.FineHandlers.{init_fine, services_fine}
@@ -71,14 +71,14 @@ module _ (app : App) (accepted : IsAccepted app) (mono : Mono) (timed : app.mono
   -- the handling of an interrupt has started
   abbrev ServedBehind : State → ℕ → Service → Type 0
   ServedBehind s irq x =
-      QueueServed app (slice_set s.pending irq false) s.alarm (reached (handler_doing app x.handler s.values) s.values)
-      (begun (Serving irq) x.level (handler_cost app x.handler) (handler_doing app x.handler s.values) ∷ s.jobs)
+      QueueServed app (slice_set s.pending irq false) s.alarm (reached_values (handler_doing app x.handler s.values) s.values)
+      (new_job (Serving irq) x.priority (handler_cost app x.handler) (handler_doing app x.handler s.values) ∷ s.jobs)
 
   -- an interrupt is taken that is not the monotonic's, where a job is inside
   takes : (s : State) → Queued app s.values → Keeps app s.pending s.alarm s.values s.jobs → (irq : ℕ)
       → candidate app s ≡ Some irq → (x : Service) → service_at app irq ≡ Some x
-      → Keeps app (slice_set s.pending irq false) s.alarm (reached (handler_doing app x.handler s.values) s.values)
-      (begun (Serving irq) x.level (handler_cost app x.handler) (handler_doing app x.handler s.values) ∷ s.jobs)
+      → Keeps app (slice_set s.pending irq false) s.alarm (reached_values (handler_doing app x.handler s.values) s.values)
+      (new_job (Serving irq) x.priority (handler_cost app x.handler) (handler_doing app x.handler s.values) ∷ s.jobs)
   takes s queued kept irq is x at = record {
     long = length-set s.pending irq false ∙ kept.long;
     all = (
@@ -98,30 +98,30 @@ module _ (app : App) (accepted : IsAccepted app) (mono : Mono) (timed : app.mono
       rest = handler_doing app x.handler s.values
 
       ws : Values
-      ws = reached rest s.values
+      ws = reached_values rest s.values
 
-      fine : IsFine app (Serving irq) x.level 0 [] s.values rest
+      fine : IsFine app (Serving irq) x.priority 0 [] s.values rest
       fine = find_has (λ (x : Service). (n : ℕ) (vs : Values) → Queued app vs
-          → IsFine app (Serving irq) x.level n [] vs (handler_doing app x.handler vs)) _ (services app) x
+          → IsFine app (Serving irq) x.priority n [] vs (handler_doing app x.handler vs)) _ (services app) x
           (services_fine app accepted irq) at 0 s.values queued
 
       same : armed ws ≡ armed s.values
       same = ap (λ c. least_instant (delays c))
-          (reached_same app (Serving irq) x.level 0 [] rest s.values fine queue tt)
+          (reached_same app (Serving irq) x.priority 0 [] rest s.values fine queue tt)
 
-      is_its : irq ≡ timer → (x.handler ≡ Times) × (x.level ≡ mono.priority)
+      is_its : irq ≡ timer → (x.handler ≡ Times) × (x.priority ≡ mono.priority)
       is_its equal = timer_serves app accepted mono timed x (subst (λ i. service_at app i ≡ Some x) equal at)
 
       beside : IsOpen s.jobs queue → ¬ (irq ≡ timer)
       beside there equal =
-          let most : ceiling app queue ≤ level app s.jobs = some_level app s.jobs queue there in
+          let most : ceiling app queue ≤ system_ceiling app s.jobs = some_ceiling app s.jobs queue there in
           let here : or_zero (option_map (λ (m : Mono). m.priority) app.mono) ≡ mono.priority =
           ap (λ o. or_zero (option_map (λ (m : Mono). m.priority) o)) timed in
           let least : mono.priority ≤ ceiling app queue = omega arith in
           let over = starts_above app s irq is in
-          let level_is : priority_of app irq ≡ x.level = priority_is app irq x at in
+          let priority_is_of : priority_of app irq ≡ x.priority = priority_is app irq x at in
           let own = (is_its equal).1 in
-          absurd (omega (arith, most, least, over, level_is, own))
+          absurd (omega (arith, most, least, over, priority_is_of, own))
 
       go : QueueServed app s.pending s.alarm s.values s.jobs → ServedBehind s irq x
       go (Open there) = Open (inr there)
@@ -142,17 +142,17 @@ module _ (app : App) (accepted : IsAccepted app) (mono : Mono) (timed : app.mono
 
   takes_kept : (s : State) → Queued app s.values → KeepsState app s → (irq : ℕ) → candidate app s ≡ Some irq
       → (o : Option Service) → service_at app irq ≡ o
-      → KeepsState app (started app (record s { pending = slice_set s.pending irq false }) irq o)
+      → KeepsState app (state_after_start app (record s { pending = slice_set s.pending irq false }) irq o)
   takes_kept s queued kept irq is None at =
       let over = starts_above app s irq is in
-      let none : priority_of app irq ≡ 0 = ap (λ o. or_zero (option_map (λ (x : Service). x.level) o)) at in
+      let none : priority_of app irq ≡ 0 = ap (λ o. or_zero (option_map (λ (x : Service). x.priority) o)) at in
       absurd (omega arith)
   takes_kept s queued kept irq is (Some x) at =
       record { owed = kept.owed; keeps = takes s queued kept.keeps irq is x at }
 
   -- a silent step
   silent_kept : (s : State) (js : List Job) → MayStep js → Keeps app s.pending s.alarm s.values js
-      → s.owing ≡ is_due s.time s.alarm → KeepsState app (stepped s js)
+      → s.owing ≡ is_due s.time s.alarm → KeepsState app (state_after_silence s js)
   silent_kept s [] may kept owed = absurd may
   silent_kept s (job ∷ others) may kept owed = record {
     owed = owed;
@@ -160,12 +160,12 @@ module _ (app : App) (accepted : IsAccepted app) (mono : Mono) (timed : app.mono
   }
     where
       on : JobServes app s.pending s.alarm s.values job others
-          → JobServes app s.pending s.alarm s.values (spent job) others
+          → JobServes app s.pending s.alarm s.values (job_after_step job) others
       on (IsOutside out good) = IsOutside out good
       on (IsInside set outer is out known good) = IsInside set outer is out known good
 
       go : QueueServed app s.pending s.alarm s.values (job ∷ others)
-          → QueueServed app s.pending s.alarm s.values (spent job ∷ others)
+          → QueueServed app s.pending s.alarm s.values (job_after_step job ∷ others)
       go (Open there) = Open there
       go (Ready set) = Ready set
       go (Stands there) = Stands there
@@ -174,12 +174,12 @@ module _ (app : App) (accepted : IsAccepted app) (mono : Mono) (timed : app.mono
   given_kept : (s : State) (js : List Job) (vs : List Seen) → StackWell app js vs → Queued app s.values
       → AllKept app s.time s.values js → s.owing ≡ false → MayStep js → (w : What)
       → item_given s js ≡ Some w → Keeps app s.pending s.alarm s.values js → s.owing ≡ is_due s.time s.alarm
-      → KeepsState app (given app s js)
+      → KeepsState app (state_after_item app s js)
   given_kept s [] vs stack queued order not_owing may w is kept owed = absurd may
   given_kept s (job ∷ others) [] stack queued order not_owing may w is kept owed = absurd stack
   given_kept s (job ∷ others) (seen ∷ seens) stack queued order not_owing may w is kept owed = go kept.all.0
     where
-      go : JobServes app s.pending s.alarm s.values job others → KeepsState app (given app s (job ∷ others))
+      go : JobServes app s.pending s.alarm s.values job others → KeepsState app (state_after_item app s (job ∷ others))
       go (IsOutside out good) =
           outside app accepted s kept.long (timer_small app accepted mono timed) not_owing owed queued job.role
           job.priority job.left job.sections job.lefts others seen stack.1 kept.all.1 job.rest stack.0 order.0 out good
@@ -189,7 +189,7 @@ module _ (app : App) (accepted : IsAccepted app) (mono : Mono) (timed : app.mono
           job.priority job.left job.sections job.lefts others seen stack.1 kept.all.1 job.rest stack.0 order.0
           set outer in_it out known good w is
 
-  next_kept : (s : State) (v : Sight) (label : Label) → StateWell app s v → KeepsState app s → May app s label
+  next_kept : (s : State) (v : Observer) (label : Label) → StateWell app s v → KeepsState app s → May app s label
       → KeepsState app (after app s label)
   next_kept s v (Arrived irq) well kept may =
       record { owed = kept.owed; keeps = posts_kept app s.pending s.alarm s.values s.jobs irq kept.keeps }
@@ -207,7 +207,7 @@ module _ (app : App) (accepted : IsAccepted app) (mono : Mono) (timed : app.mono
       given_kept s s.jobs v.jobs well.stack well.queued well.order may.0.not_owing may.0.step w may.1 kept.keeps
       kept.owed
 
-  all_served : (labels : List Label) (s : State) (v : Sight) → StateWell app s v → KeepsState app s
+  all_served : (labels : List Label) (s : State) (v : Observer) → StateWell app s v → KeepsState app s
       → RunsOn app s labels → KeepsState app (after_all app s labels)
   all_served [] s v well kept runs = kept
   all_served (label ∷ labels) s v well kept runs =

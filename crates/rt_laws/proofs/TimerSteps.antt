@@ -16,10 +16,10 @@ use Rattle.rt_app.specs.Tree.{App, Body}
 use Rattle.rt_app.specs.Ceiling.{ceiling}
 use Rattle.rt_app.specs.Accepted.{IsAccepted}
 use Rattle.rt_laws.specs.Services.{timer_number}
-use Rattle.rt_laws.specs.State.{Role, Idle, Serving, Job, State, reached}
+use Rattle.rt_laws.specs.State.{Role, Idle, Serving, Job, State, reached_values}
 use Rattle.rt_laws.specs.Giving.{next_instant, is_due, next_item}
-use Rattle.rt_laws.specs.Acting.{spent, pended, idling, answer, acted}
-use Rattle.rt_laws.specs.Sight.{Seen}
+use Rattle.rt_laws.specs.Acting.{job_after_step, state_after_pend, idle_job, answer, state_after_doing}
+use Rattle.rt_laws.specs.Observer.{Seen}
 use Rattle.rt_laws.specs.Served.{IsOpen, BeginsWith}
 use Rattle.rt_laws.proofs.Order.{apart_below}
 use Rattle.rt_laws.proofs.Fine.{Within, reached_same, effect_beside, effect_same, Queued, IsFine, held_after, queued_effect}
@@ -49,7 +49,7 @@ module _ (app : App) (accepted : IsAccepted app) (s : State) (long : length s.pe
 
   -- the state behind what is to be done first
   abbrev Kept : Doing Values → Type 0
-  Kept rest = KeepsState app (acted app s (running rest) others rest)
+  Kept rest = KeepsState app (state_after_doing app s (running rest) others rest)
 
   module _ (action : Action) (made : Values) (next : ℕ → Values → Doing Values)
       (well : JobWell app (running (does action made next)) seen) (asked : Asked (does action made next)) where
@@ -64,20 +64,20 @@ module _ (app : App) (accepted : IsAccepted app) (s : State) (long : length s.pe
         (queued_effect app s.values queued role q sections action well.fine.1 s.time asked.1)
         (effect_same action sections s.values made asked.0 asked.2)
 
-    reached_is : armed (reached rest vs) ≡ armed vs
+    reached_is : armed (reached_values rest vs) ≡ armed vs
     reached_is = ap (λ c. least_instant (delays c))
         (reached_same app role q (answer s action) (held_after sections action) rest vs rest_fine queue tt)
 
-    untouched : ¬ IsIn sections queue → armed (reached rest vs) ≡ armed s.values
+    untouched : ¬ IsIn sections queue → armed (reached_values rest vs) ≡ armed s.values
     untouched out = reached_is
         ∙ ap (λ c. least_instant (delays c)) (effect_beside action s.values sections queue asked.0 out)
 
     away : ¬ IsIn sections queue → ¬ BeginsWith queue (timer_section_cost app) (does action made next) → (after : Job)
         → ¬ IsIn after.sections queue → Serves (is_timer app after.role) Away after.rest
         → QueueServed app s.pending s.alarm s.values (running (does action made next) ∷ others)
-        → Keeps app s.pending s.alarm (reached rest vs) (after ∷ others)
+        → Keeps app s.pending s.alarm (reached_values rest vs) (after ∷ others)
     away out before after still good served =
-        goes_outside app s.pending long s.alarm s.values (reached rest vs) (running (does action made next)) after
+        goes_outside app s.pending long s.alarm s.values (reached_values rest vs) (running (does action made next)) after
         others out before still good (untouched out) all served
 
     -- no other is inside where it is
@@ -88,26 +88,26 @@ module _ (app : App) (accepted : IsAccepted app) (s : State) (long : length s.pe
     inside : (later : List Bool) → length later ≡ IRQ_NUMBERS → (new : Option ℕ) (after : Job) (set : Bool)
         (outer : List Section) → sections ≡ queue ∷ outer
         → after.sections ≡ queue ∷ outer → ¬ IsIn outer queue
-        → (set ≡ true → IsSetOr app others later new (reached rest vs))
+        → (set ≡ true → IsSetOr app others later new (reached_values rest vs))
         → Serves (is_timer app after.role) (Inside set) after.rest
-        → Keeps app later new (reached rest vs) (after ∷ others)
+        → Keeps app later new (reached_values rest vs) (after ∷ others)
     inside later still new after set outer was is out known good =
-        goes_inside app s.pending later still s.alarm new s.values (reached rest vs) after others set outer is out
+        goes_inside app s.pending later still s.alarm new s.values (reached_values rest vs) after others set outer is out
         known good (alone outer was) all
 
   -- the thread begins `idle`, or waits
   restarts : (o : Option Body) (left_to_do : Doing Values) → ¬ IsIn sections queue
       → ¬ BeginsWith queue (timer_section_cost app) left_to_do
       → QueueServed app s.pending s.alarm s.values (running left_to_do ∷ others)
-      → Keeps app s.pending s.alarm (reached (idling app s.values o).rest s.values) (idling app s.values o ∷ others)
+      → Keeps app s.pending s.alarm (reached_values (idle_job app s.values o).rest s.values) (idle_job app s.values o ∷ others)
   restarts None left_to_do out before served =
-      goes_outside app s.pending long s.alarm s.values s.values (running left_to_do) (idling app s.values None) others
+      goes_outside app s.pending long s.alarm s.values s.values (running left_to_do) (idle_job app s.values None) others
       out before (λ is. none-some queue is.1) tt refl all served
   restarts (Some b) left_to_do out before served =
-      goes_outside app s.pending long s.alarm s.values (reached (idling app s.values (Some b)).rest s.values)
-      (running left_to_do) (idling app s.values (Some b)) others out before (λ is. none-some queue is.1)
+      goes_outside app s.pending long s.alarm s.values (reached_values (idle_job app s.values (Some b)).rest s.values)
+      (running left_to_do) (idle_job app s.values (Some b)) others out before (λ is. none-some queue is.1)
       (idle_serves app s.values)
-      (ap (λ c. least_instant (delays c)) (reached_same app Idle 0 0 [] (idling app s.values (Some b)).rest s.values
+      (ap (λ c. least_instant (delays c)) (reached_same app Idle 0 0 [] (idle_job app s.values (Some b)).rest s.values
       (idle_fine app accepted 0 s.values queued) queue tt)) all served
 
   -- a job that is outside
@@ -117,7 +117,7 @@ module _ (app : App) (accepted : IsAccepted app) (s : State) (long : length s.pe
   outside over well asked out good served w is = absurd (none-some w is)
   outside (does (Enters section.Timer cost) made next) well asked out good served w is = record {
     owed = owed;
-    keeps = goes_inside app s.pending s.pending long s.alarm s.alarm s.values (reached (next 0 s.values) s.values) _
+    keeps = goes_inside app s.pending s.pending long s.alarm s.alarm s.values (reached_values (next 0 s.values) s.values) _
         others (not (is_timer app role)) sections refl out (λ other. known other served) (good 0 s.values)
         (apart_below app role q others queue above well.fine.1.within) all;
   }
@@ -128,12 +128,12 @@ module _ (app : App) (accepted : IsAccepted app) (s : State) (long : length s.pe
       -- who is not the timer handler finds the alarm set, or the timer handler below
       known : not (is_timer app role) ≡ true
           → QueueServed app s.pending s.alarm s.values (running (does (Enters section.Timer cost) made next) ∷ others)
-          → IsSetOr app others s.pending s.alarm (reached (next 0 s.values) s.values)
+          → IsSetOr app others s.pending s.alarm (reached_values (next 0 s.values) s.values)
       known other (Open (inl is)) = absurd (out is)
       known other (Open (inr there)) =
           absurd (apart_below app role q others queue above well.fine.1.within there)
       known other (Ready set) =
-          inl (set_kept app s.pending s.pending s.alarm s.values (reached (next 0 s.values) s.values) (λ yet. yet)
+          inl (set_kept app s.pending s.pending s.alarm s.values (reached_values (next 0 s.values) s.values) (λ yet. yet)
           (reached_is (Enters section.Timer cost) made next well asked) set)
       known other (Stands (inl is)) = absurd (never (sym (ap not (its_own is.0)) ∙ other))
       known other (Stands (inr there)) = inr there
@@ -225,8 +225,8 @@ module _ (app : App) (accepted : IsAccepted app) (s : State) (long : length s.pe
     owed = owed;
     keeps = inside Clocks made next well asked s.pending long s.alarm _ set outer in_it in_it out
         (λ yet. set_or_kept app others s.pending s.pending s.alarm s.alarm s.values
-        (reached (next s.time s.values) s.values) (set_kept app s.pending s.pending s.alarm s.values
-        (reached (next s.time s.values) s.values) (λ yet. yet) (reached_is Clocks made next well asked)) (known yet))
+        (reached_values (next s.time s.values) s.values) (set_kept app s.pending s.pending s.alarm s.values
+        (reached_values (next s.time s.values) s.values) (λ yet. yet) (reached_is Clocks made next well asked)) (known yet))
         (good s.time s.values);
   }
   inside_too (does SetsAlarm made next) well asked set outer in_it out known good w is =
@@ -234,15 +234,15 @@ module _ (app : App) (accepted : IsAccepted app) (s : State) (long : length s.pe
     where
       on : State
       on = record s {
-        jobs = record (spent (running (does SetsAlarm made next))) { rest = next 0 s.values } ∷ others;
-        values = reached (next 0 s.values) s.values;
+        jobs = record (job_after_step (running (does SetsAlarm made next))) { rest = next 0 s.values } ∷ others;
+        values = reached_values (next 0 s.values) s.values;
       }
 
       within : timer_number app < length s.pending
       within = omega (arith, small, long)
 
       go : (due : Bool) → is_due s.time (next_instant s) ≡ due → KeepsState app
-          (if due then pended (timer_number app) (record on { alarm = None }) else record on { alarm = next_instant s })
+          (if due then state_after_pend (timer_number app) (record on { alarm = None }) else record on { alarm = next_instant s })
       go true test = record {
         owed = not_owing;
         keeps = inside SetsAlarm made next well asked (slice_set s.pending (timer_number app) true)
@@ -256,7 +256,7 @@ module _ (app : App) (accepted : IsAccepted app) (s : State) (long : length s.pe
       }
   inside_too (does (Leaves x) made next) well asked set outer in_it out known good w is = record {
     owed = owed;
-    keeps = goes_out app s.pending long s.alarm s.values (reached (next 0 s.values) s.values) _ others
+    keeps = goes_out app s.pending long s.alarm s.values (reached_values (next 0 s.values) s.values) _ others
         (subst (λ xs. ¬ IsIn (drop 1 xs) queue) (sym in_it) out) (good.1 0 s.values)
         (reached_is (Leaves x) made next well asked) (known good.0) all;
   }

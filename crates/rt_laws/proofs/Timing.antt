@@ -3,7 +3,7 @@
 -- find it leaves the queue as it was. Nobody sets the alarm outside.
 use Rattle.std.proofs.Common.{◌≡◌, ℕ, Bool, true, false, not, if◌then◌else◌, List, [], ◌∷◌, map, Option, Some, None, refl}
 use Rattle.rt_ids.specs.Holder.{Guarded}
-use Rattle.rt_ids.specs.Content.{Message, Armed, Values, messages, timed, delays}
+use Rattle.rt_ids.specs.Content.{Message, Armed, Values, messages, timer_content, delays}
 use Rattle.rt_ids.specs.Action.{Enters, Leaves, Frees, Clocks, SetsAlarm, Arms, Fires, Cancels, Moves, Ends, Returns}
 use Rattle.rt_ids.specs.Doing.{Doing, over, does}
 use Rattle.rt_ids.specs.declared.ids.BodyId.TheVariants as body
@@ -73,7 +73,7 @@ module _ (app : App) where
       take_holds app (Serves false Away) passes n
       (arm_actions app (timer_section_cost app) (value delay) (record { task = n; args = map value args }) rest)
       (rest 0)
-      (λ vs k ws time xs l ys i zs. (refl, λ j us. later (timed (ys (Guarded section.Timer))).given us)) (later 0)
+      (λ vs k ws time xs l ys i zs. (refl, λ j us. later (timer_content (ys (Guarded section.Timer))).given us)) (later 0)
   spawn_serves value (Cancel word n handle at) rest later = λ vs k ws. go (is_armed_as app n (value handle) ws) ws
     where
       back : Rest

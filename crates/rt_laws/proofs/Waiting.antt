@@ -15,10 +15,10 @@ use Rattle.rt_app.specs.Handlers.{Service, services}
 use Rattle.rt_app.proofs.Sound.{accepted_are_sound}
 use Rattle.rt_laws.specs.Services.{service_at, priority_of, timer_number}
 use Rattle.rt_laws.specs.State.{Role, Init, Idle, Waiting, Serving, Job, State}
-use Rattle.rt_laws.specs.Level.{level, greatest_ceiling}
+use Rattle.rt_laws.specs.Preemption.{system_ceiling, greatest_ceiling}
 use Rattle.rt_laws.specs.Allowed.{after}
 use Rattle.rt_laws.specs.Run.{RunsOn}
-use Rattle.rt_laws.specs.Sight.{Seen, Sight, sees}
+use Rattle.rt_laws.specs.Observer.{Seen, Observer, sees}
 use Rattle.rt_laws.specs.Waiting.{stepper, steppers, lower, is_take, outermost, LieInOneSection, is_pending}
 use Rattle.rt_laws.proofs.Outermost.{none_outermost, below_outermost, both_outermost, outermost_all, Behind}
 use Rattle.rt_laws.proofs.Well.{alone_at_bottom, JobWell, IsAbove, StackWell, StateWell, IsThread, Changes, GoesOn, Restarts, ComesBack}
@@ -48,7 +48,7 @@ behind_none : (entered n : ℕ) (o since : Option ℕ) → o ≡ None → Behind
 behind_none entered n o since none = subst (λ u. Behind entered n u since) (sym none) tt
 
 -- it stays pending until its take
-pub pending_stays : (app : App) (irq : ℕ) (v : Sight) (label : Label)
+pub pending_stays : (app : App) (irq : ℕ) (v : Observer) (label : Label)
     → ((j d : ℕ) → label ≡ Stepped (Some (what.Take j d)) → ¬ (j ≡ irq)) → is_pending v irq ≡ true
     → is_pending (sees app v label) irq ≡ true
 pending_stays app irq v (Arrived i) other h = still_set v.pending i irq h
@@ -62,14 +62,14 @@ pending_stays app irq v (Stepped (Some (what.End body.Init))) other h = h
 pending_stays app irq v (Stepped (Some w)) other h = h
 
 -- the steppers behind a label that does not end them
-pub steppers_on : (app : App) (ends : Label → Bool) (v : Sight) (label : Label) (labels : List Label)
+pub steppers_on : (app : App) (ends : Label → Bool) (v : Observer) (label : Label) (labels : List Label)
     (steps : List Seen) → ends label ≡ false → stepper v label ≡ steps
     → steppers app ends v (label ∷ labels) ≡ steps ++ steppers app ends (sees app v label) labels
 steppers_on app ends v label labels steps goes_on is =
     ap (λ b. if b then [] else stepper v label ++ steppers app ends (sees app v label) labels) goes_on
     ∙ ap (λ xs. xs ++ steppers app ends (sees app v label) labels) is
 
-pub steppers_ended : (app : App) (ends : Label → Bool) (v : Sight) (label : Label) (labels : List Label)
+pub steppers_ended : (app : App) (ends : Label → Bool) (v : Observer) (label : Label) (labels : List Label)
     → ends label ≡ true → steppers app ends v (label ∷ labels) ≡ []
 steppers_ended app ends v label labels ended =
     ap (λ b. if b then [] else stepper v label ++ steppers app ends (sees app v label) labels) ended
@@ -88,8 +88,8 @@ abbrev pub first_of : List Seen → List Seen
 first_of views = take 1 views
 
 module _ (app : App) (p : ℕ) (positive : 0 < p) where
-  -- where the level is below it no section holds it off
-  low_below : (entered left : ℕ) (js : List Job) (vs : List Seen) → level app js < p → Low app p entered left js vs
+  -- where the system ceiling is below it no section holds it off
+  low_below : (entered left : ℕ) (js : List Job) (vs : List Seen) → system_ceiling app js < p → Low app p entered left js vs
   low_below entered left [] vs below = tt
   low_below entered left (job ∷ others) [] below = tt
   low_below entered left (job ∷ others) (seen ∷ seens) below =
@@ -134,11 +134,11 @@ module _ (app : App) (p : ℕ) (positive : 0 < p) where
       Lower : seen.priority < p → outermost app p seen.inside seen.since ≡ Some entered → 0 < left
           → Low app p entered (left - 1) jobs views → Took
 
-  level_below : (role : Role) (q : ℕ) (others : List Job) → IsAbove app role q others → q < p → level app others < p
-  level_below Init q others above less = subst (λ js. level app js < p) (sym above) positive
-  level_below Idle q others above less = subst (λ js. level app js < p) (sym above.0) positive
-  level_below Waiting q others above less = subst (λ js. level app js < p) (sym above.0) positive
-  level_below (Serving irq) q others above less = let under = above.1 in omega arith
+  ceiling_below : (role : Role) (q : ℕ) (others : List Job) → IsAbove app role q others → q < p → system_ceiling app others < p
+  ceiling_below Init q others above less = subst (λ js. system_ceiling app js < p) (sym above) positive
+  ceiling_below Idle q others above less = subst (λ js. system_ceiling app js < p) (sym above.0) positive
+  ceiling_below Waiting q others above less = subst (λ js. system_ceiling app js < p) (sym above.0) positive
+  ceiling_below (Serving irq) q others above less = let under = above.1 in omega arith
 
   module _ (entered left : ℕ) (job : Job) (others : List Job) (seen : Seen) (seens : List Seen)
       (well : JobWell app job seen) (above : IsAbove app job.role job.priority others)
@@ -186,10 +186,10 @@ module _ (app : App) (p : ℕ) (positive : 0 < p) where
     lower_after under n is since few given jobs views (ComesBack irq js vs role_is item) =
         subst (λ xs. Low app p entered (left - 1) xs views) (sym js)
         (subst (λ xs. Low app p entered (left - 1) others xs) (sym vs)
-        (low_below entered (left - 1) others seens (level_below job.role job.priority others above under)))
+        (low_below entered (left - 1) others seens (ceiling_below job.role job.priority others above under)))
 
     -- a lower job that may step while this priority is held off is in the section
-    pub took : p ≤ level app (job ∷ others) → AllByRecursion (λ n. 0 < n) job.lefts
+    pub took : p ≤ system_ceiling app (job ∷ others) → AllByRecursion (λ n. 0 < n) job.lefts
         → (given : Option What) (jobs : List Job) (views : List Seen)
         → Changes app job seen others seens given jobs views
         → Took entered left seen jobs views
@@ -200,7 +200,7 @@ module _ (app : App) (p : ℕ) (positive : 0 < p) where
         below under None is behind =
             let closed : greatest_ceiling app job.sections < p =
             none_outermost app p job.sections job.lefts well.lefts positive is in
-            let deeper : level app others < p = level_below job.role job.priority others above under in
+            let deeper : system_ceiling app others < p = ceiling_below job.role job.priority others above under in
             absurd (omega arith)
         below under (Some n) is behind =
             let some : 0 < n = subst (λ o. IfSome o (λ n. 0 < n)) is
@@ -219,13 +219,13 @@ module _ (app : App) (p : ℕ) (positive : 0 < p) where
 
 module _ (app : App) (accepted : IsAccepted app) (irq : ℕ) (x : Service) (served : service_at app irq ≡ Some x) where
   abbrev p : ℕ
-  p = x.level
+  p = x.priority
 
   in_range : (1 ≤ p) × (p ≤ 2 ^ app.bits)
-  in_range = let h = find_has (λ (s : Service). (s.irq < length app.irqs) × (1 ≤ s.level) × (s.level ≤ 2 ^ app.bits))
+  in_range = let h = find_has (λ (s : Service). (s.irq < length app.irqs) × (1 ≤ s.priority) × (s.priority ≤ 2 ^ app.bits))
       _ (services app) x (accepted_are_sound app accepted).served served in (h.1, h.2)
 
-  abbrev waiting : Sight → List Label → List Seen
+  abbrev waiting : Observer → List Label → List Seen
   waiting v labels = lower p (steppers app (is_take irq) v labels)
 
   lie_more : (entered left : ℕ) (seen : Seen) (steps : List Seen)
@@ -233,7 +233,7 @@ module _ (app : App) (accepted : IsAccepted app) (irq : ℕ) (x : Service) (serv
       → Lie app p entered left (seen ∷ steps)
   lie_more entered left seen steps is some lie = let few = lie.1 in ((is, lie.0), omega arith)
 
-  waits : (labels : List Label) (s : State) (v : Sight) (entered left : ℕ) → StateWell app s v → RunsOn app s labels
+  waits : (labels : List Label) (s : State) (v : Observer) (entered left : ℕ) → StateWell app s v → RunsOn app s labels
       → is_pending v irq ≡ true → Low app p entered left s.jobs v.jobs
       → Lie app p entered left (waiting v labels)
   waits [] s v entered left well runs pending low = (tt, omega arith)
@@ -282,7 +282,7 @@ module _ (app : App) (accepted : IsAccepted app) (irq : ℕ) (x : Service) (serv
           two (took app p in_range.0 entered left step.job step.others step.seen step.seens step.well step.above
           (subst (λ js. Low app p entered left js (step.seen ∷ step.seens)) step.jobs_are
           (subst (λ vs. Low app p entered left s.jobs vs) step.views_are low))
-          (subst (λ js. p ≤ level app js) step.jobs_are
+          (subst (λ js. p ≤ system_ceiling app js) step.jobs_are
           (held_off app s irq x served (ap (λ ps. slice_index_or ps irq false) (sym well.pending) ∙ pending)
           step.quiet))
           step.may shown (after app s label).jobs (sees app v label).jobs step.led.moves)
@@ -311,7 +311,7 @@ module _ (app : App) (accepted : IsAccepted app) (irq : ℕ) (x : Service) (serv
               (lie_more entered left step.seen (waiting (sees app v label) labels) is some
               (next (left - 1) stays low_next)))
 
-  pub waits_well : (labels : List Label) (s : State) (v : Sight) → StateWell app s v → RunsOn app s labels
+  pub waits_well : (labels : List Label) (s : State) (v : Observer) → StateWell app s v → RunsOn app s labels
       → is_pending v irq ≡ true → LieInOneSection app p (waiting v labels)
   waits_well labels s v well runs pending =
       let start = low_start app p in_range.0 s.jobs v.jobs well.stack in_range.1 in

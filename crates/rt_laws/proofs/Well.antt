@@ -1,5 +1,5 @@
 -- What holds of the jobs of every run, and how a step changes the stack: each job has sections within its priority,
--- does what is well formed, and stands above the level of the jobs below it; and what is seen of a job is what it is.
+-- does what is well formed, and stands above the system ceiling of the jobs below it; and what is seen of a job is what it is.
 use Rattle.std.proofs.Common.{◌≡◌, ℕ, suc, ◌-◌, ◌≤◌, ◌<◌, ◌^◌, List, [], ◌∷◌, length, drop, map, Option, Some, option_map, IfSome, refl, sym, ap, subst, ◌∙◌, arith, length-drop}
 use Rattle.std.specs.List.{AllByRecursion}
 use Rattle.std.proofs.lemmas.List.{length-map}
@@ -13,10 +13,10 @@ use Rattle.rt_app.specs.Tree.{App}
 use Rattle.rt_app.specs.Ceiling.{ceiling}
 use Rattle.rt_app.specs.Waiting.{waiting_bound}
 use Rattle.rt_laws.specs.Services.{priority_of}
-use Rattle.rt_laws.specs.State.{Role, Init, Idle, Waiting, Serving, Job, State, begun}
-use Rattle.rt_laws.specs.Level.{level}
-use Rattle.rt_laws.specs.Acting.{spent}
-use Rattle.rt_laws.specs.Sight.{Seen, Sight, outside, entering, leaving}
+use Rattle.rt_laws.specs.State.{Role, Init, Idle, Waiting, Serving, Job, State, new_job}
+use Rattle.rt_laws.specs.Preemption.{system_ceiling}
+use Rattle.rt_laws.specs.Acting.{job_after_step}
+use Rattle.rt_laws.specs.Observer.{Seen, Observer, outside, seen_after_enter, seen_after_leave}
 use Rattle.rt_laws.specs.Waiting.{outermost}
 use Rattle.rt_laws.specs.Queues.{InQueue, KeepsOrder}
 use Rattle.rt_laws.proofs.Handled.{all_drop}
@@ -43,10 +43,10 @@ pub record JobWell (app : App) (job : Job) (seen : Seen) : Type 0 where
   pub within : WithinAll app job.role job.priority job.sections
   pub bounded : IsBounded app job.priority job.sections job.lefts
 
--- the handling of an interrupt stands above the level of what is below it; the thread stands at the bottom
+-- the handling of an interrupt stands above the system ceiling of what is below it; the thread stands at the bottom
 abbrev pub IsAbove : App → Role → ℕ → List Job → Type 0
 IsAbove app Init q others = others ≡ []
-IsAbove app (Serving irq) q others = (priority_of app irq ≡ q) × (level app others < q)
+IsAbove app (Serving irq) q others = (priority_of app irq ≡ q) × (system_ceiling app others < q)
 IsAbove app role q others = (others ≡ []) × (q ≡ 0)
 
 abbrev pub StackWell : App → List Job → List Seen → Type 0
@@ -67,7 +67,7 @@ abbrev pub AllKept : App → ℕ → Values → List Job → Type 0
 AllKept app time vs [] = Unit {0}
 AllKept app time vs (job ∷ others) = NextKept app time vs job.sections job.rest × AllKept app time vs others
 
-pub record StateWell (app : App) (s : State) (v : Sight) : Type 0 where
+pub record StateWell (app : App) (s : State) (v : Observer) : Type 0 where
   pub stack : StackWell app s.jobs v.jobs
   pub pending : v.pending ≡ s.pending
   pub queued : Queued app s.values
@@ -110,7 +110,7 @@ module _ (app : App) (job : Job) (seen : Seen) (others : List Job) (seens : List
 module _ (app : App) where
   -- a job as it begins
   pub begun_well : (role : Role) (q cost n : ℕ) (base : Values) (rest : Doing Values) → IsFine app role q n [] base rest
-      → JobWell app (begun role q cost rest) (outside q)
+      → JobWell app (new_job role q cost rest) (outside q)
   begun_well role q cost n base rest fine = record {
     answered = n;
     base = base;
@@ -125,7 +125,7 @@ module _ (app : App) where
 
   module _ (job : Job) (seen : Seen) (well : JobWell app job seen) where
     abbrev after_rest : Doing Values → Job
-    after_rest rest = record (spent job) { rest = rest }
+    after_rest rest = record (job_after_step job) { rest = rest }
 
     bounded_spent : IsBounded app job.priority job.sections (map (λ n. n - 1) job.lefts)
     bounded_spent p above top =
@@ -169,12 +169,12 @@ module _ (app : App) where
     -- it enters a section
     abbrev after_enter : Section → ℕ → Doing Values → Job
     after_enter x cost rest = record
-        (spent job) { rest = rest; sections = x ∷ job.sections; lefts = (cost - 1) ∷ (spent job).lefts }
+        (job_after_step job) { rest = rest; sections = x ∷ job.sections; lefts = (cost - 1) ∷ (job_after_step job).lefts }
 
     pub enters_well : (x : Section) (cost step : ℕ) (rest : Doing Values) (n : ℕ) (base : Values)
         → EntersFine app job.role job.priority job.sections x cost
         → IsFine app job.role job.priority n (x ∷ job.sections) base rest
-        → JobWell app (after_enter x cost rest) (entering x step seen)
+        → JobWell app (after_enter x cost rest) (seen_after_enter x step seen)
     enters_well x cost step rest n base enters fine = record {
       answered = n;
       base = base;
@@ -195,7 +195,7 @@ module _ (app : App) where
         less n w h = omega arith
 
     pub enters_nearer : (x : Section) (cost step : ℕ) (rest : Doing Values)
-        → Nearer app job seen (after_enter x cost rest) (entering x step seen)
+        → Nearer app job seen (after_enter x cost rest) (seen_after_enter x step seen)
     enters_nearer x cost step rest p left entered is since =
         behind_is entered (left - 1) (left - 1)
         (outermost app p (x ∷ job.sections) ((cost - 1) ∷ map (λ n. n - 1) job.lefts))
@@ -205,12 +205,12 @@ module _ (app : App) where
 
     -- it leaves its innermost section
     abbrev after_leave : Doing Values → Job
-    after_leave rest = record (spent job)
-        { rest = rest; sections = drop 1 job.sections; lefts = drop 1 (spent job).lefts }
+    after_leave rest = record (job_after_step job)
+        { rest = rest; sections = drop 1 job.sections; lefts = drop 1 (job_after_step job).lefts }
 
     pub leaves_well : (rest : Doing Values) (n : ℕ) (base : Values)
         → IsFine app job.role job.priority n (drop 1 job.sections) base rest
-        → JobWell app (after_leave rest) (leaving seen)
+        → JobWell app (after_leave rest) (seen_after_leave seen)
     leaves_well rest n base fine = record {
       answered = n;
       base = base;
@@ -225,7 +225,7 @@ module _ (app : App) where
           (map (λ n. n - 1) job.lefts) lefts_spent (bounded_spent p above top);
     }
 
-    pub leaves_nearer : (rest : Doing Values) → Nearer app job seen (after_leave rest) (leaving seen)
+    pub leaves_nearer : (rest : Doing Values) → Nearer app job seen (after_leave rest) (seen_after_leave seen)
     leaves_nearer rest p left entered is since =
         outermost_kept app p entered (left - 1) job.sections (map (λ n. n - 1) job.lefts) seen.inside seen.since
         (sym well.inside) lefts_spent well.long (spent_is p left is) since

@@ -10,27 +10,27 @@ use Rattle.rt_app.specs.Tree.{App, Body}
 use Rattle.rt_app.specs.Doings.{idle_doing}
 use Rattle.rt_app.specs.BodyCost.{cost_measure, cost_of}
 use Rattle.rt_laws.specs.Services.{timer_number}
-use Rattle.rt_laws.specs.State.{Job, State, Idle, Waiting, begun, reached}
+use Rattle.rt_laws.specs.State.{Job, State, Idle, Waiting, new_job, reached_values}
 use Rattle.rt_laws.specs.Giving.{next_instant, is_due}
 
 -- an interrupt is pending from now on
-abbrev pub pended : ℕ → State → State
-pended irq s = record s { pending = slice_set s.pending irq true }
+abbrev pub state_after_pend : ℕ → State → State
+state_after_pend irq s = record s { pending = slice_set s.pending irq true }
 
 -- a step of its body, and of each open section, is spent
-abbrev pub spent : Job → Job
-spent job = record job { left = job.left - 1; lefts = map (λ n. n - 1) job.lefts }
+abbrev pub job_after_step : Job → Job
+job_after_step job = record job { left = job.left - 1; lefts = map (λ n. n - 1) job.lefts }
 
 -- the alarm is set to this instant, or to none; where it is due it comes at once
 abbrev pub alarm_set : App → Option ℕ → State → State
 alarm_set app instant s =
-    if is_due s.time instant then pended (timer_number app) (record s { alarm = None })
+    if is_due s.time instant then state_after_pend (timer_number app) (record s { alarm = None })
     else record s { alarm = instant }
 
 -- the thread as it begins `idle`, and where it waits since that is absent
-abbrev pub idling : App → Values → Option Body → Job
-idling app vs None = begun Waiting 0 0 over
-idling app vs (Some b) = begun Idle 0 (cost_of (cost_measure app) app.idle) (idle_doing app vs)
+abbrev pub idle_job : App → Values → Option Body → Job
+idle_job app vs None = new_job Waiting 0 0 over
+idle_job app vs (Some b) = new_job Idle 0 (cost_of (cost_measure app) app.idle) (idle_doing app vs)
 
 -- the clock answers the time
 abbrev pub answer : State → Action → ℕ
@@ -40,28 +40,28 @@ answer s action = 0
 module _ (app : App) (s : State) (job : Job) (others : List Job) where
   -- the running job is this one from now on, and the values are those that its rest has made
   abbrev pub runs_on : Job → Values → State
-  runs_on j vs = record s { jobs = j ∷ others; values = reached j.rest vs }
+  runs_on j vs = record s { jobs = j ∷ others; values = reached_values j.rest vs }
 
   -- the state behind an action, with these values, where the job has this left to do
-  abbrev pub changed : Action → Values → Doing Values → State
-  changed (Enters x cost) vs rest =
-      runs_on (record (spent job) {
+  abbrev pub state_after_action : Action → Values → Doing Values → State
+  state_after_action (Enters x cost) vs rest =
+      runs_on (record (job_after_step job) {
         rest = rest;
         sections = x ∷ job.sections;
         lefts =
-            (cost - 1) ∷ (spent job).lefts;
+            (cost - 1) ∷ (job_after_step job).lefts;
       }) vs
-  changed (Leaves x) vs rest =
-      runs_on (record (spent job) { rest = rest; sections = drop 1 job.sections; lefts = drop 1 (spent job).lefts }) vs
-  changed (Posts irq) vs rest = pended irq (runs_on (record (spent job) { rest = rest }) vs)
-  changed SetsAlarm vs rest = alarm_set app (next_instant s) (runs_on (record (spent job) { rest = rest }) vs)
-  changed (Ends body.Init) vs rest = runs_on (idling app vs app.idle) vs
-  changed (Ends body.Idle) vs rest = runs_on (idling app vs app.idle) vs
-  changed Returns vs rest = record s { jobs = others }
-  changed action vs rest = runs_on (record (spent job) { rest = rest }) vs
+  state_after_action (Leaves x) vs rest =
+      runs_on (record (job_after_step job) { rest = rest; sections = drop 1 job.sections; lefts = drop 1 (job_after_step job).lefts }) vs
+  state_after_action (Posts irq) vs rest = state_after_pend irq (runs_on (record (job_after_step job) { rest = rest }) vs)
+  state_after_action SetsAlarm vs rest = alarm_set app (next_instant s) (runs_on (record (job_after_step job) { rest = rest }) vs)
+  state_after_action (Ends body.Init) vs rest = runs_on (idle_job app vs app.idle) vs
+  state_after_action (Ends body.Idle) vs rest = runs_on (idle_job app vs app.idle) vs
+  state_after_action Returns vs rest = record s { jobs = others }
+  state_after_action action vs rest = runs_on (record (job_after_step job) { rest = rest }) vs
 
   -- the state behind the running job's next action, and the same state where nothing is left to do
-  abbrev pub acted : Doing Values → State
-  acted over = s
-  acted (does action made next) =
-      changed action (effect action s.values) (next (answer s action) (effect action s.values))
+  abbrev pub state_after_doing : Doing Values → State
+  state_after_doing over = s
+  state_after_doing (does action made next) =
+      state_after_action action (effect action s.values) (next (answer s action) (effect action s.values))

@@ -1,5 +1,5 @@
 -- What Baker's machine allows next, and what that changes (Stack-Based Scheduling of Realtime Processes, 1991). A job
--- starts only where its priority is above the level, and while a job may start none takes a step. A machine does one
+-- starts only where its priority is above the system ceiling, and while a job may start none takes a step. A machine does one
 -- thing after another, as `Label` has them.
 use Rattle.std.specs.Prelude.{◌≡◌, ℕ, suc, ◌<◌, true, false, List, [], ◌∷◌, slice_set, Option, Some, None}
 use Rattle.std.specs.List.{AllByRecursion}
@@ -9,10 +9,10 @@ use Rattle.rt_app.specs.Tree.{App}
 use Rattle.rt_app.specs.Handlers.{Service}
 use Rattle.rt_app.specs.Doings.{handler_doing}
 use Rattle.rt_laws.specs.Services.{is_declared, service_at, timer_number, handler_cost}
-use Rattle.rt_laws.specs.State.{Role, Waiting, Serving, Job, State, begun, reached}
-use Rattle.rt_laws.specs.Level.{candidate}
+use Rattle.rt_laws.specs.State.{Role, Waiting, Serving, Job, State, new_job, reached_values}
+use Rattle.rt_laws.specs.Preemption.{candidate}
 use Rattle.rt_laws.specs.Giving.{is_due, gives}
-use Rattle.rt_laws.specs.Acting.{pended, spent, acted}
+use Rattle.rt_laws.specs.Acting.{state_after_pend, job_after_step, state_after_doing}
 
 -- a cost has a step left; the thread that waits has no cost
 abbrev pub HasStep : Role → ℕ → Type 0
@@ -40,32 +40,32 @@ May app s (Stepped (Some (what.Take irq depth))) = (s.owing ≡ false) × (candi
 May app s (Stepped (Some w)) = Turn app s × (gives s ≡ Some w)
 
 -- the handler of an interrupt starts as a job
-abbrev pub started : App → State → ℕ → Option Service → State
-started app s irq None = s
-started app s irq (Some v) =
+abbrev pub state_after_start : App → State → ℕ → Option Service → State
+state_after_start app s irq None = s
+state_after_start app s irq (Some v) =
     let rest = handler_doing app v.handler s.values in
     record s {
-      jobs = begun (Serving irq) v.level (handler_cost app v.handler) rest ∷ s.jobs;
+      jobs = new_job (Serving irq) v.priority (handler_cost app v.handler) rest ∷ s.jobs;
       values =
-          reached rest s.values;
+          reached_values rest s.values;
     }
 
 -- the running job, which is the last started, takes a silent step
-abbrev pub stepped : State → List Job → State
-stepped s [] = s
-stepped s (job ∷ others) = record s { jobs = spent job ∷ others }
+abbrev pub state_after_silence : State → List Job → State
+state_after_silence s [] = s
+state_after_silence s (job ∷ others) = record s { jobs = job_after_step job ∷ others }
 
 -- the running job does its next action
-abbrev pub given : App → State → List Job → State
-given app s [] = s
-given app s (job ∷ others) = acted app s job others job.rest
+abbrev pub state_after_item : App → State → List Job → State
+state_after_item app s [] = s
+state_after_item app s (job ∷ others) = state_after_doing app s job others job.rest
 
 -- the state behind a label
 abbrev pub after : App → State → Label → State
-after app s (Arrived irq) = pended irq s
+after app s (Arrived irq) = state_after_pend irq s
 after app s Ticked = record s { time = suc s.time; owing = is_due (suc s.time) s.alarm }
-after app s Rang = pended (timer_number app) (record s { alarm = None; owing = false })
-after app s (Stepped None) = stepped s s.jobs
+after app s Rang = state_after_pend (timer_number app) (record s { alarm = None; owing = false })
+after app s (Stepped None) = state_after_silence s s.jobs
 after app s (Stepped (Some (what.Take irq depth))) =
-    started app (record s { pending = slice_set s.pending irq false }) irq (service_at app irq)
-after app s (Stepped (Some w)) = given app s s.jobs
+    state_after_start app (record s { pending = slice_set s.pending irq false }) irq (service_at app irq)
+after app s (Stepped (Some w)) = state_after_item app s s.jobs

@@ -19,9 +19,9 @@ label_of owing what.Alarm = if owing then Rang else Stepped (Some what.Alarm)
 label_of owing w = Stepped (Some w)
 
 -- the core steps that are done behind it: one more where it is a step
-abbrev pub done_after : ℕ → Label → ℕ
-done_after n (Stepped shown) = suc n
-done_after n label = n
+abbrev pub steps_after : ℕ → Label → ℕ
+steps_after n (Stepped shown) = suc n
+steps_after n label = n
 
 -- the state behind labels
 abbrev pub after_all : App → State → List Label → State
@@ -47,7 +47,7 @@ abbrev pub RunsByItems : App → State → ℕ → List Item → ℕ → Type 0
 RunsByItems app s n [] total = (n ≤ total) × RunsOn app s (silent (total - n))
 RunsByItems app s n (item ∷ items) total =
     Comes app s n item × RunsByItems app (after_item app s n item)
-    (done_after item.step (label_of s.owing item.what)) items total
+    (steps_after item.step (label_of s.owing item.what)) items total
 
 -- a run is one item by item, and the other way round
 pub record RunsAreByItems : Type 0 where

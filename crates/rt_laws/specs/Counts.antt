@@ -2,7 +2,7 @@
 -- the handles given, the moves, and the places that are out of each task, are n at most.
 use Rattle.std.specs.Prelude.{ℕ, suc, ◌≤◌, List, None}
 use Rattle.rt_ids.specs.Holder.{Guarded}
-use Rattle.rt_ids.specs.Content.{number, timed}
+use Rattle.rt_ids.specs.Content.{number, timer_content}
 use Rattle.rt_ids.specs.declared.ids.Section.TheVariants as section
 use Rattle.rt_trace.specs.Label.{Label, Stepped}
 use Rattle.rt_app.specs.Tree.{App}
@@ -15,8 +15,8 @@ use Rattle.rt_laws.specs.Allowed.{after}
 -- the time and the counts of a state are n at most
 pub record AreWithin (n : ℕ) (s : State) : Type 0 where
   pub time : s.time ≤ n
-  pub given : (timed (s.values (Guarded section.Timer))).given ≤ n
-  pub moved : (timed (s.values (Guarded section.Timer))).moved ≤ n
+  pub given : (timer_content (s.values (Guarded section.Timer))).given ≤ n
+  pub moved : (timer_content (s.values (Guarded section.Timer))).moved ≤ n
   pub places : (t : ℕ) → number (s.values (Guarded (section.Free t))) ≤ n
 
 -- in every run: from a moment of it, a label raises the counts by one at most, and a silent step by nothing

@@ -7,7 +7,7 @@ use Rattle.std.specs.Prelude.{ℕ, Bool, nat_le, if◌then◌else◌, List, [], 
 use Rattle.rt_ids.specs.Lists.{is_some_and}
 use Rattle.rt_ids.specs.Holder.{Guarded}
 use Rattle.rt_ids.specs.Content.{Values, number, delays, least_instant}
-use Rattle.rt_ids.specs.Action.{Action, Enters, Leaves, Emits, Posts, Clocks, Takes, Refuses, Readies, Starts, Frees}
+use Rattle.rt_ids.specs.Action.{Action, Enters, Leaves, Emits, Posts, Clocks, Places, FindsFull, Readies, Starts, Frees}
 use Rattle.rt_ids.specs.Action.{Arms, Fires, Cancels, Moves, SetsAlarm, Ends, Returns}
 use Rattle.rt_ids.specs.Doing.{Doing, over, does}
 use Rattle.rt_ids.specs.declared.ids.Section.{Section}
@@ -42,8 +42,8 @@ module _ (s : State) (role : Role) where
   item_of (Emits v) = Some (what.Emit v)
   item_of (Posts irq) = Some (what.Post irq)
   item_of Clocks = Some (what.Clock s.time)
-  item_of (Takes n) = Some (what.Placed n)
-  item_of (Refuses n) = Some (what.Full n)
+  item_of (Places n) = Some (what.Placed n)
+  item_of (FindsFull n) = Some (what.Full n)
   item_of (Readies p m) = Some (what.Ready m.task)
   item_of (Starts p m) = Some (what.Start m.task m.args)
   item_of (Frees n) = Some (what.Free n)

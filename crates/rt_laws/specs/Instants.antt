@@ -4,7 +4,7 @@
 use Rattle.std.specs.Prelude.{◌≡◌, ℕ, suc, ◌<◌, ◌≤◌, List, [], ◌∷◌, ◌++◌, Some}
 use Rattle.std.specs.List.{AllByRecursion}
 use Rattle.rt_ids.specs.Holder.{Guarded}
-use Rattle.rt_ids.specs.Content.{Message, Armed, Timed, timed, delays, least, armed_as, without_handle}
+use Rattle.rt_ids.specs.Content.{Message, Armed, Timed, timer_content, delays, least, message_of_handle, without_handle}
 use Rattle.rt_ids.specs.declared.ids.Section.TheVariants as section
 use Rattle.rt_trace.specs.Label.{Label, Stepped}
 use Rattle.rt_trace.specs.declared.item.What.TheVariants as what
@@ -17,26 +17,26 @@ use Rattle.rt_laws.specs.ByItems.{after_all}
 
 -- the timer queue of a state
 abbrev pub timer_queue : State → Timed
-timer_queue s = timed (s.values (Guarded section.Timer))
+timer_queue s = timer_content (s.values (Guarded section.Timer))
 
 -- the armed messages of a state, in order of their last arming
-abbrev pub armed : State → List Armed
-armed s = delays (s.values (Guarded section.Timer))
+abbrev pub state_delays : State → List Armed
+state_delays s = delays (s.values (Guarded section.Timer))
 
 -- a message of the task is armed last of all, for this instant, with a new handle
 pub record ArmsLast (before after : State) (task instant : ℕ) : Type 0 where
   pub message : Message
   pub of_task : message.task ≡ task
   pub given : (timer_queue after).given ≡ suc (timer_queue before).given
-  pub last : armed after
-      ≡ armed before
+  pub last : state_delays after
+      ≡ state_delays before
       ++ record { instant = instant; message = message; handle = suc (timer_queue before).given } ∷ []
 
 -- the message of the task that has the handle waits last of all, for this instant; the others are as before
 pub record MovesLast (before after : State) (task handle instant : ℕ) : Type 0 where
   pub moved : Armed
-  pub was_armed : armed_as task handle (armed before) ≡ Some moved
-  pub last : armed after ≡ without_handle task handle (armed before) ++ record moved { instant = instant } ∷ []
+  pub was_armed : message_of_handle task handle (state_delays before) ≡ Some moved
+  pub last : state_delays after ≡ without_handle task handle (state_delays before) ++ record moved { instant = instant } ∷ []
 
 -- of the armed messages this one fires: those before it are of later instants, and none is of an earlier one
 pub record FiresFirst (all : List Armed) (a : Armed) : Type 0 where

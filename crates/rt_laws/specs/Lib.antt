@@ -1,12 +1,12 @@
 pub mod Services
 pub mod State
-pub mod Level
+pub mod Preemption
 pub mod Giving
 pub mod Acting
 pub mod Allowed
 pub mod Run
 pub mod ByItems
-pub mod Sight
+pub mod Observer
 pub mod Waiting
 pub mod Properties
 pub mod Silent

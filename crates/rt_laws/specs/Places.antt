@@ -56,8 +56,8 @@ abbrev pub in_transit : ℕ → List Hand → ℕ
 in_transit t hands = count_by (is_some_and (λ u. u == t)) hands
 
 -- the places of a task that are armed
-abbrev pub armed_of : ℕ → Values → ℕ
-armed_of t vs = count_by (λ a. a.message.task == t) (delays (vs (Guarded section.Timer)))
+abbrev pub arming_count : ℕ → Values → ℕ
+arming_count t vs = count_by (λ a. a.message.task == t) (delays (vs (Guarded section.Timer)))
 
 -- the places of a task that are ready
 abbrev pub ready_of : App → ℕ → Values → ℕ
@@ -67,4 +67,4 @@ ready_of app t vs = count_by (λ m. m.task == t) (messages (vs (Guarded (section
 abbrev pub CountsPlaces : App → List Label → State → Type 0
 CountsPlaces app labels s =
     (t : ℕ) → number (s.values (Guarded (section.Free t)))
-    ≡ in_transit t (hands_after labels) + armed_of t s.values + ready_of app t s.values
+    ≡ in_transit t (hands_after labels) + arming_count t s.values + ready_of app t s.values

@@ -8,11 +8,11 @@ use Rattle.rt_ids.specs.declared.ids.Section.{Section}
 use Rattle.rt_trace.specs.Label.{Label, Stepped}
 use Rattle.rt_trace.specs.declared.item.What.TheVariants as what
 use Rattle.rt_app.specs.Tree.{App}
-use Rattle.rt_laws.specs.Sight.{Seen, Sight, first_sight, sees}
+use Rattle.rt_laws.specs.Observer.{Seen, Observer, first_sight, sees}
 use Rattle.rt_laws.specs.Waiting.{WaitsWell, ServesWell}
 
 -- a property holds at each label, of what is seen before it and of the labels behind it
-abbrev pub AtEach : (Sight → Label → List Label → Type 0) → App → Sight → List Label → Type 0
+abbrev pub AtEach : (Observer → Label → List Label → Type 0) → App → Observer → List Label → Type 0
 AtEach P app v [] = Unit {0}
 AtEach P app v (label ∷ labels) = P v label labels × AtEach P app (sees app v label) labels
 
@@ -23,7 +23,7 @@ AreExclusive jobs =
     → IsIn b.inside x → i ≡ j
 
 -- where a section is entered no job is inside it
-abbrev pub FindsFree : Sight → Label → Type 0
+abbrev pub FindsFree : Observer → Label → Type 0
 FindsFree v (Stepped (Some (what.Enter x))) = AllByRecursion (λ job. ¬ IsIn job.inside x) v.jobs
 FindsFree v label = Unit {0}
 
@@ -41,7 +41,7 @@ OneSection app labels = AtEach (λ v label behind. WaitsWell app v label behind 
     (first_sight app) labels
 
 -- what is left is what the running job entered last, as the reading of a leave has it
-abbrev pub LeavesInnermost : Sight → Label → Type 0
+abbrev pub LeavesInnermost : Observer → Label → Type 0
 LeavesInnermost v (Stepped (Some (what.Leave x value))) =
     AllByRecursion (λ job. slice_get job.inside 0 ≡ Some x) (take 1 v.jobs)
 LeavesInnermost v label = Unit {0}

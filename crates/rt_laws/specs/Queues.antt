@@ -6,8 +6,8 @@
 use Rattle.std.specs.Prelude.{◌≡◌, ℕ, ◌<◌, ◌≤◌, List, [], ◌∷◌, Option, Some, None, IfSome}
 use Rattle.rt_ids.specs.Choice.{IsIn}
 use Rattle.rt_ids.specs.Holder.{Guarded}
-use Rattle.rt_ids.specs.Content.{Message, Armed, Values, number, messages, delays, least, armed_as}
-use Rattle.rt_ids.specs.Action.{Action, Takes, Refuses, Readies, Starts, Frees, Arms, Fires, Cancels, Moves}
+use Rattle.rt_ids.specs.Content.{Message, Armed, Values, number, messages, delays, least, message_of_handle}
+use Rattle.rt_ids.specs.Action.{Action, Places, FindsFull, Readies, Starts, Frees, Arms, Fires, Cancels, Moves}
 use Rattle.rt_ids.specs.Doing.{Doing, over, does}
 use Rattle.rt_ids.specs.declared.ids.Section.{Section}
 use Rattle.rt_ids.specs.declared.ids.Section.TheVariants as section
@@ -17,8 +17,8 @@ use Rattle.rt_laws.specs.State.{Job, State}
 
 -- the section of the queue that an action looks at or changes
 abbrev pub queue_of : Action → Option Section
-queue_of (Takes n) = Some (section.Free n)
-queue_of (Refuses n) = Some (section.Free n)
+queue_of (Places n) = Some (section.Free n)
+queue_of (FindsFull n) = Some (section.Free n)
 queue_of (Frees n) = Some (section.Free n)
 queue_of (Readies p m) = Some (section.Ready p)
 queue_of (Starts p m) = Some (section.Ready p)
@@ -34,12 +34,12 @@ InQueue sections action = IfSome (queue_of action) (λ x. IsIn sections x)
 
 -- some armed message of the task has the handle
 abbrev pub HasHandle : ℕ → ℕ → Values → Type 0
-HasHandle n h vs = (a : Armed) × (armed_as n h (delays (vs (Guarded section.Timer))) ≡ Some a)
+HasHandle n h vs = (a : Armed) × (message_of_handle n h (delays (vs (Guarded section.Timer))) ≡ Some a)
 
 -- an action keeps the order of its queue, at a time and with these contents
 abbrev pub KeepsOrder : App → ℕ → Values → Action → Type 0
-KeepsOrder app time vs (Takes n) = number (vs (Guarded (section.Free n))) < capacity_of app n
-KeepsOrder app time vs (Refuses n) = number (vs (Guarded (section.Free n))) ≡ capacity_of app n
+KeepsOrder app time vs (Places n) = number (vs (Guarded (section.Free n))) < capacity_of app n
+KeepsOrder app time vs (FindsFull n) = number (vs (Guarded (section.Free n))) ≡ capacity_of app n
 KeepsOrder app time vs (Starts p m) = (more : List Message) × (messages (vs (Guarded (section.Ready p))) ≡ m ∷ more)
 KeepsOrder app time vs (Fires m) =
     (a : Armed) × (least (delays (vs (Guarded section.Timer))) ≡ Some a) × (a.message ≡ m) × (a.instant ≤ time)

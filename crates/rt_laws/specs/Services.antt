@@ -20,7 +20,7 @@ service_at app irq = find (λ s. is_some_and (λ n. n == irq) (irq_number app s.
 
 -- the priority that it is served at, and 0 where it is not enabled
 abbrev pub priority_of : App → ℕ → ℕ
-priority_of app irq = or_zero (option_map (λ s. s.level) (service_at app irq))
+priority_of app irq = or_zero (option_map (λ s. s.priority) (service_at app irq))
 
 -- the number of the monotonic's interrupt; without a monotonic nothing is armed and the alarm never comes
 abbrev pub timer_number : App → ℕ

@@ -4,7 +4,7 @@ use Rattle.std.specs.Prelude.{◌≡◌, ℕ, suc, ◌-◌, ◌≤◌, false, Li
 use Rattle.std.specs.List.{AllByRecursion}
 use Rattle.rt_app.specs.Tree.{App}
 use Rattle.rt_laws.specs.State.{Role, Waiting, Job, State}
-use Rattle.rt_laws.specs.Level.{candidate}
+use Rattle.rt_laws.specs.Preemption.{candidate}
 use Rattle.rt_laws.specs.Run.{RunsOn}
 use Rattle.rt_laws.specs.ByItems.{after_all, silent}
 
@@ -19,13 +19,13 @@ MaySpend k [] = ⊥
 MaySpend k (job ∷ others) = HasSteps job.role job.left k × AllByRecursion (λ n. k ≤ n) job.lefts
 
 -- a job of which so many steps are spent
-abbrev pub spent_by : ℕ → Job → Job
-spent_by k job = record job { left = job.left - k; lefts = map (λ n. n - k) job.lefts }
+abbrev pub job_after_steps : ℕ → Job → Job
+job_after_steps k job = record job { left = job.left - k; lefts = map (λ n. n - k) job.lefts }
 
 -- so many steps of the running job are spent
-abbrev pub spending : ℕ → List Job → List Job
-spending k [] = []
-spending k (job ∷ others) = spent_by k job ∷ others
+abbrev pub jobs_after_steps : ℕ → List Job → List Job
+jobs_after_steps k [] = []
+jobs_after_steps k (job ∷ others) = job_after_steps k job ∷ others
 
 -- one or more silent steps may pass exactly where they may be spent, and lead there
 pub record SilentStepsByCost : Type 0 where
@@ -33,4 +33,4 @@ pub record SilentStepsByCost : Type 0 where
       → RunsOn app s (silent k)
   pub needs : (app : App) (s : State) (k : ℕ) → RunsOn app s (silent (suc k))
       → (s.owing ≡ false) × (candidate app s ≡ None) × MaySpend (suc k) s.jobs
-  pub leads : (app : App) (s : State) (k : ℕ) → after_all app s (silent k) ≡ record s { jobs = spending k s.jobs }
+  pub leads : (app : App) (s : State) (k : ℕ) → after_all app s (silent k) ≡ record s { jobs = jobs_after_steps k s.jobs }

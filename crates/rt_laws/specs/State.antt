@@ -49,14 +49,14 @@ pub record State : Type 0 where
   pub owing : Bool
 
 -- a job as it begins
-abbrev pub begun : Role → ℕ → ℕ → Doing Values → Job
-begun role priority cost rest =
+abbrev pub new_job : Role → ℕ → ℕ → Doing Values → Job
+new_job role priority cost rest =
     record { role = role; priority = priority; rest = rest; left = cost; sections = []; lefts = [] }
 
 -- the values that code has made on its way to its next action, from these
-abbrev pub reached : Doing Values → Values → Values
-reached over vs = vs
-reached (does action made next) vs = made
+abbrev pub reached_values : Doing Values → Values → Values
+reached_values over vs = vs
+reached_values (does action made next) vs = made
 
 -- what resources and queues hold at reset: the declared values; no place is out, no message ready or armed
 abbrev pub first_values : App → Values
@@ -69,9 +69,9 @@ first_values app (Own n) = Number (or_zero (option_map (λ l. l.first) (slice_ge
 -- `init` runs with all interrupts masked, so it has the greatest priority
 abbrev pub first : App → State
 first app = record {
-  jobs = begun Init (2 ^ app.bits) (cost_of (cost_measure app) app.init) (init_doing app (first_values app)) ∷ [];
+  jobs = new_job Init (2 ^ app.bits) (cost_of (cost_measure app) app.init) (init_doing app (first_values app)) ∷ [];
   pending = replicate IRQ_NUMBERS false;
-  values = reached (init_doing app (first_values app)) (first_values app);
+  values = reached_values (init_doing app (first_values app)) (first_values app);
   time = 0;
   alarm = None;
   owing = false;

@@ -14,16 +14,16 @@ use Rattle.rt_app.specs.Ceiling.{ceiling}
 use Rattle.rt_app.specs.Handlers.{Service}
 use Rattle.rt_app.specs.Waiting.{waiting_bound}
 use Rattle.rt_laws.specs.Services.{service_at, priority_of}
-use Rattle.rt_laws.specs.Sight.{Seen, Sight, sees}
+use Rattle.rt_laws.specs.Observer.{Seen, Observer, sees}
 
 -- who takes a step, as it is before the step; a take is no step of a job
-abbrev pub stepper : Sight → Label → List Seen
+abbrev pub stepper : Observer → Label → List Seen
 stepper v (Stepped (Some (what.Take irq depth))) = []
 stepper v (Stepped shown) = take 1 v.jobs
 stepper v label = []
 
 -- who takes the steps of these labels, up to the one that ends them
-abbrev pub steppers : App → (Label → Bool) → Sight → List Label → List Seen
+abbrev pub steppers : App → (Label → Bool) → Observer → List Label → List Seen
 steppers app ends v [] = []
 steppers app ends v (label ∷ labels) =
     if ends label then [] else stepper v label ++ steppers app ends (sees app v label) labels
@@ -61,18 +61,18 @@ pub record LieInOneSection (app : App) (p : ℕ) (steps : List Seen) : Type 0 wh
   pub few : length steps ≤ waiting_bound app p
 
 -- whether an interrupt is pending, as far as is seen
-abbrev pub is_pending : Sight → ℕ → Bool
+abbrev pub is_pending : Observer → ℕ → Bool
 is_pending v irq = slice_index_or v.pending irq false
 
 -- each enabled interrupt that becomes pending here and was not: the steps that lower jobs take until its take
-abbrev pub WaitsWell : App → Sight → Label → List Label → Type 0
+abbrev pub WaitsWell : App → Observer → Label → List Label → Type 0
 WaitsWell app v label labels =
     (irq : ℕ) (s : Service) → service_at app irq ≡ Some s → is_pending v irq ≡ false
     → is_pending (sees app v label) irq ≡ true
-    → LieInOneSection app s.level (lower s.level (steppers app (is_take irq) (sees app v label) labels))
+    → LieInOneSection app s.priority (lower s.priority (steppers app (is_take irq) (sees app v label) labels))
 
 -- from a take to its return no job of lower priority takes a step
-abbrev pub ServesWell : App → Sight → Label → List Label → Type 0
+abbrev pub ServesWell : App → Observer → Label → List Label → Type 0
 ServesWell app v (Stepped (Some (what.Take irq depth))) labels =
     lower (priority_of app irq) (steppers app (is_return irq)
     (sees app v (Stepped (Some (what.Take irq depth)))) labels) ≡ []

@@ -12,7 +12,7 @@ ghost use Rattle.rt_laws.specs.Laws.{
   RunsServeReady,
   TheHighestRuns,
 };
-ghost use Rattle.rt_laws.specs.Level.{CandidateIsHighest};
+ghost use Rattle.rt_laws.specs.Preemption.{CandidateIsHighest};
 ghost use Rattle.rt_laws.specs.Silent.{SilentStepsByCost};
 
 /// The interrupt that is to be taken is the one of greatest priority that may start, and of equal ones the one with the

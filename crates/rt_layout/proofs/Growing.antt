@@ -16,7 +16,7 @@ use Rattle.rt_app.specs.View.{task_of}
 use Rattle.rt_app.specs.Level.{is_software}
 use Rattle.rt_app.specs.Layout.{Layout, has_inputs}
 use Rattle.rt_layout.specs.Inside.Rows.{free_rows, input_rows, queue_rows, task_rows, ready_rows, timed_rows}
-use Rattle.rt_layout.specs.Inside.Growing.{with_queues, skipped, with_task, with_level, with_mono}
+use Rattle.rt_layout.specs.Inside.Growing.{with_queues, without_queues, with_task, with_level, with_mono}
 use Rattle.rt_layout.proofs.Rows.{grown}
 
 length-free_rows : (t : Task) → length (free_rows t) ≡ suc t.capacity
@@ -37,23 +37,23 @@ queues_are l t free inputs at behind first_one front all p q r s w u v =
     λ i. record { cells = cells i; inputs = second i; free = first i; ready = l.ready; timer = l.timer }
 
 module _ (l : Layout) (t : Task) where
-  cells_task : (b : Bool) → (if b then with_queues l t else skipped l).cells ≡ l.cells ++ (if b then queue_rows t else [])
+  cells_task : (b : Bool) → (if b then with_queues l t else without_queues l).cells ≡ l.cells ++ (if b then queue_rows t else [])
   cells_task true = refl
   cells_task false = sym (append-nil l.cells)
 
-  free_task : (b : Bool) → (if b then with_queues l t else skipped l).free ≡ l.free ++ (if b then length l.cells else 0) ∷ []
+  free_task : (b : Bool) → (if b then with_queues l t else without_queues l).free ≡ l.free ++ (if b then length l.cells else 0) ∷ []
   free_task true = refl
   free_task false = refl
 
-  inputs_task : (b : Bool) → (if b then with_queues l t else skipped l).inputs ≡ l.inputs ++ (if b && nat_lt 0 t.args then length l.cells + 1 + t.capacity else 0) ∷ []
+  inputs_task : (b : Bool) → (if b then with_queues l t else without_queues l).inputs ≡ l.inputs ++ (if b && nat_lt 0 t.args then length l.cells + 1 + t.capacity else 0) ∷ []
   inputs_task true = refl
   inputs_task false = refl
 
-  ready_task : (b : Bool) → (if b then with_queues l t else skipped l).ready ≡ l.ready
+  ready_task : (b : Bool) → (if b then with_queues l t else without_queues l).ready ≡ l.ready
   ready_task true = refl
   ready_task false = refl
 
-  timer_task : (b : Bool) → (if b then with_queues l t else skipped l).timer ≡ l.timer
+  timer_task : (b : Bool) → (if b then with_queues l t else without_queues l).timer ≡ l.timer
   timer_task true = refl
   timer_task false = refl
 

@@ -18,7 +18,7 @@ use Rattle.rt_app.specs.Tree.{Task, App}
 use Rattle.rt_app.specs.View.{task_of, app_of}
 use Rattle.rt_app.specs.Level.{is_of_level, levels, armed_messages}
 use Rattle.rt_app.specs.Limits.{KeepsTaskLimits, KeepsLimits}
-use Rattle.rt_app.specs.Layout.{Layout, layout, memory, row_of, ready_room, timed_at}
+use Rattle.rt_app.specs.Layout.{Layout, layout, memory, row_of, ready_room, timer_queue_at}
 use Rattle.rt_layout.specs.Inside.Rows.{resource_row, local_row, task_rows, ready_rows, timed_rows}
 use Rattle.rt_layout.specs.Inside.Rooms.{room_of, HasRooms}
 use Rattle.rt_layout.specs.Inside.Growing.{none, with_resources, with_task, with_level, with_levels, roomy, with_mono}
@@ -161,10 +161,10 @@ module _ (app : App) where
       ap length on_levels_are,
     )
 
-    timer_number : whole.timer ≡ timed_at app app.mono
+    timer_number : whole.timer ≡ timer_queue_at app app.mono
     timer_number = go app.mono
       where
-        go : (o : Option Mono) → (with_mono (armed_messages app) o on_all_levels).timer ≡ timed_at app o
+        go : (o : Option Mono) → (with_mono (armed_messages app) o on_all_levels).timer ≡ timer_queue_at app o
         go None = levels_timer room on_tasks (roomy rooms 256) ∙ tasks_timer (with_resources none app) app.tasks
         go (Some mono) = omega (
           arith,

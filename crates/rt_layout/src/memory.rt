@@ -6,7 +6,7 @@ ghost use Rattle.rt_app.specs.Limits.{KeepsLimits};
 ghost use Rattle.rt_app.specs.View.{task_of, app_of};
 ghost use Rattle.rt_app.specs.Layout.{layout};
 ghost use Rattle.rt_layout.specs.Inside.Rows.{queue_rows, task_rows};
-ghost use Rattle.rt_layout.specs.Inside.Growing.{none, with_resources, with_queues, skipped, with_task, with_level};
+ghost use Rattle.rt_layout.specs.Inside.Growing.{none, with_resources, with_queues, without_queues, with_task, with_level};
 ghost use Rattle.rt_layout.specs.Inside.Growing.{with_levels, levels_rows, with_timer, with_mono};
 
 use crate::queues::{push_free, push_inputs, push_ready, push_timer};
@@ -20,7 +20,7 @@ use std::alloc::Global;
 
 /// A task that has no queues.
 fn skip_task(layout: &mut Layout) -> Result<(), NoMemory>
-    ensures { OnOk result (layout.new ≡ skipped layout.old) }
+    ensures { OnOk result (layout.new ≡ without_queues layout.old) }
 {
     layout.free.push(0)?;
     layout.inputs.push(0)?;

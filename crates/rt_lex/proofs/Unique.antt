@@ -17,7 +17,7 @@ use Rattle.rt_lex.specs.Spelling.{short_signs, long_signs}
 use Rattle.rt_lex.specs.Token.{Token}
 use Rattle.rt_lex.specs.Tokens.{tokens}
 use Rattle.rt_lex.specs.Split.{is_run, is_hex, is_number, is_sign, is_whole, is_foreign, has_kind, LieIn, IsSlice, IsLongest}
-use Rattle.rt_lex.specs.Gap.{Standing, Outside, Slash, Inside, Lost, after_byte, standing, HaveGaps, IsLastGap}
+use Rattle.rt_lex.specs.Gap.{Standing, Outside, Slash, Inside, Lost, after_byte, standing_behind, HaveGaps, IsLastGap}
 use Rattle.rt_lex.proofs.Parts.{tokens_lie, tokens_longest}
 use Rattle.rt_lex.proofs.Gaps.{tokens_have_gaps}
 
@@ -286,16 +286,16 @@ begins : (src : List ℕ) (t : Token) → IsSlice src t → IsLongest src t → 
 begins src t s l = begins_at src t (drop t.at src) t.text refl s.slice l.some (whole_or t.kind t.text l.kind)
 
 -- more bytes than stand before a token are no gap
-crosses : (src : List ℕ) (from : ℕ) (t : Token) → from ≤ t.at → Begins src t → standing (take (t.at - from) (drop from src)) ≡ Outside → starts_with eqb (drop t.at src) (47 ∷ 47 ∷ []) ≡ false
-    → (n : ℕ) → t.at - from < n → Stuck (standing (take n (drop from src)))
+crosses : (src : List ℕ) (from : ℕ) (t : Token) → from ≤ t.at → Begins src t → standing_behind (take (t.at - from) (drop from src)) ≡ Outside → starts_with eqb (drop t.at src) (47 ∷ 47 ∷ []) ≡ false
+    → (n : ℕ) → t.at - from < n → Stuck (standing_behind (take n (drop from src)))
 crosses src from t before s gap plain n far =
     let behind : drop (t.at - from) (drop from src) ≡ s.first ∷ s.rest =
     drop-drop (t.at - from) from src ∙ ap (λ (k : ℕ). drop k src) (arith_at from t.at before) ∙ s.here in
     let whole : take n (drop from src) ≡ take (t.at - from) (drop from src) ++ (s.first ∷ take (n - suc (t.at - from)) s.rest) =
     ap (λ (k : ℕ). take k (drop from src)) (split_at n (t.at - from) far) ∙ take-add (t.at - from) (suc (n - suc (t.at - from))) (drop from src)
     ∙ ap (λ (l : List ℕ). take (t.at - from) (drop from src) ++ take (suc (n - suc (t.at - from))) l) behind in
-    let read : standing (take n (drop from src)) ≡ fold after_byte Outside (s.first ∷ take (n - suc (t.at - from)) s.rest) =
-    ap standing whole ∙ fold-append after_byte Outside (take (t.at - from) (drop from src)) (s.first ∷ take (n - suc (t.at - from)) s.rest)
+    let read : standing_behind (take n (drop from src)) ≡ fold after_byte Outside (s.first ∷ take (n - suc (t.at - from)) s.rest) =
+    ap standing_behind whole ∙ fold-append after_byte Outside (take (t.at - from) (drop from src)) (s.first ∷ take (n - suc (t.at - from)) s.rest)
     ∙ ap (λ (x : Standing). fold after_byte x (s.first ∷ take (n - suc (t.at - from)) s.rest)) gap in
     let p = no_slashes (n - suc (t.at - from)) s.first s.rest (subst (λ (l : List ℕ). starts_with eqb l (47 ∷ 47 ∷ []) ≡ false) s.here plain) in
     subst Stuck (sym read) (stuck_at s.first (take (n - suc (t.at - from)) s.rest) (eqb s.first 47) refl s.dark p)
@@ -318,7 +318,7 @@ token_no_gap src from t tokens lie l gaps last =
     let far : t.at - from < length (drop from src) = omega (arith, lie.0, lie.1.within, l.some, length-drop from src) in
     let stuck = crosses src from t lie.0 (begins src t lie.1 l) gaps.0 gaps.1 (length (drop from src)) far in
     let all : take (length (drop from src)) (drop from src) ≡ drop from src = take-length (drop from src) in
-    stuck_no_gap (standing (drop from src)) (subst (λ (x : List ℕ). Stuck (standing x)) all stuck) last.0 last.1
+    stuck_no_gap (standing_behind (drop from src)) (subst (λ (x : List ℕ). Stuck (standing_behind x)) all stuck) last.0 last.1
 
 -- no token stands before the first of another list
 no_earlier : (src : List ℕ) (from : ℕ) (t u : Token) (ts us : List Token) → LieIn src from (t ∷ ts) → IsLongest src t → HaveGaps src from (t ∷ ts) → HaveGaps src from (u ∷ us) → t.at < u.at → ⊥

@@ -9,8 +9,8 @@ use Rattle.rt_ast.specs.Printable.{IfThere, ArePrintableNames, IsPrintableIrq, I
 use Rattle.rt_grammar.specs.Tokens.{free, adds}
 use Rattle.rt_grammar.specs.Tokens.{names}
 use Rattle.rt_grammar.specs.Declaration.{dispatchers, fpu, Head, head}
-use Rattle.rt_grammar.specs.Resources.{interrupt, interrupts, monotonic, first_value, lock_free, locked, shared, local, locals}
-use Rattle.rt_grammar.specs.Options.{Options, no_options, Owner, OfTask, is_init, binds_option, priority_option, capacity_option, listed, shared_option, local_option, option, options}
+use Rattle.rt_grammar.specs.Resources.{interrupt, interrupts, monotonic, first_value, lock_free, locked_resource, shared_resources, local, locals}
+use Rattle.rt_grammar.specs.Options.{Options, no_options, Owner, OfTask, is_init, binds_option, priority_option, capacity_option, listed_resource, shared_option, local_option, option, options}
 use Rattle.rt_grammar.specs.Bodies.{or_empty, body_of, thread_body, arguments, task}
 use Rattle.rt_limits.proofs.Keeps.{Keeps, AreFew, none_are_few, one_more_is_few, keeps_gives, keeps_then, keeps_or, keeps_or_else, keeps_only_if, keeps_as, keeps_repeat, keeps_all, keeps_few}
 use Rattle.rt_limits.proofs.KeepsTokens.{still_below, between, keeps_word, keeps_sign, keeps_this_name, keeps_name}
@@ -64,10 +64,10 @@ keeps_lock_free : (before : ℕ) → Keeps (lock_free before) (λ r. IsPrintable
 keeps_lock_free before =
     keeps_then keeps_word (λ at under. keeps_then keeps_name (λ x h. keeps_then keeps_first_value (λ n m. keeps_gives ((h.name, m), still_below SHARED before limit.Shared under))))
 
-keeps_locked : (before : ℕ) → Keeps (locked before) (λ r. IsPrintableResource r × (before < SHARED))
+keeps_locked : (before : ℕ) → Keeps (locked_resource before) (λ r. IsPrintableResource r × (before < SHARED))
 keeps_locked before = keeps_then keeps_name (λ x h. keeps_then keeps_first_value (λ n m. keeps_gives ((h.name, m), still_below SHARED before limit.Shared h.free)))
 
-pub keeps_shared : Keeps shared (AreFew IsPrintableResource SHARED)
+pub keeps_shared : Keeps shared_resources (AreFew IsPrintableResource SHARED)
 keeps_shared =
     keeps_or_else (none_are_few IsPrintableResource SHARED) (keeps_then keeps_word (λ at under. keeps_then keeps_sign (λ opened under.
     keeps_list (AreFew IsPrintableResource SHARED) (keeps_few (λ before. keeps_or (keeps_lock_free before) (keeps_locked before))) [] (none_are_few IsPrintableResource SHARED))))
@@ -106,7 +106,7 @@ keeps_capacity owner o k =
     keeps_only_if (λ holds. keeps_then keeps_word (λ at under. keeps_then keeps_sign (λ equals under. keeps_then keeps_number (λ n m.
     keeps_gives (record { binds = k.binds; priority = k.priority; capacity = between 1 CAPACITY n.value limit.Capacity m.free; shared = k.shared; local = k.local; none = k.none })))))
 
-keeps_listed : Keeps listed IsPrintableListed
+keeps_listed : Keeps listed_resource IsPrintableListed
 keeps_listed = keeps_or (keeps_then keeps_sign (λ at under. keeps_then keeps_name (λ x h. keeps_gives h.name))) (keeps_then keeps_name (λ x h. keeps_gives h.name))
 
 not_init : (init other : Bool) → (not init && other) ≡ true → init ≡ true → ⊥

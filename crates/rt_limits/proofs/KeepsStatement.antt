@@ -7,18 +7,18 @@ use Rattle.rt_ids.specs.declared.limits.TheConstants.{NESTING, STATEMENTS, TURNS
 use Rattle.rt_ast.specs.Tree.{Statement, Block, Empty, Then, Spawn}
 use Rattle.rt_ast.specs.PrintableBody.{IsPrintableExpression, IsPrintableSpawn, IsPrintableValue, IsPrintableStatement, ArePrintable, inner_blocks, blocks_of, statements_in, statements_of}
 use Rattle.rt_grammar.specs.Tokens.{free}
-use Rattle.rt_grammar.specs.Limits.{counted, nested}
+use Rattle.rt_grammar.specs.Limits.{statement_limit, nesting_limit}
 use Rattle.rt_grammar.specs.Spawn.{arguments, handle, soon, after, cancel, move, spawn, value}
 use Rattle.rt_grammar.specs.Simple.{Counted, bind, assign, emit, pend, call}
-use Rattle.rt_grammar.specs.Statement.{Blocks, branch, loop, further, lock, statement, block_of, braced, block, inside}
+use Rattle.rt_grammar.specs.Statement.{Blocks, branch, loop, further, lock, statement, block_of, braced_block, block, inside}
 use Rattle.rt_limits.proofs.Keeps.{Keeps, keeps_gives, keeps_then, keeps_or, keeps_or_else, keeps_never, keeps_repeat, keeps_all}
 use Rattle.rt_limits.proofs.KeepsTokens.{first_free, second_free, not_above, still_below, keeps_word, keeps_sign, keeps_name, keeps_number, keeps_list}
 use Rattle.rt_limits.proofs.KeepsExpression.{keeps_expression}
 
-few_before : (before : ℕ) → counted before ≡ None → before < STATEMENTS
+few_before : (before : ℕ) → statement_limit before ≡ None → before < STATEMENTS
 few_before before e = still_below STATEMENTS before limit.Statements e
 
-not_too_deep : (nesting : ℕ) → nested nesting ≡ None → nesting ≤ NESTING
+not_too_deep : (nesting : ℕ) → nesting_limit nesting ≡ None → nesting ≤ NESTING
 not_too_deep nesting e = not_above nesting NESTING limit.Nesting e
 
 -- Spawns and values.
@@ -90,7 +90,7 @@ block_counts (Then s rest) = omega arith
 
 module _ (nesting before : ℕ) (deep : nesting ≤ NESTING) where
   -- a statement with no block in it
-  plain_kept : (s : Statement) → IsPrintableStatement s → inner_blocks s ≡ 0 → statements_in s ≡ 1 → counted before ≡ None → IsStatementKept nesting before (s, suc before)
+  plain_kept : (s : Statement) → IsPrintableStatement s → inner_blocks s ≡ 0 → statements_in s ≡ 1 → statement_limit before ≡ None → IsStatementKept nesting before (s, suc before)
   plain_kept s h none one under =
       let below = few_before before under in
       record { printable = h; shallow = omega arith; count = omega arith; few = omega arith }
@@ -114,7 +114,7 @@ module _ (nesting before : ℕ) (deep : nesting ≤ NESTING) where
       keeps_then keeps_word (λ at under. keeps_then keeps_name (λ irq h. keeps_then keeps_sign (λ end k. keeps_gives (plain_kept _ h.name refl refl under))))
 
   keeps_call : (most : ℕ) → Keeps (call most before) (IsStatementKept nesting before)
-  keeps_call most = keeps_then (keeps_spawn most (counted before)) (λ s h. keeps_then keeps_sign (λ end k. keeps_gives (plain_kept _ h.printable refl refl h.free)))
+  keeps_call most = keeps_then (keeps_spawn most (statement_limit before)) (λ s h. keeps_then keeps_sign (λ end k. keeps_gives (plain_kept _ h.printable refl refl h.free)))
 
   -- statements with blocks in them
   module _ (most : ℕ) (blocks insides : Blocks) (keeps : KeepsBlocks blocks) (keeps' : KeepsBlocks insides) where
@@ -181,7 +181,7 @@ one_more_kept nesting before all s h k = record {
 }
 
 module _ (most : ℕ) (blocks insides : Blocks) (keeps : KeepsBlocks blocks) (keeps' : KeepsBlocks insides) (nesting before : ℕ) (few : before ≤ STATEMENTS) where
-  keeps_braced : Keeps (braced most blocks insides nesting before) (IsBlockKept nesting before)
+  keeps_braced : Keeps (braced_block most blocks insides nesting before) (IsBlockKept nesting before)
   keeps_braced =
       keeps_then keeps_sign (λ at under.
       let deep = not_too_deep nesting under in
@@ -192,8 +192,8 @@ module _ (most : ℕ) (blocks insides : Blocks) (keeps : KeepsBlocks blocks) (ke
   keeps_further : Keeps (further insides nesting before) (IsBlockKept nesting before)
   keeps_further =
       keeps_then keeps_sign (λ at under. keeps_then keeps_name (λ r h.
-      let deep = not_too_deep nesting (first_free (nested nesting) (counted before) h.free) in
-      let below = few_before before (second_free (nested nesting) (counted before) h.free) in
+      let deep = not_too_deep nesting (first_free (nesting_limit nesting) (statement_limit before) h.free) in
+      let below = few_before before (second_free (nesting_limit nesting) (statement_limit before) h.free) in
       keeps_then (keeps'.kept (suc nesting) (suc before) (omega arith)) (λ inner b.
       keeps_gives (record { printable = ((h.name, b.printable), tt); shallow = omega arith; count = omega arith; few = b.few }))))
 

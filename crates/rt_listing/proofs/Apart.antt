@@ -7,7 +7,7 @@ use Rattle.rt_code.specs.Image.{Image}
 use Rattle.rt_code.specs.declared.instr.Instr.{Instr}
 use Rattle.rt_code.specs.declared.instr.Note.{Note}
 use Rattle.rt_code.specs.Listable.{IsListable, AreWritable, HasTask, HasInstr, HasNote, IsWord, IsPlain}
-use Rattle.rt_listing.specs.Listing.{sizes_line, numbered, cell_line, irq_line, body_line, code_line, listing}
+use Rattle.rt_listing.specs.Listing.{sizes_line, lines_with_numbers, cell_line, irq_line, body_line, code_line, listing}
 use Rattle.rt_listing.specs.Numbers.{IsShort, AreShort, handler_numbers, instr_numbers, note_numbers, HasShortNumbers}
 use Rattle.rt_listing.proofs.Reading.{Reader}
 use Rattle.rt_listing.proofs.Lined.{form_of, form_reads}
@@ -23,22 +23,22 @@ record IsKind {A : Type 0} (Good : A → Type 0) (line : ℕ → A → List ℕ)
   marked : (n : ℕ) (x : A) (rest : List ℕ) → mark (line n x ++ rest) ≡ own
 
 module _ {A : Type 0} (Good : A → Type 0) (line : ℕ → A → List ℕ) (read : Reader A) (own : ℕ) (kind : IsKind Good line read own) where
-  own_mark : (n : ℕ) (x : A) (xs : List A) (r s : List ℕ) → s ≡ numbered line n (x ∷ xs) ++ r → mark s ≡ own
+  own_mark : (n : ℕ) (x : A) (xs : List A) (r s : List ℕ) → s ≡ lines_with_numbers line n (x ∷ xs) ++ r → mark s ≡ own
   own_mark n x xs r s e = ap mark (e ∙ append_assoc (line n x) _ r) ∙ kind.marked n x _
 
   -- lines of this kind do not begin as others do
-  begins_otherwise : (n : ℕ) (xs : List A) (rest : List ℕ) (other : ℕ) → own ≢ other → mark rest ≢ other → mark (numbered line n xs ++ rest) ≢ other
+  begins_otherwise : (n : ℕ) (xs : List A) (rest : List ℕ) (other : ℕ) → own ≢ other → mark rest ≢ other → mark (lines_with_numbers line n xs ++ rest) ≢ other
   begins_otherwise n [] rest other differ h = h
   begins_otherwise n (x ∷ xs) rest other differ h = λ e. differ (sym (own_mark n x xs rest _ refl) ∙ e)
 
   lines_tell : (n : ℕ) (xs ys : List A) (r s : List ℕ) → AllByRecursion Good xs → AllByRecursion Good ys → mark r ≢ own → mark s ≢ own
-      → numbered line n xs ++ r ≡ numbered line n ys ++ s → (xs ≡ ys) × (r ≡ s)
+      → lines_with_numbers line n xs ++ r ≡ lines_with_numbers line n ys ++ s → (xs ≡ ys) × (r ≡ s)
   lines_tell n [] [] r s gx gy hr hs e = (refl, e)
   lines_tell n [] (y ∷ ys) r s gx gy hr hs e = absurd (hr (own_mark n y ys s r e))
   lines_tell n (x ∷ xs) [] r s gx gy hr hs e = absurd (hs (own_mark n x xs r s (sym e)))
   lines_tell n (x ∷ xs) (y ∷ ys) r s gx gy hr hs e =
-      let more = numbered line (suc n) xs ++ r in
-      let others = numbered line (suc n) ys ++ s in
+      let more = lines_with_numbers line (suc n) xs ++ r in
+      let others = lines_with_numbers line (suc n) ys ++ s in
       let texts : line n x ++ more ≡ line n y ++ others = sym (append_assoc (line n x) _ r) ∙ e ∙ append_assoc (line n y) _ s in
       let read_both : (x, 10 ∷ more) ≡ (y, 10 ∷ others) = sym (kind.reads n x more gx.0) ∙ ap read texts ∙ kind.reads n y others gy.0 in
       let rests : more ≡ others = ap (λ (p : A × List ℕ). drop 1 p.1) read_both in
@@ -60,18 +60,18 @@ code names good = record { reads = λ n line rest. line_reads names n line rest 
 
 -- a text behind the lines of one kind after another
 abbrev code_on : Names → Image → List ℕ
-code_on names img = numbered (code_line names) 0 img.code ++ []
+code_on names img = lines_with_numbers (code_line names) 0 img.code ++ []
 
 abbrev bodies_on : Names → Image → List ℕ
-bodies_on names img = numbered (λ n. body_line names) 0 img.bodies ++ code_on names img
+bodies_on names img = lines_with_numbers (λ n. body_line names) 0 img.bodies ++ code_on names img
 
 abbrev irqs_on : Names → Image → List ℕ
-irqs_on names img = numbered (λ n. irq_line) 0 img.irqs ++ bodies_on names img
+irqs_on names img = lines_with_numbers (λ n. irq_line) 0 img.irqs ++ bodies_on names img
 
 abbrev cells_on : Names → Image → List ℕ
-cells_on names img = numbered cell_line 0 img.cells ++ irqs_on names img
+cells_on names img = lines_with_numbers cell_line 0 img.cells ++ irqs_on names img
 
-flat_is_numbered : {A : Type 0} (line : A → List ℕ) (n : ℕ) (xs : List A) → flat_map line xs ≡ numbered (λ n. line) n xs
+flat_is_numbered : {A : Type 0} (line : A → List ℕ) (n : ℕ) (xs : List A) → flat_map line xs ≡ lines_with_numbers (λ n. line) n xs
 flat_is_numbered line n [] = refl
 flat_is_numbered line n (x ∷ xs) = ap (λ more. line x ++ more) (flat_is_numbered line (suc n) xs)
 

@@ -11,7 +11,7 @@ use Rattle.rt_code.specs.declared.instr.Instr.{Instr}
 use Rattle.rt_code.specs.declared.instr.Instr.TheVariants as instr
 use Rattle.rt_code.specs.declared.instr.Note.{Note}
 use Rattle.rt_code.specs.declared.instr.Note.TheVariants as note
-use Rattle.rt_listing.specs.Words.{spaced, instr_text, note_text}
+use Rattle.rt_listing.specs.Words.{spaced_number, instr_text, note_text}
 use Rattle.rt_listing.specs.Numbers.{AreShort, instr_numbers, section_numbers, note_numbers}
 use Rattle.rt_listing.proofs.Reading.{is_ended, word, word_reads, number_shows, Reader, one, two, three, one_reads, two_reads, three_reads}
 use Rattle.rt_listing.proofs.Named.{irq_of, task_of, section_of, body_of, irq_shows, task_shows, section_shows, body_shows}
@@ -49,15 +49,15 @@ instr_words names =
 abbrev pub instr_of : Names → Reader Instr
 instr_of names text = let w = word text in found w.0 (instr_words names) (none instr.Ret) w.1
 
-one_value : (make : ℕ → Instr) (a : ℕ) (text : List ℕ) → AreShort (a ∷ []) → is_ended text ≡ true → one value make (spaced a ++ text) ≡ (make a, text)
+one_value : (make : ℕ → Instr) (a : ℕ) (text : List ℕ) → AreShort (a ∷ []) → is_ended text ≡ true → one value make (spaced_number a ++ text) ≡ (make a, text)
 one_value make a text short ended = one_reads value make a _ text (number_shows a short.0) ended
 
 two_values : (make : ℕ → ℕ → Instr) (a b : ℕ) (text : List ℕ) → AreShort (a ∷ b ∷ []) → is_ended text ≡ true
-    → two value value make ((spaced a ++ spaced b) ++ text) ≡ (make a b, text)
+    → two value value make ((spaced_number a ++ spaced_number b) ++ text) ≡ (make a b, text)
 two_values make a b text short ended = two_reads value value make a b _ _ text (number_shows a short.0) (number_shows b short.1.0) ended
 
 three_values : (make : ℕ → ℕ → ℕ → Instr) (a b c : ℕ) (text : List ℕ) → AreShort (a ∷ b ∷ c ∷ []) → is_ended text ≡ true
-    → three value value value make (((spaced a ++ spaced b) ++ spaced c) ++ text) ≡ (make a b c, text)
+    → three value value value make (((spaced_number a ++ spaced_number b) ++ spaced_number c) ++ text) ≡ (make a b c, text)
 three_values make a b c text short ended =
     three_reads value value value make a b c _ _ _ text (number_shows a short.0) (number_shows b short.1.0) (number_shows c short.1.1.0) ended
 
@@ -124,14 +124,14 @@ task_reads : (names : Names) (make : ℕ → Note) (t : ℕ) (rest : List ℕ) �
 task_reads names make t rest good here = one_reads (task_of names) (λ t. Some (make t)) t _ (10 ∷ rest) (task_shows names t good here) refl
 
 slot_reads : (names : Names) (make : ℕ → ℕ → Note) (t s : ℕ) (rest : List ℕ) → AreWritable names → HasTask names t → AreShort (s ∷ [])
-    → slot_note names make (((32 ∷ task_name names t) ++ spaced s) ++ (10 ∷ rest)) ≡ (Some (make t s), 10 ∷ rest)
+    → slot_note names make (((32 ∷ task_name names t) ++ spaced_number s) ++ (10 ∷ rest)) ≡ (Some (make t s), 10 ∷ rest)
 slot_reads names make t s rest good here short =
     two_reads (task_of names) value (λ t s. Some (make t s)) t s _ _ (10 ∷ rest) (task_shows names t good here) (number_shows s short.0) refl
 
 slots_reads : (names : Names) (make : ℕ → ℕ → ℕ → Note) (t s a : ℕ) (rest : List ℕ) → AreWritable names
     → HasTask names t
     → AreShort (s ∷ a ∷ [])
-    → slots_note names make ((((32 ∷ task_name names t) ++ spaced s) ++ spaced a) ++ (10 ∷ rest))
+    → slots_note names make ((((32 ∷ task_name names t) ++ spaced_number s) ++ spaced_number a) ++ (10 ∷ rest))
     ≡ (Some (make t s a), 10 ∷ rest)
 slots_reads names make t s a rest good here short =
     three_reads (task_of names) value value (λ t s a. Some (make t s a)) t s a _ _ _ (10 ∷ rest)

@@ -10,8 +10,8 @@ use Rattle.rt_code.specs.declared.instr.Note.{Note}
 use Rattle.rt_code.specs.declared.instr.Note.TheVariants as note
 
 -- a space, and the number
-abbrev pub spaced : ℕ → List ℕ
-spaced n = 32 ∷ decimal n
+abbrev pub spaced_number : ℕ → List ℕ
+spaced_number n = 32 ∷ decimal n
 
 -- the word of an operation
 abbrev pub op_word : Op → List ℕ
@@ -34,28 +34,28 @@ op_word op.Ge = codes "ge"
 
 -- the words of an instruction: its own, and then its operands
 abbrev pub instr_text : Names → Instr → List ℕ
-instr_text names (instr.Set d v) = codes "set" ++ spaced d ++ spaced v
-instr_text names (instr.Copy d s) = codes "copy" ++ spaced d ++ spaced s
-instr_text names (instr.Calc o d a b) = op_word o ++ spaced d ++ spaced a ++ spaced b
-instr_text names (instr.Load d c) = codes "load" ++ spaced d ++ spaced c
-instr_text names (instr.Store c s) = codes "store" ++ spaced c ++ spaced s
-instr_text names (instr.LoadAt d c s) = codes "loadat" ++ spaced d ++ spaced c ++ spaced s
-instr_text names (instr.StoreAt c s a) = codes "storeat" ++ spaced c ++ spaced s ++ spaced a
-instr_text names (instr.Jump l) = codes "jump" ++ spaced l
-instr_text names (instr.JumpZ s l) = codes "jumpz" ++ spaced s ++ spaced l
-instr_text names (instr.Emit s) = codes "emit" ++ spaced s
+instr_text names (instr.Set d v) = codes "set" ++ spaced_number d ++ spaced_number v
+instr_text names (instr.Copy d s) = codes "copy" ++ spaced_number d ++ spaced_number s
+instr_text names (instr.Calc o d a b) = op_word o ++ spaced_number d ++ spaced_number a ++ spaced_number b
+instr_text names (instr.Load d c) = codes "load" ++ spaced_number d ++ spaced_number c
+instr_text names (instr.Store c s) = codes "store" ++ spaced_number c ++ spaced_number s
+instr_text names (instr.LoadAt d c s) = codes "loadat" ++ spaced_number d ++ spaced_number c ++ spaced_number s
+instr_text names (instr.StoreAt c s a) = codes "storeat" ++ spaced_number c ++ spaced_number s ++ spaced_number a
+instr_text names (instr.Jump l) = codes "jump" ++ spaced_number l
+instr_text names (instr.JumpZ s l) = codes "jumpz" ++ spaced_number s ++ spaced_number l
+instr_text names (instr.Emit s) = codes "emit" ++ spaced_number s
 instr_text names (instr.Post irq) = codes "post " ++ irq_name names irq
-instr_text names (instr.Clock d) = codes "clock" ++ spaced d
-instr_text names (instr.Alarm s irq) = codes "alarm" ++ spaced s ++ 32 ∷ irq_name names irq
+instr_text names (instr.Clock d) = codes "clock" ++ spaced_number d
+instr_text names (instr.Alarm s irq) = codes "alarm" ++ spaced_number s ++ 32 ∷ irq_name names irq
 instr_text names instr.NoAlarm = codes "noalarm"
-instr_text names (instr.Raise d v) = codes "raise" ++ spaced d ++ spaced v
-instr_text names (instr.Restore s) = codes "restore" ++ spaced s
-instr_text names (instr.Mask d) = codes "mask" ++ spaced d
-instr_text names (instr.Unmask s) = codes "unmask" ++ spaced s
+instr_text names (instr.Raise d v) = codes "raise" ++ spaced_number d ++ spaced_number v
+instr_text names (instr.Restore s) = codes "restore" ++ spaced_number s
+instr_text names (instr.Mask d) = codes "mask" ++ spaced_number d
+instr_text names (instr.Unmask s) = codes "unmask" ++ spaced_number s
 instr_text names instr.Mark = codes "mark"
 instr_text names instr.Serve = codes "serve"
 instr_text names instr.Wait = codes "wait"
-instr_text names (instr.Call row s) = codes "call" ++ spaced row ++ spaced s
+instr_text names (instr.Call row s) = codes "call" ++ spaced_number row ++ spaced_number s
 instr_text names instr.Back = codes "back"
 instr_text names instr.Ret = codes "ret"
 
@@ -66,12 +66,12 @@ note_words names (note.Leave s) = codes "leave " ++ section_name names s
 note_words names (note.Placed t) = codes "ok " ++ task_name names t
 note_words names (note.Full t) = codes "full " ++ task_name names t
 note_words names (note.Ready t) = codes "ready " ++ task_name names t
-note_words names (note.Start t s) = codes "start " ++ task_name names t ++ spaced s
+note_words names (note.Start t s) = codes "start " ++ task_name names t ++ spaced_number s
 note_words names (note.Free t) = codes "free " ++ task_name names t
-note_words names (note.Arm t s) = codes "arm " ++ task_name names t ++ spaced s
+note_words names (note.Arm t s) = codes "arm " ++ task_name names t ++ spaced_number s
 note_words names (note.Fire t) = codes "fire " ++ task_name names t
-note_words names (note.Cancel t s) = codes "cancel " ++ task_name names t ++ spaced s
-note_words names (note.Move t s a) = codes "move " ++ task_name names t ++ spaced s ++ spaced a
+note_words names (note.Cancel t s) = codes "cancel " ++ task_name names t ++ spaced_number s
+note_words names (note.Move t s a) = codes "move " ++ task_name names t ++ spaced_number s ++ spaced_number a
 note_words names (note.End b) = codes "end " ++ body_name names b
 
 -- a note stands behind a semicolon

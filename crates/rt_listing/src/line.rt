@@ -1,7 +1,7 @@
 ghost use Rattle.std.specs.Prelude.{◌≡◌, ◌∷◌, ◌++◌, flat_map, OnOk, Some};
 ghost use Rattle.rt_ids.specs.Naming.{section_name};
 ghost use Rattle.rt_ids.specs.Naming as name;
-ghost use Rattle.rt_listing.specs.Words.{spaced, instr_text, note_words, note_text};
+ghost use Rattle.rt_listing.specs.Words.{spaced_number, instr_text, note_words, note_text};
 ghost use Rattle.rt_listing.specs.Words as word;
 ghost use Rattle.rt_listing.specs.Numbers.{IsShort, AreShort, instr_numbers, section_numbers, note_numbers};
 
@@ -12,7 +12,7 @@ use rt_ids::{Irq, Names, NoMemory, Op, Section, TaskId, push_bytes, push_number}
 
 /// Appends a space and a number.
 pub(crate) fn push_spaced(out: &mut Vec<u8>, number: u32) -> Result<(), NoMemory>
-    ensures text { OnOk result (out.new.items ≡ out.old.items ++ spaced number) }
+    ensures text { OnOk result (out.new.items ≡ out.old.items ++ spaced_number number) }
     ensures short { IsShort number }
 {
     push_bytes(out, b" ")?;
@@ -21,7 +21,7 @@ pub(crate) fn push_spaced(out: &mut Vec<u8>, number: u32) -> Result<(), NoMemory
 
 /// Appends a space and a count.
 pub(crate) fn push_count(out: &mut Vec<u8>, count: usize) -> Result<(), NoMemory>
-    ensures { OnOk result (out.new.items ≡ out.old.items ++ spaced count) }
+    ensures { OnOk result (out.new.items ≡ out.old.items ++ spaced_number count) }
 {
     let mut buffer = Buffer::new();
     push_bytes(out, b" ")?;
@@ -54,7 +54,7 @@ pub fn op_word(op: Op) -> &'static [u8]
 
 /// Appends a word and its operands.
 fn push_operands(out: &mut Vec<u8>, word: &[u8], operands: &[u32]) -> Result<(), NoMemory>
-    ensures text { OnOk result (out.new.items ≡ out.old.items ++ word.now ++ flat_map spaced operands.now) }
+    ensures text { OnOk result (out.new.items ≡ out.old.items ++ word.now ++ flat_map spaced_number operands.now) }
     ensures short { AreShort operands.now }
 {
     push_bytes(out, word)?;
@@ -106,7 +106,7 @@ fn push_with_irq(
     names: &Names,
 ) -> Result<(), NoMemory>
     ensures text { OnOk result (out.new.items
-        ≡ out.old.items ++ word.now ++ flat_map spaced operands.now ++ 32 ∷ name.irq_name names.now irq) }
+        ≡ out.old.items ++ word.now ++ flat_map spaced_number operands.now ++ 32 ∷ name.irq_name names.now irq) }
     ensures short { AreShort operands.now }
 {
     push_operands(out, word, operands)?;
@@ -147,7 +147,7 @@ fn push_slot(
     names: &Names,
 ) -> Result<(), NoMemory>
     ensures text { OnOk result (out.new.items
-        ≡ out.old.items ++ word.now ++ name.task_name names.now task ++ spaced slot) }
+        ≡ out.old.items ++ word.now ++ name.task_name names.now task ++ spaced_number slot) }
     ensures short { IsShort slot }
 {
     push_task(out, word, task, names)?;

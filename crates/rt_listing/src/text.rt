@@ -1,5 +1,5 @@
 ghost use Rattle.std.specs.Prelude.{◌≡◌, [], ◌∷◌, ◌++◌, flat_map, All, IfOk, OnOk};
-ghost use Rattle.rt_listing.specs.Listing.{form_text, first_line, sizes_line, numbered, cell_line, irq_line, body_line};
+ghost use Rattle.rt_listing.specs.Listing.{form_text, first_line, sizes_line, lines_with_numbers, cell_line, irq_line, body_line};
 ghost use Rattle.rt_listing.specs.Listing.{code_line};
 ghost use Rattle.rt_listing.specs.Listing as spec;
 ghost use Rattle.rt_listing.specs.Numbers.{AreShort, HasShortNumbers};
@@ -61,7 +61,7 @@ pub fn push_first_line(
 
 /// Appends a line for each cell, by number.
 fn push_cells(out: &mut Vec<u8>, cells: &[CellRow]) -> Result<(), NoMemory>
-    ensures text { OnOk result (out.new.items ≡ out.old.items ++ numbered cell_line 0 cells.now) }
+    ensures text { OnOk result (out.new.items ≡ out.old.items ++ lines_with_numbers cell_line 0 cells.now) }
     ensures short { OnOk result (All IsShortCell cells.now) }
 {
     for (number, cell) in cells.iter().enumerate() {
@@ -139,7 +139,7 @@ pub fn push_body(out: &mut Vec<u8>, row: BodyRow, names: &Names) -> Result<(), N
 
 /// Appends a line for each instruction with its note, by address.
 fn push_code(out: &mut Vec<u8>, code: &[Line], names: &Names) -> Result<(), NoMemory>
-    ensures text { OnOk result (out.new.items ≡ out.old.items ++ numbered (code_line names.now) 0 code.now) }
+    ensures text { OnOk result (out.new.items ≡ out.old.items ++ lines_with_numbers (code_line names.now) 0 code.now) }
     ensures instrs_short { OnOk result (All HasShortInstr code.now) }
     ensures notes_short { OnOk result (All HasShortNote code.now) }
 {

@@ -12,7 +12,7 @@ use Rattle.rt_core.specs.Machine.{Machine}
 use Rattle.rt_run.specs.Sending.{Sends, Breaks}
 use Rattle.rt_run.proofs.Sent.{sends_none, sends_on, breaks_behind, breaks_before}
 use Rattle.rt_words.specs.declared.call.Call.TheVariants.{Latch}
-use Rattle.rt_live.specs.Weave.{arrivals_from, arrived, latches_from, latches}
+use Rattle.rt_live.specs.Interleaving.{arrivals_from, look_arrivals, latches_from, latches}
 
 abbrev test : ℕ → ℕ → Bool
 test word bit = bit_at word bit == 1
@@ -127,7 +127,7 @@ arrivals_from-append k (w ∷ words) word =
     ∙ sym (append_assoc (arrivals k w) (arrivals_from (suc k) words) (arrivals (k + suc (length words)) word))
 
 pub arrived_more : (words : List ℕ) (word k : ℕ) → length words ≡ k
-    → arrived (words ++ word ∷ []) ≡ arrived words ++ map Arrive (arrivals k word)
+    → look_arrivals (words ++ word ∷ []) ≡ look_arrivals words ++ map Arrive (arrivals k word)
 arrived_more words word k many =
     ap (map Arrive)
     (arrivals_from-append 0 words word

@@ -8,24 +8,24 @@ use Rattle.std.proofs.lemmas.List.Sums.{sum_by-cons}
 use mathlib.Core.List.{map-append}
 use Rattle.rt_lemmas.proofs.Membership.{all_has, contains_here, contains_there, contains_cases, contains_none}
 use Rattle.rt_ids.specs.Lists.{numbers_below}
-use Rattle.rt_devices.specs.Work.{asked_by}
+use Rattle.rt_devices.specs.Work.{interrupt_asked}
 use Rattle.rt_devices.specs.declared.device.Device.{Device}
 use Rattle.rt_script.specs.Script.{IsScript, count, count_of, line_pends, pends}
 use Rattle.rt_script.specs.declared.line.Line.{Line}
 use Rattle.rt_script.specs.declared.line.Line.TheVariants.{Steps, Ticks, Pends, Device as DeviceLine}
-use Rattle.rt_words.specs.Account.{raised, merged, latched}
+use Rattle.rt_words.specs.Account.{raised_count, merged_count, latched_count}
 use Rattle.rt_words.specs.Ending.{AllGathered, LatchedAreZero, OneHistory, calls_in}
 use Rattle.rt_words.specs.History.{part}
 use Rattle.rt_words.specs.Lines.{Row, Core, numbers}
-use Rattle.rt_words.specs.Object.{pending}
+use Rattle.rt_words.specs.Object.{pending_bit}
 use Rattle.rt_words.specs.declared.view.Part.{Part}
 use Rattle.rt_words.proofs.Lists.{dec_in, of_map}
 use Rattle.rt_live.specs.Account.{account_of, row_of}
 use Rattle.rt_live.specs.Closed.{Closes}
 use Rattle.rt_live.specs.Devices.{devices, is_of_device}
-use Rattle.rt_live.specs.Gathering.{part_of, gathering}
+use Rattle.rt_live.specs.Gathering.{part_of, line_after_gathering}
 use Rattle.rt_live.specs.Ready.{Prepared, IsReady, IsWaiting, HasMade, IsCounted, irqs_of}
-use Rattle.rt_live.specs.Inside.Settled.{settled}
+use Rattle.rt_live.specs.Inside.Settled.{settled_row}
 use Rattle.rt_live.specs.Inside.Working.{calls_gathered, calls_made}
 use Rattle.rt_live.specs.declared.account.AccountRow.{AccountRow}
 use Rattle.rt_live.proofs.Numbered.{contains_front, contains_behind}
@@ -60,7 +60,7 @@ made_few script scripted (p ∷ parts) made =
     omega (
       arith,
       sum_by-cons (λ (q : Part). length q.calls) p parts,
-      length-map p.calls asked_by,
+      length-map p.calls interrupt_asked,
       ap length made.0,
       length-map (pends script p.line) (λ irq. Some irq),
       asks_few p.line script,
@@ -94,19 +94,19 @@ unfolding numbers_below
 devices_few script = filter_few (λ number. list_any (is_of_device number) script) (numbers_below 16)
 
 -- gathering leaves the calls of the core's line and the numbers that it made, and takes in each line
-pub gathering_calls : (ds : List Device) (line : Core) → (gathering ds line).calls ≡ line.calls
+pub gathering_calls : (ds : List Device) (line : Core) → (line_after_gathering ds line).calls ≡ line.calls
 gathering_calls [] line = refl
 gathering_calls (d ∷ ds) line = gathering_calls ds line
 
-pub gathering_words : (ds : List Device) (line : Core) → (gathering ds line).words ≡ line.words
+pub gathering_words : (ds : List Device) (line : Core) → (line_after_gathering ds line).words ≡ line.words
 gathering_words [] line = refl
 gathering_words (d ∷ ds) line = gathering_words ds line
 
-pub gathering_made : (ds : List Device) (line : Core) → (gathering ds line).made ≡ line.made
+pub gathering_made : (ds : List Device) (line : Core) → (line_after_gathering ds line).made ≡ line.made
 gathering_made [] line = refl
 gathering_made (d ∷ ds) line = gathering_made ds line
 
-pub gathering_parts : (ds : List Device) (line : Core) → (gathering ds line).gathered ≡ map part_of ds ++ line.gathered
+pub gathering_parts : (ds : List Device) (line : Core) → (line_after_gathering ds line).gathered ≡ map part_of ds ++ line.gathered
 gathering_parts [] line = refl
 gathering_parts (d ∷ ds) line = ap (λ (ps : List Part). part_of d ∷ ps) (gathering_parts ds line)
 
@@ -125,7 +125,7 @@ contains_either (x ∷ xs) ys n is =
 
 module _ (ready : Prepared) (is : IsReady ready) where
   abbrev pub line_then : Core
-  line_then = gathering ready.devices ready.line
+  line_then = line_after_gathering ready.devices ready.line
 
   -- the part of a device of this number that is waiting still
   waiting_part : (number : ℕ) → Contains (map (λ (d : Device). d.number) ready.devices) number
@@ -193,22 +193,22 @@ module _ (ready : Prepared) (is : IsReady ready) where
 
     -- a row, with what the words ended with
     row_settled : (counts : List ℕ) (row : AccountRow) → IsCounted line.gathered row
-        → ((irq : ℕ) → irq < 512 → get_or counts irq 0 ≡ latched irq line.calls)
-        → settled counts bits row ≡ row_of (calls_in h.history) bits row.irq
+        → ((irq : ℕ) → irq < 512 → get_or counts irq 0 ≡ latched_count irq line.calls)
+        → settled_row counts bits row ≡ row_of (calls_in h.history) bits row.irq
     row_settled counts row counted told =
         let small : row.irq < 512 = omega (arith, counted.in_range) in
-        let r : row.raised ≡ raised row.irq (calls_in h.history) = counted.raised ∙ sym (h.raised row.irq) in
-        let m : row.merged ≡ merged row.irq (calls_in h.history) = counted.merged ∙ sym (h.merged row.irq) in
-        let l : get_or counts row.irq 0 ≡ latched row.irq (calls_in h.history) =
+        let r : row.raised ≡ raised_count row.irq (calls_in h.history) = counted.raised ∙ sym (h.raised row.irq) in
+        let m : row.merged ≡ merged_count row.irq (calls_in h.history) = counted.merged ∙ sym (h.merged row.irq) in
+        let l : get_or counts row.irq 0 ≡ latched_count row.irq (calls_in h.history) =
         told row.irq small ∙ sym (h.latched row.irq) in
-        λ i. record { irq = row.irq; raised = r i; merged = m i; latched = l i; left = pending bits row.irq }
+        λ i. record { irq = row.irq; raised = r i; merged = m i; latched = l i; left = pending_bit bits row.irq }
 
     rows_settled : (counts : List ℕ) (rows : List AccountRow) → AllByRecursion (IsCounted line.gathered) rows
-        → ((irq : ℕ) → irq < 512 → get_or counts irq 0 ≡ latched irq line.calls)
-        → map (settled counts bits) rows ≡ account_of (irqs_of rows) (calls_in h.history) bits
+        → ((irq : ℕ) → irq < 512 → get_or counts irq 0 ≡ latched_count irq line.calls)
+        → map (settled_row counts bits) rows ≡ account_of (irqs_of rows) (calls_in h.history) bits
     rows_settled counts [] counted told = refl
     rows_settled counts (row ∷ rows) counted told =
-        ap (λ (r : AccountRow). r ∷ map (settled counts bits) rows) (row_settled counts row counted.0 told)
+        ap (λ (r : AccountRow). r ∷ map (settled_row counts bits) rows) (row_settled counts row counted.0 told)
         ∙ ap (λ (rs : List AccountRow). row_of (calls_in h.history) bits row.irq ∷ rs)
         (rows_settled counts rows counted.1 told)
 
@@ -225,7 +225,7 @@ module _ (ready : Prepared) (is : IsReady ready) where
           (contains_behind (map part_of ready.devices) ready.line.gathered p there));
       others = others_none;
       silent = λ none.
-          let own : line ≡ ready.line = same ∙ ap (λ (ds : List Device). gathering ds ready.line) none in
+          let own : line ≡ ready.line = same ∙ ap (λ (ds : List Device). line_after_gathering ds ready.line) none in
           subst (λ (l : Core). LatchedAreZero (drop l.since l.calls) bits) own silent;
       account = account;
     }
@@ -233,9 +233,9 @@ module _ (ready : Prepared) (is : IsReady ready) where
     -- what `close` answers
     pub closes : (counts : List ℕ) (rows : List AccountRow) → AllByRecursion (IsCounted line.gathered) rows
         → irqs_of rows ≡ irqs_of ready.rows
-        → ((irq : ℕ) → irq < 512 → get_or counts irq 0 ≡ latched irq line.calls)
-        → LatchedAreZero (drop line.since line.calls) bits → Closes ready (map (settled counts bits) rows)
+        → ((irq : ℕ) → irq < 512 → get_or counts irq 0 ≡ latched_count irq line.calls)
+        → LatchedAreZero (drop line.since line.calls) bits → Closes ready (map (settled_row counts bits) rows)
     closes counts rows counted irqs told silent =
-        closes_as (map (settled counts bits) rows) silent
+        closes_as (map (settled_row counts bits) rows) silent
         (rows_settled counts rows counted told
         ∙ ap (λ (ns : List ℕ). account_of ns (calls_in h.history) bits) irqs)

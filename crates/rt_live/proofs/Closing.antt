@@ -11,11 +11,11 @@ use Rattle.rt_words.specs.declared.call.Entry.{Entry}
 use Rattle.rt_words.specs.Lines.{Core}
 use Rattle.rt_words.specs.declared.view.Part.{Part}
 use Rattle.rt_words.proofs.Lists.{dec_in, of_map}
-use Rattle.rt_devices.specs.Work.{asked_by}
+use Rattle.rt_devices.specs.Work.{interrupt_asked}
 use Rattle.rt_live.specs.Devices.{devices}
 use Rattle.rt_live.specs.Going.{LatchedLast}
 use Rattle.rt_live.specs.History.{IsHistory}
-use Rattle.rt_live.specs.Weave.{latches}
+use Rattle.rt_live.specs.Interleaving.{latches}
 use Rattle.rt_live.proofs.Extending.{IsCutHistory}
 use Rattle.rt_live.proofs.Finishing.{all_zeros}
 use Rattle.rt_live.proofs.Numbered.{not_asked}
@@ -29,7 +29,7 @@ cut_before found = flat_map-append latches found ([] ∷ []) ∙ append-nil (fla
 pub closes_cut : (script : List Line) (found : List (List ℕ)) (last bits : List ℕ) (line : Core) (h : OneHistory line bits)
     → AllByRecursion HasDeviceInRange script → line.calls ≡ flat_map latches (found ++ last ∷ [])
     → AllGathered line.made line.gathered
-    → ((p : Part) → Contains line.gathered p → map asked_by p.calls ≡ map (λ irq. Some irq) (pends script p.line))
+    → ((p : Part) → Contains line.gathered p → map interrupt_asked p.calls ≡ map (λ irq. Some irq) (pends script p.line))
     → ((number : ℕ) → Contains (devices script) number → Contains line.made number)
     → IsCutHistory script found last bits h.history
 closes_cut script found last bits line h ranges latched gathered asked made = record {
@@ -39,10 +39,10 @@ closes_cut script found last bits line h ranges latched gathered asked made = re
     | yes is ↦
         let p = of_map (λ (q : Part). q.line) number line.gathered (gathered number is) in
         let there : part h.history p.0.line ≡ p.0.calls = h.gathered p.0 p.1.0 in
-        subst (λ k. map asked_by (part h.history k) ≡ map (λ irq. Some irq) (pends script k)) p.1.1
-        (ap (map asked_by) there ∙ asked p.0 p.1.0)
+        subst (λ k. map interrupt_asked (part h.history k) ≡ map (λ irq. Some irq) (pends script k)) p.1.1
+        (ap (map interrupt_asked) there ∙ asked p.0 p.1.0)
     | no out ↦
-        ap (map asked_by) (h.unmade number ne out)
+        ap (map interrupt_asked) (h.unmade number ne out)
         ∙ ap (map (λ (irq : ℕ). Some irq)) (sym (not_asked number script ranges (λ is. out (made number is))))
   ];
 }

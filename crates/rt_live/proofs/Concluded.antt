@@ -7,7 +7,7 @@ use Rattle.rt_lemmas.proofs.Membership.{all_has}
 use Rattle.rt_core.specs.Machine.{Machine, IsFresh}
 use Rattle.rt_outside.specs.Bytes.{Took, TookPrefix}
 use Rattle.rt_run.proofs.Taking.{part_on}
-use Rattle.rt_devices.specs.Work.{asked_by}
+use Rattle.rt_devices.specs.Work.{interrupt_asked}
 use Rattle.rt_devices.specs.declared.device.Device.{Device}
 use Rattle.rt_script.specs.Script.{HasDeviceInRange, pends}
 use Rattle.rt_words.specs.Ending.{calls_in}
@@ -24,7 +24,7 @@ use Rattle.rt_live.specs.History.{IsHistory}
 use Rattle.rt_live.specs.Latched.{Halts, Completes}
 use Rattle.rt_live.specs.Output.{IsLiveText, TookPart, Lives, IsBalanced}
 use Rattle.rt_live.specs.Ready.{Prepared, IsReady, IsCounted, irqs_of}
-use Rattle.rt_live.specs.Weave.{turns, latches}
+use Rattle.rt_live.specs.Interleaving.{turns, latches}
 use Rattle.rt_live.specs.Written.{live_text}
 use Rattle.rt_live.specs.declared.account.AccountRow.{AccountRow}
 use Rattle.rt_live.proofs.Closing.{cut_before, closes_whole}
@@ -40,17 +40,17 @@ module _ (ready : Prepared) (is : IsReady ready) (gone : ready.devices ≡ []) (
     (rows : List AccountRow) (closed : Closes ready rows) where
   -- each number of the history but the core's is a device's, with its pends
   asked : (number : ℕ) → number ≢ 255
-      → map asked_by (part closed.history number) ≡ map (λ irq. Some irq) (pends ready.script number)
+      → map interrupt_asked (part closed.history number) ≡ map (λ irq. Some irq) (pends ready.script number)
   asked number ne = elim (dec_in number (numbers ready.line.gathered)) [
     | yes there ↦
         let p = of_map (λ (q : Part). q.line) number ready.line.gathered there in
-        subst (λ k. map asked_by (part closed.history k) ≡ map (λ irq. Some irq) (pends ready.script k)) p.1.1
-        (ap (map asked_by) (closed.gathered p.0 p.1.0)
+        subst (λ k. map interrupt_asked (part closed.history k) ≡ map (λ irq. Some irq) (pends ready.script k)) p.1.1
+        (ap (map interrupt_asked) (closed.gathered p.0 p.1.0)
         ∙ all_has _ ready.line.gathered p.0 is.gathered p.1.0)
     | no out ↦
         let named : numbers ready.line.gathered ≡ devices ready.script =
         sym (ap (λ (ds : List Device). map (λ (d : Device). d.number) ds ++ numbers ready.line.gathered) gone) ∙ is.each in
-        ap (map asked_by) (closed.others number ne out)
+        ap (map interrupt_asked) (closed.others number ne out)
         ∙ ap (map (λ (irq : ℕ). Some irq))
         (sym (not_asked number ready.script ranges (λ there. out (subst (λ (ns : List ℕ). Contains ns number) (sym named) there))))
   ]

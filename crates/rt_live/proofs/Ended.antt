@@ -18,16 +18,16 @@ use Rattle.rt_script.specs.declared.line.Line.{Line}
 use Rattle.rt_trace.specs.Label.{items_of}
 use Rattle.rt_trace.specs.Text.{text, total_text}
 use Rattle.rt_words.specs.declared.call.Call.{Call}
-use Rattle.rt_live.specs.Weave.{Turn, Happens, Looks, looks, arrivals_from, turns, weave}
+use Rattle.rt_live.specs.Interleaving.{Turn, Happens, Looks, looks, arrivals_from, turns, interleaving}
 use Rattle.rt_live.specs.Going.{IsWholeLook, Goes, Ends}
 use Rattle.rt_live.specs.Written.{live_text}
 use Rattle.rt_live.specs.Inside.Own.{own_turns}
 use Rattle.rt_live.proofs.Turning.{calls_on}
-use Rattle.rt_live.proofs.Woven.{looks-append, weave_on, steps_behind}
+use Rattle.rt_live.proofs.Woven.{looks-append, interleaving_on, steps_behind}
 
 -- the lines of turns, and the total behind them
 abbrev pub lines_and_total : List Turn → Machine → ℕ → List (List ℕ) → List ℕ
-lines_and_total ts m total found = lines_of m (weave ts found) ++ total_text total
+lines_and_total ts m total found = lines_of m (interleaving ts found) ++ total_text total
 
 module _ (ts : List Turn) (calls calls' : List Call) (a b : Machine) (x y z : Option (List ℕ)) (held : List ℕ) (total : ℕ)
     (empty : held ≡ []) (counted : total ≡ b.steps) (run : Goes ts calls calls' a b x y) where
@@ -49,7 +49,7 @@ module _ (ts : List Turn) (calls calls' : List Call) (a b : Machine) (x y z : Op
       → Ends ts calls calls' a b (λ found. Took x z (lines_and_total ts a b.steps found))
   ended took =
       ends (λ found. Took x z (lines_and_total ts a b.steps found))
-      (took_on x y z (lines_of a (weave ts run.found)) (total_text b.steps) run.sends.took
+      (took_on x y z (lines_of a (interleaving ts run.found)) (total_text b.steps) run.sends.took
       (subst (Took y z) last_bytes took))
 
   -- or a beginning of it
@@ -57,18 +57,18 @@ module _ (ts : List Turn) (calls calls' : List Call) (a b : Machine) (x y z : Op
       → Ends ts calls calls' a b (λ found. TookPrefix x z (lines_and_total ts a b.steps found))
   ended_cut part =
       ends (λ found. TookPrefix x z (lines_and_total ts a b.steps found))
-      (part_on x y z (lines_of a (weave ts run.found)) (total_text b.steps) run.sends.took
+      (part_on x y z (lines_of a (interleaving ts run.found)) (total_text b.steps) run.sends.took
       (subst (TookPrefix y z) last_bytes part))
 
 -- the core's own events are as many steps as they are woven
 own_steps : (es : List Event) (found : List (List ℕ)) → length found ≡ looks (map Happens es)
-    → steps (weave (map Happens es) found) ≡ steps es
+    → steps (interleaving (map Happens es) found) ≡ steps es
 own_steps [] found many = refl
 own_steps (Tick ∷ es) found many = own_steps es found many
 own_steps (Arrive irq ∷ es) found many = own_steps es found many
 own_steps (Step ∷ es) [] many = absurd (omega (arith, many))
 own_steps (Step ∷ es) (ws ∷ found) many =
-    steps_behind (arrivals_from 0 ws) (Step ∷ weave (map Happens es) found)
+    steps_behind (arrivals_from 0 ws) (Step ∷ interleaving (map Happens es) found)
     ∙ ap suc (own_steps es found (omega (arith, many)))
 
 -- the turns of a script, where its own events were done by a fresh core
@@ -87,11 +87,11 @@ all_turns script calls calls' a b x y fresh run =
 
 -- the whole text
 text_is : (m n : Machine) (script : List Line) (found : List (List ℕ)) → IsFresh m
-    → Leads (weave (turns script) found) m n
+    → Leads (interleaving (turns script) found) m n
     → lines_and_total (turns script) m n.steps found ≡ live_text m.image script found
 text_is m n script found fresh run =
     let img : Image = m.image in
-    let es : List Event = weave (turns script) found in
+    let es : List Event = interleaving (turns script) found in
     let put : ℕ → Core → List ℕ = λ k c. flat_map (text img.names) (items_of k (labels img c es)) in
     ap (λ k. lines_of m es ++ total_text k) (let e : n.steps ≡ steps es = omega (arith, run.steps, fresh.steps) in e)
     ∙ ap (λ k. put k m.core ++ total_text (steps es)) fresh.steps
@@ -108,21 +108,21 @@ module _ (script : List Line) (us : List Turn) (calls calls' calls'' : List Call
     abbrev found : List (List ℕ)
     found = own.found ++ last.found
 
-    leads : Leads (weave (ts ++ us) found) a c
+    leads : Leads (interleaving (ts ++ us) found) a c
     leads =
-        subst (λ es. Leads es a c) (sym (weave_on ts us own.found last.found own.many))
-        (leads_on (weave ts own.found) (weave us last.found) a b c own.sends.leads last.leads)
+        subst (λ es. Leads es a c) (sym (interleaving_on ts us own.found last.found own.many))
+        (leads_on (interleaving ts own.found) (interleaving us last.found) a b c own.sends.leads last.leads)
 
     -- what was written of both is the text
-    pub both_lines : lines_of a (weave ts own.found) ++ lines_and_total us b c.steps last.found
+    pub both_lines : lines_of a (interleaving ts own.found) ++ lines_and_total us b c.steps last.found
         ≡ live_text a.image script found
     both_lines =
-        sym (append_assoc (lines_of a (weave ts own.found)) (lines_of b (weave us last.found)) (total_text c.steps))
+        sym (append_assoc (lines_of a (interleaving ts own.found)) (lines_of b (interleaving us last.found)) (total_text c.steps))
         ∙ ap (λ t. t ++ total_text c.steps)
-        (sym (lines_split (weave ts own.found) (weave us last.found) a b own.sends.leads))
-        ∙ ap (λ es. lines_of a es ++ total_text c.steps) (sym (weave_on ts us own.found last.found own.many))
+        (sym (lines_split (interleaving ts own.found) (interleaving us last.found) a b own.sends.leads))
+        ∙ ap (λ es. lines_of a es ++ total_text c.steps) (sym (interleaving_on ts us own.found last.found own.many))
         ∙ ap (λ vs. lines_and_total vs a c.steps found) all
-        ∙ text_is a c script found fresh (subst (λ vs. Leads (weave vs found) a c) all leads)
+        ∙ text_is a c script found fresh (subst (λ vs. Leads (interleaving vs found) a c) all leads)
 
     -- the core's own turns, and those behind them, are all
     pub both_end : (whole : List (List ℕ) → Type 0) → whole found → Ends (turns script) calls calls'' a c whole
@@ -143,7 +143,7 @@ module _ (script : List Line) (us : List Turn) (calls calls' calls'' : List Call
     all_ended last =
         both_end _ last (λ found. Took x z (live_text a.image script found))
         (subst (Took x z) (both_lines _ last)
-        (took_on x y z (lines_of a (weave ts own.found)) (lines_and_total us b c.steps last.found) own.sends.took
+        (took_on x y z (lines_of a (interleaving ts own.found)) (lines_and_total us b c.steps last.found) own.sends.took
         last.wrote))
 
     -- or the total was cut
@@ -152,5 +152,5 @@ module _ (script : List Line) (us : List Turn) (calls calls' calls'' : List Call
     total_cut last =
         both_end _ last (λ found. TookPrefix x z (live_text a.image script found))
         (subst (TookPrefix x z) (both_lines _ last)
-        (part_on x y z (lines_of a (weave ts own.found)) (lines_and_total us b c.steps last.found) own.sends.took
+        (part_on x y z (lines_of a (interleaving ts own.found)) (lines_and_total us b c.steps last.found) own.sends.took
         last.wrote))

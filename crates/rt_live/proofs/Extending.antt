@@ -9,7 +9,7 @@ use mathlib.Core.Logic.{dite}
 use native.Mathlib.Decide.{dec_lt}
 use Rattle.rt_lemmas.proofs.Membership.{all_append}
 use Rattle.rt_ids.specs.Event.{Event}
-use Rattle.rt_devices.specs.Work.{asked_by}
+use Rattle.rt_devices.specs.Work.{interrupt_asked}
 use Rattle.rt_script.specs.Script.{pends}
 use Rattle.rt_script.specs.declared.line.Line.{Line}
 use Rattle.rt_words.specs.declared.call.Call.{Call}
@@ -17,9 +17,9 @@ use Rattle.rt_words.specs.History.{IsLegal, part}
 use Rattle.rt_words.specs.declared.call.Entry.{Entry}
 use Rattle.rt_live.specs.Going.{IsWholeLook}
 use Rattle.rt_live.specs.History.{IsHistory}
-use Rattle.rt_live.specs.Weave.{Turn, looks, arrived, latches, weave}
+use Rattle.rt_live.specs.Interleaving.{Turn, looks, look_arrivals, latches, interleaving}
 use Rattle.rt_live.proofs.Onward.{leads_on, led_as_many, entries, part_on, part_own, part_other, zeros}
-use Rattle.rt_live.proofs.Further.{weave_finished}
+use Rattle.rt_live.proofs.Further.{interleaving_finished}
 use Rattle.rt_live.proofs.Finishing.{Finishes, FinishesLook, looks_more, finish, nothing_left}
 
 -- the calls that these looks took, the last of which may be cut, and all pends of the devices, left these words
@@ -28,7 +28,7 @@ pub record IsCutHistory (script : List Line) (found : List (List ℕ)) (last wor
   pub legal : IsLegal history words
   pub core : part history 255 ≡ flat_map latches (found ++ last ∷ [])
   pub devices : (number : ℕ) → number ≢ 255
-      → map asked_by (part history number) ≡ map (λ irq. Some irq) (pends script number)
+      → map interrupt_asked (part history number) ≡ map (λ irq. Some irq) (pends script number)
 
 -- where no look is to come behind the cut one, the words that it latched are 0, and where none is to come all are
 pub record Settles (ts : List Turn) (found : List (List ℕ)) (last words : List ℕ) : Type 0 where
@@ -43,7 +43,7 @@ pub record Extends (script : List Line) (ts : List Turn) (found : List (List ℕ
   pub history : List Entry
   pub is : IsHistory script all history
   pub behind : List Event
-  pub weaves : weave ts all ≡ (weave ts found ++ arrived last) ++ behind
+  pub interleavings : interleaving ts all ≡ (interleaving ts found ++ look_arrivals last) ++ behind
 
 module _ (script : List Line) (found : List (List ℕ)) (last words : List ℕ) (history : List Entry)
     (cut : IsCutHistory script found last words history) where
@@ -71,7 +71,7 @@ module _ (script : List Line) (found : List (List ℕ)) (last words : List ℕ) 
   finished count more = record {
     legal = leads_on (zeros 16) words (zeros 16) history (entries 255 more.calls) cut.legal more.leads;
     core = core_all count more;
-    devices = λ number ne. ap (map asked_by) (others_stay more.calls number ne) ∙ cut.devices number ne;
+    devices = λ number ne. ap (map interrupt_asked) (others_stay more.calls number ne) ∙ cut.devices number ne;
   }
 
   module _ (ts : List Turn) (whole : AllByRecursion IsWholeLook found) where
@@ -79,15 +79,15 @@ module _ (script : List Line) (found : List (List ℕ)) (last words : List ℕ) 
     extend_look : (n : ℕ) → looks ts ≡ length found + suc n → FinishesLook words last (suc n)
         → Extends script ts found last
     extend_look n count more =
-        let weaves = weave_finished ts found more.begins.others last more.begins.rest (omega (arith, count)) in
+        let interleavings = interleaving_finished ts found more.begins.others last more.begins.rest (omega (arith, count)) in
         record {
           all = found ++ more.finishes.added;
           many = omega (arith, count, more.finishes.many, length-append found more.finishes.added);
           whole = all_append IsWholeLook found more.finishes.added whole more.finishes.whole;
           history = history ++ entries 255 more.finishes.calls;
           is = finished (suc n) more.finishes;
-          behind = weaves.0;
-          weaves = ap (λ (t : List (List ℕ)). weave ts (found ++ t)) more.begins.is ∙ weaves.1;
+          behind = interleavings.0;
+          interleavings = ap (λ (t : List (List ℕ)). interleaving ts (found ++ t)) more.begins.is ∙ interleavings.1;
         }
 
     -- all looks are done
@@ -101,12 +101,12 @@ module _ (script : List Line) (found : List (List ℕ)) (last words : List ℕ) 
           history = history ++ entries 255 more.calls;
           is = finished 0 more;
           behind = [];
-          weaves =
-              ap (λ (t : List (List ℕ)). weave ts (found ++ t)) empty
-              ∙ ap (weave ts) (append-nil found)
-              ∙ sym (append-nil (weave ts found))
-              ∙ ap (λ (l : List ℕ). weave ts found ++ arrived l) (sym none)
-              ∙ sym (append-nil (weave ts found ++ arrived last));
+          interleavings =
+              ap (λ (t : List (List ℕ)). interleaving ts (found ++ t)) empty
+              ∙ ap (interleaving ts) (append-nil found)
+              ∙ sym (append-nil (interleaving ts found))
+              ∙ ap (λ (l : List ℕ). interleaving ts found ++ look_arrivals l) (sym none)
+              ∙ sym (append-nil (interleaving ts found ++ look_arrivals last));
         }
 
     long : length words ≡ 16

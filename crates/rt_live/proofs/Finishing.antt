@@ -7,7 +7,7 @@ use Rattle.std.proofs.lemmas.List.{length-replicate, take-append-drop, replicate
 use Rattle.rt_words.specs.declared.call.Call.{Call}
 use Rattle.rt_words.specs.History.{Leads}
 use Rattle.rt_live.specs.Going.{IsWholeLook}
-use Rattle.rt_live.specs.Weave.{latches_from, latches}
+use Rattle.rt_live.specs.Interleaving.{latches_from, latches}
 use Rattle.rt_live.proofs.Onward.{entries, zeros, calls_lead, looked_from, looked, latches_on}
 
 -- From these words on, behind a look that found these first words: so many looks more, the begun one with them, and

@@ -7,7 +7,7 @@ use Rattle.rt_words.specs.Lines.{Core}
 use Rattle.rt_words.specs.declared.call.Call.{Call}
 use Rattle.rt_live.specs.Going.{Goes, Stops, Ends, LatchedLast}
 use Rattle.rt_live.specs.Latched.{LatchedSo, Halts}
-use Rattle.rt_live.specs.Weave.{Turn, Looks, latches}
+use Rattle.rt_live.specs.Interleaving.{Turn, Looks, latches}
 use Rattle.rt_live.proofs.Closing.{cut_before}
 use Rattle.rt_live.proofs.Settling.{latched_own, latched_added}
 use Rattle.rt_live.proofs.Woven.{looks-append}

@@ -11,7 +11,7 @@ use Rattle.rt_run.specs.Sending.{Sends, Breaks}
 use Rattle.rt_run.proofs.Sent.{sends_none, sends_on, breaks_behind, breaks_before}
 use Rattle.rt_words.specs.declared.call.Call.{Call}
 use Rattle.rt_words.specs.declared.call.Call.TheVariants.{Latch}
-use Rattle.rt_live.specs.Weave.{Turn, Happens, Looks, looks, arrived, latches, weave}
+use Rattle.rt_live.specs.Interleaving.{Turn, Happens, Looks, looks, look_arrivals, latches, interleaving}
 use Rattle.rt_live.specs.Going.{IsWholeLook, Goes, Stops}
 use Rattle.rt_live.proofs.Bits.{arrived_more, latches_more}
 
@@ -20,7 +20,7 @@ pub record Finds (k : ℕ) (calls calls' : List Call) (old new : Machine) (befor
   pub found : List ℕ
   pub many : length found ≡ k
   pub latched : calls' ≡ calls ++ latches found
-  pub sends : Sends (arrived found) old new before after
+  pub sends : Sends (look_arrivals found) old new before after
 
 pub finds_none : (calls : List Call) (m : Machine) (x : Option (List ℕ)) → Finds 0 calls calls m m x x
 finds_none calls m x =
@@ -38,7 +38,7 @@ module _ (calls calls' : List Call) (a b : Machine) (x y : Option (List ℕ)) wh
     many = refl;
     whole = (finds.many ∙ all, tt);
     latched = finds.latched ∙ ap (λ cs. calls ++ cs) (sym (append-nil (latches finds.found)));
-    sends = subst (λ es. Sends es a b x y) (sym (append-nil (arrived finds.found))) finds.sends;
+    sends = subst (λ es. Sends es a b x y) (sym (append-nil (look_arrivals finds.found))) finds.sends;
   }
 
   module _ (k word : ℕ) (finds : Finds k calls calls' a b x y) (calls'' : List Call)
@@ -63,7 +63,7 @@ module _ (calls calls' : List Call) (a b : Machine) (x y : Option (List ℕ)) wh
       latched = latched;
       sends =
           subst (λ es. Sends es a c x z) (sym (arrived_more finds.found word k finds.many))
-          (sends_on (arrived finds.found) (map Arrive (arrivals k word)) a b c x y z finds.sends sends);
+          (sends_on (look_arrivals finds.found) (map Arrive (arrivals k word)) a b c x y z finds.sends sends);
     }
 
     -- a fault came at the word
@@ -71,10 +71,10 @@ module _ (calls calls' : List Call) (a b : Machine) (x y : Option (List ℕ)) wh
         → Stops (Looks ∷ []) calls calls'' a c x z
     find_cut within breaks = elim (cases_lt (suc k) 16) [ inl less ↦ in_midst less | inr more ↦ at_end (omega arith) ]
       where
-        here : Breaks (arrived words) a c x z
+        here : Breaks (look_arrivals words) a c x z
         here =
             subst (λ es. Breaks es a c x z) (sym (arrived_more finds.found word k finds.many))
-            (breaks_behind (arrived finds.found) (map Arrive (arrivals k word)) a b c x y z finds.sends breaks)
+            (breaks_behind (look_arrivals finds.found) (map Arrive (arrivals k word)) a b c x y z finds.sends breaks)
 
         all_calls : calls'' ≡ calls ++ (latches words ++ [])
         all_calls = latched ∙ ap (λ cs. calls ++ cs) (sym (append-nil (latches words)))
@@ -99,7 +99,7 @@ module _ (calls calls' : List Call) (a b : Machine) (x y : Option (List ℕ)) wh
           short = omega arith;
           latched = all_calls;
           breaks =
-              breaks_before (arrived words ++ []) [] a c x z (breaks_before (arrived words) [] a c x z here);
+              breaks_before (look_arrivals words ++ []) [] a c x z (breaks_before (look_arrivals words) [] a c x z here);
         }
 
 -- a look, and then a core step
@@ -109,7 +109,7 @@ module _ (calls calls' : List Call) (a b c : Machine) (x y z : Option (List ℕ)
   step_alone run step = at run.found run.many run.whole run.latched run.sends
     where
       at : (found : List (List ℕ)) → length found ≡ 1 → AllByRecursion IsWholeLook found
-          → calls' ≡ calls ++ flat_map latches found → Sends (weave (Looks ∷ []) found) a b x y
+          → calls' ≡ calls ++ flat_map latches found → Sends (interleaving (Looks ∷ []) found) a b x y
           → Goes (Happens Step ∷ []) calls calls' a c x z
       at [] many whole latched sends = absurd (omega (arith, many))
       at (ws ∷ []) many whole latched sends = record {
@@ -118,8 +118,8 @@ module _ (calls calls' : List Call) (a b c : Machine) (x y z : Option (List ℕ)
         whole = whole;
         latched = latched;
         sends =
-            sends_on (arrived ws) (Step ∷ []) a b c x y z
-            (subst (λ es. Sends es a b x y) (append-nil (arrived ws)) sends) step;
+            sends_on (look_arrivals ws) (Step ∷ []) a b c x y z
+            (subst (λ es. Sends es a b x y) (append-nil (look_arrivals ws)) sends) step;
       }
       at (ws ∷ vs ∷ found) many whole latched sends = absurd (omega (arith, many))
 
@@ -129,7 +129,7 @@ module _ (calls calls' : List Call) (a b c : Machine) (x y z : Option (List ℕ)
   step_cut run breaks = at run.found run.many run.whole run.latched run.sends
     where
       at : (found : List (List ℕ)) → length found ≡ 1 → AllByRecursion IsWholeLook found
-          → calls' ≡ calls ++ flat_map latches found → Sends (weave (Looks ∷ []) found) a b x y
+          → calls' ≡ calls ++ flat_map latches found → Sends (interleaving (Looks ∷ []) found) a b x y
           → Stops (Happens Step ∷ []) calls calls' a c x z
       at [] many whole latched sends = absurd (omega (arith, many))
       at (ws ∷ []) many whole latched sends = record {
@@ -140,9 +140,9 @@ module _ (calls calls' : List Call) (a b c : Machine) (x y z : Option (List ℕ)
         short = omega arith;
         latched = latched;
         breaks =
-            breaks_before (arrived ws ++ Step ∷ []) [] a c x z
-            (breaks_behind (arrived ws) (Step ∷ []) a b c x y z
-            (subst (λ es. Sends es a b x y) (append-nil (arrived ws)) sends) breaks);
+            breaks_before (look_arrivals ws ++ Step ∷ []) [] a c x z
+            (breaks_behind (look_arrivals ws) (Step ∷ []) a b c x y z
+            (subst (λ es. Sends es a b x y) (append-nil (look_arrivals ws)) sends) breaks);
       }
       at (ws ∷ vs ∷ found) many whole latched sends = absurd (omega (arith, many))
 
@@ -153,7 +153,7 @@ step_look_cut calls calls' a b x y cut = at cut.found cut.last cut.few cut.whole
   where
     at : (found : List (List ℕ)) (last : List ℕ) → IsFew (Looks ∷ []) found last → AllByRecursion IsWholeLook found
         → length last < 16 → calls' ≡ calls ++ flat_map latches (found ++ last ∷ [])
-        → Breaks (weave (Looks ∷ []) found ++ arrived last) a b x y → Stops (Happens Step ∷ []) calls calls' a b x y
+        → Breaks (interleaving (Looks ∷ []) found ++ look_arrivals last) a b x y → Stops (Happens Step ∷ []) calls calls' a b x y
     at [] last few whole short latched breaks = record {
       found = [];
       last = last;
@@ -172,20 +172,20 @@ step_look_cut calls calls' a b x y cut = at cut.found cut.last cut.few cut.whole
       short = short;
       latched = latched;
       breaks =
-          breaks_before (arrived ws ++ Step ∷ []) (arrived last) a b x y
-          (breaks_before (arrived ws) (Step ∷ []) a b x y alone);
+          breaks_before (look_arrivals ws ++ Step ∷ []) (look_arrivals last) a b x y
+          (breaks_before (look_arrivals ws) (Step ∷ []) a b x y alone);
     }
       where
-        alone : Breaks (arrived ws) a b x y
+        alone : Breaks (look_arrivals ws) a b x y
         alone =
             subst (λ es. Breaks es a b x y)
-            (ap (λ vs. (arrived ws ++ []) ++ arrived vs) most.0 ∙ append-nil (arrived ws ++ [])
-            ∙ append-nil (arrived ws)) breaks
+            (ap (λ vs. (look_arrivals ws ++ []) ++ look_arrivals vs) most.0 ∙ append-nil (look_arrivals ws ++ [])
+            ∙ append-nil (look_arrivals ws)) breaks
     at (ws ∷ vs ∷ found) last (inl less) whole short latched breaks = absurd (omega (arith, less))
     at (ws ∷ vs ∷ found) last (inr most) whole short latched breaks = absurd (omega (arith, most.1))
 
 -- an event that comes without a look
-module _ (e : Event) (ts : List Turn) (no_look : looks ts ≡ 0) (is : weave ts [] ≡ e ∷ []) (calls : List Call)
+module _ (e : Event) (ts : List Turn) (no_look : looks ts ≡ 0) (is : interleaving ts [] ≡ e ∷ []) (calls : List Call)
     (a b : Machine) (x y : Option (List ℕ)) where
   pub event_alone : Sends (e ∷ []) a b x y → Goes ts calls calls a b x y
   event_alone sends = record {
@@ -205,5 +205,5 @@ module _ (e : Event) (ts : List Turn) (no_look : looks ts ≡ 0) (is : weave ts 
     short = omega arith;
     latched = sym (append-nil calls);
     breaks =
-        breaks_before (weave ts []) [] a b x y (subst (λ es. Breaks es a b x y) (sym is) breaks);
+        breaks_before (interleaving ts []) [] a b x y (subst (λ es. Breaks es a b x y) (sym is) breaks);
   }

@@ -23,7 +23,7 @@ use Rattle.rt_script.specs.declared.line.Line.TheVariants.{Steps, Ticks, Pends, 
 use Rattle.rt_devices.specs.Work.{requests}
 use Rattle.rt_devices.specs.declared.device.Device.{Device}
 use Rattle.rt_words.specs.Lines.{Row, Core, IsUnused}
-use Rattle.rt_words.specs.Object.{IsPending, pending}
+use Rattle.rt_words.specs.Object.{IsPending, pending_bit}
 use Rattle.rt_words.proofs.Bits as bits
 use Rattle.rt_words.proofs.Bits.{with_bit, pend_same, pend_other}
 use Rattle.rt_live.specs.Devices.{is_of_device}
@@ -77,15 +77,15 @@ module _ (words : List ℕ) (irqs : List ℕ) (irq : ℕ) (within : irq / 32 < l
       was is (no other) =
           inl ((may i).0
           (sym (pend_other words irq i (λ _. within) other)
-          ∙ ap (λ (ws : List ℕ). pending ws i) (sym (as_power words irq)) ∙ is))
+          ∙ ap (λ (ws : List ℕ). pending_bit ws i) (sym (as_power words irq)) ∙ is))
 
       becomes : Contains irqs i ⊎ (i ≡ irq) → Dec (i ≡ irq) → IsPending (bit_in words irq) i
       becomes is (yes same) =
-          ap (λ (ws : List ℕ). pending ws i) (as_power words irq)
-          ∙ ap (λ n. pending (set words (irq / 32) (with_bit (get_or words (irq / 32) 0) (irq % 32))) n) same
+          ap (λ (ws : List ℕ). pending_bit ws i) (as_power words irq)
+          ∙ ap (λ n. pending_bit (set words (irq / 32) (with_bit (get_or words (irq / 32) 0) (irq % 32))) n) same
           ∙ pend_same words irq within
       becomes (inl is) (no other) =
-          ap (λ (ws : List ℕ). pending ws i) (as_power words irq)
+          ap (λ (ws : List ℕ). pending_bit ws i) (as_power words irq)
           ∙ pend_other words irq i (λ _. within) other ∙ (may i).1 is
       becomes (inr same) (no other) = absurd (other same)
 

@@ -9,7 +9,7 @@ use Rattle.rt_words.specs.declared.call.Call.TheVariants.{Pend, Latch}
 use Rattle.rt_words.specs.Object.{after}
 use Rattle.rt_words.specs.History.{Leads, part}
 use Rattle.rt_words.specs.declared.call.Entry.{Entry}
-use Rattle.rt_live.specs.Weave.{latches_from, latches}
+use Rattle.rt_live.specs.Interleaving.{latches_from, latches}
 
 -- a history, and one that goes on
 pub leads_on : (a b c : List ℕ) (front behind : List Entry) → Leads a front b → Leads b behind c → Leads a (front ++ behind) c

@@ -21,7 +21,7 @@ use Rattle.rt_live.specs.Account.{account_of, account_text, declared_irqs}
 use Rattle.rt_live.specs.Going.{IsWholeLook}
 use Rattle.rt_live.specs.History.{IsHistory}
 use Rattle.rt_live.specs.Output.{IsLiveText, TookPart, IsBalanced}
-use Rattle.rt_live.specs.Weave.{Happens, Looks, looks, turns, arrived, weave}
+use Rattle.rt_live.specs.Interleaving.{Happens, Looks, looks, turns, look_arrivals, interleaving}
 use Rattle.rt_live.specs.Written.{live_text}
 use Rattle.rt_live.proofs.Woven.{looks-append}
 use Rattle.rt_live.proofs.Extending.{IsCutHistory, Settles, Extends, extend}
@@ -43,11 +43,11 @@ lines_begin m done behind fresh =
 
 -- the text of looks that go on begins with the lines of the events so far
 text_begins : (m : Machine) (script : List Line) (found : List (List ℕ)) (done behind : List Event) → IsFresh m
-    → weave (turns script) found ≡ done ++ behind
+    → interleaving (turns script) found ≡ done ++ behind
     → (more : List ℕ) × (live_text m.image script found ≡ lines_of m done ++ more)
 text_begins m script found done behind fresh parts =
     let begin = lines_begin m done behind fresh in
-    let last : List ℕ = flat_map total_text (steps (weave (turns script) found) ∷ []) in (
+    let last : List ℕ = flat_map total_text (steps (interleaving (turns script) found) ∷ []) in (
       begin.0 ++ last,
       ap (λ es. flat_map (text m.image.names) (trace m.image es) ++ last) parts
           ∙ ap (λ (t : List ℕ). t ++ last) begin.1
@@ -96,12 +96,12 @@ pub part_cut : (m next : Machine) (script : List Line) (found : List (List ℕ))
     (history : List Entry) (x y : Option (List ℕ)) → IsFresh m → IsCutHistory script found last words history
     → AllByRecursion IsWholeLook found → Settles (turns script) found last words → length last < 16
     → (length found < looks (turns script)) ⊎ ((last ≡ []) × (length found ≤ looks (turns script)))
-    → Breaks (weave (turns script) found ++ arrived last) m next x y → TookPart m.image script x y
+    → Breaks (interleaving (turns script) found ++ look_arrivals last) m next x y → TookPart m.image script x y
 part_cut m next script found last words history x y fresh cut whole settles short few breaks =
     let e : Extends script (turns script) found last =
     extend script found last words history cut (turns script) whole settles short few in
-    let all : weave (turns script) e.all ≡ breaks.done ++ (breaks.rest ++ e.behind) =
-    e.weaves ∙ ap (λ es. es ++ e.behind) breaks.parts ∙ append_assoc breaks.done breaks.rest e.behind in
+    let all : interleaving (turns script) e.all ≡ breaks.done ++ (breaks.rest ++ e.behind) =
+    e.interleavings ∙ ap (λ es. es ++ e.behind) breaks.parts ∙ append_assoc breaks.done breaks.rest e.behind in
     let begins = text_begins m script e.all breaks.done (breaks.rest ++ e.behind) fresh all in
     let account : List ℕ = account_behind m.image e.history in
     record {

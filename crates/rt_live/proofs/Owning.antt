@@ -15,10 +15,10 @@ use Rattle.rt_script.specs.declared.line.Line.{Line}
 use Rattle.rt_script.specs.declared.line.Line.TheVariants.{Steps, Ticks, Pends, Device}
 use Rattle.rt_words.specs.Lines.{Row, Core}
 use Rattle.rt_words.specs.declared.call.Call.{Call}
-use Rattle.rt_live.specs.Weave.{Turn, Happens, Looks}
+use Rattle.rt_live.specs.Interleaving.{Turn, Happens, Looks}
 use Rattle.rt_live.specs.Going.{Goes, Stops, IsSameLine}
 use Rattle.rt_live.specs.Inside.Able.{IsAble, MayArrive}
-use Rattle.rt_live.specs.Inside.Own.{own_turn, own_turns, repeated}
+use Rattle.rt_live.specs.Inside.Own.{own_turn, own_turns, repeated_turns}
 use Rattle.rt_live.proofs.Turning.{goes_on, stops_behind, stops_before}
 
 -- what turns ask stays so behind others
@@ -46,16 +46,16 @@ pub one_call_on : (a b c : Core) (call : Call) → IsSameLine a b → c ≡ reco
     → IsSameLine a c
 one_call_on a b c call first second = same_line_on a b c first (call ∷ [], second)
 
-pub repeated_add : (m n : ℕ) (ts : List Turn) → repeated (m + n) ts ≡ repeated m ts ++ repeated n ts
-repeated_add zero n ts = ap (λ k. repeated k ts) (let e : 0 + n ≡ n = omega arith in e)
+pub repeated_add : (m n : ℕ) (ts : List Turn) → repeated_turns (m + n) ts ≡ repeated_turns m ts ++ repeated_turns n ts
+repeated_add zero n ts = ap (λ k. repeated_turns k ts) (let e : 0 + n ≡ n = omega arith in e)
 repeated_add (suc m) n ts =
-    ap (λ k. repeated k ts) (let e : suc m + n ≡ suc (m + n) = omega arith in e)
+    ap (λ k. repeated_turns k ts) (let e : suc m + n ≡ suc (m + n) = omega arith in e)
     ∙ ap (λ us. ts ++ us) (repeated_add m n ts)
-    ∙ sym (append_assoc ts (repeated m ts) (repeated n ts))
+    ∙ sym (append_assoc ts (repeated_turns m ts) (repeated_turns n ts))
 
-repeated_more : (n : ℕ) (ts : List Turn) → repeated n ts ++ ts ≡ repeated (n + 1) ts
+repeated_more : (n : ℕ) (ts : List Turn) → repeated_turns n ts ++ ts ≡ repeated_turns (n + 1) ts
 repeated_more n ts =
-    ap (λ us. repeated n ts ++ us) (sym (append-nil ts)) ∙ sym (repeated_add n 1 ts)
+    ap (λ us. repeated_turns n ts ++ us) (sym (append-nil ts)) ∙ sym (repeated_add n 1 ts)
 
 own_one : (line : Line) → length (own_turn line) ≤ 1
 own_one (Steps n) = omega arith
@@ -63,35 +63,35 @@ own_one (Ticks n) = omega arith
 own_one (Pends irq n) = omega arith
 own_one (Device d irq n) = omega arith
 
-length-repeated : (n : ℕ) (ts : List Turn) → length ts ≤ 1 → length (repeated n ts) ≤ n
+length-repeated : (n : ℕ) (ts : List Turn) → length ts ≤ 1 → length (repeated_turns n ts) ≤ n
 length-repeated zero ts one = omega arith
 length-repeated (suc n) ts one =
-    omega (arith, length-append ts (repeated n ts), one, length-repeated n ts one)
+    omega (arith, length-append ts (repeated_turns n ts), one, length-repeated n ts one)
 
 -- a line's turns are few
-pub few_turns : (n : ℕ) (line : Line) → length (repeated n (own_turn line)) ≤ n
+pub few_turns : (n : ℕ) (line : Line) → length (repeated_turns n (own_turn line)) ≤ n
 few_turns n line = length-repeated n (own_turn line) (own_one line)
 
 module _ (n : ℕ) (ts : List Turn) (a b c : Machine) (x y z : Option (List ℕ)) (calls calls' calls'' : List Call) where
   -- the same turns once more
-  pub once_more : Goes (repeated n ts) calls calls' a b x y → Goes ts calls' calls'' b c y z
-      → Goes (repeated (n + 1) ts) calls calls'' a c x z
+  pub once_more : Goes (repeated_turns n ts) calls calls' a b x y → Goes ts calls' calls'' b c y z
+      → Goes (repeated_turns (n + 1) ts) calls calls'' a c x z
   once_more first second =
       subst (λ us. Goes us calls calls'' a c x z) (repeated_more n ts)
-      (goes_on (repeated n ts) ts a b c x y z calls calls' calls'' first second)
+      (goes_on (repeated_turns n ts) ts a b c x y z calls calls' calls'' first second)
 
   -- or a fault at them
-  pub once_cut : (count : ℕ) → n < count → Goes (repeated n ts) calls calls' a b x y
-      → Stops ts calls' calls'' b c y z → Stops (repeated count ts) calls calls'' a c x z
+  pub once_cut : (count : ℕ) → n < count → Goes (repeated_turns n ts) calls calls' a b x y
+      → Stops ts calls' calls'' b c y z → Stops (repeated_turns count ts) calls calls'' a c x z
   once_cut count within first cut =
       let rest : ℕ = count - (n + 1) in
-      let all : repeated (n + 1) ts ++ repeated rest ts ≡ repeated count ts =
+      let all : repeated_turns (n + 1) ts ++ repeated_turns rest ts ≡ repeated_turns count ts =
       sym (repeated_add (n + 1) rest ts)
-      ∙ ap (λ k. repeated k ts) (let same : n + 1 + rest ≡ count = omega arith in same) in
+      ∙ ap (λ k. repeated_turns k ts) (let same : n + 1 + rest ≡ count = omega arith in same) in
       subst (λ us. Stops us calls calls'' a c x z) all
-      (stops_before (repeated (n + 1) ts) (repeated rest ts) a c x z calls calls''
+      (stops_before (repeated_turns (n + 1) ts) (repeated_turns rest ts) a c x z calls calls''
       (subst (λ us. Stops us calls calls'' a c x z) (repeated_more n ts)
-      (stops_behind (repeated n ts) ts a b c x y z calls calls' calls'' first cut)))
+      (stops_behind (repeated_turns n ts) ts a b c x y z calls calls' calls'' first cut)))
 
   -- core steps behind the last look
   pub step_more : (e : Turn) → Goes (Looks ∷ replicate n e) calls calls' a b x y → Goes (e ∷ []) calls' calls'' b c y z
@@ -113,15 +113,15 @@ module _ (n : ℕ) (ts : List Turn) (a b c : Machine) (x y z : Option (List ℕ)
       (stops_behind (Looks ∷ replicate n e) (e ∷ []) a b c x y z calls calls' calls'' first cut)))
 
 -- the turns of a line are its events
-repeated_one : (n : ℕ) (e : Event) → repeated n (Happens e ∷ []) ≡ map Happens (replicate n e)
+repeated_one : (n : ℕ) (e : Event) → repeated_turns n (Happens e ∷ []) ≡ map Happens (replicate n e)
 repeated_one zero e = refl
 repeated_one (suc n) e = ap (λ ts. Happens e ∷ ts) (repeated_one n e)
 
-repeated_none : (n : ℕ) → repeated n [] ≡ []
+repeated_none : (n : ℕ) → repeated_turns n [] ≡ []
 repeated_none zero = refl
 repeated_none (suc n) = repeated_none n
 
-line_turns : (line : Line) → repeated (count_of line) (own_turn line) ≡ map Happens (core_line_events line)
+line_turns : (line : Line) → repeated_turns (count_of line) (own_turn line) ≡ map Happens (core_line_events line)
 line_turns (Steps n) = repeated_one n Step
 line_turns (Ticks n) = repeated_one n Tick
 line_turns (Pends irq n) = repeated_one n (Arrive irq)
@@ -150,7 +150,7 @@ own_turns_length script = omega (arith, length-map (core_events script) Happens,
 
 module _ (script : List Line) (i : ℕ) (line : Line) (below : i < length script) (is : line ≡ get_or script i line) where
   own_more : own_turns (take (i + 1) script)
-      ≡ own_turns (take i script) ++ repeated (count_of line) (own_turn line)
+      ≡ own_turns (take i script) ++ repeated_turns (count_of line) (own_turn line)
   own_more =
       ap own_turns (take_more script i line below)
       ∙ ap (map Happens) (flat_map-append core_line_events (take i script) (get_or script i line ∷ []))
@@ -172,21 +172,21 @@ module _ (script : List Line) (i : ℕ) (line : Line) (below : i < length script
 
   module _ (a b c : Machine) (x y z : Option (List ℕ)) (calls calls' calls'' : List Call) where
     pub own_line_more : Goes (own_turns (take i script)) calls calls' a b x y
-        → Goes (repeated (count_of line) (own_turn line)) calls' calls'' b c y z
+        → Goes (repeated_turns (count_of line) (own_turn line)) calls' calls'' b c y z
         → Goes (own_turns (take (i + 1) script)) calls calls'' a c x z
     own_line_more first second =
         subst (λ ts. Goes ts calls calls'' a c x z) (sym own_more)
-        (goes_on (own_turns (take i script)) (repeated (count_of line) (own_turn line)) a b c x y z calls calls' calls''
+        (goes_on (own_turns (take i script)) (repeated_turns (count_of line) (own_turn line)) a b c x y z calls calls' calls''
         first second)
 
     pub own_line_cut : Goes (own_turns (take i script)) calls calls' a b x y
-        → Stops (repeated (count_of line) (own_turn line)) calls' calls'' b c y z
+        → Stops (repeated_turns (count_of line) (own_turn line)) calls' calls'' b c y z
         → Stops (own_turns script) calls calls'' a c x z
     own_line_cut first cut =
         subst (λ ts. Stops ts calls calls'' a c x z) all
         (stops_before (own_turns (take (i + 1) script)) (own_turns (drop (i + 1) script)) a c x z calls calls''
         (subst (λ ts. Stops ts calls calls'' a c x z) (sym own_more)
-        (stops_behind (own_turns (take i script)) (repeated (count_of line) (own_turn line)) a b c x y z
+        (stops_behind (own_turns (take i script)) (repeated_turns (count_of line) (own_turn line)) a b c x y z
         calls calls' calls'' first cut)))
       where
         all : own_turns (take (i + 1) script) ++ own_turns (drop (i + 1) script) ≡ own_turns script

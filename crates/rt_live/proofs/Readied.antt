@@ -19,7 +19,7 @@ use Rattle.rt_run.specs.Writable.{IsWritable}
 use Rattle.rt_script.specs.Script.{IsScript, HasName, HasNames, count, pends, line_pends, count_of}
 use Rattle.rt_script.specs.declared.line.Line.{Line}
 use Rattle.rt_script.specs.declared.line.Line.TheVariants.{Steps, Ticks, Pends, Device as DeviceLine}
-use Rattle.rt_devices.specs.Work.{requests, asked_by, Works}
+use Rattle.rt_devices.specs.Work.{requests, interrupt_asked, Works}
 use Rattle.rt_devices.specs.declared.device.Device.{Device}
 use Rattle.rt_trace.specs.Lined.{IsDeclared}
 use Rattle.rt_words.specs.Lines.{Row, Core, numbers, count as row_count}
@@ -32,7 +32,7 @@ use Rattle.rt_live.specs.Ready.{Prepared, IsReady, IsWaiting, HasMade, PendsOneO
 use Rattle.rt_live.specs.declared.account.AccountRow.{AccountRow}
 use Rattle.rt_live.specs.Inside.Able.{IsAble}
 use Rattle.rt_live.specs.Inside.Making.{MayPend, HasMadeLines}
-use Rattle.rt_live.specs.Gathering.{part_of, gathering}
+use Rattle.rt_live.specs.Gathering.{part_of, line_after_gathering}
 use Rattle.rt_live.specs.Inside.Working.{CanWork, AllWork, calls_gathered, calls_made, empty_row}
 use Rattle.rt_live.proofs.Tallied.{same_words, same_made, gathered_parts, since_within}
 
@@ -40,7 +40,7 @@ use Rattle.rt_live.proofs.Tallied.{same_words, same_made, gathered_parts, since_
 pub record HasEnded (row : Row) (script : List Line) (device : Device) : Type 0 where
   pub words : device.line.words ≡ row
   pub number : device.line.number ≡ device.number
-  pub made : map asked_by device.line.calls ≡ map (λ irq. Some irq) (pends script device.number)
+  pub made : map interrupt_asked device.line.calls ≡ map (λ irq. Some irq) (pends script device.number)
 
 abbrev device_numbers : List Device → List ℕ
 device_numbers ds = map (λ d. d.number) ds
@@ -55,7 +55,7 @@ module _ (words : Row) (script : List Line) where
         words = ap (λ l. l.words) works.line ∙ waits.words;
         number = ap (λ l. l.number) works.line ∙ waits.number ∙ sym works.number;
         made =
-            ap (map asked_by) calls ∙ works.asked
+            ap (map interrupt_asked) calls ∙ works.asked
             ∙ ap (map (λ irq. Some irq)) (waits.asks ∙ ap (pends script) (sym works.number));
       }
 
@@ -122,7 +122,7 @@ module _ (ready : Prepared) (is : IsReady ready) (line : Core) (same : IsSameLin
   }
 
   module _ (ended : List Device) (have : AllByRecursion (HasEnded words script) ended)
-      (known : device_numbers ended ≡ device_numbers ready.devices) (next : Core) (gathers : next ≡ gathering ended line)
+      (known : device_numbers ended ≡ device_numbers ready.devices) (next : Core) (gathers : next ≡ line_after_gathering ended line)
       (rows : List AccountRow) (counted : AllByRecursion (IsCounted next.gathered) rows)
       (irqs : irqs_of rows ≡ irqs_of ready.rows) where
     all_parts : next.gathered ≡ map part_of ended ++ ready.line.gathered
@@ -348,7 +348,7 @@ module _ (script : List Line) (scripted : IsScript script) where
     where
       part_length : (q : Part) → HasMade script q → length q.calls ≡ length (pends script q.line)
       part_length q is =
-          sym (length-map q.calls asked_by) ∙ ap length is ∙ length-map (pends script q.line) (λ irq. Some irq)
+          sym (length-map q.calls interrupt_asked) ∙ ap length is ∙ length-map (pends script q.line) (λ irq. Some irq)
 
   ended_few : (words : Row) (ds : List Device) → AllByRecursion (HasEnded words script) ds
       → calls_made ds ≤ SCRIPT_EVENTS * length ds
@@ -365,7 +365,7 @@ module _ (script : List Line) (scripted : IsScript script) where
     where
       one_length : (e : Device) → HasEnded words script e → length e.line.calls ≡ length (pends script e.number)
       one_length e is =
-          sym (length-map e.line.calls asked_by) ∙ ap length is.made ∙ length-map (pends script e.number) (λ irq. Some irq)
+          sym (length-map e.line.calls interrupt_asked) ∙ ap length is.made ∙ length-map (pends script e.number) (λ irq. Some irq)
 
 length-filter : {A : Type 0} (p : A → Bool) (xs : List A) → length (filter p xs) ≤ length xs
 length-filter p [] = omega arith
@@ -407,7 +407,7 @@ module _ (ready : Prepared) (is : IsReady ready) (line : Core) (same : IsSameLin
 
   -- With their lines gathered it is ready again. The devices and the rows were lent as slices, and are written back.
   pub ready_again : (n : ℕ) → n ≡ length ready.devices → (next : Core)
-      → next ≡ gathering (take n (ended ++ drop (length ended) ready.devices)) line
+      → next ≡ line_after_gathering (take n (ended ++ drop (length ended) ready.devices)) line
       → (rows : List AccountRow) → AllByRecursion (IsCounted next.gathered) rows → irqs_of rows ≡ irqs_of ready.rows
       → (m : ℕ) → length rows ≡ length ready.rows → m ≡ length ready.rows → (left : List Device) → left ≡ []
       → IsReady (record ready {
@@ -418,7 +418,7 @@ module _ (ready : Prepared) (is : IsReady ready) (line : Core) (same : IsSameLin
   ready_again n all next gathers rows counted irqs m same_rows all_rows left none =
       let back = taken_back ended ready.devices n as_many all in
       let is_so = ready_gathered ready is line same ended have_ended known_ended next
-      (gathers ∙ ap (λ (ds : List Device). gathering ds line) back) rows counted irqs in
+      (gathers ∙ ap (λ (ds : List Device). line_after_gathering ds line) back) rows counted irqs in
       subst (λ (ds : List Device). IsReady (record ready {
         line = next;
         devices = ds;

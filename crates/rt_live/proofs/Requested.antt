@@ -10,11 +10,11 @@ use Rattle.std.proofs.lemmas.Nat.Bits.{bit_at-zero}
 use Rattle.std.proofs.lemmas.Option.{same_Some, none-some}
 use mathlib.Core.Logic.{dite}
 use native.Mathlib.Decide.{ℕ_discrete}
-use Rattle.rt_devices.specs.Work.{asked_by}
+use Rattle.rt_devices.specs.Work.{interrupt_asked}
 use Rattle.rt_script.specs.Script.{HasDeviceInRange, pends, line_pends}
 use Rattle.rt_script.specs.declared.line.Line.{Line}
 use Rattle.rt_script.specs.declared.line.Line.TheVariants.{Steps, Ticks, Pends, Device}
-use Rattle.rt_words.specs.Account.{raises, merges, raised, merged, latched}
+use Rattle.rt_words.specs.Account.{raises, merges, raised_count, merged_count, latched_count}
 use Rattle.rt_words.specs.declared.call.Pended.TheVariants.{Raised, Merged}
 use Rattle.rt_words.specs.declared.call.Call.{Call}
 use Rattle.rt_words.specs.declared.call.Call.TheVariants.{Pend, Latch}
@@ -24,13 +24,13 @@ use Rattle.rt_words.specs.History.{part}
 use Rattle.rt_words.specs.declared.call.Entry.{Entry}
 use Rattle.rt_words.specs.Inside.Seats.{Distinct}
 use Rattle.rt_words.specs.Lines.{numbers}
-use Rattle.rt_words.specs.Object.{pending}
+use Rattle.rt_words.specs.Object.{pending_bit}
 use Rattle.rt_words.proofs.Accounting.{accounts, count_first}
 use Rattle.rt_words.proofs.Bits as bits
 use Rattle.rt_words.proofs.Lists.{in_head, in_tail, in_cases, in_none}
 use Rattle.rt_words.proofs.Parting.{by_parts}
 use Rattle.rt_live.specs.History.{IsHistory, line_asks, device_pends}
-use Rattle.rt_live.specs.Weave.{latches, latches_from}
+use Rattle.rt_live.specs.Interleaving.{latches, latches_from}
 use Rattle.rt_live.proofs.Requesting.{none_asked}
 
 abbrev one_if : Bool → ℕ
@@ -41,8 +41,8 @@ abbrev times : ℕ → List ℕ → ℕ
 times irq irqs = count_by (λ i. i == irq) irqs
 
 -- each pend raises or merges, and nothing else does
-pends_count : (irq : ℕ) (calls : List Call) (irqs : List ℕ) → map asked_by calls ≡ map (λ i. Some i) irqs
-    → raised irq calls + merged irq calls ≡ times irq irqs
+pends_count : (irq : ℕ) (calls : List Call) (irqs : List ℕ) → map interrupt_asked calls ≡ map (λ i. Some i) irqs
+    → raised_count irq calls + merged_count irq calls ≡ times irq irqs
 pends_count irq [] [] e = refl
 pends_count irq [] (i ∷ irqs) e = absurd cc
 pends_count irq (c ∷ cs) [] e = absurd cc
@@ -72,8 +72,8 @@ pends_count irq (Pend n Merged ∷ cs) (i ∷ irqs) e =
       sum_by-cons (λ x. one_if (x == irq)) i irqs,
     )
 
-look_counts_none : (irq k : ℕ) (words : List ℕ) (calls : List Call) → raised irq calls ≡ 0 → merged irq calls ≡ 0
-    → (raised irq (latches_from k words ++ calls) ≡ 0) × (merged irq (latches_from k words ++ calls) ≡ 0)
+look_counts_none : (irq k : ℕ) (words : List ℕ) (calls : List Call) → raised_count irq calls ≡ 0 → merged_count irq calls ≡ 0
+    → (raised_count irq (latches_from k words ++ calls) ≡ 0) × (merged_count irq (latches_from k words ++ calls) ≡ 0)
 look_counts_none irq k [] calls r m = (r, m)
 look_counts_none irq k (w ∷ ws) calls r m =
     let rest = look_counts_none irq (suc k) ws calls r m in (
@@ -82,7 +82,7 @@ look_counts_none irq k (w ∷ ws) calls r m =
     )
 
 looks_count_none : (irq : ℕ) (found : List (List ℕ))
-    → (raised irq (flat_map latches found) ≡ 0) × (merged irq (flat_map latches found) ≡ 0)
+    → (raised_count irq (flat_map latches found) ≡ 0) × (merged_count irq (flat_map latches found) ≡ 0)
 looks_count_none irq [] = (refl, refl)
 looks_count_none irq (ws ∷ found) =
     let rest = looks_count_none irq found in look_counts_none irq 0 ws (flat_map latches found) rest.0 rest.1
@@ -231,7 +231,7 @@ module _ (script : List Line) (found : List (List ℕ)) (history : List Entry) (
   none_above : (number : ℕ) → number ≢ 255 → 16 ≤ number → part history number ≡ []
   none_above number ne out = empty (part history number) (is.devices number ne ∙ ap (map (λ (irq : ℕ). Some irq)) (none_asked script number out ranges))
     where
-      empty : (calls : List Call) → map asked_by calls ≡ [] → calls ≡ []
+      empty : (calls : List Call) → map interrupt_asked calls ≡ [] → calls ≡ []
       empty [] e = refl
       empty (c ∷ cs) e = absurd cc
 
@@ -243,8 +243,8 @@ module _ (script : List Line) (found : List (List ℕ)) (history : List Entry) (
       (λ n ne out. none_above n ne (below_has history 16 n out))
 
   both_below : (irq n : ℕ) → n ≤ 16
-      → sum_by (λ (q : Part). raised irq q.calls) (parts_below history n)
-      + sum_by (λ (q : Part). merged irq q.calls) (parts_below history n)
+      → sum_by (λ (q : Part). raised_count irq q.calls) (parts_below history n)
+      + sum_by (λ (q : Part). merged_count irq q.calls) (parts_below history n)
       ≡ sum_below (λ d. times irq (pends script d)) n
   unfolding parts_below sum_below
   both_below irq zero few = refl
@@ -256,12 +256,12 @@ module _ (script : List Line) (found : List (List ℕ)) (history : List Entry) (
         arith,
         both_below irq n (omega (arith, few)),
         pends_count irq (part history n) (pends script n) (is.devices n ne),
-        sum_by-cons (λ (x : Part). raised irq x.calls) q rest,
-        sum_by-cons (λ (x : Part). merged irq x.calls) q rest,
+        sum_by-cons (λ (x : Part). raised_count irq x.calls) q rest,
+        sum_by-cons (λ (x : Part). merged_count irq x.calls) q rest,
       )
 
   -- raised and merged together are the pends of all devices
-  pub all_counted : (irq : ℕ) → raised irq (calls_in history) + merged irq (calls_in history) ≡ device_pends irq script
+  pub all_counted : (irq : ℕ) → raised_count irq (calls_in history) + merged_count irq (calls_in history) ≡ device_pends irq script
   all_counted irq =
       let none = looks_count_none irq found in
       omega (
@@ -275,10 +275,10 @@ module _ (script : List Line) (found : List (List ℕ)) (history : List Entry) (
       )
 
   -- nothing is left, and what was raised was latched
-  pub nothing_pending : (irq : ℕ) → pending (replicate 16 0) irq ≡ 0
+  pub nothing_pending : (irq : ℕ) → pending_bit (replicate 16 0) irq ≡ 0
   nothing_pending irq =
       ap (λ (w : ℕ). bit_at w (irq % 32)) (bits.zeros 16 (irq / 32)) ∙ bit_at-zero (irq % 32)
 
-  pub all_latched : (irq : ℕ) → irq < 512 → latched irq (calls_in history) ≡ raised irq (calls_in history)
+  pub all_latched : (irq : ℕ) → irq < 512 → latched_count irq (calls_in history) ≡ raised_count irq (calls_in history)
   all_latched irq few =
       omega (arith, accounts (replicate 16 0) history irq is.legal few, nothing_pending irq)

@@ -6,7 +6,7 @@ use Rattle.std.proofs.lemmas.Nat.Bits.{bit_at-lt}
 use Rattle.std.specs.List.{AllByRecursion}
 use mathlib.Core.Logic.{dite}
 use native.Mathlib.Decide.{ℕ_discrete, dec_lt}
-use Rattle.rt_devices.specs.Work.{asked_by}
+use Rattle.rt_devices.specs.Work.{interrupt_asked}
 use Rattle.rt_script.specs.Script.{HasDeviceInRange, pends}
 use Rattle.rt_script.specs.declared.line.Line.{Line}
 use Rattle.rt_script.specs.declared.line.Line.TheVariants.{Steps, Ticks, Pends, Device}
@@ -14,7 +14,7 @@ use Rattle.rt_words.specs.declared.call.Pended.{Pended}
 use Rattle.rt_words.specs.declared.call.Pended.TheVariants.{Raised, Merged}
 use Rattle.rt_words.specs.declared.call.Call.{Call}
 use Rattle.rt_words.specs.declared.call.Call.TheVariants.{Pend}
-use Rattle.rt_words.specs.Object.{IsAnswered, after, pending}
+use Rattle.rt_words.specs.Object.{IsAnswered, after, pending_bit}
 use Rattle.rt_words.specs.History.{Leads, part}
 use Rattle.rt_words.specs.declared.call.Entry.{Entry}
 use Rattle.rt_live.proofs.Onward.{leads_on, entries, part_on, part_own, part_other, zeros}
@@ -22,20 +22,20 @@ use Rattle.rt_live.proofs.Extending.{IsCutHistory}
 
 -- what a pend is answered
 answer : List ℕ → ℕ → Pended
-answer words irq = if pending words irq == 1 then Merged else Raised
+answer words irq = if pending_bit words irq == 1 then Merged else Raised
 
 answered : (words : List ℕ) (irq : ℕ) → IsAnswered words (Pend irq (answer words irq))
 unfolding answer
 answered words irq =
-    dite (ℕ_discrete (pending words irq) 1)
+    dite (ℕ_discrete (pending_bit words irq) 1)
     (λ e.
     let is : Merged ≡ answer words irq =
-    sym (ap (λ (b : Bool). if b then Merged else Raised) (eq-eqb (pending words irq) 1 e)) in
+    sym (ap (λ (b : Bool). if b then Merged else Raised) (eq-eqb (pending_bit words irq) 1 e)) in
     subst (λ (a : Pended). IsAnswered words (Pend irq a)) is e)
     (λ ne.
     let is : Raised ≡ answer words irq =
-    sym (ap (λ (b : Bool). if b then Merged else Raised) (ne_eqb (pending words irq) 1 ne)) in
-    let low : pending words irq ≡ 0 = omega (arith, ne, bit_at-lt (get_or words (irq / 32) 0) (irq % 32)) in
+    sym (ap (λ (b : Bool). if b then Merged else Raised) (ne_eqb (pending_bit words irq) 1 ne)) in
+    let low : pending_bit words irq ≡ 0 = omega (arith, ne, bit_at-lt (get_or words (irq / 32) 0) (irq % 32)) in
     subst (λ (a : Pended). IsAnswered words (Pend irq a)) is low)
 
 -- the pends of these interrupts, with their answers, and the words behind them
@@ -55,7 +55,7 @@ pends_lead number words [] = refl
 pends_lead number words (irq ∷ irqs) =
     (answered words irq, pends_lead number (after words (Pend irq (answer words irq))) irqs)
 
-pends_ask : (words irqs : List ℕ) → map asked_by (pend_calls words irqs) ≡ map (λ irq. Some irq) irqs
+pends_ask : (words irqs : List ℕ) → map interrupt_asked (pend_calls words irqs) ≡ map (λ irq. Some irq) irqs
 unfolding pend_calls
 pends_ask words [] = refl
 pends_ask words (irq ∷ irqs) =
@@ -92,7 +92,7 @@ module _ (script : List Line) where
       ∙ others_none n mid number (omega (arith, out))
 
   each_pends : (n : ℕ) (words : List ℕ) (number : ℕ) → number < n
-      → map asked_by (part (history_below n words) number) ≡ map (λ irq. Some irq) (pends script number)
+      → map interrupt_asked (part (history_below n words) number) ≡ map (λ irq. Some irq) (pends script number)
   unfolding history_below
   each_pends zero words number within = absurd (omega (arith, within))
   each_pends (suc n) words number within =
@@ -107,10 +107,10 @@ module _ (script : List Line) where
       ∙ ap (λ (t : List Call). t ++ part rest n) (part_own n calls)
       ∙ ap (λ (t : List Call). calls ++ t) (others_none n mid n (omega arith))
       ∙ append-nil calls in
-      subst (λ k. map asked_by (part (entries n calls ++ rest) k) ≡ map (λ irq. Some irq) (pends script k)) same
-      (ap (map asked_by) own ∙ pends_ask words irqs))
+      subst (λ k. map interrupt_asked (part (entries n calls ++ rest) k) ≡ map (λ irq. Some irq) (pends script k)) same
+      (ap (map interrupt_asked) own ∙ pends_ask words irqs))
       (λ ne.
-      ap (map asked_by)
+      ap (map interrupt_asked)
       (part_on (entries n calls) rest number
       ∙ ap (λ (t : List Call). t ++ part rest number) (part_other n number calls ne))
       ∙ each_pends n mid number (omega (arith, within, ne)))
@@ -141,7 +141,7 @@ module _ (script : List Line) where
           (λ within. each_pends 16 (zeros 16) number within)
           (λ out.
           let far : 16 ≤ number = omega (arith, out) in
-          ap (map asked_by) (others_none 16 (zeros 16) number far)
+          ap (map interrupt_asked) (others_none 16 (zeros 16) number far)
           ∙ ap (map (λ (irq : ℕ). Some irq)) (sym (none_asked number far ranges)));
     },
   )

@@ -10,7 +10,7 @@ use Rattle.rt_words.specs.declared.call.Call.{Call}
 use Rattle.rt_words.specs.declared.call.Call.TheVariants.{Latch}
 use Rattle.rt_live.specs.Going.{IsWholeLook, LatchedLast}
 use Rattle.rt_live.specs.Latched.{LatchedSo}
-use Rattle.rt_live.specs.Weave.{Turn, Looks, looks, latches, latches_from}
+use Rattle.rt_live.specs.Interleaving.{Turn, Looks, looks, latches, latches_from}
 use Rattle.rt_live.proofs.Closing.{left_none}
 use Rattle.rt_live.proofs.Extending.{Settles}
 use Rattle.rt_live.proofs.Woven.{looks-append}

@@ -7,16 +7,16 @@ use Rattle.std.proofs.lemmas.List.Sums.{sum_by-cons, sum_by-append, count_by-le-
 use Rattle.rt_lemmas.proofs.Lists.{all_map, all_behind}
 use Rattle.rt_lemmas.proofs.Membership.{all_weaker}
 use Rattle.rt_devices.specs.declared.device.Device.{Device}
-use Rattle.rt_words.specs.Account.{raised, merged}
+use Rattle.rt_words.specs.Account.{raised_count, merged_count}
 use Rattle.rt_words.specs.Lines.{Core}
 use Rattle.rt_words.specs.declared.call.Call.{Call}
 use Rattle.rt_words.specs.declared.device_line.Tally.{Tally}
-use Rattle.rt_words.specs.Object.{pending}
+use Rattle.rt_words.specs.Object.{pending_bit}
 use Rattle.rt_words.specs.declared.view.Part.{Part}
 use Rattle.rt_words.specs.declared.words.Left.{Left}
 use Rattle.rt_live.specs.Ready.{IsCounted, irqs_of}
 use Rattle.rt_live.specs.declared.account.AccountRow.{AccountRow}
-use Rattle.rt_live.specs.Gathering.{gathering, part_of}
+use Rattle.rt_live.specs.Gathering.{line_after_gathering, part_of}
 use Rattle.rt_live.specs.Inside.Working.{calls_gathered, calls_made, with_counts, with_left}
 
 -- how often gathered lines did it is no more than their calls
@@ -43,13 +43,13 @@ counts_fit parts rows room counted =
       omega (
         arith,
         is.raised,
-        times_below (raised row.irq) (count_by-le-length _) parts,
+        times_below (raised_count row.irq) (count_by-le-length _) parts,
         room,
       ),
       omega (
         arith,
         is.merged,
-        times_below (merged row.irq) (count_by-le-length _) parts,
+        times_below (merged_count row.irq) (count_by-le-length _) parts,
         room,
       ),
     ))
@@ -71,7 +71,7 @@ ended_with row latches left = record row { latched = latches; left = left }
 
 -- a row that was filled in
 pub filled : (left : Left) (row same : AccountRow) (latches stands : ℕ) → same ≡ row
-    → latches ≡ slice_index left.latched row.irq → stands ≡ pending left.bits row.irq
+    → latches ≡ slice_index left.latched row.irq → stands ≡ pending_bit left.bits row.irq
     → ended_with same latches stands ≡ with_left left row
 filled left row same latches stands is l s =
     ap (λ (x : AccountRow). ended_with x latches stands) is
@@ -83,8 +83,8 @@ same_irqs tally (row ∷ rows) = ap (λ is. row.irq ∷ is) (same_irqs tally row
 
 -- the rows count the gathered line too
 module _ (parts : List Part) (part : Part) (tally : Tally)
-    (raises : (irq : ℕ) → irq < 512 → slice_index tally.raised irq ≡ raised irq part.calls)
-    (merges : (irq : ℕ) → irq < 512 → slice_index tally.merged irq ≡ merged irq part.calls) where
+    (raises : (irq : ℕ) → irq < 512 → slice_index tally.raised irq ≡ raised_count irq part.calls)
+    (merges : (irq : ℕ) → irq < 512 → slice_index tally.merged irq ≡ merged_count irq part.calls) where
   one_counted : (row : AccountRow) → IsCounted parts row → IsCounted (part ∷ parts) (with_counts tally row)
   one_counted row is = record {
     in_range = is.in_range;
@@ -93,14 +93,14 @@ module _ (parts : List Part) (part : Part) (tally : Tally)
           arith,
           is.raised,
           raises row.irq (omega (arith, is.in_range)),
-          sum_by-cons (λ (q : Part). raised row.irq q.calls) part parts,
+          sum_by-cons (λ (q : Part). raised_count row.irq q.calls) part parts,
         );
     merged =
         omega (
           arith,
           is.merged,
           merges row.irq (omega (arith, is.in_range)),
-          sum_by-cons (λ (q : Part). merged row.irq q.calls) part parts,
+          sum_by-cons (λ (q : Part). merged_count row.irq q.calls) part parts,
         );
     latched = is.latched;
     left = is.left;
@@ -115,27 +115,27 @@ module _ (parts : List Part) (part : Part) (tally : Tally)
 pub record GathersLast (all left : List Device) (old new : Core) : Type 0 where
   pub done : List Device
   pub parts : all ≡ left ++ done
-  pub line : new ≡ gathering done old
+  pub line : new ≡ line_after_gathering done old
 
 pub gathers_none : (all : List Device) (line : Core) → GathersLast all all line line
 gathers_none all line = record { done = []; parts = sym (append-nil all); line = refl }
 
 -- gathering leaves the words and the calls of the line
-pub same_words : (devices : List Device) (line : Core) → (gathering devices line).words ≡ line.words
+pub same_words : (devices : List Device) (line : Core) → (line_after_gathering devices line).words ≡ line.words
 same_words [] line = refl
 same_words (d ∷ devices) line = same_words devices line
 
-pub same_calls : (devices : List Device) (line : Core) → (gathering devices line).calls ≡ line.calls
+pub same_calls : (devices : List Device) (line : Core) → (line_after_gathering devices line).calls ≡ line.calls
 same_calls [] line = refl
 same_calls (d ∷ devices) line = same_calls devices line
 
-pub same_made : (devices : List Device) (line : Core) → (gathering devices line).made ≡ line.made
+pub same_made : (devices : List Device) (line : Core) → (line_after_gathering devices line).made ≡ line.made
 same_made [] line = refl
 same_made (d ∷ devices) line = same_made devices line
 
 -- the parts of what was gathered stand in front
 pub gathered_parts : (devices : List Device) (line : Core)
-    → (gathering devices line).gathered ≡ map part_of devices ++ line.gathered
+    → (line_after_gathering devices line).gathered ≡ map part_of devices ++ line.gathered
 gathered_parts [] line = refl
 gathered_parts (d ∷ devices) line = ap (λ ps. part_of d ∷ ps) (gathered_parts devices line)
 
@@ -166,8 +166,8 @@ module _ (all rest : List Device) (old new : Core) (left : List Device) (device 
     line =
         is
         ∙ ap (λ (l : Core). record l { gathered = part_of device ∷ l.gathered; since = length l.calls }) gathers.line
-        ∙ ap (λ cs. record (gathering gathers.done old) {
-          gathered = part_of device ∷ (gathering gathers.done old).gathered;
+        ∙ ap (λ cs. record (line_after_gathering gathers.done old) {
+          gathered = part_of device ∷ (line_after_gathering gathers.done old).gathered;
           since = length cs;
         }) (same_calls gathers.done old);
   }
@@ -193,13 +193,13 @@ module _ (all rest : List Device) (old new : Core) (left : List Device) (device 
 
 -- none is left
 pub gathers_all : (all left : List Device) (old new : Core) → GathersLast all left old new → left ≡ []
-    → new ≡ gathering all old
+    → new ≡ line_after_gathering all old
 gathers_all all left old new gathers none =
     gathers.line
-    ∙ ap (λ (ds : List Device). gathering ds old) (sym (gathers.parts ∙ ap (λ ds. ds ++ gathers.done) none))
+    ∙ ap (λ (ds : List Device). line_after_gathering ds old) (sym (gathers.parts ∙ ap (λ ds. ds ++ gathers.done) none))
 
 -- the line's last gathering is no later than its last call
 pub since_within : (devices : List Device) (line : Core) → line.since ≤ length line.calls
-    → (gathering devices line).since ≤ length (gathering devices line).calls
+    → (line_after_gathering devices line).since ≤ length (line_after_gathering devices line).calls
 since_within [] line within = within
 since_within (d ∷ devices) line within = omega (arith, ap length (same_calls devices line))

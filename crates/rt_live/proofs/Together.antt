@@ -12,7 +12,7 @@ use Rattle.rt_live.specs.Closed.{Closes}
 use Rattle.rt_live.specs.Latched.{Halts, Completes}
 use Rattle.rt_live.specs.Output.{IsLiveText, TookPart}
 use Rattle.rt_live.specs.Ready.{Prepared, IsReady, irqs_of}
-use Rattle.rt_live.specs.Weave.{turns}
+use Rattle.rt_live.specs.Interleaving.{turns}
 use Rattle.rt_live.specs.Written.{live_text}
 use Rattle.rt_live.specs.declared.account.AccountRow.{AccountRow}
 use Rattle.rt_live.proofs.Concluded.{failed_part, live_text_is, account_part}

@@ -10,9 +10,9 @@ use Rattle.rt_run.specs.Sending.{Sends, Breaks}
 use Rattle.rt_run.proofs.Known.{time_led}
 use Rattle.rt_run.proofs.Sent.{sends_none, sends_on, breaks_behind, breaks_before}
 use Rattle.rt_words.specs.declared.call.Call.{Call}
-use Rattle.rt_live.specs.Weave.{Turn, looks, arrived, latches, weave}
+use Rattle.rt_live.specs.Interleaving.{Turn, looks, look_arrivals, latches, interleaving}
 use Rattle.rt_live.specs.Going.{IsWholeLook, Goes, Stops}
-use Rattle.rt_live.proofs.Woven.{looks-append, weave_on, weave_short, steps_woven, ticks_woven, looks_below, all_latches}
+use Rattle.rt_live.proofs.Woven.{looks-append, interleaving_on, interleaving_short, steps_woven, ticks_woven, looks_below, all_latches}
 
 -- no turn was done
 pub goes_none : (calls : List Call) (m : Machine) (x : Option (List ℕ)) → Goes [] calls calls m m x x
@@ -47,8 +47,8 @@ module _ (ts us : List Turn) (a b c : Machine) (x y z : Option (List ℕ)) (call
     whole = all_append IsWholeLook first.found second.found first.whole second.whole;
     latched = calls_on calls calls' calls'' first.found second.found first.latched second.latched;
     sends =
-        subst (λ es. Sends es a c x z) (sym (weave_on ts us first.found second.found first.many))
-        (sends_on (weave ts first.found) (weave us second.found) a b c x y z first.sends second.sends);
+        subst (λ es. Sends es a c x z) (sym (interleaving_on ts us first.found second.found first.many))
+        (sends_on (interleaving ts first.found) (interleaving us second.found) a b c x y z first.sends second.sends);
   }
 
   -- turns, and a fault behind them
@@ -65,15 +65,15 @@ module _ (ts us : List Turn) (a b c : Machine) (x y z : Option (List ℕ)) (call
         ∙ ap (λ fs. calls ++ flat_map latches fs) (sym (append_assoc first.found cut.found (cut.last ∷ [])));
     breaks =
         subst (λ es. Breaks es a c x z) events
-        (breaks_behind (weave ts first.found) (weave us cut.found ++ arrived cut.last) a b c x y z first.sends
+        (breaks_behind (interleaving ts first.found) (interleaving us cut.found ++ look_arrivals cut.last) a b c x y z first.sends
         cut.breaks);
   }
     where
-      events : weave ts first.found ++ (weave us cut.found ++ arrived cut.last)
-          ≡ weave (ts ++ us) (first.found ++ cut.found) ++ arrived cut.last
+      events : interleaving ts first.found ++ (interleaving us cut.found ++ look_arrivals cut.last)
+          ≡ interleaving (ts ++ us) (first.found ++ cut.found) ++ look_arrivals cut.last
       events =
-          sym (append_assoc (weave ts first.found) (weave us cut.found) (arrived cut.last))
-          ∙ ap (λ es. es ++ arrived cut.last) (sym (weave_on ts us first.found cut.found first.many))
+          sym (append_assoc (interleaving ts first.found) (interleaving us cut.found) (look_arrivals cut.last))
+          ∙ ap (λ es. es ++ look_arrivals cut.last) (sym (interleaving_on ts us first.found cut.found first.many))
 
       few : (length (first.found ++ cut.found) < looks (ts ++ us))
           ⊎ ((cut.last ≡ []) × (length (first.found ++ cut.found) ≤ looks (ts ++ us)))
@@ -110,26 +110,26 @@ module _ (ts us : List Turn) (a b : Machine) (x y : Option (List ℕ)) (calls ca
         | inr most ↦ inr (most.0, omega (arith, looks-append ts us, most.1))
       ]
 
-      short : length cut.found < looks ts → Breaks (weave (ts ++ us) cut.found ++ arrived cut.last) a b x y
+      short : length cut.found < looks ts → Breaks (interleaving (ts ++ us) cut.found ++ look_arrivals cut.last) a b x y
       short less =
-          subst (λ es. Breaks (es ++ arrived cut.last) a b x y) (sym (weave_short ts us cut.found less)) cut.breaks
+          subst (λ es. Breaks (es ++ look_arrivals cut.last) a b x y) (sym (interleaving_short ts us cut.found less)) cut.breaks
 
-      alone : cut.last ≡ [] → Breaks (weave ts cut.found) a b x y
+      alone : cut.last ≡ [] → Breaks (interleaving ts cut.found) a b x y
       alone none =
           subst (λ es. Breaks es a b x y)
-          (ap (λ ws. weave ts cut.found ++ arrived ws) none ∙ append-nil (weave ts cut.found)) cut.breaks
+          (ap (λ ws. interleaving ts cut.found ++ look_arrivals ws) none ∙ append-nil (interleaving ts cut.found)) cut.breaks
 
-      all : length cut.found ≡ looks ts → weave (ts ++ us) cut.found ≡ weave ts cut.found ++ weave us []
+      all : length cut.found ≡ looks ts → interleaving (ts ++ us) cut.found ≡ interleaving ts cut.found ++ interleaving us []
       all many =
-          ap (weave (ts ++ us)) (sym (append-nil cut.found)) ∙ weave_on ts us cut.found [] many
+          ap (interleaving (ts ++ us)) (sym (append-nil cut.found)) ∙ interleaving_on ts us cut.found [] many
 
       at_end : cut.last ≡ [] → length cut.found ≤ looks ts
-          → Breaks (weave (ts ++ us) cut.found ++ arrived cut.last) a b x y
+          → Breaks (interleaving (ts ++ us) cut.found ++ look_arrivals cut.last) a b x y
       at_end none most = elim (cases_lt (length cut.found) (looks ts)) [
         | inl less ↦ short less
-        | inr more ↦ breaks_before (weave (ts ++ us) cut.found) (arrived cut.last) a b x y
+        | inr more ↦ breaks_before (interleaving (ts ++ us) cut.found) (look_arrivals cut.last) a b x y
             (subst (λ es. Breaks es a b x y) (sym (all (omega (arith, most, more))))
-            (breaks_before (weave ts cut.found) (weave us []) a b x y (alone none)))
+            (breaks_before (interleaving ts cut.found) (interleaving us []) a b x y (alone none)))
       ]
 
   pub before_found : (cut : Stops ts calls calls' a b x y)
@@ -144,7 +144,7 @@ module _ (ts : List Turn) (a b : Machine) (x y : Option (List ℕ)) (calls calls
   steps_below = omega (arith, run.sends.leads.steps, steps_woven ts run.found)
 
   pub time_below : b.core.time ≤ a.core.time + length ts
-  time_below = omega (arith, time_led (weave ts run.found) a b run.sends.leads, ticks_woven ts run.found)
+  time_below = omega (arith, time_led (interleaving ts run.found) a b run.sends.leads, ticks_woven ts run.found)
 
   pub calls_below : length calls' ≤ length calls + 16 * length ts
   calls_below =

@@ -1,4 +1,4 @@
--- On weaves of turns that follow others, and on how many steps, ticks and calls turns are.
+-- On interleavings of turns that follow others, and on how many steps, ticks and calls turns are.
 use Rattle.std.proofs.Common.{◌≡◌, ℕ, suc, ◌+◌, ◌*◌, ◌<◌, ◌≤◌, List, [], ◌∷◌, ◌++◌, map, flat_map, length}
 use Rattle.std.proofs.Common.{refl, ap, sym, ◌∙◌, append_assoc, arith}
 use Rattle.std.specs.List.{AllByRecursion}
@@ -6,7 +6,7 @@ use Rattle.std.proofs.lemmas.List.{length-append}
 use Rattle.rt_ids.specs.Event.{Event, Arrive, Tick, Step, steps}
 use Rattle.rt_run.proofs.Advancing.{steps-append}
 use Rattle.rt_run.proofs.Known.{ticks}
-use Rattle.rt_live.specs.Weave.{Turn, Happens, Looks, looks, arrivals_from, arrived, latches_from, latches, weave}
+use Rattle.rt_live.specs.Interleaving.{Turn, Happens, Looks, looks, arrivals_from, look_arrivals, latches_from, latches, interleaving}
 use Rattle.rt_live.specs.Going.{IsWholeLook}
 
 pub looks-append : (ts us : List Turn) → looks (ts ++ us) ≡ looks ts + looks us
@@ -19,33 +19,33 @@ looks-append (Happens Tick ∷ ts) us = looks-append ts us
 looks-append (Happens (Arrive irq) ∷ ts) us = looks-append ts us
 
 -- as many looks as the first turns want
-pub weave_on : (ts us : List Turn) (found more : List (List ℕ)) → length found ≡ looks ts
-    → weave (ts ++ us) (found ++ more) ≡ weave ts found ++ weave us more
-weave_on [] us [] more many = refl
-weave_on [] us (ws ∷ found) more many = absurd (omega (arith, many))
-weave_on (Happens Tick ∷ ts) us found more many = ap (λ es. Tick ∷ es) (weave_on ts us found more many)
-weave_on (Happens (Arrive irq) ∷ ts) us found more many = ap (λ es. Arrive irq ∷ es) (weave_on ts us found more many)
-weave_on (Happens Step ∷ ts) us [] more many = absurd (omega (arith, many))
-weave_on (Happens Step ∷ ts) us (ws ∷ found) more many =
-    ap (λ es. arrived ws ++ Step ∷ es) (weave_on ts us found more (omega (arith, many)))
-    ∙ sym (append_assoc (arrived ws) (Step ∷ weave ts found) (weave us more))
-weave_on (Looks ∷ ts) us [] more many = absurd (omega (arith, many))
-weave_on (Looks ∷ ts) us (ws ∷ found) more many =
-    ap (λ es. arrived ws ++ es) (weave_on ts us found more (omega (arith, many)))
-    ∙ sym (append_assoc (arrived ws) (weave ts found) (weave us more))
+pub interleaving_on : (ts us : List Turn) (found more : List (List ℕ)) → length found ≡ looks ts
+    → interleaving (ts ++ us) (found ++ more) ≡ interleaving ts found ++ interleaving us more
+interleaving_on [] us [] more many = refl
+interleaving_on [] us (ws ∷ found) more many = absurd (omega (arith, many))
+interleaving_on (Happens Tick ∷ ts) us found more many = ap (λ es. Tick ∷ es) (interleaving_on ts us found more many)
+interleaving_on (Happens (Arrive irq) ∷ ts) us found more many = ap (λ es. Arrive irq ∷ es) (interleaving_on ts us found more many)
+interleaving_on (Happens Step ∷ ts) us [] more many = absurd (omega (arith, many))
+interleaving_on (Happens Step ∷ ts) us (ws ∷ found) more many =
+    ap (λ es. look_arrivals ws ++ Step ∷ es) (interleaving_on ts us found more (omega (arith, many)))
+    ∙ sym (append_assoc (look_arrivals ws) (Step ∷ interleaving ts found) (interleaving us more))
+interleaving_on (Looks ∷ ts) us [] more many = absurd (omega (arith, many))
+interleaving_on (Looks ∷ ts) us (ws ∷ found) more many =
+    ap (λ es. look_arrivals ws ++ es) (interleaving_on ts us found more (omega (arith, many)))
+    ∙ sym (append_assoc (look_arrivals ws) (interleaving ts found) (interleaving us more))
 
 -- fewer: what is behind never comes
-pub weave_short : (ts us : List Turn) (found : List (List ℕ)) → length found < looks ts
-    → weave (ts ++ us) found ≡ weave ts found
-weave_short [] us found few = absurd (omega (arith, few))
-weave_short (Happens Tick ∷ ts) us found few = ap (λ es. Tick ∷ es) (weave_short ts us found few)
-weave_short (Happens (Arrive irq) ∷ ts) us found few = ap (λ es. Arrive irq ∷ es) (weave_short ts us found few)
-weave_short (Happens Step ∷ ts) us [] few = refl
-weave_short (Happens Step ∷ ts) us (ws ∷ found) few =
-    ap (λ es. arrived ws ++ Step ∷ es) (weave_short ts us found (omega (arith, few)))
-weave_short (Looks ∷ ts) us [] few = refl
-weave_short (Looks ∷ ts) us (ws ∷ found) few =
-    ap (λ es. arrived ws ++ es) (weave_short ts us found (omega (arith, few)))
+pub interleaving_short : (ts us : List Turn) (found : List (List ℕ)) → length found < looks ts
+    → interleaving (ts ++ us) found ≡ interleaving ts found
+interleaving_short [] us found few = absurd (omega (arith, few))
+interleaving_short (Happens Tick ∷ ts) us found few = ap (λ es. Tick ∷ es) (interleaving_short ts us found few)
+interleaving_short (Happens (Arrive irq) ∷ ts) us found few = ap (λ es. Arrive irq ∷ es) (interleaving_short ts us found few)
+interleaving_short (Happens Step ∷ ts) us [] few = refl
+interleaving_short (Happens Step ∷ ts) us (ws ∷ found) few =
+    ap (λ es. look_arrivals ws ++ Step ∷ es) (interleaving_short ts us found (omega (arith, few)))
+interleaving_short (Looks ∷ ts) us [] few = refl
+interleaving_short (Looks ∷ ts) us (ws ∷ found) few =
+    ap (λ es. look_arrivals ws ++ es) (interleaving_short ts us found (omega (arith, few)))
 
 pub no_steps : (irqs : List ℕ) → steps (map Arrive irqs) ≡ 0
 no_steps [] = refl
@@ -59,30 +59,30 @@ pub steps_behind : (irqs : List ℕ) (es : List Event) → steps (map Arrive irq
 steps_behind irqs es = omega (arith, steps-append (map Arrive irqs) es, no_steps irqs)
 
 -- a look is none
-pub look_steps : (found : List (List ℕ)) → steps (weave (Looks ∷ []) found) ≡ 0
+pub look_steps : (found : List (List ℕ)) → steps (interleaving (Looks ∷ []) found) ≡ 0
 look_steps [] = refl
 look_steps (ws ∷ found) = steps_behind (arrivals_from 0 ws) []
 
 -- a turn is one core step at most, and one tick at most
-pub steps_woven : (ts : List Turn) (found : List (List ℕ)) → steps (weave ts found) ≤ length ts
+pub steps_woven : (ts : List Turn) (found : List (List ℕ)) → steps (interleaving ts found) ≤ length ts
 steps_woven [] found = omega arith
 steps_woven (Happens Tick ∷ ts) found = omega (arith, steps_woven ts found)
 steps_woven (Happens (Arrive irq) ∷ ts) found = omega (arith, steps_woven ts found)
 steps_woven (Happens Step ∷ ts) [] = omega arith
 steps_woven (Happens Step ∷ ts) (ws ∷ found) =
-    omega (arith, steps_behind (arrivals_from 0 ws) (Step ∷ weave ts found), steps_woven ts found)
+    omega (arith, steps_behind (arrivals_from 0 ws) (Step ∷ interleaving ts found), steps_woven ts found)
 steps_woven (Looks ∷ ts) [] = omega arith
-steps_woven (Looks ∷ ts) (ws ∷ found) = omega (arith, steps_behind (arrivals_from 0 ws) (weave ts found), steps_woven ts found)
+steps_woven (Looks ∷ ts) (ws ∷ found) = omega (arith, steps_behind (arrivals_from 0 ws) (interleaving ts found), steps_woven ts found)
 
-pub ticks_woven : (ts : List Turn) (found : List (List ℕ)) → ticks (weave ts found) ≤ length ts
+pub ticks_woven : (ts : List Turn) (found : List (List ℕ)) → ticks (interleaving ts found) ≤ length ts
 ticks_woven [] found = omega arith
 ticks_woven (Happens Tick ∷ ts) found = omega (arith, ticks_woven ts found)
 ticks_woven (Happens (Arrive irq) ∷ ts) found = omega (arith, ticks_woven ts found)
 ticks_woven (Happens Step ∷ ts) [] = omega arith
 ticks_woven (Happens Step ∷ ts) (ws ∷ found) =
-    omega (arith, no_ticks (arrivals_from 0 ws) (Step ∷ weave ts found), ticks_woven ts found)
+    omega (arith, no_ticks (arrivals_from 0 ws) (Step ∷ interleaving ts found), ticks_woven ts found)
 ticks_woven (Looks ∷ ts) [] = omega arith
-ticks_woven (Looks ∷ ts) (ws ∷ found) = omega (arith, no_ticks (arrivals_from 0 ws) (weave ts found), ticks_woven ts found)
+ticks_woven (Looks ∷ ts) (ws ∷ found) = omega (arith, no_ticks (arrivals_from 0 ws) (interleaving ts found), ticks_woven ts found)
 
 pub looks_below : (ts : List Turn) → looks ts ≤ length ts
 looks_below [] = omega arith

@@ -4,9 +4,9 @@
 use Rattle.std.specs.Prelude.{ℕ, List, [], ◌∷◌, ◌++◌, map, flat_map, codes, decimal}
 use Rattle.rt_ids.specs.Names.{Names}
 use Rattle.rt_ids.specs.Naming.{irq_name}
-use Rattle.rt_trace.specs.Text.{spaced}
-use Rattle.rt_words.specs.Account.{raised, merged, latched}
-use Rattle.rt_words.specs.Object.{pending}
+use Rattle.rt_trace.specs.Text.{spaced_text}
+use Rattle.rt_words.specs.Account.{raised_count, merged_count, latched_count}
+use Rattle.rt_words.specs.Object.{pending_bit}
 use Rattle.rt_words.specs.declared.call.Call.{Call}
 use Rattle.rt_live.specs.declared.account.AccountRow.{AccountRow}
 
@@ -15,10 +15,10 @@ abbrev pub row_of : List Call → List ℕ → ℕ → AccountRow
 row_of calls words irq =
     record {
       irq = irq;
-      raised = raised irq calls;
-      merged = merged irq calls;
-      latched = latched irq calls;
-      left = pending words irq;
+      raised = raised_count irq calls;
+      merged = merged_count irq calls;
+      latched = latched_count irq calls;
+      left = pending_bit words irq;
     }
 
 -- a row for each of these interrupts
@@ -35,7 +35,7 @@ counts_of row = row.raised ∷ row.merged ∷ row.latched ∷ row.left ∷ []
 
 -- the line of a row, with its line feed
 abbrev pub row_text : Names → AccountRow → List ℕ
-row_text names row = codes "account" ++ spaced (irq_name names row.irq ∷ map decimal (counts_of row)) ++ 10 ∷ []
+row_text names row = codes "account" ++ spaced_text (irq_name names row.irq ∷ map decimal (counts_of row)) ++ 10 ∷ []
 
 -- the lines of rows
 abbrev pub account_text : Names → List AccountRow → List ℕ

@@ -9,10 +9,10 @@ abbrev pub part_of : Device → Part
 part_of device = record { line = device.line.number; calls = device.line.calls }
 
 -- the core's line behind the gathering of these devices' lines, the last first
-abbrev pub gathering : List Device → Core → Core
-gathering [] line = line
-gathering (device ∷ devices) line =
-    record (gathering devices line) {
-      gathered = part_of device ∷ (gathering devices line).gathered;
+abbrev pub line_after_gathering : List Device → Core → Core
+line_after_gathering [] line = line
+line_after_gathering (device ∷ devices) line =
+    record (line_after_gathering devices line) {
+      gathered = part_of device ∷ (line_after_gathering devices line).gathered;
       since = length line.calls;
     }

@@ -8,7 +8,7 @@ use Rattle.rt_run.specs.Sending.{Sends, Breaks}
 use Rattle.rt_words.specs.Lines.{Core}
 use Rattle.rt_words.specs.declared.call.Call.{Call}
 use Rattle.rt_words.specs.declared.call.Call.TheVariants.{Latch}
-use Rattle.rt_live.specs.Weave.{Turn, looks, arrived, latches, weave}
+use Rattle.rt_live.specs.Interleaving.{Turn, looks, look_arrivals, latches, interleaving}
 use Rattle.rt_live.specs.declared.turns.TheConstants.{WORDS}
 
 -- a look found a word of each number
@@ -16,17 +16,17 @@ abbrev pub IsWholeLook : List ℕ → Type 0
 IsWholeLook words = length words ≡ WORDS
 
 -- All of these turns were done. The line made the latches of their looks and no other call, and the core the events of
--- the weave; their lines were written.
+-- the interleaving; their lines were written.
 pub record Goes (ts : List Turn) (calls calls' : List Call) (old new : Machine) (before after : Option (List ℕ))
     : Type 0 where
   pub found : List (List ℕ)
   pub many : length found ≡ looks ts
   pub whole : AllByRecursion IsWholeLook found
   pub latched : calls' ≡ calls ++ flat_map latches found
-  pub sends : Sends (weave ts found) old new before after
+  pub sends : Sends (interleaving ts found) old new before after
 
 -- A fault of the sink came in these turns. The last look may be cut: it then found fewer words than there are. The line
--- made the latches of the looks and of the cut one, and the core the first of the events of the weave with what the cut
+-- made the latches of the looks and of the cut one, and the core the first of the events of the interleaving with what the cut
 -- look found behind them; a beginning of their lines was written.
 pub record Stops (ts : List Turn) (calls calls' : List Call) (old new : Machine) (before after : Option (List ℕ))
     : Type 0 where
@@ -36,7 +36,7 @@ pub record Stops (ts : List Turn) (calls calls' : List Call) (old new : Machine)
   pub whole : AllByRecursion IsWholeLook found
   pub short : length last < WORDS
   pub latched : calls' ≡ calls ++ flat_map latches (found ++ last ∷ [])
-  pub breaks : Breaks (weave ts found ++ arrived last) old new before after
+  pub breaks : Breaks (interleaving ts found ++ look_arrivals last) old new before after
 
 -- All of these turns were done, as far as the line and the core go, and this was written of what the looks found.
 pub record Ends (ts : List Turn) (calls calls' : List Call) (old new : Machine) (written : List (List ℕ) → Type 0)
@@ -45,7 +45,7 @@ pub record Ends (ts : List Turn) (calls calls' : List Call) (old new : Machine) 
   pub many : length found ≡ looks ts
   pub whole : AllByRecursion IsWholeLook found
   pub latched : calls' ≡ calls ++ flat_map latches found
-  pub leads : Leads (weave ts found) old new
+  pub leads : Leads (interleaving ts found) old new
   pub wrote : written found
 
 -- the line made calls, and nothing else: it made and gathered no line

@@ -1,12 +1,12 @@
 -- The histories of the pending words that `live` allows, and how often the devices of a script pend an interrupt.
 use Rattle.std.specs.Prelude.{◌≡◌, ◌≢◌, ℕ, ◌==◌, List, flat_map, map, replicate, sum_by, cond, Some}
-use Rattle.rt_devices.specs.Work.{asked_by}
+use Rattle.rt_devices.specs.Work.{interrupt_asked}
 use Rattle.rt_script.specs.Script.{pends}
 use Rattle.rt_script.specs.declared.line.Line.{Line}
 use Rattle.rt_script.specs.declared.line.Line.TheVariants.{Steps, Ticks, Pends, Device}
 use Rattle.rt_words.specs.History.{IsLegal, part}
 use Rattle.rt_words.specs.declared.call.Entry.{Entry}
-use Rattle.rt_live.specs.Weave.{latches}
+use Rattle.rt_live.specs.Interleaving.{latches}
 
 -- One thread could have made these calls on sixteen words, and it left nothing pending. The core's line, of the number
 -- 255, latched what was found, look behind look. Each other line pended what the device of its number pends in the
@@ -15,7 +15,7 @@ pub record IsHistory (script : List Line) (found : List (List ℕ)) (history : L
   pub legal : IsLegal history (replicate 16 0)
   pub core : part history 255 ≡ flat_map latches found
   pub devices : (number : ℕ) → number ≢ 255
-      → map asked_by (part history number) ≡ map (λ irq. Some irq) (pends script number)
+      → map interrupt_asked (part history number) ≡ map (λ irq. Some irq) (pends script number)
 
 -- how often a line has a device pend the interrupt
 abbrev pub line_asks : ℕ → Line → ℕ

@@ -4,7 +4,7 @@ use Rattle.rt_core.specs.Machine.{Machine}
 use Rattle.rt_words.specs.Lines.{Core}
 use Rattle.rt_words.specs.declared.call.Call.{Call}
 use Rattle.rt_live.specs.Going.{Stops, Ends, LatchedLast}
-use Rattle.rt_live.specs.Weave.{Turn, looks, latches}
+use Rattle.rt_live.specs.Interleaving.{Turn, looks, latches}
 
 -- Of turns whose looks found these words, the last of them perhaps cut: where no look is to come behind that one, its
 -- latches came behind the last line that was gathered, and where no look is to come at all, every word was latched

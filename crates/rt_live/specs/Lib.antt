@@ -1,4 +1,4 @@
-pub mod Weave
+pub mod Interleaving
 pub mod Going
 pub mod Written
 pub mod Devices

@@ -9,7 +9,7 @@ use Rattle.rt_words.specs.declared.call.Entry.{Entry}
 use Rattle.rt_live.specs.Account.{account_of, account_text, declared_irqs}
 use Rattle.rt_live.specs.Going.{IsWholeLook}
 use Rattle.rt_live.specs.History.{IsHistory, device_pends}
-use Rattle.rt_live.specs.Weave.{looks, turns}
+use Rattle.rt_live.specs.Interleaving.{looks, turns}
 use Rattle.rt_live.specs.Written.{live_text}
 use Rattle.rt_live.specs.declared.account.AccountRow.{AccountRow}
 

@@ -2,12 +2,12 @@
 use Rattle.std.specs.Prelude.{◌≡◌, ℕ, ◌<◌, ◌≤◌, List, [], ◌++◌, length, map, sum_by, Some, Contains, ◌↔◌}
 use Rattle.std.specs.List.{AllByRecursion}
 use Rattle.rt_ids.specs.declared.limits.TheConstants.{IRQ_NUMBERS}
-use Rattle.rt_devices.specs.Work.{requests, asked_by}
+use Rattle.rt_devices.specs.Work.{requests, interrupt_asked}
 use Rattle.rt_devices.specs.declared.device.Device.{Device}
 use Rattle.rt_script.specs.Script.{IsScript, pends}
 use Rattle.rt_script.specs.declared.line.Line.{Line}
 use Rattle.rt_script.specs.declared.line.Line.TheVariants.{Steps, Ticks, Pends, Device as DeviceLine}
-use Rattle.rt_words.specs.Account.{raised, merged}
+use Rattle.rt_words.specs.Account.{raised_count, merged_count}
 use Rattle.rt_words.specs.Lines.{Row, Core, count, numbers}
 use Rattle.rt_words.specs.Object.{IsPending}
 use Rattle.rt_words.specs.declared.view.Part.{Part}
@@ -38,7 +38,7 @@ pub record IsWaiting (row : Row) (script : List Line) (device : Device) : Type 0
 
 -- a gathered line has made the pends that the script has for its device, in order and no other
 abbrev pub HasMade : List Line → Part → Type 0
-HasMade script p = map asked_by p.calls ≡ map (λ irq. Some irq) (pends script p.line)
+HasMade script p = map interrupt_asked p.calls ≡ map (λ irq. Some irq) (pends script p.line)
 
 -- a line of the script pends one of these interrupts, if it pends one
 abbrev pub PendsOneOf : List ℕ → Line → Type 0
@@ -50,8 +50,8 @@ PendsOneOf irqs (Ticks n) = Unit {0}
 -- a row counts how often its interrupt, of which there is one, was raised and merged by these lines, and no latch
 pub record IsCounted (parts : List Part) (row : AccountRow) : Type 0 where
   pub in_range : row.irq < IRQ_NUMBERS
-  pub raised : row.raised ≡ sum_by (λ p. raised row.irq p.calls) parts
-  pub merged : row.merged ≡ sum_by (λ p. merged row.irq p.calls) parts
+  pub raised : row.raised ≡ sum_by (λ p. raised_count row.irq p.calls) parts
+  pub merged : row.merged ≡ sum_by (λ p. merged_count row.irq p.calls) parts
   pub latched : row.latched ≡ 0
   pub left : row.left ≡ 0
 

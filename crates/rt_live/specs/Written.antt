@@ -1,4 +1,4 @@
--- The text that `live` writes of a run: the trace of the image, from reset, under the weave of the script's own events
+-- The text that `live` writes of a run: the trace of the image, from reset, under the interleaving of the script's own events
 -- with what the looks found, with its total of core steps. It is this project's own.
 use Rattle.std.specs.Prelude.{ℕ, List, Some}
 use Rattle.rt_ids.specs.Event.{steps}
@@ -6,12 +6,12 @@ use Rattle.rt_code.specs.Image.{Image}
 use Rattle.rt_core.specs.Trace.{trace}
 use Rattle.rt_script.specs.declared.line.Line.{Line}
 use Rattle.rt_trace.specs.Text.{trace_text}
-use Rattle.rt_live.specs.Weave.{turns, weave}
+use Rattle.rt_live.specs.Interleaving.{turns, interleaving}
 
 -- the text of the trace of an image, under the lines of a script, where the looks found these words
 abbrev pub live_text : Image → List Line → List (List ℕ) → List ℕ
 live_text img script found =
     trace_text img.names (record {
-      items = trace img (weave (turns script) found);
-      total = Some (steps (weave (turns script) found));
+      items = trace img (interleaving (turns script) found);
+      total = Some (steps (interleaving (turns script) found));
     })

@@ -6,7 +6,7 @@ ghost use Rattle.rt_ids.specs.Event.{Step};
 ghost use Rattle.rt_run.specs.Sending.{lines_of};
 ghost use Rattle.rt_trace.specs.Text.{total_text};
 ghost use Rattle.rt_live.specs.Going.{Stops, Ends, IsSameLine};
-ghost use Rattle.rt_live.specs.Weave.{Happens, Looks, weave};
+ghost use Rattle.rt_live.specs.Interleaving.{Happens, Looks, interleaving};
 ghost use Rattle.rt_live.specs.Inside.Able.{IsAble};
 
 use crate::turns::last_turns;
@@ -30,14 +30,14 @@ pub(crate) fn end<K: Sink, G: Gate>(
     requires room { length line.old.calls + 16 * (core.old.steps + 1) < 2 ^ 32 - 1 }
     ensures ok { OnOk result (Ends (Looks ∷ replicate core.old.steps (Happens Step)) line.old.calls line.new.calls
         core.old core.new (λ found. Took (K.taken out.old) (K.taken out.new)
-        (lines_of core.old (weave (Looks ∷ replicate core.old.steps (Happens Step)) found)
+        (lines_of core.old (interleaving (Looks ∷ replicate core.old.steps (Happens Step)) found)
         ++ total_text core.new.steps))) }
     ensures err { OnErr result
         (Stops (Looks ∷ replicate core.old.steps (Happens Step)) line.old.calls line.new.calls core.old core.new
         (K.taken out.old) (K.taken out.new)
         ⊎ Ends (Looks ∷ replicate core.old.steps (Happens Step)) line.old.calls line.new.calls core.old core.new
         (λ found. TookPrefix (K.taken out.old) (K.taken out.new)
-        (lines_of core.old (weave (Looks ∷ replicate core.old.steps (Happens Step)) found)
+        (lines_of core.old (interleaving (Looks ∷ replicate core.old.steps (Happens Step)) found)
         ++ total_text core.new.steps))) }
     ensures same { IsSameLine line.old line.new }
     ensures cause { HasCause (K.faults out.old) (K.faults out.new) result }

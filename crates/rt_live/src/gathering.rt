@@ -2,7 +2,7 @@
 ghost use Rattle.std.specs.Prelude.{◌≡◌, ◌+◌, ◌^◌, ◌<◌, ◌≤◌, [], ◌∷◌, length, map};
 ghost use Rattle.std.specs.List.{AllByRecursion};
 ghost use Rattle.rt_live.specs.Ready.{IsCounted, irqs_of};
-ghost use Rattle.rt_live.specs.Gathering.{gathering, part_of};
+ghost use Rattle.rt_live.specs.Gathering.{line_after_gathering, part_of};
 ghost use Rattle.rt_live.specs.Inside.Working.{calls_gathered, calls_made, with_counts};
 
 use crate::account::AccountRow;
@@ -56,7 +56,7 @@ pub(crate) fn gather_all(
     requires devices { AllByRecursion (λ device. device.line.words ≡ words.now) devices.old.items }
     requires room { calls_gathered line.old.gathered + calls_made devices.old.items + 2 ^ 32 ≤ 2 ^ 64 }
     requires counted { AllByRecursion (IsCounted line.old.gathered) rows.old }
-    ensures line { line.new ≡ gathering devices.old.items line.old }
+    ensures line { line.new ≡ line_after_gathering devices.old.items line.old }
     ensures devices { devices.new.items ≡ [] }
     ensures counted { AllByRecursion (IsCounted line.new.gathered) rows.new }
     ensures irqs { irqs_of rows.new ≡ irqs_of rows.old }

@@ -1,13 +1,13 @@
 // What the words ended with, entered into the account.
 ghost use Rattle.std.specs.Prelude.{◌≡◌, map};
-ghost use Rattle.rt_live.specs.Inside.Settled.{settled};
+ghost use Rattle.rt_live.specs.Inside.Settled.{settled_row};
 
 use crate::account::AccountRow;
 use rt_words::Left;
 
 /// Enters into the rows how often each interrupt was latched, and whether it was left pending.
 pub fn settle(rows: &mut [AccountRow], left: &Left)
-    ensures { rows.new ≡ map (settled left.now.latched left.now.bits) rows.old }
+    ensures { rows.new ≡ map (settled_row left.now.latched left.now.bits) rows.old }
 {
     for row in rows.iter_mut() {
         let irq = usize::from(row.irq.get());

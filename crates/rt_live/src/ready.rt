@@ -9,7 +9,7 @@ ghost use Rattle.rt_live.specs.Devices.{devices};
 ghost use Rattle.rt_live.specs.Account.{declared_irqs};
 ghost use Rattle.rt_live.specs.Latched.{Halts, Completes};
 ghost use Rattle.rt_live.specs.Ready.{IsReady, irqs_of};
-ghost use Rattle.rt_live.specs.Weave.{turns};
+ghost use Rattle.rt_live.specs.Interleaving.{turns};
 ghost use Rattle.rt_live.specs.Written.{live_text};
 
 use crate::account::{Account, AccountRow};
@@ -116,7 +116,7 @@ impl<'a> Ready<'a> {
         requires unused { self.old.line.calls ≡ [] }
 
         // The line's calls are the latches of the looks, block for block, the last of them behind the last line that was
-        // gathered. What was written is the trace of the weave with just what these looks found.
+        // gathered. What was written is the trace of the interleaving with just what these looks found.
         ensures ok { OnOk result (Completes (turns self.old.script) self.new.line core.old core.new
             (λ found. Took (K.taken out.old) (K.taken out.new) (live_text core.old.image self.old.script found))) }
 

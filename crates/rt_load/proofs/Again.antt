@@ -11,7 +11,7 @@ use Rattle.rt_lines.specs.Answers.{and_then, and_make}
 use Rattle.rt_load.specs.Loadable.{Is32Bits, IsLineWithin, IsNoteWithin}
 use Rattle.rt_load.specs.Inside.Operand.{in_front, behind}
 use Rattle.rt_load.specs.Inside.Coding.{instr_word, instr_at}
-use Rattle.rt_load.specs.Inside.Noting.{note_behind, noted, line_at}
+use Rattle.rt_load.specs.Inside.Noting.{note_behind, line_or_wrong, line_at}
 use Rattle.rt_load.specs.declared.operand.Wrong.{Wrong}
 use Rattle.rt_load.specs.declared.operand.Wrong.TheVariants as wrong
 use Rattle.rt_load.proofs.Coded.{instr_words, number_back, instr_again, instr_reads, note_again, note_reads}
@@ -27,18 +27,18 @@ note_part_reads names more None within = refl
 note_part_reads names more (Some n) within = ap (λ (r : Result Note Wrong). and_make r Some) (note_reads names more n within)
 
 pub line_again : (names more : Names) (address : ℕ) (line : Instr × Option Note) → AreKnown more → HasInstr more line.0 → Is32Bits address → IsLineWithin line
-    → line_at names address (code_words more address line) ≡ noted (instr_again names more line.0) (notes_again names more line.1)
+    → line_at names address (code_words more address line) ≡ line_or_wrong (instr_again names more line.0) (notes_again names more line.1)
 line_again names more address line known has few within =
     let iws = instr_word line.0 ∷ instr_words more line.0 in
     let part = note_part more line.1 in
     let clean = instr_words_clean more line.0 known has in
     ap (λ (r : Result ℕ Wrong). and_then r (λ n. if n == address
-    then noted (instr_at names (in_front (iws ++ end_words part))) (note_behind names (behind (iws ++ end_words part))) else Err wrong.Form)) (number_back address few)
-    ∙ ap (λ (b : Bool). if b then noted (instr_at names (in_front (iws ++ end_words part))) (note_behind names (behind (iws ++ end_words part))) else Err wrong.Form) (eq-eqb address address refl)
-    ∙ ap (λ (ws : List (List ℕ)). noted (instr_at names ws) (note_behind names (behind (iws ++ end_words part)))) (in_front_is iws part clean)
-    ∙ ap (λ (p : Option (List (List ℕ))). noted (instr_at names iws) (note_behind names p)) (behind_is iws part clean)
-    ∙ ap (λ (r : Result Instr Wrong). noted r (note_behind names part)) (instr_reads names more line.0 within.operands)
-    ∙ ap (λ (r : Result (Option Note) Wrong). noted (instr_again names more line.0) r) (note_part_reads names more line.1 within.note)
+    then line_or_wrong (instr_at names (in_front (iws ++ end_words part))) (note_behind names (behind (iws ++ end_words part))) else Err wrong.Form)) (number_back address few)
+    ∙ ap (λ (b : Bool). if b then line_or_wrong (instr_at names (in_front (iws ++ end_words part))) (note_behind names (behind (iws ++ end_words part))) else Err wrong.Form) (eq-eqb address address refl)
+    ∙ ap (λ (ws : List (List ℕ)). line_or_wrong (instr_at names ws) (note_behind names (behind (iws ++ end_words part)))) (in_front_is iws part clean)
+    ∙ ap (λ (p : Option (List (List ℕ))). line_or_wrong (instr_at names iws) (note_behind names p)) (behind_is iws part clean)
+    ∙ ap (λ (r : Result Instr Wrong). line_or_wrong r (note_behind names part)) (instr_reads names more line.0 within.operands)
+    ∙ ap (λ (r : Result (Option Note) Wrong). line_or_wrong (instr_again names more line.0) r) (note_part_reads names more line.1 within.note)
 
 -- over the same tables
 instr_same : (names : Names) (i : Instr) → AreNames names → HasInstr names i → instr_again names names i ≡ Ok i
@@ -89,5 +89,5 @@ pub line_same : (names : Names) (address : ℕ) (line : Instr × Option Note) �
     → Is32Bits address → IsLineWithin line → line_at names address (code_words names address line) ≡ Ok line
 line_same names address line are known has_instr has_note few within =
     line_again names names address line known has_instr few within
-    ∙ ap (λ (r : Result Instr Wrong). noted r (notes_again names names line.1)) (instr_same names line.0 are has_instr)
-    ∙ ap (λ (r : Result (Option Note) Wrong). noted (Ok line.0) r) (notes_same names line.1 are has_note within.note)
+    ∙ ap (λ (r : Result Instr Wrong). line_or_wrong r (notes_again names names line.1)) (instr_same names line.0 are has_instr)
+    ∙ ap (λ (r : Result (Option Note) Wrong). line_or_wrong (Ok line.0) r) (notes_same names line.1 are has_note within.note)

@@ -9,7 +9,7 @@ use Rattle.rt_lemmas.proofs.Lists.{all_append}
 use Rattle.rt_ids.specs.Byte.{is_letter, is_name_byte}
 use Rattle.rt_ids.specs.Word.{is_identifier}
 use Rattle.rt_lines.specs.Parts.{words}
-use Rattle.rt_trace.specs.Text.{spaced}
+use Rattle.rt_trace.specs.Text.{spaced_text}
 use Rattle.rt_trace.proofs.Words.{IsUnspaced, words_spaced}
 use Rattle.rt_listing.proofs.Reading.{is_blank, HasNoBlank}
 use Rattle.rt_load.specs.Reading.{IsLine}
@@ -85,7 +85,7 @@ name_clean (b ∷ text) h = (name_byte_clean b (letter_later b (and_left _ _ h))
 
 -- a line of words
 pub record IsSpelled (text w : List ℕ) (ws : List (List ℕ)) : Type 0 where
-  pub is : text ≡ w ++ spaced ws
+  pub is : text ≡ w ++ spaced_text ws
   pub first : HasNoBlank w
   pub others : AllByRecursion HasNoBlank ws
 
@@ -104,12 +104,12 @@ no_feed_in : (w : List ℕ) → HasNoBlank w → IsLine w
 no_feed_in [] h = tt
 no_feed_in (b ∷ w) h = ((λ e. true_and_false (eqb b 10) (eq-eqb b 10 e) (right_of_none (eqb b 32) (eqb b 10) h.0)), no_feed_in w h.1)
 
-no_feed_between : (ws : List (List ℕ)) → AllByRecursion HasNoBlank ws → IsLine (spaced ws)
+no_feed_between : (ws : List (List ℕ)) → AllByRecursion HasNoBlank ws → IsLine (spaced_text ws)
 no_feed_between [] all = tt
-no_feed_between (w ∷ ws) all = ((λ e. omega (arith, e)), all_append (λ byte. byte ≢ 10) w (spaced ws) (no_feed_in w all.0) (no_feed_between ws all.1))
+no_feed_between (w ∷ ws) all = ((λ e. omega (arith, e)), all_append (λ byte. byte ≢ 10) w (spaced_text ws) (no_feed_in w all.0) (no_feed_between ws all.1))
 
 pub line_of_spelled : (text w : List ℕ) (ws : List (List ℕ)) → IsSpelled text w ws → IsLine text
-line_of_spelled text w ws s = subst IsLine (sym s.is) (all_append (λ byte. byte ≢ 10) w (spaced ws) (no_feed_in w s.first) (no_feed_between ws s.others))
+line_of_spelled text w ws s = subst IsLine (sym s.is) (all_append (λ byte. byte ≢ 10) w (spaced_text ws) (no_feed_in w s.first) (no_feed_between ws s.others))
 
 -- texts that end in some parts, which are words behind a space
 pub spaced1 : (u a : List ℕ) → u ++ a ≡ u ++ (a ++ [])

@@ -12,7 +12,7 @@ use Rattle.rt_code.specs.declared.instr.Note.TheVariants as note
 use Rattle.rt_lines.specs.Answers.{and_then, and_make}
 use Rattle.rt_listing.specs.Numbers.{instr_numbers}
 use Rattle.rt_listing.specs.Words.{op_word, instr_text, note_words}
-use Rattle.rt_trace.specs.Text.{spaced}
+use Rattle.rt_trace.specs.Text.{spaced_text}
 use Rattle.rt_trace.proofs.Numerals.{number_spelled}
 use Rattle.rt_load.specs.Loadable.{Is32Bits, IsNoteWithin}
 use Rattle.rt_load.specs.Inside.Operand.{word_at, irq_at, task_at, section_at, body_at}
@@ -45,7 +45,7 @@ note_operands names (note.Move t s a) = task_name names t ∷ decimal s ∷ deci
 note_operands names (note.End b) = body_name names b ∷ []
 
 -- the texts are those words
-pub instr_is : (names : Names) (i : Instr) → instr_text names i ≡ instr_word i ++ spaced (instr_words names i)
+pub instr_is : (names : Names) (i : Instr) → instr_text names i ≡ instr_word i ++ spaced_text (instr_words names i)
 instr_is names (instr.Set d v) = spaced2 (codes "set") (32 ∷ decimal d) (32 ∷ decimal v)
 instr_is names (instr.Copy d s) = spaced2 (codes "copy") (32 ∷ decimal d) (32 ∷ decimal s)
 instr_is names (instr.Calc o d a b) = spaced3 (op_word o) (32 ∷ decimal d) (32 ∷ decimal a) (32 ∷ decimal b)
@@ -71,7 +71,7 @@ instr_is names (instr.Call row s) = spaced2 (codes "call") (32 ∷ decimal row) 
 instr_is names instr.Back = refl
 instr_is names instr.Ret = refl
 
-pub note_is : (names : Names) (n : Note) → note_words names n ≡ note_word n ++ spaced (note_operands names n)
+pub note_is : (names : Names) (n : Note) → note_words names n ≡ note_word n ++ spaced_text (note_operands names n)
 note_is names (note.Enter s) = spaced1 (codes "enter") (32 ∷ section_name names s)
 note_is names (note.Leave s) = spaced1 (codes "leave") (32 ∷ section_name names s)
 note_is names (note.Placed t) = spaced1 (codes "ok") (32 ∷ task_name names t)

@@ -11,7 +11,7 @@ use Rattle.rt_load.specs.Inside.Progress.{IsCut}
 use Rattle.std.proofs.lemmas.Bool.{false_from_ne_true, eqb-true}
 use Rattle.std.proofs.lemmas.Bool.Decides.{same_from_decides}
 use Rattle.std.proofs.lemmas.Slice.Eq.{bytes_eq-Decides}
-use Rattle.rt_load.specs.Reading.{ended, IsLine}
+use Rattle.rt_load.specs.Reading.{line_with_feed, IsLine}
 
 -- texts that are the same up to and with their last byte
 pub last_same : (xs ys : List ℕ) (a b : ℕ) → xs ++ a ∷ [] ≡ ys ++ b ∷ [] → (xs ≡ ys) × (a ≡ b)
@@ -23,17 +23,17 @@ last_same (x ∷ xs) (y ∷ ys) a b e =
     (ap₂ (λ (z : ℕ) (zs : List ℕ). z ∷ zs) (ap (λ t. get_or t 0 0) e) rest.0, rest.1)
 
 -- a printed line is the line with its line feed where it ends so and is the line in front
-pub ended_eq : (text line : List ℕ) → bytes_eq text line ≡ bytes_eq (text ++ 10 ∷ []) (ended line)
+pub ended_eq : (text line : List ℕ) → bytes_eq text line ≡ bytes_eq (text ++ 10 ∷ []) (line_with_feed line)
 ended_eq text line =
-    same_from_decides (bytes_eq text line) (bytes_eq (text ++ 10 ∷ []) (ended line)) (bytes_eq-Decides text line) (
-      λ e. (last_same text line 10 10 ((bytes_eq-Decides (text ++ 10 ∷ []) (ended line)).0 e)).0,
-      λ e. (bytes_eq-Decides (text ++ 10 ∷ []) (ended line)).1 (ap (λ t. t ++ 10 ∷ []) e),
+    same_from_decides (bytes_eq text line) (bytes_eq (text ++ 10 ∷ []) (line_with_feed line)) (bytes_eq-Decides text line) (
+      λ e. (last_same text line 10 10 ((bytes_eq-Decides (text ++ 10 ∷ []) (line_with_feed line)).0 e)).0,
+      λ e. (bytes_eq-Decides (text ++ 10 ∷ []) (line_with_feed line)).1 (ap (λ t. t ++ 10 ∷ []) e),
     )
 
-pub other_end : (text line : List ℕ) (last : ℕ) → last ≢ 10 → bytes_eq (text ++ last ∷ []) (ended line) ≡ false
+pub other_end : (text line : List ℕ) (last : ℕ) → last ≢ 10 → bytes_eq (text ++ last ∷ []) (line_with_feed line) ≡ false
 other_end text line last differs =
-    false_from_ne_true (bytes_eq (text ++ last ∷ []) (ended line)) (λ e.
-    differs (last_same text line last 10 ((bytes_eq-Decides (text ++ last ∷ []) (ended line)).0 e)).1)
+    false_from_ne_true (bytes_eq (text ++ last ∷ []) (line_with_feed line)) (λ e.
+    differs (last_same text line last 10 ((bytes_eq-Decides (text ++ last ∷ []) (line_with_feed line)).0 e)).1)
 
 -- a text with no line feed
 pub line_of_none : (text : List ℕ) → list_any (λ b. b == 10) text ≡ false → IsLine text

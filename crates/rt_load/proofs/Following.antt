@@ -5,7 +5,7 @@ use Rattle.rt_code.specs.Image.{Image}
 use Rattle.rt_lines.specs.Answers.{and_then}
 use Rattle.rt_listing.specs.Listing.{listing}
 use Rattle.rt_load.specs.Loadable.{IsLoadable}
-use Rattle.rt_load.specs.Reading.{ended, IsLine}
+use Rattle.rt_load.specs.Reading.{line_with_feed, IsLine}
 use Rattle.rt_load.specs.Inside.Taking.{take_first, take_line, take_lines, take_all}
 use Rattle.rt_load.specs.declared.front.Front.{Front}
 use Rattle.rt_load.specs.declared.operand.Wrong.{Wrong}
@@ -20,22 +20,22 @@ pub record Left (front : Front) (text : List ℕ) : Type 0 where
   pub stands : Stands front
   pub text_is : front_text front ≡ text
 
-lines_leave : (ls : List (List ℕ)) (front next : Front) (text : List ℕ) → Left front text → take_lines front ls ≡ Ok next → Left next (text ++ flat_map ended ls)
+lines_leave : (ls : List (List ℕ)) (front next : Front) (text : List ℕ) → Left front text → take_lines front ls ≡ Ok next → Left next (text ++ flat_map line_with_feed ls)
 lines_leave [] front next text left e =
     subst (λ (f : Front). Left f (text ++ [])) (same_ok (Ok front) front next refl e)
     (record { stands = left.stands; text_is = left.text_is ∙ sym (append-nil text) })
 lines_leave (line ∷ ls) front next text left e =
     let first = then_ok (take_line front line) (λ f. take_lines f ls) next e in
     let goes = line_taken front first.0 line left.stands first.1 in
-    let rest = lines_leave ls first.0 next (text ++ ended line) (record { stands = goes.stands; text_is = goes.text ∙ ap (λ t. t ++ ended line) left.text_is }) first.2 in
-    subst (Left next) (append_assoc text (ended line) (flat_map ended ls)) rest
+    let rest = lines_leave ls first.0 next (text ++ line_with_feed line) (record { stands = goes.stands; text_is = goes.text ∙ ap (λ t. t ++ line_with_feed line) left.text_is }) first.2 in
+    subst (Left next) (append_assoc text (line_with_feed line) (flat_map line_with_feed ls)) rest
 
-pub all_leave : (before : List (List ℕ)) (front : Front) → take_all before ≡ Ok front → Left front (flat_map ended before)
+pub all_leave : (before : List (List ℕ)) (front : Front) → take_all before ≡ Ok front → Left front (flat_map line_with_feed before)
 all_leave [] front e = absurd (cc)
 all_leave (line ∷ ls) front e =
     let first = then_ok (take_first line) (λ f. take_lines f ls) front e in
     let stands = first_taken line first.0 first.1 in
-    lines_leave ls first.0 front (ended line) (record { stands = stands.0; text_is = stands.1 }) first.2
+    lines_leave ls first.0 front (line_with_feed line) (record { stands = stands.0; text_is = stands.1 }) first.2
 
 -- lines that are taken, and those of a listing
 pub all_append_taken : (before more : List (List ℕ)) (front : Front) → take_all before ≡ Ok front → take_all (before ++ more) ≡ take_lines front more
@@ -50,12 +50,12 @@ regroup f line rest = simp append_assoc
 
 -- what stands behind lines in a listing that they begin
 pub lines_behind : (before : List (List ℕ)) (line rest : List ℕ) (img : Image) (l : IsLoadable img) → AllByRecursion IsLine before → IsLine line
-    → listing img ≡ (flat_map ended before ++ ended line) ++ rest → (more : List (List ℕ)) × (listing_lines img l ≡ before ++ line ∷ more)
+    → listing img ≡ (flat_map line_with_feed before ++ line_with_feed line) ++ rest → (more : List (List ℕ)) × (listing_lines img l ≡ before ++ line ∷ more)
 lines_behind before line rest img l all own is =
-    lines_split before line rest (listing_lines img l) all own (are_lines img l) (sym (regroup (flat_map ended before) line rest) ∙ sym is ∙ listing_is img l)
+    lines_split before line rest (listing_lines img l) all own (are_lines img l) (sym (regroup (flat_map line_with_feed before) line rest) ∙ sym is ∙ listing_is img l)
 
 pub next_taken : (before : List (List ℕ)) (front : Front) (line rest : List ℕ) (img : Image) (l : IsLoadable img) → AllByRecursion IsLine before → IsLine line
-    → take_all before ≡ Ok front → listing img ≡ (flat_map ended before ++ ended line) ++ rest
+    → take_all before ≡ Ok front → listing img ≡ (flat_map line_with_feed before ++ line_with_feed line) ++ rest
     → (next : Front) × (more : List (List ℕ)) × (take_line front line ≡ Ok next) × (take_lines next more ≡ Ok (whole img l))
 next_taken before front line rest img l all own taken is =
     let more = lines_behind before line rest img l all own is in

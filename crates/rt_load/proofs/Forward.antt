@@ -27,7 +27,7 @@ use Rattle.rt_lines.specs.Parts.{words}
 use Rattle.rt_listing.specs.Listing.{first_line, cell_line, irq_line, body_line, code_line}
 use Rattle.rt_trace.proofs.Numerals.{number_spelled}
 use Rattle.rt_load.specs.Loadable.{IsLoadable, IsIrqWithin, IsHandlerWithin, IsBodyWithin, IsLineWithin, Is32Bits, has_dot}
-use Rattle.rt_load.specs.Reading.{ended}
+use Rattle.rt_load.specs.Reading.{line_with_feed}
 use Rattle.rt_load.specs.Inside.Operand.{number_at, word_at}
 use Rattle.rt_load.specs.Inside.Noting.{line_at}
 use Rattle.rt_load.specs.Inside.Rows.{three_at, cell_at, handler_at, irq_row_at, body_row_at}
@@ -43,8 +43,8 @@ use Rattle.rt_load.proofs.Coded.{number_back}
 use Rattle.rt_load.proofs.Lines.{first_text, cell_text, irq_text, body_text, code_text, first_words, form_word, first_spelled, cell_spelled, irq_spelled, body_spelled, handler_words, known_names, code_words, code_spelled}
 
 -- what passes
-pub passes : {A : Type 0} (printed line : List ℕ) (x : A) → printed ≡ ended line → if_line printed line x ≡ Ok x
-passes printed line x same = ap (λ (b : Bool). if b then Ok x else Err wrong.Form) ((bytes_eq-Decides printed (ended line)).1 same)
+pub passes : {A : Type 0} (printed line : List ℕ) (x : A) → printed ≡ line_with_feed line → if_line printed line x ≡ Ok x
+passes printed line x same = ap (λ (b : Bool). if b then Ok x else Err wrong.Form) ((bytes_eq-Decides printed (line_with_feed line)).1 same)
 
 pub chooses : {A : Type 0} (b : Bool) (r : Result A Wrong) → b ≡ true → (if b then r else Err wrong.Form) ≡ r
 chooses b r h = ap (λ (t : Bool). if t then r else Err wrong.Form) h
@@ -353,8 +353,8 @@ module _ (img : Image) (l : IsLoadable img) where
       let here = task_here done left row is has in
       let read : body_row_at (length (tasks_of done)) ws ≡ Ok (name, row) = body_reads (length (tasks_of done)) name row within (sym here) in
       let own : task_name (with_task (bodies_names done) name) row.task ≡ name = get_or_push (tasks_of done) name [] row.task (sym here) in
-      let text : body_line (with_task (bodies_names done) name) row ≡ ended line =
-      ap (λ (n : List ℕ). ended (((codes "body " ++ n) ++ (32 ∷ decimal row.entry)) ++ (32 ∷ decimal row.frame) ++ (32 ∷ decimal row.args))) own in
+      let text : body_line (with_task (bodies_names done) name) row ≡ line_with_feed line =
+      ap (λ (n : List ℕ). line_with_feed (((codes "body " ++ n) ++ (32 ∷ decimal row.entry)) ++ (32 ∷ decimal row.frame) ++ (32 ∷ decimal row.args))) own in
       ap (take_words front line) (words_of_spelled line (codes "body") ws (body_spelled img.names row (known_names img.names l.limits.names) has))
       ∙ ap (λ (r : Result (List ℕ × BodyRow) Wrong). and_make (and_then r (λ body. if may_add_body front body.0
       then if_line (body_line (with_task front.image.names body.0) body.1) line body else Err wrong.Form)) (λ body. and_body front body.0 body.1)) read

@@ -8,7 +8,7 @@ use Rattle.rt_ids.specs.Names.{Names, resource_of}
 use Rattle.rt_ids.specs.declared.limits.TheConstants.{CODE_SIZE, SHARED}
 use Rattle.rt_code.specs.Image.{Image}
 use Rattle.rt_code.specs.Listable.{IsWord, blanks}
-use Rattle.rt_listing.specs.Listing.{first_line, numbered, cell_line, irq_line, body_line, code_line}
+use Rattle.rt_listing.specs.Listing.{first_line, lines_with_numbers, cell_line, irq_line, body_line, code_line}
 use Rattle.rt_load.specs.Loadable.{IsLoadable, Is32Bits, has_dot}
 use Rattle.rt_load.specs.Inside.Taking.{has_blank, may_name_cell, is_new_resource}
 use Rattle.rt_load.specs.declared.front.Front.{Front}
@@ -17,9 +17,9 @@ use Rattle.rt_load.proofs.Declared.{IsNew, new_from}
 -- the text of what was read
 abbrev pub front_text : Front → List ℕ
 front_text front =
-    first_line front.image front.code front.cells ++ numbered cell_line 0 front.image.cells
+    first_line front.image front.code front.cells ++ lines_with_numbers cell_line 0 front.image.cells
     ++ flat_map irq_line front.image.irqs ++ flat_map (body_line front.image.names) front.image.bodies
-    ++ numbered (code_line front.image.names) 0 front.image.code
+    ++ lines_with_numbers (code_line front.image.names) 0 front.image.code
 
 -- nothing behind the cells is read
 pub record IsInCells (img : Image) : Type 0 where
@@ -36,18 +36,18 @@ pub record Stands (front : Front) : Type 0 where
   pub full : (length front.image.cells ≡ front.cells) ⊎ IsInCells front.image
 
 numbered_push : {A : Type 0} (line : ℕ → A → List ℕ) (n : ℕ) (xs : List A) (x : A)
-    → numbered line n (xs ++ x ∷ []) ≡ numbered line n xs ++ line (n + length xs) x
+    → lines_with_numbers line n (xs ++ x ∷ []) ≡ lines_with_numbers line n xs ++ line (n + length xs) x
 numbered_push line n [] x = let e : n + 0 ≡ n = omega arith in rw e (append-nil (line n x))
 numbered_push line n (y ∷ xs) x =
     let e : suc n + length xs ≡ n + suc (length xs) = omega arith in
-    ap (λ t. line n y ++ t) (numbered_push line (suc n) xs x ∙ ap (λ k. numbered line (suc n) xs ++ line k x) e)
-    ∙ sym (append_assoc (line n y) (numbered line (suc n) xs) (line (n + suc (length xs)) x))
+    ap (λ t. line n y ++ t) (numbered_push line (suc n) xs x ∙ ap (λ k. lines_with_numbers line (suc n) xs ++ line k x) e)
+    ∙ sym (append_assoc (line n y) (lines_with_numbers line (suc n) xs) (line (n + suc (length xs)) x))
 
 pub numbered_next : {A : Type 0} (line : ℕ → A → List ℕ) (xs : List A) (x : A)
-    → numbered line 0 (xs ++ x ∷ []) ≡ numbered line 0 xs ++ line (length xs) x
+    → lines_with_numbers line 0 (xs ++ x ∷ []) ≡ lines_with_numbers line 0 xs ++ line (length xs) x
 numbered_next line xs x =
     let e : 0 + length xs ≡ length xs = omega arith in
-    numbered_push line 0 xs x ∙ ap (λ k. numbered line 0 xs ++ line k x) e
+    numbered_push line 0 xs x ∙ ap (λ k. lines_with_numbers line 0 xs ++ line k x) e
 
 pub flat_push : {A : Type 0} (f : A → List ℕ) (xs : List A) (x : A) → flat_map f (xs ++ x ∷ []) ≡ flat_map f xs ++ f x
 flat_push f xs x = flat_map-append f xs (x ∷ []) ∙ ap (λ t. flat_map f xs ++ t) (append-nil (f x))

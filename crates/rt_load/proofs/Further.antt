@@ -27,9 +27,9 @@ use Rattle.rt_lines.specs.Answers.{and_then, and_make}
 use Rattle.rt_lines.specs.Numbers.{number_below}
 use Rattle.rt_listing.specs.Numbers.{instr_numbers}
 use Rattle.rt_load.specs.Loadable.{Is32Bits, IsNoteWithin}
-use Rattle.rt_load.specs.Inside.Operand.{number_at, word_at, found, first_named, irq_at, task_at, resource_at, ready_at, queue_at, section_at, body_at}
+use Rattle.rt_load.specs.Inside.Operand.{number_at, word_at, place_or_wrong, first_named, irq_at, task_at, resource_at, ready_at, queue_at, section_at, body_at}
 use Rattle.rt_load.specs.Inside.Coding.{instr_word, instr_named, instrs_of_one, instrs_of_two, instrs_of_three, bare_instrs, instr_at}
-use Rattle.rt_load.specs.Inside.Noting.{note_word, note_named, notes_of_task, notes_of_slot, is_task_word, is_slot_word, on_task, with_word, with_slot, with_slots, note_at, note_behind, noted}
+use Rattle.rt_load.specs.Inside.Noting.{note_word, note_named, notes_of_task, notes_of_slot, is_task_word, is_slot_word, on_task, with_word, with_slot, with_slots, note_at, note_behind, line_or_wrong}
 use Rattle.rt_load.specs.declared.operand.Wrong.{Wrong}
 use Rattle.rt_load.specs.declared.operand.Wrong.TheVariants as wrong
 use Rattle.rt_load.proofs.Coded.{instr_words, irq_words, note_operands}
@@ -85,7 +85,7 @@ make_name (Err w) f e = ap Err (same_err (Err w) w wrong.Name refl e)
 
 pub irq_unknown : (names : Names) (w : List ℕ) → irq_at names w ≡ Err wrong.Name → (is_identifier w ≡ true) × (irq_of names w ≡ None)
 irq_unknown names w e =
-    found_none w (irq_of names w) (first_name (found w (irq_of names w)) (first_named names w)
+    found_none w (irq_of names w) (first_name (place_or_wrong w (irq_of names w)) (first_named names w)
     (λ irq. if_no_name (bytes_eq (irq_name names irq) w) (Ok irq) (Err wrong.Form) (ok_no_name (Ok irq) irq refl) (form_no_name (Err wrong.Form) refl)) e)
 
 -- tables that go on
@@ -406,21 +406,21 @@ resource_over : (names : Names) (word x : List ℕ) (make : Section → Note) �
     → NoteOver names (Some (word ∷ x ∷ []))
 resource_over names word x make are e word_is operands has within =
     let unknown = found_none x (resource_of names x) e in
-    let place = length names.shared in
+    let index = length names.shared in
     record {
       tasks = [];
       shared = x ∷ [];
       new_tasks = none_further names.tasks are.tasks_differ;
       new_shared = one_further names.shared x are.shared_differ unknown.0 unknown.1;
-      note = Some (make (section.Res place));
-      within = within place;
+      note = Some (make (section.Res index));
+      within = within index;
       is = λ irqs.
           let more = further names irqs [] (x ∷ []) in
-          let named : resource_name more place ≡ x = get_or_push names.shared x [] place refl in
-          ap Some (ap (λ (w : List ℕ). w ∷ x ∷ []) (word_is place)
-          ∙ ap (λ (w : List ℕ). note_word (make (section.Res place)) ∷ w ∷ []) (sym named)
-          ∙ ap (λ (os : List (List ℕ)). note_word (make (section.Res place)) ∷ os) (operands more place));
-      has = λ irqs. has (further names irqs [] (x ∷ [])) place (omega (arith, length-append names.shared (x ∷ [])));
+          let named : resource_name more index ≡ x = get_or_push names.shared x [] index refl in
+          ap Some (ap (λ (w : List ℕ). w ∷ x ∷ []) (word_is index)
+          ∙ ap (λ (w : List ℕ). note_word (make (section.Res index)) ∷ w ∷ []) (sym named)
+          ∙ ap (λ (os : List (List ℕ)). note_word (make (section.Res index)) ∷ os) (operands more index));
+      has = λ irqs. has (further names irqs [] (x ∷ [])) index (omega (arith, length-append names.shared (x ∷ [])));
     }
 
 begins : (word front : List ℕ) → starts_with nat_eq word front ≡ true → word ≡ front ++ drop (length front) word
@@ -581,10 +581,10 @@ note_over names (Some ws) are (inl ok) =
     note_known names ws made.0 are (note_from names ws made.0 made.1)
 note_over names (Some ws) are (inr e) = note_unknown names ws are (make_name (note_at names ws) Some e)
 
-pub noted_name : (a : Result Instr Wrong) (b : Result (Option Note) Wrong) → noted a b ≡ Err wrong.Name → OkOrName a × OkOrName b
-noted_name (Ok i) (Ok n) e = absurd (ok_no_name (noted (Ok i) (Ok n)) (i, n) refl e)
-noted_name (Ok i) (Err w) e = (inl (i, refl), inr (ap Err (same_err (noted (Ok i) (Err w)) w wrong.Name refl e)))
-noted_name (Err w) (Ok n) e = (inr (ap Err (same_err (noted (Err w) (Ok n)) w wrong.Name refl e)), inl (n, refl))
-noted_name (Err wrong.Name) (Err w) e = (inr refl, inr (ap Err (same_err (noted (Err wrong.Name) (Err w)) w wrong.Name refl e)))
-noted_name (Err wrong.Form) (Err w) e = absurd (form_no_name (noted (Err wrong.Form) (Err w)) refl e)
+pub noted_name : (a : Result Instr Wrong) (b : Result (Option Note) Wrong) → line_or_wrong a b ≡ Err wrong.Name → OkOrName a × OkOrName b
+noted_name (Ok i) (Ok n) e = absurd (ok_no_name (line_or_wrong (Ok i) (Ok n)) (i, n) refl e)
+noted_name (Ok i) (Err w) e = (inl (i, refl), inr (ap Err (same_err (line_or_wrong (Ok i) (Err w)) w wrong.Name refl e)))
+noted_name (Err w) (Ok n) e = (inr (ap Err (same_err (line_or_wrong (Err w) (Ok n)) w wrong.Name refl e)), inl (n, refl))
+noted_name (Err wrong.Name) (Err w) e = (inr refl, inr (ap Err (same_err (line_or_wrong (Err wrong.Name) (Err w)) w wrong.Name refl e)))
+noted_name (Err wrong.Form) (Err w) e = absurd (form_no_name (line_or_wrong (Err wrong.Form) (Err w)) refl e)
 noted_name (Err wrong.NoMemory) (Err w) e = absurd (cc)

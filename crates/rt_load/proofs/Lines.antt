@@ -27,7 +27,7 @@ use Rattle.rt_listing.specs.Words.{instr_text, note_text, note_words}
 use Rattle.rt_listing.specs.Words as number
 use Rattle.rt_listing.specs.Listing.{form_text, handler_text}
 use Rattle.rt_listing.proofs.Reading.{HasNoBlank, word_has_no_blank}
-use Rattle.rt_trace.specs.Text.{spaced}
+use Rattle.rt_trace.specs.Text.{spaced_text}
 use Rattle.rt_load.specs.Inside.Operand.{in_front, behind}
 use Rattle.rt_load.specs.Inside.Coding.{instr_word}
 use Rattle.rt_load.specs.Inside.Noting.{note_word}
@@ -140,19 +140,19 @@ code_words names n line = decimal n ∷ (instr_word line.0 ∷ instr_words names
 -- lines without their line feeds
 abbrev pub first_text : Image → ℕ → ℕ → List ℕ
 first_text img code cells =
-    form_text img.fpu ++ number.spaced img.bits ++ number.spaced img.stack_bytes ++ number.spaced img.thread_words ++ number.spaced code ++ number.spaced cells
+    form_text img.fpu ++ number.spaced_number img.bits ++ number.spaced_number img.stack_bytes ++ number.spaced_number img.thread_words ++ number.spaced_number code ++ number.spaced_number cells
 
 abbrev pub cell_text : ℕ → CellRow → List ℕ
-cell_text n cell = codes "cell" ++ number.spaced n ++ number.spaced cell.first ++ 32 ∷ cell.name
+cell_text n cell = codes "cell" ++ number.spaced_number n ++ number.spaced_number cell.first ++ 32 ∷ cell.name
 
 abbrev pub irq_text : IrqRow → List ℕ
-irq_text row = codes "irq " ++ row.name ++ number.spaced row.number ++ handler_text row.handler
+irq_text row = codes "irq " ++ row.name ++ number.spaced_number row.number ++ handler_text row.handler
 
 abbrev pub body_text : Names → BodyRow → List ℕ
-body_text names row = codes "body " ++ task_name names row.task ++ number.spaced row.entry ++ number.spaced row.frame ++ number.spaced row.args
+body_text names row = codes "body " ++ task_name names row.task ++ number.spaced_number row.entry ++ number.spaced_number row.frame ++ number.spaced_number row.args
 
 abbrev pub code_text : Names → ℕ → Instr × Option Note → List ℕ
-code_text names n line = codes "code" ++ number.spaced n ++ 32 ∷ instr_text names line.0 ++ note_text names line.1
+code_text names n line = codes "code" ++ number.spaced_number n ++ 32 ∷ instr_text names line.0 ++ note_text names line.1
 
 -- the words of each
 spaced6 : (u a b c d e f : List ℕ) → (((((u ++ a) ++ b) ++ c) ++ d) ++ e) ++ f ≡ u ++ (a ++ (b ++ (c ++ (d ++ (e ++ (f ++ []))))))
@@ -197,7 +197,7 @@ irq_parts : (u a b c d e : List ℕ) → ((u ++ a) ++ b) ++ ((c ++ d) ++ e) ≡ 
 irq_parts u a b c d e = simp (append_assoc, append-nil)
 
 irq_is : (name : List ℕ) (n : ℕ) (h : Option Handler)
-    → (codes "irq " ++ name ++ number.spaced n) ++ handler_text h ≡ codes "irq" ++ spaced (name ∷ decimal n ∷ handler_words h)
+    → (codes "irq " ++ name ++ number.spaced_number n) ++ handler_text h ≡ codes "irq" ++ spaced_text (name ∷ decimal n ∷ handler_words h)
 irq_is name n None = spaced3 (codes "irq") (32 ∷ name) (32 ∷ decimal n) (codes " -")
 irq_is name n (Some h) = irq_parts (codes "irq") (32 ∷ name) (32 ∷ decimal n) (32 ∷ decimal h.value) (32 ∷ decimal h.entry) (32 ∷ decimal h.frame)
 
@@ -224,10 +224,10 @@ body_spelled names row known has = record {
 code_parts : (u a w s n : List ℕ) → ((u ++ a) ++ (32 ∷ (w ++ s))) ++ n ≡ u ++ (a ++ ((32 ∷ w) ++ (s ++ n)))
 code_parts u a w s n = simp append_assoc
 
-spaced_append : (xs ys : List (List ℕ)) → spaced (xs ++ ys) ≡ spaced xs ++ spaced ys
+spaced_append : (xs ys : List (List ℕ)) → spaced_text (xs ++ ys) ≡ spaced_text xs ++ spaced_text ys
 spaced_append xs ys = flat_map-append (λ word. 32 ∷ word) xs ys
 
-note_is_spaced : (names : Names) (n : Option Note) → note_text names n ≡ spaced (end_words (note_part names n))
+note_is_spaced : (names : Names) (n : Option Note) → note_text names n ≡ spaced_text (end_words (note_part names n))
 note_is_spaced names None = refl
 note_is_spaced names (Some n) = ap (λ t. codes " ; " ++ t) (note_is names n)
 
@@ -247,9 +247,9 @@ code_spelled names n line known has_instr has_note =
     let ops = instr_words names i in
     record {
       is =
-          ap (λ t. ((codes "code" ++ number.spaced n) ++ (32 ∷ t)) ++ note_text names line.1) (instr_is names i)
-          ∙ ap (λ t. ((codes "code" ++ number.spaced n) ++ (32 ∷ (instr_word i ++ spaced ops))) ++ t) (note_is_spaced names line.1)
-          ∙ code_parts (codes "code") (32 ∷ decimal n) (instr_word i) (spaced ops) (spaced part)
+          ap (λ t. ((codes "code" ++ number.spaced_number n) ++ (32 ∷ t)) ++ note_text names line.1) (instr_is names i)
+          ∙ ap (λ t. ((codes "code" ++ number.spaced_number n) ++ (32 ∷ (instr_word i ++ spaced_text ops))) ++ t) (note_is_spaced names line.1)
+          ∙ code_parts (codes "code") (32 ∷ decimal n) (instr_word i) (spaced_text ops) (spaced_text part)
           ∙ ap (λ t. codes "code" ++ ((32 ∷ decimal n) ++ ((32 ∷ instr_word i) ++ t))) (sym (spaced_append ops part));
       first = clean_plain (codes "code") (clean_from_test (codes "code") refl);
       others = (

@@ -16,12 +16,12 @@ use Rattle.rt_code.specs.declared.instr.Note.{Note}
 use Rattle.rt_lines.specs.Answers.{and_then, and_make}
 use Rattle.rt_lines.specs.Parts.{words}
 use Rattle.rt_listing.specs.Listing.{cell_line, irq_line, body_line, code_line}
-use Rattle.rt_trace.specs.Text.{spaced}
+use Rattle.rt_trace.specs.Text.{spaced_text}
 use Rattle.rt_load.specs.Loadable.{IsIrqWithin}
-use Rattle.rt_load.specs.Reading.{ended, IsOfUnknownName, AreMore}
+use Rattle.rt_load.specs.Reading.{line_with_feed, IsOfUnknownName, AreMore}
 use Rattle.rt_load.specs.Inside.Operand.{number_at, word_at, is_end, in_front, behind}
 use Rattle.rt_load.specs.Inside.Coding.{instr_word, instr_at}
-use Rattle.rt_load.specs.Inside.Noting.{note_behind, noted, line_at}
+use Rattle.rt_load.specs.Inside.Noting.{note_behind, line_or_wrong, line_at}
 use Rattle.rt_load.specs.Inside.Rows.{only, three, cell_at, service_at, handler_at, irq_row_at, body_row_at}
 use Rattle.rt_load.specs.Inside.Taking.{if_line, has_cells, may_add_cell, may_add_irq, may_add_body, may_add_line, and_cell, and_irq, and_body, and_line, next_cell, next_irq, next_body, printed_line, next_line, take_cell, take_irq, take_body, take_code, take_words, take_line}
 use Rattle.rt_load.specs.declared.front.Front.{Front}
@@ -84,7 +84,7 @@ body_no_name task (name ∷ ws) =
     (λ f. make_no_name (number_at 5 w.2) (λ a. (name, record { task = task; entry = e; frame = f; args = a })) (number_no_name 5 w.2))))
 
 line_no_name : {A : Type 0} (printed line : List ℕ) (x : A) → NoName (if_line printed line x)
-line_no_name printed line x = if_no_name (bytes_eq printed (ended line)) (Ok x) (Err wrong.Form) (ok_no_name (Ok x) x refl) (form_no_name (Err wrong.Form) refl)
+line_no_name printed line x = if_no_name (bytes_eq printed (line_with_feed line)) (Ok x) (Err wrong.Form) (ok_no_name (Ok x) x refl) (form_no_name (Err wrong.Form) refl)
 
 may_no_name : {A : Type 0} (b : Bool) (r : Result A Wrong) → NoName r → NoName (if b then r else Err wrong.Form)
 may_no_name b r p = if_no_name b r (Err wrong.Form) p (form_no_name (Err wrong.Form) refl)
@@ -131,14 +131,14 @@ first_name (Err wrong.NoMemory) f q e = absurd (cc)
 code_of : (front : Front) (line : List ℕ) (ws all : List (List ℕ)) → words line ≡ all → all ≡ codes "code" ∷ ws → take_code front line ws ≡ Err wrong.Name → IsCode front line
 code_of front line ws all is same e =
     let names = front.image.names in
-    let place = length front.image.code in
+    let index = length front.image.code in
     let next = make_name (next_line front line ws) (and_line front) e in
-    chosen (may_add_line front) (printed_line names place line ws) (Err wrong.Form) (Err wrong.Name) (IsCode front line) next
+    chosen (may_add_line front) (printed_line names index line ws) (Err wrong.Form) (Err wrong.Name) (IsCode front line) next
     (λ may printed. record {
       ws = ws;
       words_are = is ∙ same;
       may = may;
-      unknown = first_name (line_at names place ws) (λ code. if_line (code_line names place code) line code) (λ code. line_no_name (code_line names place code) line code) printed;
+      unknown = first_name (line_at names index ws) (λ code. if_line (code_line names index code) line code) (λ code. line_no_name (code_line names index code) line code) printed;
     })
     (λ _ no. absurd (form_no_name (Err wrong.Form) refl no))
 
@@ -202,20 +202,20 @@ more_are names ws part i n =
       shared_differ = s.differ;
     }
 
-joined : (w : List ℕ) (ws : List (List ℕ)) → join_with_byte 32 (w ∷ ws) ≡ w ++ spaced ws
+joined : (w : List ℕ) (ws : List (List ℕ)) → join_with_byte 32 (w ∷ ws) ≡ w ++ spaced_text ws
 joined w [] = sym (append-nil w)
 joined w (v ∷ ws) = ap (λ (rest : List ℕ). w ++ 32 ∷ rest) (joined v ws)
 
-line_joined : (line w : List ℕ) (ws : List (List ℕ)) → words line ≡ w ∷ ws → line ≡ w ++ spaced ws
+line_joined : (line w : List ℕ) (ws : List (List ℕ)) → words line ≡ w ∷ ws → line ≡ w ++ spaced_text ws
 line_joined line w ws is = sym (join_with_byte-slice_split 32 line) ∙ ap (join_with_byte 32) is ∙ joined w ws
 
 -- a line behind what stands, over further tables
-over_further : (before : List (List ℕ)) (front : Front) (line : List ℕ) (rest : List (List ℕ)) → Stands front → front_text front ≡ flat_map ended before
+over_further : (before : List (List ℕ)) (front : Front) (line : List ℕ) (rest : List (List ℕ)) → Stands front → front_text front ≡ flat_map line_with_feed before
     → may_add_line front ≡ true → words line ≡ codes "code" ∷ decimal (length front.image.code) ∷ rest
-    → (i : InstrOver front.image.names (in_front rest)) (n : NoteOver front.image.names (behind rest)) → IsOfUnknownName (flat_map ended before) line
+    → (i : InstrOver front.image.names (in_front rest)) (n : NoteOver front.image.names (behind rest)) → IsOfUnknownName (flat_map line_with_feed before) line
 over_further before front line rest stands text may is i n =
     let names = front.image.names in
-    let place = length front.image.code in
+    let index = length front.image.code in
     let more = further names i.irqs n.tasks n.shared in
     let m = more_are names (in_front rest) (behind rest) i n in
     let l = stands.loadable in
@@ -226,49 +226,49 @@ over_further before front line rest stands text may is i n =
     let rest_is : rest ≡ (instr_word i.instr ∷ instr_words more i.instr) ++ end_words (note_part more n.note) =
     words_cut rest ∙ ap (λ (ws : List (List ℕ)). ws ++ end_words (behind rest)) (i.is n.tasks n.shared)
     ∙ ap (λ (p : Option (List (List ℕ))). (instr_word i.instr ∷ instr_words more i.instr) ++ end_words p) (n.is i.irqs) in
-    let all : words line ≡ codes "code" ∷ code_words more place code = is ∙ ap (λ (ws : List (List ℕ)). codes "code" ∷ decimal place ∷ ws) rest_is in
-    let spelled = code_spelled more place code known has_instr has_note in
-    let line_text : code_text more place code ≡ line = spelled.is ∙ sym (line_joined line (codes "code") (code_words more place code) all) in
-    let both = and_parts (has_cells front) (nat_lt place front.code) may in
+    let all : words line ≡ codes "code" ∷ code_words more index code = is ∙ ap (λ (ws : List (List ℕ)). codes "code" ∷ decimal index ∷ ws) rest_is in
+    let spelled = code_spelled more index code known has_instr has_note in
+    let line_text : code_text more index code ≡ line = spelled.is ∙ sym (line_joined line (codes "code") (code_words more index code) all) in
+    let both = and_parts (has_cells front) (nat_lt index front.code) may in
     let mark : Instr × Option Note = (instr.Mark, None) in
-    let goes = mark_goes front stands (eqb-true (length front.image.cells) front.cells both.0) (ltb-true place front.code both.1) in
+    let goes = mark_goes front stands (eqb-true (length front.image.cells) front.cells both.0) (ltb-true index front.code both.1) in
     let w = witness (and_line front mark) goes.stands in
     record {
       image = w.image;
       loadable = w.loadable;
-      address = place;
+      address = index;
       behind = w.behind;
-      place =
-          w.is ∙ ap (λ t. t ++ w.behind) (goes.text ∙ ap (λ t. t ++ code_line names place mark) text)
-          ∙ ap (λ (ns : Names). (flat_map ended before ++ code_line ns place mark) ++ w.behind) (sym w.names);
+      index =
+          w.is ∙ ap (λ t. t ++ w.behind) (goes.text ∙ ap (λ t. t ++ code_line names index mark) text)
+          ∙ ap (λ (ns : Names). (flat_map line_with_feed before ++ code_line ns index mark) ++ w.behind) (sym w.names);
       names = more;
       more = subst (λ (ns : Names). AreMore ns more) (sym w.names) m;
       code = code;
       within = record { operands = i.within; note = n.within };
       has_instr = has_instr;
       has_note = has_note;
-      line_is = ap ended line_text;
+      line_is = ap line_with_feed line_text;
     }
 
-name_at : (before : List (List ℕ)) (front : Front) (line : List ℕ) (ws : List (List ℕ)) → Stands front → front_text front ≡ flat_map ended before
-    → may_add_line front ≡ true → words line ≡ codes "code" ∷ ws → line_at front.image.names (length front.image.code) ws ≡ Err wrong.Name → IsOfUnknownName (flat_map ended before) line
+name_at : (before : List (List ℕ)) (front : Front) (line : List ℕ) (ws : List (List ℕ)) → Stands front → front_text front ≡ flat_map line_with_feed before
+    → may_add_line front ≡ true → words line ≡ codes "code" ∷ ws → line_at front.image.names (length front.image.code) ws ≡ Err wrong.Name → IsOfUnknownName (flat_map line_with_feed before) line
 name_at before front line [] stands text may is e = absurd (form_no_name (line_at front.image.names (length front.image.code) []) refl e)
 name_at before front line (number ∷ rest) stands text may is e =
     let names = front.image.names in
-    let place = length front.image.code in
-    let first = then_name (word_at number) (λ n. if n == place then noted (instr_at names (in_front rest)) (note_behind names (behind rest)) else Err wrong.Form) (number_no_name (2 ^ 32) number) e in
+    let index = length front.image.code in
+    let first = then_name (word_at number) (λ n. if n == index then line_or_wrong (instr_at names (in_front rest)) (note_behind names (behind rest)) else Err wrong.Form) (number_no_name (2 ^ 32) number) e in
     let spelled = number32_from first.0 number first.1 in
-    chosen (first.0 == place) (noted (instr_at names (in_front rest)) (note_behind names (behind rest))) (Err wrong.Form) (Err wrong.Name) (IsOfUnknownName (flat_map ended before) line) first.2
+    chosen (first.0 == index) (line_or_wrong (instr_at names (in_front rest)) (note_behind names (behind rest))) (Err wrong.Form) (Err wrong.Name) (IsOfUnknownName (flat_map line_with_feed before) line) first.2
     (λ here both.
-    let number_is : number ≡ decimal place = spelled.0 ∙ ap decimal (eqb-true first.0 place here) in
+    let number_is : number ≡ decimal index = spelled.0 ∙ ap decimal (eqb-true first.0 index here) in
     let parts = noted_name (instr_at names (in_front rest)) (note_behind names (behind rest)) both in
     let l = stands.loadable in
     over_further before front line rest stands text may (is ∙ ap (λ (w : List ℕ). codes "code" ∷ w ∷ rest) number_is)
     (instr_over names (in_front rest) l.limits.names (irqs_below front stands) parts.0) (note_over names (behind rest) l.limits.names parts.1))
     (λ _ no. absurd (form_no_name (Err wrong.Form) refl no))
 
-pub name_is : (before : List (List ℕ)) (front : Front) (line : List ℕ) → Stands front → front_text front ≡ flat_map ended before
-    → take_line front line ≡ Err wrong.Name → IsOfUnknownName (flat_map ended before) line
+pub name_is : (before : List (List ℕ)) (front : Front) (line : List ℕ) → Stands front → front_text front ≡ flat_map line_with_feed before
+    → take_line front line ≡ Err wrong.Name → IsOfUnknownName (flat_map line_with_feed before) line
 name_is before front line stands text e =
     let c = line_code front line e in
     name_at before front line c.ws stands text c.may c.words_are c.unknown

@@ -8,7 +8,7 @@ use Rattle.rt_ids.specs.Names.{Names, with_task}
 use Rattle.rt_code.specs.declared.image.BodyRow.{BodyRow}
 use Rattle.rt_lines.specs.Answers.{and_then, and_make}
 use Rattle.rt_listing.specs.Listing.{cell_line, irq_line, body_line}
-use Rattle.rt_load.specs.Reading.{ended}
+use Rattle.rt_load.specs.Reading.{line_with_feed}
 use Rattle.rt_load.specs.Inside.Rows.{cell_at, irq_row_at, body_row_at}
 use Rattle.rt_load.specs.Inside.Taking.{if_line, may_name_cell, is_in_cells, may_add_cell, has_cells, is_new_irq, may_add_irq, may_add_body, next_cell, next_irq, and_body, take_body}
 use Rattle.rt_load.specs.declared.operand.Wrong.{Wrong}
@@ -38,10 +38,10 @@ next_irq_new front line ws row e =
 -- a body that is read and may be added, and whose line is another
 pub body_of_other_line : (front : Front) (line : List ℕ) (ws : List (List ℕ)) (body : List ℕ × BodyRow) (task : ℕ) (names : Names) → task ≡ length front.image.names.tasks
     → body_row_at task ws ≡ Ok body → may_add_body front body.0 ≡ true → names ≡ with_task front.image.names body.0
-    → bytes_eq (body_line names body.1) (ended line) ≡ false → take_body front line ws ≡ Err wrong.Form
+    → bytes_eq (body_line names body.1) (line_with_feed line) ≡ false → take_body front line ws ≡ Err wrong.Form
 body_of_other_line front line ws body task names here read may added other =
     let text = body_line (with_task front.image.names body.0) body.1 in
-    let differs : bytes_eq text (ended line) ≡ false = subst (λ (n : Names). bytes_eq (body_line n body.1) (ended line) ≡ false) added other in
+    let differs : bytes_eq text (line_with_feed line) ≡ false = subst (λ (n : Names). bytes_eq (body_line n body.1) (line_with_feed line) ≡ false) added other in
     let is : body_row_at (length front.image.names.tasks) ws ≡ Ok body = subst (λ (t : ℕ). body_row_at t ws ≡ Ok body) here read in
     ap (λ (r : Result (List ℕ × BodyRow) Wrong). and_make (and_then r (λ body. if may_add_body front body.0
     then if_line (body_line (with_task front.image.names body.0) body.1) line body else Err wrong.Form)) (λ body. and_body front body.0 body.1)) is

@@ -6,7 +6,7 @@ use Rattle.rt_code.specs.Image.{Image}
 use Rattle.rt_listing.specs.Listing.{listing}
 use Rattle.rt_load.specs.Loadable.{IsLoadable}
 use Rattle.rt_load.specs.Laws.{AreReadOneWay}
-use Rattle.rt_load.specs.Reading.{IsListingText, Begins, ended, IsLine, IsFirstWrong, IsWrong, Fault, Form, Name}
+use Rattle.rt_load.specs.Reading.{IsListingText, Begins, line_with_feed, IsLine, IsFirstWrong, IsWrong, Fault, Form, Name}
 use Rattle.rt_load.specs.Inside.Taking.{take_all}
 use Rattle.rt_load.specs.declared.front.Front.{Front}
 use Rattle.rt_load.proofs.Read.{same_ok}
@@ -15,15 +15,15 @@ use Rattle.rt_load.proofs.Split.{cut_same, no_feed, lines_end, listing_is, are_l
 
 one_image : (text : List ℕ) (a b : Image) → IsListingText text a → IsListingText text b → a ≡ b
 one_image text a b p q =
-    let texts : flat_map ended (listing_lines a p.loadable) ++ [] ≡ flat_map ended (listing_lines b q.loadable) =
-    append-nil (flat_map ended (listing_lines a p.loadable)) ∙ sym (listing_is a p.loadable) ∙ p.is ∙ sym q.is ∙ listing_is b q.loadable in
+    let texts : flat_map line_with_feed (listing_lines a p.loadable) ++ [] ≡ flat_map line_with_feed (listing_lines b q.loadable) =
+    append-nil (flat_map line_with_feed (listing_lines a p.loadable)) ∙ sym (listing_is a p.loadable) ∙ p.is ∙ sym q.is ∙ listing_is b q.loadable in
     let lines = lines_end (listing_lines a p.loadable) [] (listing_lines b q.loadable) (are_lines a p.loadable) tt (are_lines b q.loadable) texts in
     let same : whole a p.loadable ≡ whole b q.loadable =
     same_ok (take_all (listing_lines a p.loadable)) (whole a p.loadable) (whole b q.loadable) (listing_taken a p.loadable) (ap take_all lines.1 ∙ listing_taken b q.loadable) in
     ap (λ (f : Front). f.image) same
 
 -- a listing that goes on with a line
-goes_on : (front line behind text : List ℕ) (b : ℕ) (img : Image) → IsLoadable img → listing img ≡ text → text ≡ (front ++ line) ++ b ∷ behind → b ≡ 10 → Begins (front ++ ended line)
+goes_on : (front line behind text : List ℕ) (b : ℕ) (img : Image) → IsLoadable img → listing img ≡ text → text ≡ (front ++ line) ++ b ∷ behind → b ≡ 10 → Begins (front ++ line_with_feed line)
 goes_on front line behind text b img l is parts feed =
     record {
       image = img;
@@ -40,7 +40,7 @@ wrong_is_none front line [] text fault img l is parts w = w.1 (img, l, is ∙ pa
 wrong_is_none front line (b ∷ behind) text fault img l is parts w = w.1 (goes_on front line behind text b img l is parts w.0)
 
 not_both : (text : List ℕ) (img : Image) (n : ℕ) (fault : Fault) → IsListingText text img → IsFirstWrong text n fault → ⊥
-not_both text img n fault p q = wrong_is_none (flat_map ended q.before) q.line q.behind text fault img p.loadable p.is q.is q.wrong
+not_both text img n fault p q = wrong_is_none (flat_map line_with_feed q.before) q.line q.behind text fault img p.loadable p.is q.is q.wrong
 
 -- what stands behind a line: its line feed and more, or nothing
 abbrev IsEnd : List ℕ → Type 0
@@ -60,8 +60,8 @@ data Cuts (ls ms : List (List ℕ)) (line other behind after : List ℕ) : Type 
 ten : (b : ℕ) (behind : List ℕ) → b ≡ 10 → b ∷ behind ≡ 10 ∷ behind
 ten b behind e = ap (λ (c : ℕ). c ∷ behind) e
 
-one_more : (l f t : List ℕ) → (ended l ++ f) ++ t ≡ l ++ 10 ∷ (f ++ t)
-one_more l f t = append_assoc (ended l) f t ∙ append_assoc l (10 ∷ []) (f ++ t)
+one_more : (l f t : List ℕ) → (line_with_feed l ++ f) ++ t ≡ l ++ 10 ∷ (f ++ t)
+one_more l f t = append_assoc (line_with_feed l) f t ∙ append_assoc l (10 ∷ []) (f ++ t)
 
 first_cuts : (line other behind after : List ℕ) → IsLine line → IsLine other → IsEnd behind → IsEnd after → line ++ behind ≡ other ++ after → (line ≡ other) × (behind ≡ after)
 first_cuts line other [] [] own own2 e f is = (sym (append-nil line) ∙ is ∙ append-nil other, refl)
@@ -84,34 +84,34 @@ cuts_one l ls ms m line other behind after e (Before rest end more is) = Before 
 cuts_one l ls ms m line other behind after e (Behind rest end more is) = Behind rest end more (ap (λ (x : List ℕ). x ∷ ls) e ∙ ap (λ (xs : List (List ℕ)). m ∷ xs) is)
 
 cuts : (ls ms : List (List ℕ)) (line other behind after : List ℕ) → AllByRecursion IsLine ls → AllByRecursion IsLine ms → IsLine line → IsLine other → IsEnd behind → IsEnd after
-    → flat_map ended ls ++ (line ++ behind) ≡ flat_map ended ms ++ (other ++ after) → Cuts ls ms line other behind after
+    → flat_map line_with_feed ls ++ (line ++ behind) ≡ flat_map line_with_feed ms ++ (other ++ after) → Cuts ls ms line other behind after
 cuts [] [] line other behind after all all2 own own2 e f is =
     let same = first_cuts line other behind after own own2 e f is in Same refl same.0 same.1
 cuts [] (m ∷ ms) line other behind after all all2 own own2 e f is =
-    let same = further_cut line behind m (flat_map ended ms ++ (other ++ after)) own all2.0 e (is ∙ one_more m (flat_map ended ms) (other ++ after)) in
+    let same = further_cut line behind m (flat_map line_with_feed ms ++ (other ++ after)) own all2.0 e (is ∙ one_more m (flat_map line_with_feed ms) (other ++ after)) in
     Before same.1.0 same.1.1 ms (ap (λ (x : List ℕ). x ∷ ms) (sym same.0))
 cuts (l ∷ ls) [] line other behind after all all2 own own2 e f is =
-    let same = further_cut other after l (flat_map ended ls ++ (line ++ behind)) own2 all.0 f (sym is ∙ one_more l (flat_map ended ls) (line ++ behind)) in
+    let same = further_cut other after l (flat_map line_with_feed ls ++ (line ++ behind)) own2 all.0 f (sym is ∙ one_more l (flat_map line_with_feed ls) (line ++ behind)) in
     Behind same.1.0 same.1.1 ls (ap (λ (x : List ℕ). x ∷ ls) (sym same.0))
 cuts (l ∷ ls) (m ∷ ms) line other behind after all all2 own own2 e f is =
-    let same = cut_same l m (flat_map ended ls ++ (line ++ behind)) (flat_map ended ms ++ (other ++ after)) all.0 all2.0
-    (sym (one_more l (flat_map ended ls) (line ++ behind)) ∙ is ∙ one_more m (flat_map ended ms) (other ++ after)) in
+    let same = cut_same l m (flat_map line_with_feed ls ++ (line ++ behind)) (flat_map line_with_feed ms ++ (other ++ after)) all.0 all2.0
+    (sym (one_more l (flat_map line_with_feed ls) (line ++ behind)) ∙ is ∙ one_more m (flat_map line_with_feed ms) (other ++ after)) in
     cuts_one l ls ms m line other behind after same.0 (cuts ls ms line other behind after all.1 all2.1 own own2 e f same.1)
 
 -- a front that goes on with more lines
-front_begins : (ls more : List (List ℕ)) (line : List ℕ) → Begins (flat_map ended (ls ++ line ∷ more)) → Begins (flat_map ended ls ++ ended line)
+front_begins : (ls more : List (List ℕ)) (line : List ℕ) → Begins (flat_map line_with_feed (ls ++ line ∷ more)) → Begins (flat_map line_with_feed ls ++ line_with_feed line)
 front_begins ls more line b = record {
   image = b.image;
   loadable = b.loadable;
-  behind = flat_map ended more ++ b.behind;
+  behind = flat_map line_with_feed more ++ b.behind;
   is =
-      b.is ∙ ap (λ t. t ++ b.behind) (flat_map-append ended ls (line ∷ more)) ∙ regroup (flat_map ended ls) (ended line) (flat_map ended more) b.behind;
+      b.is ∙ ap (λ t. t ++ b.behind) (flat_map-append line_with_feed ls (line ∷ more)) ∙ regroup (flat_map line_with_feed ls) (line_with_feed line) (flat_map line_with_feed more) b.behind;
 }
   where
     regroup : (f l m r : List ℕ) → (f ++ (l ++ m)) ++ r ≡ (f ++ l) ++ (m ++ r)
     regroup f l m r = simp append_assoc
 
-not_further : (front line behind rest : List ℕ) (fault : Fault) → behind ≡ 10 ∷ rest → IsWrong front line behind fault → ¬ Begins (front ++ ended line)
+not_further : (front line behind rest : List ℕ) (fault : Fault) → behind ≡ 10 ∷ rest → IsWrong front line behind fault → ¬ Begins (front ++ line_with_feed line)
 not_further front line behind rest fault is w =
     let there : IsWrong front line (10 ∷ rest) fault = subst (λ (b : List ℕ). IsWrong front line b fault) is w in there.1
 
@@ -124,8 +124,8 @@ same_fault front line (b ∷ behind) Name Form v w = absurd (w.2 v.2)
 
 one_fault : (text : List ℕ) (n m : ℕ) (f g : Fault) → IsFirstWrong text n f → IsFirstWrong text m g → (n ≡ m) × (f ≡ g)
 one_fault text n m f g p q =
-    let front = flat_map ended p.before in
-    let back = flat_map ended q.before in
+    let front = flat_map line_with_feed p.before in
+    let back = flat_map line_with_feed q.before in
     let texts : front ++ (p.line ++ p.behind) ≡ back ++ (q.line ++ q.behind) =
     sym (append_assoc front p.line p.behind) ∙ sym p.is ∙ q.is ∙ append_assoc back q.line q.behind in
     by (cuts p.before q.before p.line q.line p.behind q.behind p.are_lines q.are_lines p.is_line q.is_line
@@ -134,18 +134,18 @@ one_fault text n m f g p q =
     by : Cuts p.before q.before p.line q.line p.behind q.behind → (n ≡ m) × (f ≡ g)
     by (Same fronts lines ends) = (
       p.number_is ∙ ap (λ (ls : List (List ℕ)). suc (length ls)) fronts ∙ sym q.number_is,
-      same_fault (flat_map ended q.before) q.line q.behind f g
-          (subst (λ (b : List ℕ). IsWrong (flat_map ended q.before) q.line b f) ends
-          (subst (λ (l : List ℕ). IsWrong (flat_map ended q.before) l p.behind f) lines
-          (subst (λ (ls : List (List ℕ)). IsWrong (flat_map ended ls) p.line p.behind f) fronts p.wrong)))
+      same_fault (flat_map line_with_feed q.before) q.line q.behind f g
+          (subst (λ (b : List ℕ). IsWrong (flat_map line_with_feed q.before) q.line b f) ends
+          (subst (λ (l : List ℕ). IsWrong (flat_map line_with_feed q.before) l p.behind f) lines
+          (subst (λ (ls : List (List ℕ)). IsWrong (flat_map line_with_feed ls) p.line p.behind f) fronts p.wrong)))
           q.wrong,
     )
     by (Before rest end more is) =
-        absurd (not_further (flat_map ended p.before) p.line p.behind rest f end p.wrong
-        (front_begins p.before more p.line (subst (λ (ls : List (List ℕ)). Begins (flat_map ended ls)) is q.begins)))
+        absurd (not_further (flat_map line_with_feed p.before) p.line p.behind rest f end p.wrong
+        (front_begins p.before more p.line (subst (λ (ls : List (List ℕ)). Begins (flat_map line_with_feed ls)) is q.begins)))
     by (Behind rest end more is) =
-        absurd (not_further (flat_map ended q.before) q.line q.behind rest g end q.wrong
-        (front_begins q.before more q.line (subst (λ (ls : List (List ℕ)). Begins (flat_map ended ls)) is p.begins)))
+        absurd (not_further (flat_map line_with_feed q.before) q.line q.behind rest g end q.wrong
+        (front_begins q.before more q.line (subst (λ (ls : List (List ℕ)). Begins (flat_map line_with_feed ls)) is p.begins)))
 
 pub read_one_way : AreReadOneWay
 read_one_way = record { one_image = one_image; not_both = not_both; one_fault = one_fault }

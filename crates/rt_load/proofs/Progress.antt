@@ -17,10 +17,10 @@ use Rattle.rt_lines.specs.Answers.{and_then, and_make}
 use Rattle.rt_lines.specs.Parts.{words}
 use Rattle.rt_listing.specs.Listing.{first_line, cell_line, irq_line, body_line, code_line}
 use Rattle.rt_load.specs.Loadable.{IsNoteWithin, IsIrqWithin, IsHandlerWithin, IsBodyWithin, Is32Bits}
-use Rattle.rt_load.specs.Reading.{ended}
+use Rattle.rt_load.specs.Reading.{line_with_feed}
 use Rattle.rt_load.specs.Inside.Operand.{number_at, word_at, in_front, behind}
 use Rattle.rt_load.specs.Inside.Coding.{instr_at}
-use Rattle.rt_load.specs.Inside.Noting.{note_at, note_behind, noted, line_at}
+use Rattle.rt_load.specs.Inside.Noting.{note_at, note_behind, line_or_wrong, line_at}
 use Rattle.rt_load.specs.Inside.Rows.{only, three, three_at, cell_at, service_at, handler_at, irq_row_at, body_row_at}
 use Rattle.rt_load.specs.Inside.Taking.{if_line, front_of, first_at, is_within, take_first, may_add_cell, may_add_irq, may_add_body, may_add_line, and_cell, and_irq, and_body, and_line, next_cell, next_irq, next_body, next_line, take_cell, take_irq, take_body, take_code, take_words, take_line}
 use Rattle.rt_load.specs.declared.front.Front.{Front}
@@ -43,7 +43,7 @@ cell_within ws cell e =
     let number = number32_from made.0 parts.0.1 made.1 in
     subst (λ (c : CellRow). Is32Bits c.first) made.2 number.1
 
-cell_taken : (front next : Front) (line : List ℕ) (ws : List (List ℕ)) → Stands front → take_cell front line ws ≡ Ok next → Goes front next (ended line)
+cell_taken : (front next : Front) (line : List ℕ) (ws : List (List ℕ)) → Stands front → take_cell front line ws ≡ Ok next → Goes front next (line_with_feed line)
 cell_taken front next line ws stands e =
     let made = make_ok (next_cell front line ws) (and_cell front) next e in
     let parts = then_ok (cell_at ws) (λ cell. if may_add_cell front cell.name
@@ -51,7 +51,7 @@ cell_taken front next line ws stands e =
     let cell = parts.0 in
     let may = if_ok (may_add_cell front cell.name) (if_line (cell_line (length front.image.cells) cell) line cell) wrong.Form made.0 parts.2 in
     let printed = line_ok (cell_line (length front.image.cells) cell) line cell made.0 may.1 in
-    goes_as front (and_cell front cell) next (cell_line (length front.image.cells) cell) (ended line)
+    goes_as front (and_cell front cell) next (cell_line (length front.image.cells) cell) (line_with_feed line)
     (cell_goes front cell stands may.0 (cell_within ws cell parts.1)) printed.0 (ap (and_cell front) printed.1 ∙ made.2)
 
 -- interrupts
@@ -83,14 +83,14 @@ irq_within (name ∷ number ∷ ws) row e =
     let n = number_from IRQ_NUMBERS parts.0 number (omega arith) parts.1 in
     subst IsIrqWithin made.2 (record { number = n.1; handler = handler_within ws made.0 made.1 })
 
-irq_taken : (front next : Front) (line : List ℕ) (ws : List (List ℕ)) → Stands front → take_irq front line ws ≡ Ok next → Goes front next (ended line)
+irq_taken : (front next : Front) (line : List ℕ) (ws : List (List ℕ)) → Stands front → take_irq front line ws ≡ Ok next → Goes front next (line_with_feed line)
 irq_taken front next line ws stands e =
     let made = make_ok (next_irq front line ws) (and_irq front) next e in
     let parts = then_ok (irq_row_at ws) (λ row. if may_add_irq front row.name then if_line (irq_line row) line row else Err wrong.Form) made.0 made.1 in
     let row = parts.0 in
     let may = if_ok (may_add_irq front row.name) (if_line (irq_line row) line row) wrong.Form made.0 parts.2 in
     let printed = line_ok (irq_line row) line row made.0 may.1 in
-    goes_as front (and_irq front row) next (irq_line row) (ended line)
+    goes_as front (and_irq front row) next (irq_line row) (line_with_feed line)
     (irq_goes front row stands may.0 (irq_within ws row parts.1)) printed.0 (ap (and_irq front) printed.1 ∙ made.2)
 
 -- bodies
@@ -110,7 +110,7 @@ body_within task (name ∷ ws) body e =
     subst (λ (b : List ℕ × BodyRow). IsBodyWithin b.1 × (b.1.task ≡ task)) made.2
     (record { entry = x.1; frame = y.1; args = omega (arith, z.1) }, refl)
 
-body_taken : (front next : Front) (line : List ℕ) (ws : List (List ℕ)) → Stands front → take_body front line ws ≡ Ok next → Goes front next (ended line)
+body_taken : (front next : Front) (line : List ℕ) (ws : List (List ℕ)) → Stands front → take_body front line ws ≡ Ok next → Goes front next (line_with_feed line)
 body_taken front next line ws stands e =
     let tasks = length front.image.names.tasks in
     let made = make_ok (next_body front line ws) (λ body. and_body front body.0 body.1) next e in
@@ -121,7 +121,7 @@ body_taken front next line ws stands e =
     let may = if_ok (may_add_body front body.0) (if_line text line body) wrong.Form made.0 parts.2 in
     let printed = line_ok text line body made.0 may.1 in
     let within = body_within tasks ws body parts.1 in
-    goes_as front (and_body front body.0 body.1) next text (ended line)
+    goes_as front (and_body front body.0 body.1) next text (line_with_feed line)
     (body_goes front body.0 body.1 stands may.0 within.0 within.1) printed.0
     (ap (λ (b : List ℕ × BodyRow). and_body front b.0 b.1) printed.1 ∙ made.2)
 
@@ -133,7 +133,7 @@ note_behind_from names (Some ws) n e =
     let is = note_from names ws made.0 made.1 in
     subst (HasNote names) made.2 is.has
 
-noted_ok : (i : Result Instr Wrong) (n : Result (Option Note) Wrong) (line : Instr × Option Note) → noted i n ≡ Ok line → (i ≡ Ok line.0) × (n ≡ Ok line.1)
+noted_ok : (i : Result Instr Wrong) (n : Result (Option Note) Wrong) (line : Instr × Option Note) → line_or_wrong i n ≡ Ok line → (i ≡ Ok line.0) × (n ≡ Ok line.1)
 noted_ok (Ok i) (Ok n) line e = let same : (i, n) ≡ line = same_ok (Ok (i, n)) (i, n) line refl e in (ap (λ (l : Instr × Option Note). Ok l.0) same, ap (λ (l : Instr × Option Note). Ok l.1) same)
 noted_ok (Ok i) (Err w) line e = absurd (cc)
 noted_ok (Err w) (Ok n) line e = absurd (cc)
@@ -145,8 +145,8 @@ pub line_right : (names : Names) (address : ℕ) (ws : List (List ℕ)) (line : 
 line_right names address [] line e = absurd (cc)
 line_right names address (number ∷ ws) line e =
     let parts = then_ok (word_at number) (λ n. if n == address
-    then noted (instr_at names (in_front ws)) (note_behind names (behind ws)) else Err wrong.Form) line e in
-    let here = if_ok (parts.0 == address) (noted (instr_at names (in_front ws)) (note_behind names (behind ws))) wrong.Form line parts.2 in
+    then line_or_wrong (instr_at names (in_front ws)) (note_behind names (behind ws)) else Err wrong.Form) line e in
+    let here = if_ok (parts.0 == address) (line_or_wrong (instr_at names (in_front ws)) (note_behind names (behind ws))) wrong.Form line parts.2 in
     let both = noted_ok (instr_at names (in_front ws)) (note_behind names (behind ws)) line here.1 in
     let i = instr_from names (in_front ws) line.0 both.0 in
     record {
@@ -162,7 +162,7 @@ line_right names address (number ∷ ws) line e =
         let is = note_from names ws made.0 made.1 in
         subst IsNoteWithin made.2 is.within
 
-code_taken : (front next : Front) (line : List ℕ) (ws : List (List ℕ)) → Stands front → take_code front line ws ≡ Ok next → Goes front next (ended line)
+code_taken : (front next : Front) (line : List ℕ) (ws : List (List ℕ)) → Stands front → take_code front line ws ≡ Ok next → Goes front next (line_with_feed line)
 code_taken front next line ws stands e =
     let names = front.image.names in
     let address = length front.image.code in
@@ -171,13 +171,13 @@ code_taken front next line ws stands e =
     let parts = then_ok (line_at names address ws) (λ code. if_line (code_line names address code) line code) made.0 may.1 in
     let code = parts.0 in
     let printed = line_ok (code_line names address code) line code made.0 parts.2 in
-    goes_as front (and_line front code) next (code_line names address code) (ended line)
+    goes_as front (and_line front code) next (code_line names address code) (line_with_feed line)
     (line_goes front code stands may.0 (line_right names address ws code parts.1)) printed.0 (ap (and_line front) printed.1 ∙ made.2)
 
-words_taken : (front next : Front) (line : List ℕ) (ws : List (List ℕ)) → Stands front → take_words front line ws ≡ Ok next → Goes front next (ended line)
+words_taken : (front next : Front) (line : List ℕ) (ws : List (List ℕ)) → Stands front → take_words front line ws ≡ Ok next → Goes front next (line_with_feed line)
 words_taken front next line [] stands e = absurd (cc)
 words_taken front next line (kind ∷ ws) stands e =
-    let P = Goes front next (ended line) in
+    let P = Goes front next (line_with_feed line) in
     chosen (bytes_eq kind (codes "cell")) (take_cell front line ws)
     (if bytes_eq kind (codes "irq") then take_irq front line ws else if bytes_eq kind (codes "body") then take_body front line ws
     else if bytes_eq kind (codes "code") then take_code front line ws else Err wrong.Form) (Ok next) P e
@@ -192,7 +192,7 @@ words_taken front next line (kind ∷ ws) stands e =
     (λ _ is. body_taken front next line ws stands is)
     (λ _ end. code_taken front next line ws stands (if_ok (bytes_eq kind (codes "code")) (take_code front line ws) wrong.Form next end).1)))
 
-pub line_taken : (front next : Front) (line : List ℕ) → Stands front → take_line front line ≡ Ok next → Goes front next (ended line)
+pub line_taken : (front next : Front) (line : List ℕ) → Stands front → take_line front line ≡ Ok next → Goes front next (line_with_feed line)
 unfolding take_line
 line_taken front next line stands e = words_taken front next line (words line) stands e
 
@@ -271,7 +271,7 @@ first_at_stands (kind ∷ []) front e within = absurd (cc)
 first_at_stands (kind ∷ form ∷ []) front e within = absurd (cc)
 first_at_stands (kind ∷ form ∷ bits ∷ []) front e within = absurd (cc)
 
-pub first_taken : (line : List ℕ) (front : Front) → take_first line ≡ Ok front → Stands front × (front_text front ≡ ended line)
+pub first_taken : (line : List ℕ) (front : Front) → take_first line ≡ Ok front → Stands front × (front_text front ≡ line_with_feed line)
 first_taken line front e =
     let parts = then_ok (first_at (words line)) (λ front. if is_within front
     then if_line (first_line front.image front.code front.cells) line front else Err wrong.Form) front e in
@@ -279,4 +279,4 @@ first_taken line front e =
     let within = if_ok (is_within read) (if_line (first_line read.image read.code read.cells) line read) wrong.Form front parts.2 in
     let printed = line_ok (first_line read.image read.code read.cells) line read front within.1 in
     let stands = first_at_stands (words line) read parts.1 within.0 in
-    subst (λ (f : Front). Stands f × (front_text f ≡ ended line)) printed.1 (stands.0, stands.1 ∙ printed.0)
+    subst (λ (f : Front). Stands f × (front_text f ≡ line_with_feed line)) printed.1 (stands.0, stands.1 ∙ printed.0)

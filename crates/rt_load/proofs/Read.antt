@@ -6,7 +6,7 @@ use Rattle.rt_lines.specs.Answers.{and_then, and_make}
 use Rattle.rt_lines.specs.Numbers.{number_below}
 use Rattle.rt_trace.specs.declared.operand.Wrong.TheVariants as trace
 use Rattle.rt_trace.proofs.Decoded.{number_spelling}
-use Rattle.rt_load.specs.Reading.{ended}
+use Rattle.rt_load.specs.Reading.{line_with_feed}
 use Rattle.rt_load.specs.Inside.Operand.{number_at}
 use Rattle.rt_load.specs.Inside.Taking.{if_line}
 use Rattle.rt_load.specs.declared.operand.Wrong.{Wrong}
@@ -33,10 +33,10 @@ pub same_ok : {A : Type 0} (r : Result A Wrong) (x y : A) → r ≡ Ok x → r �
 same_ok r x y d e = cc
 
 -- what passes for a line is the line
-pub line_ok : {A : Type 0} (printed line : List ℕ) (x y : A) → if_line printed line x ≡ Ok y → (printed ≡ ended line) × (x ≡ y)
+pub line_ok : {A : Type 0} (printed line : List ℕ) (x y : A) → if_line printed line x ≡ Ok y → (printed ≡ line_with_feed line) × (x ≡ y)
 line_ok printed line x y e =
-    let parts = if_ok (bytes_eq printed (ended line)) (Ok x) wrong.Form y e in
-    ((bytes_eq-Decides printed (ended line)).0 parts.0, same_ok (Ok x) x y refl parts.1)
+    let parts = if_ok (bytes_eq printed (line_with_feed line)) (Ok x) wrong.Form y e in
+    ((bytes_eq-Decides printed (line_with_feed line)).0 parts.0, same_ok (Ok x) x y refl parts.1)
 
 pub number_from : (bound n : ℕ) (word : List ℕ) → bound ≤ 2 ^ 32 → number_at bound word ≡ Ok n → (word ≡ decimal n) × (n < bound)
 number_from bound n word few e =

@@ -11,9 +11,9 @@ use Rattle.rt_code.specs.declared.instr.Instr.{Instr}
 use Rattle.rt_code.specs.declared.instr.Note.{Note}
 use Rattle.rt_ids.specs.Names.{Names}
 use Rattle.rt_ids.specs.declared.cell.CellRow.{CellRow}
-use Rattle.rt_listing.specs.Listing.{first_line, numbered, cell_line, irq_line, body_line, code_line, listing}
+use Rattle.rt_listing.specs.Listing.{first_line, lines_with_numbers, cell_line, irq_line, body_line, code_line, listing}
 use Rattle.rt_load.specs.Loadable.{IsLoadable}
-use Rattle.rt_load.specs.Reading.{ended, IsLine}
+use Rattle.rt_load.specs.Reading.{line_with_feed, IsLine}
 use Rattle.rt_load.proofs.Clean.{line_of_spelled}
 use Rattle.rt_load.proofs.Lines.{AreKnown, first_text, cell_text, irq_text, body_text, code_text, first_spelled, cell_spelled, irq_spelled, body_spelled, code_spelled, known_names}
 use Rattle.rt_load.proofs.Forward.{texts_from, listing_lines}
@@ -34,71 +34,71 @@ no_feed [] x h = h.0 refl
 no_feed (b ∷ u) x h = no_feed u x h.1
 
 -- the text of lines behind a first one
-one_more : (l : List ℕ) (f t : List ℕ) → (ended l ++ f) ++ t ≡ l ++ 10 ∷ (f ++ t)
-one_more l f t = append_assoc (ended l) f t ∙ append_assoc l (10 ∷ []) (f ++ t)
+one_more : (l : List ℕ) (f t : List ℕ) → (line_with_feed l ++ f) ++ t ≡ l ++ 10 ∷ (f ++ t)
+one_more l f t = append_assoc (line_with_feed l) f t ∙ append_assoc l (10 ∷ []) (f ++ t)
 
-last_one : (m g : List ℕ) → ended m ++ g ≡ m ++ 10 ∷ g
+last_one : (m g : List ℕ) → line_with_feed m ++ g ≡ m ++ 10 ∷ g
 last_one m g = append_assoc m (10 ∷ []) g
 
 pub lines_split : (ls : List (List ℕ)) (line rest : List ℕ) (ms : List (List ℕ)) → AllByRecursion IsLine ls → IsLine line → AllByRecursion IsLine ms
-    → flat_map ended ls ++ (line ++ 10 ∷ rest) ≡ flat_map ended ms → (more : List (List ℕ)) × (ms ≡ ls ++ line ∷ more)
+    → flat_map line_with_feed ls ++ (line ++ 10 ∷ rest) ≡ flat_map line_with_feed ms → (more : List (List ℕ)) × (ms ≡ ls ++ line ∷ more)
 lines_split [] line rest [] all own others e = absurd (not_none line rest e)
 lines_split [] line rest (m ∷ ms) all own others e =
-    let same = cut_same line m rest (flat_map ended ms) own others.0 (e ∙ last_one m (flat_map ended ms)) in
+    let same = cut_same line m rest (flat_map line_with_feed ms) own others.0 (e ∙ last_one m (flat_map line_with_feed ms)) in
     (ms, ap (λ (x : List ℕ). x ∷ ms) (sym same.0))
 lines_split (l ∷ ls) line rest [] all own others e =
-    absurd (not_none l (flat_map ended ls ++ (line ++ 10 ∷ rest)) (sym (one_more l (flat_map ended ls) (line ++ 10 ∷ rest)) ∙ e))
+    absurd (not_none l (flat_map line_with_feed ls ++ (line ++ 10 ∷ rest)) (sym (one_more l (flat_map line_with_feed ls) (line ++ 10 ∷ rest)) ∙ e))
 lines_split (l ∷ ls) line rest (m ∷ ms) all own others e =
-    let same = cut_same l m (flat_map ended ls ++ (line ++ 10 ∷ rest)) (flat_map ended ms) all.0 others.0
-    (sym (one_more l (flat_map ended ls) (line ++ 10 ∷ rest)) ∙ e ∙ last_one m (flat_map ended ms)) in
+    let same = cut_same l m (flat_map line_with_feed ls ++ (line ++ 10 ∷ rest)) (flat_map line_with_feed ms) all.0 others.0
+    (sym (one_more l (flat_map line_with_feed ls) (line ++ 10 ∷ rest)) ∙ e ∙ last_one m (flat_map line_with_feed ms)) in
     let rec = lines_split ls line rest ms all.1 own others.1 same.1 in
     (rec.0, ap (λ (x : List ℕ). x ∷ ms) (sym same.0) ∙ ap (λ (xs : List (List ℕ)). l ∷ xs) rec.1)
 
 pub lines_end : (ls : List (List ℕ)) (line : List ℕ) (ms : List (List ℕ)) → AllByRecursion IsLine ls → IsLine line → AllByRecursion IsLine ms
-    → flat_map ended ls ++ line ≡ flat_map ended ms → (line ≡ []) × (ls ≡ ms)
+    → flat_map line_with_feed ls ++ line ≡ flat_map line_with_feed ms → (line ≡ []) × (ls ≡ ms)
 lines_end [] line [] all own others e = (e, refl)
-lines_end [] line (m ∷ ms) all own others e = absurd (no_feed m (flat_map ended ms) (subst IsLine (e ∙ last_one m (flat_map ended ms)) own))
-lines_end (l ∷ ls) line [] all own others e = absurd (not_none l (flat_map ended ls ++ line) (sym (one_more l (flat_map ended ls) line) ∙ e))
+lines_end [] line (m ∷ ms) all own others e = absurd (no_feed m (flat_map line_with_feed ms) (subst IsLine (e ∙ last_one m (flat_map line_with_feed ms)) own))
+lines_end (l ∷ ls) line [] all own others e = absurd (not_none l (flat_map line_with_feed ls ++ line) (sym (one_more l (flat_map line_with_feed ls) line) ∙ e))
 lines_end (l ∷ ls) line (m ∷ ms) all own others e =
-    let same = cut_same l m (flat_map ended ls ++ line) (flat_map ended ms) all.0 others.0
-    (sym (one_more l (flat_map ended ls) line) ∙ e ∙ last_one m (flat_map ended ms)) in
+    let same = cut_same l m (flat_map line_with_feed ls ++ line) (flat_map line_with_feed ms) all.0 others.0
+    (sym (one_more l (flat_map line_with_feed ls) line) ∙ e ∙ last_one m (flat_map line_with_feed ms)) in
     let rec = lines_end ls line ms all.1 own others.1 same.1 in
     (rec.0, ap₂ (λ (x : List ℕ) (xs : List (List ℕ)). x ∷ xs) same.0 rec.1)
 
 -- the lines of a listing
-numbered_lines : {A : Type 0} (line text : ℕ → A → List ℕ) → ((n : ℕ) (x : A) → line n x ≡ ended (text n x)) → (n : ℕ) (xs : List A)
-    → numbered line n xs ≡ flat_map ended (texts_from text n xs)
+numbered_lines : {A : Type 0} (line text : ℕ → A → List ℕ) → ((n : ℕ) (x : A) → line n x ≡ line_with_feed (text n x)) → (n : ℕ) (xs : List A)
+    → lines_with_numbers line n xs ≡ flat_map line_with_feed (texts_from text n xs)
 numbered_lines line text same n [] = refl
 numbered_lines line text same n (x ∷ xs) = ap₂ (λ (u v : List ℕ). u ++ v) (same n x) (numbered_lines line text same (suc n) xs)
 
-flat_lines : {A : Type 0} (line text : A → List ℕ) → ((x : A) → line x ≡ ended (text x)) → (xs : List A) → flat_map line xs ≡ flat_map ended (map text xs)
+flat_lines : {A : Type 0} (line text : A → List ℕ) → ((x : A) → line x ≡ line_with_feed (text x)) → (xs : List A) → flat_map line xs ≡ flat_map line_with_feed (map text xs)
 flat_lines line text same [] = refl
 flat_lines line text same (x ∷ xs) = ap₂ (λ (u v : List ℕ). u ++ v) (same x) (flat_lines line text same xs)
 
 five : (s a b c d : List ℕ) → (((s ++ a) ++ b) ++ c) ++ d ≡ s ++ (((a ++ b) ++ c) ++ d)
 five s a b c d = simp append_assoc
 
-flat_four : (a b c d : List (List ℕ)) → flat_map ended (((a ++ b) ++ c) ++ d) ≡ ((flat_map ended a ++ flat_map ended b) ++ flat_map ended c) ++ flat_map ended d
+flat_four : (a b c d : List (List ℕ)) → flat_map line_with_feed (((a ++ b) ++ c) ++ d) ≡ ((flat_map line_with_feed a ++ flat_map line_with_feed b) ++ flat_map line_with_feed c) ++ flat_map line_with_feed d
 flat_four a b c d =
-    flat_map-append ended ((a ++ b) ++ c) d
-    ∙ ap (λ t. t ++ flat_map ended d) (flat_map-append ended (a ++ b) c ∙ ap (λ t. t ++ flat_map ended c) (flat_map-append ended a b))
+    flat_map-append line_with_feed ((a ++ b) ++ c) d
+    ∙ ap (λ t. t ++ flat_map line_with_feed d) (flat_map-append line_with_feed (a ++ b) c ∙ ap (λ t. t ++ flat_map line_with_feed c) (flat_map-append line_with_feed a b))
 
-pub listing_is : (img : Image) (l : IsLoadable img) → listing img ≡ flat_map ended (listing_lines img l)
+pub listing_is : (img : Image) (l : IsLoadable img) → listing img ≡ flat_map line_with_feed (listing_lines img l)
 listing_is img l =
     let a = texts_from cell_text 0 img.cells in
     let b = map irq_text img.irqs in
     let c = map (body_text img.names) img.bodies in
     let d = texts_from (code_text img.names) 0 img.code in
     let s = first_line img (length img.code) (length img.cells) in
-    ap (λ t. (((s ++ t) ++ flat_map irq_line img.irqs) ++ flat_map (body_line img.names) img.bodies) ++ numbered (code_line img.names) 0 img.code)
+    ap (λ t. (((s ++ t) ++ flat_map irq_line img.irqs) ++ flat_map (body_line img.names) img.bodies) ++ lines_with_numbers (code_line img.names) 0 img.code)
     (numbered_lines cell_line cell_text (λ n x. refl) 0 img.cells)
-    ∙ ap (λ t. (((s ++ flat_map ended a) ++ t) ++ flat_map (body_line img.names) img.bodies) ++ numbered (code_line img.names) 0 img.code)
+    ∙ ap (λ t. (((s ++ flat_map line_with_feed a) ++ t) ++ flat_map (body_line img.names) img.bodies) ++ lines_with_numbers (code_line img.names) 0 img.code)
     (flat_lines irq_line irq_text (λ x. refl) img.irqs)
-    ∙ ap (λ t. (((s ++ flat_map ended a) ++ flat_map ended b) ++ t) ++ numbered (code_line img.names) 0 img.code)
+    ∙ ap (λ t. (((s ++ flat_map line_with_feed a) ++ flat_map line_with_feed b) ++ t) ++ lines_with_numbers (code_line img.names) 0 img.code)
     (flat_lines (body_line img.names) (body_text img.names) (λ x. refl) img.bodies)
-    ∙ ap (λ t. (((s ++ flat_map ended a) ++ flat_map ended b) ++ flat_map ended c) ++ t)
+    ∙ ap (λ t. (((s ++ flat_map line_with_feed a) ++ flat_map line_with_feed b) ++ flat_map line_with_feed c) ++ t)
     (numbered_lines (code_line img.names) (code_text img.names) (λ n x. refl) 0 img.code)
-    ∙ five s (flat_map ended a) (flat_map ended b) (flat_map ended c) (flat_map ended d)
+    ∙ five s (flat_map line_with_feed a) (flat_map line_with_feed b) (flat_map line_with_feed c) (flat_map line_with_feed d)
     ∙ ap (λ t. s ++ t) (sym (flat_four a b c d))
 
 cells_are_lines : (n : ℕ) (cells : List CellRow) → AllByRecursion (λ cell. IsWord cell.name) cells → AllByRecursion IsLine (texts_from cell_text n cells)

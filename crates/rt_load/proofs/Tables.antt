@@ -19,7 +19,7 @@ use Rattle.rt_lines.specs.Answers.{and_make}
 use Rattle.rt_trace.proofs.Numerals.{number_spelled}
 use Rattle.rt_trace.proofs.Tables.{irq_known, name_at, task_found, resource_found}
 use Rattle.rt_load.specs.Loadable.{IsSectionWithin}
-use Rattle.rt_load.specs.Inside.Operand.{number_at, found, first_named, irq_at, task_at, resource_at, ready_at, queue_at, section_at, body_at}
+use Rattle.rt_load.specs.Inside.Operand.{number_at, place_or_wrong, first_named, irq_at, task_at, resource_at, ready_at, queue_at, section_at, body_at}
 use Rattle.rt_load.specs.declared.operand.Wrong.{Wrong}
 use Rattle.rt_load.specs.declared.operand.Wrong.TheVariants as wrong
 use Rattle.rt_load.proofs.Read.{then_ok, make_ok, or_ok, same_ok, number_from}
@@ -73,19 +73,19 @@ body_back names (body.Task t) are has =
     rw (init, idle) (ap (λ (r : Result ℕ Wrong). and_make r body.Task) (task_back names t are has))
 
 -- what is found of a word that is read
-pub found_ok : (word : List ℕ) (place : Option ℕ) (n : ℕ) → found word place ≡ Ok n → (is_identifier word ≡ true) × (place ≡ Some n)
-found_ok word place n e =
-    chosen (is_identifier word) (ok_or place wrong.Name) (Err wrong.Form) (Ok n) ((is_identifier word ≡ true) × (place ≡ Some n)) e
-    (λ named is. (named, or_ok place wrong.Name n is)) (λ _ is. absurd (cc))
+pub found_ok : (word : List ℕ) (index : Option ℕ) (n : ℕ) → place_or_wrong word index ≡ Ok n → (is_identifier word ≡ true) × (index ≡ Some n)
+found_ok word index n e =
+    chosen (is_identifier word) (ok_or index wrong.Name) (Err wrong.Form) (Ok n) ((is_identifier word ≡ true) × (index ≡ Some n)) e
+    (λ named is. (named, or_ok index wrong.Name n is)) (λ _ is. absurd (cc))
 
-none_or : (place : Option ℕ) → ok_or place wrong.Name ≡ Err wrong.Name → place ≡ None
+none_or : (index : Option ℕ) → ok_or index wrong.Name ≡ Err wrong.Name → index ≡ None
 none_or None e = refl
 none_or (Some n) e = absurd (cc)
 
-pub found_none : (word : List ℕ) (place : Option ℕ) → found word place ≡ Err wrong.Name → (is_identifier word ≡ true) × (place ≡ None)
-found_none word place e =
-    chosen (is_identifier word) (ok_or place wrong.Name) (Err wrong.Form) (Err wrong.Name) ((is_identifier word ≡ true) × (place ≡ None)) e
-    (λ named is. (named, none_or place is)) (λ _ is. absurd (cc))
+pub found_none : (word : List ℕ) (index : Option ℕ) → place_or_wrong word index ≡ Err wrong.Name → (is_identifier word ≡ true) × (index ≡ None)
+found_none word index e =
+    chosen (is_identifier word) (ok_or index wrong.Name) (Err wrong.Form) (Err wrong.Name) ((is_identifier word ≡ true) × (index ≡ None)) e
+    (λ named is. (named, none_or index is)) (λ _ is. absurd (cc))
 
 place_named : (texts : List (List ℕ)) (word : List ℕ) (i : ℕ) → position (bytes_eq word) texts ≡ Some i → (word ≡ get_or texts i []) × (i < length texts)
 place_named texts word i e =
@@ -107,7 +107,7 @@ named_irq names word irq None is named identifier =
 
 pub irq_from : (names : Names) (word : List ℕ) (irq : ℕ) → irq_at names word ≡ Ok irq → (word ≡ irq_name names irq) × HasIrq names irq
 irq_from names word irq e =
-    let parts = then_ok (found word (irq_of names word)) (first_named names word) irq e in
+    let parts = then_ok (place_or_wrong word (irq_of names word)) (first_named names word) irq e in
     let known = found_ok word (irq_of names word) parts.0 parts.1 in
     chosen (bytes_eq (irq_name names parts.0) word) (Ok parts.0) (Err wrong.Form) (Ok irq) ((word ≡ irq_name names irq) × HasIrq names irq) parts.2
     (λ same is.

@@ -23,7 +23,7 @@ use Rattle.rt_code.specs.declared.image.IrqRow.{IrqRow}
 use Rattle.rt_code.specs.declared.image.BodyRow.{BodyRow}
 use Rattle.rt_code.specs.declared.instr.Instr.{Instr}
 use Rattle.rt_code.specs.declared.instr.Note.{Note}
-use Rattle.rt_listing.specs.Listing.{first_line, numbered, cell_line, irq_line, body_line, code_line}
+use Rattle.rt_listing.specs.Listing.{first_line, lines_with_numbers, cell_line, irq_line, body_line, code_line}
 use Rattle.rt_load.specs.Loadable.{IsLoadable, IsIrqWithin, IsBodyWithin, IsLineWithin, Is32Bits, has_dot}
 use Rattle.rt_load.specs.Inside.Taking.{with_name_of, may_name_cell, is_in_cells, has_cells, may_add_cell, may_add_irq, may_add_body, may_add_line, and_cell, and_irq, and_body, and_line, is_new_irq, is_new_task}
 use Rattle.rt_load.specs.declared.front.Front.{Front}
@@ -137,11 +137,11 @@ nothing_behind : (a b c d e : List ℕ) → c ≡ [] → d ≡ [] → e ≡ [] �
 nothing_behind a b c d e x y z = rw (x, y, z) (append-nil (((a ++ b) ++ []) ++ []) ∙ append-nil ((a ++ b) ++ []) ∙ append-nil (a ++ b))
 
 cells_text : (front : Front) → IsInCells front.image
-    → front_text front ≡ first_line front.image front.code front.cells ++ numbered cell_line 0 front.image.cells
+    → front_text front ≡ first_line front.image front.code front.cells ++ lines_with_numbers cell_line 0 front.image.cells
 cells_text front h =
-    nothing_behind (first_line front.image front.code front.cells) (numbered cell_line 0 front.image.cells) _ _ _
+    nothing_behind (first_line front.image front.code front.cells) (lines_with_numbers cell_line 0 front.image.cells) _ _ _
     (ap (flat_map irq_line) h.irqs) (ap (flat_map (body_line front.image.names)) h.bodies)
-    (ap (numbered (code_line front.image.names) 0) h.code)
+    (ap (lines_with_numbers (code_line front.image.names) 0) h.code)
 
 pub cell_goes : (front : Front) (cell : CellRow) → Stands front → may_add_cell front cell.name ≡ true → Is32Bits cell.first
     → Goes front (and_cell front cell) (cell_line (length front.image.cells) cell)
@@ -172,7 +172,7 @@ cell_goes front cell stands may first =
       text =
           cells_text (and_cell front cell) in_next
           ∙ ap (λ t. first_line front.image front.code front.cells ++ t) (numbered_next cell_line front.image.cells cell)
-          ∙ sym (append_assoc (first_line front.image front.code front.cells) (numbered cell_line 0 front.image.cells) (cell_line (length front.image.cells) cell))
+          ∙ sym (append_assoc (first_line front.image front.code front.cells) (lines_with_numbers cell_line 0 front.image.cells) (cell_line (length front.image.cells) cell))
           ∙ ap (λ t. t ++ cell_line (length front.image.cells) cell) (sym (cells_text front in_cells));
     }
 
@@ -215,10 +215,10 @@ nothing_last : (a b c d e : List ℕ) → d ≡ [] → e ≡ [] → (((a ++ b) +
 nothing_last a b c d e y z = rw (y, z) (append-nil (((a ++ b) ++ c) ++ []) ∙ append-nil ((a ++ b) ++ c))
 
 irqs_text : (front : Front) → front.image.bodies ≡ [] → front.image.code ≡ []
-    → front_text front ≡ (first_line front.image front.code front.cells ++ numbered cell_line 0 front.image.cells) ++ flat_map irq_line front.image.irqs
+    → front_text front ≡ (first_line front.image front.code front.cells ++ lines_with_numbers cell_line 0 front.image.cells) ++ flat_map irq_line front.image.irqs
 irqs_text front no_bodies no_code =
-    nothing_last (first_line front.image front.code front.cells) (numbered cell_line 0 front.image.cells) (flat_map irq_line front.image.irqs) _ _
-    (ap (flat_map (body_line front.image.names)) no_bodies) (ap (numbered (code_line front.image.names) 0) no_code)
+    nothing_last (first_line front.image front.code front.cells) (lines_with_numbers cell_line 0 front.image.cells) (flat_map irq_line front.image.irqs) _ _
+    (ap (flat_map (body_line front.image.names)) no_bodies) (ap (lines_with_numbers (code_line front.image.names) 0) no_code)
 
 pub irq_goes : (front : Front) (row : IrqRow) → Stands front → may_add_irq front row.name ≡ true → IsIrqWithin row
     → Goes front (and_irq front row) (irq_line row)
@@ -229,7 +229,7 @@ irq_goes front row stands may within =
     let no_bodies = empty_from front.image.bodies bodies_none.1 in
     let no_code = empty_from front.image.code codes_none.1 in
     let new = new_from row.name (irq_of front.image.names row.name) (length front.image.names.irqs) IRQS both.1 in
-    let front_cells = first_line front.image front.code front.cells ++ numbered cell_line 0 front.image.cells in
+    let front_cells = first_line front.image front.code front.cells ++ lines_with_numbers cell_line 0 front.image.cells in
     record {
       stands = record {
         loadable = with_row front.image row stands.loadable no_bodies no_code within new;
@@ -310,10 +310,10 @@ body_goes front name row stands may within task =
     let no_code = empty_from front.image.code codes_none.1 in
     let new = new_from name (task_of front.image.names name) (length front.image.names.tasks) TASKS both.1 in
     let names = with_task front.image.names name in
-    let front_irqs = (first_line front.image front.code front.cells ++ numbered cell_line 0 front.image.cells) ++ flat_map irq_line front.image.irqs in
+    let front_irqs = (first_line front.image front.code front.cells ++ lines_with_numbers cell_line 0 front.image.cells) ++ flat_map irq_line front.image.irqs in
     let text_of_bodies : (n : Names) (rows : List BodyRow) (lines : List (Instr × Option Note)) → lines ≡ []
-    → (front_irqs ++ flat_map (body_line n) rows) ++ numbered (code_line n) 0 lines ≡ front_irqs ++ flat_map (body_line n) rows =
-    λ n rows lines none. ap (λ (ls : List (Instr × Option Note)). (front_irqs ++ flat_map (body_line n) rows) ++ numbered (code_line n) 0 ls) none
+    → (front_irqs ++ flat_map (body_line n) rows) ++ lines_with_numbers (code_line n) 0 lines ≡ front_irqs ++ flat_map (body_line n) rows =
+    λ n rows lines none. ap (λ (ls : List (Instr × Option Note)). (front_irqs ++ flat_map (body_line n) rows) ++ lines_with_numbers (code_line n) 0 ls) none
     ∙ append-nil (front_irqs ++ flat_map (body_line n) rows) in
     record {
       stands = record {
@@ -347,7 +347,7 @@ line_goes front line stands may right =
     let few = stands.few_lines in
     let l = stands.loadable in
     let names = front.image.names in
-    let front_bodies = ((first_line front.image front.code front.cells ++ numbered cell_line 0 front.image.cells)
+    let front_bodies = ((first_line front.image front.code front.cells ++ lines_with_numbers cell_line 0 front.image.cells)
     ++ flat_map irq_line front.image.irqs) ++ flat_map (body_line names) front.image.bodies in
     record {
       stands = record {
@@ -383,5 +383,5 @@ line_goes front line stands may right =
       };
       text =
           ap (λ t. front_bodies ++ t) (numbered_next (code_line names) front.image.code line)
-          ∙ sym (append_assoc front_bodies (numbered (code_line names) 0 front.image.code) (code_line names (length front.image.code) line));
+          ∙ sym (append_assoc front_bodies (lines_with_numbers (code_line names) 0 front.image.code) (code_line names (length front.image.code) line));
     }

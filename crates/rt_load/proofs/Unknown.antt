@@ -26,10 +26,10 @@ use Rattle.rt_listing.specs.Listing.{cell_line, irq_line, body_line, code_line}
 use Rattle.rt_listing.specs.Words.{instr_text, note_text, note_words}
 use Rattle.rt_trace.proofs.Tables.{found_passes, found_at}
 use Rattle.rt_load.specs.Loadable.{Is32Bits, IsLineWithin, IsNoteWithin, IsSectionWithin}
-use Rattle.rt_load.specs.Reading.{ended, IsLine, AreMore, IsOfUnknownName}
+use Rattle.rt_load.specs.Reading.{line_with_feed, IsLine, AreMore, IsOfUnknownName}
 use Rattle.rt_load.specs.Inside.Operand.{word_at, irq_at, task_at, resource_at, queue_at, section_at, body_at, in_front, behind}
 use Rattle.rt_load.specs.Inside.Coding.{instr_word, instr_at}
-use Rattle.rt_load.specs.Inside.Noting.{note_behind, noted, line_at}
+use Rattle.rt_load.specs.Inside.Noting.{note_behind, line_or_wrong, line_at}
 use Rattle.rt_load.specs.Inside.Rows.{cell_at, irq_row_at, body_row_at}
 use Rattle.rt_lines.specs.Parts.{words}
 use Rattle.rt_load.specs.Inside.Taking.{if_line, has_cells, may_add_line, may_add_cell, may_add_irq, may_add_body, may_name_cell, is_in_cells, is_new_irq, is_new_task, and_cell, and_irq, and_body, and_line, printed_line, next_line, next_cell, next_irq, next_body, take_cell, take_irq, take_body, take_code, take_words, take_all, take_line, take_lines}
@@ -136,7 +136,7 @@ module _ (names more : Names) (are : AreNames names) (m : AreMore names more) wh
   task_more : (word : List ℕ) → is_identifier word ≡ true → ReadOr (task_at names word) (task_name names) word
   task_more word identifier = by (task_of names word) refl
     where
-      by : (place : Option ℕ) → task_of names word ≡ place → ReadOr (task_at names word) (task_name names) word
+      by : (index : Option ℕ) → task_of names word ≡ index → ReadOr (task_at names word) (task_name names) word
       by (Some t) e =
           let read : task_at names word ≡ Ok t = rw (identifier, e) refl in
           let named = task_from names word t read in
@@ -146,7 +146,7 @@ module _ (names more : Names) (are : AreNames names) (m : AreMore names more) wh
   resource_more : (word : List ℕ) → is_identifier word ≡ true → ReadOr (resource_at names word) (resource_name names) word
   resource_more word identifier = by (resource_of names word) refl
     where
-      by : (place : Option ℕ) → resource_of names word ≡ place → ReadOr (resource_at names word) (resource_name names) word
+      by : (index : Option ℕ) → resource_of names word ≡ index → ReadOr (resource_at names word) (resource_name names) word
       by (Some r) e =
           let read : resource_at names word ≡ Ok r = rw (identifier, e) refl in
           let named = resource_from names word r read in
@@ -246,17 +246,17 @@ module _ (names more : Names) (are : AreNames names) (m : AreMore names more) wh
   -- a line over other tables is read as a line of the same text, or has an unknown name
   both_more : (address : ℕ) (a : Result Instr Wrong) (b : Result (Option Note) Wrong) (line : Instr × Option Note)
       → ReadOr a (instr_text names) (instr_text more line.0) → ReadOr b (note_text names) (note_text more line.1)
-      → ReadOr (noted a b) (code_line names address) (code_line more address line)
+      → ReadOr (line_or_wrong a b) (code_line names address) (code_line more address line)
   both_more address a b line (inl i) (inl n) =
       inl (
         (i.0, n.0),
-        ap (λ (r : Result Instr Wrong). noted r b) i.1 ∙ ap (λ (r : Result (Option Note) Wrong). noted (Ok i.0) r) n.1,
+        ap (λ (r : Result Instr Wrong). line_or_wrong r b) i.1 ∙ ap (λ (r : Result (Option Note) Wrong). line_or_wrong (Ok i.0) r) n.1,
         ap (λ t. (((codes "code" ++ (32 ∷ decimal address)) ++ (32 ∷ t)) ++ note_text names n.0) ++ 10 ∷ []) i.2
             ∙ ap (λ t. (((codes "code" ++ (32 ∷ decimal address)) ++ (32 ∷ instr_text more line.0)) ++ t) ++ 10 ∷ []) n.2,
       )
-  both_more address a b line (inl i) (inr n) = inr (ap (λ (r : Result Instr Wrong). noted r b) i.1 ∙ ap (λ (r : Result (Option Note) Wrong). noted (Ok i.0) r) n)
-  both_more address a b line (inr i) (inl n) = inr (ap (λ (r : Result Instr Wrong). noted r b) i ∙ ap (λ (r : Result (Option Note) Wrong). noted (Err wrong.Name) r) n.1)
-  both_more address a b line (inr i) (inr n) = inr (ap (λ (r : Result Instr Wrong). noted r b) i ∙ ap (λ (r : Result (Option Note) Wrong). noted (Err wrong.Name) r) n)
+  both_more address a b line (inl i) (inr n) = inr (ap (λ (r : Result Instr Wrong). line_or_wrong r b) i.1 ∙ ap (λ (r : Result (Option Note) Wrong). line_or_wrong (Ok i.0) r) n)
+  both_more address a b line (inr i) (inl n) = inr (ap (λ (r : Result Instr Wrong). line_or_wrong r b) i ∙ ap (λ (r : Result (Option Note) Wrong). line_or_wrong (Err wrong.Name) r) n.1)
+  both_more address a b line (inr i) (inr n) = inr (ap (λ (r : Result Instr Wrong). line_or_wrong r b) i ∙ ap (λ (r : Result (Option Note) Wrong). line_or_wrong (Err wrong.Name) r) n)
 
   line_more : (address : ℕ) (line : Instr × Option Note) → HasInstr more line.0 → HasNote more line.1 → Is32Bits address → IsLineWithin line
       → ReadOr (line_at names address (code_words more address line)) (code_line names address) (code_line more address line)
@@ -335,13 +335,13 @@ record Marked (front next : Front) (address : ℕ) : Type 0 where
   names : next.image.names ≡ front.image.names
   code : is_empty next.image.code ≡ false
 
-marked_at : (names : Names) (address place : ℕ) (rest : List (List ℕ)) (line : Instr × Option Note) → line_at names place (decimal address ∷ rest) ≡ Ok line → decimal address ≡ decimal place
-marked_at names address place rest line e =
-    let parts = then_ok (word_at (decimal address)) (λ n. if n == place
-    then noted (instr_at names (in_front rest)) (note_behind names (behind rest)) else Err wrong.Form) line e in
-    let here = if_ok (parts.0 == place) (noted (instr_at names (in_front rest)) (note_behind names (behind rest))) wrong.Form line parts.2 in
+marked_at : (names : Names) (address index : ℕ) (rest : List (List ℕ)) (line : Instr × Option Note) → line_at names index (decimal address ∷ rest) ≡ Ok line → decimal address ≡ decimal index
+marked_at names address index rest line e =
+    let parts = then_ok (word_at (decimal address)) (λ n. if n == index
+    then line_or_wrong (instr_at names (in_front rest)) (note_behind names (behind rest)) else Err wrong.Form) line e in
+    let here = if_ok (parts.0 == index) (line_or_wrong (instr_at names (in_front rest)) (note_behind names (behind rest))) wrong.Form line parts.2 in
     let number = number32_from parts.0 (decimal address) parts.1 in
-    number.0 ∙ ap decimal (eqb-true parts.0 place here.0)
+    number.0 ∙ ap decimal (eqb-true parts.0 index here.0)
 
 mark_taken : (front next : Front) (names : Names) (address : ℕ) → AreKnown names → take_line front (code_text names address (instr.Mark, None)) ≡ Ok next → Marked front next address
 unfolding take_line
@@ -352,13 +352,13 @@ mark_taken front next names address known e =
     let spelled = words_of_spelled text (codes "code") ws (code_spelled names address mark known tt tt) in
     let is : take_code front text ws ≡ Ok next = sym (ap (take_words front text) spelled) ∙ e in
     let fn = front.image.names in
-    let place = length front.image.code in
+    let index = length front.image.code in
     let made = make_ok (next_line front text ws) (and_line front) next is in
-    let may = if_ok (may_add_line front) (printed_line fn place text ws) wrong.Form made.0 made.1 in
-    let parts = then_ok (line_at fn place ws) (λ code. if_line (code_line fn place code) text code) made.0 may.1 in
+    let may = if_ok (may_add_line front) (printed_line fn index text ws) wrong.Form made.0 made.1 in
+    let parts = then_ok (line_at fn index ws) (λ code. if_line (code_line fn index code) text code) made.0 may.1 in
     record {
       may = may.0;
-      address_is = marked_at fn address place ((instr_word instr.Mark ∷ instr_words names instr.Mark) ++ end_words (note_part names None)) parts.0 parts.1;
+      address_is = marked_at fn address index ((instr_word instr.Mark ∷ instr_words names instr.Mark) ++ end_words (note_part names None)) parts.0 parts.1;
       names = ap (λ (f : Front). f.image.names) (sym made.2);
       code = subst (λ (f : Front). is_empty f.image.code ≡ false) made.2 (some_pushed front.image.code made.0);
     }
@@ -372,48 +372,48 @@ refuted : (front : Front) (line : List ℕ) (more : Names) (address : ℕ) (code
 unfolding take_line
 refuted front line more address code m are may here few within has_instr has_note is e =
     let fn = front.image.names in
-    let place = length front.image.code in
+    let index = length front.image.code in
     let text = code_text more address code in
     let ws = code_words more address code in
     let known = known_more fn more are m in
     let spelled = words_of_spelled text (codes "code") ws (code_spelled more address code known has_instr has_note) in
-    let step : take_line front text ≡ and_make (printed_line fn place text ws) (and_line front) =
+    let step : take_line front text ≡ and_make (printed_line fn index text ws) (and_line front) =
     ap (take_words front text) spelled
-    ∙ ap (λ (r : Result (Instr × Option Note) Wrong). and_make r (and_line front)) (chooses (may_add_line front) (printed_line fn place text ws) may) in
-    let moved : ws ≡ code_words more place code = ap (λ (d : List ℕ). d ∷ ((instr_word code.0 ∷ instr_words more code.0) ++ end_words (note_part more code.1))) here in
-    let line_moved : code_line more place code ≡ ended text = ap (λ (d : List ℕ). ended (((codes "code" ++ (32 ∷ d)) ++ (32 ∷ instr_text more code.0)) ++ note_text more code.1)) (sym here) in
+    ∙ ap (λ (r : Result (Instr × Option Note) Wrong). and_make r (and_line front)) (chooses (may_add_line front) (printed_line fn index text ws) may) in
+    let moved : ws ≡ code_words more index code = ap (λ (d : List ℕ). d ∷ ((instr_word code.0 ∷ instr_words more code.0) ++ end_words (note_part more code.1))) here in
+    let line_moved : code_line more index code ≡ line_with_feed text = ap (λ (d : List ℕ). line_with_feed (((codes "code" ++ (32 ∷ d)) ++ (32 ∷ instr_text more code.0)) ++ note_text more code.1)) (sym here) in
     let refused : take_line front text ≡ Err wrong.Form = ap (take_line front) (sym is) ∙ e in
-    elim (line_more fn more are m place code has_instr has_note few within) [
+    elim (line_more fn more are m index code has_instr has_note few within) [
       | inl read ↦
-          let printed : printed_line fn place text ws ≡ Ok read.0 =
-          ap (λ (vs : List (List ℕ)). and_then (line_at fn place vs) (λ code. if_line (code_line fn place code) text code)) moved
-          ∙ ap (λ (r : Result (Instr × Option Note) Wrong). and_then r (λ code. if_line (code_line fn place code) text code)) read.1
-          ∙ passes (code_line fn place read.0) text read.0 (read.2 ∙ line_moved) in
+          let printed : printed_line fn index text ws ≡ Ok read.0 =
+          ap (λ (vs : List (List ℕ)). and_then (line_at fn index vs) (λ code. if_line (code_line fn index code) text code)) moved
+          ∙ ap (λ (r : Result (Instr × Option Note) Wrong). and_then r (λ code. if_line (code_line fn index code) text code)) read.1
+          ∙ passes (code_line fn index read.0) text read.0 (read.2 ∙ line_moved) in
           ok_err (take_line front text) (and_line front read.0) wrong.Form (step ∙ ap (λ (r : Result (Instr × Option Note) Wrong). and_make r (and_line front)) printed) refused
       | inr unknown ↦
-          let printed : printed_line fn place text ws ≡ Err wrong.Name =
-          ap (λ (vs : List (List ℕ)). and_then (line_at fn place vs) (λ code. if_line (code_line fn place code) text code)) moved
-          ∙ ap (λ (r : Result (Instr × Option Note) Wrong). and_then r (λ code. if_line (code_line fn place code) text code)) unknown in
+          let printed : printed_line fn index text ws ≡ Err wrong.Name =
+          ap (λ (vs : List (List ℕ)). and_then (line_at fn index vs) (λ code. if_line (code_line fn index code) text code)) moved
+          ∙ ap (λ (r : Result (Instr × Option Note) Wrong). and_then r (λ code. if_line (code_line fn index code) text code)) unknown in
           err_err (take_line front text) (step ∙ ap (λ (r : Result (Instr × Option Note) Wrong). and_make r (and_line front)) printed) refused
     ]
 
 pub form_is : (before : List (List ℕ)) (front : Front) (line : List ℕ) → AllByRecursion IsLine before → take_all before ≡ Ok front → Stands front
-    → take_line front line ≡ Err wrong.Form → ¬ IsOfUnknownName (flat_map ended before) line
+    → take_line front line ≡ Err wrong.Form → ¬ IsOfUnknownName (flat_map line_with_feed before) line
 form_is before front line all taken stands e u =
     let own_names = u.image.names in
     let mark : Instr × Option Note = (instr.Mark, None) in
     let text = code_text own_names u.address mark in
     let known_own = known_names own_names u.loadable.limits.names in
     let own : IsLine text = line_of_spelled text _ _ (code_spelled own_names u.address mark known_own tt tt) in
-    let next = next_taken before front text u.behind u.image u.loadable all own taken u.place in
+    let next = next_taken before front text u.behind u.image u.loadable all own taken u.index in
     let marked = mark_taken front next.0 own_names u.address known_own next.2 in
     let fn = front.image.names in
-    let place = length front.image.code in
+    let index = length front.image.code in
     let same : own_names ≡ fn = lines_keep next.1 next.0 (whole u.image u.loadable) marked.code next.3 ∙ marked.names in
     let m : AreMore fn u.names = subst (λ (n : Names). AreMore n u.names) same u.more in
     let l = stands.loadable in
     let fits = stands.code in
     let few_lines = stands.few_lines in
-    let few : Is32Bits place = omega (arith, fits, few_lines) in
+    let few : Is32Bits index = omega (arith, fits, few_lines) in
     refuted front line u.names u.address u.code m l.limits.names marked.may marked.address_is few u.within u.has_instr u.has_note
     ((last_same line (code_text u.names u.address u.code) 10 10 (sym u.line_is)).0) e

@@ -8,7 +8,7 @@ use Rattle.rt_code.specs.declared.instr.Instr.TheVariants as instr
 use Rattle.rt_lines.specs.Answers.{and_then}
 use Rattle.rt_listing.specs.Listing.{listing}
 use Rattle.rt_load.specs.Loadable.{IsLoadable}
-use Rattle.rt_load.specs.Reading.{IsListingText, Begins, ended, IsLine, IsFirstWrong, Fault, Form, Name, IsFault, IsOfUnknownName}
+use Rattle.rt_load.specs.Reading.{IsListingText, Begins, line_with_feed, IsLine, IsFirstWrong, Fault, Form, Name, IsFault, IsOfUnknownName}
 use Rattle.rt_load.specs.Inside.Progress.{HasRead, IsCut}
 use Rattle.rt_load.specs.Inside.Taking.{front_of, take_first, take_line, take_lines, take_all, is_complete, has_cells}
 use Rattle.rt_load.specs.declared.front.Front.{Front}
@@ -28,12 +28,12 @@ use Rattle.rt_load.proofs.Unknown.{form_is}
 use Rattle.rt_load.proofs.Named.{name_is}
 
 not_begins : (before : List (List ℕ)) (front : Front) (line : List ℕ) (w : Wrong) → AllByRecursion IsLine before → IsLine line
-    → take_all before ≡ Ok front → take_line front line ≡ Err w → ¬ Begins (flat_map ended before ++ ended line)
+    → take_all before ≡ Ok front → take_line front line ≡ Err w → ¬ Begins (flat_map line_with_feed before ++ line_with_feed line)
 not_begins before front line w all own taken e b =
     let next = next_taken before front line b.behind b.image b.loadable all own taken b.is in
     ok_err (take_line front line) next.0 w next.2 e
 
-first_not_begins : (line : List ℕ) (w : Wrong) → IsLine line → take_first line ≡ Err w → ¬ Begins ([] ++ ended line)
+first_not_begins : (line : List ℕ) (w : Wrong) → IsLine line → take_first line ≡ Err w → ¬ Begins ([] ++ line_with_feed line)
 first_not_begins line w own e b =
     let more = lines_behind [] line b.behind b.image b.loadable tt own b.is in
     let goes : and_then (take_first line) (λ f. take_lines f more.0) ≡ Ok (whole b.image b.loadable) = ap take_all (sym more.1) ∙ listing_taken b.image b.loadable in
@@ -45,7 +45,7 @@ whole_is_complete img l =
     and_both (has_cells (whole img l)) (length img.code == length img.code) (eq-eqb (length img.cells) (length img.cells) refl) (eq-eqb (length img.code) (length img.code) refl)
 
 not_listing : (before : List (List ℕ)) (front : Front) (line : List ℕ) → AllByRecursion IsLine before → IsLine line → take_all before ≡ Ok front
-    → (line ≡ [] → is_complete front ≡ false) → ¬ ((img : Image) × IsLoadable img × (listing img ≡ flat_map ended before ++ line))
+    → (line ≡ [] → is_complete front ≡ false) → ¬ ((img : Image) × IsLoadable img × (listing img ≡ flat_map line_with_feed before ++ line))
 not_listing before front line all own taken incomplete (img, l, is) =
     let ends = lines_end before line (listing_lines img l) all own (are_lines img l) (sym is ∙ listing_is img l) in
     let same : front ≡ whole img l = same_ok (take_all before) front (whole img l) taken (ap take_all ends.1 ∙ listing_taken img l) in
@@ -78,7 +78,7 @@ first_is_no_code line u =
     let names = u.image.names in
     let mark = code_text names u.address (instr.Mark, None) in
     let own : IsLine mark = line_of_spelled mark _ _ (code_spelled names u.address (instr.Mark, None) (known_names names u.loadable.limits.names) tt tt) in
-    let more = lines_behind [] mark u.behind u.image u.loadable tt own u.place in
+    let more = lines_behind [] mark u.behind u.image u.loadable tt own u.index in
     let same : first_text u.image (length u.image.code) (length u.image.cells) ≡ mark = ap (λ (ls : List (List ℕ)). get_or ls 0 []) more.1 in
     let bytes : 105 ≡ 99 = sym (first_byte u.image (length u.image.code) (length u.image.cells)) ∙ ap (λ t. get_or t 0 0) same in
     absurd (omega (arith, bytes))
@@ -93,7 +93,7 @@ module _ (text : List ℕ) (short : length text ≤ IMAGE_BYTES) where
         loadable = let s = left.stands in s.loadable;
         is =
             whole_text front (eqb-true (length front.image.cells) front.cells both.0) (eqb-true (length front.image.code) front.code both.1)
-            ∙ append-nil (front_text front) ∙ left.text_is ∙ sym (has.is ∙ append-nil (flat_map ended has.before));
+            ∙ append-nil (front_text front) ∙ left.text_is ∙ sym (has.is ∙ append-nil (flat_map line_with_feed has.before));
       }
 
   pub ends_wrong : (rest : List ℕ) (number : ℕ) (front : Front) → HasRead text rest number front → IsLine rest → (rest ≡ [] → is_complete front ≡ false)
@@ -105,11 +105,11 @@ module _ (text : List ℕ) (short : length text ≤ IMAGE_BYTES) where
         before = has.before;
         line = rest;
         behind = [];
-        is = has.is ∙ sym (append-nil (flat_map ended has.before ++ rest));
+        is = has.is ∙ sym (append-nil (flat_map line_with_feed has.before ++ rest));
         are_lines = has.are_lines;
         is_line = own;
         number_is = has.number_is;
-        begins = begins front (flat_map ended has.before) left.stands left.text_is;
+        begins = begins front (flat_map line_with_feed has.before) left.stands left.text_is;
         wrong = (refl, not_listing has.before front rest has.are_lines own has.taken incomplete);
       }
 
@@ -117,7 +117,7 @@ module _ (text : List ℕ) (short : length text ≤ IMAGE_BYTES) where
   at_line f line behind = simp append_assoc
 
   line_wrong : (rest line behind : List ℕ) (number : ℕ) (front : Front) (w : Wrong) (fault : Fault) → HasRead text rest number front → IsCut rest line behind
-      → take_line front line ≡ Err w → ((before : List (List ℕ)) → AllByRecursion IsLine before → take_all before ≡ Ok front → IsFault (flat_map ended before) line fault)
+      → take_line front line ≡ Err w → ((before : List (List ℕ)) → AllByRecursion IsLine before → take_all before ≡ Ok front → IsFault (flat_map line_with_feed before) line fault)
       → IsFirstWrong text number fault
   line_wrong rest line behind number front w fault has cut e cause =
       let left = all_leave has.before front has.taken in
@@ -126,11 +126,11 @@ module _ (text : List ℕ) (short : length text ≤ IMAGE_BYTES) where
         before = has.before;
         line = line;
         behind = 10 ∷ behind;
-        is = has.is ∙ ap (λ t. flat_map ended has.before ++ t) cut.is ∙ at_line (flat_map ended has.before) line behind;
+        is = has.is ∙ ap (λ t. flat_map line_with_feed has.before ++ t) cut.is ∙ at_line (flat_map line_with_feed has.before) line behind;
         are_lines = has.are_lines;
         is_line = cut.own;
         number_is = has.number_is;
-        begins = begins front (flat_map ended has.before) left.stands left.text_is;
+        begins = begins front (flat_map line_with_feed has.before) left.stands left.text_is;
         wrong = (refl, not_begins has.before front line w has.are_lines cut.own has.taken e, cause has.before has.are_lines has.taken);
       }
 
@@ -180,7 +180,7 @@ module _ (text : List ℕ) (short : length text ≤ IMAGE_BYTES) where
       let shorter = cut.shorter in
       record {
         before = line ∷ [];
-        is = cut.is ∙ ap (λ t. t ++ behind) (sym (append-nil (ended line)));
+        is = cut.is ∙ ap (λ t. t ++ behind) (sym (append-nil (line_with_feed line)));
         are_lines = (cut.own, tt);
         number_is = refl;
         taken = ap (λ (r : Result Front Wrong). and_then r (λ f. take_lines f [])) e;
@@ -191,12 +191,12 @@ module _ (text : List ℕ) (short : length text ≤ IMAGE_BYTES) where
   all_lines_more [] line all own = (own, tt)
   all_lines_more (l ∷ ls) line all own = (all.0, all_lines_more ls line all.1 own)
 
-  flat_lines_more : (ls : List (List ℕ)) (line behind : List ℕ) → flat_map ended ls ++ (ended line ++ behind) ≡ flat_map ended (ls ++ line ∷ []) ++ behind
-  flat_lines_more [] line behind = ap (λ t. t ++ behind) (sym (append-nil (ended line)))
+  flat_lines_more : (ls : List (List ℕ)) (line behind : List ℕ) → flat_map line_with_feed ls ++ (line_with_feed line ++ behind) ≡ flat_map line_with_feed (ls ++ line ∷ []) ++ behind
+  flat_lines_more [] line behind = ap (λ t. t ++ behind) (sym (append-nil (line_with_feed line)))
   flat_lines_more (l ∷ ls) line behind =
-      append_assoc (ended l) (flat_map ended ls) (ended line ++ behind)
-      ∙ ap (λ t. ended l ++ t) (flat_lines_more ls line behind)
-      ∙ sym (append_assoc (ended l) (flat_map ended (ls ++ line ∷ [])) behind)
+      append_assoc (line_with_feed l) (flat_map line_with_feed ls) (line_with_feed line ++ behind)
+      ∙ ap (λ t. line_with_feed l ++ t) (flat_lines_more ls line behind)
+      ∙ sym (append_assoc (line_with_feed l) (flat_map line_with_feed (ls ++ line ∷ [])) behind)
 
   pub read_more : (rest line behind : List ℕ) (number : ℕ) (front next : Front) → HasRead text rest number front → IsCut rest line behind
       → take_line front line ≡ Ok next → HasRead text behind (number + 1) next
@@ -206,7 +206,7 @@ module _ (text : List ℕ) (short : length text ≤ IMAGE_BYTES) where
       let count = has.number_is in
       record {
         before = has.before ++ line ∷ [];
-        is = has.is ∙ ap (λ t. flat_map ended has.before ++ t) cut.is ∙ flat_lines_more has.before line behind;
+        is = has.is ∙ ap (λ t. flat_map line_with_feed has.before ++ t) cut.is ∙ flat_lines_more has.before line behind;
         are_lines = all_lines_more has.before line has.are_lines cut.own;
         number_is = omega (arith, count, length-append has.before (line ∷ []));
         taken = all_append_taken has.before (line ∷ []) front has.taken ∙ ap (λ (r : Result Front Wrong). and_then r (λ f. take_lines f [])) e;

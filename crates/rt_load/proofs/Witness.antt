@@ -8,7 +8,7 @@ use Rattle.rt_code.specs.Image.{Image}
 use Rattle.rt_code.specs.declared.instr.Instr.{Instr}
 use Rattle.rt_code.specs.declared.instr.Instr.TheVariants as instr
 use Rattle.rt_code.specs.declared.instr.Note.{Note}
-use Rattle.rt_listing.specs.Listing.{first_line, numbered, cell_line, irq_line, body_line, code_line, listing}
+use Rattle.rt_listing.specs.Listing.{first_line, lines_with_numbers, cell_line, irq_line, body_line, code_line, listing}
 use Rattle.rt_load.specs.Loadable.{IsLoadable}
 use Rattle.rt_load.specs.Reading.{Begins}
 use Rattle.rt_load.specs.Inside.Taking.{may_add_cell, may_name_cell, is_in_cells, has_cells, and_cell, and_line}
@@ -30,8 +30,8 @@ behind_goes front next line behind text goes is = is ∙ ap (λ t. t ++ behind) 
 pub whole_text : (front : Front) → length front.image.cells ≡ front.cells → length front.image.code ≡ front.code → listing front.image ≡ front_text front ++ []
 whole_text front cells code =
     let img = front.image in
-    ap (λ (n : ℕ). (((first_line img n (length img.cells) ++ numbered cell_line 0 img.cells) ++ flat_map irq_line img.irqs) ++ flat_map (body_line img.names) img.bodies) ++ numbered (code_line img.names) 0 img.code) code
-    ∙ ap (λ (n : ℕ). (((first_line img front.code n ++ numbered cell_line 0 img.cells) ++ flat_map irq_line img.irqs) ++ flat_map (body_line img.names) img.bodies) ++ numbered (code_line img.names) 0 img.code) cells
+    ap (λ (n : ℕ). (((first_line img n (length img.cells) ++ lines_with_numbers cell_line 0 img.cells) ++ flat_map irq_line img.irqs) ++ flat_map (body_line img.names) img.bodies) ++ lines_with_numbers (code_line img.names) 0 img.code) code
+    ∙ ap (λ (n : ℕ). (((first_line img front.code n ++ lines_with_numbers cell_line 0 img.cells) ++ flat_map irq_line img.irqs) ++ flat_map (body_line img.names) img.bodies) ++ lines_with_numbers (code_line img.names) 0 img.code) cells
     ∙ sym (append-nil (front_text front))
 
 pub mark_goes : (front : Front) → Stands front → length front.image.cells ≡ front.cells → length front.image.code < front.code

@@ -31,8 +31,8 @@ pub record Begins (front : List ℕ) : Type 0 where
   pub is : listing image ≡ front ++ behind
 
 -- a line with the line feed that ends it
-abbrev pub ended : List ℕ → List ℕ
-ended line = line ++ 10 ∷ []
+abbrev pub line_with_feed : List ℕ → List ℕ
+line_with_feed line = line ++ 10 ∷ []
 
 -- bytes without a line feed, as one line
 abbrev pub IsLine : List ℕ → Type 0
@@ -62,14 +62,14 @@ pub record IsOfUnknownName (front line : List ℕ) : Type 0 where
   pub address : ℕ
   pub behind : List ℕ
   -- some listing goes on with a `mark` at this address, where any other instruction could stand
-  pub place : listing image ≡ front ++ code_line image.names address (instr.Mark, None) ++ behind
+  pub index : listing image ≡ front ++ code_line image.names address (instr.Mark, None) ++ behind
   pub names : Names
   pub more : AreMore image.names names
   pub code : Instr × Option Note
   pub within : IsLineWithin code
   pub has_instr : HasInstr names code.0
   pub has_note : HasNote names code.1
-  pub line_is : code_line names address code ≡ ended line
+  pub line_is : code_line names address code ≡ line_with_feed line
 
 -- what is wrong with a line
 pub data Fault : Type 0 where
@@ -86,7 +86,7 @@ IsFault front line Form = ¬ IsOfUnknownName front line
 -- or is missing, and the bytes are no listing; else the line goes on no listing.
 abbrev pub IsWrong : List ℕ → List ℕ → List ℕ → Fault → Type 0
 IsWrong front line [] fault = (fault ≡ Form) × (¬ ((img : Image) × IsLoadable img × (listing img ≡ front ++ line)))
-IsWrong front line (b ∷ behind) fault = (b ≡ 10) × (¬ Begins (front ++ ended line)) × IsFault front line fault
+IsWrong front line (b ∷ behind) fault = (b ≡ 10) × (¬ Begins (front ++ line_with_feed line)) × IsFault front line fault
 
 -- the first wrong line of these bytes has this number, from 1, and this fault
 pub record IsFirstWrong (text : List ℕ) (number : ℕ) (fault : Fault) : Type 0 where
@@ -94,12 +94,12 @@ pub record IsFirstWrong (text : List ℕ) (number : ℕ) (fault : Fault) : Type 
   pub before : List (List ℕ)
   pub line : List ℕ
   pub behind : List ℕ
-  pub is : text ≡ flat_map ended before ++ line ++ behind
+  pub is : text ≡ flat_map line_with_feed before ++ line ++ behind
   pub are_lines : AllByRecursion IsLine before
   pub is_line : IsLine line
   pub number_is : number ≡ suc (length before)
-  pub begins : Begins (flat_map ended before)
-  pub wrong : IsWrong (flat_map ended before) line behind fault
+  pub begins : Begins (flat_map line_with_feed before)
+  pub wrong : IsWrong (flat_map line_with_feed before) line behind fault
 
 -- the refusal of bytes; want of memory has no cause in them
 abbrev pub IsRefused : List ℕ → LoadRefused → Type 0

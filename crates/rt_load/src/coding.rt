@@ -41,7 +41,7 @@ fn instr_word(instr: Instr) -> &'static [u8]
 }
 
 /// The one of these that has this first word.
-fn named(instrs: &[Instr], word: &[u8]) -> Option<Instr>
+fn instr_named(instrs: &[Instr], word: &[u8]) -> Option<Instr>
     ensures { result ≡ find (λ i. bytes_eq (spec.instr_word i) word.now) instrs.now }
 {
     for instr in instrs {
@@ -75,7 +75,7 @@ fn bare(word: &[u8]) -> Result<Instr, Wrong>
         Instr::Back,
         Instr::Ret,
     ];
-    named(&instrs, word).ok_or(Wrong::Form)
+    instr_named(&instrs, word).ok_or(Wrong::Form)
 }
 
 /// The instruction of a first word, an operand and the words behind it.
@@ -127,7 +127,7 @@ fn of_one(word: &[u8], a: u32) -> Result<Instr, Wrong>
         Instr::Mask(a),
         Instr::Unmask(a),
     ];
-    named(&instrs, word).ok_or(Wrong::Form)
+    instr_named(&instrs, word).ok_or(Wrong::Form)
 }
 
 /// An instruction of two operands.
@@ -155,7 +155,7 @@ fn of_two(word: &[u8], a: u32, b: u32) -> Result<Instr, Wrong>
         Instr::Raise(a, b),
         Instr::Call(a, b),
     ];
-    named(&instrs, word).ok_or(Wrong::Form)
+    instr_named(&instrs, word).ok_or(Wrong::Form)
 }
 
 /// An instruction of three operands.
@@ -191,5 +191,5 @@ fn of_three(word: &[u8], a: u32, b: u32, c: u32) -> Result<Instr, Wrong>
         Instr::Calc(Op::Gt, a, b, c),
         Instr::Calc(Op::Ge, a, b, c),
     ];
-    named(&instrs, word).ok_or(Wrong::Form)
+    instr_named(&instrs, word).ok_or(Wrong::Form)
 }

@@ -31,7 +31,7 @@ fn note_word(note: Note) -> &'static [u8]
 }
 
 /// The one of these that has this first word.
-fn named(notes: &[Note], word: &[u8]) -> Option<Note>
+fn note_named(notes: &[Note], word: &[u8]) -> Option<Note>
     ensures { result ≡ find (λ n. bytes_eq (spec.note_word n) word.now) notes.now }
 {
     for note in notes {
@@ -53,7 +53,7 @@ fn of_task(word: &[u8], task: TaskId) -> Result<Note, Wrong>
         Note::Free(task),
         Note::Fire(task),
     ];
-    named(&notes, word).ok_or(Wrong::Form)
+    note_named(&notes, word).ok_or(Wrong::Form)
 }
 
 /// A note that names a task and a slot.
@@ -65,7 +65,7 @@ fn of_slot(word: &[u8], task: TaskId, slot: u32) -> Result<Note, Wrong>
         Note::Arm(task, slot),
         Note::Cancel(task, slot),
     ];
-    named(&notes, word).ok_or(Wrong::Form)
+    note_named(&notes, word).ok_or(Wrong::Form)
 }
 
 /// Whether it is the word of a note that names a task alone.
@@ -188,8 +188,11 @@ fn note_behind(names: &Names, words: Option<&[u8]>) -> Result<Option<Note>, Wron
 }
 
 /// A line of what its instruction and its note are. That a name is unknown is said only where nothing else is wrong.
-fn noted(instr: Result<Instr, Wrong>, note: Result<Option<Note>, Wrong>) -> Result<Line, Wrong>
-    ensures { result ≡ spec.noted instr note }
+fn line_or_wrong(
+    instr: Result<Instr, Wrong>,
+    note: Result<Option<Note>, Wrong>,
+) -> Result<Line, Wrong>
+    ensures { result ≡ spec.line_or_wrong instr note }
 {
     match (instr, note) {
         (Ok(instr), Ok(note)) => Ok((instr, note)),
@@ -206,7 +209,7 @@ pub fn read_line(names: &Names, address: usize, words: Option<&[u8]>) -> Result<
 {
     let (number, words) = next_word(words).ok_or(Wrong::Form)?;
     if read_number(number)? as usize == address {
-        noted(read_instr(names, words), note_behind(names, words))
+        line_or_wrong(read_instr(names, words), note_behind(names, words))
     } else {
         Err(Wrong::Form)
     }

@@ -1,7 +1,7 @@
 ghost use Rattle.std.specs.Prelude.{◌≡◌, ◌≢◌, Ok, Err, IfOk, IfErr, bytes_eq};
 ghost use Rattle.rt_lines.specs.Parts.{words_of};
 ghost use Rattle.rt_listing.specs.Listing as text;
-ghost use Rattle.rt_load.specs.Reading.{ended};
+ghost use Rattle.rt_load.specs.Reading.{line_with_feed};
 ghost use Rattle.rt_load.specs.Inside.Taking.{printed_line};
 
 use crate::noting::read_line;
@@ -13,7 +13,7 @@ use std::alloc::Global;
 
 /// Whether printed bytes are a line with its line feed.
 fn is_line(printed: &[u8], line: &[u8]) -> bool
-    ensures { result ≡ bytes_eq printed.now (ended line.now) }
+    ensures { result ≡ bytes_eq printed.now (line_with_feed line.now) }
 {
     match printed.split_last() {
         Some((last, text)) => *last == b'\n' && text == line,
@@ -29,7 +29,7 @@ pub fn is_first_line(
     cells: u32,
     line: &[u8],
 ) -> Result<bool, NoMemory>
-    ensures { IfOk result (λ is. is ≡ bytes_eq (text.first_line image.now code cells) (ended line.now)) }
+    ensures { IfOk result (λ is. is ≡ bytes_eq (text.first_line image.now code cells) (line_with_feed line.now)) }
 {
     let mut printed = Vec::new(alloc);
     push_first_line(&mut printed, image, code as usize, cells as usize)?;
@@ -43,7 +43,7 @@ pub fn is_cell_line(
     cell: &CellRow,
     line: &[u8],
 ) -> Result<bool, NoMemory>
-    ensures { IfOk result (λ is. is ≡ bytes_eq (text.cell_line number cell.now) (ended line.now)) }
+    ensures { IfOk result (λ is. is ≡ bytes_eq (text.cell_line number cell.now) (line_with_feed line.now)) }
 {
     let mut printed = Vec::new(alloc);
     push_cell(&mut printed, number, cell)?;
@@ -52,7 +52,7 @@ pub fn is_cell_line(
 
 /// Whether it is the line of an interrupt.
 pub fn is_irq_line(alloc: Global, row: &IrqRow, line: &[u8]) -> Result<bool, NoMemory>
-    ensures { IfOk result (λ is. is ≡ bytes_eq (text.irq_line row.now) (ended line.now)) }
+    ensures { IfOk result (λ is. is ≡ bytes_eq (text.irq_line row.now) (line_with_feed line.now)) }
 {
     let mut printed = Vec::new(alloc);
     push_irq(&mut printed, row)?;
@@ -66,7 +66,7 @@ pub fn is_body_line(
     row: &BodyRow,
     line: &[u8],
 ) -> Result<bool, NoMemory>
-    ensures { IfOk result (λ is. is ≡ bytes_eq (text.body_line names.now row.now) (ended line.now)) }
+    ensures { IfOk result (λ is. is ≡ bytes_eq (text.body_line names.now row.now) (line_with_feed line.now)) }
 {
     let mut printed = Vec::new(alloc);
     push_body(&mut printed, *row, names)?;
@@ -81,7 +81,7 @@ fn is_code_line(
     code: &Line,
     line: &[u8],
 ) -> Result<bool, NoMemory>
-    ensures { IfOk result (λ is. is ≡ bytes_eq (text.code_line names.now address code.now) (ended line.now)) }
+    ensures { IfOk result (λ is. is ≡ bytes_eq (text.code_line names.now address code.now) (line_with_feed line.now)) }
 {
     let mut printed = Vec::new(alloc);
     push_line(&mut printed, address, *code, names)?;

@@ -5,7 +5,7 @@ use Rattle.std.proofs.lemmas.Bool.{cases_lt, false≢true}
 use Rattle.std.proofs.lemmas.List.{length-drop, get_or_past}
 use Rattle.rt_ids.specs.declared.limits.TheConstants.{IRQ_NUMBERS, THREAD_VALUE}
 use Rattle.rt_nvic.specs.declared.sizes.TheConstants.{ACTIVE}
-use Rattle.rt_nvic.specs.Nvic.{Nvic, IsSized, IsReady, running, value_of_first}
+use Rattle.rt_nvic.specs.Nvic.{Nvic, IsSized, IsReady, value_of_running, value_of_first}
 use Rattle.rt_nvic.specs.Inside.Bits.{flags}
 use Rattle.rt_nvic.specs.Inside.Fields.{IsFixed}
 use Rattle.rt_nvic.proofs.Flags.{length-flags}
@@ -21,7 +21,7 @@ sized priorities pending active top is =
     let e = length-drop top active in record { priorities = is.priorities_long; pending = length-flags pending; active = omega arith }
 
 -- where no handler runs
-pub none_runs : (priorities : List (Option ℕ)) (pending active : List ℕ) (top : ℕ) → IsFixed priorities pending active top → top ≡ ACTIVE → THREAD_VALUE ≡ running (shown priorities pending active top)
+pub none_runs : (priorities : List (Option ℕ)) (pending active : List ℕ) (top : ℕ) → IsFixed priorities pending active top → top ≡ ACTIVE → THREAD_VALUE ≡ value_of_running (shown priorities pending active top)
 none_runs priorities pending active top is e =
     let l = is.active_long in
     let low : length active ≤ top = omega arith in

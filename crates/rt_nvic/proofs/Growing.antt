@@ -4,7 +4,7 @@ use Rattle.rt_ids.specs.declared.limits.TheConstants.{THREAD_VALUE}
 use Rattle.rt_nvic.specs.declared.best.Best.{Best}
 use Rattle.rt_nvic.specs.declared.sizes.TheConstants.{NONE_READY}
 use Rattle.rt_nvic.specs.Nvic.{Nvic, value_of, is_pending, priority_of, IsReady}
-use Rattle.rt_nvic.specs.Inside.First.{shown, limit_of, is_before}
+use Rattle.rt_nvic.specs.Inside.First.{controller_of, limit_of, is_before}
 use Rattle.rt_nvic.specs.Inside.Best.{IsBestBelow, with}
 use Rattle.rt_nvic.proofs.Precedence.{IsChoice}
 use Rattle.rt_nvic.proofs.Taking.{chosen_from, choice_from}
@@ -27,16 +27,16 @@ same_limit n limit None = refl
 same_limit n limit (Some i) = refl
 
 -- values do not rest on what is pending
-limit_alike : (priorities : List (Option ℕ)) (p q : List Bool) (limit : ℕ) (o : Option ℕ) → limit_of (shown priorities p) limit o ≡ limit_of (shown priorities q) limit o
+limit_alike : (priorities : List (Option ℕ)) (p q : List Bool) (limit : ℕ) (o : Option ℕ) → limit_of (controller_of priorities p) limit o ≡ limit_of (controller_of priorities q) limit o
 limit_alike priorities p q limit None = refl
 limit_alike priorities p q limit (Some i) = refl
 
 -- the same numbers are ready
-pub best_alike : (priorities : List (Option ℕ)) (p q : List Bool) (count more : ℕ) (kept : Best) → ((j : ℕ) → ReadyBelow (shown priorities p) count j → ReadyBelow (shown priorities q) more j)
-    → ((j : ℕ) → ReadyBelow (shown priorities q) more j → ReadyBelow (shown priorities p) count j) → IsBestBelow (shown priorities p) count kept → IsBestBelow (shown priorities q) more kept
+pub best_alike : (priorities : List (Option ℕ)) (p q : List Bool) (count more : ℕ) (kept : Best) → ((j : ℕ) → ReadyBelow (controller_of priorities p) count j → ReadyBelow (controller_of priorities q) more j)
+    → ((j : ℕ) → ReadyBelow (controller_of priorities q) more j → ReadyBelow (controller_of priorities p) count j) → IsBestBelow (controller_of priorities p) count kept → IsBestBelow (controller_of priorities q) more kept
 best_alike priorities p q count more kept to from is =
-    let n = shown priorities p in
-    let m = shown priorities q in
+    let n = controller_of priorities p in
+    let m = controller_of priorities q in
     record {
       irq = chosen_from m NONE_READY more kept.irq
           (choice_of_least m more kept.irq (least_alike (value_of n) (ReadyBelow n count) (ReadyBelow m more) kept.irq to from (least_from n count kept.irq (choice_from n NONE_READY count kept.irq is.irq))));
@@ -49,12 +49,12 @@ best_some_by m more x value kept true e at is = record { irq = chosen_from m NON
 best_some_by m more x value kept false e at is = record { irq = chosen_from m NONE_READY more kept.irq is; value = at }
 
 -- one number more is ready
-best_some : (priorities : List (Option ℕ)) (p q : List Bool) (count more x value : ℕ) (kept : Best) → ((j : ℕ) → ReadyBelow (shown priorities p) count j → ReadyBelow (shown priorities q) more j)
-    → ((j : ℕ) → j ≢ x → ReadyBelow (shown priorities q) more j → ReadyBelow (shown priorities p) count j) → x < more → is_pending (shown priorities q) x ≡ true
-    → priority_of (shown priorities q) x ≡ Some value → value < NONE_READY → IsBestBelow (shown priorities p) count kept → IsBestBelow (shown priorities q) more (with kept x (Some value))
+best_some : (priorities : List (Option ℕ)) (p q : List Bool) (count more x value : ℕ) (kept : Best) → ((j : ℕ) → ReadyBelow (controller_of priorities p) count j → ReadyBelow (controller_of priorities q) more j)
+    → ((j : ℕ) → j ≢ x → ReadyBelow (controller_of priorities q) more j → ReadyBelow (controller_of priorities p) count j) → x < more → is_pending (controller_of priorities q) x ≡ true
+    → priority_of (controller_of priorities q) x ≡ Some value → value < NONE_READY → IsBestBelow (controller_of priorities p) count kept → IsBestBelow (controller_of priorities q) more (with kept x (Some value))
 best_some priorities p q count more x value kept to from low pends e h is =
-    let n = shown priorities p in
-    let m = shown priorities q in
+    let n = controller_of priorities p in
+    let m = controller_of priorities q in
     let same : value_of m x ≡ value = ap (λ (p : Option ℕ). unwrap_or p THREAD_VALUE) e in
     let ready : IsReady m NONE_READY x = record { pending = pends; enabled = ap is_some e; higher = omega arith } in
     let least = least_with (value_of n) (ReadyBelow n count) (ReadyBelow m more) x NONE_READY kept.irq to from (low, ready) (omega arith) (least_from n count kept.irq (choice_from n NONE_READY count kept.irq is.irq)) in
@@ -67,16 +67,16 @@ best_some priorities p q count more x value kept to from low pends e h is =
 not_enabled : (n : Nvic) (x j : ℕ) → priority_of n x ≡ None → IsReady n NONE_READY j → j ≢ x
 not_enabled n x j e r same = let enabled = r.enabled in let o : priority_of n j ≡ None = ap (priority_of n) same ∙ e in cc
 
-best_more_by : (priorities : List (Option ℕ)) (p q : List Bool) (count more x : ℕ) (kept : Best) (o : Option ℕ) → ((j : ℕ) → ReadyBelow (shown priorities p) count j → ReadyBelow (shown priorities q) more j)
-    → ((j : ℕ) → j ≢ x → ReadyBelow (shown priorities q) more j → ReadyBelow (shown priorities p) count j) → x < more → is_pending (shown priorities q) x ≡ true
-    → priority_of (shown priorities q) x ≡ o → ((value : ℕ) → o ≡ Some value → value < NONE_READY) → IsBestBelow (shown priorities p) count kept → IsBestBelow (shown priorities q) more (with kept x o)
+best_more_by : (priorities : List (Option ℕ)) (p q : List Bool) (count more x : ℕ) (kept : Best) (o : Option ℕ) → ((j : ℕ) → ReadyBelow (controller_of priorities p) count j → ReadyBelow (controller_of priorities q) more j)
+    → ((j : ℕ) → j ≢ x → ReadyBelow (controller_of priorities q) more j → ReadyBelow (controller_of priorities p) count j) → x < more → is_pending (controller_of priorities q) x ≡ true
+    → priority_of (controller_of priorities q) x ≡ o → ((value : ℕ) → o ≡ Some value → value < NONE_READY) → IsBestBelow (controller_of priorities p) count kept → IsBestBelow (controller_of priorities q) more (with kept x o)
 best_more_by priorities p q count more x kept None to from low pends e h is =
-    best_alike priorities p q count more kept to (λ j t. from j (not_enabled (shown priorities q) x j e t.1) t) is
+    best_alike priorities p q count more kept to (λ j t. from j (not_enabled (controller_of priorities q) x j e t.1) t) is
 best_more_by priorities p q count more x kept (Some value) to from low pends e h is = best_some priorities p q count more x value kept to from low pends e (h value refl) is
 
 -- one number more is pending
-pub best_more : (priorities : List (Option ℕ)) (p q : List Bool) (count more x : ℕ) (kept : Best) → ((j : ℕ) → ReadyBelow (shown priorities p) count j → ReadyBelow (shown priorities q) more j)
-    → ((j : ℕ) → j ≢ x → ReadyBelow (shown priorities q) more j → ReadyBelow (shown priorities p) count j) → x < more → is_pending (shown priorities q) x ≡ true
-    → ((value : ℕ) → get_or priorities x None ≡ Some value → value < NONE_READY) → IsBestBelow (shown priorities p) count kept
-    → IsBestBelow (shown priorities q) more (with kept x (get_or priorities x None))
+pub best_more : (priorities : List (Option ℕ)) (p q : List Bool) (count more x : ℕ) (kept : Best) → ((j : ℕ) → ReadyBelow (controller_of priorities p) count j → ReadyBelow (controller_of priorities q) more j)
+    → ((j : ℕ) → j ≢ x → ReadyBelow (controller_of priorities q) more j → ReadyBelow (controller_of priorities p) count j) → x < more → is_pending (controller_of priorities q) x ≡ true
+    → ((value : ℕ) → get_or priorities x None ≡ Some value → value < NONE_READY) → IsBestBelow (controller_of priorities p) count kept
+    → IsBestBelow (controller_of priorities q) more (with kept x (get_or priorities x None))
 best_more priorities p q count more x kept to from low pends h is = best_more_by priorities p q count more x kept (get_or priorities x None) to from low pends refl h is

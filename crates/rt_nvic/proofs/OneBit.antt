@@ -13,9 +13,9 @@ here words i n number e l =
 elsewhere_by : (words : List ℕ) (i n number other : ℕ) → Dec (other / 32 ≡ i) → i ≡ number / 32 → number / 32 < length words → other ≢ number
     → ((j : ℕ) → j < 32 → j ≢ number % 32 → bit_at n j ≡ bit_at (get_or words i 0) j) → bit_of (set words i n) other ≡ bit_of words other
 elsewhere_by words i n number other (yes same) e l ne keeps =
-    let place : other % 32 ≢ number % 32 = omega arith in
+    let index : other % 32 ≢ number % 32 = omega arith in
     let low : other % 32 < 32 = omega arith in
-    here words i n other (sym same) (omega arith) ∙ keeps (other % 32) low place ∙ ap (λ (k : ℕ). bit_at (get_or words k 0) (other % 32)) (sym same)
+    here words i n other (sym same) (omega arith) ∙ keeps (other % 32) low index ∙ ap (λ (k : ℕ). bit_at (get_or words k 0) (other % 32)) (sym same)
 elsewhere_by words i n number other (no differs) e l ne keeps = ap (λ (w : ℕ). bit_at w (other % 32)) (get_or-set_other words i (other / 32) n 0 differs)
 
 elsewhere : (words : List ℕ) (i n number other : ℕ) → i ≡ number / 32 → number / 32 < length words → other ≢ number

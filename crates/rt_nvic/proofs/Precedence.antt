@@ -3,7 +3,7 @@ use Rattle.std.proofs.Common.{◌≡◌, ℕ, zero, suc, ◌<◌, ◌≤◌, inl
 use Rattle.std.proofs.lemmas.Bool.{cases_lt, false≢true}
 use Rattle.rt_lemmas.proofs.Numbers.{below_suc}
 use Rattle.rt_ids.specs.declared.limits.TheConstants.{IRQ_NUMBERS}
-use Rattle.rt_nvic.specs.Nvic.{Nvic, IsSized, value_of, is_ready, picked, IsReady, Precedes}
+use Rattle.rt_nvic.specs.Nvic.{Nvic, IsSized, value_of, is_ready, picked_irq, IsReady, Precedes}
 use Rattle.rt_ids.specs.Lists.{numbers_below}
 use Rattle.rt_nvic.specs.Inside.First.{limit_of}
 use Rattle.rt_nvic.proofs.Choosing.{chosen, chosen_more, ready_from_test, test_from_ready}
@@ -61,7 +61,7 @@ pick_by : (n : Nvic) (exec : ℕ) (o : Option ℕ) → IsSized n → IsChoice n 
 pick_by n exec None sized is = record { ready = tt; first = tt; none = λ irq r. is irq (number_of_ready n exec irq sized r) r }
 pick_by n exec (Some irq) sized is = record { ready = is.1; first = λ other r. is.2 other (number_of_ready n exec other sized r) r; none = tt }
 
-pub pick : (n : Nvic) (exec : ℕ) (o : Option ℕ) → IsSized n → o ≡ picked n exec → IsPick n exec o
+pub pick : (n : Nvic) (exec : ℕ) (o : Option ℕ) → IsSized n → o ≡ picked_irq n exec → IsPick n exec o
 pick n exec o sized e =
     let P : Option ℕ → Type 0 = λ o. IsPick n exec o in
-    subst P (sym e) (pick_by n exec (picked n exec) sized (choice n exec IRQ_NUMBERS))
+    subst P (sym e) (pick_by n exec (picked_irq n exec) sized (choice n exec IRQ_NUMBERS))

@@ -10,7 +10,7 @@ use Rattle.rt_lemmas.proofs.Bools.{and_left, and_both}
 use Rattle.rt_nvic.specs.declared.best.Best.{Best}
 use Rattle.rt_nvic.specs.declared.sizes.TheConstants.{NONE_READY, ACTIVE}
 use Rattle.rt_nvic.specs.Nvic.{Nvic, IsReady}
-use Rattle.rt_nvic.specs.Inside.First.{shown}
+use Rattle.rt_nvic.specs.Inside.First.{controller_of}
 use Rattle.rt_nvic.specs.Inside.Bits.{flags, AreNumbers, AreReady}
 use Rattle.rt_nvic.specs.Inside.Best.{IsBest, IsBestBelow, IsBestOf, with}
 use Rattle.rt_nvic.specs.Inside.Fields.{IsKept}
@@ -25,7 +25,7 @@ test_of_one : (n : ℕ) → n ≡ 1 → (n == 1) ≡ true
 test_of_one n h = grind (arith, nat_tests)
 
 -- a ready interrupt has its bit
-pub bit_of_ready : (priorities : List (Option ℕ)) (pending : List Bool) (words : List ℕ) (limit j : ℕ) → AreReady priorities pending words → IsReady (shown priorities pending) limit j → bit_of words j ≡ 1
+pub bit_of_ready : (priorities : List (Option ℕ)) (pending : List Bool) (words : List ℕ) (limit j : ℕ) → AreReady priorities pending words → IsReady (controller_of priorities pending) limit j → bit_of words j ≡ 1
 bit_of_ready priorities pending words limit j is r =
     one_from (bit_of words j) (is.each j ∙ and_both (get_or pending j false) (is_some (get_or priorities j None)) r.pending r.enabled)
 
@@ -115,16 +115,16 @@ others_below n count j ne t = let l = t.0 in (omega arith, t.1)
 pub scanned_set : (priorities : List (Option ℕ)) (words : List ℕ) (count : ℕ) (kept : Best) → bit_of words count ≡ 1 → IfSome (get_or priorities count None) (λ value. value < 256)
     → IsBestOf priorities words count kept → IsBestOf priorities words (count + 1) (with kept count (get_or priorities count None))
 scanned_set priorities words count kept h low is = λ pending ready.
-    let n = shown priorities pending in
+    let n = controller_of priorities pending in
     best_more priorities pending pending count (count + 1) count kept (more_below n count) (others_below n count) (omega arith) (pending_of_bit priorities pending words count ready h)
     (low_from (get_or priorities count None) low) (is pending ready)
 
 clear_past : (priorities : List (Option ℕ)) (pending : List Bool) (words : List ℕ) (a b j : ℕ) → AreReady priorities pending words → ((i : ℕ) → a ≤ i → i < b → bit_of words i ≢ 1)
-    → IsReady (shown priorities pending) NONE_READY j → j < b → j < a
+    → IsReady (controller_of priorities pending) NONE_READY j → j < b → j < a
 clear_past priorities pending words a b j ready clear r l =
     ⊎_elim (λ less. less) (λ more. absurd (clear j more l (bit_of_ready priorities pending words NONE_READY j ready r))) (cases_lt j a)
 
--- places of no bits
+-- indices of no bits
 pub scanned_past : (priorities : List (Option ℕ)) (words : List ℕ) (a b : ℕ) (kept : Best) → a ≤ b → ((i : ℕ) → a ≤ i → i < b → bit_of words i ≢ 1) → IsBestOf priorities words a kept → IsBestOf priorities words b kept
 scanned_past priorities words a b kept l clear is = λ pending ready.
     best_alike priorities pending pending a b kept (λ j s. let low = s.0 in (omega arith, s.1)) (λ j t. (clear_past priorities pending words a b j ready clear t.1 t.0, t.1)) (is pending ready)
@@ -137,24 +137,24 @@ scanned_all priorities words count kept l are is = λ pending ready.
 
 -- before the scan
 pub scanned_none : (priorities : List (Option ℕ)) (words : List ℕ) → IsBestOf priorities words 0 (record { irq = None; value = NONE_READY })
-scanned_none priorities words = λ pending ready. record { irq = chosen_from (shown priorities pending) NONE_READY 0 None (λ irq l r. absurd (omega arith)); value = refl }
+scanned_none priorities words = λ pending ready. record { irq = chosen_from (controller_of priorities pending) NONE_READY 0 None (λ irq l r. absurd (omega arith)); value = refl }
 
 -- with a request
 
 posted_other : (pending : List Bool) (irq j : ℕ) → j ≢ irq → get_or (set pending irq true) j false ≡ get_or pending j false
 posted_other pending irq j ne = get_or-set_other pending irq j true false ne
 
-ready_still_by : (priorities : List (Option ℕ)) (pending : List Bool) (irq j : ℕ) → irq < length pending → Dec (j ≡ irq) → IsReady (shown priorities pending) NONE_READY j
-    → IsReady (shown priorities (set pending irq true)) NONE_READY j
+ready_still_by : (priorities : List (Option ℕ)) (pending : List Bool) (irq j : ℕ) → irq < length pending → Dec (j ≡ irq) → IsReady (controller_of priorities pending) NONE_READY j
+    → IsReady (controller_of priorities (set pending irq true)) NONE_READY j
 ready_still_by priorities pending irq j l (yes e) r =
     record { pending = ap (λ (k : ℕ). get_or (set pending irq true) k false) e ∙ get_or-set_same pending irq true false l; enabled = r.enabled; higher = r.higher }
 ready_still_by priorities pending irq j l (no ne) r = record { pending = posted_other pending irq j ne ∙ r.pending; enabled = r.enabled; higher = r.higher }
 
-ready_before : (priorities : List (Option ℕ)) (pending : List Bool) (irq j : ℕ) → j ≢ irq → IsReady (shown priorities (set pending irq true)) NONE_READY j → IsReady (shown priorities pending) NONE_READY j
+ready_before : (priorities : List (Option ℕ)) (pending : List Bool) (irq j : ℕ) → j ≢ irq → IsReady (controller_of priorities (set pending irq true)) NONE_READY j → IsReady (controller_of priorities pending) NONE_READY j
 ready_before priorities pending irq j ne r = record { pending = sym (posted_other pending irq j ne) ∙ r.pending; enabled = r.enabled; higher = r.higher }
 
 posted_best : (priorities : List (Option ℕ)) (pending : List Bool) (irq : ℕ) (kept : Best) → irq < length pending → irq < IRQ_NUMBERS → IfSome (get_or priorities irq None) (λ value. value < 256)
-    → IsBestBelow (shown priorities pending) IRQ_NUMBERS kept → IsBestBelow (shown priorities (set pending irq true)) IRQ_NUMBERS (with kept irq (get_or priorities irq None))
+    → IsBestBelow (controller_of priorities pending) IRQ_NUMBERS kept → IsBestBelow (controller_of priorities (set pending irq true)) IRQ_NUMBERS (with kept irq (get_or priorities irq None))
 posted_best priorities pending irq kept inside l low is =
     best_more priorities pending (set pending irq true) IRQ_NUMBERS IRQ_NUMBERS irq kept (λ j s. (s.0, ready_still_by priorities pending irq j inside (ℕ_discrete j irq) s.1))
     (λ j ne t. (t.0, ready_before priorities pending irq j ne t.1)) l (get_or-set_same pending irq true false inside) (low_from (get_or priorities irq None) low) is
@@ -175,7 +175,7 @@ module _ (priorities : List (Option ℕ)) (pending later active : List ℕ) (top
   kept_posted long now same low =
       let fixed = is.fixed in
       let Ready : List Bool → Type 0 = λ flags. AreReady priorities flags left in
-      let First : List Bool → Type 0 = λ flags. IsBest (shown priorities flags) (with kept irq (get_or priorities irq None)) in
+      let First : List Bool → Type 0 = λ flags. IsBest (controller_of priorities flags) (with kept irq (get_or priorities irq None)) in
       record {
         fixed = record {
           priorities_long = fixed.priorities_long;

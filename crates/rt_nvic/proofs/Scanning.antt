@@ -1,4 +1,4 @@
--- The places of a word whose bits are set, from the lowest on.
+-- The indices of a word whose bits are set, from the lowest on.
 use Rattle.std.proofs.Common.{◌≡◌, ◌≢◌, ℕ, ◌+◌, ◌-◌, ◌*◌, ◌/◌, ◌%◌, ◌^◌, ◌<◌, ◌≤◌, List, get_or, Option, None, IfSome, subst, sym, ap, ◌∙◌, arith}
 use Rattle.std.specs.Int.{bit_at}
 use Rattle.std.proofs.lemmas.Nat.Bits.{bit_at-zero}
@@ -11,14 +11,14 @@ use Rattle.rt_nvic.specs.Inside.Best.{IsBestOf, with}
 use Rattle.rt_nvic.proofs.Lowest.{lowest, is_set_from, within_from, no_bit_before, no_bit_from}
 use Rattle.rt_nvic.proofs.ReadyBits.{scanned_past, scanned_set}
 
--- the bit of a place of a word
-bit_here : (words : List ℕ) (k w place : ℕ) → w ≡ get_or words k 0 → place < 32 → bit_at w place ≡ bit_of words (32 * k + place)
-bit_here words k w place e l =
-    let word : k ≡ (32 * k + place) / 32 = omega arith in
-    let same : place ≡ (32 * k + place) % 32 = omega arith in
-    ap (λ (n : ℕ). bit_at n place) (e ∙ ap (λ (j : ℕ). get_or words j 0) word) ∙ ap (bit_at (get_or words ((32 * k + place) / 32) 0)) same
+-- the bit of an index of a word
+bit_here : (words : List ℕ) (k w index : ℕ) → w ≡ get_or words k 0 → index < 32 → bit_at w index ≡ bit_of words (32 * k + index)
+bit_here words k w index e l =
+    let word : k ≡ (32 * k + index) / 32 = omega arith in
+    let same : index ≡ (32 * k + index) % 32 = omega arith in
+    ap (λ (n : ℕ). bit_at n index) (e ∙ ap (λ (j : ℕ). get_or words j 0) word) ∙ ap (bit_at (get_or words ((32 * k + index) / 32) 0)) same
 
--- the lowest bit from a place on
+-- the lowest bit from an index on
 module _ (words : List ℕ) (k w from : ℕ) (e : w ≡ get_or words k 0) (low : w < 2 ^ 32) (some : w / 2 ^ from ≢ 0) where
   pub within : from + lowest w from < 32
   within = within_from w from 32 low (omega arith) some
@@ -29,27 +29,27 @@ module _ (words : List ℕ) (k w from : ℕ) (e : w ≡ get_or words k 0) (low :
   -- and none before it
   pub none_before : (j : ℕ) → 32 * k + from ≤ j → j < 32 * k + (from + lowest w from) → bit_of words j ≢ 1
   none_before j a b h =
-      let place : ℕ = j - 32 * k in
-      let in_word : place < 32 = let w = within in omega arith in
-      let at : 32 * k + place ≡ j = omega arith in
-      let zero = no_bit_before w from 32 low (omega arith) some place (omega arith) (omega arith) in
-      let there = bit_here words k w place e in_word in
+      let index : ℕ = j - 32 * k in
+      let in_word : index < 32 = let w = within in omega arith in
+      let at : 32 * k + index ≡ j = omega arith in
+      let zero = no_bit_before w from 32 low (omega arith) some index (omega arith) (omega arith) in
+      let there = bit_here words k w index e in_word in
       let is = ap (bit_of words) at in
       omega arith
 
--- none from a place on
+-- none from an index on
 pub none_from : (words : List ℕ) (k w from : ℕ) → w ≡ get_or words k 0 → w / 2 ^ from ≡ 0 → (j : ℕ) → 32 * k + from ≤ j
     → j < 32 * k + 32 → bit_of words j ≢ 1
 none_from words k w from e none j a b h =
-    let place : ℕ = j - 32 * k in
-    let in_word : place < 32 = omega arith in
-    let at : 32 * k + place ≡ j = omega arith in
-    let zero = no_bit_from w from place none (omega arith) in
-    let there = bit_here words k w place e in_word in
+    let index : ℕ = j - 32 * k in
+    let in_word : index < 32 = omega arith in
+    let at : 32 * k + index ≡ j = omega arith in
+    let zero = no_bit_from w from index none (omega arith) in
+    let there = bit_here words k w index e in_word in
     let is = ap (bit_of words) at in
     omega arith
 
--- a step of the scan: the lowest bit from a place on
+-- a step of the scan: the lowest bit from an index on
 
 set_at : (words : List ℕ) (k w from : ℕ) → w ≡ get_or words k 0 → w < 2 ^ 32 → w / 2 ^ from ≢ 0 → bit_of words (32 * k + from + lowest w from) ≡ 1
 set_at words k w from e low some =

@@ -6,8 +6,8 @@ use Rattle.std.proofs.lemmas.List.{get_or-replicate, length-replicate}
 use Rattle.rt_ids.specs.declared.limits.TheConstants.{IRQ_NUMBERS}
 use Rattle.rt_nvic.specs.declared.best.Best.{Best}
 use Rattle.rt_nvic.specs.declared.sizes.TheConstants.{NONE_READY, ACTIVE, WORDS}
-use Rattle.rt_nvic.specs.Nvic.{Nvic, IsSized, value_of, picked, IsReady}
-use Rattle.rt_nvic.specs.Inside.First.{shown, limit_of}
+use Rattle.rt_nvic.specs.Nvic.{Nvic, IsSized, value_of, picked_irq, IsReady}
+use Rattle.rt_nvic.specs.Inside.First.{controller_of, limit_of}
 use Rattle.rt_nvic.specs.Inside.Best.{IsBest, IsBestOf}
 use Rattle.rt_nvic.specs.Inside.Bits.{flags, AreReady}
 use Rattle.rt_nvic.specs.Inside.Fields.{IsKept}
@@ -54,19 +54,19 @@ none_left n exec limit count None l h x = λ irq low r. x irq low (ready_above n
 none_left n exec limit count (Some i) l h x = λ irq low r. no_lower (value_of n i) (value_of n irq) i irq exec (x.2 irq low (ready_above n exec limit irq l r)) h r.higher
 
 -- what is taken, from the best
-pub taken : (n : Nvic) (exec : ℕ) (best : Best) → exec ≤ NONE_READY → IsBest n best → best.value < exec → best.irq ≡ picked n exec
+pub taken : (n : Nvic) (exec : ℕ) (best : Best) → exec ≤ NONE_READY → IsBest n best → best.value < exec → best.irq ≡ picked_irq n exec
 taken n exec best l is h =
     let low : limit_of n NONE_READY best.irq < exec = let e = is.value in omega arith in
     chosen_from n exec IRQ_NUMBERS best.irq (narrowed n exec NONE_READY IRQ_NUMBERS best.irq l low (choice_from n NONE_READY IRQ_NUMBERS best.irq is.irq))
 
-pub none_taken : (n : Nvic) (exec : ℕ) (best : Best) → exec ≤ NONE_READY → IsBest n best → exec ≤ best.value → None ≡ picked n exec
+pub none_taken : (n : Nvic) (exec : ℕ) (best : Best) → exec ≤ NONE_READY → IsBest n best → exec ≤ best.value → None ≡ picked_irq n exec
 none_taken n exec best l is h =
     let low : exec ≤ limit_of n NONE_READY best.irq = let e = is.value in omega arith in
     chosen_from n exec IRQ_NUMBERS None (none_left n exec NONE_READY IRQ_NUMBERS best.irq l low (choice_from n NONE_READY IRQ_NUMBERS best.irq is.irq))
 
 -- the active ones play no part
 pub best_of_all : (priorities : List (Option ℕ)) (pending : List Bool) (active : List ℕ) (n : Nvic) (best : Best) → record { priorities = priorities; pending = pending; active = active } ≡ n
-    → IsBest (shown priorities pending) best → IsBest n best
+    → IsBest (controller_of priorities pending) best → IsBest n best
 best_of_all priorities pending active n best e is =
     let P : Nvic → Type 0 = λ n. IsBest n best in
     let whole : IsBest (record { priorities = priorities; pending = pending; active = active }) best = record { irq = is.irq; value = is.value } in
@@ -86,14 +86,14 @@ module _ (priorities : List (Option ℕ)) (pending active : List ℕ) (top : ℕ
   whole : IsBest n best
   whole = best_of_all priorities (flags pending) (drop top active) n best e is.best
 
-  pub then_picked : (exec : ℕ) → exec < 2 ^ 16 → best.value < exec → best.irq ≡ picked n exec
+  pub then_picked : (exec : ℕ) → exec < 2 ^ 16 → best.value < exec → best.irq ≡ picked_irq n exec
   then_picked exec l h = taken n exec best (omega arith) whole h
 
-  pub none_picked : (exec : ℕ) → exec < 2 ^ 16 → exec ≤ best.value → None ≡ picked n exec
+  pub none_picked : (exec : ℕ) → exec < 2 ^ 16 → exec ≤ best.value → None ≡ picked_irq n exec
   none_picked exec l h = none_taken n exec best (omega arith) whole h
 
 -- at first nothing is pending
-none_at_first : (irq : ℕ) → irq < IRQ_NUMBERS → IsReady (shown (replicate IRQ_NUMBERS None) (replicate IRQ_NUMBERS false)) NONE_READY irq → ⊥
+none_at_first : (irq : ℕ) → irq < IRQ_NUMBERS → IsReady (controller_of (replicate IRQ_NUMBERS None) (replicate IRQ_NUMBERS false)) NONE_READY irq → ⊥
 none_at_first irq l r = false≢true (sym (get_or-replicate IRQ_NUMBERS irq false false l) ∙ r.pending)
 
 bits_at_first : (irq : ℕ) → (bit_of (replicate WORDS 0) irq == 1)
@@ -109,7 +109,7 @@ kept_at_first active long =
     let words : List ℕ = replicate WORDS 0 in
     let none : List (Option ℕ) = replicate IRQ_NUMBERS None in
     let Ready : List Bool → Type 0 = λ pending. AreReady none pending words in
-    let Best : List Bool → Type 0 = λ pending. IsBest (shown none pending) (record { irq = None; value = NONE_READY }) in
+    let Best : List Bool → Type 0 = λ pending. IsBest (controller_of none pending) (record { irq = None; value = NONE_READY }) in
     record {
       fixed = record {
         priorities_long = length-replicate {A = Option ℕ} IRQ_NUMBERS None;
@@ -119,7 +119,7 @@ kept_at_first active long =
       };
       ready = subst Ready (sym flags_none) (record { each = bits_at_first });
       best = subst Best (sym flags_none) (record {
-        irq = chosen_from (shown none (replicate IRQ_NUMBERS false)) NONE_READY IRQ_NUMBERS None (λ irq l r. none_at_first irq l r);
+        irq = chosen_from (controller_of none (replicate IRQ_NUMBERS false)) NONE_READY IRQ_NUMBERS None (λ irq l r. none_at_first irq l r);
         value = refl;
       });
     }

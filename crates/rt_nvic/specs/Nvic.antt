@@ -43,8 +43,8 @@ value_of_first n [] = THREAD_VALUE
 value_of_first n (irq ∷ irqs) = value_of n irq
 
 -- the priority value of the handler that runs
-abbrev pub running : Nvic → ℕ
-running n = value_of_first n n.active
+abbrev pub value_of_running : Nvic → ℕ
+value_of_running n = value_of_first n n.active
 
 -- An interrupt may be taken at this execution priority: it is pending and enabled, and its priority is higher.
 pub record IsReady (n : Nvic) (exec irq : ℕ) : Type 0 where
@@ -73,5 +73,5 @@ abbrev pub beats : Nvic → ℕ → ℕ → Bool
 beats n irq later = nat_le (value_of n irq) (value_of n later)
 
 -- the interrupt that is taken at this execution priority
-abbrev pub picked : Nvic → ℕ → Option ℕ
-picked n exec = best (is_ready n exec) (beats n) (numbers_below IRQ_NUMBERS)
+abbrev pub picked_irq : Nvic → ℕ → Option ℕ
+picked_irq n exec = best (is_ready n exec) (beats n) (numbers_below IRQ_NUMBERS)

@@ -4,7 +4,7 @@ ghost use Rattle.std.specs.Int.{bit_at};
 ghost use Rattle.rt_ids.specs.declared.limits.TheConstants.{IRQ_NUMBERS};
 ghost use Rattle.rt_nvic.specs.declared.sizes.TheConstants.{ACTIVE};
 ghost use Rattle.rt_nvic.specs.Nvic as spec;
-ghost use Rattle.rt_ids.specs.Arrivals.{arrivals, pended, holds};
+ghost use Rattle.rt_ids.specs.Arrivals.{arrivals, pending_with, holds};
 
 use crate::best::{Best, NO_BEST};
 use crate::bits::{clear_bit, has_bit, set_bit};
@@ -81,7 +81,7 @@ impl Nvic {
     /// Sets the interrupts pending whose bits this word holds: bit b of word k is interrupt 32 * k + b.
     pub fn arrive(&mut self, k: u8, bits: u32)
         requires in_range { (bit : ℕ) → bit < 32 → bit_at bits bit ≡ 1 → 32 * k + bit < IRQ_NUMBERS }
-        ensures state { self.new ≡ record self.old { pending = pended (arrivals k bits) self.old.pending } }
+        ensures state { self.new ≡ record self.old { pending = pending_with (arrivals k bits) self.old.pending } }
         ensures each { (irq : ℕ) → irq < IRQ_NUMBERS
             → spec.is_pending self.new irq ≡ (spec.is_pending self.old irq || holds k bits irq) }
     {
@@ -130,7 +130,7 @@ impl Nvic {
     /// are ready the one of the smallest priority value, and of equal ones the one of the lowest number.
     #[inline]
     pub fn pick(&self, exec: u16) -> Option<Irq>
-        ensures value { result ≡ spec.picked self.now exec }
+        ensures value { result ≡ spec.picked_irq self.now exec }
         ensures ready { IfSome result (λ irq. spec.IsReady self.now exec irq) }
         ensures first { IfSome result
             (λ irq. (other : ℕ) → spec.IsReady self.now exec other → spec.Precedes self.now irq other) }
@@ -161,7 +161,7 @@ impl Nvic {
         self.best = Best::of(&self.priorities, &self.ready);
     }
 
-    /// Leaves the interrupt that was entered last.
+    /// Returns from the interrupt that was taken last.
     pub fn leave(&mut self) -> Irq
         requires { 0 < length self.old.active }
         ensures active { self.old.active ≡ result ∷ self.new.active }
@@ -183,7 +183,7 @@ impl Nvic {
         self.best = Best::of(&self.priorities, &self.ready);
     }
 
-    /// The interrupt that was entered last, and None where none is active.
+    /// The interrupt that was taken last, and None where none is active.
     #[inline]
     pub fn last_entered(&self) -> Option<Irq>
         ensures { result ≡ slice_get self.now.active 0 }
@@ -191,10 +191,10 @@ impl Nvic {
         self.active.get(self.top).copied()
     }
 
-    /// The priority value of the interrupt that was entered last, and 256 where none is active.
+    /// The priority value of the interrupt that was taken last, and 256 where none is active.
     #[inline]
     pub fn running(&self) -> u16
-        ensures { result ≡ spec.running self.now }
+        ensures { result ≡ spec.value_of_running self.now }
     {
         if self.top == ACTIVE {
             return THREAD_VALUE;

@@ -22,5 +22,5 @@ opening_of (state.Open file) = Opened
 opening_of state.Missing = Missing
 
 -- nothing is told of the bytes
-abbrev pub untold : {A : Type 0} → A → Option (List ℕ)
-untold _ = None
+abbrev pub no_bytes_told : {A : Type 0} → A → Option (List ℕ)
+no_bytes_told _ = None

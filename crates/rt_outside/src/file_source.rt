@@ -3,7 +3,7 @@ ghost use Rattle.std.specs.Prelude.{OnErr};
 ghost use Rattle.rt_outside.specs.Faults.{HasCause};
 ghost use Rattle.rt_outside.specs.Bytes.{Moves};
 ghost use Rattle.rt_outside.specs.Memory.{next_fault};
-ghost use Rattle.rt_outside.specs.Outside.{opening_of, untold, Untried, Opened, Missing};
+ghost use Rattle.rt_outside.specs.Outside.{opening_of, no_bytes_told, Untried, Opened, Missing};
 ghost use Rattle.rt_outside.specs.declared.file_source.State.TheVariants as state;
 
 use crate::{Failed, Source};
@@ -61,7 +61,7 @@ fn names_file(path: &str) -> bool
 }
 
 /// The file that an opening gave, or that it gave none.
-fn tried<F: Drop, E: Drop>(answer: Result<F, E>) -> State<F>
+fn state_after_opening<F: Drop, E: Drop>(answer: Result<F, E>) -> State<F>
     ensures ok { IfOk answer (λ file. result ≡ state.Open file) }
     ensures err { OnErr answer (result ≡ state.Missing) }
 {
@@ -77,7 +77,7 @@ fn open_once<R: Files>(rt: &R, path: &str, state: &mut State<R::File>)
     ensures once { opening_of state.old ≢ Untried → state.new ≡ state.old }
 {
     if let State::Closed = state {
-        *state = tried(fs::open(rt, path));
+        *state = state_after_opening(fs::open(rt, path));
     }
 }
 
@@ -94,14 +94,14 @@ fn read_some<F: Read>(state: &mut State<F>, buffer: &mut [u8]) -> Option<usize>
 }
 
 impl<R: Files> Source for FileSource<'_, R> {
-    ghost left = { untold };
+    ghost left = { no_bytes_told };
 
     ghost faults = { λ s. s.faults };
 
     fn read(&mut self, buffer: &mut [u8]) -> Result<usize, Failed>
         ensures within { IfOk result (λ n. n ≤ length buffer.old) }
-        ensures moved { IfOk result (λ n. Moves (untold self.old) (untold self.new) buffer.new n) }
-        ensures err { OnErr result (untold self.new ≡ untold self.old) }
+        ensures moved { IfOk result (λ n. Moves (no_bytes_told self.old) (no_bytes_told self.new) buffer.new n) }
+        ensures err { OnErr result (no_bytes_told self.new ≡ no_bytes_told self.old) }
         ensures cause { HasCause self.old.faults self.new.faults result }
         ensures quiet { OnOk result (self.new.faults ≡ self.old.faults) }
 

@@ -3,7 +3,7 @@ ghost use Rattle.std.specs.Prelude.{OnErr};
 ghost use Rattle.rt_outside.specs.Faults.{HasCause};
 ghost use Rattle.rt_outside.specs.Bytes.{Took};
 ghost use Rattle.rt_outside.specs.Memory.{next_fault};
-ghost use Rattle.rt_outside.specs.Outside.{untold};
+ghost use Rattle.rt_outside.specs.Outside.{no_bytes_told};
 
 use crate::{Failed, Sink};
 use std::marker::Model;
@@ -34,7 +34,7 @@ impl<'a, R: Print> OutSink<'a, R> {
 }
 
 /// How many bytes a write took, by its answer: none is a failure.
-fn taken_by<E: Drop>(answer: Result<usize, E>) -> Option<usize>
+fn taken_count<E: Drop>(answer: Result<usize, E>) -> Option<usize>
     ensures ok { IfOk answer (λ n. result ≡ (if nat_lt 0 n then Some n else None)) }
     ensures err { OnErr answer (result ≡ None) }
 {
@@ -45,15 +45,15 @@ fn taken_by<E: Drop>(answer: Result<usize, E>) -> Option<usize>
 }
 
 impl<R: Print> Sink for OutSink<'_, R> {
-    ghost taken = { untold };
+    ghost taken = { no_bytes_told };
 
     ghost faults = { λ s. s };
 
     fn write(&mut self, piece: &[u8]) -> Result<usize, Failed>
         ensures within { IfOk result (λ n. n ≤ length piece.now) }
         ensures some { IfOk result (λ n. 0 < length piece.now → 0 < n) }
-        ensures took { IfOk result (λ n. Took (untold self.old) (untold self.new) (take n piece.now)) }
-        ensures err { OnErr result (untold self.new ≡ untold self.old) }
+        ensures took { IfOk result (λ n. Took (no_bytes_told self.old) (no_bytes_told self.new) (take n piece.now)) }
+        ensures err { OnErr result (no_bytes_told self.new ≡ no_bytes_told self.old) }
         ensures cause { HasCause self.old self.new result }
 
         ensures quiet { OnOk result (self.new ≡ self.old) }
@@ -62,7 +62,7 @@ impl<R: Print> Sink for OutSink<'_, R> {
         if piece.is_empty() {
             return Ok(0);
         }
-        match taken_by(self.rt.write_some(piece)) {
+        match taken_count(self.rt.write_some(piece)) {
             Some(count) => Ok(count),
             None => {
                 self.failed = self.failed.saturating_add(1);

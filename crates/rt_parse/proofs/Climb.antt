@@ -1,12 +1,12 @@
--- A climb over operators of all strengths at once reads what the levels read, each of which knows its own strength alone.
+-- A climb over operators of all strengths at once reads what the strengths read, each of which knows its own strength alone.
 use Rattle.std.proofs.Common.{◌≡◌, ℕ, zero, suc, ◌≤◌, Bool, true, false, cond, List, [], ◌∷◌, ◌++◌, length, Result, Ok, Err, refl, sym, ap, subst, ◌∙◌, arith}
 use Rattle.rt_lemmas.proofs.Bools.{or_neither, both_of_none}
 use Rattle.rt_lex.specs.Token.{Token}
 use Rattle.rt_grammar.specs.Expression.{Signs}
 use Rattle.rt_grammar.specs.Reach.{is_of}
 use Rattle.rt_parse.specs.Inside.Reading.{Reader, ◌>>=◌, repeat_at, begins_with}
-use Rattle.rt_parse.specs.Inside.ReadingDepth.{Measured, measured_joined}
-use Rattle.rt_parse.specs.Inside.ReadingExpression.{operator_at, joined_at, chain_at, chains_at}
+use Rattle.rt_parse.specs.Inside.ReadingDepth.{Measured, joined_measure}
+use Rattle.rt_parse.specs.Inside.ReadingExpression.{operator_at, joined_operand_at, chain_at, chains_at}
 use Rattle.rt_parse.specs.Inside.ExpressionView.{is_of_some}
 use Rattle.rt_parse.specs.declared.stop.Found.{Found}
 use Rattle.rt_parse.proofs.ExactLaws.{read_then}
@@ -79,20 +79,20 @@ module _ {S : Type 0} (starts : Token → Bool) (step : S → Reader S) (shorter
       by_test false is e later =
           subst (λ (ts : List Token). (begins_with test ts ≡ false) × (begins_with starts ts ≡ false)) (same_rest s y (t ∷ tokens) rest e) (none, is)
 
--- What the levels read behind their first atom.
+-- What the strengths read behind their first atom.
 
-abbrev level : Signs → List Signs → Reader Measured → Measured × List Token → Result (Measured × List Token) Found
-level signs stronger atom x = repeat_at (is_of signs) (joined_at signs (chains_at stronger atom)) (length x.1) x.0 x.1
+abbrev chain_on : Signs → List Signs → Reader Measured → Measured × List Token → Result (Measured × List Token) Found
+chain_on signs stronger atom x = repeat_at (is_of signs) (joined_operand_at signs (chains_at stronger atom)) (length x.1) x.0 x.1
 
 unfoldable pub behind_at : List Signs → Reader Measured → Measured → Reader Measured
 behind_at [] atom left tokens = Ok (left, tokens)
-behind_at (signs ∷ stronger) atom left tokens = behind_at stronger atom left tokens >>= level signs stronger atom
+behind_at (signs ∷ stronger) atom left tokens = behind_at stronger atom left tokens >>= chain_on signs stronger atom
 
 pub chains_behind : (all : List Signs) (atom : Reader Measured) (tokens : List Token) → chains_at all atom tokens ≡ (atom tokens >>= λ x. behind_at all atom x.0 x.1)
 unfolding chains_at chain_at behind_at
 chains_behind [] atom tokens = sym (right_same (atom tokens))
 chains_behind (signs ∷ stronger) atom tokens =
-    ap (λ r. r >>= level signs stronger atom) (chains_behind stronger atom tokens) ∙ read_then (atom tokens) (λ x. behind_at stronger atom x.0 x.1) (level signs stronger atom)
+    ap (λ r. r >>= chain_on signs stronger atom) (chains_behind stronger atom tokens) ∙ read_then (atom tokens) (λ x. behind_at stronger atom x.0 x.1) (chain_on signs stronger atom)
 
 -- nothing where no operator of theirs comes next
 pub closed_behind : (all : List Signs) (atom : Reader Measured) (left : Measured) (tokens : List Token) → begins_with (is_of_some all) tokens ≡ false
@@ -101,67 +101,67 @@ unfolding behind_at
 closed_behind [] atom left tokens e = refl
 closed_behind (signs ∷ stronger) atom left tokens e =
     let p = none_of_both signs stronger tokens e in
-    ap (λ r. r >>= level signs stronger atom) (closed_behind stronger atom left tokens p.1) ∙ repeat_closed _ _ (length tokens) left tokens p.0
+    ap (λ r. r >>= chain_on signs stronger atom) (closed_behind stronger atom left tokens p.1) ∙ repeat_closed _ _ (length tokens) left tokens p.0
 
-joined_ends : (signs : Signs) (operand : Reader Measured) (left : Measured) (tokens : List Token) (y : Measured) (rest : List Token) → joined_at signs operand left tokens ≡ Ok (y, rest)
+joined_ends : (signs : Signs) (operand : Reader Measured) (left : Measured) (tokens : List Token) (y : Measured) (rest : List Token) → joined_operand_at signs operand left tokens ≡ Ok (y, rest)
     → (mid : List Token) × (right : Measured) × (operand mid ≡ Ok (right, rest))
-unfolding joined_at
+unfolding joined_operand_at
 joined_ends signs operand left tokens y rest e =
-    let p = bind_ok (operator_at signs tokens) (λ o. operand o.1 >>= λ right. Ok (measured_joined o.0 left right.0, right.1)) (y, rest) e in
-    let q = bind_ok (operand p.0.1) (λ right. Ok (measured_joined p.0.0 left right.0, right.1)) (y, rest) p.2 in
+    let p = bind_ok (operator_at signs tokens) (λ o. operand o.1 >>= λ right. Ok (joined_measure o.0 left right.0, right.1)) (y, rest) e in
+    let q = bind_ok (operand p.0.1) (λ right. Ok (joined_measure p.0.0 left right.0, right.1)) (y, rest) p.2 in
     (p.0.1, q.0.0, q.1 ∙ ap (λ (ts : List Token). Ok (q.0.0, ts)) (same_rest _ y q.0.1 rest q.2))
 
--- behind what levels read no operator of theirs comes next
+-- behind what strengths read no operator of theirs comes next
 chains_end : (all : List Signs) (atom : Reader Measured) → IsShorter atom → (tokens : List Token) (x : Measured) (rest : List Token) → chains_at all atom tokens ≡ Ok (x, rest)
     → begins_with (is_of_some all) rest ≡ false
 unfolding chains_at chain_at
 chains_end [] atom h tokens x rest e = none_of_none rest
 chains_end (signs ∷ stronger) atom h tokens x rest e =
-    let p = bind_ok (chains_at stronger atom tokens) (level signs stronger atom) (x, rest) e in
-    let q = repeat_ends (is_of signs) (joined_at signs (chains_at stronger atom)) (λ left. shorter_joined signs (chains_at stronger atom) left (shorter_chains stronger atom h))
+    let p = bind_ok (chains_at stronger atom tokens) (chain_on signs stronger atom) (x, rest) e in
+    let q = repeat_ends (is_of signs) (joined_operand_at signs (chains_at stronger atom)) (λ left. shorter_joined signs (chains_at stronger atom) left (shorter_chains stronger atom h))
     (is_of_some stronger)
     (λ left ts y behind is. let j = joined_ends signs (chains_at stronger atom) left ts y behind is in chains_end stronger atom h j.0 j.1 behind j.2)
     (length p.0.1) p.0.0 p.0.1 (omega arith) (chains_end stronger atom h tokens p.0.0 p.0.1 p.1) x rest p.2 in
     none_of_either signs stronger rest q.1 q.0
 
--- An operator that comes next is read with its right side, and all levels go on behind it.
+-- An operator that comes next is read with its right side, and all strengths go on behind it.
 
 own_goes_on : (signs : Signs) (stronger : List Signs) (atom : Reader Measured) (left : Measured) (tokens : List Token) → IsShorter atom
     → begins_with (is_of signs) tokens ≡ true → begins_with (is_of_some stronger) tokens ≡ false
-    → behind_at (signs ∷ stronger) atom left tokens ≡ (joined_at signs (chains_at stronger atom) left tokens >>= λ x. behind_at (signs ∷ stronger) atom x.0 x.1)
+    → behind_at (signs ∷ stronger) atom left tokens ≡ (joined_operand_at signs (chains_at stronger atom) left tokens >>= λ x. behind_at (signs ∷ stronger) atom x.0 x.1)
 unfolding behind_at
 own_goes_on signs stronger atom left [] h comes none = absurd cc
 own_goes_on signs stronger atom left (t ∷ tokens) h comes none =
-    ap (λ r. r >>= level signs stronger atom) (closed_behind stronger atom left (t ∷ tokens) none)
+    ap (λ r. r >>= chain_on signs stronger atom) (closed_behind stronger atom left (t ∷ tokens) none)
     ∙ turn (is_of signs) step (length tokens) left (t ∷ tokens) (step left (t ∷ tokens)) comes refl
-    ∙ bind_same (step left (t ∷ tokens)) (λ x. repeat_at (is_of signs) step (length tokens) x.0 x.1) (λ x. behind_at stronger atom x.0 x.1 >>= level signs stronger atom) same
+    ∙ bind_same (step left (t ∷ tokens)) (λ x. repeat_at (is_of signs) step (length tokens) x.0 x.1) (λ x. behind_at stronger atom x.0 x.1 >>= chain_on signs stronger atom) same
   where
     step : Measured → Reader Measured
-    step = joined_at signs (chains_at stronger atom)
+    step = joined_operand_at signs (chains_at stronger atom)
 
-    shorter : (s : Measured) → IsShorter (joined_at signs (chains_at stronger atom) s)
+    shorter : (s : Measured) → IsShorter (joined_operand_at signs (chains_at stronger atom) s)
     shorter s = shorter_joined signs (chains_at stronger atom) s (shorter_chains stronger atom h)
 
-    same : (x : Measured × List Token) → joined_at signs (chains_at stronger atom) left (t ∷ tokens) ≡ Ok x
-        → repeat_at (is_of signs) (joined_at signs (chains_at stronger atom)) (length tokens) x.0 x.1 ≡ (behind_at stronger atom x.0 x.1 >>= level signs stronger atom)
+    same : (x : Measured × List Token) → joined_operand_at signs (chains_at stronger atom) left (t ∷ tokens) ≡ Ok x
+        → repeat_at (is_of signs) (joined_operand_at signs (chains_at stronger atom)) (length tokens) x.0 x.1 ≡ (behind_at stronger atom x.0 x.1 >>= chain_on signs stronger atom)
     same x is =
         let less = shorter left (t ∷ tokens) x.0 x.1 is in
         let j = joined_ends signs (chains_at stronger atom) left (t ∷ tokens) x.0 x.1 is in
-        repeat_enough (is_of signs) (joined_at signs (chains_at stronger atom)) shorter (length tokens) (length x.1) x.0 x.1 (omega (arith, less)) (omega arith)
-        ∙ ap (λ r. r >>= level signs stronger atom) (sym (closed_behind stronger atom x.0 x.1 (chains_end stronger atom h j.0 j.1 x.1 j.2)))
+        repeat_enough (is_of signs) (joined_operand_at signs (chains_at stronger atom)) shorter (length tokens) (length x.1) x.0 x.1 (omega (arith, less)) (omega arith)
+        ∙ ap (λ r. r >>= chain_on signs stronger atom) (sym (closed_behind stronger atom x.0 x.1 (chains_end stronger atom h j.0 j.1 x.1 j.2)))
 
 weaker_goes_on : (weaker all : List Signs) (atom : Reader Measured) (left : Measured) (tokens : List Token) (step : Result (Measured × List Token) Found)
     → behind_at all atom left tokens ≡ (step >>= λ x. behind_at all atom x.0 x.1) → behind_at (weaker ++ all) atom left tokens ≡ (step >>= λ x. behind_at (weaker ++ all) atom x.0 x.1)
 unfolding behind_at
 weaker_goes_on [] all atom left tokens step e = e
 weaker_goes_on (signs ∷ weaker) all atom left tokens step e =
-    ap (λ r. r >>= level signs (weaker ++ all) atom) (weaker_goes_on weaker all atom left tokens step e)
-    ∙ read_then step (λ x. behind_at (weaker ++ all) atom x.0 x.1) (level signs (weaker ++ all) atom)
+    ap (λ r. r >>= chain_on signs (weaker ++ all) atom) (weaker_goes_on weaker all atom left tokens step e)
+    ∙ read_then step (λ x. behind_at (weaker ++ all) atom x.0 x.1) (chain_on signs (weaker ++ all) atom)
 
--- of an operator that stands somewhere in the levels
+-- of an operator that stands somewhere in the strengths
 pub goes_on : (weaker : List Signs) (signs : Signs) (stronger : List Signs) (atom : Reader Measured) (left : Measured) (tokens : List Token) → IsShorter atom
     → begins_with (is_of signs) tokens ≡ true → begins_with (is_of_some stronger) tokens ≡ false
     → behind_at (weaker ++ signs ∷ stronger) atom left tokens
-    ≡ (joined_at signs (chains_at stronger atom) left tokens >>= λ x. behind_at (weaker ++ signs ∷ stronger) atom x.0 x.1)
+    ≡ (joined_operand_at signs (chains_at stronger atom) left tokens >>= λ x. behind_at (weaker ++ signs ∷ stronger) atom x.0 x.1)
 goes_on weaker signs stronger atom left tokens h comes none =
-    weaker_goes_on weaker (signs ∷ stronger) atom left tokens (joined_at signs (chains_at stronger atom) left tokens) (own_goes_on signs stronger atom left tokens h comes none)
+    weaker_goes_on weaker (signs ∷ stronger) atom left tokens (joined_operand_at signs (chains_at stronger atom) left tokens) (own_goes_on signs stronger atom left tokens h comes none)

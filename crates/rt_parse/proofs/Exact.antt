@@ -10,7 +10,7 @@ use Rattle.rt_grammar.specs.Mark.{Mark, Takes, Ends, limit_of, IsWithin}
 use Rattle.rt_grammar.specs.Language.{Language, ◌>>=◌}
 use Rattle.rt_grammar.specs.Reach.{Fits, Reaches, goes_on}
 use Rattle.rt_parse.specs.Inside.Reading as reading
-use Rattle.rt_parse.specs.Inside.Reading.{Reader, wrong_at, begins_with}
+use Rattle.rt_parse.specs.Inside.Reading.{Reader, fault_found_at, begins_with}
 use Rattle.rt_parse.specs.declared.stop.Found.{Found}
 
 abbrev pub IsFront : List Mark → List Mark → Type 0
@@ -34,7 +34,7 @@ pub record IsWrong {B : Type 0} (language : Language B) (tokens : List Token) (f
   pub within : AllByRecursion IsWithin marks
   pub most : (others : List Mark) (left : List Token) → Reaches language tokens others left → IsFront others marks
   pub none : (others : List Mark) (other : B) → language others other → Fits others tokens [] → ⊥
-  pub is : found ≡ wrong_at rest
+  pub is : found ≡ fault_found_at rest
 
 -- the limit that is passed at a mark, and the offset that it is refused at
 abbrev pub Passes : Mark → Option ℕ → Limit → Type 0
@@ -102,4 +102,4 @@ Reads B goes stops longer value form reader = ReadsAfter B (λ t. false) goes st
 -- a form that is read, or one that no text is in, of which any token is wrong
 pub data ReadsOrNone {A C : Type 0} (B : Type 0) (goes : A → Token → Bool) (value : A → C) (form : Language A) (reader : Reader C) : Type 1 where
   IsForm : Reads B goes nothing suc value form reader → ReadsOrNone B goes value form reader
-  IsNone : ((marks : List Mark) (x : A) → form marks x → ⊥) → ((tokens : List Token) → reader tokens ≡ Err (wrong_at tokens)) → ReadsOrNone B goes value form reader
+  IsNone : ((marks : List Mark) (x : A) → form marks x → ⊥) → ((tokens : List Token) → reader tokens ≡ Err (fault_found_at tokens)) → ReadsOrNone B goes value form reader

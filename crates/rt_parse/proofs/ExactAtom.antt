@@ -14,7 +14,7 @@ use Rattle.rt_ast.specs.declared.ident.Ident.{Ident}
 use Rattle.rt_ast.specs.declared.ident.Number.{Number}
 use Rattle.rt_grammar.specs.Language.{Language, gives, ◌>>=◌, ◌or◌}
 use Rattle.rt_grammar.specs.Tokens.{free, limit_if, name, number, sign, sign_of, ident_of, ident_at, number_of, number_at, name_limit, number_limit}
-use Rattle.rt_grammar.specs.Expression.{Operand, operator, comparisons, strengths, joined, chains, comparison, plain_atom, atom, depth, ends, expression}
+use Rattle.rt_grammar.specs.Expression.{Operand, operator, comparisons, strengths, joined_operand, chains, comparison, plain_atom, atom, depth, ends, expression}
 use Rattle.rt_grammar.specs.Reach.{is_of, goes_on}
 use Rattle.rt_parse.specs.Inside.Reading as reading
 use Rattle.rt_parse.specs.Inside.Reading.{Reader, begins_with, token_at, sign_at}
@@ -158,7 +158,7 @@ atom_starts (suc most) opened = starts_or plain_begins
     (starts_then (λ at. comparison (atom most (suc opened)) (λ e compares. gives e) >>= λ inner. sign (codes ")") >>= λ end. gives (record { at = at; tree = inner.tree })) (starts_sign (codes "(") (limit_if (nat_le PARENTHESES opened) limit.Parentheses))))
 
 pub expression_starts : (most : ℕ) → Starts begins_expression (expression most)
-expression_starts most = starts_then (λ left. ends (left, false) or (operator comparisons >>= λ o. chains strengths (atom most 0) >>= λ right. ends (joined o left right, true)))
+expression_starts most = starts_then (λ left. ends (left, false) or (operator comparisons >>= λ o. chains strengths (atom most 0) >>= λ right. ends (joined_operand o left right, true)))
     (chains_starts begins_expression strengths (atom most 0) (atom_starts most 0))
 
 pub expression_no_sign : (text : List ℕ) → bytes_eq (codes "(") text ≡ false → (t : Token) → begins_expression t ≡ true → is_this_sign text t ≡ false

@@ -11,7 +11,7 @@ use Rattle.rt_grammar.specs.Language.{Language, gives, ◌>>=◌}
 use Rattle.rt_grammar.specs.Expression.{Operand, depth, ends}
 use Rattle.rt_grammar.specs.Reach.{Fits, goes_on, expression_goes_on}
 use Rattle.rt_parse.specs.Inside.Reading as reading
-use Rattle.rt_parse.specs.Inside.Reading.{Reader, begins_with, wrong_at}
+use Rattle.rt_parse.specs.Inside.Reading.{Reader, begins_with, fault_found_at}
 use Rattle.rt_parse.specs.declared.stop.Found.{Found}
 use Rattle.rt_parse.proofs.Exact.{IsFront, Outcome, IsExact, IsInhabited, Avoids, AvoidsMarks, ReadsAfter, Reads, nothing}
 use Rattle.rt_parse.proofs.ExactOutcome.{IsMarked, outcome_marked, outcome_limited}
@@ -105,7 +105,7 @@ first : (others more : List Mark) → others ++ more ≡ [] → IsFront others [
 first others more e = (more, sym e)
 
 -- Nothing is read at the end of a text alone.
-pub exact_end : {B : Type 0} (x : B) (n : ℕ) → IsExact (gives x) (λ tokens. if is_end tokens then Ok x else Err (wrong_at tokens)) n
+pub exact_end : {B : Type 0} (x : B) (n : ℕ) → IsExact (gives x) (λ tokens. if is_end tokens then Ok x else Err (fault_found_at tokens)) n
 exact_end x n [] le = record {
   marks = [];
   means = (refl, refl);
@@ -126,9 +126,9 @@ exact_end x n (t ∷ tokens) le = inl (record {
 
 -- A reader of a whole text, which reads its form and then the end.
 pub exact_whole : {A : Type 0} {goes stops : A → Token → Bool} {longer : ℕ → ℕ} {form : Language A} {reader : Reader A} → ((n : ℕ) → n ≤ longer n) → Reads A goes stops longer (λ x. x) form reader
-    → (n : ℕ) → IsExact form (λ tokens. reading.◌>>=◌ (reader tokens) (λ got. if is_end got.1 then Ok got.0 else Err (wrong_at got.1))) n
+    → (n : ℕ) → IsExact form (λ tokens. reading.◌>>=◌ (reader tokens) (λ got. if is_end got.1 then Ok got.0 else Err (fault_found_at got.1))) n
 exact_whole {goes = goes} {longer = longer} {form = form} {reader = reader} more reads n tokens le =
-    same_outcome (form >>= gives) form tokens (reading.◌>>=◌ (reader tokens) (λ got. if is_end got.1 then Ok got.0 else Err (wrong_at got.1)))
+    same_outcome (form >>= gives) form tokens (reading.◌>>=◌ (reader tokens) (λ got. if is_end got.1 then Ok got.0 else Err (fault_found_at got.1)))
     (then_gives' form) (then_gives form)
-    (reads.exact gives (λ x tokens. if is_end tokens then Ok x else Err (wrong_at tokens)) n (λ x. ([], x, (refl, refl))) (λ x marks y l. subst (AvoidsMarks (goes x)) (sym l.0) tt)
+    (reads.exact gives (λ x tokens. if is_end tokens then Ok x else Err (fault_found_at tokens)) n (λ x. ([], x, (refl, refl))) (λ x marks y l. subst (AvoidsMarks (goes x)) (sym l.0) tt)
     (λ x tokens le stop. exact_end x n tokens le) tokens (let l : n ≤ longer n = more n in omega arith) (begins_with-none tokens))

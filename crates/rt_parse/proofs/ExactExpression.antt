@@ -7,7 +7,7 @@ use Rattle.rt_lemmas.proofs.Options.{some_when}
 use Rattle.rt_ids.specs.declared.op.Op.{Op}
 use Rattle.rt_lex.specs.Token.{Token, is_this_sign}
 use Rattle.rt_grammar.specs.Language.{Language, gives, ◌>>=◌, repeat}
-use Rattle.rt_grammar.specs.Expression.{Operand, Signs, op_of, operator, joined, chain, chains}
+use Rattle.rt_grammar.specs.Expression.{Operand, Signs, op_of, operator, joined_operand, chain, chains}
 use Rattle.rt_grammar.specs.Reach.{is_of}
 use Rattle.rt_parse.specs.Inside.Reading as reading
 use Rattle.rt_parse.specs.Inside.Reading.{Reader, begins_with, token_at, repeat_at}
@@ -77,7 +77,7 @@ means_ops (x ∷ signs) some = means_op x signs
 -- Chains of operators.
 
 abbrev pub step_at : Signs → Reader Operand → Operand → Reader Operand
-step_at signs operand left tokens = reading.◌>>=◌ (token_at (op_of signs) (λ o. None) tokens) (λ o. reading.◌>>=◌ (operand o.1) (λ right. Ok (joined o.0 left right.0, right.1)))
+step_at signs operand left tokens = reading.◌>>=◌ (token_at (op_of signs) (λ o. None) tokens) (λ o. reading.◌>>=◌ (operand o.1) (λ right. Ok (joined_operand o.0 left right.0, right.1)))
 
 abbrev pub chain_at : Signs → Reader Operand → Reader Operand
 chain_at signs operand tokens = reading.◌>>=◌ (operand tokens) (λ got. repeat_at (is_of signs) (step_at signs operand) (length got.1) got.0 got.1)
@@ -87,7 +87,7 @@ chains_at [] atom = atom
 chains_at (signs ∷ stronger) atom = chain_at signs (chains_at stronger atom)
 
 abbrev pub step_of : Signs → Language Operand → Operand → Language Operand
-step_of signs operand left = operator signs >>= λ o. operand >>= λ right. gives (joined o left right)
+step_of signs operand left = operator signs >>= λ o. operand >>= λ right. gives (joined_operand o left right)
 
 pub chain_some : (signs : Signs) (operand : Language Operand) → IsInhabited operand → IsInhabited (chain signs operand)
 chain_some signs operand some = some_then some (some_repeat (step_of signs operand))
@@ -105,8 +105,8 @@ step_reads : {B : Type 0} {before : Token → Bool} (goes : Token → Bool) (x :
     → (left : Operand) → ReadsAfter B before (λ e. goes) (λ e. goes) suc (λ e. e) (step_of (x ∷ signs) operand left) (step_at (x ∷ signs) reader left)
 step_reads goes x signs operand reader some reads left =
     reads_fewer (λ n. omega arith)
-    (reads_then (λ o tokens. reading.◌>>=◌ (reader tokens) (λ right. Ok (joined o left right.0, right.1)))
-    (reads_token (means_op x signs)) (λ o. reads_map (joined o left) (joined o left) reads (λ right. refl)) (λ o. some_then some (λ right. some_gives (joined o left right))))
+    (reads_then (λ o tokens. reading.◌>>=◌ (reader tokens) (λ right. Ok (joined_operand o left right.0, right.1)))
+    (reads_token (means_op x signs)) (λ o. reads_map (joined_operand o left) (joined_operand o left) reads (λ right. refl)) (λ o. some_then some (λ right. some_gives (joined_operand o left right))))
 
 pub chains_reads : {B : Type 0} (all : List Signs) (atom : Language Operand) (reader : Reader Operand) → are_apart all ≡ true → IsInhabited atom
     → Reads B nothing nothing suc (λ e. e) atom reader → Reads B (λ e. of_any all) (λ e. of_any all) suc (λ e. e) (chains all atom) (chains_at all reader)
@@ -122,4 +122,4 @@ chains_reads ((x ∷ signs) ∷ stronger) atom reader apart some reads =
     operand
   where
     op_first : (left : Operand) → Starts (is_of (x ∷ signs)) (step_of (x ∷ signs) (chains stronger atom) left)
-    op_first left = starts_then (λ o. chains stronger atom >>= λ right. gives (joined o left right)) (starts_token (λ o. None) (is_of (x ∷ signs)) (op_starts (x ∷ signs)))
+    op_first left = starts_then (λ o. chains stronger atom >>= λ right. gives (joined_operand o left right)) (starts_token (λ o. None) (is_of (x ∷ signs)) (op_starts (x ∷ signs)))

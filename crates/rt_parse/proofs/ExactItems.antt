@@ -6,7 +6,7 @@ use Rattle.rt_grammar.specs.Mark.{Mark}
 use Rattle.rt_grammar.specs.Language.{Language, ◌>>=◌}
 use Rattle.rt_grammar.specs.Tokens.{sign_of, list, free}
 use Rattle.rt_parse.specs.Inside.Reading as reading
-use Rattle.rt_parse.specs.Inside.Reading.{Reader, begins_with, token_at, sign_at, wrong_at}
+use Rattle.rt_parse.specs.Inside.Reading.{Reader, begins_with, token_at, sign_at, fault_found_at}
 use Rattle.rt_parse.specs.Inside.ReadingList.{comma_at, items_at}
 use Rattle.rt_parse.specs.declared.stop.Found.{Found}
 use Rattle.rt_parse.proofs.Exact.{Outcome, IsExact, IsInhabited, Avoids, Starts, ReadsAfter, Reads, ReadsOrNone, IsForm, IsNone, nothing}
@@ -125,7 +125,7 @@ module _ {S B C : Type 0} {goes : S → Token → Bool} {value : S → C} (closi
         (λ x tokens lt stop. next_exact n m x rest le tokens lt) tokens lt (begins_with-none tokens)))
 
     -- where no item may stand, only the closing sign goes on
-    rest_none : (s : S) (tokens : List Token) → ((marks : List Mark) (x : S) → item s marks x → ⊥) → begins_with (is_this_sign closing) tokens ≡ false → Outcome (rest_of closing item behind s) tokens (Err (wrong_at tokens))
+    rest_none : (s : S) (tokens : List Token) → ((marks : List Mark) (x : S) → item s marks x → ⊥) → begins_with (is_this_sign closing) tokens ≡ false → Outcome (rest_of closing item behind s) tokens (Err (fault_found_at tokens))
     rest_none s tokens none e = outcome_blocked (rest_of closing item behind s) tokens
         (blocked_starts (is_this_sign closing) tokens (starts_within (rest_either closing item behind s)
         (starts_or (starts_then (λ z. behind s) (starts_sign closing free)) (λ marks y l. absurd (none l.1 l.0 l.3)))) e)
@@ -141,7 +141,7 @@ module _ {S B C : Type 0} {goes : S → Token → Bool} {value : S → C} (closi
         go (IsForm reads) = rest_form n m s tokens reads rest le lt e
         go (IsNone none wrong) = subst (λ (r : Result (C × List Token) Found). Outcome (rest_of closing item behind s) tokens (then_read (reading.◌>>=◌ r (λ x. behind_item closing reader n x.0 x.1)))) (sym (wrong tokens)) (rest_none s tokens none e)
 
-    rest_empty : (s : S) → Outcome (rest_of closing item behind s) [] (Err (wrong_at []))
+    rest_empty : (s : S) → Outcome (rest_of closing item behind s) [] (Err (fault_found_at []))
     rest_empty s = outcome_blocked (rest_of closing item behind s) []
         (blocked_starts (λ t. true) [] (starts_within (rest_either closing item behind s)
         (starts_or (starts_wider (is_this_sign closing) (λ t. true) (λ t e. refl) (starts_then (λ z. behind s) (starts_sign closing free))) (starts_wider test (λ t. true) (λ t e. refl) (starts_then (next_of closing item behind) (starts s))))) refl)

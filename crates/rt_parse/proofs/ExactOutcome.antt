@@ -7,7 +7,7 @@ use Rattle.rt_lex.specs.Token.{Token}
 use Rattle.rt_grammar.specs.Mark.{Mark, IsWithin}
 use Rattle.rt_grammar.specs.Language.{Language}
 use Rattle.rt_grammar.specs.Reach.{Fits, Reaches}
-use Rattle.rt_parse.specs.Inside.Reading.{wrong_at}
+use Rattle.rt_parse.specs.Inside.Reading.{fault_found_at}
 use Rattle.rt_parse.specs.declared.stop.Found.{Found}
 use Rattle.rt_parse.proofs.Exact.{IsFront, Passes, Outcome, IsInhabited}
 
@@ -26,7 +26,7 @@ blocked_none : {B : Type 0} {language : Language B} {tokens : List Token} → Is
 blocked_none b [] y l fits = b.some y l fits
 blocked_none b (m ∷ others) y l fits = b.out m others y others [] l fits
 
-pub outcome_blocked : {B : Type 0} (language : Language B) (tokens : List Token) → IsBlocked language tokens → IsInhabited language → Outcome language tokens (Err (wrong_at tokens))
+pub outcome_blocked : {B : Type 0} (language : Language B) (tokens : List Token) → IsBlocked language tokens → IsInhabited language → Outcome language tokens (Err (fault_found_at tokens))
 outcome_blocked language tokens b some = inl (record {
   marks = [];
   rest = tokens;

@@ -8,8 +8,8 @@ use Rattle.rt_grammar.specs.Mark.{Mark}
 use Rattle.rt_grammar.specs.Tokens.{free, names}
 use Rattle.rt_grammar.specs.Text.{text}
 use Rattle.rt_grammar.specs.Limits.{within}
-use Rattle.rt_grammar.specs.Resources.{interrupt, interrupts, monotonic, first_value, lock_free, locked, shared, local, locals}
-use Rattle.rt_grammar.specs.Options.{Owner, OfInit, OfIdle, OfTask, Options, listed, option, options}
+use Rattle.rt_grammar.specs.Resources.{interrupt, interrupts, monotonic, first_value, lock_free, locked_resource, shared_resources, local, locals}
+use Rattle.rt_grammar.specs.Options.{Owner, OfInit, OfIdle, OfTask, Options, listed_resource, option, options}
 use Rattle.rt_grammar.specs.Bodies.{thread_body, arguments, task}
 use Rattle.rt_grammar.specs.Declaration.{dispatchers, fpu, head, application}
 use Rattle.rt_parse.proofs.Known.{Known, IsToken, known_gives, known_then, known_or, known_or_else, known_only_if, known_repeat, known_word, known_sign, known_this_name, known_name, known_number, known_list, known_adds}
@@ -46,10 +46,10 @@ known_first_value = known_then known_sign (λ at. known_then (known_number (λ n
 known_lock_free : (n : ℕ) → Known (lock_free n)
 known_lock_free n = known_then known_word (λ at. known_then (known_name _) (λ x. known_then known_first_value (λ first. known_gives _)))
 
-known_locked : (n : ℕ) → Known (locked n)
+known_locked : (n : ℕ) → Known (locked_resource n)
 known_locked n = known_then (known_name _) (λ x. known_then known_first_value (λ first. known_gives _))
 
-known_shared : Known shared
+known_shared : Known shared_resources
 known_shared = known_or_else [] (known_then known_word (λ at. known_then known_sign (λ at. known_list (codes "}") (known_adds (λ before. known_or (known_lock_free before) (known_locked before))) [])))
 
 known_local : (n : ℕ) → Known (local n)
@@ -58,7 +58,7 @@ known_local n = known_then (known_name _) (λ x. known_then known_first_value (�
 known_locals : Known locals
 known_locals = known_or_else [] (known_then known_word (λ at. known_then known_sign (λ at. known_list (codes "}") (known_adds known_local) [])))
 
-known_listed : Known listed
+known_listed : Known listed_resource
 known_listed = known_or (known_then known_sign (λ at. known_then (known_name _) (λ x. known_gives _))) (known_then (known_name _) (λ x. known_gives _))
 
 known_option : (owner : Owner) (o : Options) → Known (option owner o)

@@ -2,10 +2,10 @@
 use Rattle.std.proofs.Common.{ℕ, zero, suc, codes, [], Option}
 use Rattle.rt_ids.specs.declared.limit.Limit.{Limit}
 use Rattle.rt_grammar.specs.Tokens.{free}
-use Rattle.rt_grammar.specs.Limits.{turned}
+use Rattle.rt_grammar.specs.Limits.{turn_limit}
 use Rattle.rt_grammar.specs.Spawn.{arguments, handle, soon, after, cancel, move, spawn, value}
 use Rattle.rt_grammar.specs.Simple.{bind, assign, emit, pend, call}
-use Rattle.rt_grammar.specs.Statement.{Blocks, branch, loop, further, lock, statement, braced, block, inside}
+use Rattle.rt_grammar.specs.Statement.{Blocks, branch, loop, further, lock, statement, braced_block, block, inside}
 use Rattle.rt_parse.proofs.Known.{Known, known_gives, known_then, known_or, known_or_else, known_never, known_repeat, known_word, known_sign, known_name, known_number, known_list, known_adds, known_expression}
 
 known_arguments : (most : ℕ) → Known (arguments most)
@@ -58,7 +58,7 @@ module _ (most : ℕ) (blocks insides : Blocks) (known : (nesting n : ℕ) → K
   known_branch = known_then known_word (λ at. known_then (known_expression most) (λ e. known_then (known _ _) (λ first. known_then (known_or_else _ (known_then known_word (λ at. known _ _))) (λ second. known_gives _))))
 
   known_loop : Known (loop blocks nesting n)
-  known_loop = known_then known_word (λ at. known_then (known_name _) (λ x. known_then known_word (λ at. known_then (known_number (λ n. free)) (λ first. known_then known_sign (λ at. known_then (known_number (turned first.value)) (λ last. known_then (known _ _) (λ turn. known_gives _)))))))
+  known_loop = known_then known_word (λ at. known_then (known_name _) (λ x. known_then known_word (λ at. known_then (known_number (λ n. free)) (λ first. known_then known_sign (λ at. known_then (known_number (turn_limit first.value)) (λ last. known_then (known _ _) (λ turn. known_gives _)))))))
 
   known_further : Known (further insides nesting n)
   known_further = known_then known_sign (λ at. known_then (known_name _) (λ r. known_then (known' _ _) (λ inner. known_gives _)))
@@ -70,7 +70,7 @@ module _ (most : ℕ) (blocks insides : Blocks) (known : (nesting n : ℕ) → K
   known_statement = known_or (known_bind most n) (known_or (known_assign most n) (known_or known_branch (known_or known_loop (known_or known_lock (known_or (known_emit most n) (known_or (known_pend n) (known_call most n)))))))
 
 module _ (most : ℕ) (blocks insides : Blocks) (known : (nesting n : ℕ) → Known (blocks nesting n)) (known' : (nesting n : ℕ) → Known (insides nesting n)) (nesting n : ℕ) where
-  known_braced : Known (braced most blocks insides nesting n)
+  known_braced : Known (braced_block most blocks insides nesting n)
   known_braced = known_then known_sign (λ at. known_then (known_repeat (λ s. known_then (known_statement most blocks insides known known' nesting s.1) (λ x. known_gives _)) _) (λ all. known_then known_sign (λ end. known_gives _)))
 
 record KnownBlocks (most deep : ℕ) : Type 0 where

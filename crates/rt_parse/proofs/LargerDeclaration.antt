@@ -8,7 +8,7 @@ use Rattle.rt_grammar.specs.Mark.{Mark}
 use Rattle.rt_grammar.specs.Language.{gives}
 use Rattle.rt_grammar.specs.Tokens.{word, limited_word, name}
 use Rattle.rt_grammar.specs.Limits.{at_most}
-use Rattle.rt_grammar.specs.Resources.{interrupts, monotonic, shared, locals}
+use Rattle.rt_grammar.specs.Resources.{interrupts, monotonic, shared_resources, locals}
 use Rattle.rt_grammar.specs.Options.{Owner, OfInit, OfIdle, OfTask, options}
 use Rattle.rt_grammar.specs.Bodies.{arguments, body_of, thread_body, task}
 use Rattle.rt_grammar.specs.Declaration.{head, application}
@@ -34,7 +34,7 @@ larger_application m n most =
     grows_behind head (λ first.
     grows_behind interrupts (λ irqs.
     grows_behind monotonic (λ mono.
-    grows_behind shared (λ ss.
+    grows_behind shared_resources (λ ss.
     grows_behind locals (λ ls.
     grows_then (larger_thread_body m n most OfInit (codes "init")) (λ init.
     grows_then (larger_thread_body m n most OfIdle (codes "idle")) (λ idle.

@@ -5,10 +5,10 @@ use Rattle.rt_ast.specs.Tree.{Statement, Then, Locked, Empty, Branch, Repeat, Bi
 use Rattle.rt_ast.specs.Tree.{Now, Soon, After, Cancel, Move}
 use Rattle.rt_grammar.specs.Language.{gives, ◌>>=◌, ◌>>◌}
 use Rattle.rt_grammar.specs.Tokens.{free, first_of, word, limited_word, sign, limited_sign, name, limited_name, number, limited_number}
-use Rattle.rt_grammar.specs.Limits.{counted, nested, turned}
+use Rattle.rt_grammar.specs.Limits.{statement_limit, nesting_limit, turn_limit}
 use Rattle.rt_grammar.specs.Spawn.{arguments, handle, soon, after, cancel, move, spawn, value}
 use Rattle.rt_grammar.specs.Simple.{Counted, bind, assign, emit, pend, call}
-use Rattle.rt_grammar.specs.Statement.{Blocks, branch, loop, further, lock, statement, one_more, block_of, braced, block, inside}
+use Rattle.rt_grammar.specs.Statement.{Blocks, branch, loop, further, lock, statement, one_more, block_of, braced_block, block, inside}
 use Rattle.rt_parse.proofs.Larger.{Grows, grows_same, grows_never, grows_then, grows_behind, grows_before, grows_or, grows_or_else, grows_repeat, grows_list, grows_adds}
 use Rattle.rt_parse.proofs.LargerExpression.{larger_expression}
 
@@ -56,24 +56,24 @@ larger_value m n most =
 
 pub larger_bind : (m n : ℕ) → m ≤ n → (before : ℕ) → Grows (bind m before) (bind n before)
 larger_bind m n most before =
-    grows_behind (limited_word (codes "let") (counted before)) (λ at.
+    grows_behind (limited_word (codes "let") (statement_limit before)) (λ at.
     grows_behind name (λ x.
     grows_behind (sign (codes "=")) (λ equals.
     grows_before (λ v. sign (codes ";") >> gives (Bind x v, suc before)) (larger_value m n most))))
 
 pub larger_assign : (m n : ℕ) → m ≤ n → (before : ℕ) → Grows (assign m before) (assign n before)
 larger_assign m n most before =
-    grows_behind (limited_name (counted before)) (λ x.
+    grows_behind (limited_name (statement_limit before)) (λ x.
     grows_behind (sign (codes "=")) (λ equals.
     grows_before (λ e. sign (codes ";") >> gives (Assign x e, suc before)) (larger_expression m n most)))
 
 pub larger_emit : (m n : ℕ) → m ≤ n → (before : ℕ) → Grows (emit m before) (emit n before)
 larger_emit m n most before =
-    grows_behind (limited_word (codes "emit") (counted before)) (λ at.
+    grows_behind (limited_word (codes "emit") (statement_limit before)) (λ at.
     grows_before (λ e. sign (codes ";") >> gives (Emit e, suc before)) (larger_expression m n most))
 
 pub larger_call : (m n : ℕ) → m ≤ n → (before : ℕ) → Grows (call m before) (call n before)
-larger_call m n most before = grows_before (λ s. sign (codes ";") >> gives (Spawns s, suc before)) (larger_spawn m n most (counted before))
+larger_call m n most before = grows_before (λ s. sign (codes ";") >> gives (Spawns s, suc before)) (larger_spawn m n most (statement_limit before))
 
 -- each of some blocks is one of others
 abbrev pub BlocksGrow : Blocks → Blocks → Type 0
@@ -81,7 +81,7 @@ BlocksGrow inner wider = (nesting before : ℕ) → Grows (inner nesting before)
 
 pub larger_branch : (m n : ℕ) → m ≤ n → {inner wider : Blocks} → BlocksGrow inner wider → (nesting before : ℕ) → Grows (branch m inner nesting before) (branch n wider nesting before)
 larger_branch m n most grows nesting before =
-    grows_behind (limited_word (codes "if") (counted before)) (λ at.
+    grows_behind (limited_word (codes "if") (statement_limit before)) (λ at.
     grows_then (larger_expression m n most) (λ e.
     grows_then (grows (suc nesting) (suc before)) (λ first.
     grows_before (λ second. gives (Branch e first.0 second.0, second.1))
@@ -89,23 +89,23 @@ larger_branch m n most grows nesting before =
 
 pub grows_loop : {inner wider : Blocks} → BlocksGrow inner wider → (nesting before : ℕ) → Grows (loop inner nesting before) (loop wider nesting before)
 grows_loop grows nesting before =
-    grows_behind (limited_word (codes "for") (counted before)) (λ at.
+    grows_behind (limited_word (codes "for") (statement_limit before)) (λ at.
     grows_behind name (λ x.
     grows_behind (word (codes "in")) (λ among.
     grows_behind number (λ first.
     grows_behind (sign (codes "..")) (λ dots.
-    grows_behind (limited_number (turned first.value)) (λ last.
+    grows_behind (limited_number (turn_limit first.value)) (λ last.
     grows_before (λ turn. gives (Repeat x first.value last.value turn.0, turn.1)) (grows (suc nesting) (suc before))))))))
 
 pub grows_further : {inner wider : Blocks} → BlocksGrow inner wider → BlocksGrow (further inner) (further wider)
 grows_further grows nesting before =
     grows_behind (sign (codes ",")) (λ at.
-    grows_behind (limited_name (first_of (nested nesting) (counted before))) (λ r.
+    grows_behind (limited_name (first_of (nesting_limit nesting) (statement_limit before))) (λ r.
     grows_before (λ inner. gives (Then (Locked r inner.0) Empty, inner.1)) (grows (suc nesting) (suc before))))
 
 pub grows_lock : {inner wider : Blocks} → BlocksGrow inner wider → (nesting before : ℕ) → Grows (lock inner nesting before) (lock wider nesting before)
 grows_lock grows nesting before =
-    grows_behind (limited_word (codes "lock") (counted before)) (λ at.
+    grows_behind (limited_word (codes "lock") (statement_limit before)) (λ at.
     grows_behind name (λ r.
     grows_before (λ inner. gives (Locked r inner.0, inner.1)) (grows (suc nesting) (suc before))))
 
@@ -126,9 +126,9 @@ larger_one_more m n most blocks insides nesting so_far =
     grows_before (λ s. gives (so_far.0 ++ s.0 ∷ [], s.1)) (larger_statement m n most blocks insides nesting so_far.1)
 
 pub larger_braced : (m n : ℕ) → m ≤ n → {blocks blocks' insides insides' : Blocks} → BlocksGrow blocks blocks' → BlocksGrow insides insides'
-    → BlocksGrow (braced m blocks insides) (braced n blocks' insides')
+    → BlocksGrow (braced_block m blocks insides) (braced_block n blocks' insides')
 larger_braced m n most blocks insides nesting before =
-    grows_behind (limited_sign (codes "{") (nested nesting)) (λ at.
+    grows_behind (limited_sign (codes "{") (nesting_limit nesting)) (λ at.
     grows_before (λ all. sign (codes "}") >> gives (block_of all.0, all.1))
     (grows_repeat (larger_one_more m n most blocks insides nesting) ([], before)))
 

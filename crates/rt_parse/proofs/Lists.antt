@@ -1,7 +1,7 @@
 -- A loop of the parser and the list that it reads.
 use Rattle.std.proofs.Common.{◌≡◌, ℕ, zero, suc, ◌<◌, ◌≤◌, Bool, true, false, not, cond, codes, List, [], ◌∷◌, ◌++◌, length, Result, Ok, Err, refl, ap, sym, ◌∙◌, arith}
 use Rattle.rt_lex.specs.Token.{Token, is_this_sign}
-use Rattle.rt_parse.specs.Inside.Reading.{Reader, ◌>>=◌, Stops, sign_at, begins_with, token_at, wrong_at}
+use Rattle.rt_parse.specs.Inside.Reading.{Reader, ◌>>=◌, Stops, sign_at, begins_with, token_at, fault_found_at}
 use Rattle.rt_parse.specs.Inside.ReadingList.{items_at, adds_at, comma_at, goes_past}
 use Rattle.rt_parse.specs.declared.stop.Stop.{Stop}
 use Rattle.rt_parse.specs.declared.stop.Stop.TheVariants as stop
@@ -50,7 +50,7 @@ module _ {S : Type 0} (closing : List ℕ) (item : S → Reader S) (s : S) (rest
   unfolding items_at
   turn n r open_ e = rw (not_closing closing rest open_, e) refl
 
-  by_rest : (rest : List Token) → item s [] ≡ Err (wrong_at []) → goes_past closing rest ≡ false → (n : ℕ) → items_at closing item n s rest ≡ (sign_at closing rest >>= λ end. Ok (s, end.1))
+  by_rest : (rest : List Token) → item s [] ≡ Err (fault_found_at []) → goes_past closing rest ≡ false → (n : ℕ) → items_at closing item n s rest ≡ (sign_at closing rest >>= λ end. Ok (s, end.1))
   unfolding items_at token_at
   by_rest [] nothing e zero = refl
   by_rest [] nothing e (suc n) = rw nothing refl
@@ -89,10 +89,10 @@ module _ {S : Type 0} (closing : List ℕ) (item : S → Reader S) (s : S) (rest
         of_turns zero enough goes = absurd (omega arith)
         of_turns (suc n) enough goes = sym goes ∙ rw (turn n (Ok (t, behind)) open_ e, f) refl
 
-    pub closes : item s [] ≡ Err (wrong_at []) → goes_past closing rest ≡ false → IsListing closing item s rest start all → items_at closing item (length all) start all ≡ (sign_at closing rest >>= λ end. Ok (s, end.1))
+    pub closes : item s [] ≡ Err (fault_found_at []) → goes_past closing rest ≡ false → IsListing closing item s rest start all → items_at closing item (length all) start all ≡ (sign_at closing rest >>= λ end. Ok (s, end.1))
     closes nothing closed so = sym so.goes ∙ by_rest rest nothing closed so.turns
 
-    pub sign_stops : (why : Stop) → item s [] ≡ Err (wrong_at []) → goes_past closing rest ≡ false → Stops why (sign_at closing rest) → IsListing closing item s rest start all → Stops why (items_at closing item (length all) start all)
+    pub sign_stops : (why : Stop) → item s [] ≡ Err (fault_found_at []) → goes_past closing rest ≡ false → Stops why (sign_at closing rest) → IsListing closing item s rest start all → Stops why (items_at closing item (length all) start all)
     sign_stops stop.Memory nothing closed e so = tt
     sign_stops (stop.At found) nothing closed e so = closes nothing closed so ∙ rw e refl
 
@@ -108,7 +108,7 @@ not_added item xs rest stop.Memory closing open_ e = tt
 not_added item xs [] (stop.At found) closing open_ e = absurd cc
 not_added item xs (t ∷ rest) (stop.At found) closing open_ e = rw e refl
 
-pub none_added : {A : Type 0} (item : ℕ → Reader A) (xs : List A) → adds_at item xs [] ≡ Err (wrong_at [])
+pub none_added : {A : Type 0} (item : ℕ → Reader A) (xs : List A) → adds_at item xs [] ≡ Err (fault_found_at [])
 unfolding adds_at
 none_added item xs = refl
 

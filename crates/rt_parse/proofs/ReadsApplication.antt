@@ -10,12 +10,12 @@ use Rattle.rt_ast.specs.declared.app.LocalTree.{LocalTree}
 use Rattle.rt_ast.specs.Tree.{App, Body, Task}
 use Rattle.rt_grammar.specs.Language.{Language, gives, ◌>>=◌, or_else, repeat}
 use Rattle.rt_grammar.specs.Tokens.{adds}
-use Rattle.rt_grammar.specs.Resources.{shared, locals}
+use Rattle.rt_grammar.specs.Resources.{shared_resources, locals}
 use Rattle.rt_grammar.specs.Options.{OfInit, OfIdle}
 use Rattle.rt_grammar.specs.Bodies.{thread_body, task}
 use Rattle.rt_grammar.specs.Declaration.{Head, application}
 use Rattle.rt_parse.specs.Inside.Reading as reading
-use Rattle.rt_parse.specs.Inside.Reading.{wrong_at, token_at}
+use Rattle.rt_parse.specs.Inside.Reading.{fault_found_at, token_at}
 use Rattle.rt_parse.specs.Inside.ReadingList.{adds_at}
 use Rattle.rt_parse.specs.Inside.ReadingBodies.{task_at}
 use Rattle.rt_parse.specs.Inside.ReadingDeclaration.{application_at, text_at}
@@ -52,7 +52,7 @@ abbrev locals_on : ℕ → (List LocalTree → Option Body → Option Body → L
 locals_on most f = locals >>= λ ls. init_on most (f ls)
 
 abbrev shared_on : ℕ → (List SharedTree → List LocalTree → Option Body → Option Body → List Task → App) → Language App
-shared_on most f = shared >>= λ ss. locals_on most (f ss)
+shared_on most f = shared_resources >>= λ ss. locals_on most (f ss)
 
 -- What is behind a part that may be left out does not begin with its word.
 
@@ -102,7 +102,7 @@ app_is first irqs mono ss ls init idle tasks = record {
   tasks = tasks;
 }
 
-task_none : (n : ℕ) → task_at n [] ≡ Err (wrong_at [])
+task_none : (n : ℕ) → task_at n [] ≡ Err (fault_found_at [])
 unfolding task_at token_at
 task_none n = refl
 

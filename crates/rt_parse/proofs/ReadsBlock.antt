@@ -13,14 +13,14 @@ use Rattle.rt_ast.specs.declared.ident.Ident.{Ident}
 use Rattle.rt_ast.specs.Tree.{Statement, Block, Locked, Empty, Then}
 use Rattle.rt_grammar.specs.Language.{gives, ◌>>=◌, ◌or◌, repeat}
 use Rattle.rt_grammar.specs.Tokens.{free, limit_if, first_of, sign, limited_sign, limited_name, name_limit}
-use Rattle.rt_grammar.specs.Limits.{counted, nested}
+use Rattle.rt_grammar.specs.Limits.{statement_limit, nesting_limit}
 use Rattle.rt_grammar.specs.Simple.{Counted}
 use Rattle.rt_grammar.specs.Statement.{Blocks, block_of, one_more, block, inside}
-use Rattle.rt_parse.specs.Inside.Reading.{Reader, begins_with, wrong_at}
+use Rattle.rt_parse.specs.Inside.Reading.{Reader, begins_with, fault_found_at}
 use Rattle.rt_parse.specs.Inside.ReadingExpression.{is_name, is_name_kind}
 use Rattle.rt_parse.specs.Inside.ReadingSimple.{counted_limit}
 use Rattle.rt_parse.specs.Inside.ReadingNested.{nested_limit, further_at}
-use Rattle.rt_parse.specs.Inside.ReadingStatement.{one_more_at, is_inside, braced_at, closed_block_at, nothing_at, block_at, inside_at}
+use Rattle.rt_parse.specs.Inside.ReadingStatement.{one_more_at, is_inside, braced_block_at, closed_block_at, nothing_at, block_at, inside_at}
 use Rattle.rt_parse.proofs.Exact.{IsInhabited, Starts, Reads, nothing}
 use Rattle.rt_parse.proofs.ExactThen.{some_then, reads_seq, reads_then, reads_map, reads_fewer}
 use Rattle.rt_parse.proofs.ExactStarts.{starts_then, starts_wider, avoids_starts, avoids_apart, some_gives, some_left, some_repeat}
@@ -94,7 +94,7 @@ module _ (most : ℕ) (blocks insides : Blocks) (nesting : ℕ) where
   -- where no block may be opened
   braced_closed : {B : Type 0} (n : ℕ) → Reads B nothing nothing suc spent (braced_with (Some limit.Nesting) most blocks insides nesting n) closed_block_at
   unfolding closed_block_at
-  braced_closed n = reads_closed (λ at tokens. Err (wrong_at tokens)) (means_sign (codes "{")) (λ x. (limit.Nesting, refl)) (λ at. all_some n)
+  braced_closed n = reads_closed (λ at tokens. Err (fault_found_at tokens)) (means_sign (codes "{")) (λ x. (limit.Nesting, refl)) (λ at. all_some n)
 
   always : (other : Option Limit) → IsAlways (name_limit (first_of (Some limit.Nesting) other))
   always other x = go (nat_lt NAME_BYTES (length x.name))
@@ -118,8 +118,8 @@ module _ (most : ℕ) (blocks insides : Blocks) (nesting : ℕ) where
     unfolding one_more_at
     one_reads s = reads_map (λ x. (s.0 ++ x.0 ∷ [], x.1)) (λ x. (s.0 ++ x.0 ∷ [], x.1)) (statement_reads most blocks insides nesting s.1 enough reader reader' some reads some' reads') (λ x. refl)
 
-    braced_reads : (n : ℕ) → Reads B nothing nothing suc spent (braced_with None most blocks insides nesting n) (braced_at reader reader' (STATEMENTS - n))
-    unfolding braced_at
+    braced_reads : (n : ℕ) → Reads B nothing nothing suc spent (braced_with None most blocks insides nesting n) (braced_block_at reader reader' (STATEMENTS - n))
+    unfolding braced_block_at
     braced_reads n = reads_fewer (λ n. omega arith)
         (reads_then _ reads_sign
         (λ at. reads_seq _
@@ -140,7 +140,7 @@ module _ (most : ℕ) (blocks insides : Blocks) (nesting : ℕ) where
         (λ at. some_then (name_some (first_of (nested_limit left) (counted_limit (STATEMENTS - n)))) (further_some some' n)))
 
 -- The limit on nesting is passed where no more blocks may be opened.
-pub nested_is : (left nesting : ℕ) → left + nesting ≡ suc NESTING → nested nesting ≡ nested_limit left
+pub nested_is : (left nesting : ℕ) → left + nesting ≡ suc NESTING → nesting_limit nesting ≡ nested_limit left
 nested_is left nesting e = ap (λ (b : Bool). limit_if b limit.Nesting) (lemma left nesting e)
   where
     lemma : (left nesting : ℕ) → left + nesting ≡ suc NESTING → nat_lt NESTING nesting ≡ nat_eq left 0
@@ -152,11 +152,11 @@ none_left left = ap (λ (b : Bool). limit_if b limit.Nesting) (lemma left)
     lemma : (left : ℕ) → nat_eq (suc left) 0 ≡ false
     lemma left = grind arith
 
-name_is : (left nesting n : ℕ) → left + nesting ≡ suc NESTING → first_of (nested nesting) (counted n) ≡ first_of (nested_limit left) (counted_limit (STATEMENTS - n))
-name_is left nesting n e = ap (λ (what : Option Limit). first_of what (counted n)) (nested_is left nesting e) ∙ ap (first_of (nested_limit left)) (counted_is n)
+name_is : (left nesting n : ℕ) → left + nesting ≡ suc NESTING → first_of (nesting_limit nesting) (statement_limit n) ≡ first_of (nested_limit left) (counted_limit (STATEMENTS - n))
+name_is left nesting n e = ap (λ (what : Option Limit). first_of what (statement_limit n)) (nested_is left nesting e) ∙ ap (first_of (nested_limit left)) (counted_is n)
 
 pub block_some : (most deep nesting n : ℕ) → IsInhabited (block most (suc deep) nesting n)
-block_some most deep nesting n = braced_some most (block most deep) (inside most deep) nesting (nested nesting) n
+block_some most deep nesting n = braced_some most (block most deep) (inside most deep) nesting (nesting_limit nesting) n
 
 pub inside_some : (most deep nesting n : ℕ) → IsInhabited (inside most (suc deep) nesting n)
 inside_some most deep nesting n = some_left (block_some most deep nesting n)
@@ -182,8 +182,8 @@ module _ {B : Type 0} (most : ℕ) (enough : suc PARENTHESES ≤ most) where
       let insides = inside most (suc deep) in
       record {
         block_reads = λ n. subst (λ (what : Option Limit). Reads B nothing nothing suc spent (braced_with what most blocks insides nesting n) (block_at zero (STATEMENTS - n))) (sym (nested_is zero nesting e)) (braced_closed most blocks insides nesting n);
-        inside_reads = λ n. subst (λ (what : Option Limit). Reads B nothing nothing suc spent (braced_with (nested nesting) most blocks insides nesting n or further_with what insides nesting n) (inside_at zero (STATEMENTS - n))) (sym (name_is zero nesting n e))
-            (either_reads most blocks insides nesting n (nested nesting) (first_of (nested_limit 0) (counted_limit (STATEMENTS - n))) closed_block_at (further_at nothing_at 0 (STATEMENTS - n))
+        inside_reads = λ n. subst (λ (what : Option Limit). Reads B nothing nothing suc spent (braced_with (nesting_limit nesting) most blocks insides nesting n or further_with what insides nesting n) (inside_at zero (STATEMENTS - n))) (sym (name_is zero nesting n e))
+            (either_reads most blocks insides nesting n (nesting_limit nesting) (first_of (nested_limit 0) (counted_limit (STATEMENTS - n))) closed_block_at (further_at nothing_at 0 (STATEMENTS - n))
             (subst (λ (what : Option Limit). Reads B nothing nothing suc spent (braced_with what most blocks insides nesting n) closed_block_at) (sym (nested_is zero nesting e)) (braced_closed most blocks insides nesting n))
             (further_closed most blocks insides nesting (inside_some most deep (suc nesting)) n));
       }
@@ -192,15 +192,15 @@ module _ {B : Type 0} (most : ℕ) (enough : suc PARENTHESES ≤ most) where
   unfolding block_at inside_at
   inner_blocks left deep nesting e next = record {
     block_reads = λ n. first n;
-    inside_reads = λ n. subst (λ (what : Option Limit). Reads B nothing nothing suc spent (braced_with (nested nesting) most (block most (suc deep)) (inside most (suc deep)) nesting n or further_with what (inside most (suc deep)) nesting n) (inside_at (suc left) (STATEMENTS - n)))
+    inside_reads = λ n. subst (λ (what : Option Limit). Reads B nothing nothing suc spent (braced_with (nesting_limit nesting) most (block most (suc deep)) (inside most (suc deep)) nesting n or further_with what (inside most (suc deep)) nesting n) (inside_at (suc left) (STATEMENTS - n)))
         (sym (name_is (suc left) nesting n e))
-        (either_reads most (block most (suc deep)) (inside most (suc deep)) nesting n (nested nesting) (first_of (nested_limit (suc left)) (counted_limit (STATEMENTS - n))) (braced_at (block_at left) (inside_at left) (STATEMENTS - n)) (further_at (inside_at left) (suc left) (STATEMENTS - n))
+        (either_reads most (block most (suc deep)) (inside most (suc deep)) nesting n (nesting_limit nesting) (first_of (nested_limit (suc left)) (counted_limit (STATEMENTS - n))) (braced_block_at (block_at left) (inside_at left) (STATEMENTS - n)) (further_at (inside_at left) (suc left) (STATEMENTS - n))
         (first n)
         (further_reads most (block most (suc deep)) (inside most (suc deep)) nesting enough (block_at left) (inside_at left) (block_some most deep (suc nesting)) next.block_reads (inside_some most deep (suc nesting)) next.inside_reads (suc left) n));
   }
     where
-      first : (n : ℕ) → Reads B nothing nothing suc spent (braced_with (nested nesting) most (block most (suc deep)) (inside most (suc deep)) nesting n) (braced_at (block_at left) (inside_at left) (STATEMENTS - n))
-      first n = subst (λ (what : Option Limit). Reads B nothing nothing suc spent (braced_with what most (block most (suc deep)) (inside most (suc deep)) nesting n) (braced_at (block_at left) (inside_at left) (STATEMENTS - n)))
+      first : (n : ℕ) → Reads B nothing nothing suc spent (braced_with (nesting_limit nesting) most (block most (suc deep)) (inside most (suc deep)) nesting n) (braced_block_at (block_at left) (inside_at left) (STATEMENTS - n))
+      first n = subst (λ (what : Option Limit). Reads B nothing nothing suc spent (braced_with what most (block most (suc deep)) (inside most (suc deep)) nesting n) (braced_block_at (block_at left) (inside_at left) (STATEMENTS - n)))
           (sym (nested_is (suc left) nesting e ∙ none_left left))
           (braced_reads most (block most (suc deep)) (inside most (suc deep)) nesting enough (block_at left) (inside_at left) (block_some most deep (suc nesting)) next.block_reads (inside_some most deep (suc nesting)) next.inside_reads n)
 

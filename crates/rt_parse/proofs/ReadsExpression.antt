@@ -16,8 +16,8 @@ use Rattle.rt_grammar.specs.Expression.{Operand, comparison, plain_atom, atom, d
 use Rattle.rt_grammar.specs.Reach.{goes_on}
 use Rattle.rt_parse.specs.Inside.Reading as reading
 use Rattle.rt_parse.specs.Inside.Reading.{Reader, begins_with, sign_at}
-use Rattle.rt_parse.specs.Inside.ReadingDepth.{Kept, Measured, measure, kept_if, atomic}
-use Rattle.rt_parse.specs.Inside.ReadingExpression.{comparison_at, is_number, is_number_kind, is_name, is_name_kind, number_atom_at, name_atom_at, parenthesized_at, closed_at, atom_or_at, nested_at, atom_at, unless_deep, expression_at}
+use Rattle.rt_parse.specs.Inside.ReadingDepth.{Kept, Measured, measure, tree_unless_deep, atomic}
+use Rattle.rt_parse.specs.Inside.ReadingExpression.{comparison_at, is_number, is_number_kind, is_name, is_name_kind, number_atom_at, name_atom_at, parenthesized_expression_at, refused_parenthesis_at, atom_or_at, nested_expression_at, atom_at, unless_deep, expression_at}
 use Rattle.rt_parse.proofs.Exact.{IsInhabited, Starts, ReadsAfter, Reads, nothing}
 use Rattle.rt_parse.proofs.ExactToken.{reads_gives}
 use Rattle.rt_parse.proofs.ExactThen.{some_then, reads_seq, reads_then, reads_map, reads_fewer, reads_no_stop, reads_same}
@@ -109,17 +109,17 @@ the_limit opened e = ap (λ (b : Bool). limit_if b limit.Parentheses) (lemma ope
     lemma : (opened : ℕ) → zero + opened ≡ PARENTHESES → nat_le PARENTHESES opened ≡ true
     lemma opened e = grind arith
 
-closed_reads : {B : Type 0} (most opened : ℕ) → Reads B nothing nothing suc measure (parens most opened (Some limit.Parentheses)) closed_at
-unfolding closed_at
-closed_reads most opened = reads_closed (λ at tokens. Err (reading.wrong_at tokens)) (means_sign (codes "(")) (λ x. (limit.Parentheses, refl)) (behind_some most (suc opened))
+closed_reads : {B : Type 0} (most opened : ℕ) → Reads B nothing nothing suc measure (parens most opened (Some limit.Parentheses)) refused_parenthesis_at
+unfolding refused_parenthesis_at
+closed_reads most opened = reads_closed (λ at tokens. Err (reading.fault_found_at tokens)) (means_sign (codes "(")) (λ x. (limit.Parentheses, refl)) (behind_some most (suc opened))
 
 read_ok : {A E : Type 0} (read : Result A E) → reading.◌>>=◌ read (λ x. Ok x) ≡ read
 read_ok (Ok x) = refl
 read_ok (Err e) = refl
 
 opened_reads : {B : Type 0} (most opened : ℕ) (reader : Reader Measured) → Reads B nothing nothing suc measure (atom most (suc opened)) reader
-    → Reads B nothing nothing suc measure (parens most opened None) (parenthesized_at (comparison_at reader))
-unfolding parenthesized_at
+    → Reads B nothing nothing suc measure (parens most opened None) (parenthesized_expression_at (comparison_at reader))
+unfolding parenthesized_expression_at
 opened_reads most opened reader reads = reads_fewer (λ n. omega arith)
     (reads_then (λ at tokens. reading.◌>>=◌ (comparison_at reader tokens) (λ inner. reading.◌>>=◌ (sign_at (codes ")") inner.1) (λ end. Ok (record { at = at; kept = inner.0.kept }, end.1))))
     reads_sign
@@ -134,16 +134,16 @@ opened_reads most opened reader reads = reads_fewer (λ n. omega arith)
     (λ at. behind_some most (suc opened) at))
 
 pub atom_reads : {B : Type 0} (more most opened : ℕ) → more + opened ≡ PARENTHESES → suc more ≤ most → Reads B nothing nothing suc measure (atom most opened) (atom_at more)
-unfolding nested_at
+unfolding nested_expression_at
 atom_reads {B} more zero opened e le = absurd (omega arith)
-atom_reads {B} zero (suc most) opened e le = atom_or_reads (parens most opened (limit_if (nat_le PARENTHESES opened) limit.Parentheses)) (nested_at zero) (parens_starts most opened _)
-    (subst (λ (what : Option Limit). Reads B nothing nothing suc measure (parens most opened what) (nested_at zero)) (sym (the_limit opened e)) (closed_reads most opened))
-atom_reads {B} (suc more) (suc most) opened e le = atom_or_reads (parens most opened (limit_if (nat_le PARENTHESES opened) limit.Parentheses)) (nested_at (suc more)) (parens_starts most opened _)
-    (subst (λ (what : Option Limit). Reads B nothing nothing suc measure (parens most opened what) (nested_at (suc more))) (sym (no_limit more opened e))
+atom_reads {B} zero (suc most) opened e le = atom_or_reads (parens most opened (limit_if (nat_le PARENTHESES opened) limit.Parentheses)) (nested_expression_at zero) (parens_starts most opened _)
+    (subst (λ (what : Option Limit). Reads B nothing nothing suc measure (parens most opened what) (nested_expression_at zero)) (sym (the_limit opened e)) (closed_reads most opened))
+atom_reads {B} (suc more) (suc most) opened e le = atom_or_reads (parens most opened (limit_if (nat_le PARENTHESES opened) limit.Parentheses)) (nested_expression_at (suc more)) (parens_starts most opened _)
+    (subst (λ (what : Option Limit). Reads B nothing nothing suc measure (parens most opened what) (nested_expression_at (suc more))) (sym (no_limit more opened e))
     (opened_reads most opened (atom_at more) (atom_reads more most (suc opened) (omega arith) (omega arith))))
 
 unless_same : (at : ℕ) (k : Kept) (tokens : List Token) (deep : Bool)
-    → (if deep then Err (record { at = Some at; refusal = refusal.Limit limit.Depth }) else Ok (k.tree, tokens)) ≡ unless_deep at (kept_if deep k) tokens
+    → (if deep then Err (record { at = Some at; refusal = refusal.Limit limit.Depth }) else Ok (k.tree, tokens)) ≡ unless_deep at (tree_unless_deep deep k) tokens
 unless_same at k tokens true = refl
 unless_same at k tokens false = refl
 

@@ -12,7 +12,7 @@ use Rattle.rt_grammar.specs.Tokens.{free, word, sign, this_name, names}
 use Rattle.rt_grammar.specs.Limits.{within}
 use Rattle.rt_grammar.specs.Declaration.{dispatchers, fpu, Head, head}
 use Rattle.rt_parse.specs.Inside.ReadingDeclaration.{dispatchers_at, extension_at, fpu_at, Features, behind_comma_at}
-use Rattle.rt_parse.specs.Inside.ReadingDeclaration.{alone_at, dispatched_at, features_at, featured_at, head_at}
+use Rattle.rt_parse.specs.Inside.ReadingDeclaration.{alone_at, dispatcher_features_at, features_at, head_rest_at, head_at}
 use Rattle.rt_parse.proofs.Exact.{Starts, nothing}
 use Rattle.rt_parse.proofs.ExactLaws.{IsWithinLanguage, then_then, then_then', gives_then, gives_then', then_same}
 use Rattle.rt_parse.proofs.ExactLaws.{same_then, or_then, or_then'}
@@ -139,7 +139,7 @@ module _ {B : Type 0} {before : Token → Bool} where
       (λ n. omega arith) (form_goes {goes = nothing} (λ x t e. absurd cc) (form_then _ form_sign (λ at. extension_form)))
 
 module _ {B : Type 0} {before : Token → Bool} where
-  dispatched_form : Form B before comma nothing suc (λ x. x) dispatched dispatched_at
+  dispatched_form : Form B before comma nothing suc (λ x. x) dispatched dispatcher_features_at
   dispatched_form = form_fewer (λ n. omega arith)
       (form_then _ named_form (λ ds. form_map (λ on. (ds, on)) (λ on. (ds, on)) fpu_form (λ on. refl)))
 
@@ -173,7 +173,7 @@ abbrev closed : Ident → ℕ → Features → Language Head
 closed x bits fs = sign (codes ")") >>= λ at. sign (codes ";") >>= λ at. gives (head_is x bits fs)
 
 featured_form : {B : Type 0} {before : Token → Bool} (x : Ident) (bits : ℕ)
-    → Form B before nothing nothing suc (λ x. x) (features >>= closed x bits) (featured_at x bits)
+    → Form B before nothing nothing suc (λ x. x) (features >>= closed x bits) (head_rest_at x bits)
 featured_form x bits = form_fewer (λ n. omega arith)
     (form_seq _ features_form
     (λ fs. form_then _ form_sign

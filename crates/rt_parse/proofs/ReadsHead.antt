@@ -12,11 +12,11 @@ use Rattle.rt_ast.specs.declared.app.LocalTree.{LocalTree}
 use Rattle.rt_grammar.specs.Language.{Language, gives, ◌>>=◌, ◌>>◌, ◌or◌}
 use Rattle.rt_grammar.specs.Tokens.{free, word, sign, name, number, list, adds, name_limit, limited_name, names}
 use Rattle.rt_grammar.specs.Limits.{within, at_most}
-use Rattle.rt_grammar.specs.Resources.{interrupt, interrupts, monotonic, first_value, lock_free, locked, shared, local, locals}
-use Rattle.rt_parse.specs.Inside.Reading.{Reader, wrong_at, name_at, token_at}
+use Rattle.rt_grammar.specs.Resources.{interrupt, interrupts, monotonic, first_value, lock_free, locked_resource, shared_resources, local, locals}
+use Rattle.rt_parse.specs.Inside.Reading.{Reader, fault_found_at, name_at, token_at}
 use Rattle.rt_parse.specs.Inside.ReadingList.{items_at, adds_at, names_at}
 use Rattle.rt_parse.specs.Inside.ReadingExpression.{is_name}
-use Rattle.rt_parse.specs.Inside.ReadingResources.{interrupt_at, interrupts_at, clock_at, monotonic_at, first_value_at, lock_free_at, locked_at, resource_at, resources_at, shared_at, local_at, local_resources_at, locals_at}
+use Rattle.rt_parse.specs.Inside.ReadingResources.{interrupt_at, interrupts_at, clock_at, monotonic_at, first_value_at, lock_free_at, locked_resource_at, resource_at, resources_at, shared_resources_at, local_at, local_resources_at, locals_at}
 use Rattle.rt_parse.proofs.Exact.{Starts, nothing}
 use Rattle.rt_parse.proofs.ExactStarts.{starts_token, starts_then, starts_or, starts_wider, avoids_apart, some_left}
 use Rattle.rt_parse.proofs.ExactChoice.{reads_choice}
@@ -36,7 +36,7 @@ name_apart text t e = name_no_sign t.kind _ e
 -- a list of items that are added
 pub form_list : {A B : Type 0} {before : Token → Bool} (closing : List ℕ) (test : Token → Bool) (item : ℕ → Language A) (reader : ℕ → Reader A)
     → bytes_eq (codes ",") closing ≡ false → ((n : ℕ) → Starts test (item n)) → ((t : Token) → test t ≡ true → is_this_sign closing t ≡ false)
-    → ((n : ℕ) → reader n [] ≡ Err (wrong_at [])) → ((n : ℕ) → Form B (λ t. false) nothing nothing suc (λ x. x) (item n) (reader n))
+    → ((n : ℕ) → reader n [] ≡ Err (fault_found_at [])) → ((n : ℕ) → Form B (λ t. false) nothing nothing suc (λ x. x) (item n) (reader n))
     → Form B before nothing nothing suc (λ xs. xs) (list closing (adds item) []) (λ tokens. items_at closing (adds_at reader) (length tokens) [] tokens)
 form_list closing test item reader no_comma starts apart none reads =
     record { reads = adds_list_reads closing test item reader no_comma starts apart none (λ n. (reads n).reads); some = list_some closing (adds item) [] }
@@ -97,8 +97,8 @@ lock_free_form n = form_fewer (λ n. omega arith)
     (form_then _ form_word (λ at. form_then _ (form_name free)
     (λ x. form_map (λ first. record { name = x; first = first; lock_free = true }) (λ first. record { name = x; first = first; lock_free = true }) first_value_form (λ first. refl))))
 
-locked_form : {B : Type 0} {before : Token → Bool} (n : ℕ) → Form B before nothing nothing suc (λ x. x) (locked n) (locked_at n)
-unfolding locked_at
+locked_form : {B : Type 0} {before : Token → Bool} (n : ℕ) → Form B before nothing nothing suc (λ x. x) (locked_resource n) (locked_resource_at n)
+unfolding locked_resource_at
 locked_form n = form_fewer (λ n. omega arith)
     (form_then _ (form_name (at_most SHARED limit.Shared n))
     (λ x. form_map (λ first. record { name = x; first = first; lock_free = false }) (λ first. record { name = x; first = first; lock_free = false }) first_value_form (λ first. refl)))
@@ -106,7 +106,7 @@ locked_form n = form_fewer (λ n. omega arith)
 name_no_word : (text : List ℕ) (t : Token) → is_name t ≡ true → is_this_word text t ≡ false
 name_no_word text t e = block.name_no_word t.kind _ e
 
-resource_form : {B : Type 0} {before : Token → Bool} (n : ℕ) → Form B before nothing nothing suc (λ x. x) (lock_free n or locked n) (resource_at n)
+resource_form : {B : Type 0} {before : Token → Bool} (n : ℕ) → Form B before nothing nothing suc (λ x. x) (lock_free n or locked_resource n) (resource_at n)
 unfolding resource_at
 resource_form n = record {
   reads = reads_choice (is_this_word (codes "lock_free")) (starts_then _ (starts_word (codes "lock_free") (at_most SHARED limit.Shared n)))
@@ -118,7 +118,7 @@ resource_form n = record {
 begins_resource : Token → Bool
 begins_resource t = is_this_word (codes "lock_free") t || is_name t
 
-resource_starts : (n : ℕ) → Starts begins_resource (lock_free n or locked n)
+resource_starts : (n : ℕ) → Starts begins_resource (lock_free n or locked_resource n)
 unfolding begins_resource
 resource_starts n = starts_or (starts_wider (is_this_word (codes "lock_free")) begins_resource (λ t e. or_left (is_this_word (codes "lock_free") t) (is_name t) e) (starts_then _ (starts_word (codes "lock_free") (at_most SHARED limit.Shared n))))
     (starts_wider is_name begins_resource (λ t e. or_right (is_this_word (codes "lock_free") t) (is_name t) e) (starts_then _ (name_starts (at_most SHARED limit.Shared n))))
@@ -132,21 +132,21 @@ resource_apart t e = go (is_this_word (codes "lock_free") t) refl e
     go false f e = name_apart (codes "}") t e
 
 unfoldable pub resources_of : Language (List SharedTree)
-resources_of = word (codes "shared") >>= λ at. sign (codes "{") >>= λ at. list (codes "}") (adds (λ before. lock_free before or locked before)) []
+resources_of = word (codes "shared") >>= λ at. sign (codes "{") >>= λ at. list (codes "}") (adds (λ before. lock_free before or locked_resource before)) []
 
 pub shared_starts : Starts (is_this_word (codes "shared")) resources_of
 unfolding resources_of
 shared_starts = starts_then _ (starts_word (codes "shared") free)
 
-resource_none : (n : ℕ) → resource_at n [] ≡ Err (wrong_at [])
-unfolding resource_at locked_at token_at
+resource_none : (n : ℕ) → resource_at n [] ≡ Err (fault_found_at [])
+unfolding resource_at locked_resource_at token_at
 resource_none n = refl
 
-pub shared_form : {B : Type 0} {before : Token → Bool} → Form B before (λ x. is_this_word (codes "shared")) nothing (λ n. n) (λ x. x) shared shared_at
-unfolding shared_at resources_at resources_of
+pub shared_form : {B : Type 0} {before : Token → Bool} → Form B before (λ x. is_this_word (codes "shared")) nothing (λ n. n) (λ x. x) shared_resources shared_resources_at
+unfolding shared_resources_at resources_at resources_of
 shared_form = form_optional (is_this_word (codes "shared")) [] shared_starts (λ t e. e) (λ n. omega arith)
     (form_goes {goes = nothing} (λ x t e. absurd cc)
-    (form_then _ form_word (λ at. form_then _ form_sign (λ at. form_list (codes "}") begins_resource (λ n. lock_free n or locked n) resource_at refl resource_starts resource_apart resource_none resource_form))))
+    (form_then _ form_word (λ at. form_then _ form_sign (λ at. form_list (codes "}") begins_resource (λ n. lock_free n or locked_resource n) resource_at refl resource_starts resource_apart resource_none resource_form))))
 
 local_form : {B : Type 0} {before : Token → Bool} (n : ℕ) → Form B before nothing nothing suc (λ x. x) (local n) (local_at n)
 unfolding local_at
@@ -154,7 +154,7 @@ local_form n = form_fewer (λ n. omega arith)
     (form_then _ (form_name (at_most LOCALS limit.Locals n))
     (λ x. form_map (λ first. record { name = x; first = first }) (λ first. record { name = x; first = first }) first_value_form (λ first. refl)))
 
-local_none : (n : ℕ) → local_at n [] ≡ Err (wrong_at [])
+local_none : (n : ℕ) → local_at n [] ≡ Err (fault_found_at [])
 unfolding local_at token_at
 local_none n = refl
 

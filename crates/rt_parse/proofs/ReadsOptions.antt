@@ -10,11 +10,11 @@ use Rattle.rt_grammar.specs.Mark.{Mark}
 use Rattle.rt_grammar.specs.Language.{Language, gives, ◌>>=◌, ◌or◌, only_if}
 use Rattle.rt_grammar.specs.Tokens.{free, word, sign, name, number, limited_number, list, adds, names}
 use Rattle.rt_grammar.specs.Limits.{within}
-use Rattle.rt_grammar.specs.Options.{Options, no_options, Owner, is_task, is_init, listed, priority_option, capacity_option, shared_option, local_option, option, options}
+use Rattle.rt_grammar.specs.Options.{Options, no_options, Owner, is_task, is_init, listed_resource, priority_option, capacity_option, shared_option, local_option, option, options}
 use Rattle.rt_parse.specs.Inside.Reading as reading
-use Rattle.rt_parse.specs.Inside.Reading.{Reader, begins_with, wrong_at, token_at}
+use Rattle.rt_parse.specs.Inside.Reading.{Reader, begins_with, fault_found_at, token_at}
 use Rattle.rt_parse.specs.Inside.ReadingExpression.{is_name}
-use Rattle.rt_parse.specs.Inside.ReadingOptions.{takes, binds_at, priority_at, capacity_at, listed_by_ref_at, listed_plainly_at, listed_at, shared_list_at, local_list_at, option_at, some_options_at, options_at}
+use Rattle.rt_parse.specs.Inside.ReadingOptions.{takes, binds_at, priority_at, capacity_at, ref_resource_at, named_resource_at, listed_resource_at, shared_list_at, local_list_at, option_at, some_options_at, options_at}
 use Rattle.rt_parse.specs.declared.stop.Found.{Found}
 use Rattle.rt_parse.proofs.Exact.{Outcome, IsInhabited, Starts, ReadsAfter, ReadsOrNone, IsForm, IsNone, nothing}
 use Rattle.rt_parse.proofs.ExactOutcome.{outcome_blocked}
@@ -29,7 +29,7 @@ use Rattle.rt_parse.proofs.ReadsForm.{Form, form_word, form_sign, form_name, for
 
 -- Where the next token is not a form's first, it is wrong.
 reads_tested : {A B C : Type 0} {before : Token → Bool} {goes stops : A → Token → Bool} {longer : ℕ → ℕ} {value : A → C} {L : Language A} {reader reader' : Reader C} (test : Token → Bool)
-    → Starts test L → IsInhabited L → ((tokens : List Token) → reader' tokens ≡ Err (wrong_at tokens)) → ReadsAfter B before goes stops longer value L reader
+    → Starts test L → IsInhabited L → ((tokens : List Token) → reader' tokens ≡ Err (fault_found_at tokens)) → ReadsAfter B before goes stops longer value L reader
     → ReadsAfter B before goes stops longer value L (λ tokens. if begins_with test tokens then reader tokens else reader' tokens)
 reads_tested {A} {B} {C} {L = L} {reader = reader} {reader' = reader'} test starts some wrong reads = record {
   exact = λ behind read most any avoids exact tokens le stop. choose behind read tokens any (begins_with test tokens) refl (reads.exact behind read most any avoids exact tokens le stop);
@@ -67,9 +67,9 @@ choice_or_none {L = L} {M = M} {reader = reader} {reader' = reader'} false text 
 -- one option alone
 last_or_none : {A B : Type 0} {L : Language A} {reader : Reader A} (allowed : Bool) (text : List ℕ)
     → Starts (is_this_word text) L → Form B (λ t. false) nothing nothing suc (λ x. x) L reader
-    → ReadsOrNone B nothing (λ x. x) (only_if allowed L) (λ tokens. if begins_with (takes allowed text) tokens then reader tokens else Err (wrong_at tokens))
+    → ReadsOrNone B nothing (λ x. x) (only_if allowed L) (λ tokens. if begins_with (takes allowed text) tokens then reader tokens else Err (fault_found_at tokens))
 last_or_none {L = L} {reader = reader} true text l first = IsForm (reads_tested (is_this_word text) (starts_only_if l) (first.some.0, first.some.1, (refl, first.some.2)) (λ tokens. refl) (reads_only_if refl first.reads))
-last_or_none {L = L} {reader = reader} false text l first = IsNone (none_only_if L refl) (λ tokens. sym (no_take text reader (λ tokens. Err (wrong_at tokens)) tokens))
+last_or_none {L = L} {reader = reader} false text l first = IsNone (none_only_if L refl) (λ tokens. sym (no_take text reader (λ tokens. Err (fault_found_at tokens)) tokens))
 
 -- The options.
 
@@ -112,19 +112,19 @@ plainly_starts : Starts is_name plainly_of
 unfolding plainly_of
 plainly_starts = starts_then _ (name_starts free)
 
-by_ref_form : {B : Type 0} {before : Token → Bool} → Form B before nothing nothing suc (λ x. x) by_ref_of listed_by_ref_at
-unfolding by_ref_of listed_by_ref_at
+by_ref_form : {B : Type 0} {before : Token → Bool} → Form B before nothing nothing suc (λ x. x) by_ref_of ref_resource_at
+unfolding by_ref_of ref_resource_at
 by_ref_form = form_fewer (λ n. omega arith)
     (form_then _ form_sign (λ at. form_map (λ x. record { name = x; by_ref = true; at = at }) (λ x. record { name = x; by_ref = true; at = at }) (form_name free) (λ x. refl)))
 
-plainly_form : {B : Type 0} {before : Token → Bool} → Form B before nothing nothing suc (λ x. x) plainly_of listed_plainly_at
-unfolding plainly_of listed_plainly_at
+plainly_form : {B : Type 0} {before : Token → Bool} → Form B before nothing nothing suc (λ x. x) plainly_of named_resource_at
+unfolding plainly_of named_resource_at
 plainly_form = form_map (λ x. record { name = x; by_ref = false; at = x.at }) (λ x. record { name = x; by_ref = false; at = x.at }) (form_name free) (λ x. refl)
 
 begins_listed : Token → Bool
 begins_listed t = is_this_sign (codes "&") t || is_name t
 
-listed_starts : Starts begins_listed listed
+listed_starts : Starts begins_listed listed_resource
 unfolding by_ref_of plainly_of begins_listed
 listed_starts = starts_or (starts_wider (is_this_sign (codes "&")) begins_listed (λ t e. or_left (is_this_sign (codes "&") t) (is_name t) e) by_ref_starts)
     (starts_wider is_name begins_listed (λ t e. or_right (is_this_sign (codes "&") t) (is_name t) e) plainly_starts)
@@ -137,26 +137,26 @@ listed_apart t e = go (is_this_sign (codes "&") t) refl e
     go true f e = signs_apart (codes "&") (codes "]") refl t f
     go false f e = name_apart (codes "]") t e
 
-listed_form : {B : Type 0} {before : Token → Bool} → Form B before nothing nothing suc (λ x. x) listed listed_at
-unfolding listed_at by_ref_of plainly_of
+listed_form : {B : Type 0} {before : Token → Bool} → Form B before nothing nothing suc (λ x. x) listed_resource listed_resource_at
+unfolding listed_resource_at by_ref_of plainly_of
 listed_form = record {
   reads = reads_choice (is_this_sign (codes "&")) by_ref_starts (λ K avoids. avoids_apart is_name (is_this_sign (codes "&")) (name_apart (codes "&")) plainly_starts K) by_ref_form.reads plainly_form.reads;
   some = some_left (by_ref_form {B = ℕ} {before = λ t. false}).some;
 }
 
-listed_none : listed_at [] ≡ Err (wrong_at [])
-unfolding listed_at listed_plainly_at token_at
+listed_none : listed_resource_at [] ≡ Err (fault_found_at [])
+unfolding listed_resource_at named_resource_at token_at
 listed_none = refl
 
 shared_of : Options → Language Options
-shared_of o = word (codes "shared") >>= λ at. sign (codes "=") >>= λ at. sign (codes "[") >>= λ at. list (codes "]") (adds (λ before. listed)) [] >>= λ xs. gives (record o { shared = Some xs })
+shared_of o = word (codes "shared") >>= λ at. sign (codes "=") >>= λ at. sign (codes "[") >>= λ at. list (codes "]") (adds (λ before. listed_resource)) [] >>= λ xs. gives (record o { shared = Some xs })
 
 shared_form : {B : Type 0} {before : Token → Bool} (o : Options) → Form B before nothing nothing suc (λ x. x) (shared_of o) (shared_list_at o)
 unfolding shared_of shared_list_at
 shared_form o = form_fewer (λ n. omega arith)
     (form_then _ form_word (λ at. form_then _ form_sign (λ at. form_then _ form_sign
     (λ at. form_map (λ xs. record o { shared = Some xs }) (λ xs. record o { shared = Some xs })
-    (form_list (codes "]") begins_listed (λ n. listed) (λ n. listed_at) refl (λ n. listed_starts) listed_apart (λ n. listed_none) (λ n. listed_form)) (λ xs. refl)))))
+    (form_list (codes "]") begins_listed (λ n. listed_resource) (λ n. listed_resource_at) refl (λ n. listed_starts) listed_apart (λ n. listed_none) (λ n. listed_form)) (λ xs. refl)))))
 
 local_of : Options → Language Options
 local_of o = word (codes "local") >>= λ at. sign (codes "=") >>= λ at. names >>= λ xs. gives (record o { local = Some xs })

@@ -11,12 +11,12 @@ use Rattle.rt_ast.specs.Tree.{Expression, Soon, After, Cancel, Move}
 use Rattle.rt_grammar.specs.Language.{Language, gives, ◌>>=◌, ◌or◌}
 use Rattle.rt_grammar.specs.Tokens.{free, limit_if, limited_word, sign, name, limited_name, adds}
 use Rattle.rt_grammar.specs.Expression.{expression}
-use Rattle.rt_grammar.specs.Limits.{counted}
+use Rattle.rt_grammar.specs.Limits.{statement_limit}
 use Rattle.rt_grammar.specs.Spawn.{arguments, handle, soon, after, cancel, move, spawn}
 use Rattle.rt_grammar.specs.Simple.{Counted}
-use Rattle.rt_parse.specs.Inside.Reading.{wrong_at, token_at, limited_word_at, limited_name_at}
-use Rattle.rt_parse.specs.Inside.ReadingExpression.{expression_at, comparison_at, chains_at, chain_at, atom_or_at, nested_at, parenthesized_at}
-use Rattle.rt_parse.specs.Inside.ReadingSpawn.{arguments_at, enclosed_at, delayed_at, soon_at, after_at, cancel_at}
+use Rattle.rt_parse.specs.Inside.Reading.{fault_found_at, token_at, limited_word_at, limited_name_at}
+use Rattle.rt_parse.specs.Inside.ReadingExpression.{expression_at, comparison_at, chains_at, chain_at, atom_or_at, nested_expression_at, parenthesized_expression_at}
+use Rattle.rt_parse.specs.Inside.ReadingSpawn.{arguments_at, enclosed_expression_at, delayed_task_at, soon_at, after_at, cancel_at}
 use Rattle.rt_parse.specs.Inside.ReadingSpawn.{move_at, spawn_at}
 use Rattle.rt_parse.specs.Inside.ReadingSimple.{counted_limit}
 use Rattle.rt_parse.proofs.Exact.{IsInhabited, Starts, ReadsAfter, nothing}
@@ -36,17 +36,17 @@ spent x = (x.0, STATEMENTS - x.1)
 pub less_room : (before : ℕ) → (STATEMENTS - before) - 1 ≡ STATEMENTS - suc before
 less_room before = omega arith
 
-pub counted_is : (before : ℕ) → counted before ≡ counted_limit (STATEMENTS - before)
+pub counted_is : (before : ℕ) → statement_limit before ≡ counted_limit (STATEMENTS - before)
 counted_is before = ap (λ (b : Bool). limit_if b limit.Statements) (lemma before)
   where
     lemma : (before : ℕ) → nat_le STATEMENTS before ≡ nat_eq (STATEMENTS - before) 0
     lemma before = grind arith
 
-pub reads_counted_word : {B : Type 0} {before : Token → Bool} {text : List ℕ} (n : ℕ) → ReadsAfter B before nothing nothing suc (λ x. x) (limited_word text (counted n)) (limited_word_at text (counted_limit (STATEMENTS - n)))
+pub reads_counted_word : {B : Type 0} {before : Token → Bool} {text : List ℕ} (n : ℕ) → ReadsAfter B before nothing nothing suc (λ x. x) (limited_word text (statement_limit n)) (limited_word_at text (counted_limit (STATEMENTS - n)))
 reads_counted_word {text = text} n = reads_same (λ marks y l. l) (λ marks y l. l) (λ tokens. ap (λ (what : Option Limit). limited_word_at text what tokens) (counted_is n)) reads_word
 
-pub reads_counted_name : {B : Type 0} {before : Token → Bool} (n : ℕ) → ReadsAfter B before nothing nothing suc (λ x. x) (limited_name (counted n)) (limited_name_at (counted_limit (STATEMENTS - n)))
-reads_counted_name n = reads_same (λ marks y l. l) (λ marks y l. l) (λ tokens. ap (λ (what : Option Limit). limited_name_at what tokens) (counted_is n)) (reads_name (counted n))
+pub reads_counted_name : {B : Type 0} {before : Token → Bool} (n : ℕ) → ReadsAfter B before nothing nothing suc (λ x. x) (limited_name (statement_limit n)) (limited_name_at (counted_limit (STATEMENTS - n)))
+reads_counted_name n = reads_same (λ marks y l. l) (λ marks y l. l) (λ tokens. ap (λ (what : Option Limit). limited_name_at what tokens) (counted_is n)) (reads_name (statement_limit n))
 
 pub name_some : (what : Option Limit) → IsInhabited (limited_name what)
 name_some what = some_token means_name
@@ -55,8 +55,8 @@ name_some what = some_token means_name
 pub sign_gives_some : {A : Type 0} (text : List ℕ) (x : A) → IsInhabited (sign text >>= λ end. gives x)
 sign_gives_some text x = some_then (some_sign text free) (λ end. some_gives x)
 
-expression_none : expression_at [] ≡ Err (wrong_at [])
-unfolding expression_at comparison_at chains_at chain_at atom_or_at nested_at parenthesized_at token_at
+expression_none : expression_at [] ≡ Err (fault_found_at [])
+unfolding expression_at comparison_at chains_at chain_at atom_or_at nested_expression_at parenthesized_expression_at token_at
 expression_none = refl
 
 -- What they begin with; each list begins with the word of its name.
@@ -175,15 +175,15 @@ module _ (most : ℕ) (enough : suc PARENTHESES ≤ most) where
   }))
 
   enclosed_form : {B : Type 0} {before : Token → Bool}
-      → Form B before nothing nothing suc (λ e. e) (handle most) enclosed_at
-  unfolding enclosed_at
+      → Form B before nothing nothing suc (λ e. e) (handle most) enclosed_expression_at
+  unfolding enclosed_expression_at
   enclosed_form = form_fewer (λ n. omega arith)
       (form_then _ form_sign (λ at. form_then _ expression_form
       (λ e. form_map (λ end. e) (λ end. e) form_sign (λ end. refl))))
 
   delayed_form : {B : Type 0} {before : Token → Bool}
-      → Form B before nothing nothing suc (λ x. x) (delayed most) delayed_at
-  unfolding delayed_at
+      → Form B before nothing nothing suc (λ x. x) (delayed most) delayed_task_at
+  unfolding delayed_task_at
   delayed_form = form_fewer (λ n. omega arith)
       (form_then _ enclosed_form
       (λ delay. form_map (λ task. (delay, task)) (λ task. (delay, task)) (form_name free) (λ task. refl)))

@@ -11,7 +11,7 @@ use Rattle.rt_ast.specs.declared.ident.Number.{Number}
 use Rattle.rt_ast.specs.Tree.{Statement, Block, Expression, Branch, Repeat, Locked, Empty}
 use Rattle.rt_grammar.specs.Language.{Language, gives, ◌>>=◌, ◌>>◌, ◌or◌, or_else}
 use Rattle.rt_grammar.specs.Tokens.{free, word, sign, name_limit, number, limited_number}
-use Rattle.rt_grammar.specs.Limits.{counted, turned}
+use Rattle.rt_grammar.specs.Limits.{statement_limit, turn_limit}
 use Rattle.rt_grammar.specs.Simple.{Counted, bind, assign, emit, pend, call}
 use Rattle.rt_grammar.specs.Statement.{Blocks, branch, loop, lock, statement}
 use Rattle.rt_parse.specs.Inside.Reading.{Reader}
@@ -78,7 +78,7 @@ module _ {B : Type 0} (most : ℕ) (enough : suc PARENTHESES ≤ most) (block : 
       (λ x. reads_then _ reads_word
       (λ at. reads_then _ (reads_number (λ n. free))
       (λ first. reads_then _ reads_sign
-      (λ at. reads_then _ (reads_number (turned first.value))
+      (λ at. reads_then _ (reads_number (turn_limit first.value))
       (λ last. reads_map (λ turn. (Repeat x first.value last.value turn.0, turn.1)) (λ turn. (Repeat x first.value last.value turn.0, turn.1)) (reads_less (block (suc nesting)) reader reads n) (λ turn. refl))
       (turn_some x first))
       (λ at. last_some x first))
@@ -90,16 +90,16 @@ module _ {B : Type 0} (most : ℕ) (enough : suc PARENTHESES ≤ most) (block : 
       turn_some : (x : Ident) (first last : Number) → IsInhabited {B = Counted Statement} (block (suc nesting) (suc n) >>= λ turn. gives (Repeat x first.value last.value turn.0, turn.1))
       turn_some x first last = some_then (some (suc n)) (λ turn. some_gives (Repeat x first.value last.value turn.0, turn.1))
 
-      last_some : (x : Ident) (first : Number) → IsInhabited {B = Counted Statement} (limited_number (turned first.value) >>= λ last. block (suc nesting) (suc n) >>= λ turn. gives (Repeat x first.value last.value turn.0, turn.1))
+      last_some : (x : Ident) (first : Number) → IsInhabited {B = Counted Statement} (limited_number (turn_limit first.value) >>= λ last. block (suc nesting) (suc n) >>= λ turn. gives (Repeat x first.value last.value turn.0, turn.1))
       last_some x first = some_then (some_token means_number) (turn_some x first)
 
-      dots_some : (x : Ident) (first : Number) → IsInhabited {B = Counted Statement} (sign (codes "..") >>= λ at. limited_number (turned first.value) >>= λ last. block (suc nesting) (suc n) >>= λ turn. gives (Repeat x first.value last.value turn.0, turn.1))
+      dots_some : (x : Ident) (first : Number) → IsInhabited {B = Counted Statement} (sign (codes "..") >>= λ at. limited_number (turn_limit first.value) >>= λ last. block (suc nesting) (suc n) >>= λ turn. gives (Repeat x first.value last.value turn.0, turn.1))
       dots_some x first = some_then (some_sign (codes "..") free) (λ at. last_some x first)
 
-      first_some : (x : Ident) → IsInhabited {B = Counted Statement} (number >>= λ first. sign (codes "..") >>= λ at. limited_number (turned first.value) >>= λ last. block (suc nesting) (suc n) >>= λ turn. gives (Repeat x first.value last.value turn.0, turn.1))
+      first_some : (x : Ident) → IsInhabited {B = Counted Statement} (number >>= λ first. sign (codes "..") >>= λ at. limited_number (turn_limit first.value) >>= λ last. block (suc nesting) (suc n) >>= λ turn. gives (Repeat x first.value last.value turn.0, turn.1))
       first_some x = some_then (some_token means_number) (dots_some x)
 
-      in_some : (x : Ident) → IsInhabited {B = Counted Statement} (word (codes "in") >>= λ at. number >>= λ first. sign (codes "..") >>= λ at. limited_number (turned first.value) >>= λ last. block (suc nesting) (suc n) >>= λ turn. gives (Repeat x first.value last.value turn.0, turn.1))
+      in_some : (x : Ident) → IsInhabited {B = Counted Statement} (word (codes "in") >>= λ at. number >>= λ first. sign (codes "..") >>= λ at. limited_number (turn_limit first.value) >>= λ last. block (suc nesting) (suc n) >>= λ turn. gives (Repeat x first.value last.value turn.0, turn.1))
       in_some x = some_then (some_word (codes "in") free) (λ at. first_some x)
 
   -- what is behind a lock's name is read by the reader
@@ -139,28 +139,28 @@ begins_statement t = is_name t || of_words statement_words t
 
 module _ (most : ℕ) (block inside : Blocks) (nesting n : ℕ) where
   assign_starts : Starts is_name (assign most n)
-  assign_starts = starts_then _ (starts_token (name_limit (counted n)) is_name (λ t x e. name_kind t.kind t.text t.at x e))
+  assign_starts = starts_then _ (starts_token (name_limit (statement_limit n)) is_name (λ t x e. name_kind t.kind t.text t.at x e))
 
   call_starts : Starts (of_words spawn_words) (call most n)
-  call_starts = starts_then _ (spawn_starts most (counted n))
+  call_starts = starts_then _ (spawn_starts most (statement_limit n))
 
   pend_starts : Starts (of_words of_pend) (pend n or call most n)
-  pend_starts = starts_words (codes "pend") spawn_words (starts_then _ (starts_word (codes "pend") (counted n))) call_starts
+  pend_starts = starts_words (codes "pend") spawn_words (starts_then _ (starts_word (codes "pend") (statement_limit n))) call_starts
 
   emit_starts : Starts (of_words of_emit) (emit most n or pend n or call most n)
-  emit_starts = starts_words (codes "emit") of_pend (starts_then _ (starts_word (codes "emit") (counted n))) pend_starts
+  emit_starts = starts_words (codes "emit") of_pend (starts_then _ (starts_word (codes "emit") (statement_limit n))) pend_starts
 
   lock_starts : Starts (of_words of_lock) (lock inside nesting n or emit most n or pend n or call most n)
-  lock_starts = starts_words (codes "lock") of_emit (starts_then _ (starts_word (codes "lock") (counted n))) emit_starts
+  lock_starts = starts_words (codes "lock") of_emit (starts_then _ (starts_word (codes "lock") (statement_limit n))) emit_starts
 
   loop_starts : Starts (of_words of_loop) (loop block nesting n or lock inside nesting n or emit most n or pend n or call most n)
-  loop_starts = starts_words (codes "for") of_lock (starts_then _ (starts_word (codes "for") (counted n))) lock_starts
+  loop_starts = starts_words (codes "for") of_lock (starts_then _ (starts_word (codes "for") (statement_limit n))) lock_starts
 
   branch_starts : Starts (of_words of_branch) (branch most block nesting n or loop block nesting n or lock inside nesting n or emit most n or pend n or call most n)
-  branch_starts = starts_words (codes "if") of_loop (starts_then _ (starts_word (codes "if") (counted n))) loop_starts
+  branch_starts = starts_words (codes "if") of_loop (starts_then _ (starts_word (codes "if") (statement_limit n))) loop_starts
 
   bind_starts : Starts (of_words statement_words) (bind most n or branch most block nesting n or loop block nesting n or lock inside nesting n or emit most n or pend n or call most n)
-  bind_starts = starts_words (codes "let") of_branch (starts_then _ (starts_word (codes "let") (counted n))) branch_starts
+  bind_starts = starts_words (codes "let") of_branch (starts_then _ (starts_word (codes "let") (statement_limit n))) branch_starts
 
   pub statement_starts : Starts begins_statement (statement most block inside nesting n)
   statement_starts = starts_within
@@ -179,9 +179,9 @@ module _ (most : ℕ) (block inside : Blocks) (nesting n : ℕ) where
         (λ tokens. refl)
         (reads_choice is_name assign_starts (λ K avoids. avoids_apart (of_words statement_words) is_name (words_no_name statement_words) bind_starts K)
         (reads_any (assign_reads most enough n))
-        (reads_words (codes "let") of_branch refl (starts_then _ (starts_word (codes "let") (counted n))) branch_starts (reads_any (bind_reads most enough n))
-        (reads_words (codes "if") of_loop refl (starts_then _ (starts_word (codes "if") (counted n))) loop_starts (branch_reads most enough block nesting reader some reads n)
-        (reads_words (codes "for") of_lock refl (starts_then _ (starts_word (codes "for") (counted n))) lock_starts (reads_any (loop_reads most enough block nesting reader some reads n))
-        (reads_words (codes "lock") of_emit refl (starts_then _ (starts_word (codes "lock") (counted n))) emit_starts (reads_any (lock_reads most enough inside nesting reader' some' reads' n))
-        (reads_words (codes "emit") of_pend refl (starts_then _ (starts_word (codes "emit") (counted n))) pend_starts (reads_any (emit_reads most enough n))
-        (reads_words (codes "pend") spawn_words refl (starts_then _ (starts_word (codes "pend") (counted n))) call_starts (reads_any (pend_reads n)) (reads_any (call_reads most enough n)))))))))
+        (reads_words (codes "let") of_branch refl (starts_then _ (starts_word (codes "let") (statement_limit n))) branch_starts (reads_any (bind_reads most enough n))
+        (reads_words (codes "if") of_loop refl (starts_then _ (starts_word (codes "if") (statement_limit n))) loop_starts (branch_reads most enough block nesting reader some reads n)
+        (reads_words (codes "for") of_lock refl (starts_then _ (starts_word (codes "for") (statement_limit n))) lock_starts (reads_any (loop_reads most enough block nesting reader some reads n))
+        (reads_words (codes "lock") of_emit refl (starts_then _ (starts_word (codes "lock") (statement_limit n))) emit_starts (reads_any (lock_reads most enough inside nesting reader' some' reads' n))
+        (reads_words (codes "emit") of_pend refl (starts_then _ (starts_word (codes "emit") (statement_limit n))) pend_starts (reads_any (emit_reads most enough n))
+        (reads_words (codes "pend") spawn_words refl (starts_then _ (starts_word (codes "pend") (statement_limit n))) call_starts (reads_any (pend_reads n)) (reads_any (call_reads most enough n)))))))))

@@ -9,7 +9,7 @@ use Rattle.rt_ast.specs.declared.ident.Ident.{Ident}
 use Rattle.rt_ast.specs.Tree.{Body, Task, Block}
 use Rattle.rt_grammar.specs.Language.{Language, gives, ◌>>=◌, repeat}
 use Rattle.rt_grammar.specs.Tokens.{free, word, name}
-use Rattle.rt_grammar.specs.Limits.{nested, at_most}
+use Rattle.rt_grammar.specs.Limits.{nesting_limit, at_most}
 use Rattle.rt_grammar.specs.Simple.{Counted}
 use Rattle.rt_grammar.specs.Statement.{block, inside}
 use Rattle.rt_grammar.specs.Options.{Options, Owner, OfTask, options}
@@ -30,7 +30,7 @@ use Rattle.rt_parse.proofs.ReadsOptions.{options_form}
 
 body_starts : (most deep nesting n : ℕ) → Starts (is_this_sign (codes "{")) (block most deep nesting n)
 body_starts most zero nesting n = λ marks y l. absurd l
-body_starts most (suc deep) nesting n = braced_starts most (block most deep) (inside most deep) nesting (nested nesting) n
+body_starts most (suc deep) nesting n = braced_starts most (block most deep) (inside most deep) nesting (nesting_limit nesting) n
 
 body_some : (most deep nesting n : ℕ) → 1 ≤ deep → IsInhabited (block most deep nesting n)
 body_some most zero nesting n le = absurd (omega arith)

@@ -11,7 +11,7 @@ use Rattle.rt_ast.specs.Tree.{Value, Bind, Assign, Emit, Pend, Spawns, Calc, Now
 use Rattle.rt_grammar.specs.Language.{Language, gives, ◌>>=◌}
 use Rattle.rt_grammar.specs.Tokens.{free, word}
 use Rattle.rt_grammar.specs.Expression.{expression}
-use Rattle.rt_grammar.specs.Limits.{counted}
+use Rattle.rt_grammar.specs.Limits.{statement_limit}
 use Rattle.rt_grammar.specs.Spawn.{spawn, value}
 use Rattle.rt_grammar.specs.Simple.{bind, assign, emit, pend, call}
 use Rattle.rt_parse.specs.Inside.ReadingExpression.{is_name_kind}
@@ -99,8 +99,8 @@ module _ (most : ℕ) (enough : suc PARENTHESES ≤ most) where
 
   -- Statements.
 
-  reads_counted_spawn : {B : Type 0} {before : Token → Bool} (n : ℕ) → ReadsAfter B before nothing nothing suc (λ x. x) (spawn most (counted n)) (spawn_at (counted_limit (STATEMENTS - n)))
-  reads_counted_spawn n = reads_same (λ marks y l. l) (λ marks y l. l) (λ tokens. ap (λ (what : Option Limit). spawn_at what tokens) (counted_is n)) (spawn_reads most enough (counted n))
+  reads_counted_spawn : {B : Type 0} {before : Token → Bool} (n : ℕ) → ReadsAfter B before nothing nothing suc (λ x. x) (spawn most (statement_limit n)) (spawn_at (counted_limit (STATEMENTS - n)))
+  reads_counted_spawn n = reads_same (λ marks y l. l) (λ marks y l. l) (λ tokens. ap (λ (what : Option Limit). spawn_at what tokens) (counted_is n)) (spawn_reads most enough (statement_limit n))
 
   pub bind_reads : {B : Type 0} {before : Token → Bool} (n : ℕ) → ReadsAfter B before nothing nothing suc spent (bind most n) (bind_at (STATEMENTS - n))
   unfolding bind_at

@@ -6,7 +6,7 @@ use Rattle.rt_lex.specs.Token.{Token, is_this_word, is_this_sign}
 use Rattle.rt_grammar.specs.Language.{Language, gives, ◌>>=◌, ◌>>◌, ◌or◌}
 use Rattle.rt_grammar.specs.Tokens.{free, sign, list, adds}
 use Rattle.rt_parse.specs.Inside.Reading as reading
-use Rattle.rt_parse.specs.Inside.Reading.{Reader, begins_with, wrong_at}
+use Rattle.rt_parse.specs.Inside.Reading.{Reader, begins_with, fault_found_at}
 use Rattle.rt_parse.specs.Inside.ReadingList.{items_at, adds_at}
 use Rattle.rt_parse.specs.declared.stop.Found.{Found}
 use Rattle.rt_parse.proofs.Exact.{IsInhabited, Starts, ReadsAfter, Reads, nothing}
@@ -64,7 +64,7 @@ or_second L M N marks x (inl m) = inr (inl m)
 or_second L M N marks x (inr (inl l)) = inl l
 or_second L M N marks x (inr (inr n)) = inr (inr n)
 
-pub adds_reads : {A B : Type 0} (item : ℕ → Language A) (reader : ℕ → Reader A) → ((n : ℕ) → reader n [] ≡ Err (wrong_at [])) → ((n : ℕ) → Reads B nothing nothing suc (λ x. x) (item n) (reader n))
+pub adds_reads : {A B : Type 0} (item : ℕ → Language A) (reader : ℕ → Reader A) → ((n : ℕ) → reader n [] ≡ Err (fault_found_at [])) → ((n : ℕ) → Reads B nothing nothing suc (λ x. x) (item n) (reader n))
     → (xs : List A) → Reads B nothing nothing suc (λ xs. xs) (adds item xs) (adds_at reader xs)
 unfolding adds_at
 adds_reads {A} item reader none reads xs = reads_same (λ marks y l. l) (λ marks y l. l) same (reads_map (λ x. xs ++ x ∷ []) (λ x. xs ++ x ∷ []) (reads (length xs)) (λ x. refl))
@@ -76,7 +76,7 @@ adds_reads {A} item reader none reads xs = reads_same (λ marks y l. l) (λ mark
 -- a list of items that are added, up to a sign
 pub adds_list_reads : {A B : Type 0} {before : Token → Bool} (closing : List ℕ) (test : Token → Bool) (item : ℕ → Language A) (reader : ℕ → Reader A)
     → bytes_eq (codes ",") closing ≡ false → ((n : ℕ) → Starts test (item n)) → ((t : Token) → test t ≡ true → is_this_sign closing t ≡ false)
-    → ((n : ℕ) → reader n [] ≡ Err (wrong_at [])) → ((n : ℕ) → Reads B nothing nothing suc (λ x. x) (item n) (reader n))
+    → ((n : ℕ) → reader n [] ≡ Err (fault_found_at [])) → ((n : ℕ) → Reads B nothing nothing suc (λ x. x) (item n) (reader n))
     → ReadsAfter B before nothing nothing suc (λ xs. xs) (list closing (adds item) []) (λ tokens. items_at closing (adds_at reader) (length tokens) [] tokens)
 adds_list_reads closing test item reader no_comma starts apart none reads =
     reads_list {goes = nothing} closing test (adds item) (adds_at reader) no_comma (λ xs. starts_then _ (starts (length xs))) apart (λ xs t e. refl) (λ xs t e. refl) (adds_reads item reader none reads) []

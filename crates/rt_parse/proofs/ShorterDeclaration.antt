@@ -1,15 +1,15 @@
 -- The readers of declarations take a token at least.
 use Rattle.std.proofs.Common.{◌≡◌, ℕ, codes, List, [], ◌∷◌, length, Err, refl}
 use Rattle.rt_lex.specs.Token.{is_this_word, is_this_sign}
-use Rattle.rt_parse.specs.Inside.Reading.{name_at, begins_with, wrong_at}
+use Rattle.rt_parse.specs.Inside.Reading.{name_at, begins_with, fault_found_at}
 use Rattle.rt_parse.specs.Inside.ReadingList.{items_at, adds_at, names_at}
 use Rattle.rt_grammar.specs.Options.{Options, Owner, OfTask, no_options}
 use Rattle.rt_ast.specs.declared.ident.Ident.{Ident}
 use Rattle.rt_ids.specs.declared.limits.TheConstants.{NESTING, STATEMENTS}
 use Rattle.rt_parse.proofs.Lists.{no_longer_items, shorter_adds}
 use Rattle.rt_parse.proofs.ShorterStatement.{shorter_block}
-use Rattle.rt_parse.specs.Inside.ReadingResources.{interrupt_at, first_value_at, lock_free_at, locked_at, resource_at, local_at}
-use Rattle.rt_parse.specs.Inside.ReadingOptions.{binds_at, priority_at, capacity_at, shared_list_at, local_list_at, option_at, options_at, some_options_at, listed_by_ref_at, listed_plainly_at, listed_at}
+use Rattle.rt_parse.specs.Inside.ReadingResources.{interrupt_at, first_value_at, lock_free_at, locked_resource_at, resource_at, local_at}
+use Rattle.rt_parse.specs.Inside.ReadingOptions.{binds_at, priority_at, capacity_at, shared_list_at, local_list_at, option_at, options_at, some_options_at, ref_resource_at, named_resource_at, listed_resource_at}
 use Rattle.rt_parse.specs.Inside.ReadingBodies.{one_argument_at, argument_at, task_arguments_at, parameters_at, task_at}
 use Rattle.rt_parse.proofs.Shorter.{IsShorter, IsNoLonger, shorter_no_longer, shorter_then, no_longer_then, no_longer_ok, shorter_if, no_longer_if, shorter_err, no_longer_repeat, shorter_token}
 
@@ -25,7 +25,7 @@ unfolding first_value_at
 no_longer_first_value = no_longer_then (shorter_no_longer (shorter_token _ _)) (λ _. no_longer_then (shorter_no_longer (shorter_token _ _)) (λ _. no_longer_ok _))
 
 pub shorter_resource : (before : ℕ) → IsShorter (resource_at before)
-unfolding resource_at lock_free_at locked_at
+unfolding resource_at lock_free_at locked_resource_at
 shorter_resource before =
     shorter_if (begins_with (is_this_word (codes "lock_free"))) _ _
     (shorter_then (shorter_token _ _) (λ _. no_longer_then (shorter_no_longer (shorter_token _ _)) (λ _. no_longer_then no_longer_first_value (λ _. no_longer_ok _))))
@@ -35,8 +35,8 @@ pub shorter_local : (before : ℕ) → IsShorter (local_at before)
 unfolding local_at
 shorter_local before = shorter_then (shorter_token _ _) (λ _. no_longer_then no_longer_first_value (λ _. no_longer_ok _))
 
-pub shorter_listed : IsShorter listed_at
-unfolding listed_at listed_by_ref_at listed_plainly_at
+pub shorter_listed : IsShorter listed_resource_at
+unfolding listed_resource_at ref_resource_at named_resource_at
 shorter_listed =
     shorter_if (begins_with (is_this_sign (codes "&"))) _ _
     (shorter_then (shorter_token _ _) (λ _. no_longer_then (shorter_no_longer (shorter_token _ _)) (λ _. no_longer_ok _)))
@@ -63,8 +63,8 @@ shorter_shared_list : (o : Options) → IsShorter (shared_list_at o)
 unfolding shared_list_at
 shorter_shared_list o =
     shorter_then (shorter_token _ _) (λ _. no_longer_then (shorter_no_longer (shorter_token _ _)) (λ _. no_longer_then (shorter_no_longer (shorter_token _ _))
-    (λ _. no_longer_then {reader = λ ts. items_at (codes "]") (adds_at (λ before. listed_at)) (length ts) [] ts}
-    (λ ts. no_longer_items (codes "]") (adds_at (λ before. listed_at)) (λ xs. shorter_no_longer (shorter_adds (λ before. listed_at) (λ before. shorter_listed) xs)) (length ts) [] ts) (λ _. no_longer_ok _))))
+    (λ _. no_longer_then {reader = λ ts. items_at (codes "]") (adds_at (λ before. listed_resource_at)) (length ts) [] ts}
+    (λ ts. no_longer_items (codes "]") (adds_at (λ before. listed_resource_at)) (λ xs. shorter_no_longer (shorter_adds (λ before. listed_resource_at) (λ before. shorter_listed) xs)) (length ts) [] ts) (λ _. no_longer_ok _))))
 
 shorter_local_list : (o : Options) → IsShorter (local_list_at o)
 unfolding local_list_at
@@ -74,10 +74,10 @@ pub shorter_option : (owner : Owner) (o : Options) → IsShorter (option_at owne
 unfolding option_at
 shorter_option owner o =
     shorter_if (begins_with _) _ _ (shorter_binds o) (shorter_if (begins_with _) _ _ (shorter_priority o) (shorter_if (begins_with _) _ _ (shorter_capacity o)
-    (shorter_if (begins_with _) _ _ (shorter_shared_list o) (shorter_if (begins_with _) _ _ (shorter_local_list o) (shorter_err Options wrong_at)))))
+    (shorter_if (begins_with _) _ _ (shorter_shared_list o) (shorter_if (begins_with _) _ _ (shorter_local_list o) (shorter_err Options fault_found_at)))))
 
 -- there is no option at the end of the text
-pub no_option : (owner : Owner) (o : Options) → option_at owner o [] ≡ Err (wrong_at [])
+pub no_option : (owner : Owner) (o : Options) → option_at owner o [] ≡ Err (fault_found_at [])
 unfolding option_at
 no_option owner o = refl
 

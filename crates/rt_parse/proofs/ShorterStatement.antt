@@ -4,14 +4,14 @@ use Rattle.rt_lex.specs.Token.{is_this_word, is_this_sign}
 use Rattle.rt_ids.specs.declared.limit.Limit.{Limit}
 use Rattle.rt_ast.specs.Tree.{Statement, Block}
 use Rattle.rt_grammar.specs.Simple.{Counted}
-use Rattle.rt_parse.specs.Inside.Reading.{Reader, begins_with, repeat_at, wrong_at}
+use Rattle.rt_parse.specs.Inside.Reading.{Reader, begins_with, repeat_at, fault_found_at}
 use Rattle.rt_parse.specs.Inside.ReadingList.{adds_at}
 use Rattle.rt_parse.specs.Inside.ReadingExpression.{is_name, expression_at}
-use Rattle.rt_parse.specs.Inside.ReadingSpawn.{arguments_at, enclosed_at, delayed_at, soon_at, after_at, cancel_at}
+use Rattle.rt_parse.specs.Inside.ReadingSpawn.{arguments_at, enclosed_expression_at, delayed_task_at, soon_at, after_at, cancel_at}
 use Rattle.rt_parse.specs.Inside.ReadingSpawn.{move_at, spawn_at, now_at, call_value_at, calc_at, value_at, is_spawn}
 use Rattle.rt_parse.specs.Inside.ReadingSimple.{bind_at, assign_at, emit_at, pend_at, call_at}
 use Rattle.rt_parse.specs.Inside.ReadingNested.{else_block_at, else_at, branch_at, loop_at, further_at, lock_at}
-use Rattle.rt_parse.specs.Inside.ReadingStatement.{statement_at, one_more_at, is_inside, braced_at, closed_block_at, nothing_at, block_at, inside_at}
+use Rattle.rt_parse.specs.Inside.ReadingStatement.{statement_at, one_more_at, is_inside, braced_block_at, closed_block_at, nothing_at, block_at, inside_at}
 use Rattle.rt_parse.proofs.Shorter.{IsShorter, IsNoLonger, shorter_no_longer, shorter_then, no_longer_then, no_longer_ok, shorter_err, shorter_if, no_longer_if, shorter_token, no_longer_repeat}
 use Rattle.rt_parse.proofs.ShorterExpression.{shorter_expression}
 use Rattle.rt_parse.proofs.Lists.{no_longer_items, shorter_adds}
@@ -21,13 +21,13 @@ unfolding arguments_at
 shorter_arguments =
     shorter_then (shorter_token _ _) (λ _ tokens. no_longer_items (codes ")") (adds_at (λ before. expression_at)) (λ xs. shorter_no_longer (shorter_adds (λ before. expression_at) (λ before. shorter_expression) xs)) (length tokens) [] tokens)
 
-shorter_enclosed : IsShorter enclosed_at
-unfolding enclosed_at
+shorter_enclosed : IsShorter enclosed_expression_at
+unfolding enclosed_expression_at
 shorter_enclosed = shorter_then (shorter_token _ _) (λ _. no_longer_then (shorter_no_longer shorter_expression)
     (λ _. no_longer_then (shorter_no_longer (shorter_token _ _)) (λ _. no_longer_ok _)))
 
-shorter_delayed : IsShorter delayed_at
-unfolding delayed_at
+shorter_delayed : IsShorter delayed_task_at
+unfolding delayed_task_at
 shorter_delayed = shorter_then shorter_enclosed
     (λ _. no_longer_then (shorter_no_longer (shorter_token _ _)) (λ _. no_longer_ok _))
 
@@ -133,8 +133,8 @@ unfolding one_more_at
 shorter_one_more block inside h k so_far =
     shorter_then (shorter_statement block inside h k so_far.1) (λ _. no_longer_ok _)
 
-pub shorter_braced : (block inside : ℕ → Reader (Counted Block)) → AreShorter block → AreShorter inside → (room : ℕ) → IsShorter (braced_at block inside room)
-unfolding braced_at
+pub shorter_braced : (block inside : ℕ → Reader (Counted Block)) → AreShorter block → AreShorter inside → (room : ℕ) → IsShorter (braced_block_at block inside room)
+unfolding braced_block_at
 shorter_braced block inside h k room =
     shorter_then (shorter_token _ _) (λ _. no_longer_then {reader = λ ts. repeat_at is_inside (one_more_at block inside) (length ts) ([], room) ts}
     (λ ts. no_longer_repeat is_inside (one_more_at block inside) (λ so_far. shorter_no_longer (shorter_one_more block inside h k so_far)) (length ts) ([], room) ts)
@@ -143,11 +143,11 @@ shorter_braced block inside h k room =
 pub shorter_closed_block : IsShorter closed_block_at
 unfolding closed_block_at
 shorter_closed_block =
-    shorter_then (shorter_token _ _) (λ _. shorter_no_longer (shorter_err (Counted Block) wrong_at))
+    shorter_then (shorter_token _ _) (λ _. shorter_no_longer (shorter_err (Counted Block) fault_found_at))
 
 shorter_nothing : AreShorter nothing_at
 unfolding nothing_at
-shorter_nothing room = shorter_err (Counted Block) wrong_at
+shorter_nothing room = shorter_err (Counted Block) fault_found_at
 
 mutual
   unfolding block_at

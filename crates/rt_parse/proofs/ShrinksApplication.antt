@@ -2,7 +2,7 @@
 use Rattle.std.proofs.Common.{ℕ, suc, ◌≤◌, false, codes, List, [], None}
 use Rattle.rt_ids.specs.declared.limits.TheConstants.{PARENTHESES}
 use Rattle.rt_grammar.specs.Tokens.{free}
-use Rattle.rt_grammar.specs.Resources.{interrupts, monotonic, shared, locals}
+use Rattle.rt_grammar.specs.Resources.{interrupts, monotonic, shared_resources, locals}
 use Rattle.rt_grammar.specs.Options.{Owner, OfInit, OfIdle, OfTask, options}
 use Rattle.rt_grammar.specs.Bodies.{arguments, thread_body, task}
 use Rattle.rt_grammar.specs.Declaration.{head, application}
@@ -34,5 +34,5 @@ module _ (most most' : ℕ) (enough : suc PARENTHESES ≤ most') where
 
   pub shrinks_application : Shrinks (application most) (application most')
   shrinks_application = shrinks_then (shrinks_same head_some) (λ first. shrinks_then (shrinks_same interrupts_some) (λ irqs. shrinks_then (shrinks_same {L = monotonic} (some_left (some_gives None))) (λ mono.
-      shrinks_then (shrinks_same {L = shared} (some_left (some_gives []))) (λ ss. shrinks_then (shrinks_same {L = locals} (some_left (some_gives []))) (λ ls.
+      shrinks_then (shrinks_same {L = shared_resources} (some_left (some_gives []))) (λ ss. shrinks_then (shrinks_same {L = locals} (some_left (some_gives []))) (λ ls.
       shrinks_then (shrinks_thread_body OfInit (codes "init")) (λ init. shrinks_then (shrinks_thread_body OfIdle (codes "idle")) (λ idle. shrinks_then (shrinks_repeat (shrinks_adds shrinks_task) []) (λ tasks. shrinks_gives _))))))))

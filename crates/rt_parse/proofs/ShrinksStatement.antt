@@ -7,10 +7,10 @@ use Rattle.rt_ids.specs.declared.limits.TheConstants.{PARENTHESES, NESTING, NAME
 use Rattle.rt_grammar.specs.Language.{Language, gives}
 use Rattle.rt_grammar.specs.Tokens.{free, limit_if, first_of, name_limit}
 use Rattle.rt_grammar.specs.Expression.{Operand, Signs, operator, comparisons, strengths, chains, comparison, atom, ends, expression}
-use Rattle.rt_grammar.specs.Limits.{counted, nested, turned}
+use Rattle.rt_grammar.specs.Limits.{statement_limit, nesting_limit, turn_limit}
 use Rattle.rt_grammar.specs.Spawn.{arguments, handle, soon, after, cancel, move, spawn, value}
 use Rattle.rt_grammar.specs.Simple.{bind, assign, emit, pend, call}
-use Rattle.rt_grammar.specs.Statement.{Blocks, branch, loop, further, lock, statement, braced, block, inside}
+use Rattle.rt_grammar.specs.Statement.{Blocks, branch, loop, further, lock, statement, braced_block, block, inside}
 use Rattle.rt_parse.proofs.Exact.{IsInhabited}
 use Rattle.rt_parse.proofs.ExactThen.{some_then}
 use Rattle.rt_parse.proofs.ExactStarts.{some_token, some_gives}
@@ -89,7 +89,7 @@ module _ (most most' : ℕ) (enough : suc PARENTHESES ≤ most') where
   shrinks_bind n = shrinks_then shrinks_word (λ at. shrinks_then (shrinks_name free) (λ x. shrinks_then shrinks_sign (λ at. shrinks_then shrinks_value (λ v. shrinks_then shrinks_sign (λ end. shrinks_gives _)))))
 
   shrinks_assign : (n : ℕ) → Shrinks (assign most n) (assign most' n)
-  shrinks_assign n = shrinks_then (shrinks_name (counted n)) (λ x. shrinks_then shrinks_sign (λ at. shrinks_then shrinks_expression (λ e. shrinks_then shrinks_sign (λ end. shrinks_gives _))))
+  shrinks_assign n = shrinks_then (shrinks_name (statement_limit n)) (λ x. shrinks_then shrinks_sign (λ at. shrinks_then shrinks_expression (λ e. shrinks_then shrinks_sign (λ end. shrinks_gives _))))
 
   shrinks_emit : (n : ℕ) → Shrinks (emit most n) (emit most' n)
   shrinks_emit n = shrinks_then shrinks_word (λ at. shrinks_then shrinks_expression (λ e. shrinks_then shrinks_sign (λ end. shrinks_gives _)))
@@ -98,7 +98,7 @@ module _ (most most' : ℕ) (enough : suc PARENTHESES ≤ most') where
   shrinks_pend n = shrinks_then shrinks_word (λ at. shrinks_then (shrinks_name free) (λ irq. shrinks_then shrinks_sign (λ end. shrinks_gives _)))
 
   shrinks_call : (n : ℕ) → Shrinks (call most n) (call most' n)
-  shrinks_call n = shrinks_then (shrinks_spawn (counted n)) (λ s. shrinks_then shrinks_sign (λ end. shrinks_gives _))
+  shrinks_call n = shrinks_then (shrinks_spawn (statement_limit n)) (λ s. shrinks_then shrinks_sign (λ end. shrinks_gives _))
 
   module _ (blocks blocks' insides insides' : Blocks) (nesting : ℕ) (shrinks : (n : ℕ) → Shrinks (blocks (suc nesting) n) (blocks' (suc nesting) n)) (shrinks' : (n : ℕ) → Shrinks (insides (suc nesting) n) (insides' (suc nesting) n)) (n : ℕ) where
     shrinks_branch : Shrinks (branch most blocks nesting n) (branch most' blocks' nesting n)
@@ -106,10 +106,10 @@ module _ (most most' : ℕ) (enough : suc PARENTHESES ≤ most') where
 
     shrinks_loop : Shrinks (loop blocks nesting n) (loop blocks' nesting n)
     shrinks_loop = shrinks_then shrinks_word (λ at. shrinks_then (shrinks_name free) (λ x. shrinks_then shrinks_word (λ at. shrinks_then (shrinks_number (λ n. free)) (λ first. shrinks_then shrinks_sign (λ at.
-        shrinks_then (shrinks_number (turned first.value)) (λ last. shrinks_then (shrinks _) (λ turn. shrinks_gives _)))))))
+        shrinks_then (shrinks_number (turn_limit first.value)) (λ last. shrinks_then (shrinks _) (λ turn. shrinks_gives _)))))))
 
     shrinks_further : Shrinks (further insides nesting n) (further insides' nesting n)
-    shrinks_further = shrinks_then shrinks_sign (λ at. shrinks_then (shrinks_name (first_of (nested nesting) (counted n))) (λ r. shrinks_then (shrinks' _) (λ inner. shrinks_gives _)))
+    shrinks_further = shrinks_then shrinks_sign (λ at. shrinks_then (shrinks_name (first_of (nesting_limit nesting) (statement_limit n))) (λ r. shrinks_then (shrinks' _) (λ inner. shrinks_gives _)))
 
     shrinks_lock : Shrinks (lock insides nesting n) (lock insides' nesting n)
     shrinks_lock = shrinks_then shrinks_word (λ at. shrinks_then (shrinks_name free) (λ r. shrinks_then (shrinks' _) (λ inner. shrinks_gives _)))
@@ -118,19 +118,19 @@ module _ (most most' : ℕ) (enough : suc PARENTHESES ≤ most') where
     shrinks_statement = shrinks_or (shrinks_bind n) (shrinks_or (shrinks_assign n) (shrinks_or shrinks_branch (shrinks_or shrinks_loop (shrinks_or shrinks_lock (shrinks_or (shrinks_emit n) (shrinks_or (shrinks_pend n) (shrinks_call n)))))))
 
   module _ (blocks blocks' insides insides' : Blocks) (nesting : ℕ) (shrinks : (n : ℕ) → Shrinks (blocks (suc nesting) n) (blocks' (suc nesting) n)) (shrinks' : (n : ℕ) → Shrinks (insides (suc nesting) n) (insides' (suc nesting) n)) (n : ℕ) where
-    shrinks_braced : Shrinks (braced most blocks insides nesting n) (braced most' blocks' insides' nesting n)
+    shrinks_braced : Shrinks (braced_block most blocks insides nesting n) (braced_block most' blocks' insides' nesting n)
     shrinks_braced = shrinks_then shrinks_sign (λ at. shrinks_then (shrinks_repeat (λ s. shrinks_then (shrinks_statement blocks blocks' insides insides' nesting shrinks shrinks' s.1) (λ x. shrinks_gives _)) _) (λ all. shrinks_then shrinks_sign (λ end. shrinks_gives _)))
 
   record ShrinksBlocks (deep deep' nesting : ℕ) : Type 0 where
     blocks : (n : ℕ) → Shrinks (block most deep nesting n) (block most' deep' nesting n)
     insides : (n : ℕ) → Shrinks (inside most deep nesting n) (inside most' deep' nesting n)
 
-  always : (nesting n : ℕ) → zero + nesting ≡ suc NESTING → IsAlways (name_limit (first_of (nested nesting) (counted n)))
-  always nesting n e x = go (nat_lt NAME_BYTES (length x.name)) (nested nesting) (nested_is zero nesting e)
+  always : (nesting n : ℕ) → zero + nesting ≡ suc NESTING → IsAlways (name_limit (first_of (nesting_limit nesting) (statement_limit n)))
+  always nesting n e x = go (nat_lt NAME_BYTES (length x.name)) (nesting_limit nesting) (nested_is zero nesting e)
     where
-      go : (long : Bool) (what : Option Limit) → what ≡ Some limit.Nesting → (passed : Limit) × (first_of (limit_if long limit.Name) (first_of what (counted n)) ≡ Some passed)
+      go : (long : Bool) (what : Option Limit) → what ≡ Some limit.Nesting → (passed : Limit) × (first_of (limit_if long limit.Name) (first_of what (statement_limit n)) ≡ Some passed)
       go true what f = (limit.Name, refl)
-      go false what f = (limit.Nesting, ap (λ (w : Option Limit). first_of w (counted n)) f)
+      go false what f = (limit.Nesting, ap (λ (w : Option Limit). first_of w (statement_limit n)) f)
 
   -- where so many blocks may still be opened
   shrinks_blocks : (left deep deep' nesting : ℕ) → left + nesting ≡ suc NESTING → 3 + NESTING ≤ deep' + nesting → ShrinksBlocks deep deep' nesting

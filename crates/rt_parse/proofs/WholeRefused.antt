@@ -20,7 +20,7 @@ use Rattle.rt_ast.specs.Tree.{App}
 use Rattle.rt_grammar.specs.Mark.{Mark, limit_of, IsWithin}
 use Rattle.rt_grammar.specs.Reach.{Reaches}
 use Rattle.rt_grammar.specs.Text.{text, IsSpelled, Begins, IsUnlimited, IsText, IsForeignAt, IsDeadEnd, IsSyntaxAt, IsLimitAt, IsRefusedAt, IsRefused, offset_of}
-use Rattle.rt_parse.specs.Inside.Reading.{refusal_of, wrong_at}
+use Rattle.rt_parse.specs.Inside.Reading.{refusal_of, fault_found_at}
 use Rattle.rt_parse.specs.Inside.Fault.{offset_or, fault_of}
 use Rattle.rt_parse.specs.Inside.ReadingDeclaration.{text_at}
 use Rattle.rt_parse.specs.declared.stop.Found.{Found}
@@ -48,7 +48,7 @@ long_refused src long = record { at = 0; stands = (long, refl); place = refl }
 module _ (src : List ℕ) (short : length src ≤ TEXT_BYTES) where
   -- what the reader finds wrong, behind tokens that begin a text
   module _ (before : List Token) (begins : Begins before) (unlimited : IsUnlimited (tokens src)) (none : (app : App) → IsSpelled (tokens src) app → ⊥) where
-    wrong_refused : (rest : List Token) → tokens src ≡ before ++ rest → ((marks : List Mark) (left : List Token) → Reaches text (tokens src) marks left → length rest ≤ length left) → IsRefused src (fault_of src (wrong_at rest))
+    wrong_refused : (rest : List Token) → tokens src ≡ before ++ rest → ((marks : List Mark) (left : List Token) → Reaches text (tokens src) marks left → length rest ≤ length left) → IsRefused src (fault_of src (fault_found_at rest))
     wrong_refused [] split furthest = record {
       at = length src;
       stands = record {
@@ -138,7 +138,7 @@ one_limit : (a b : ℕ) (what passed : Limit) → ◌≡◌ {A = Option (ℕ × 
 one_limit a b what passed e = (ap at_of e, ap (limit_in what) e)
 
 -- a dead end is found so, at its offset
-dead_end_found : (src : List ℕ) (before rest : List Token) → IsDeadEnd before rest → fault (place_of src (offset_of src rest)) refusal.Syntax ≡ fault_of src (wrong_at rest)
+dead_end_found : (src : List ℕ) (before rest : List Token) → IsDeadEnd before rest → fault (place_of src (offset_of src rest)) refusal.Syntax ≡ fault_of src (fault_found_at rest)
 dead_end_found src before [] dead = refl
 dead_end_found src before (t ∷ rest) dead = ap (fault (place_of src t.at)) (of_kind t.kind dead.1)
   where
@@ -157,7 +157,7 @@ module _ (src : List ℕ) (found : Found) (e : text_at (tokens src) ≡ Err foun
       go (inl w) =
           let same : x.byte ∷ x.behind ≡ w.rest = foreign_rest src r.0 w.marks x.byte x.behind (x.byte ∷ x.behind) w.rest refl x.foreign r.1.fits w.reached (w.most r.0 (x.byte ∷ x.behind) r.1) in
           fault_is (place_of src at) (place_of src x.byte.at) refusal.Foreign (refusal_of x.byte.kind) (ap (place_of src) x.offset) (sym (ap refusal_of x.foreign))
-          ∙ ap (fault_of src) (sym (w.is ∙ ap wrong_at (sym same)))
+          ∙ ap (fault_of src) (sym (w.is ∙ ap fault_found_at (sym same)))
       go (inr (what, f, l)) = absurd (limit_met (tokens src) found.at what l x.unlimited)
 
   syntax_found : (at : ℕ) → IsSyntaxAt src at → fault (place_of src at) refusal.Syntax ≡ fault_of src found
@@ -172,7 +172,7 @@ module _ (src : List ℕ) (found : Found) (e : text_at (tokens src) ≡ Err foun
           let ge : length x.rest ≤ length w.rest = dead_end_stops (tokens src) x.before x.rest x.split x.dead_end w.marks w.rest w.reached in
           let s = fits_suffix w.marks (tokens src) w.rest w.reached.fits in
           let same : x.rest ≡ w.rest = suffix_same x.before s.0 x.rest w.rest (sym x.split ∙ s.1) (omega arith) in
-          ap (λ (a : ℕ). fault (place_of src a) refusal.Syntax) x.offset ∙ dead_end_found src x.before x.rest x.dead_end ∙ ap (fault_of src) (sym (w.is ∙ ap wrong_at (sym same)))
+          ap (λ (a : ℕ). fault (place_of src a) refusal.Syntax) x.offset ∙ dead_end_found src x.before x.rest x.dead_end ∙ ap (fault_of src) (sym (w.is ∙ ap fault_found_at (sym same)))
       go (inr (what, f, l)) = absurd (limit_met (tokens src) found.at what l x.unlimited)
 
   limit_found : (at : ℕ) (what : Limit) → IsLimitAt src what at → fault (place_of src at) (refusal.Limit what) ≡ fault_of src found

@@ -16,13 +16,15 @@ ghost use Rattle.rt_parse.specs.Inside.ReadingDeclaration.{app_is, bodies_at, de
 ghost use Rattle.rt_parse.specs.Inside.DeclarationView.{declared_view, opening_view, options_view, owner_view};
 ghost use Rattle.rt_parse.specs.Inside.DeclarationView.{items_of};
 
-use crate::declaration::{Opening, heading, interrupts, locals, monotonic, names, shared};
+use crate::declaration::{
+    Opening, heading, interrupts, locals, monotonic, names, shared_resources,
+};
 use crate::list::{comma, goes_past, list};
 use crate::statement::block;
 use crate::stop::Stop;
 use crate::tokens::{
-    begins_sign, begins_word, limit_if, limited_name, limited_word, name, number, number_within,
-    sign, word, wrong,
+    begins_sign, begins_word, fault_found, limit_if, limited_name, limited_word, name, number,
+    number_within, sign, word,
 };
 use rt_ast::{
     AppTree, BodyTree, Ident, IrqTree, ListedTree, LocalTree, MonoTree, Number, SharedTree, Stmt,
@@ -223,7 +225,7 @@ fn option<'a>(
     } else if takes(&tokens, options.may_keep(), b"local") {
         local_list(alloc, tokens, options)
     } else {
-        Err(Stop::At(wrong(&tokens)))
+        Err(Stop::At(fault_found(&tokens)))
     }
 }
 
@@ -482,7 +484,7 @@ fn declarations<'a>(
 {
     let (irqs, tokens) = interrupts(alloc, tokens)?;
     let (mono, tokens) = monotonic(alloc, tokens)?;
-    let (shared, tokens) = shared(alloc, tokens)?;
+    let (shared, tokens) = shared_resources(alloc, tokens)?;
     let (locals, tokens) = locals(alloc, tokens)?;
     let declared = Declared {
         first,
@@ -511,6 +513,6 @@ pub(crate) fn whole(alloc: Global, tokens: Tokens<'_>) -> Result<AppTree, Stop>
     let (app, tokens) = application(alloc, tokens)?;
     match tokens.peek() {
         None => Ok(app),
-        Some(_) => Err(Stop::At(wrong(&tokens))),
+        Some(_) => Err(Stop::At(fault_found(&tokens))),
     }
 }

@@ -8,23 +8,23 @@ ghost use Rattle.rt_parse.specs.Inside.DeclarationView.{opening_view};
 ghost use Rattle.rt_parse.specs.Inside.Reading.{Gives, begins_with, repeat_at, name_at};
 ghost use Rattle.rt_parse.specs.Inside.ReadingList.{items_at, adds_at, names_at};
 ghost use Rattle.rt_parse.specs.Inside.ReadingResources.{interrupt_at, interrupts_at, clock_priority_at, clock_at};
-ghost use Rattle.rt_parse.specs.Inside.ReadingResources.{monotonic_at, first_value_at, lock_free_at, locked_at};
-ghost use Rattle.rt_parse.specs.Inside.ReadingResources.{resource_at, resources_at, shared_at, local_at};
+ghost use Rattle.rt_parse.specs.Inside.ReadingResources.{monotonic_at, first_value_at, lock_free_at, locked_resource_at};
+ghost use Rattle.rt_parse.specs.Inside.ReadingResources.{resource_at, resources_at, shared_resources_at, local_at};
 ghost use Rattle.rt_parse.specs.Inside.ReadingResources.{local_resources_at, locals_at};
-ghost use Rattle.rt_parse.specs.Inside.ReadingOptions.{binds_at, priority_at, capacity_at, listed_by_ref_at};
-ghost use Rattle.rt_parse.specs.Inside.ReadingOptions.{listed_plainly_at, listed_at, shared_list_at, local_list_at};
+ghost use Rattle.rt_parse.specs.Inside.ReadingOptions.{binds_at, priority_at, capacity_at, ref_resource_at};
+ghost use Rattle.rt_parse.specs.Inside.ReadingOptions.{named_resource_at, listed_resource_at, shared_list_at, local_list_at};
 ghost use Rattle.rt_parse.specs.Inside.ReadingOptions.{takes, option_at, some_options_at, options_at};
 ghost use Rattle.rt_parse.specs.Inside.ReadingBodies.{body_block_at, thread_at, thread_body_at, argument_at};
 ghost use Rattle.rt_parse.specs.Inside.ReadingBodies.{parameters_at, task_arguments_at, task_at};
 ghost use Rattle.rt_parse.specs.Inside.ReadingDeclaration.{dispatchers_at, extension_at, fpu_at, behind_comma_at};
-ghost use Rattle.rt_parse.specs.Inside.ReadingDeclaration.{features_at, featured_at, levels_at, head_at};
+ghost use Rattle.rt_parse.specs.Inside.ReadingDeclaration.{features_at, head_rest_at, priority_bits_at, head_at};
 
 use crate::list::{Item, comma, goes_past, list};
 use crate::statement::block;
 use crate::stop::Stop;
 use crate::tokens::{
-    begins_sign, begins_this_name, begins_word, limit_if, limited_name, limited_word, name, number,
-    number_within, sign, this_name, word, wrong,
+    begins_sign, begins_this_name, begins_word, fault_found, limit_if, limited_name, limited_word,
+    name, number, number_within, sign, this_name, word,
 };
 use rt_ast::{
     AppTree, BodyTree, Ident, IrqTree, ListedTree, LocalTree, MonoTree, Number, SharedTree, Stmt,
@@ -180,13 +180,13 @@ pub(crate) struct Opening {
 }
 
 /// The first declaration behind its priority bits.
-fn featured<'a>(
+fn head_rest<'a>(
     alloc: Global,
     tokens: Tokens<'a>,
     name: Ident,
     bits: u32,
 ) -> Result<(Opening, Tokens<'a>), Stop>
-    ensures { Gives (λ x. (opening_view x.0, x.1)) result (featured_at name bits tokens.entry) }
+    ensures { Gives (λ x. (opening_view x.0, x.1)) result (head_rest_at name bits tokens.entry) }
 {
     let ((dispatchers, fpu), tokens) = features(alloc, tokens)?;
     let (_, tokens) = sign(tokens, b")")?;
@@ -201,14 +201,18 @@ fn featured<'a>(
 }
 
 /// The first declaration from its parenthesis on.
-fn levels<'a>(alloc: Global, tokens: Tokens<'a>, name: Ident) -> Result<(Opening, Tokens<'a>), Stop>
-    ensures { Gives (λ x. (opening_view x.0, x.1)) result (levels_at name tokens.entry) }
+fn priority_bits<'a>(
+    alloc: Global,
+    tokens: Tokens<'a>,
+    name: Ident,
+) -> Result<(Opening, Tokens<'a>), Stop>
+    ensures { Gives (λ x. (opening_view x.0, x.1)) result (priority_bits_at name tokens.entry) }
 {
     let (_, tokens) = sign(tokens, b"(")?;
     let (_, tokens) = word(tokens, b"bits")?;
     let (_, tokens) = sign(tokens, b"=")?;
     let (bits, tokens) = number_within(tokens, LEAST_BITS, MOST_BITS, Limit::Bits)?;
-    featured(alloc, tokens, name, bits.value)
+    head_rest(alloc, tokens, name, bits.value)
 }
 
 #[tactic(auto, unfolding(crate::specs::Inside::ReadingDeclaration::head_at))]
@@ -217,7 +221,7 @@ pub(crate) fn heading<'a>(alloc: Global, tokens: Tokens<'a>) -> Result<(Opening,
 {
     let (_, tokens) = word(tokens, b"app")?;
     let (name, tokens) = name(alloc, tokens)?;
-    levels(alloc, tokens, name)
+    priority_bits(alloc, tokens, name)
 }
 
 /// A monotonic's priority, behind its interrupt.
@@ -295,13 +299,13 @@ fn lock_free<'a>(
     ))
 }
 
-#[tactic(auto, unfolding(crate::specs::Inside::ReadingResources::locked_at))]
-fn locked<'a>(
+#[tactic(auto, unfolding(crate::specs::Inside::ReadingResources::locked_resource_at))]
+fn locked_resource<'a>(
     alloc: Global,
     tokens: Tokens<'a>,
     before: usize,
 ) -> Result<(SharedTree, Tokens<'a>), Stop>
-    ensures { Gives (λ x. x) result (locked_at before tokens.entry) }
+    ensures { Gives (λ x. x) result (locked_resource_at before tokens.entry) }
 {
     let limit = at_most(SHARED, Limit::Shared, before);
     let (name, tokens) = limited_name(alloc, tokens, limit)?;
@@ -329,7 +333,7 @@ fn resource<'a>(
     if begins_word(&tokens, b"lock_free") {
         lock_free(alloc, tokens, before)
     } else {
-        locked(alloc, tokens, before)
+        locked_resource(alloc, tokens, before)
     }
 }
 
@@ -345,12 +349,12 @@ impl Item for SharedTree {
     }
 }
 
-#[tactic(auto, unfolding(crate::specs::Inside::ReadingResources::shared_at, crate::specs::Inside::ReadingResources::resources_at))]
-pub(crate) fn shared<'a>(
+#[tactic(auto, unfolding(crate::specs::Inside::ReadingResources::shared_resources_at, crate::specs::Inside::ReadingResources::resources_at))]
+pub(crate) fn shared_resources<'a>(
     alloc: Global,
     tokens: Tokens<'a>,
 ) -> Result<(Vec<SharedTree>, Tokens<'a>), Stop>
-    ensures { Gives (λ x. (x.0.items, x.1)) result (shared_at tokens.entry) }
+    ensures { Gives (λ x. (x.0.items, x.1)) result (shared_resources_at tokens.entry) }
 {
     if !begins_word(&tokens, b"shared") {
         return Ok((Vec::new(alloc), tokens));
@@ -402,9 +406,9 @@ pub(crate) fn locals<'a>(
 }
 
 /// A shared resource that a body lists, by its name or by reference.
-#[tactic(auto, unfolding(crate::specs::Inside::ReadingOptions::listed_at, crate::specs::Inside::ReadingOptions::listed_by_ref_at, crate::specs::Inside::ReadingOptions::listed_plainly_at))]
-fn listed<'a>(alloc: Global, tokens: Tokens<'a>) -> Result<(ListedTree, Tokens<'a>), Stop>
-    ensures { Gives (λ x. x) result (listed_at tokens.entry) }
+#[tactic(auto, unfolding(crate::specs::Inside::ReadingOptions::listed_resource_at, crate::specs::Inside::ReadingOptions::ref_resource_at, crate::specs::Inside::ReadingOptions::named_resource_at))]
+fn listed_resource<'a>(alloc: Global, tokens: Tokens<'a>) -> Result<(ListedTree, Tokens<'a>), Stop>
+    ensures { Gives (λ x. x) result (listed_resource_at tokens.entry) }
 {
     if begins_sign(&tokens, b"&") {
         let (at, tokens) = sign(tokens, b"&")?;
@@ -419,13 +423,13 @@ fn listed<'a>(alloc: Global, tokens: Tokens<'a>) -> Result<(ListedTree, Tokens<'
 }
 
 impl Item for ListedTree {
-    ghost reads = { λ _. listed_at };
+    ghost reads = { λ _. listed_resource_at };
 
     fn read<'a>(
         alloc: Global,
         tokens: Tokens<'a>,
         _before: usize,
     ) -> Result<(ListedTree, Tokens<'a>), Stop> {
-        listed(alloc, tokens)
+        listed_resource(alloc, tokens)
     }
 }

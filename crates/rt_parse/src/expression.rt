@@ -6,15 +6,15 @@ ghost use Rattle.rt_ast.specs.View.{expression_of};
 ghost use Rattle.rt_grammar.specs.Expression.{op_of, comparisons, strengths};
 ghost use Rattle.rt_grammar.specs.Reach.{is_of};
 ghost use Rattle.rt_parse.specs.Inside.Reading.{Gives, Leaves, begins_with};
-ghost use Rattle.rt_parse.specs.Inside.ReadingDepth.{measured_joined, atomic};
-ghost use Rattle.rt_parse.specs.Inside.ReadingExpression.{joined_at, chains_at, comparison_at, number_atom_at};
-ghost use Rattle.rt_parse.specs.Inside.ReadingExpression.{name_atom_at, parenthesized_at, closed_at, nested_at};
+ghost use Rattle.rt_parse.specs.Inside.ReadingDepth.{joined_measure, atomic};
+ghost use Rattle.rt_parse.specs.Inside.ReadingExpression.{joined_operand_at, chains_at, comparison_at, number_atom_at};
+ghost use Rattle.rt_parse.specs.Inside.ReadingExpression.{name_atom_at, parenthesized_expression_at, refused_parenthesis_at, nested_expression_at};
 ghost use Rattle.rt_parse.specs.Inside.ReadingExpression.{atom_at, expression_at};
-ghost use Rattle.rt_parse.specs.Inside.ExpressionView.{signs_of, levels, stronger_than, is_of_some, IsOperator};
+ghost use Rattle.rt_parse.specs.Inside.ExpressionView.{signs_of, strengths_from, stronger_than, is_of_some, IsOperator};
 ghost use Rattle.rt_parse.specs.Inside.ExpressionView.{IsAhead, IsCompared, measured_view};
 
 use crate::stop::{Found, Stop};
-use crate::tokens::{is_byte, is_pair, take_name, take_number, take_sign, wrong};
+use crate::tokens::{fault_found, is_byte, is_pair, take_name, take_number, take_sign};
 use rt_ast::Expr;
 use rt_ids::limits::{DEPTH, PARENTHESES};
 use rt_ids::{Limit, Op, Refusal};
@@ -50,8 +50,8 @@ enum Strength {
 
 impl Strength {
     /// How many strengths of operators there are from it on.
-    fn levels(self) -> u8
-        ensures { result ≡ length (levels self) }
+    fn precedence(self) -> u8
+        ensures { result ≡ length (strengths_from self) }
     {
         match self {
             Strength::Or => 6,
@@ -66,7 +66,7 @@ impl Strength {
 
     /// The next stronger one.
     fn stronger(self) -> Strength
-        ensures { levels result ≡ stronger_than self }
+        ensures { strengths_from result ≡ stronger_than self }
     {
         match self {
             Strength::Or => Strength::Xor,
@@ -147,13 +147,15 @@ fn comparison_of(token: &Token<'_>) -> Option<Op>
 /// The operator that comes next, if it binds so strongly at least.
 #[tactic(auto, using(crate::proofs::Operators::ahead))]
 fn operator_ahead(tokens: &Tokens<'_>, least: Strength) -> Option<Operator>
-    ensures none { result ≡ None → begins_with (is_of_some (levels least)) tokens.now ≡ false }
+    ensures none { result ≡ None → begins_with (is_of_some (strengths_from least)) tokens.now ≡ false }
     ensures ahead { (o : Operator) → result ≡ Some o → IsAhead o.op o.strength tokens.now }
-    ensures least { (o : Operator) → result ≡ Some o → length (levels o.strength) ≤ length (levels least) }
+    ensures least { (o : Operator) → result ≡ Some o → length (strengths_from o.strength) ≤ length (strengths_from least) }
 {
     match tokens.peek() {
         Some(token) => match operator_of(&token) {
-            Some(operator) if operator.strength.levels() <= least.levels() => Some(operator),
+            Some(operator) if operator.strength.precedence() <= least.precedence() => Some(
+                operator,
+            ),
             _ => None,
         },
         None => None,
@@ -173,7 +175,7 @@ fn comparison_ahead(tokens: &Tokens<'_>) -> Option<Op>
 
 /// Both sides of an operator as one.
 fn join(alloc: Global, op: Op, left: Measured, right: Measured) -> Result<Measured, Stop>
-    ensures { Gives measured_view result (Ok (measured_joined op (measured_view left) (measured_view right))) }
+    ensures { Gives measured_view result (Ok (joined_measure op (measured_view left) (measured_view right))) }
 {
     let at = left.at;
     let (Some(first), Some(second)) = (left.kept, right.kept) else {
@@ -224,9 +226,13 @@ fn name_atom(alloc: Global, tokens: &mut Tokens<'_>) -> Result<Measured, Stop>
 
 /// An expression in parentheses, where so many more may be opened besides.
 #[cycle(expression)]
-#[tactic(auto, unfolding(crate::specs::Inside::ReadingExpression::parenthesized_at))]
-fn parenthesized(alloc: Global, tokens: &mut Tokens<'_>, more: u32) -> Result<Measured, Stop>
-    ensures { Leaves measured_view result tokens.new (parenthesized_at (comparison_at (atom_at more)) tokens.old) }
+#[tactic(auto, unfolding(crate::specs::Inside::ReadingExpression::parenthesized_expression_at))]
+fn parenthesized_expression(
+    alloc: Global,
+    tokens: &mut Tokens<'_>,
+    more: u32,
+) -> Result<Measured, Stop>
+    ensures { Leaves measured_view result tokens.new (parenthesized_expression_at (comparison_at (atom_at more)) tokens.old) }
 {
     let at = take_sign(tokens, b"(", None)?;
     let inner = comparison(alloc, tokens, more)?;
@@ -237,23 +243,23 @@ fn parenthesized(alloc: Global, tokens: &mut Tokens<'_>, more: u32) -> Result<Me
 
 /// Where no more parentheses may be opened.
 #[inline(never)]
-#[tactic(auto, unfolding(crate::specs::Inside::ReadingExpression::closed_at))]
-fn closed(tokens: &mut Tokens<'_>) -> Result<Measured, Stop>
-    ensures { Leaves measured_view result tokens.new (closed_at tokens.old) }
+#[tactic(auto, unfolding(crate::specs::Inside::ReadingExpression::refused_parenthesis_at))]
+fn refused_parenthesis(tokens: &mut Tokens<'_>) -> Result<Measured, Stop>
+    ensures { Leaves measured_view result tokens.new (refused_parenthesis_at tokens.old) }
 {
     take_sign(tokens, b"(", Some(Limit::Parentheses))?;
-    Err(Stop::At(wrong(tokens)))
+    Err(Stop::At(fault_found(tokens)))
 }
 
 /// An expression in parentheses, where so many may be opened.
 #[cycle(expression)]
-#[tactic(auto, unfolding(crate::specs::Inside::ReadingExpression::nested_at))]
-fn nested(alloc: Global, tokens: &mut Tokens<'_>, more: u32) -> Result<Measured, Stop>
-    ensures { Leaves measured_view result tokens.new (nested_at more tokens.old) }
+#[tactic(auto, unfolding(crate::specs::Inside::ReadingExpression::nested_expression_at))]
+fn nested_expression(alloc: Global, tokens: &mut Tokens<'_>, more: u32) -> Result<Measured, Stop>
+    ensures { Leaves measured_view result tokens.new (nested_expression_at more tokens.old) }
 {
     match more.checked_sub(1) {
-        Some(fewer) => parenthesized(alloc, tokens, fewer),
-        None => closed(tokens),
+        Some(fewer) => parenthesized_expression(alloc, tokens, fewer),
+        None => refused_parenthesis(tokens),
     }
 }
 
@@ -266,13 +272,13 @@ fn atom(alloc: Global, tokens: &mut Tokens<'_>, more: u32) -> Result<Measured, S
     match tokens.peek() {
         Some(token) if token.kind == Kind::Num => number_atom(alloc, tokens),
         Some(token) if token.kind == Kind::Name => name_atom(alloc, tokens),
-        _ => nested(alloc, tokens, more),
+        _ => nested_expression(alloc, tokens, more),
     }
 }
 
 /// A left side with the operator that comes next, and its right side.
 #[cycle(expression)]
-#[tactic(auto, unfolding(crate::specs::Inside::ReadingExpression::joined_at))]
+#[tactic(auto, unfolding(crate::specs::Inside::ReadingExpression::joined_operand_at))]
 fn extend(
     alloc: Global,
     tokens: &mut Tokens<'_>,
@@ -282,7 +288,7 @@ fn extend(
 ) -> Result<Measured, Stop>
     requires { IsAhead operator.op operator.strength tokens.old }
     ensures { Leaves measured_view result tokens.new
-        (joined_at (signs_of operator.strength) (chains_at (stronger_than operator.strength) (atom_at more))
+        (joined_operand_at (signs_of operator.strength) (chains_at (stronger_than operator.strength) (atom_at more))
         (measured_view left) tokens.old) }
 {
     tokens.next();
@@ -298,7 +304,7 @@ fn climb(
     least: Strength,
     more: u32,
 ) -> Result<Measured, Stop>
-    ensures { Leaves measured_view result tokens.new (chains_at (levels least) (atom_at more) tokens.old) }
+    ensures { Leaves measured_view result tokens.new (chains_at (strengths_from least) (atom_at more) tokens.old) }
 {
     let mut left = atom(alloc, tokens, more)?;
     while let Some(operator) = operator_ahead(tokens, least) {
@@ -310,7 +316,7 @@ fn climb(
 /// A left side with the comparison that comes next, and its right side.
 #[inline(never)]
 #[cycle(expression)]
-#[tactic(auto, unfolding(crate::specs::Inside::ReadingExpression::joined_at))]
+#[tactic(auto, unfolding(crate::specs::Inside::ReadingExpression::joined_operand_at))]
 fn compare(
     alloc: Global,
     tokens: &mut Tokens<'_>,
@@ -320,7 +326,7 @@ fn compare(
 ) -> Result<Measured, Stop>
     requires { IsCompared op tokens.old }
     ensures { Leaves measured_view result tokens.new
-        (joined_at comparisons (chains_at strengths (atom_at more)) (measured_view left) tokens.old) }
+        (joined_operand_at comparisons (chains_at strengths (atom_at more)) (measured_view left) tokens.old) }
 {
     tokens.next();
     let right = climb(alloc, tokens, Strength::Or, more)?;
@@ -329,7 +335,7 @@ fn compare(
 
 /// At most one comparison.
 #[cycle(expression)]
-#[tactic(auto, unfolding(crate::specs::Inside::ReadingExpression::comparison_at, crate::specs::Inside::ReadingExpression::compared_at))]
+#[tactic(auto, unfolding(crate::specs::Inside::ReadingExpression::comparison_at, crate::specs::Inside::ReadingExpression::comparison_tail_at))]
 fn comparison(alloc: Global, tokens: &mut Tokens<'_>, more: u32) -> Result<Measured, Stop>
     ensures { Leaves measured_view result tokens.new (comparison_at (atom_at more) tokens.old) }
 {

@@ -8,21 +8,21 @@ ghost use Rattle.rt_ast.specs.View.{expression_of, statement_of, spawn_of, value
 ghost use Rattle.rt_parse.specs.Inside.Reading.{Gives, begins_with, repeat_at};
 ghost use Rattle.rt_parse.specs.Inside.ReadingList.{items_at, adds_at};
 ghost use Rattle.rt_parse.specs.Inside.ReadingExpression.{expression_at};
-ghost use Rattle.rt_parse.specs.Inside.ReadingSpawn.{is_spawn, arguments_at, enclosed_at, delayed_at, soon_at};
+ghost use Rattle.rt_parse.specs.Inside.ReadingSpawn.{is_spawn, arguments_at, enclosed_expression_at, delayed_task_at, soon_at};
 ghost use Rattle.rt_parse.specs.Inside.ReadingSpawn.{after_at, cancel_at, move_at, spawn_at, now_at, call_value_at};
 ghost use Rattle.rt_parse.specs.Inside.ReadingSpawn.{calc_at, value_at};
 ghost use Rattle.rt_parse.specs.Inside.ReadingSimple.{counted_limit, bind_at, assign_at, emit_at, pend_at, call_at};
 ghost use Rattle.rt_parse.specs.Inside.ReadingNested.{nested_limit, else_block_at, else_at, branch_at, loop_at};
 ghost use Rattle.rt_parse.specs.Inside.ReadingNested.{further_at, lock_at};
 ghost use Rattle.rt_parse.specs.Inside.ReadingStatement.{simple_at, compound_at, statement_at, one_more_at, is_inside};
-ghost use Rattle.rt_parse.specs.Inside.ReadingStatement.{braced_at, closed_block_at, block_at, inside_at, below_at};
+ghost use Rattle.rt_parse.specs.Inside.ReadingStatement.{braced_block_at, closed_block_at, block_at, inside_at, below_at};
 
 use crate::expression::expression;
 use crate::list::{comma, goes_past};
 use crate::stop::Stop;
 use crate::tokens::{
-    begins_name, begins_sign, begins_word, last_number, limit_if, limited_name, limited_sign,
-    limited_word, name, number, sign, word, wrong,
+    begins_name, begins_sign, begins_word, fault_found, last_number, limit_if, limited_name,
+    limited_sign, limited_word, name, number, sign, word,
 };
 use rt_ast::{Expr, Ident, Spawn, Stmt, Value};
 use rt_ids::Limit;
@@ -68,9 +68,9 @@ fn arguments<'a>(alloc: Global, tokens: Tokens<'a>) -> Result<(Vec<Expr>, Tokens
 }
 
 /// An expression in parentheses: a delay, or the handle of a message.
-#[tactic(auto, unfolding(crate::specs::Inside::ReadingSpawn::enclosed_at))]
-fn enclosed<'a>(alloc: Global, tokens: Tokens<'a>) -> Result<(Expr, Tokens<'a>), Stop>
-    ensures { Gives (λ x. (expression_of x.0, x.1)) result (enclosed_at tokens.entry) }
+#[tactic(auto, unfolding(crate::specs::Inside::ReadingSpawn::enclosed_expression_at))]
+fn enclosed_expression<'a>(alloc: Global, tokens: Tokens<'a>) -> Result<(Expr, Tokens<'a>), Stop>
+    ensures { Gives (λ x. (expression_of x.0, x.1)) result (enclosed_expression_at tokens.entry) }
 {
     let (_, tokens) = sign(tokens, b"(")?;
     let (expr, tokens) = expression(alloc, tokens)?;
@@ -79,11 +79,11 @@ fn enclosed<'a>(alloc: Global, tokens: Tokens<'a>) -> Result<(Expr, Tokens<'a>),
 }
 
 /// A delay, and the task behind it.
-#[tactic(auto, unfolding(crate::specs::Inside::ReadingSpawn::delayed_at))]
-fn delayed<'a>(alloc: Global, tokens: Tokens<'a>) -> Result<((Expr, Ident), Tokens<'a>), Stop>
-    ensures { Gives (λ x. ((expression_of x.0.0, x.0.1), x.1)) result (delayed_at tokens.entry) }
+#[tactic(auto, unfolding(crate::specs::Inside::ReadingSpawn::delayed_task_at))]
+fn delayed_task<'a>(alloc: Global, tokens: Tokens<'a>) -> Result<((Expr, Ident), Tokens<'a>), Stop>
+    ensures { Gives (λ x. ((expression_of x.0.0, x.0.1), x.1)) result (delayed_task_at tokens.entry) }
 {
-    let (delay, tokens) = enclosed(alloc, tokens)?;
+    let (delay, tokens) = enclosed_expression(alloc, tokens)?;
     let (task, tokens) = name(alloc, tokens)?;
     Ok(((delay, task), tokens))
 }
@@ -111,7 +111,7 @@ fn after<'a>(
     ensures { Gives (λ x. (spawn_of x.0, x.1)) result (after_at limit tokens.entry) }
 {
     let (at, tokens) = limited_word(tokens, b"spawn_after", limit)?;
-    let ((delay, task), tokens) = delayed(alloc, tokens)?;
+    let ((delay, task), tokens) = delayed_task(alloc, tokens)?;
     let (args, tokens) = arguments(alloc, tokens)?;
     Ok((Spawn::After(at, delay, task, args), tokens))
 }
@@ -126,7 +126,7 @@ fn cancel<'a>(
 {
     let (at, tokens) = limited_word(tokens, b"cancel", limit)?;
     let (task, tokens) = name(alloc, tokens)?;
-    let (handle, tokens) = enclosed(alloc, tokens)?;
+    let (handle, tokens) = enclosed_expression(alloc, tokens)?;
     Ok((Spawn::Cancel(at, task, handle), tokens))
 }
 
@@ -139,8 +139,8 @@ fn reschedule<'a>(
     ensures { Gives (λ x. (spawn_of x.0, x.1)) result (move_at limit tokens.entry) }
 {
     let (at, tokens) = limited_word(tokens, b"reschedule_after", limit)?;
-    let ((delay, task), tokens) = delayed(alloc, tokens)?;
-    let (handle, tokens) = enclosed(alloc, tokens)?;
+    let ((delay, task), tokens) = delayed_task(alloc, tokens)?;
+    let (handle, tokens) = enclosed_expression(alloc, tokens)?;
     let delay = Box::new(alloc, delay)?;
     Ok((Spawn::Move(at, delay, task, handle), tokens))
 }
@@ -416,15 +416,15 @@ fn statements<'a>(
 
 /// A block, inside which so many blocks may be opened.
 #[cycle(statement)]
-#[tactic(auto, unfolding(crate::specs::Inside::ReadingStatement::braced_at), using(crate::proofs::Blocks::block_is))]
-fn braced<'a>(
+#[tactic(auto, unfolding(crate::specs::Inside::ReadingStatement::braced_block_at), using(crate::proofs::Blocks::block_is))]
+fn braced_block<'a>(
     alloc: Global,
     tokens: Tokens<'a>,
     left: u32,
     room: u32,
 ) -> Result<((Vec<Stmt>, u32), Tokens<'a>), Stop>
     ensures { Gives (λ x. ((block_of x.0.0.items, x.0.1), x.1)) result
-        (braced_at (block_at left) (inside_at left) room tokens.entry) }
+        (braced_block_at (block_at left) (inside_at left) room tokens.entry) }
 {
     let (_, tokens) = sign(tokens, b"{")?;
     let ((statements, room), tokens) = statements(alloc, tokens, left, room)?;
@@ -438,7 +438,7 @@ fn closed_block(tokens: Tokens<'_>) -> Result<((Vec<Stmt>, u32), Tokens<'_>), St
     ensures { Gives (λ x. ((block_of x.0.0.items, x.0.1), x.1)) result (closed_block_at tokens.entry) }
 {
     let (_, tokens) = limited_sign(tokens, b"{", Some(Limit::Nesting))?;
-    Err(Stop::At(wrong(&tokens)))
+    Err(Stop::At(fault_found(&tokens)))
 }
 
 /// A block, where so many may be opened inside each other, this one included.
@@ -453,7 +453,7 @@ pub(crate) fn block<'a>(
     ensures { Gives (λ x. ((block_of x.0.0.items, x.0.1), x.1)) result (block_at left room tokens.entry) }
 {
     match left.checked_sub(1) {
-        Some(fewer) => braced(alloc, tokens, fewer, room),
+        Some(fewer) => braced_block(alloc, tokens, fewer, room),
         None => closed_block(tokens),
     }
 }
@@ -471,7 +471,7 @@ fn below<'a>(
 {
     match left.checked_sub(1) {
         Some(fewer) => inside(alloc, tokens, fewer, room),
-        None => Err(Stop::At(wrong(&tokens))),
+        None => Err(Stop::At(fault_found(&tokens))),
     }
 }
 

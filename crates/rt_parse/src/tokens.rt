@@ -7,11 +7,11 @@ ghost use Rattle.rt_parse.specs.declared.stop.Stop.TheVariants.{At};
 ghost use Rattle.rt_lex.specs.Token.{view, is_this_sign, is_this_word, is_this_name};
 ghost use Rattle.rt_grammar.specs.Tokens.{free, limit_if, word_of, sign_of, name_of, ident_of, number_of, name_limit};
 ghost use Rattle.rt_grammar.specs.Tokens.{number_limit};
-ghost use Rattle.rt_parse.specs.Inside.Reading.{Gives, Leaves, begins_with, token_at, wrong_at, wrong_token};
+ghost use Rattle.rt_parse.specs.Inside.Reading.{Gives, Leaves, begins_with, token_at, fault_found_at, wrong_token};
 ghost use Rattle.rt_parse.specs.Inside.Reading.{limited_word_at, word_at, limited_sign_at, sign_at, limited_name_at};
 ghost use Rattle.rt_parse.specs.Inside.Reading.{name_at, this_name_at, number_at, limited_number_at, unless_limited};
 ghost use Rattle.rt_parse.specs.Inside.ReadingExpression.{is_name};
-ghost use Rattle.rt_grammar.specs.Limits.{within, turned};
+ghost use Rattle.rt_grammar.specs.Limits.{within, turn_limit};
 
 use crate::stop::{Found, Stop};
 use rt_ast::{Ident, Number};
@@ -48,8 +48,8 @@ pub(crate) fn limit_if(passed: bool, limit: Limit) -> Option<Limit>
 }
 
 /// What is wrong with the next token: no text of the grammar goes on so.
-pub(crate) fn wrong(tokens: &Tokens<'_>) -> Found
-    ensures { result ≡ wrong_at tokens.now }
+pub(crate) fn fault_found(tokens: &Tokens<'_>) -> Found
+    ensures { result ≡ fault_found_at tokens.now }
 {
     wrong_token(tokens.peek())
 }
@@ -304,7 +304,7 @@ pub(crate) fn number_within(
 
 /// The number behind the last turn of a loop that begins at the first one.
 pub(crate) fn last_number(tokens: Tokens<'_>, first: u32) -> Result<(Number, Tokens<'_>), Stop>
-    ensures { Gives (λ x. x) result (limited_number_at (turned first) tokens.entry) }
+    ensures { Gives (λ x. x) result (limited_number_at (turn_limit first) tokens.entry) }
 {
     let (number, tokens) = number(tokens)?;
     let turns = number.value.saturating_sub(first);

@@ -12,9 +12,9 @@ use Rattle.rt_code.specs.declared.instr.Note.{Note}
 use Rattle.rt_code.specs.declared.instr.Note.TheVariants as note
 use Rattle.rt_points.specs.Point.{Owner, Starting, Thread, Handling, Kind, Mark, Raise, Mask, Opened, Point}
 
--- the handler of the interrupt at a place, where it is enabled
+-- the handler of the interrupt at an index, where it is enabled
 abbrev pub handler_at : Image → ℕ → Option Handler
-handler_at img place = then_from (slice_get img.irqs place) (λ row. row.handler)
+handler_at img index = then_from (slice_get img.irqs index) (λ row. row.handler)
 
 -- an instruction at an address leads to an address
 abbrev pub LeadsOn : Instr → ℕ → ℕ → Type 0
@@ -60,8 +60,8 @@ pub data IsPoint (img : Image) : Point → Type 0 where
   -- `init` begins at the address 0
   Begins : IsPoint img (starts_at 0 Starting)
   -- and each enabled interrupt at its entry
-  Enters : (place : ℕ) → (h : Handler) → handler_at img place ≡ Some h
-      → IsPoint img (starts_at h.entry (Handling place))
+  Enters : (index : ℕ) → (h : Handler) → handler_at img index ≡ Some h
+      → IsPoint img (starts_at h.entry (Handling index))
   Leads : (p : Point) → (q : Point) → IsPoint img p → LeadsTo img p q → IsPoint img q
 
 -- this line stands at a point

@@ -1,7 +1,7 @@
 pub mod Limits
 pub mod Point
 pub mod Leading
-pub mod Level
+pub mod ExecutionPriority
 pub mod Stack
 pub mod Rules
 pub mod Checked

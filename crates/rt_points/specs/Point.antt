@@ -3,7 +3,7 @@
 -- Optimization, 1973), as the Java verifier has one (The Java Virtual Machine Specification, section 4.10.2).
 use Rattle.std.specs.Prelude.{ℕ, List, map}
 use Rattle.rt_ids.specs.declared.ids.Section.{Section}
--- whose code runs: `init`, the thread behind it, or the handler of the interrupt at a place in the table of interrupts
+-- whose code runs: `init`, the thread behind it, or the handler of the interrupt at an index in the table of interrupts
 pub use Rattle.rt_points.specs.declared.point.Owner.{Owner}
 pub use Rattle.rt_points.specs.declared.point.Owner.TheVariants.{Starting, Thread, Handling}
 -- How an open section holds others off: by nothing; or by BASEPRI, raised to a value, or by PRIMASK, and what the mask

@@ -17,7 +17,7 @@ use Rattle.rt_code.specs.declared.instr.Note.{Note}
 use Rattle.rt_code.specs.declared.instr.Note.TheVariants as note
 use Rattle.rt_points.specs.Point.{Owner, Starting, Thread, Handling, Kind, Mark, Raise, Mask, Opened, Point, sections}
 use Rattle.rt_points.specs.Leading.{IsPoint, StandsAt, inside_after}
-use Rattle.rt_points.specs.Level.{owner_value, frame_of, level_value}
+use Rattle.rt_points.specs.ExecutionPriority.{owner_value, frame_of, execution_priority}
 use Rattle.rt_points.specs.Stack.{stack_need}
 use Rattle.rt_points.specs.declared.rule.TheConstants.{MOST_OPEN, STACK_BYTES}
 
@@ -51,10 +51,10 @@ is_plain instr.Back = false
 is_plain i = true
 
 -- the cell that an instruction touches, where it names one
-abbrev pub touched : Instr → Option Access
-touched (instr.Load d c) = Some (Loads c)
-touched (instr.Store c s) = Some (Stores c)
-touched i = None
+abbrev pub touched_cell : Instr → Option Access
+touched_cell (instr.Load d c) = Some (Loads c)
+touched_cell (instr.Store c s) = Some (Stores c)
+touched_cell i = None
 
 -- the cell of an access, where there is one, is one of so many
 abbrev pub HasItsCell : ℕ → Option Access → Type 0
@@ -63,7 +63,7 @@ HasItsCell cells (Some a) = cell_of a < cells
 
 -- a return is a handler's, serving interrupts is the end of `init`, and neither is done with a section open
 abbrev pub MayEnd : Owner → List Opened → Instr → Type 0
-MayEnd owner inside instr.Ret = ((place : ℕ) × (owner ≡ Handling place)) × (inside ≡ [])
+MayEnd owner inside instr.Ret = ((index : ℕ) × (owner ≡ Handling index)) × (inside ≡ [])
 MayEnd owner inside instr.Serve = (owner ≡ Starting) × (inside ≡ [])
 MayEnd owner inside i = Unit {0}
 
@@ -72,7 +72,7 @@ MayEnd owner inside i = Unit {0}
 pub record IsOperable (img : Image) (p : Point) (i : Instr) : Type 0 where
   pub plain : is_plain i ≡ true
   pub slots : AllByRecursion (λ slot. slot < frame_of img p.owner) (slots_of i)
-  pub cell : HasItsCell (length img.cells) (touched i)
+  pub cell : HasItsCell (length img.cells) (touched_cell i)
   pub ends : MayEnd p.owner p.inside i
 
 -- Fourth rule: each instruction that is come to is one of those that may be used, has its slots in its owner's frame and
@@ -88,15 +88,15 @@ opens (instr.Mask d) = true
 opens i = false
 
 -- the instruction on which a section is left: the one that undoes how it was entered
-abbrev pub closing : Kind → Instr
-closing Mark = instr.Mark
-closing (Raise slot value) = instr.Restore slot
-closing (Mask slot) = instr.Unmask slot
+abbrev pub leaving_instr : Kind → Instr
+leaving_instr Mark = instr.Mark
+leaving_instr (Raise slot value) = instr.Restore slot
+leaving_instr (Mask slot) = instr.Unmask slot
 
 -- the innermost open section is this one, and the instruction closes it
 abbrev pub ClosesInnermost : List Opened → Section → Instr → Type 0
 ClosesInnermost [] x i = ⊥
-ClosesInnermost (o ∷ outer) x i = (o.section ≡ x) × (i ≡ closing o.kind)
+ClosesInnermost (o ∷ outer) x i = (o.section ≡ x) × (i ≡ leaving_instr o.kind)
 
 -- the instruction is a jump, and the thread's
 abbrev pub JumpsInThread : Owner → Instr → Type 0
@@ -132,16 +132,16 @@ HasItsNote instr.Serve told = told ≡ Some (note.End body.Init)
 HasItsNote i told = Unit {0}
 
 -- the slot that an instruction writes
-abbrev pub written : Instr → Option ℕ
-written (instr.Set d v) = Some d
-written (instr.Copy d s) = Some d
-written (instr.Calc op d a b) = Some d
-written (instr.Load d c) = Some d
-written (instr.LoadAt d c s) = Some d
-written (instr.Clock d) = Some d
-written (instr.Raise d v) = Some d
-written (instr.Mask d) = Some d
-written i = None
+abbrev pub written_slot : Instr → Option ℕ
+written_slot (instr.Set d v) = Some d
+written_slot (instr.Copy d s) = Some d
+written_slot (instr.Calc op d a b) = Some d
+written_slot (instr.Load d c) = Some d
+written_slot (instr.LoadAt d c s) = Some d
+written_slot (instr.Clock d) = Some d
+written_slot (instr.Raise d v) = Some d
+written_slot (instr.Mask d) = Some d
+written_slot i = None
 
 -- this slot holds what a mask was before a section of the kind
 abbrev pub Saves : Kind → ℕ → Type 0
@@ -161,9 +161,9 @@ IsMask (Raise slot value) = ⊥
 IsMask (Mask slot) = Unit {0}
 
 -- a mask is set where it has an effect and can be put back: BASEPRI to a value that is not 0, which would mask nothing,
--- and below the level value; PRIMASK not in `init`, nor twice
+-- and below the execution priority; PRIMASK not in `init`, nor twice
 abbrev pub MasksWell : Image → Point → Instr → Type 0
-MasksWell img p (instr.Raise d v) = (0 < v) × (v < level_value img p.owner p.inside)
+MasksWell img p (instr.Raise d v) = (0 < v) × (v < execution_priority img p.owner p.inside)
 MasksWell img p (instr.Mask d) = (p.owner ≢ Starting) × AllByRecursion (λ o. ¬ IsMask o.kind) p.inside
 MasksWell img p i = Unit {0}
 
@@ -171,7 +171,7 @@ MasksWell img p i = Unit {0}
 pub record IsNotedWell (img : Image) (p : Point) (i : Instr) (told : Option Note) : Type 0 where
   pub stands : StandsOn p.owner p.inside told i
   pub has : HasItsNote i told
-  pub unsaved : IsUnsaved p.inside (written i)
+  pub unsaved : IsUnsaved p.inside (written_slot i)
   pub masks : MasksWell img p i
 
 -- Fifth rule: at each point the note stands where it may, an instruction that changes a mask has its note, what an open
@@ -187,7 +187,7 @@ EntersAt img p i x = StandsAt img p i (Some (note.Enter x))
 pub record HoldsOff (img : Image) (p : Point) (i : Instr) (x : Section) : Type 0 where
   pub free : ¬ IsIn (sections p.inside) x
   pub others : (q : Point) (j : Instr) → q.owner ≢ Starting → EntersAt img q j x
-      → level_value img p.owner (inside_after i (Some (note.Enter x)) p.inside) ≤ owner_value img q.owner
+      → execution_priority img p.owner (inside_after i (Some (note.Enter x)) p.inside) ≤ owner_value img q.owner
 
 -- at each point where a section is entered it is free, and holds off all others that enter it
 abbrev pub EntersWell : Image → Type 0
@@ -200,7 +200,7 @@ pub record Touches (img : Image) (cell : ℕ) (p : Point) : Type 0 where
   pub told : Option Note
   pub stands : StandsAt img p instr told
   pub access : Access
-  pub by : touched instr ≡ Some access
+  pub by : touched_cell instr ≡ Some access
   pub touches : cell_of access ≡ cell
 
 -- an access that writes

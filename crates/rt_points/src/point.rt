@@ -7,7 +7,7 @@ pub enum Owner {
     Starting,
     /// The thread behind `init`.
     Thread,
-    /// The handler of the interrupt at this place in the table of interrupts.
+    /// The handler of the interrupt at this index in the table of interrupts.
     Handling(usize),
 }
 

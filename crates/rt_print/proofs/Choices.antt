@@ -8,8 +8,8 @@ use Rattle.rt_ast.specs.declared.ident.Ident.{Ident}
 use Rattle.rt_ast.specs.declared.ident.Number.{Number}
 use Rattle.rt_ast.specs.declared.app.ListedTree.{ListedTree}
 use Rattle.rt_ast.specs.Bare.{bare_name, bare_number, bare_listed}
-use Rattle.rt_ast.specs.CanonicalExpression.{separated, name_text}
-use Rattle.rt_ast.specs.CanonicalOptions.{bracketed, by_ref_text, listed_text, binds_option, priority_option, capacity_option, shared_option, local_option, options_text}
+use Rattle.rt_ast.specs.CanonicalExpression.{separated_list, name_text}
+use Rattle.rt_ast.specs.CanonicalOptions.{bracketed_list, by_ref_text, listed_text, binds_option, priority_option, capacity_option, shared_option, local_option, options_text}
 use Rattle.rt_ast.specs.PrintableBody.{IsPrintableName}
 use Rattle.rt_ast.specs.Printable.{IfThere, ArePrintableNames, IsPrintableListed, IsPrintablePriority, IsPrintableCapacity}
 use Rattle.rt_lex.specs.declared.token.Kind.TheVariants as kind
@@ -17,7 +17,7 @@ use Rattle.rt_grammar.specs.Language.{Language, gives, ◌>>◌}
 use Rattle.rt_grammar.specs.Tokens.{free, name, number, limited_number, sign, word, list, adds, names}
 use Rattle.rt_grammar.specs.Options as grammar
 use Rattle.rt_grammar.specs.Limits.{within}
-use Rattle.rt_grammar.specs.Options.{Options, no_options, Owner, OfTask, is_task, is_init, listed, option, options}
+use Rattle.rt_grammar.specs.Options.{Options, no_options, Owner, OfTask, is_task, is_init, listed_resource, option, options}
 use Rattle.rt_print.proofs.Reading.{Reads, Any, read_gives, read_then, read_left, read_right, read_space, read_same, read_only_if}
 use Rattle.rt_print.proofs.Lexemes.{IsFront, IsNamed, IsNumber, read_name, read_number, read_word, read_sign}
 use Rattle.rt_print.proofs.Lists.{IsEnd, Items, comma_ends, list_reads, list_step, list_last}
@@ -44,7 +44,7 @@ none_is f (Some x) e = absurd cc
 -- what is left of the options between parentheses, of which the first stands next
 abbrev pub Left : Owner → (Options → Type 0) → List ℕ → List (List ℕ) → Options → Type 0
 Left owner Q Y [] o = Q o
-Left owner Q Y (x ∷ xs) o = Reads (list (codes ")") (option owner) o) Q (separated (λ text. text) (x ∷ xs) ++ 41 ∷ Y) Y
+Left owner Q Y (x ∷ xs) o = Reads (list (codes ")") (option owner) o) Q (separated_list (λ text. text) (x ∷ xs) ++ 41 ∷ Y) Y
 
 one_option : (owner : Owner) (P Q : Options → Type 0) (o : Options) (x Y : List ℕ) (xs : List (List ℕ)) → ((Z : List ℕ) → IsEnd Z → Reads (option owner o) P (x ++ Z) Z) → ((t : Options) → P t → Left owner Q Y xs t)
     → Left owner Q Y (x ∷ xs) o
@@ -52,15 +52,15 @@ one_option owner P Q o x Y [] h k =
     read_same (list (codes ")") (option owner) o) Q (x ++ 41 ∷ Y) _ Y (append_assoc x [] (41 ∷ Y))
     (list_last (codes ")") (option owner) P Q o (x ++ 41 ∷ Y) (41 ∷ Y) Y (h (41 ∷ Y) (closing_ends Y)) k (read_sign (codes ")") free Y refl refl))
 one_option owner P Q o x Y (y ∷ xs) h k =
-    let Z = separated (λ text. text) (y ∷ xs) ++ 41 ∷ Y in
-    read_same (list (codes ")") (option owner) o) Q (x ++ 44 ∷ 32 ∷ Z) _ Y (append_assoc x (44 ∷ 32 ∷ separated (λ text. text) (y ∷ xs)) (41 ∷ Y))
+    let Z = separated_list (λ text. text) (y ∷ xs) ++ 41 ∷ Y in
+    read_same (list (codes ")") (option owner) o) Q (x ++ 44 ∷ 32 ∷ Z) _ Y (append_assoc x (44 ∷ 32 ∷ separated_list (λ text. text) (y ∷ xs)) (41 ∷ Y))
     (list_step (codes ")") (option owner) P Q o (x ++ 44 ∷ 32 ∷ Z) Z Y (h (44 ∷ 32 ∷ Z) (comma_ends (32 ∷ Z))) k)
 
 -- options in parentheses, where there are any
 pub options_reads : (owner : Owner) (Q : Options → Type 0) (os : List (List ℕ)) (Y : List ℕ) → Left owner Q Y os no_options → Reads (options owner) Q (options_text os ++ Y) Y
 options_reads owner Q [] Y h = read_left (gives no_options) _ Q Y Y (read_gives Q no_options Y h)
 options_reads owner Q (x ∷ xs) Y h =
-    let S = separated (λ text. text) (x ∷ xs) in
+    let S = separated_list (λ text. text) (x ∷ xs) in
     read_same (options owner) Q (40 ∷ (S ++ 41 ∷ Y)) _ Y (ap (λ (t : List ℕ). 40 ∷ t) (append_assoc S (codes ")") Y))
     (read_right (gives no_options) _ Q (40 ∷ (S ++ 41 ∷ Y)) Y
     (read_then (sign (codes "(")) (λ c. list (codes ")") (option owner) no_options) Any Q (40 ∷ (S ++ 41 ∷ Y)) (S ++ 41 ∷ Y) Y (read_sign (codes "(") free (S ++ 41 ∷ Y) refl refl) (λ c u. h)))
@@ -110,7 +110,7 @@ capacity_read owner b p n o Z t h a ends =
 abbrev IsListed : ListedTree → ListedTree → Type 0
 IsListed r x = bare_listed x ≡ bare_listed r
 
-listed_reads_by : (r : ListedTree) (here : Bool) (Y : List ℕ) → r.by_ref ≡ here → IsPrintableListed r → IsEnd Y → Reads listed (IsListed r) ((by_ref_text here ++ name_text r.name) ++ Y) Y
+listed_reads_by : (r : ListedTree) (here : Bool) (Y : List ℕ) → r.by_ref ≡ here → IsPrintableListed r → IsEnd Y → Reads listed_resource (IsListed r) ((by_ref_text here ++ name_text r.name) ++ Y) Y
 listed_reads_by r true Y k h ends =
     let P = IsListed r in
     let N = r.name.name ++ Y in
@@ -125,32 +125,32 @@ listed_reads_by r false Y k h ends =
     (read_then name _ (IsNamed r.name) P N Y Y (read_name r.name free Y h refl ends.stops) (λ x e.
     read_gives P (record { name = x; by_ref = false; at = x.at }) Y (rw (e, k) refl)))
 
-listed_reads : (r : ListedTree) (before most : ℕ) (Y : List ℕ) → IsPrintableListed r → before < most → IsEnd Y → Reads listed (IsListed r) (listed_text r ++ Y) Y
+listed_reads : (r : ListedTree) (before most : ℕ) (Y : List ℕ) → IsPrintableListed r → before < most → IsEnd Y → Reads listed_resource (IsListed r) (listed_text r ++ Y) Y
 listed_reads r before most Y h few ends = listed_reads_by r r.by_ref Y refl h ends
 
 shared_read : (owner : Owner) (b : Option Ident) (p : Option Number) (c : Option ℕ) (r : ListedTree) (rs : List ListedTree) (o : Options) (Z : List ℕ) → is_init owner ≡ false
-    → AllByRecursion IsPrintableListed (r ∷ rs) → AreRead b p c [] [] o → IsEnd Z → Reads (option owner o) (AreRead b p c (r ∷ rs) []) ((codes "shared = " ++ bracketed listed_text (r ∷ rs)) ++ Z) Z
+    → AllByRecursion IsPrintableListed (r ∷ rs) → AreRead b p c [] [] o → IsEnd Z → Reads (option owner o) (AreRead b p c (r ∷ rs) []) ((codes "shared = " ++ bracketed_list listed_text (r ∷ rs)) ++ Z) Z
 shared_read owner b p c r rs o Z t h a ends =
     let P = AreRead b p c (r ∷ rs) [] in
-    let S = separated listed_text (r ∷ rs) in
+    let S = separated_list listed_text (r ∷ rs) in
     let B = S ++ 93 ∷ Z in
     let All : List ListedTree → Type 0 = λ all. map bare_listed all ≡ map bare_listed (r ∷ rs) in
     let test : (not (is_init owner) && is_none o.shared) ≡ true = rw (t, none_is (map bare_listed) o.shared a.shared) refl in
-    let items : Items (λ before. listed) listed_text bare_listed IsPrintableListed (length (r ∷ rs)) = record { read = λ x before Y g few e. listed_reads x before (length (r ∷ rs)) Y g few e } in
+    let items : Items (λ before. listed_resource) listed_text bare_listed IsPrintableListed (length (r ∷ rs)) = record { read = λ x before Y g few e. listed_reads x before (length (r ∷ rs)) Y g few e } in
     read_right (grammar.binds_option owner o) _ P _ Z (read_right (grammar.priority_option owner o) _ P _ Z (read_right (grammar.capacity_option owner o) _ P _ Z (read_left (grammar.shared_option owner o) _ P _ Z
     (read_only_if (not (is_init owner) && is_none o.shared) _ P _ Z test
     (read_same _ P (codes "shared = " ++ 91 ∷ B) _ Z (ap (λ (u : List ℕ). codes "shared = " ++ 91 ∷ u) (append_assoc S (codes "]") Z))
     (read_word_is (codes "shared") _ P (91 ∷ B) Z refl
     (read_then (sign (codes "[")) _ Any P (91 ∷ B) B Z (read_sign (codes "[") free B refl refl) (λ d u.
-    read_then (list (codes "]") (adds (λ before. listed)) []) _ All P B Z Z
-    (list_reads (codes "]") (λ before. listed) listed_text bare_listed IsPrintableListed (length (r ∷ rs)) (r ∷ rs) (93 ∷ Z) Z items h (omega arith) (bracket_ends Z) (read_sign (codes "]") free Z refl refl)) (λ xs e.
+    read_then (list (codes "]") (adds (λ before. listed_resource)) []) _ All P B Z Z
+    (list_reads (codes "]") (λ before. listed_resource) listed_text bare_listed IsPrintableListed (length (r ∷ rs)) (r ∷ rs) (93 ∷ Z) Z items h (omega arith) (bracket_ends Z) (read_sign (codes "]") free Z refl refl)) (λ xs e.
     read_gives P (record o { shared = Some xs }) Z (record { binds = a.binds; priority = a.priority; capacity = a.capacity; shared = ap Some e; local = a.local }))))))))))
 
 local_read : (owner : Owner) (b : Option Ident) (p : Option Number) (c : Option ℕ) (s : List ListedTree) (x : Ident) (xs : List Ident) (o : Options) (Z : List ℕ)
-    → ArePrintableNames (x ∷ xs) → AreRead b p c s [] o → IsEnd Z → Reads (option owner o) (AreRead b p c s (x ∷ xs)) ((codes "local = " ++ bracketed name_text (x ∷ xs)) ++ Z) Z
+    → ArePrintableNames (x ∷ xs) → AreRead b p c s [] o → IsEnd Z → Reads (option owner o) (AreRead b p c s (x ∷ xs)) ((codes "local = " ++ bracketed_list name_text (x ∷ xs)) ++ Z) Z
 local_read owner b p c s x xs o Z h a ends =
     let P = AreRead b p c s (x ∷ xs) in
-    let B = bracketed name_text (x ∷ xs) ++ Z in
+    let B = bracketed_list name_text (x ∷ xs) ++ Z in
     let test : is_none o.local ≡ true = none_is (map bare_name) o.local a.local in
     read_right (grammar.binds_option owner o) _ P _ Z (read_right (grammar.priority_option owner o) _ P _ Z (read_right (grammar.capacity_option owner o) _ P _ Z (read_right (grammar.shared_option owner o) _ P _ Z
     (read_only_if (is_none o.local) _ P _ Z test
@@ -164,14 +164,14 @@ local_left : (owner : Owner) (b : Option Ident) (p : Option Number) (c : Option 
 local_left owner b p c s [] o Y h a = a
 local_left owner b p c s (x ∷ xs) o Y h a =
     let Q = AreRead b p c s (x ∷ xs) in
-    one_option owner Q Q o (codes "local = " ++ bracketed name_text (x ∷ xs)) Y [] (λ Z ends. local_read owner b p c s x xs o Z h a ends) (λ t q. q)
+    one_option owner Q Q o (codes "local = " ++ bracketed_list name_text (x ∷ xs)) Y [] (λ Z ends. local_read owner b p c s x xs o Z h a ends) (λ t q. q)
 
 pub shared_left : (owner : Owner) (b : Option Ident) (p : Option Number) (c : Option ℕ) (s : List ListedTree) (l : List Ident) (o : Options) (Y : List ℕ) → (is_init owner ≡ false) ⊎ (s ≡ [])
     → AllByRecursion IsPrintableListed s → ArePrintableNames l → AreRead b p c [] [] o → Left owner (AreRead b p c s l) Y (shared_option s ++ local_option l) o
 shared_left owner b p c [] l o Y t g h a = local_left owner b p c [] l o Y h a
 shared_left owner b p c (r ∷ rs) l o Y (inr t) g h a = absurd cc
 shared_left owner b p c (r ∷ rs) l o Y (inl t) g h a =
-    one_option owner (AreRead b p c (r ∷ rs) []) (AreRead b p c (r ∷ rs) l) o (codes "shared = " ++ bracketed listed_text (r ∷ rs)) Y (local_option l)
+    one_option owner (AreRead b p c (r ∷ rs) []) (AreRead b p c (r ∷ rs) l) o (codes "shared = " ++ bracketed_list listed_text (r ∷ rs)) Y (local_option l)
     (λ Z ends. shared_read owner b p c r rs o Z t g a ends) (λ u q. local_left owner b p c (r ∷ rs) l u Y h q)
 
 -- the options of a task

@@ -9,9 +9,9 @@ use Rattle.rt_ids.specs.declared.limits.TheConstants.{LEAST_BITS, MOST_BITS}
 use Rattle.rt_ast.specs.declared.ident.Ident.{Ident}
 use Rattle.rt_ast.specs.Tree.{App}
 use Rattle.rt_ast.specs.Bare.{bare_name}
-use Rattle.rt_ast.specs.CanonicalExpression.{separated, name_text}
-use Rattle.rt_ast.specs.CanonicalOptions.{bracketed}
-use Rattle.rt_ast.specs.Canonical.{enclosed, dispatchers_text, fpu_text, head_text}
+use Rattle.rt_ast.specs.CanonicalExpression.{separated_list, name_text}
+use Rattle.rt_ast.specs.CanonicalOptions.{bracketed_list}
+use Rattle.rt_ast.specs.Canonical.{braced_list, dispatchers_text, fpu_text, head_text}
 use Rattle.rt_ast.specs.PrintableBody.{IsPrintableName}
 use Rattle.rt_ast.specs.Printable.{ArePrintableNames}
 use Rattle.rt_grammar.specs.Language.{Language, gives, ◌>>◌}
@@ -53,20 +53,20 @@ name_items most = record { read = λ x before Y h fits ends. read_holds name (Is
 
 -- a list in brackets
 pub bracketed_reads : {A : Type 0} (item : ℕ → Language A) (text : A → List ℕ) (view : A → A) (Good : A → Type 0) (xs : List A) (Y : List ℕ) → Items item text view Good (length xs) → AllByRecursion Good xs
-    → Reads (sign (codes "[") >> list (codes "]") (adds item) []) (λ all. map view all ≡ map view xs) (bracketed text xs ++ Y) Y
+    → Reads (sign (codes "[") >> list (codes "]") (adds item) []) (λ all. map view all ≡ map view xs) (bracketed_list text xs ++ Y) Y
 bracketed_reads item text view Good xs Y items g =
     let P : List _ → Type 0 = λ all. map view all ≡ map view xs in
-    let X = separated text xs ++ 93 ∷ Y in
-    read_same _ P (91 ∷ X) _ Y (ap (λ (t : List ℕ). 91 ∷ t) (append_assoc (separated text xs) (codes "]") Y))
+    let X = separated_list text xs ++ 93 ∷ Y in
+    read_same _ P (91 ∷ X) _ Y (ap (λ (t : List ℕ). 91 ∷ t) (append_assoc (separated_list text xs) (codes "]") Y))
     (read_then (sign (codes "[")) (λ c. list (codes "]") (adds item) []) Any P (91 ∷ X) X Y (read_sign (codes "[") free X refl refl) (λ c u.
     list_reads (codes "]") item text view Good (length xs) xs (93 ∷ Y) Y items g (omega arith) (bracket_ends Y) (read_sign (codes "]") free Y refl refl)))
 
-pub names_read : (xs : List Ident) (Y : List ℕ) → ArePrintableNames xs → Reads names (AreNames xs) (bracketed name_text xs ++ Y) Y
+pub names_read : (xs : List Ident) (Y : List ℕ) → ArePrintableNames xs → Reads names (AreNames xs) (bracketed_list name_text xs ++ Y) Y
 names_read xs Y h = bracketed_reads (λ before. name) name_text bare_name IsPrintableName xs Y (name_items (length xs)) h
 
 -- a list in braces
 pub enclosed_reads : {A : Type 0} (item : ℕ → Language A) (text : A → List ℕ) (view : A → A) (Good : A → Type 0) (most : ℕ) (xs : List A) (Y : List ℕ) → Items item text view Good most → AllByRecursion Good xs
-    → length xs ≤ most → Reads (sign (codes "{") >> list (codes "}") (adds item) []) (λ all. map view all ≡ map view xs) (enclosed text xs ++ Y) Y
+    → length xs ≤ most → Reads (sign (codes "{") >> list (codes "}") (adds item) []) (λ all. map view all ≡ map view xs) (braced_list text xs ++ Y) Y
 enclosed_reads item text view Good most [] Y items g few =
     let P : List _ → Type 0 = λ all. map view all ≡ [] in
     let k = read_sign (codes "}") free Y refl refl in
@@ -79,8 +79,8 @@ enclosed_reads item text view Good most [] Y items g few =
 enclosed_reads item text view Good most (x ∷ xs) Y items g few =
     let P : List _ → Type 0 = λ all. map view all ≡ map view (x ∷ xs) in
     let T = 32 ∷ 125 ∷ Y in
-    let X = separated text (x ∷ xs) ++ T in
-    read_same _ P (123 ∷ 32 ∷ X) _ Y (ap (λ (t : List ℕ). 123 ∷ 32 ∷ t) (append_assoc (separated text (x ∷ xs)) (codes " }") Y))
+    let X = separated_list text (x ∷ xs) ++ T in
+    read_same _ P (123 ∷ 32 ∷ X) _ Y (ap (λ (t : List ℕ). 123 ∷ 32 ∷ t) (append_assoc (separated_list text (x ∷ xs)) (codes " }") Y))
     (read_then (sign (codes "{")) (λ c. list (codes "}") (adds item) []) Any P (123 ∷ 32 ∷ X) (32 ∷ X) Y (read_sign (codes "{") free (32 ∷ X) refl refl) (λ c u.
     read_space (list (codes "}") (adds item) []) P X Y
     (list_reads (codes "}") item text view Good most (x ∷ xs) T Y items g few (record { stops = refl; plain = plain_brace Y })
@@ -90,7 +90,7 @@ dispatchers_read : (xs : List Ident) (Y : List ℕ) → ArePrintableNames xs →
 dispatchers_read [] Y h = read_left (gives []) _ (AreNames []) Y Y (read_gives (AreNames []) [] Y refl)
 dispatchers_read (x ∷ xs) Y h =
     let P = AreNames (x ∷ xs) in
-    let B = bracketed name_text (x ∷ xs) ++ Y in
+    let B = bracketed_list name_text (x ∷ xs) ++ Y in
     read_right (gives []) _ P (codes ", dispatchers = " ++ B) Y
     (read_then (sign (codes ",")) _ Any P (codes ", dispatchers = " ++ B) (codes " dispatchers = " ++ B) Y (read_sign (codes ",") free (codes " dispatchers = " ++ B) refl refl) (λ a u.
     read_space _ P (codes "dispatchers = " ++ B) Y

@@ -17,7 +17,7 @@ use Rattle.rt_grammar.specs.Mark.{Ends, IsWithin}
 use Rattle.rt_grammar.specs.Language.{Language, gives}
 use Rattle.rt_grammar.specs.Reach.{expression_goes_on}
 use Rattle.rt_grammar.specs.Tokens.{free, limit_if, name, number, sign, limited_sign}
-use Rattle.rt_grammar.specs.Expression.{Operand, Signs, op_of, operator, comparisons, strengths, joined, chain, chains, comparison, plain_atom, atom, depth, ends, expression}
+use Rattle.rt_grammar.specs.Expression.{Operand, Signs, op_of, operator, comparisons, strengths, joined_operand, chain, chains, comparison, plain_atom, atom, depth, ends, expression}
 use Rattle.rt_print.proofs.Reading.{Reads, Any, read_gives, read_then, read_left, read_right, read_none, read_step, read_token, read_space, read_same}
 use Rattle.rt_print.proofs.Lexemes.{IsFront, Stops, IsNamed, IsNumber, token_first, read_name, read_number, read_sign}
 
@@ -53,14 +53,14 @@ read_operator signs o Y h at =
 chain_alone : (signs : Signs) (operand : Language Operand) (P : Operand → Type 0) (X Y : List ℕ) → Reads operand P X Y → Reads (chain signs operand) P X Y
 chain_alone signs operand P X Y h = read_then operand _ P P X Y Y h (λ x p. read_none _ P x Y p)
 
-chains_alone : (levels : List Signs) (operand : Language Operand) (P : Operand → Type 0) (X Y : List ℕ) → Reads operand P X Y → Reads (chains levels operand) P X Y
+chains_alone : (all : List Signs) (operand : Language Operand) (P : Operand → Type 0) (X Y : List ℕ) → Reads operand P X Y → Reads (chains all operand) P X Y
 chains_alone [] operand P X Y h = h
-chains_alone (signs ∷ levels) operand P X Y h = chain_alone signs (chains levels operand) P X Y (chains_alone levels operand P X Y h)
+chains_alone (signs ∷ all) operand P X Y h = chain_alone signs (chains all operand) P X Y (chains_alone all operand P X Y h)
 
 abbrev behind_left : Op → List ℕ → List ℕ
 behind_left o Z = 32 ∷ (sign_text o ++ 32 ∷ Z)
 
-same_operation : (o : Op) (l r : Expression) (left right : Operand) → IsOperand l left → IsOperand r right → IsOperand (Oper o l r) (joined o left right)
+same_operation : (o : Op) (l r : Expression) (left right : Operand) → IsOperand l left → IsOperand r right → IsOperand (Oper o l r) (joined_operand o left right)
 same_operation o l r left right h k = rw (h, k) refl
 
 chain_two : (signs : Signs) (operand : Language Operand) (o : Op) (l r : Expression) (X Z Y : List ℕ) → IsOf signs o → Reads operand (IsOperand l) X (behind_left o Z) → Reads operand (IsOperand r) Z Y
@@ -72,21 +72,21 @@ chain_two signs operand o l r X Z Y s h k =
     (read_space _ P (sign_text o ++ 32 ∷ Z) Y
     (read_then (operator signs) _ (IsThis o) P (sign_text o ++ 32 ∷ Z) (32 ∷ Z) Y (read_operator signs o Z s) (λ q e.
     read_then operand _ (IsOperand r) P (32 ∷ Z) Y Y (read_space operand (IsOperand r) Z Y k) (λ right c.
-    read_gives P (joined q left right) Y (subst (λ (u : Op). P (joined u left right)) (sym e) (same_operation o l r left right p c))))))
+    read_gives P (joined_operand q left right) Y (subst (λ (u : Op). P (joined_operand u left right)) (sym e) (same_operation o l r left right p c))))))
     (λ t q. read_none _ P t Y q))
 
 -- the operator is one of some strength
 abbrev IsIn : List Signs → Op → Type 0
 IsIn [] o = ⊥
-IsIn (signs ∷ levels) o = IsOf signs o ⊎ IsIn levels o
+IsIn (signs ∷ all) o = IsOf signs o ⊎ IsIn all o
 
-chains_two : (levels : List Signs) (operand : Language Operand) (o : Op) (l r : Expression) (X Z Y : List ℕ) → IsIn levels o → Reads operand (IsOperand l) X (behind_left o Z) → Reads operand (IsOperand r) Z Y
-    → Reads (chains levels operand) (IsOperand (Oper o l r)) X Y
+chains_two : (all : List Signs) (operand : Language Operand) (o : Op) (l r : Expression) (X Z Y : List ℕ) → IsIn all o → Reads operand (IsOperand l) X (behind_left o Z) → Reads operand (IsOperand r) Z Y
+    → Reads (chains all operand) (IsOperand (Oper o l r)) X Y
 chains_two [] operand o l r X Z Y s h k = absurd s
-chains_two (signs ∷ levels) operand o l r X Z Y (inl here) h k =
-    chain_two signs (chains levels operand) o l r X Z Y here (chains_alone levels operand _ X _ h) (chains_alone levels operand _ Z Y k)
-chains_two (signs ∷ levels) operand o l r X Z Y (inr there) h k =
-    chain_alone signs (chains levels operand) _ X Y (chains_two levels operand o l r X Z Y there h k)
+chains_two (signs ∷ all) operand o l r X Z Y (inl here) h k =
+    chain_two signs (chains all operand) o l r X Z Y here (chains_alone all operand _ X _ h) (chains_alone all operand _ Z Y k)
+chains_two (signs ∷ all) operand o l r X Z Y (inr there) h k =
+    chain_alone signs (chains all operand) _ X Y (chains_two all operand o l r X Z Y there h k)
 
 op_is_in : (o : Op) → IsIn strengths o ⊎ IsOf comparisons o
 op_is_in op.Or = inl (inl (λ at. refl))
@@ -125,7 +125,7 @@ compared_two operand ended Q o l r X Z Y f s h k =
     (read_space _ Q (sign_text o ++ 32 ∷ Z) Y
     (read_then (operator comparisons) _ (IsThis o) Q (sign_text o ++ 32 ∷ Z) (32 ∷ Z) Y (read_operator comparisons o Z s) (λ q e.
     read_then (chains strengths operand) _ (IsOperand r) Q (32 ∷ Z) Y Y (read_space (chains strengths operand) (IsOperand r) Z Y (chains_alone strengths operand _ Z Y k)) (λ right c.
-    f (joined q left right) true (subst (λ (u : Op). R (joined u left right)) (sym e) (same_operation o l r left right p c)))))))
+    f (joined_operand q left right) true (subst (λ (u : Op). R (joined_operand u left right)) (sym e) (same_operation o l r left right p c)))))))
 
 operation_reads : {A : Type 0} (operand : Language Operand) (ended : Operand → Bool → Language A) (Q : A → Type 0) (o : Op) (l r : Expression) (X Z Y : List ℕ) → EndsAt ended (Oper o l r) Q Y
     → Reads operand (IsOperand l) X (behind_left o Z) → Reads operand (IsOperand r) Z Y → Reads (comparison operand ended) Q X Y

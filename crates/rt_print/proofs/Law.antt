@@ -7,7 +7,7 @@ use Rattle.rt_ast.specs.Canonical.{canonical, head_text, irqs_text, mono_text, s
 use Rattle.rt_ast.specs.Printable.{IsPrintable}
 use Rattle.rt_grammar.specs.Language.{repeat}
 use Rattle.rt_grammar.specs.Tokens.{adds}
-use Rattle.rt_grammar.specs.Resources.{interrupts, monotonic, shared, locals}
+use Rattle.rt_grammar.specs.Resources.{interrupts, monotonic, shared_resources, locals}
 use Rattle.rt_grammar.specs.Options.{OfInit, OfIdle}
 use Rattle.rt_grammar.specs.Bodies.{thread_body, task}
 use Rattle.rt_grammar.specs.Declaration.{head, application}
@@ -42,7 +42,7 @@ application_reads a h =
     (read_then head _ (IsHead a) P H I [] (head_reads a I h.name h.bits.0 h.bits.1 h.dispatchers) (λ first e1.
     read_then interrupts _ (AreAll bare_irq a.irqs) P I M [] (irqs_read a.irqs M h.irqs h.few_irqs) (λ irqs e2.
     read_then monotonic _ (IsMaybe bare_mono a.mono) P M S [] (mono_reads a.mono S h.mono) (λ mono e3.
-    read_then shared _ (AreAll bare_resource a.shared) P S L [] (shared_reads a.shared L h.shared h.few_shared) (λ ss e4.
+    read_then shared_resources _ (AreAll bare_resource a.shared) P S L [] (shared_reads a.shared L h.shared h.few_shared) (λ ss e4.
     read_then locals _ (AreAll bare_local a.locals) P L N [] (locals_read a.locals N h.locals h.few_locals) (λ ls e5.
     read_then (thread_body 16 OfInit (codes "init")) _ (IsMaybe bare_body a.init) P N D [] (init_reads a.init D h.init) (λ init e6.
     read_then (thread_body 16 OfIdle (codes "idle")) _ (IsMaybe bare_body a.idle) P D T [] (idle_reads a.idle T h.idle) (λ idle e7.

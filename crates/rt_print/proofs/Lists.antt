@@ -3,7 +3,7 @@ use Rattle.std.proofs.Common.{◌≡◌, ℕ, suc, ◌+◌, ◌<◌, ◌≤◌, 
 use Rattle.std.specs.Prelude.{codes}
 use Rattle.std.specs.List.{AllByRecursion}
 use Rattle.std.proofs.lemmas.List.{map-append, length-map}
-use Rattle.rt_ast.specs.CanonicalExpression.{separated}
+use Rattle.rt_ast.specs.CanonicalExpression.{separated_list}
 use Rattle.rt_grammar.specs.Mark.{Mark}
 use Rattle.rt_grammar.specs.Language.{Language, gives, ◌>>=◌, ◌>>◌, ◌or◌, repeat}
 use Rattle.rt_grammar.specs.Tokens.{free, sign, list, adds}
@@ -73,7 +73,7 @@ one_added item text view Good most items x done Y g fits ends =
 
 list_from : {A : Type 0} (closing : List ℕ) (item : ℕ → Language A) (text : A → List ℕ) (view : A → A) (Good : A → Type 0) (most : ℕ) (items : Items item text view Good most) (xs done goal : List A) (tail Y : List ℕ)
     → AllByRecursion Good xs → length (map view done) + length xs ≤ most → map view done ++ map view xs ≡ goal → IsEnd tail → Reads (sign closing) Any tail Y
-    → Reads (list closing (adds item) done) (λ all. map view all ≡ goal) (separated text xs ++ tail) Y
+    → Reads (list closing (adds item) done) (λ all. map view all ≡ goal) (separated_list text xs ++ tail) Y
 list_from closing item text view Good most items [] done goal tail Y g fits e ends k =
     list_none closing (adds item) _ done tail Y (sym (append-nil (map view done)) ∙ e) k
 list_from closing item text view Good most items (x ∷ []) done goal tail Y g fits e ends k =
@@ -81,8 +81,8 @@ list_from closing item text view Good most items (x ∷ []) done goal tail Y g f
     (list_last closing (adds item) _ _ done (text x ++ tail) tail Y
     (one_added item text view Good most items x done tail g.0 (omega (arith, fits, length-map done view)) ends) (λ t p. p ∙ e) k)
 list_from closing item text view Good most items (x ∷ y ∷ xs) done goal tail Y g fits e ends k =
-    let Z = separated text (y ∷ xs) ++ tail in
-    read_same _ _ (text x ++ 44 ∷ 32 ∷ Z) _ Y (append_assoc (text x) (44 ∷ 32 ∷ separated text (y ∷ xs)) tail)
+    let Z = separated_list text (y ∷ xs) ++ tail in
+    read_same _ _ (text x ++ 44 ∷ 32 ∷ Z) _ Y (append_assoc (text x) (44 ∷ 32 ∷ separated_list text (y ∷ xs)) tail)
     (list_step closing (adds item) _ _ done (text x ++ 44 ∷ 32 ∷ Z) Z Y
     (one_added item text view Good most items x done (44 ∷ 32 ∷ Z) g.0 (omega (arith, fits, length-map done view)) (comma_ends (32 ∷ Z))) (λ t p.
     list_from closing item text view Good most items (y ∷ xs) t goal tail Y g.1 (omega (arith, fits, ap length p, length-append (map view done) (view x ∷ [])))
@@ -90,5 +90,5 @@ list_from closing item text view Good most items (x ∷ y ∷ xs) done goal tail
 
 -- a list of not too many items is read as these items
 pub list_reads : {A : Type 0} (closing : List ℕ) (item : ℕ → Language A) (text : A → List ℕ) (view : A → A) (Good : A → Type 0) (most : ℕ) (xs : List A) (tail Y : List ℕ) → Items item text view Good most
-    → AllByRecursion Good xs → length xs ≤ most → IsEnd tail → Reads (sign closing) Any tail Y → Reads (list closing (adds item) []) (λ all. map view all ≡ map view xs) (separated text xs ++ tail) Y
+    → AllByRecursion Good xs → length xs ≤ most → IsEnd tail → Reads (sign closing) Any tail Y → Reads (list closing (adds item) []) (λ all. map view all ≡ map view xs) (separated_list text xs ++ tail) Y
 list_reads closing item text view Good most xs tail Y items g fits ends k = list_from closing item text view Good most items xs [] (map view xs) tail Y g (omega (arith, fits)) refl ends k

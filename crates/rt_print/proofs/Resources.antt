@@ -12,13 +12,13 @@ use Rattle.rt_ast.specs.declared.app.SharedTree.{SharedTree}
 use Rattle.rt_ast.specs.declared.app.LocalTree.{LocalTree}
 use Rattle.rt_ast.specs.Bare.{bare_irq, bare_mono, bare_resource, bare_local}
 use Rattle.rt_ast.specs.CanonicalExpression.{newline, name_text}
-use Rattle.rt_ast.specs.Canonical.{enclosed, irq_text, irqs_text, mono_text, lock_free_text, resource_text, shared_text, local_text, locals_text}
+use Rattle.rt_ast.specs.Canonical.{braced_list, irq_text, irqs_text, mono_text, lock_free_text, resource_text, shared_text, local_text, locals_text}
 use Rattle.rt_ast.specs.PrintableBody.{IsPrintableNumber}
 use Rattle.rt_ast.specs.Printable.{IfThere, IsPrintableIrq, IsPrintableMono, IsPrintableResource, IsPrintableLocal}
 use Rattle.rt_grammar.specs.Language.{gives, ◌or◌}
 use Rattle.rt_grammar.specs.Tokens.{free, name, limited_name, number, limited_number, sign, word, limited_word}
 use Rattle.rt_grammar.specs.Limits.{within, at_most}
-use Rattle.rt_grammar.specs.Resources.{interrupt, interrupts, monotonic, first_value, lock_free, locked, shared, local, locals}
+use Rattle.rt_grammar.specs.Resources.{interrupt, interrupts, monotonic, first_value, lock_free, locked_resource, shared_resources, local, locals}
 use Rattle.rt_print.proofs.Reading.{Reads, Any, read_gives, read_then, read_left, read_right, read_space, read_trail, read_same}
 use Rattle.rt_print.proofs.Lexemes.{Stops, IsNamed, IsNumber, read_name, read_number, read_word, read_sign}
 use Rattle.rt_print.proofs.Lists.{IsEnd}
@@ -49,9 +49,9 @@ irq_reads irq before Y h few ends =
 pub irqs_read : (irqs : List IrqTree) (Y : List ℕ) → AllByRecursion IsPrintableIrq irqs → length irqs ≤ IRQS → Reads interrupts (AreAll bare_irq irqs) (irqs_text irqs ++ Y) Y
 irqs_read irqs Y h few =
     let P = AreAll bare_irq irqs in
-    let E = enclosed irq_text irqs ++ 10 ∷ Y in
+    let E = braced_list irq_text irqs ++ 10 ∷ Y in
     read_trail interrupts P (irqs_text irqs ++ Y) Y
-    (read_same interrupts P (codes "interrupts " ++ E) (irqs_text irqs ++ Y) (10 ∷ Y) (ap (λ (t : List ℕ). codes "interrupts " ++ t) (append_assoc (enclosed irq_text irqs) newline Y))
+    (read_same interrupts P (codes "interrupts " ++ E) (irqs_text irqs ++ Y) (10 ∷ Y) (ap (λ (t : List ℕ). codes "interrupts " ++ t) (append_assoc (braced_list irq_text irqs) newline Y))
     (read_then (word (codes "interrupts")) _ Any P (codes "interrupts " ++ E) (32 ∷ E) (10 ∷ Y) (read_word (codes "interrupts") free (32 ∷ E) refl refl) (λ c u.
     read_space _ P E (10 ∷ Y)
     (enclosed_reads interrupt irq_text bare_irq IsPrintableIrq IRQS irqs (10 ∷ Y) (record { read = irq_reads }) h few))))
@@ -110,12 +110,12 @@ abbrev IsResource : SharedTree → SharedTree → Type 0
 IsResource r x = bare_resource x ≡ bare_resource r
 
 resource_reads_by : (r : SharedTree) (here : Bool) (before : ℕ) (Y : List ℕ) → r.lock_free ≡ here → IsPrintableResource r → before < SHARED → IsEnd Y
-    → Reads (lock_free before or locked before) (IsResource r) ((lock_free_text here ++ name_text r.name ++ codes " = " ++ decimal r.first) ++ Y) Y
+    → Reads (lock_free before or locked_resource before) (IsResource r) ((lock_free_text here ++ name_text r.name ++ codes " = " ++ decimal r.first) ++ Y) Y
 resource_reads_by r true before Y k h few ends =
     let P = IsResource r in
     let V = codes " = " ++ (decimal r.first ++ Y) in
     let N = r.name.name ++ V in
-    read_left (lock_free before) (locked before) P _ Y
+    read_left (lock_free before) (locked_resource before) P _ Y
     (read_same (lock_free before) P (codes "lock_free " ++ N) _ Y (ap (λ (t : List ℕ). codes "lock_free " ++ t) (assigned_append r.name r.first Y))
     (read_then (limited_word (codes "lock_free") (at_most SHARED limit.Shared before)) _ Any P (codes "lock_free " ++ N) (32 ∷ N) Y
     (read_word (codes "lock_free") (at_most SHARED limit.Shared before) (32 ∷ N) (at_most_free SHARED limit.Shared before few) refl) (λ c u.
@@ -127,26 +127,26 @@ resource_reads_by r false before Y k h few ends =
     let P = IsResource r in
     let V = codes " = " ++ (decimal r.first ++ Y) in
     let N = r.name.name ++ V in
-    read_right (lock_free before) (locked before) P _ Y
-    (read_same (locked before) P N _ Y (assigned_append r.name r.first Y)
+    read_right (lock_free before) (locked_resource before) P _ Y
+    (read_same (locked_resource before) P N _ Y (assigned_append r.name r.first Y)
     (read_then (limited_name (at_most SHARED limit.Shared before)) _ (IsNamed r.name) P N V Y (read_name r.name (at_most SHARED limit.Shared before) V h.0 (at_most_free SHARED limit.Shared before few) refl) (λ x e.
     read_then first_value _ (IsValue r.first) P V Y Y (first_reads r.first Y h.1 ends.stops) (λ n f.
     read_gives P (record { name = x; first = n; lock_free = false }) Y (rw (e, f, k) refl)))))
 
-resource_reads : (r : SharedTree) (before : ℕ) (Y : List ℕ) → IsPrintableResource r → before < SHARED → IsEnd Y → Reads (lock_free before or locked before) (IsResource r) (resource_text r ++ Y) Y
+resource_reads : (r : SharedTree) (before : ℕ) (Y : List ℕ) → IsPrintableResource r → before < SHARED → IsEnd Y → Reads (lock_free before or locked_resource before) (IsResource r) (resource_text r ++ Y) Y
 resource_reads r before Y h few ends = resource_reads_by r r.lock_free before Y refl h few ends
 
-pub shared_reads : (rs : List SharedTree) (Y : List ℕ) → AllByRecursion IsPrintableResource rs → length rs ≤ SHARED → Reads shared (AreAll bare_resource rs) (shared_text rs ++ Y) Y
+pub shared_reads : (rs : List SharedTree) (Y : List ℕ) → AllByRecursion IsPrintableResource rs → length rs ≤ SHARED → Reads shared_resources (AreAll bare_resource rs) (shared_text rs ++ Y) Y
 shared_reads [] Y h few = read_left (gives []) _ (AreAll bare_resource []) Y Y (read_gives (AreAll bare_resource []) [] Y refl)
 shared_reads (r ∷ rs) Y h few =
     let P = AreAll bare_resource (r ∷ rs) in
-    let E = enclosed resource_text (r ∷ rs) ++ 10 ∷ Y in
-    read_trail shared P (shared_text (r ∷ rs) ++ Y) Y
-    (read_same shared P (codes "shared " ++ E) (shared_text (r ∷ rs) ++ Y) (10 ∷ Y) (ap (λ (t : List ℕ). codes "shared " ++ t) (append_assoc (enclosed resource_text (r ∷ rs)) newline Y))
+    let E = braced_list resource_text (r ∷ rs) ++ 10 ∷ Y in
+    read_trail shared_resources P (shared_text (r ∷ rs) ++ Y) Y
+    (read_same shared_resources P (codes "shared " ++ E) (shared_text (r ∷ rs) ++ Y) (10 ∷ Y) (ap (λ (t : List ℕ). codes "shared " ++ t) (append_assoc (braced_list resource_text (r ∷ rs)) newline Y))
     (read_right (gives []) _ P (codes "shared " ++ E) (10 ∷ Y)
     (read_then (word (codes "shared")) _ Any P (codes "shared " ++ E) (32 ∷ E) (10 ∷ Y) (read_word (codes "shared") free (32 ∷ E) refl refl) (λ c u.
     read_space _ P E (10 ∷ Y)
-    (enclosed_reads (λ before. lock_free before or locked before) resource_text bare_resource IsPrintableResource SHARED (r ∷ rs) (10 ∷ Y) (record { read = resource_reads }) h few)))))
+    (enclosed_reads (λ before. lock_free before or locked_resource before) resource_text bare_resource IsPrintableResource SHARED (r ∷ rs) (10 ∷ Y) (record { read = resource_reads }) h few)))))
 
 local_reads : (r : LocalTree) (before : ℕ) (Y : List ℕ) → IsPrintableLocal r → before < LOCALS → IsEnd Y → Reads (local before) (λ x. bare_local x ≡ bare_local r) (local_text r ++ Y) Y
 local_reads r before Y h few ends =
@@ -162,9 +162,9 @@ pub locals_read : (rs : List LocalTree) (Y : List ℕ) → AllByRecursion IsPrin
 locals_read [] Y h few = read_left (gives []) _ (AreAll bare_local []) Y Y (read_gives (AreAll bare_local []) [] Y refl)
 locals_read (r ∷ rs) Y h few =
     let P = AreAll bare_local (r ∷ rs) in
-    let E = enclosed local_text (r ∷ rs) ++ 10 ∷ Y in
+    let E = braced_list local_text (r ∷ rs) ++ 10 ∷ Y in
     read_trail locals P (locals_text (r ∷ rs) ++ Y) Y
-    (read_same locals P (codes "local " ++ E) (locals_text (r ∷ rs) ++ Y) (10 ∷ Y) (ap (λ (t : List ℕ). codes "local " ++ t) (append_assoc (enclosed local_text (r ∷ rs)) newline Y))
+    (read_same locals P (codes "local " ++ E) (locals_text (r ∷ rs) ++ Y) (10 ∷ Y) (ap (λ (t : List ℕ). codes "local " ++ t) (append_assoc (braced_list local_text (r ∷ rs)) newline Y))
     (read_right (gives []) _ P (codes "local " ++ E) (10 ∷ Y)
     (read_then (word (codes "local")) _ Any P (codes "local " ++ E) (32 ∷ E) (10 ∷ Y) (read_word (codes "local") free (32 ∷ E) refl refl) (λ c u.
     read_space _ P E (10 ∷ Y)

@@ -6,7 +6,7 @@ use Rattle.rt_ids.specs.declared.limit.Limit.{Limit}
 use Rattle.rt_ast.specs.declared.ident.Ident.{Ident}
 use Rattle.rt_ast.specs.Tree.{Expression, Spawn, Soon, After, Cancel, Move, Value, Calc, Now, Call}
 use Rattle.rt_ast.specs.Bare.{bare_name, bare_expression, bare_spawn, bare_value}
-use Rattle.rt_ast.specs.CanonicalExpression.{separated, expression_text}
+use Rattle.rt_ast.specs.CanonicalExpression.{separated_list, expression_text}
 use Rattle.rt_ast.specs.CanonicalBlock.{call_text, spawn_text, value_text}
 use Rattle.rt_ast.specs.PrintableBody.{IsPrintableExpression, IsPrintableSpawn, IsPrintableValue}
 use Rattle.rt_grammar.specs.Tokens.{free, name, sign, word, limited_word}
@@ -31,17 +31,17 @@ argument_items : (most count : ℕ) → 16 ≤ most → Items (λ before. expres
 argument_items most count m = record { read = λ e before Y h fits ends. expression_reads e most Y h m ends.stops ends.plain }
 
 arguments_read : (args : List Expression) (most : ℕ) (Y : List ℕ) → AllByRecursion IsPrintableExpression args → 16 ≤ most
-    → Reads (arguments most) (AreTrees args) (40 ∷ (separated expression_text args ++ 41 ∷ Y)) Y
+    → Reads (arguments most) (AreTrees args) (40 ∷ (separated_list expression_text args ++ 41 ∷ Y)) Y
 arguments_read args most Y h m =
-    read_then (sign (codes "(")) _ Any (AreTrees args) (40 ∷ (separated expression_text args ++ 41 ∷ Y)) (separated expression_text args ++ 41 ∷ Y) Y
-    (read_sign (codes "(") free (separated expression_text args ++ 41 ∷ Y) refl refl) (λ c u.
+    read_then (sign (codes "(")) _ Any (AreTrees args) (40 ∷ (separated_list expression_text args ++ 41 ∷ Y)) (separated_list expression_text args ++ 41 ∷ Y) Y
+    (read_sign (codes "(") free (separated_list expression_text args ++ 41 ∷ Y) refl refl) (λ c u.
     list_reads (codes ")") (λ before. expression most) expression_text bare_expression IsPrintableExpression (length args) args (41 ∷ Y) Y (argument_items most (length args) m) h (omega arith)
     (closing_ends Y) (read_sign (codes ")") free Y refl refl))
 
 abbrev pub IsSpawn : Spawn → Spawn → Type 0
 IsSpawn s t = bare_spawn t ≡ bare_spawn s
 
-call_append : (task : Ident) (args : List Expression) (Y : List ℕ) → call_text task args ++ Y ≡ task.name ++ 40 ∷ (separated expression_text args ++ 41 ∷ Y)
+call_append : (task : Ident) (args : List Expression) (Y : List ℕ) → call_text task args ++ Y ≡ task.name ++ 40 ∷ (separated_list expression_text args ++ 41 ∷ Y)
 call_append task args Y = simp append_assoc refl
 
 same_soon : (task task' : Ident) (args args' : List Expression) → IsNamed task task' → AreTrees args args' → IsSpawn (Soon task args) (Soon task' args')
@@ -55,7 +55,7 @@ soon_reads : (task : Ident) (args : List Expression) (most : ℕ) (what : Option
     → Reads (soon most what) (IsSpawn (Soon task args)) (codes "spawn " ++ call_text task args ++ Y) Y
 soon_reads task args most what Y h m w =
     let P = IsSpawn (Soon task args) in
-    let Z = 40 ∷ (separated expression_text args ++ 41 ∷ Y) in
+    let Z = 40 ∷ (separated_list expression_text args ++ 41 ∷ Y) in
     read_same (soon most what) P (codes "spawn " ++ (task.name ++ Z)) _ Y (ap (λ (t : List ℕ). codes "spawn " ++ t) (call_append task args Y))
     (read_then (limited_word (codes "spawn") what) _ Any P (codes "spawn " ++ (task.name ++ Z)) (32 ∷ (task.name ++ Z)) Y (read_word (codes "spawn") what (32 ∷ (task.name ++ Z)) w refl) (λ c u.
     read_space _ P (task.name ++ Z) Y
@@ -67,7 +67,7 @@ after_reads : (at : ℕ) (delay : Expression) (task : Ident) (args : List Expres
     → Reads (after most what) (IsSpawn (After at delay task args)) (spawn_text (After at delay task args) ++ Y) Y
 after_reads at delay task args most what Y h m w =
     let P = IsSpawn (After at delay task args) in
-    let Z = 40 ∷ (separated expression_text args ++ 41 ∷ Y) in
+    let Z = 40 ∷ (separated_list expression_text args ++ 41 ∷ Y) in
     let D = expression_text delay ++ (41 ∷ 32 ∷ (task.name ++ Z)) in
     let e : spawn_text (After at delay task args) ++ Y ≡ codes "spawn_after(" ++ D =
     ap (λ (t : List ℕ). codes "spawn_after(" ++ t)

@@ -12,10 +12,10 @@ use Rattle.rt_ast.specs.PrintableBody.{IsPrintableStatement, ArePrintable, inner
 use Rattle.rt_grammar.specs.Language.{Language, gives, ◌>>◌, or_else, repeat}
 use Rattle.rt_grammar.specs.Tokens.{free, name, limited_name, number, limited_number, sign, limited_sign, word, limited_word}
 use Rattle.rt_grammar.specs.Expression.{expression}
-use Rattle.rt_grammar.specs.Limits.{counted, nested, turned}
+use Rattle.rt_grammar.specs.Limits.{statement_limit, nesting_limit, turn_limit}
 use Rattle.rt_grammar.specs.Spawn.{value, spawn}
 use Rattle.rt_grammar.specs.Simple.{Counted, bind, assign, emit, pend, call}
-use Rattle.rt_grammar.specs.Statement.{branch, loop, further, lock, statement, block_of, one_more, braced, block, inside}
+use Rattle.rt_grammar.specs.Statement.{branch, loop, further, lock, statement, block_of, one_more, braced_block, block, inside}
 use Rattle.rt_print.proofs.Reading.{Reads, Any, IsMargin, read_gives, read_then, read_holds, read_left, read_right, read_none, read_step, read_space, read_newline, read_margin, read_same}
 use Rattle.rt_print.proofs.Lexemes.{IsNamed, IsNumber, read_name, read_number, read_word, read_sign}
 use Rattle.rt_print.proofs.Expressions.{IsTree, expression_reads, Plain, plain_semicolon, plain_block}
@@ -30,13 +30,13 @@ pub record IsBlock (b : Block) (before : ℕ) (c : Counted Block) : Type 0 where
   pub same : bare_block c.0 ≡ bare_block b
   pub count : c.1 ≡ before + statements_of b
 
-counted_free : (before : ℕ) → before < 1000 → counted before ≡ None
+counted_free : (before : ℕ) → before < 1000 → statement_limit before ≡ None
 counted_free before h = rw (lt-leb 1000 before h) refl
 
-nested_free : (nesting : ℕ) → nesting ≤ 16 → nested nesting ≡ None
+nested_free : (nesting : ℕ) → nesting ≤ 16 → nesting_limit nesting ≡ None
 nested_free nesting h = rw (le-ltb 16 nesting h) refl
 
-turned_free : (first last : ℕ) → last - first ≤ 1000 → turned first last ≡ None
+turned_free : (first last : ℕ) → last - first ≤ 1000 → turn_limit first last ≡ None
 turned_free first last h = rw (le-ltb 1000 (last - first) h) refl
 
 -- a semicolon, and a statement's meaning behind it
@@ -52,7 +52,7 @@ bind_reads x v most before Y h m few =
     let P = IsStatement (Bind x v) before in
     let V = value_text v ++ 59 ∷ Y in
     let N = x.name ++ (32 ∷ 61 ∷ 32 ∷ V) in
-    read_then (limited_word (codes "let") (counted before)) _ Any P (codes "let " ++ N) (32 ∷ N) Y (read_word (codes "let") (counted before) (32 ∷ N) (counted_free before few) refl) (λ c u.
+    read_then (limited_word (codes "let") (statement_limit before)) _ Any P (codes "let " ++ N) (32 ∷ N) Y (read_word (codes "let") (statement_limit before) (32 ∷ N) (counted_free before few) refl) (λ c u.
     read_space _ P N Y
     (read_then name _ (IsNamed x) P N (32 ∷ 61 ∷ 32 ∷ V) Y (read_name x free (32 ∷ 61 ∷ 32 ∷ V) h.0 refl refl) (λ y e.
     read_space _ P (61 ∷ 32 ∷ V) Y
@@ -66,7 +66,7 @@ assign_reads : (x : Ident) (e : Expression) (most before : ℕ) (Y : List ℕ) �
 assign_reads x e most before Y h m few =
     let P = IsStatement (Assign x e) before in
     let V = expression_text e ++ 59 ∷ Y in
-    read_then (limited_name (counted before)) _ (IsNamed x) P (x.name ++ (32 ∷ 61 ∷ 32 ∷ V)) (32 ∷ 61 ∷ 32 ∷ V) Y (read_name x (counted before) (32 ∷ 61 ∷ 32 ∷ V) h.0 (counted_free before few) refl) (λ y n.
+    read_then (limited_name (statement_limit before)) _ (IsNamed x) P (x.name ++ (32 ∷ 61 ∷ 32 ∷ V)) (32 ∷ 61 ∷ 32 ∷ V) Y (read_name x (statement_limit before) (32 ∷ 61 ∷ 32 ∷ V) h.0 (counted_free before few) refl) (λ y n.
     read_space _ P (61 ∷ 32 ∷ V) Y
     (read_then (sign (codes "=")) _ Any P (61 ∷ 32 ∷ V) (32 ∷ V) Y (read_sign (codes "=") free (32 ∷ V) refl refl) (λ d w.
     read_space _ P V Y
@@ -78,7 +78,7 @@ emit_reads : (e : Expression) (most before : ℕ) (Y : List ℕ) → IsPrintable
 emit_reads e most before Y h m few =
     let P = IsStatement (Emit e) before in
     let V = expression_text e ++ 59 ∷ Y in
-    read_then (limited_word (codes "emit") (counted before)) _ Any P (codes "emit " ++ V) (32 ∷ V) Y (read_word (codes "emit") (counted before) (32 ∷ V) (counted_free before few) refl) (λ c u.
+    read_then (limited_word (codes "emit") (statement_limit before)) _ Any P (codes "emit " ++ V) (32 ∷ V) Y (read_word (codes "emit") (statement_limit before) (32 ∷ V) (counted_free before few) refl) (λ c u.
     read_space _ P V Y
     (read_then (expression most) _ (IsTree e) P V (59 ∷ Y) Y (expression_reads e most (59 ∷ Y) h m refl (plain_semicolon Y)) (λ t f.
     read_done P (Emit t, suc before) Y (record { same = rw f refl; count = one_count before }))))
@@ -87,7 +87,7 @@ pend_reads : (x : Ident) (before : ℕ) (Y : List ℕ) → IsPrintableStatement 
 pend_reads x before Y h few =
     let P = IsStatement (Pend x) before in
     let N = x.name ++ 59 ∷ Y in
-    read_then (limited_word (codes "pend") (counted before)) _ Any P (codes "pend " ++ N) (32 ∷ N) Y (read_word (codes "pend") (counted before) (32 ∷ N) (counted_free before few) refl) (λ c u.
+    read_then (limited_word (codes "pend") (statement_limit before)) _ Any P (codes "pend " ++ N) (32 ∷ N) Y (read_word (codes "pend") (statement_limit before) (32 ∷ N) (counted_free before few) refl) (λ c u.
     read_space _ P N Y
     (read_then name _ (IsNamed x) P N (59 ∷ Y) Y (read_name x free (59 ∷ Y) h refl refl) (λ y e.
     read_done P (Pend y, suc before) Y (record { same = rw e refl; count = one_count before }))))
@@ -95,7 +95,7 @@ pend_reads x before Y h few =
 call_reads : (s : Spawn) (most before : ℕ) (Y : List ℕ) → IsPrintableStatement (Spawns s) → 16 ≤ most → before < 1000 → Reads (call most before) (IsStatement (Spawns s) before) (spawn_text s ++ 59 ∷ Y) Y
 call_reads s most before Y h m few =
     let P = IsStatement (Spawns s) before in
-    read_then (spawn most (counted before)) _ (IsSpawn s) P (spawn_text s ++ 59 ∷ Y) (59 ∷ Y) Y (spawn_reads s most (counted before) (59 ∷ Y) h m (counted_free before few)) (λ t f.
+    read_then (spawn most (statement_limit before)) _ (IsSpawn s) P (spawn_text s ++ 59 ∷ Y) (59 ∷ Y) Y (spawn_reads s most (statement_limit before) (59 ∷ Y) h m (counted_free before few)) (λ t f.
     read_done P (Spawns t, suc before) Y (record { same = ap Spawns f; count = one_count before }))
 
 -- the statements read behind others
@@ -122,10 +122,10 @@ abbrev statements_at : ℕ → ℕ → ℕ → ℕ → Language (Counted (List S
 statements_at most deep nesting before = repeat (one_more most (block most deep) (inside most deep) nesting) ([], before)
 
 braces_read : (b : Block) (most deep nesting before : ℕ) (X Z Y : List ℕ) → nesting ≤ 16 → Reads (statements_at most deep nesting before) (AreStatements b before []) X Z → Reads (sign (codes "}")) Any Z Y
-    → Reads (braced most (block most deep) (inside most deep) nesting before) (IsBlock b before) (123 ∷ X) Y
+    → Reads (braced_block most (block most deep) (inside most deep) nesting before) (IsBlock b before) (123 ∷ X) Y
 braces_read b most deep nesting before X Z Y n h k =
     let P = IsBlock b before in
-    read_then (limited_sign (codes "{") (nested nesting)) _ Any P (123 ∷ X) X Y (read_sign (codes "{") (nested nesting) X (nested_free nesting n) refl) (λ c u.
+    read_then (limited_sign (codes "{") (nesting_limit nesting)) _ Any P (123 ∷ X) X Y (read_sign (codes "{") (nesting_limit nesting) X (nested_free nesting n) refl) (λ c u.
     read_then (statements_at most deep nesting before) _ (AreStatements b before []) P X Z Y h (λ all p.
     read_then (sign (codes "}")) _ Any P Z Y Y k (λ d v. read_gives P (block_of all.0, all.1) Y (whole_block b before all p))))
 
@@ -134,7 +134,7 @@ blocks_some Empty = omega arith
 blocks_some (Then s rest) = omega arith
 
 braced_from_lines : (b : Block) → LinesRead b → (margin : List ℕ) (most deep nesting before : ℕ) (Y : List ℕ) → ArePrintable b → IsMargin margin → 16 ≤ most → blocks_of b ≤ suc deep → nesting + blocks_of b ≤ 17
-    → before + statements_of b ≤ 1000 → Reads (braced most (block most deep) (inside most deep) nesting before) (IsBlock b before) (block_text margin b ++ Y) Y
+    → before + statements_of b ≤ 1000 → Reads (braced_block most (block most deep) (inside most deep) nesting before) (IsBlock b before) (block_text margin b ++ Y) Y
 braced_from_lines Empty lines margin most deep nesting before Y h i m d n few =
     braces_read Empty most deep nesting before (125 ∷ Y) (125 ∷ Y) Y (omega (arith, n))
     (read_none (one_more most (block most deep) (inside most deep) nesting) (AreStatements Empty before []) ([], before) (125 ∷ Y) (record { own = []; all = refl; same = refl; count = omega arith }))
@@ -144,7 +144,7 @@ braced_from_lines (Then s rest) lines margin most deep nesting before Y h i m d 
     let L = lines_text (deeper margin) b in
     let Z = margin ++ 125 ∷ Y in
     let e : block_text margin b ++ Y ≡ 123 ∷ 10 ∷ (L ++ Z) = ap (λ (t : List ℕ). 123 ∷ 10 ∷ t) (append_assoc (L ++ margin) (codes "}") Y ∙ append_assoc L margin (125 ∷ Y)) in
-    read_same (braced most (block most deep) (inside most deep) nesting before) (IsBlock b before) (123 ∷ 10 ∷ (L ++ Z)) _ Y e
+    read_same (braced_block most (block most deep) (inside most deep) nesting before) (IsBlock b before) (123 ∷ 10 ∷ (L ++ Z)) _ Y e
     (braces_read b most deep nesting before (10 ∷ (L ++ Z)) Z Y (omega (arith, n, blocks_some b))
     (read_newline (statements_at most deep nesting before) (AreStatements b before []) (L ++ Z) Z (lines (deeper margin) most deep nesting [] before Z h (is_deeper margin i) m d n few))
     (read_margin (sign (codes "}")) Any margin (125 ∷ Y) Y i (read_sign (codes "}") free Y refl refl)))
@@ -158,7 +158,7 @@ inside_from_lines : (b : Block) → LinesRead b → (margin : List ℕ) (most de
     → before + statements_of b ≤ 1000 → Reads (inside most deep nesting before) (IsBlock b before) (block_text margin b ++ Y) Y
 inside_from_lines b lines margin most zero nesting before Y h i m d n few = absurd (omega (arith, d, blocks_some b))
 inside_from_lines b lines margin most (suc deep) nesting before Y h i m d n few =
-    read_left (braced most (block most deep) (inside most deep) nesting before) (further (inside most deep) nesting before) (IsBlock b before) (block_text margin b ++ Y) Y
+    read_left (braced_block most (block most deep) (inside most deep) nesting before) (further (inside most deep) nesting before) (IsBlock b before) (block_text margin b ++ Y) Y
     (braced_from_lines b lines margin most deep nesting before Y h i m d n few)
 
 plain_before_block : (margin : List ℕ) (b : Block) (E : List ℕ) → Plain (32 ∷ (block_text margin b ++ E))
@@ -195,7 +195,7 @@ branch_reads e a b first second margin most deep nesting before Y h i m d n few 
     let V = expression_text e ++ 32 ∷ B in
     read_same (statement most (block most deep) (inside most deep) nesting before) P (codes "if " ++ V) _ Y (branch_append margin e a b Y)
     (read_right _ _ P (codes "if " ++ V) Y (read_right _ _ P (codes "if " ++ V) Y (read_left (branch most (block most deep) nesting before) _ P (codes "if " ++ V) Y
-    (read_then (limited_word (codes "if") (counted before)) _ Any P (codes "if " ++ V) (32 ∷ V) Y (read_word (codes "if") (counted before) (32 ∷ V) (counted_free before (omega (arith, few))) refl) (λ c u.
+    (read_then (limited_word (codes "if") (statement_limit before)) _ Any P (codes "if " ++ V) (32 ∷ V) Y (read_word (codes "if") (statement_limit before) (32 ∷ V) (counted_free before (omega (arith, few))) refl) (λ c u.
     read_space _ P V Y
     (read_then (expression most) _ (IsTree e) P V (32 ∷ B) Y (expression_reads e most (32 ∷ B) h.0 m refl (plain_before_block margin a E)) (λ t f.
     read_space _ P B Y
@@ -217,10 +217,10 @@ loop_reads x first last a lines margin most deep nesting before Y h i m d n few 
     let F = decimal first ++ (46 ∷ 46 ∷ L) in
     let I = codes "in " ++ F in
     let N = x.name ++ 32 ∷ I in
-    let limit : (k : Number) → IsNumber first k → turned k.value last ≡ None = λ k e. ap (λ (f : ℕ). turned f last) e ∙ turned_free first last h.3 in
+    let limit : (k : Number) → IsNumber first k → turn_limit k.value last ≡ None = λ k e. ap (λ (f : ℕ). turn_limit f last) e ∙ turned_free first last h.3 in
     read_same (statement most (block most deep) (inside most deep) nesting before) P (codes "for " ++ N) _ Y (loop_append margin x first last a Y)
     (read_right _ _ P (codes "for " ++ N) Y (read_right _ _ P (codes "for " ++ N) Y (read_right _ _ P (codes "for " ++ N) Y (read_left (loop (block most deep) nesting before) _ P (codes "for " ++ N) Y
-    (read_then (limited_word (codes "for") (counted before)) _ Any P (codes "for " ++ N) (32 ∷ N) Y (read_word (codes "for") (counted before) (32 ∷ N) (counted_free before (omega (arith, few))) refl) (λ c u.
+    (read_then (limited_word (codes "for") (statement_limit before)) _ Any P (codes "for " ++ N) (32 ∷ N) Y (read_word (codes "for") (statement_limit before) (32 ∷ N) (counted_free before (omega (arith, few))) refl) (λ c u.
     read_space _ P N Y
     (read_then name _ (IsNamed x) P N (32 ∷ I) Y (read_name x free (32 ∷ I) h.0 refl refl) (λ y e.
     read_space _ P I Y
@@ -228,7 +228,7 @@ loop_reads x first last a lines margin most deep nesting before Y h i m d n few 
     read_space _ P F Y
     (read_then number _ (IsNumber first) P F (46 ∷ 46 ∷ L) Y (read_number first (λ v. free) (46 ∷ 46 ∷ L) h.1 refl refl) (λ f p.
     read_then (sign (codes "..")) _ Any P (46 ∷ 46 ∷ L) L Y (read_sign (codes "..") free L refl refl) (λ c2 u2.
-    read_then (limited_number (turned f.value)) _ (IsNumber last) P L (32 ∷ B) Y (read_number last (turned f.value) (32 ∷ B) h.2 (limit f p) refl) (λ l q.
+    read_then (limited_number (turn_limit f.value)) _ (IsNumber last) P L (32 ∷ B) Y (read_number last (turn_limit f.value) (32 ∷ B) h.2 (limit f p) refl) (λ l q.
     read_space _ P B Y
     (read_then (block most deep (suc nesting) (suc before)) _ (IsBlock a (suc before)) P B Y Y
     (block_from_lines a lines margin most deep (suc nesting) (suc before) Y h.4 i m d (omega (arith, n)) (omega (arith, few))) (λ z r.
@@ -245,7 +245,7 @@ lock_reads x a lines margin most deep nesting before Y h i m d n few =
     read_same (statement most (block most deep) (inside most deep) nesting before) P (codes "lock " ++ N) _ Y (lock_append margin x a Y)
     (read_right _ _ P (codes "lock " ++ N) Y (read_right _ _ P (codes "lock " ++ N) Y (read_right _ _ P (codes "lock " ++ N) Y (read_right _ _ P (codes "lock " ++ N) Y
     (read_left (lock (inside most deep) nesting before) _ P (codes "lock " ++ N) Y
-    (read_then (limited_word (codes "lock") (counted before)) _ Any P (codes "lock " ++ N) (32 ∷ N) Y (read_word (codes "lock") (counted before) (32 ∷ N) (counted_free before (omega (arith, few))) refl) (λ c u.
+    (read_then (limited_word (codes "lock") (statement_limit before)) _ Any P (codes "lock " ++ N) (32 ∷ N) Y (read_word (codes "lock") (statement_limit before) (32 ∷ N) (counted_free before (omega (arith, few))) refl) (λ c u.
     read_space _ P N Y
     (read_then name _ (IsNamed x) P N (32 ∷ B) Y (read_name x free (32 ∷ B) h.0 refl refl) (λ y e.
     read_space _ P B Y

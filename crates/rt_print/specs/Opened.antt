@@ -7,14 +7,14 @@ has_any [] = false
 has_any (o ∷ os) = true
 
 -- what stands before an option: a comma behind others, else the opening parenthesis
-abbrev pub opening : Bool → List ℕ
-opening opened = if opened then codes ", " else codes "("
+abbrev pub opening_text : Bool → List ℕ
+opening_text opened = if opened then codes ", " else codes "("
 
 -- these options, behind others where it is open
 abbrev pub opened_text : Bool → List (List ℕ) → List ℕ
 opened_text opened [] = []
-opened_text opened (o ∷ os) = opening opened ++ o ++ opened_text true os
+opened_text opened (o ∷ os) = opening_text opened ++ o ++ opened_text true os
 
 -- the closing parenthesis, where one is open
-abbrev pub closing : Bool → List ℕ
-closing opened = if opened then codes ")" else []
+abbrev pub closing_text : Bool → List ℕ
+closing_text opened = if opened then codes ")" else []

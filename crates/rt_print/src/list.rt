@@ -1,9 +1,9 @@
 // Lists, with a comma between each two items.
 ghost use Rattle.std.specs.Prelude.{◌≡◌, ◌++◌, ℕ, List, map, OnOk};
 ghost use Rattle.rt_ast.specs.View.{expression_of};
-ghost use Rattle.rt_ast.specs.CanonicalExpression.{further, separated, name_text, expression_text};
-ghost use Rattle.rt_ast.specs.CanonicalOptions.{bracketed};
-ghost use Rattle.rt_ast.specs.Canonical.{enclosed};
+ghost use Rattle.rt_ast.specs.CanonicalExpression.{further, separated_list, name_text, expression_text};
+ghost use Rattle.rt_ast.specs.CanonicalOptions.{bracketed_list};
+ghost use Rattle.rt_ast.specs.Canonical.{braced_list};
 
 use crate::expr::push_expression;
 use crate::text::push_name;
@@ -49,7 +49,7 @@ fn push_further<T: Item>(out: &mut Vec<u8>, items: &[T]) -> Result<(), NoMemory>
 
 /// Appends items with a comma between each two.
 pub(crate) fn push_separated<T: Item>(out: &mut Vec<u8>, items: &[T]) -> Result<(), NoMemory>
-    ensures { OnOk result (out.new.items ≡ out.old.items ++ separated T.text items.now) }
+    ensures { OnOk result (out.new.items ≡ out.old.items ++ separated_list T.text items.now) }
 {
     match items.split_first() {
         Some((first, rest)) => {
@@ -62,14 +62,14 @@ pub(crate) fn push_separated<T: Item>(out: &mut Vec<u8>, items: &[T]) -> Result<
 
 /// Appends expressions with a comma between each two.
 pub(crate) fn push_expressions(out: &mut Vec<u8>, exprs: &[Expr]) -> Result<(), NoMemory>
-    ensures { OnOk result (out.new.items ≡ out.old.items ++ separated expression_text (map expression_of exprs.now)) }
+    ensures { OnOk result (out.new.items ≡ out.old.items ++ separated_list expression_text (map expression_of exprs.now)) }
 {
     push_separated(out, exprs)
 }
 
 /// Appends items in brackets.
 pub(crate) fn push_bracketed<T: Item>(out: &mut Vec<u8>, items: &[T]) -> Result<(), NoMemory>
-    ensures { OnOk result (out.new.items ≡ out.old.items ++ bracketed T.text items.now) }
+    ensures { OnOk result (out.new.items ≡ out.old.items ++ bracketed_list T.text items.now) }
 {
     push_bytes(out, b"[")?;
     push_separated(out, items)?;
@@ -78,7 +78,7 @@ pub(crate) fn push_bracketed<T: Item>(out: &mut Vec<u8>, items: &[T]) -> Result<
 
 /// Appends items in braces.
 pub(crate) fn push_enclosed<T: Item>(out: &mut Vec<u8>, items: &[T]) -> Result<(), NoMemory>
-    ensures { OnOk result (out.new.items ≡ out.old.items ++ enclosed T.text items.now) }
+    ensures { OnOk result (out.new.items ≡ out.old.items ++ braced_list T.text items.now) }
 {
     if items.is_empty() {
         return push_bytes(out, b"{}");

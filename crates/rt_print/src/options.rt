@@ -2,7 +2,7 @@ ghost use Rattle.std.specs.Prelude.{◌≡◌, ◌++◌, ◌||◌, false, IfOk, 
 ghost use Rattle.rt_ast.specs.View as view;
 ghost use Rattle.rt_ast.specs.CanonicalOptions.{listed_text, binds_option, priority_option, capacity_option};
 ghost use Rattle.rt_ast.specs.CanonicalOptions.{shared_option, local_option, body_options, task_options, options_text};
-ghost use Rattle.rt_print.specs.Opened.{has_any, opening, opened_text, closing};
+ghost use Rattle.rt_print.specs.Opened.{has_any, opening_text, opened_text, closing_text};
 
 use crate::list::{Item, push_bracketed};
 use crate::text::push_name;
@@ -11,7 +11,7 @@ use rt_ids::{NoMemory, push_bytes, push_number};
 
 /// Appends what stands before an option: an open parenthesis before the first.
 fn push_opening(out: &mut Vec<u8>, opened: bool) -> Result<(), NoMemory>
-    ensures { OnOk result (out.new.items ≡ out.old.items ++ opening opened) }
+    ensures { OnOk result (out.new.items ≡ out.old.items ++ opening_text opened) }
 {
     if opened {
         push_bytes(out, b", ")
@@ -22,7 +22,7 @@ fn push_opening(out: &mut Vec<u8>, opened: bool) -> Result<(), NoMemory>
 
 /// Appends the end of the options, where there were any.
 fn push_closing(out: &mut Vec<u8>, opened: bool) -> Result<(), NoMemory>
-    ensures { OnOk result (out.new.items ≡ out.old.items ++ closing opened) }
+    ensures { OnOk result (out.new.items ≡ out.old.items ++ closing_text opened) }
 {
     if opened {
         push_bytes(out, b")")
@@ -125,7 +125,7 @@ fn push_local(out: &mut Vec<u8>, opened: bool, local: &[Ident]) -> Result<bool, 
 fn push_rest(out: &mut Vec<u8>, opened: bool, body: &BodyTree) -> Result<(), NoMemory>
     ensures { OnOk result (out.new.items
         ≡ out.old.items ++ (opened_text opened (body_options (view.body_of body.now))
-        ++ closing (opened || has_any (body_options (view.body_of body.now))))) }
+        ++ closing_text (opened || has_any (body_options (view.body_of body.now))))) }
 {
     let before = push_shared(out, opened, &body.shared)?;
     let any = push_local(out, before, &body.local)?;

@@ -1,4 +1,4 @@
--- From level to level up to the highest: the stack takes the whole bound there.
+-- From priority to priority up to the highest: the stack takes the whole bound there.
 use Rattle.std.proofs.Common.{◌≡◌, ℕ, zero, suc, ◌+◌, ◌*◌, ◌^◌, ◌<◌, ◌≤◌, ◌⊎◌, inl, inr, Bool, true, false}
 use Rattle.std.proofs.Common.{if◌then◌else◌, List, [], ◌∷◌, ◌++◌, length, map, take}
 use Rattle.std.proofs.Common.{Option, Some, None, option_map, refl, ap, sym, subst, ◌∙◌, arith, append_assoc, length-append, length-set}
@@ -16,25 +16,25 @@ use Rattle.rt_ids.specs.declared.limits.TheConstants.{NAME_BYTES, IRQ_NUMBERS}
 use Rattle.rt_app.specs.Tree.{App}
 use Rattle.rt_app.specs.Accepted.{IsAccepted}
 use Rattle.rt_app.specs.Names.{names_of}
-use Rattle.rt_app.specs.Stack.{has_handler, need, level_bytes, bytes_below, thread_words, stack_bytes}
+use Rattle.rt_app.specs.Stack.{has_handler, need, priority_bytes, bytes_below, thread_words, stack_bytes}
 use Rattle.rt_app.specs.declared.costs.TheConstants.{PRIORITIES}
 use Rattle.rt_app.proofs.Sound.{accepted_are_sound}
 use Rattle.rt_build.specs.Image.{IsImageOf}
 use Rattle.rt_code.specs.Image.{Image, entry_words}
-use Rattle.rt_core.specs.Core.{reset, used, depth}
+use Rattle.rt_core.specs.Core.{reset, stack_in_use, depth}
 use Rattle.rt_core.specs.Trace.{depth_after}
 use Rattle.rt_core.proofs.Happening.{happens_by_event}
 use Rattle.rt_laws.specs.Acting as acting
-use Rattle.rt_laws.specs.Level.{level}
+use Rattle.rt_laws.specs.Preemption.{system_ceiling}
 use Rattle.rt_laws.specs.State.{State}
 use Rattle.rt_script.specs.Script.{events}
 use Rattle.rt_sim.specs.Good.{Good, AreDeclared}
 use Rattle.rt_trace.specs.Lined.{IsDeclared}
 use Rattle.rt_trace.proofs.Tables.{found_at}
 use Rattle.rt_reach.specs.Deepest.{script_of, IsFirstTake, LeadsToTake}
-use Rattle.rt_app.specs.Forms.{is_of_w_form}
+use Rattle.rt_app.specs.Forms.{has_deepest_script}
 use Rattle.rt_reach.specs.Inside.Soon.{TakesWithin}
-use Rattle.rt_reach.specs.Levels.{deepest_irq, deepest_irqs}
+use Rattle.rt_reach.specs.Priorities.{deepest_irq, deepest_irqs}
 use Rattle.rt_reach.specs.Reached.{ReachesTheBound}
 use Rattle.rt_reach.specs.Spelled.{script_text}
 use Rattle.rt_reach.proofs.Deepening.{events_one, events_next, declared_append, steps_declared, state_at, core_at, Rests, IsServed, deepest_served, Enters, enters, taken}
@@ -50,7 +50,7 @@ bytes_none : (app : App) → bytes_below app 0 ≡ 0
 unfolding bytes_below
 bytes_none app = refl
 
-bytes_more : (app : App) (p : ℕ) → bytes_below app (suc p) ≡ bytes_below app p + level_bytes app p
+bytes_more : (app : App) (p : ℕ) → bytes_below app (suc p) ≡ bytes_below app p + priority_bytes app p
 unfolding bytes_below
 bytes_more app p = refl
 
@@ -62,8 +62,8 @@ name_short names irq are = by (irq_named names irq) refl
         → length (unwrap_or (option_map (λ (row : List ℕ × ℕ). row.0) o) []) ≤ NAME_BYTES
     by None is = omega arith
     by (Some row) is =
-        let place = found_at _ names.irqs row is in
-        let named : IsName row.0 = all_at (λ (r : List ℕ × ℕ). IsName r.0) names.irqs place.0 row are.irqs place.1 in
+        let index = found_at _ names.irqs row is in
+        let named : IsName row.0 = all_at (λ (r : List ℕ × ℕ). IsName r.0) names.irqs index.0 row are.irqs index.1 in
         named.short
 
 names_short : (names : Names) (irqs : List ℕ) → AreNames names
@@ -76,14 +76,14 @@ take_all [] = refl
 take_all (x ∷ xs) = ap (λ ys. x ∷ ys) (take_all xs)
 
 module _ (app : App) (img : Image) (accepted : IsAccepted app) (is_image : IsImageOf app img)
-    (form : is_of_w_form app ≡ true) where
+    (form : has_deepest_script app ≡ true) where
   abbrev below : ℕ → List ℕ
   below = irqs_below app accepted form
 
   abbrev script : ℕ → List ℕ → List Event
   script steps irqs = events (script_of steps irqs)
 
-  -- the levels below one that have a handler stand on each other
+  -- the priorities below one that have a handler stand on each other
   pub record Up (p : ℕ) : Type 0 where
     pub irq : ℕ
     pub more : List ℕ
@@ -92,7 +92,7 @@ module _ (app : App) (img : Image) (accepted : IsAccepted app) (is_image : IsIma
     pub few : steps ≤ 900001
     pub first_take : IsFirstTake img irq steps
     pub rests : Rests app img accepted is_image form p (script steps (irq ∷ more))
-    pub bytes : 4 * used img (core_at app img accepted is_image form (script steps (irq ∷ more)))
+    pub bytes : 4 * stack_in_use img (core_at app img accepted is_image form (script steps (irq ∷ more)))
         ≡ 4 * thread_words app + bytes_below app p
     pub declared : AreDeclared app (script steps (irq ∷ more))
     pub long : length (script steps (irq ∷ more)) ≤ 900002 + 2 * p
@@ -110,17 +110,17 @@ module _ (app : App) (img : Image) (accepted : IsAccepted app) (is_image : IsIma
   entry_is = ap exception.entry_words is_image.tables.fpu
 
   level_is : (p : ℕ) → has_handler app p ≡ true
-      → level_bytes app p ≡ 4 * (exception.entry_words app.fpu + need app p)
+      → priority_bytes app p ≡ 4 * (exception.entry_words app.fpu + need app p)
   level_is p has = ap (λ b. if b then 4 * (exception.entry_words app.fpu + need app p) else 0) has
 
-  no_level : (p : ℕ) → has_handler app p ≡ false → level_bytes app p ≡ 0
-  no_level p has = ap (λ b. if b then 4 * (exception.entry_words app.fpu + need app p) else 0) has
+  no_handler : (p : ℕ) → has_handler app p ≡ false → priority_bytes app p ≡ 0
+  no_handler p has = ap (λ b. if b then 4 * (exception.entry_words app.fpu + need app p) else 0) has
 
-  -- a level without a handler
+  -- a priority without a handler
   skips : (p : ℕ) → has_handler app p ≡ false → Climbed p → Climbed (suc p)
   skips p none (inl flat) = inl (record {
     none = irqs_no app accepted form p none ∙ flat.none;
-    bytes = bytes_more app p ∙ omega (arith, flat.bytes, no_level p none);
+    bytes = bytes_more app p ∙ omega (arith, flat.bytes, no_handler p none);
   })
   skips p none (inr up) = inr (record {
     irq = up.irq;
@@ -131,13 +131,13 @@ module _ (app : App) (img : Image) (accepted : IsAccepted app) (is_image : IsIma
     first_take = up.first_take;
     rests =
         record { low = omega (arith, up.rests.low); owing = up.rests.owing; none = up.rests.none; long = up.rests.long };
-    bytes = omega (arith, up.bytes, bytes_more app p, no_level p none);
+    bytes = omega (arith, up.bytes, bytes_more app p, no_handler p none);
     declared = up.declared;
     long = omega (arith, up.long);
     named = up.named;
   })
 
-  -- the first level that has one
+  -- the first priority that has one
   begins : (p irq : ℕ) → has_handler app p ≡ true → IsDeepestAt app p irq → Flat p → Up (suc p)
   begins p irq has at flat =
       let is : IsServed app img accepted is_image form p irq = deepest_served app img accepted is_image form p irq at in
@@ -154,14 +154,14 @@ module _ (app : App) (img : Image) (accepted : IsAccepted app) (is_image : IsIma
         first_take = entered.first_take;
         rests = subst (Rests app img accepted is_image form (suc p)) (sym same) entered.rests;
         bytes =
-            ap (λ es. 4 * used img (core_at app img accepted is_image form es)) same
+            ap (λ es. 4 * stack_in_use img (core_at app img accepted is_image form es)) same
             ∙ omega (arith, entered.words, flat.bytes, bytes_more app p, level_is p has, entry_is);
         declared = subst (AreDeclared app) (sym same) (is.declared, steps_declared app entered.steps);
         long = let all = ap length same in omega (arith, all, long, entered.few);
         named = (is.named, tt);
       }
 
-  -- a level more
+  -- a priority more
   rises : (p irq : ℕ) → p < 256 → has_handler app p ≡ true → IsDeepestAt app p irq → Up p → Up (suc p)
   rises p irq high has at up =
       let is : IsServed app img accepted is_image form p irq = deepest_served app img accepted is_image form p irq at in
@@ -170,7 +170,7 @@ module _ (app : App) (img : Image) (accepted : IsAccepted app) (is_image : IsIma
       let whole : asked ++ Step ∷ [] ≡ script up.steps (up.irq ∷ up.more ++ irq ∷ []) =
       append_assoc before (Arrive irq ∷ []) (Step ∷ []) ∙ sym (events_next up.steps up.irq irq up.more) in
       let state_is : state_at app img accepted is_image form asked
-      ≡ acting.pended irq (state_at app img accepted is_image form before) =
+      ≡ acting.state_after_pend irq (state_at app img accepted is_image form before) =
       state_request app img accepted is_image before irq in
       let known : AreDeclared app asked = declared_append app before (Arrive irq ∷ []) up.declared (is.declared, tt) in
       let asked_long : length asked ≡ length before + 1 = length-append before (Arrive irq ∷ []) in
@@ -180,15 +180,15 @@ module _ (app : App) (img : Image) (accepted : IsAccepted app) (is_image : IsIma
       subst (λ (s : State). PendsOnly s.pending irq) (sym state_is)
       (requested app (accepted_are_sound app accepted) p (state_at app img accepted is_image form before) irq up.rests
       is.low) in
-      let over : level app t.jobs < p = subst (λ (s : State). level app s.jobs < p) (sym state_is) up.rests.low in
+      let over : system_ceiling app t.jobs < p = subst (λ (s : State). system_ceiling app s.jobs < p) (sym state_is) up.rests.low in
       let owing : t.owing ≡ false = ap (λ (s : State). s.owing) state_is ∙ up.rests.owing in
       let pending_long : length t.pending ≡ IRQ_NUMBERS =
       ap (λ (s : State). length s.pending) state_is
       ∙ length-set (state_at app img accepted is_image form before).pending irq true ∙ up.rests.long in
       let done = taken app img accepted is_image form asked room known p irq is pends over owing pending_long in
-      let words : used img (core_at app img accepted is_image form asked)
-      ≡ used img (core_at app img accepted is_image form before) =
-      ap (used img) (core_request app img accepted is_image before irq) in
+      let words : stack_in_use img (core_at app img accepted is_image form asked)
+      ≡ stack_in_use img (core_at app img accepted is_image form before) =
+      ap (stack_in_use img) (core_request app img accepted is_image before irq) in
       record {
         irq = up.irq;
         more = up.more ++ irq ∷ [];
@@ -198,7 +198,7 @@ module _ (app : App) (img : Image) (accepted : IsAccepted app) (is_image : IsIma
         first_take = up.first_take;
         rests = subst (Rests app img accepted is_image form (suc p)) whole done.1;
         bytes =
-            ap (λ es. 4 * used img (core_at app img accepted is_image form es)) (sym whole)
+            ap (λ es. 4 * stack_in_use img (core_at app img accepted is_image form es)) (sym whole)
             ∙ omega (arith, done.2, words, up.bytes, bytes_more app p, level_is p has, entry_is);
         declared = subst (AreDeclared app) whole (declared_append app asked (Step ∷ []) known tt);
         long =
@@ -236,7 +236,7 @@ module _ (app : App) (img : Image) (accepted : IsAccepted app) (is_image : IsIma
         record { steps = up.steps; few = up.few; first = subst (λ i. IsFirstTake img i up.steps) head up.first_take }
   ]
 
-  -- where no level has a handler, the thread takes all
+  -- where no priority has a handler, the thread takes all
   reset_words : depth_after img [] ≡ 4 * thread_words app
   reset_words =
       let long = length-replicate {A = ℕ} img.thread_words 0 in
@@ -284,7 +284,7 @@ module _ (app : App) (img : Image) (accepted : IsAccepted app) (is_image : IsIma
           let few : length es < 2 ^ 31 = let long = ap length all in omega (arith, long, up.long) in
           let known : AreDeclared app es = subst (AreDeclared app) all up.declared in
           let end : take (length es) es ≡ es = take_all es in
-          let levels : length (irq ∷ more) ≤ 256 =
+          let priorities : length (irq ∷ more) ≤ 256 =
           let count = length-map (those_below (has_handler app) PRIORITIES) (λ p. or_zero (deepest_irq app p)) in
           let most = below_few (has_handler app) 256 in
           let long = ap length is in omega (arith, count, most, long) in
@@ -294,7 +294,7 @@ module _ (app : App) (img : Image) (accepted : IsAccepted app) (is_image : IsIma
             good = good;
             lines = script_of steps (irq ∷ more);
             says = is_script_text (names_of app) (accepted_are_sound app accepted).names steps (irq ∷ more)
-                (omega (arith, up.few, steps_same)) levels
+                (omega (arith, up.few, steps_same)) priorities
                 (subst (AllByRecursion (IsDeclared (names_of app))) same up.named)
                 (names_short (names_of app) (irq ∷ more) (accepted_are_sound app accepted).names);
             deepest = record {

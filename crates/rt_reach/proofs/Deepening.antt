@@ -1,5 +1,5 @@
 -- The first exception entry on a good image: an interrupt that is requested at reset is taken behind `init`, and its
--- handler's frame stands on the thread's. Behind any events, one that is requested above the level is taken at once.
+-- handler's frame stands on the thread's. Behind any events, one that is requested above the priority is taken at once.
 use Rattle.std.proofs.Common.{◌≡◌, ℕ, zero, suc, ◌+◌, ◌-◌, ◌==◌, ◌^◌, ◌<◌, ◌≤◌, inl, inr, true, false}
 use Rattle.std.proofs.Common.{List, [], ◌∷◌, ◌++◌, length, flat_map, replicate}
 use Rattle.std.proofs.Common.{Option, Some, IsSome, refl, ap, sym, subst, ◌∙◌, arith, append_assoc, append-nil, length-set, eq-eqb}
@@ -22,19 +22,19 @@ use Rattle.rt_app.proofs.Sound.{accepted_are_sound}
 use Rattle.rt_build.specs.Entries.{handler_words, task_words}
 use Rattle.rt_build.specs.Image.{IsImageOf}
 use Rattle.rt_code.specs.Image.{Image, entry_words}
-use Rattle.rt_core.specs.Core.{Core, used}
+use Rattle.rt_core.specs.Core.{Core, stack_in_use}
 use Rattle.rt_laws.specs.Acting as acting
 use Rattle.rt_laws.specs.Allowed.{after}
 use Rattle.rt_laws.specs.Services.{service_at, is_declared}
 use Rattle.rt_laws.specs.State.{State, first}
-use Rattle.rt_laws.specs.Level.{level}
+use Rattle.rt_laws.specs.Preemption.{system_ceiling}
 use Rattle.rt_script.specs.Script.{events, line_events}
 use Rattle.rt_sim.specs.Good.{AreDeclared}
 use Rattle.rt_trace.specs.Label.{Arrived, Stepped}
 use Rattle.rt_trace.specs.Lined.{IsDeclared}
 use Rattle.rt_trace.specs.declared.item.What.{What}
-use Rattle.rt_reach.specs.Deepest.{level_lines, script_of, shown_behind, IsFirstTake}
-use Rattle.rt_app.specs.Forms.{is_of_w_form}
+use Rattle.rt_reach.specs.Deepest.{priority_lines, script_of, item_behind, IsFirstTake}
+use Rattle.rt_app.specs.Forms.{has_deepest_script}
 use Rattle.rt_reach.specs.Take.{IsTake}
 use Rattle.rt_reach.proofs.Entering.{takes_words, alone_words}
 use Rattle.rt_reach.proofs.Jobs.{InInit, BehindInit, RestsBelow, init_steps, is_candidate, takes, first_requested}
@@ -64,12 +64,12 @@ pub events_next : (steps irq next : ℕ) (more : List ℕ)
     → events (script_of steps (irq ∷ more ++ next ∷ []))
     ≡ events (script_of steps (irq ∷ more)) ++ Arrive next ∷ Step ∷ []
 events_next steps irq next more =
-    ap (λ ls. events (level_lines steps irq ++ ls)) (flat_map-append (level_lines 1) more (next ∷ []))
-    ∙ ap events (sym (append_assoc (level_lines steps irq) (flat_map (level_lines 1) more) (level_lines 1 next)))
-    ∙ flat_map-append line_events (script_of steps (irq ∷ more)) (level_lines 1 next)
+    ap (λ ls. events (priority_lines steps irq ++ ls)) (flat_map-append (priority_lines 1) more (next ∷ []))
+    ∙ ap events (sym (append_assoc (priority_lines steps irq) (flat_map (priority_lines 1) more) (priority_lines 1 next)))
+    ∙ flat_map-append line_events (script_of steps (irq ∷ more)) (priority_lines 1 next)
 
 module _ (app : App) (img : Image) (accepted : IsAccepted app) (is_image : IsImageOf app img)
-    (form : is_of_w_form app ≡ true) where
+    (form : has_deepest_script app ≡ true) where
   abbrev pub sound : IsSound app
   sound = accepted_are_sound app accepted
 
@@ -90,7 +90,7 @@ module _ (app : App) (img : Image) (accepted : IsAccepted app) (is_image : IsIma
   pub record IsServed (p irq : ℕ) : Type 0 where
     pub service : Service
     pub served : service_at app irq ≡ Some service
-    pub at_level : service.level ≡ p
+    pub at_priority : service.priority ≡ p
     pub words : handler_words app service.handler ≡ need app p
     pub some : 1 ≤ p
     pub low : irq < IRQ_NUMBERS
@@ -99,22 +99,22 @@ module _ (app : App) (img : Image) (accepted : IsAccepted app) (is_image : IsIma
 
   pub deepest_served : (p irq : ℕ) → IsDeepestAt app p irq → IsServed p irq
   deepest_served p irq at =
-      let least : (at.service.irq < length app.irqs) × (1 ≤ at.service.level) × (at.service.level ≤ 2 ^ app.bits) =
-      find_has (λ (s : Service). (s.irq < length app.irqs) × (1 ≤ s.level) × (s.level ≤ 2 ^ app.bits)) _ (services app)
+      let least : (at.service.irq < length app.irqs) × (1 ≤ at.service.priority) × (at.service.priority ≤ 2 ^ app.bits) =
+      find_has (λ (s : Service). (s.irq < length app.irqs) × (1 ≤ s.priority) × (s.priority ≤ 2 ^ app.bits)) _ (services app)
       at.service sound.served at.served in
       let number : at.decl.number < IRQ_NUMBERS =
-      all_at (λ (d : IrqDecl). d.number < IRQ_NUMBERS) app.irqs at.place at.decl sound.numbers at.declared in
-      let row = found (λ (r : List ℕ × ℕ). r.1 == irq) (names_of app).irqs at.place (at.decl.name, at.decl.number)
-      (mapped_at (λ (d : IrqDecl). (d.name, d.number)) app.irqs at.place at.decl at.declared)
+      all_at (λ (d : IrqDecl). d.number < IRQ_NUMBERS) app.irqs at.index at.decl sound.numbers at.declared in
+      let row = found (λ (r : List ℕ × ℕ). r.1 == irq) (names_of app).irqs at.index (at.decl.name, at.decl.number)
+      (mapped_at (λ (d : IrqDecl). (d.name, d.number)) app.irqs at.index at.decl at.declared)
       (eq-eqb at.decl.number irq at.numbered) in
       record {
         service = at.service;
         served = at.served;
-        at_level = at.at_level;
+        at_priority = at.at_priority;
         words = ap (handler_words app) at.runs ∙ ap task_words at.there ∙ at.frame;
-        some = omega (arith, least.1, at.at_level);
+        some = omega (arith, least.1, at.at_priority);
         low = omega (arith, number, at.numbered);
-        declared = any_passes (λ (d : IrqDecl). d.number == irq) app.irqs at.place at.decl at.declared
+        declared = any_passes (λ (d : IrqDecl). d.number == irq) app.irqs at.index at.decl at.declared
             (eq-eqb at.decl.number irq at.numbered);
         named = subst IsSome (sym row.1) refl;
       }
@@ -124,13 +124,13 @@ module _ (app : App) (img : Image) (accepted : IsAccepted app) (is_image : IsIma
     whole_declared : AreDeclared app (es ++ Step ∷ [])
     whole_declared = declared_append app es (Step ∷ []) known tt
 
-    pub taken : (p irq : ℕ) (is : IsServed p irq) → PendsOnly (state_at es).pending irq → level app (state_at es).jobs < p
+    pub taken : (p irq : ℕ) (is : IsServed p irq) → PendsOnly (state_at es).pending irq → system_ceiling app (state_at es).jobs < p
         → (state_at es).owing ≡ false → length (state_at es).pending ≡ IRQ_NUMBERS
         → IsTake (next_at es) × Rests (suc p) (es ++ Step ∷ [])
-        × (used img (core_at (es ++ Step ∷ [])) ≡ used img (core_at es) + (entry_words img + need app p))
+        × (stack_in_use img (core_at (es ++ Step ∷ [])) ≡ stack_in_use img (core_at es) + (entry_words img + need app p))
     taken p irq is pends above owing long =
         let v : Service = is.service in
-        let over : level app (state_at es).jobs < v.level = omega (arith, above, is.at_level) in
+        let over : system_ceiling app (state_at es).jobs < v.priority = omega (arith, above, is.at_priority) in
         let allowed = step_allowed app img accepted is_image es few whole_declared in
         let done = takes app sound (state_at es) irq v is.served pends over owing long (next_at es) allowed in
         let taking : IsTake (next_at es) = subst IsTake (sym done.1) tt in
@@ -139,10 +139,10 @@ module _ (app : App) (img : Image) (accepted : IsAccepted app) (is_image : IsIma
         (is_candidate app sound (state_at es) irq v is.served pends over) taking in (
           taking,
           subst (RestsBelow app sound (suc p)) (sym (state_step app img accepted is_image es))
-              (subst (λ q. RestsBelow app sound (suc q) (after app (state_at es) (Stepped (next_at es)))) is.at_level
+              (subst (λ q. RestsBelow app sound (suc q) (after app (state_at es) (Stepped (next_at es)))) is.at_priority
               done.2),
-          ap (used img) (core_step app img accepted is_image es) ∙ words
-              ∙ ap (λ w. used img (core_at es) + (entry_words img + w)) is.words,
+          ap (stack_in_use img) (core_step app img accepted is_image es) ∙ words
+              ∙ ap (λ w. stack_in_use img (core_at es) + (entry_words img + w)) is.words,
         )
 
   -- the first exception entry, where an interrupt is requested at reset
@@ -151,7 +151,7 @@ module _ (app : App) (img : Image) (accepted : IsAccepted app) (is_image : IsIma
     pub few : steps ≤ 900001
     pub first_take : IsFirstTake img irq steps
     pub rests : Rests (suc p) (starts irq steps)
-    pub words : used img (core_at (starts irq steps)) ≡ thread_words app + (entry_words img + need app p)
+    pub words : stack_in_use img (core_at (starts irq steps)) ≡ thread_words app + (entry_words img + need app p)
 
   starts_declared : (irq n : ℕ) → is_declared app irq ≡ true → AreDeclared app (starts irq n)
   starts_declared irq n is = (is, steps_declared app n)
@@ -161,7 +161,7 @@ module _ (app : App) (img : Image) (accepted : IsAccepted app) (is_image : IsIma
 
   module _ (p irq : ℕ) (is : IsServed p irq) where
     abbrev NoneBefore : ℕ → Type 0
-    NoneBefore n = (k : ℕ) → k < n → ¬ IsTake (shown_behind img irq k)
+    NoneBefore n = (k : ℕ) → k < n → ¬ IsTake (item_behind img irq k)
 
     abbrev here : ℕ → State
     here n = state_at (starts irq n)
@@ -182,7 +182,7 @@ module _ (app : App) (img : Image) (accepted : IsAccepted app) (is_image : IsIma
           few = omega (arith, few);
           first_take = record { done = n; number = omega arith; takes = done.0; none = none };
           rests = subst (Rests (suc p)) (sym (starts_more irq n)) done.1;
-          words = ap (λ es. used img (core_at es)) (starts_more irq n) ∙ done.2
+          words = ap (λ es. stack_in_use img (core_at es)) (starts_more irq n) ∙ done.2
               ∙ ap (λ w. w + (entry_words img + need app p)) alone;
         }
 
@@ -200,7 +200,7 @@ module _ (app : App) (img : Image) (accepted : IsAccepted app) (is_image : IsIma
         let next = one_more n (omega (arith, few)) in
         let pending_is : (here (n + 1)).pending ≡ (here n).pending = ap (λ (s : State). s.pending) next ∙ stays.pending in
         let none_more : NoneBefore (n + 1) =
-        below_more (λ k. ¬ IsTake (shown_behind img irq k)) n none stays.no_take in
+        below_more (λ k. ¬ IsTake (item_behind img irq k)) n none stays.no_take in
         let pends_more : PendsOnly (here (n + 1)).pending irq =
         subst (λ ps. PendsOnly ps irq) (sym pending_is) pends in
         let long_more : length (here (n + 1)).pending ≡ IRQ_NUMBERS = ap length pending_is ∙ long in
@@ -218,10 +218,10 @@ module _ (app : App) (img : Image) (accepted : IsAccepted app) (is_image : IsIma
     enters =
         let of_form : IsOfForm app = form_of app form in
         let brief : cost_of (cost_measure app) app.init ≤ 900000 = leb-true _ 900000 of_form.brief in
-        let start : here 0 ≡ acting.pended irq (first app) =
+        let start : here 0 ≡ acting.state_after_pend irq (first app) =
         state_request app img accepted is_image [] irq
         ∙ ap (λ s. after app s (Arrived irq)) (state_first app img accepted is_image) in
-        let begins : InInit app sound 900000 (acting.pended irq (first app)) = record {
+        let begins : InInit app sound 900000 (acting.state_after_pend irq (first app)) = record {
           job = _;
           jobs = refl;
           role = refl;

@@ -8,11 +8,11 @@ use Rattle.rt_build.specs.Image.{IsImageOf}
 use Rattle.rt_code.specs.Image.{Image}
 use Rattle.rt_sim.specs.Good.{Good}
 use Rattle.rt_reach.specs.Deepest.{IsFirstTake}
-use Rattle.rt_app.specs.Forms.{is_of_w_form}
+use Rattle.rt_app.specs.Forms.{has_deepest_script}
 use Rattle.rt_reach.specs.Inside.Soon.{TakesWithin}
-use Rattle.rt_reach.specs.Levels.{deepest_irqs}
+use Rattle.rt_reach.specs.Priorities.{deepest_irqs}
 use Rattle.rt_reach.specs.Reached.{ReachesTheBound}
-use Rattle.rt_reach.specs.Spelled.{level_text, script_text}
+use Rattle.rt_reach.specs.Spelled.{priority_text, script_text}
 use Rattle.rt_reach.proofs.Climbing.{take_all, soon, flat_reaches, up_reaches}
 
 first_of : (xs : List ℕ) (x : ℕ) → 1 ≤ length xs → x ≡ get_or xs 0 x → xs ≡ x ∷ drop 1 xs
@@ -27,7 +27,7 @@ others_of : (xs : List ℕ) → take (length xs - 1) (drop 1 xs) ≡ drop 1 xs
 others_of [] = refl
 others_of (x ∷ xs) = let e : length (x ∷ xs) - 1 ≡ length xs = omega arith in ap (λ n. take n xs) e ∙ take_all xs
 
-module _ (app : App) (img : Image) (accepted : IsAccepted app) (form : is_of_w_form app ≡ true)
+module _ (app : App) (img : Image) (accepted : IsAccepted app) (form : has_deepest_script app ≡ true)
     (is_image : IsImageOf app img) (irqs : List ℕ) (are : irqs ≡ deepest_irqs app) where
   pub soon_taken : (first : ℕ) → 1 ≤ length irqs → first ≡ get_or irqs 0 first → TakesWithin 900001 img first
   soon_taken first some is =
@@ -41,8 +41,8 @@ module _ (app : App) (img : Image) (accepted : IsAccepted app) (form : is_of_w_f
   pub some_made : Good app img → (text : List ℕ) (first steps : ℕ) → 1 ≤ length irqs → first ≡ get_or irqs 0 first
       → IsFirstTake img first steps
       → (names : Names) → names ≡ names_of app → (old : List ℕ) → old ≡ []
-      → text ≡ old ++ (level_text names steps first
-      ++ flat_map (level_text names 1) (take (length irqs - 1) (drop 1 irqs)))
+      → text ≡ old ++ (priority_text names steps first
+      ++ flat_map (priority_text names 1) (take (length irqs - 1) (drop 1 irqs)))
       → ReachesTheBound app text
   some_made good text first steps some is taken names named old empty made =
       subst (ReachesTheBound app)

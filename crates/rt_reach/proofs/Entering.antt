@@ -18,29 +18,29 @@ use Rattle.rt_code.specs.Stack as stack
 use Rattle.rt_code.specs.declared.image.Handler as row
 use Rattle.rt_code.specs.declared.image.IrqRow.{IrqRow}
 use Rattle.rt_code.specs.declared.processor.Trap.TheVariants as trap
-use Rattle.rt_core.specs.Core.{Core, Context, context_words, used, depth}
+use Rattle.rt_core.specs.Core.{Core, Context, context_words, stack_in_use, depth}
 use Rattle.rt_core.specs.Outcome.{Trapped, Done, settle}
 use Rattle.rt_core.specs.Priority.{pick}
 use Rattle.rt_core.specs.Stepping.{step}
-use Rattle.rt_core.specs.Transfer.{has_room, enter, entered}
+use Rattle.rt_core.specs.Transfer.{has_room, exception_entry, core_after_entry}
 use Rattle.rt_core.proofs.Happening.{steps_by_cause}
 use Rattle.rt_trace.specs.declared.item.What.{What}
 use Rattle.rt_trace.specs.declared.item.What.TheVariants as what
 use Rattle.rt_laws.specs.Services.{service_at}
 use Rattle.rt_laws.specs.State.{Job, State}
-use Rattle.rt_laws.specs.Level.{candidate}
+use Rattle.rt_laws.specs.Preemption.{candidate}
 use Rattle.rt_sim.specs.Inside.Moment.{Part, Moment, jobs_of}
 use Rattle.rt_sim.specs.Inside.States.{core_of, state_of, words_under}
 use Rattle.rt_sim.specs.Inside.Fits.{IsStacked}
 use Rattle.rt_sim.specs.Inside.Agrees.{Agrees}
 use Rattle.rt_sim.proofs.Choosing.{IfServed, picks}
 use Rattle.rt_sim.proofs.Depth.{used_is}
-use Rattle.rt_sim.proofs.Levels.{execution_is}
+use Rattle.rt_sim.proofs.ExecutionPriority.{execution_is}
 use Rattle.rt_reach.specs.Take.{IsTake}
 
 -- what an exception entry adds
 entered_words : (img : Image) (c : Core) (irq : ℕ) (h : row.Handler)
-    → used img (entered c irq h) ≡ used img c + (entry_words img + h.frame)
+    → stack_in_use img (core_after_entry c irq h) ≡ stack_in_use img c + (entry_words img + h.frame)
 entered_words img c irq h =
     let x : Context = record {
       irq = irq;
@@ -61,9 +61,9 @@ module _ (app : App) (img : Image) (accepted : IsAccepted app) (is_image : IsIma
   -- where the two machines agree, and an interrupt is to be taken, and taken
   pub takes_words : (c : Core) (s : State) → Agrees app img at.idle c s → (irq : ℕ) (v : Service)
       → service_at app irq ≡ Some v → candidate app s ≡ Some irq → IsTake (step img c).1
-      → used img (step img c).0 ≡ used img c + (entry_words img + handler_words app v.handler)
+      → stack_in_use img (step img c).0 ≡ stack_in_use img c + (entry_words img + handler_words app v.handler)
   takes_words c s agrees irq v serves next takes =
-      subst (λ d. used img (step img d).0 ≡ used img d + (entry_words img + handler_words app v.handler))
+      subst (λ d. stack_in_use img (step img d).0 ≡ stack_in_use img d + (entry_words img + handler_words app v.handler))
       (sym agrees.core)
       (by (pick img c_m) refl both.0 both.1 (subst (λ d. IsTake (step img d).1) agrees.core takes))
     where
@@ -84,10 +84,10 @@ module _ (app : App) (img : Image) (accepted : IsAccepted app) (is_image : IsIma
       next_is = ap (candidate app) (sym agrees.state) ∙ next
 
       in_room : (h : row.Handler) (room : Bool)
-          → step img c_m ≡ settle (if room then Done (entered c_m irq h)
-          (Some (what.Take irq (depth img (entered c_m irq h)))) else Trapped c_m trap.Stack)
-          → IsTake (step img c_m).1 → used img (step img c_m).0 ≡ used img c_m + (entry_words img + h.frame)
-      in_room h true is taken = ap (λ r. used img r.0) is ∙ entered_words img c_m irq h
+          → step img c_m ≡ settle (if room then Done (core_after_entry c_m irq h)
+          (Some (what.Take irq (depth img (core_after_entry c_m irq h)))) else Trapped c_m trap.Stack)
+          → IsTake (step img c_m).1 → stack_in_use img (step img c_m).0 ≡ stack_in_use img c_m + (entry_words img + h.frame)
+      in_room h true is taken = ap (λ r. stack_in_use img r.0) is ∙ entered_words img c_m irq h
       in_room h false is taken = absurd (subst (λ (r : Core × Option What). IsTake r.1) is taken)
 
       by : (o : Option IrqRow) → pick img c_m ≡ o → option_map (λ r. r.number) o ≡ candidate app (state_of m)
@@ -95,7 +95,7 @@ module _ (app : App) (img : Image) (accepted : IsAccepted app) (is_image : IsIma
           (state_of m) refl
           (execution_is app img at.idle accepted.limits.least_bits accepted.limits.most_bits m agrees.fits) o
           → IsTake (step img c_m).1
-          → used img (step img c_m).0 ≡ used img c_m + (entry_words img + handler_words app v.handler)
+          → stack_in_use img (step img c_m).0 ≡ stack_in_use img c_m + (entry_words img + handler_words app v.handler)
       by None picked same served taken = absurd (none-some irq (same ∙ next_is))
       by (Some r) picked same served taken =
           let number_is : r.number ≡ irq = same_Some r.number irq (same ∙ next_is) in
@@ -104,14 +104,14 @@ module _ (app : App) (img : Image) (accepted : IsAccepted app) (is_image : IsIma
           ∙ ap (option_map (handler_row app at)) serves in
           in_room (handler_row app at v)
           (has_room img c_m (entry_words img + handler_words app v.handler))
-          (steps_by_cause.entry img c_m r refl picked ∙ ap (λ n. settle (enter img c_m n r.handler)) number_is
-          ∙ ap (λ o. settle (enter img c_m irq o)) handler_is) taken
+          (steps_by_cause.entry img c_m r refl picked ∙ ap (λ n. settle (exception_entry img c_m n r.handler)) number_is
+          ∙ ap (λ o. settle (exception_entry img c_m irq o)) handler_is) taken
 
   -- where one job has started, the thread's frame is all
   pub alone_words : (c : Core) (s : State) → Agrees app img at.idle c s → (job : Job) → s.jobs ≡ job ∷ []
-      → used img c ≡ thread_words app
+      → stack_in_use img c ≡ thread_words app
   alone_words c s agrees job alone =
-      ap (used img) agrees.core ∙ used_is app img at.idle agrees.moment agrees.fits
+      ap (stack_in_use img) agrees.core ∙ used_is app img at.idle agrees.moment agrees.fits
       ∙ by agrees.moment.below (sym (ap (λ (t : State). t.jobs) agrees.state) ∙ alone) agrees.fits.stack
     where
       p : Part

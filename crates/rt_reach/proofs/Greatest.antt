@@ -19,9 +19,9 @@ words t = frame_words t.args t.body
 -- the greatest of those that pass is 0, or that of one of them
 module _ {X : Type 0} (f : X → ℕ) (test : X → Bool) where
   pub record Attains (xs : List X) (most : ℕ) : Type 0 where
-    pub place : ℕ
+    pub index : ℕ
     pub item : X
-    pub at : slice_get xs place ≡ Some item
+    pub at : slice_get xs index ≡ Some item
     pub passes : test item ≡ true
     pub is : f item ≡ most
 
@@ -34,7 +34,7 @@ module _ {X : Type 0} (f : X → ℕ) (test : X → Bool) where
     where
       more : Attains xs (most_of xs) → (most : ℕ) → most_of xs ≡ most → Attains (x ∷ xs) most
       more has most same = record {
-        place = suc has.place;
+        index = suc has.index;
         item = has.item;
         at = has.at;
         passes = has.passes;
@@ -42,7 +42,7 @@ module _ {X : Type 0} (f : X → ℕ) (test : X → Bool) where
       }
 
       here : test x ≡ true → (most : ℕ) → f x ≡ most → Attains (x ∷ xs) most
-      here passes most same = record { place = 0; item = x; at = refl; passes = passes; is = same }
+      here passes most same = record { index = 0; item = x; at = refl; passes = passes; is = same }
 
       by : (b : Bool) → test x ≡ b → (most_of xs ≡ 0) ⊎ Attains xs (most_of xs)
           → (greatest (map f (if b then x ∷ filter test xs else filter test xs)) ≡ 0)
@@ -60,7 +60,7 @@ module _ {X : Type 0} (f : X → ℕ) (test : X → Bool) where
       → Attains xs (most_of xs)
   greatest_attained xs i x at passes = elim (attained xs) [
     | inl none ↦ record {
-      place = i;
+      index = i;
       item = x;
       at = at;
       passes = passes;
@@ -115,8 +115,8 @@ pub frame_at : (frames : List ℕ) (a b : ℕ) (ts : List code.Task) (n : ℕ) (
     → frames ≡ a ∷ b ∷ map words (map task_of ts) → n < length ts → t ≡ get_or ts n t
     → get_or frames (2 + n) 0 ≡ words (task_of t)
 frame_at frames a b ts n t are within is =
-    let place : 2 + n ≡ suc (suc n) = omega arith in
-    ap (λ fs. get_or fs (2 + n) 0) are ∙ ap (λ k. get_or (a ∷ b ∷ map words (map task_of ts)) k 0) place
+    let index : 2 + n ≡ suc (suc n) = omega arith in
+    ap (λ fs. get_or fs (2 + n) 0) are ∙ ap (λ k. get_or (a ∷ b ∷ map words (map task_of ts)) k 0) index
     ∙ at_place ts n t within is
   where
     at_place : (ts : List code.Task) (n : ℕ) (t : code.Task) → n < length ts → t ≡ get_or ts n t

@@ -23,10 +23,10 @@ use Rattle.rt_trace.specs.declared.item.What.{What}
 use Rattle.rt_trace.specs.declared.item.What.TheVariants as what
 use Rattle.rt_laws.specs.Services.{service_at, priority_of}
 use Rattle.rt_laws.specs.State.{Init, Job, State, first}
-use Rattle.rt_laws.specs.Level.{level, may_start, candidate, IsNoLater}
+use Rattle.rt_laws.specs.Preemption.{system_ceiling, may_start, candidate, IsNoLater}
 use Rattle.rt_laws.specs.Giving.{next_item}
-use Rattle.rt_laws.specs.Acting.{spent, idling, acted, pended}
-use Rattle.rt_laws.specs.Allowed.{HasStep, Turn, May, started, after}
+use Rattle.rt_laws.specs.Acting.{job_after_step, idle_job, state_after_doing, state_after_pend}
+use Rattle.rt_laws.specs.Allowed.{HasStep, Turn, May, state_after_start, after}
 use Rattle.rt_laws.proofs.Candidate.{candidate_is_highest}
 use Rattle.rt_laws.proofs.Pending.{held_off, starts_above}
 use Rattle.rt_reach.specs.Take.{IsTake}
@@ -44,11 +44,11 @@ module _ (app : App) (sound : IsSound app) where
     pub few : job.left ≤ left
     pub owing : s.owing ≡ false
 
-  -- the thread is behind `init`, at the level 0
+  -- the thread is behind `init`, at the priority 0
   pub record BehindInit (s : State) : Type 0 where
     pub job : Job
     pub jobs : s.jobs ≡ job ∷ []
-    pub low : level app s.jobs ≡ 0
+    pub low : system_ceiling app s.jobs ≡ 0
     pub owing : s.owing ≡ false
 
   -- a step of `init`
@@ -62,7 +62,7 @@ module _ (app : App) (sound : IsSound app) where
   priority_top : (irq : ℕ) → priority_of app irq ≤ 2 ^ app.bits
   priority_top irq = by (service_at app irq) refl
     where
-      by : (o : Option Service) → service_at app irq ≡ o → or_zero (option_map (λ s. s.level) o) ≤ 2 ^ app.bits
+      by : (o : Option Service) → service_at app irq ≡ o → or_zero (option_map (λ s. s.priority) o) ≤ 2 ^ app.bits
       by None is = omega arith
       by (Some s) is = (find_has _ _ (services app) s sound.served is).2
 
@@ -77,16 +77,16 @@ module _ (app : App) (sound : IsSound app) where
     abbrev Leads : State → Type 0
     Leads t = InInit (left - 1) t ⊎ BehindInit t
 
-    idles : (o : Option Body) (vs : Values) → level app (idling app vs o ∷ []) ≡ 0
+    idles : (o : Option Body) (vs : Values) → system_ceiling app (idle_job app vs o ∷ []) ≡ 0
     idles None vs = refl
     idles (Some b) vs = refl
 
     acts : (rest : Doing Values) → IsQuiet rest → (w : What) → next_item alone job.role rest ≡ Some w
-        → Leads (acted app alone job [] rest) × ((acted app alone job [] rest).pending ≡ s.pending)
+        → Leads (state_after_doing app alone job [] rest) × ((state_after_doing app alone job [] rest).pending ≡ s.pending)
     acts over quiet w is = absurd (none-some w is)
     acts (does (Emits v) made next) quiet w is = (
       inl (record {
-        job = record (spent job) { rest = next 0 s.values };
+        job = record (job_after_step job) { rest = next 0 s.values };
         jobs = refl;
         role = role;
         top = top;
@@ -98,7 +98,7 @@ module _ (app : App) (sound : IsSound app) where
     )
     acts (does (Ends body.Init) made next) quiet w is = (
       inr (record {
-        job = idling app s.values app.idle;
+        job = idle_job app s.values app.idle;
         jobs = refl;
         low = idles app.idle s.values;
         owing = owing;
@@ -113,7 +113,7 @@ module _ (app : App) (sound : IsSound app) where
       some = let least = steps_left may in omega (arith, few, least);
       pending = refl;
       leads = inl (record {
-        job = spent job;
+        job = job_after_step job;
         jobs = refl;
         role = role;
         top = top;
@@ -143,9 +143,9 @@ module _ (app : App) (sound : IsSound app) where
       (steps s runs.job left runs.role runs.top runs.few runs.owing runs.rest shown
       (subst (λ t. May app t (Stepped shown)) (sym is) may))
 
-  -- the one that is pending above the level is to be taken
+  -- the one that is pending above the priority is to be taken
   pub is_candidate : (s : State) (irq : ℕ) (v : Service) → service_at app irq ≡ Some v → PendsOnly s.pending irq
-      → level app s.jobs < v.level → candidate app s ≡ Some irq
+      → system_ceiling app s.jobs < v.priority → candidate app s ≡ Some irq
   is_candidate s irq v at pends above = by (candidate app s) refl
     where
       by : (o : Option ℕ) → candidate app s ≡ o → o ≡ Some irq
@@ -164,16 +164,16 @@ module _ (app : App) (sound : IsSound app) where
       (depth, ap (λ i. Some (what.Take i depth)) (same_Some other irq (sym may.1 ∙ is)))
   is_taken s irq is (Some w) may = absurd (none-some irq (sym may.0.quiet ∙ is))
 
-  -- the level is below this one, and nothing is pending
+  -- the priority is below this one, and nothing is pending
   pub record RestsBelow (p : ℕ) (s : State) : Type 0 where
-    pub low : level app s.jobs < p
+    pub low : system_ceiling app s.jobs < p
     pub owing : s.owing ≡ false
     pub none : PendsNone s.pending
     pub long : length s.pending ≡ IRQ_NUMBERS
 
-  started_rests : (s : State) (irq : ℕ) (v : Service) → PendsOnly s.pending irq → level app s.jobs < v.level
+  started_rests : (s : State) (irq : ℕ) (v : Service) → PendsOnly s.pending irq → system_ceiling app s.jobs < v.priority
       → s.owing ≡ false → length s.pending ≡ IRQ_NUMBERS
-      → RestsBelow (suc v.level) (started app (record s { pending = slice_set s.pending irq false }) irq (Some v))
+      → RestsBelow (suc v.priority) (state_after_start app (record s { pending = slice_set s.pending irq false }) irq (Some v))
   started_rests s irq v pends above owing long = record {
     low = omega (arith, above);
     owing = owing;
@@ -181,27 +181,27 @@ module _ (app : App) (sound : IsSound app) where
     long = length-set s.pending irq false ∙ long;
   }
 
-  -- So it is taken in the next step, and behind that the level is its own.
+  -- So it is taken in the next step, and behind that the priority is its own.
   pub takes : (s : State) (irq : ℕ) (v : Service) → service_at app irq ≡ Some v → PendsOnly s.pending irq
-      → level app s.jobs < v.level → s.owing ≡ false → length s.pending ≡ IRQ_NUMBERS → (shown : Option What)
+      → system_ceiling app s.jobs < v.priority → s.owing ≡ false → length s.pending ≡ IRQ_NUMBERS → (shown : Option What)
       → May app s (Stepped shown)
-      → (depth : ℕ) × (shown ≡ Some (what.Take irq depth)) × RestsBelow (suc v.level) (after app s (Stepped shown))
+      → (depth : ℕ) × (shown ≡ Some (what.Take irq depth)) × RestsBelow (suc v.priority) (after app s (Stepped shown))
   takes s irq v at pends above owing long shown may =
       let taken = is_taken s irq (is_candidate s irq v at pends above) shown may in (
         taken.0,
         taken.1,
-        subst (λ w. RestsBelow (suc v.level) (after app s (Stepped w))) (sym taken.1)
-            (subst (λ o. RestsBelow (suc v.level)
-            (started app (record s { pending = slice_set s.pending irq false }) irq o)) (sym at)
+        subst (λ w. RestsBelow (suc v.priority) (after app s (Stepped w))) (sym taken.1)
+            (subst (λ o. RestsBelow (suc v.priority)
+            (state_after_start app (record s { pending = slice_set s.pending irq false }) irq o)) (sym at)
             (started_rests s irq v pends above owing long)),
       )
 
   -- an interrupt is requested where nothing is pending
   pub requested : (p : ℕ) (s : State) (irq : ℕ) → RestsBelow p s → irq < IRQ_NUMBERS
-      → PendsOnly (pended irq s).pending irq
+      → PendsOnly (state_after_pend irq s).pending irq
   requested p s irq rests low = one_pends s.pending irq rests.none (omega (arith, low, rests.long))
 
   -- at reset, where an interrupt is requested
-  pub first_requested : (irq : ℕ) → irq < IRQ_NUMBERS → PendsOnly (pended irq (first app)).pending irq
+  pub first_requested : (irq : ℕ) → irq < IRQ_NUMBERS → PendsOnly (state_after_pend irq (first app)).pending irq
   first_requested irq low =
       one_pends (first app).pending irq (none_first IRQ_NUMBERS) (omega (arith, low, length-replicate IRQ_NUMBERS false))

@@ -23,8 +23,8 @@ use Rattle.rt_script.specs.declared.words.Wrong.{Wrong}
 use Rattle.rt_script.proofs.Lines.{lines_next}
 use Rattle.rt_trace.specs.Lined.{IsDeclared}
 use Rattle.rt_trace.proofs.Tables.{irq_known}
-use Rattle.rt_reach.specs.Deepest.{level_lines, script_of}
-use Rattle.rt_reach.specs.Spelled.{pend_line, step_line, ended, level_text, script_text}
+use Rattle.rt_reach.specs.Deepest.{priority_lines, script_of}
+use Rattle.rt_reach.specs.Spelled.{pend_line, step_line, line_with_feed, priority_text, script_text}
 use Rattle.rt_reach.proofs.Words.{IsPlain, plain_without, name_plain, decimal_plain, decimal_length, decimal_read, ends_otherwise, two_words, first_part}
 
 -- a word of name bytes that is not empty
@@ -96,18 +96,18 @@ module _ (names : Names) where
     abbrev Say : List (List ℕ) → List Line → Type 0
     Say ls script = map (line_of names) ls ≡ map (λ line. Ok (Some line)) script
 
-    -- a level's lines in front
-    level_says : (steps irq : ℕ) (rest : List ℕ) (script : List Line) → steps < 10 ^ 9 → IsDeclared names irq
+    -- a priority's lines in front
+    priority_says : (steps irq : ℕ) (rest : List ℕ) (script : List Line) → steps < 10 ^ 9 → IsDeclared names irq
         → Say (lines rest) script
-        → Say (lines (level_text names steps irq ++ rest)) (level_lines steps irq ++ script)
-    level_says steps irq rest script few declared says =
+        → Say (lines (priority_text names steps irq ++ rest)) (priority_lines steps irq ++ script)
+    priority_says steps irq rest script few declared says =
         let known = irq_known names irq are declared in
         let word : IsWordy (irq_name names irq) = wordy_name (irq_name names irq) known.0 in
         let number : IsWordy (decimal steps) =
         wordy_of (decimal steps) (decimal_plain steps (omega arith)) (decimal_nonempty steps (omega arith)) in
-        let split : lines (level_text names steps irq ++ rest) ≡ pend_line names irq ∷ step_line steps ∷ lines rest =
-        ap lines (append_assoc (ended (pend_line names irq)) (ended (step_line steps)) rest
-        ∙ append_assoc (pend_line names irq) (10 ∷ []) (ended (step_line steps) ++ rest)
+        let split : lines (priority_text names steps irq ++ rest) ≡ pend_line names irq ∷ step_line steps ∷ lines rest =
+        ap lines (append_assoc (line_with_feed (pend_line names irq)) (line_with_feed (step_line steps)) rest
+        ∙ append_assoc (pend_line names irq) (10 ∷ []) (line_with_feed (step_line steps) ++ rest)
         ∙ ap (λ t. pend_line names irq ++ 10 ∷ t) (append_assoc (step_line steps) (10 ∷ []) rest))
         ∙ first_line (codes "pend") (irq_name names irq) (step_line steps ++ 10 ∷ rest) (refl, (refl, (refl, (refl, tt)))) word
         ∙ ap (λ ls. pend_line names irq ∷ ls)
@@ -124,59 +124,59 @@ module _ (names : Names) where
         wordy_name (b ∷ w) is = record { first = b; rest = w; is = refl; plain = name_plain (b ∷ w) is }
 
     others_say : (irqs : List ℕ) → AreDeclaredHere irqs
-        → Say (lines (flat_map (level_text names 1) irqs)) (flat_map (level_lines 1) irqs)
+        → Say (lines (flat_map (priority_text names 1) irqs)) (flat_map (priority_lines 1) irqs)
     others_say [] declared = refl
     others_say (irq ∷ irqs) declared =
-        level_says 1 irq (flat_map (level_text names 1) irqs) (flat_map (level_lines 1) irqs) (omega arith) declared.0
+        priority_says 1 irq (flat_map (priority_text names 1) irqs) (flat_map (priority_lines 1) irqs) (omega arith) declared.0
         (others_say irqs declared.1)
 
     script_says : (steps : ℕ) (irqs : List ℕ) → steps < 10 ^ 9 → AreDeclaredHere irqs
         → Say (lines (script_text names steps irqs)) (script_of steps irqs)
     script_says steps [] few declared = refl
     script_says steps (irq ∷ irqs) few declared =
-        level_says steps irq (flat_map (level_text names 1) irqs) (flat_map (level_lines 1) irqs) few declared.0
+        priority_says steps irq (flat_map (priority_text names 1) irqs) (flat_map (priority_lines 1) irqs) few declared.0
         (others_say irqs declared.1)
 
     -- how many events they are
-    others_count : (irqs : List ℕ) → count (flat_map (level_lines 1) irqs) ≡ 2 * length irqs
+    others_count : (irqs : List ℕ) → count (flat_map (priority_lines 1) irqs) ≡ 2 * length irqs
     others_count [] = refl
     others_count (irq ∷ irqs) =
         let more = others_count irqs in
-        let here : count (level_lines 1 irq ++ flat_map (level_lines 1) irqs)
-        ≡ count (level_lines 1 irq) + count (flat_map (level_lines 1) irqs) =
-        sum_by-append count_of (level_lines 1 irq) (flat_map (level_lines 1) irqs) in
+        let here : count (priority_lines 1 irq ++ flat_map (priority_lines 1) irqs)
+        ≡ count (priority_lines 1 irq) + count (flat_map (priority_lines 1) irqs) =
+        sum_by-append count_of (priority_lines 1 irq) (flat_map (priority_lines 1) irqs) in
         omega (arith, more, here)
 
     script_count : (steps : ℕ) (irqs : List ℕ) → count (script_of steps irqs) ≤ steps + 2 * length irqs
     script_count steps [] = omega arith
     script_count steps (irq ∷ irqs) =
         let more = others_count irqs in
-        let here : count (level_lines steps irq ++ flat_map (level_lines 1) irqs)
-        ≡ count (level_lines steps irq) + count (flat_map (level_lines 1) irqs) =
-        sum_by-append count_of (level_lines steps irq) (flat_map (level_lines 1) irqs) in
+        let here : count (priority_lines steps irq ++ flat_map (priority_lines 1) irqs)
+        ≡ count (priority_lines steps irq) + count (flat_map (priority_lines 1) irqs) =
+        sum_by-append count_of (priority_lines steps irq) (flat_map (priority_lines 1) irqs) in
         omega (arith, more, here)
 
     -- and how many bytes their text has
-    level_short : (steps irq : ℕ) → steps < 10 ^ 9 → length (irq_name names irq) ≤ NAME_BYTES
-        → length (level_text names steps irq) ≤ 64
-    level_short steps irq few name =
+    priority_short : (steps irq : ℕ) → steps < 10 ^ 9 → length (irq_name names irq) ≤ NAME_BYTES
+        → length (priority_text names steps irq) ≤ 64
+    priority_short steps irq few name =
         let number = decimal_length steps few in
         let front = length-append (codes "pend ") (irq_name names irq) in
         let behind = length-append (codes "step ") (decimal steps) in
         let inner = length-append (step_line steps) (10 ∷ []) in
         let outer = length-append (pend_line names irq) (10 ∷ []) in
-        let whole = length-append (ended (pend_line names irq)) (ended (step_line steps)) in
+        let whole = length-append (line_with_feed (pend_line names irq)) (line_with_feed (step_line steps)) in
         omega (arith, number, front, behind, inner, outer, whole, name)
 
     abbrev pub AreShort : List ℕ → Type 0
     AreShort irqs = AllByRecursion (λ irq. length (irq_name names irq) ≤ NAME_BYTES) irqs
 
-    others_short : (irqs : List ℕ) → AreShort irqs → length (flat_map (level_text names 1) irqs) ≤ 64 * length irqs
+    others_short : (irqs : List ℕ) → AreShort irqs → length (flat_map (priority_text names 1) irqs) ≤ 64 * length irqs
     others_short [] short = omega arith
     others_short (irq ∷ irqs) short =
         let more = others_short irqs short.1 in
-        let here = level_short 1 irq (omega arith) short.0 in
-        let both = length-append (level_text names 1 irq) (flat_map (level_text names 1) irqs) in
+        let here = priority_short 1 irq (omega arith) short.0 in
+        let both = length-append (priority_text names 1 irq) (flat_map (priority_text names 1) irqs) in
         omega (arith, more, here, both)
 
     script_short : (steps : ℕ) (irqs : List ℕ) → steps < 10 ^ 9 → AreShort irqs
@@ -184,25 +184,25 @@ module _ (names : Names) where
     script_short steps [] few short = omega arith
     script_short steps (irq ∷ irqs) few short =
         let more = others_short irqs short.1 in
-        let here = level_short steps irq few short.0 in
-        let both = length-append (level_text names steps irq) (flat_map (level_text names 1) irqs) in
+        let here = priority_short steps irq few short.0 in
+        let both = length-append (priority_text names steps irq) (flat_map (priority_text names 1) irqs) in
         omega (arith, more, here, both)
 
     pub is_script_text : (steps : ℕ) (irqs : List ℕ) → steps ≤ 900001 → length irqs ≤ 256 → AreDeclaredHere irqs
         → AreShort irqs
         → IsScriptText names (script_text names steps irqs) (script_of steps irqs)
-    is_script_text steps irqs few levels declared short =
+    is_script_text steps irqs few priorities declared short =
         let low : steps < 10 ^ 9 = omega arith in
         let bytes = script_short steps irqs low short in
         let events = script_count steps irqs in
         let script : List Line = script_of steps irqs in
         record {
-          short = omega (arith, bytes, levels);
+          short = omega (arith, bytes, priorities);
           says = record {
             asked = map Some script;
             each = script_says steps irqs low declared ∙ ok_somes script;
             all = all_asked script;
-            few = omega (arith, events, few, levels);
+            few = omega (arith, events, few, priorities);
           };
         }
       where

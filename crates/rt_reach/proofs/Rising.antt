@@ -1,4 +1,4 @@
--- The levels that have a handler, and the interrupt that goes deepest at each.
+-- The priorities that have a handler, and the interrupt that goes deepest at each.
 use Rattle.std.proofs.Common.{◌≡◌, ℕ, zero, suc, ◌+◌, ◌==◌, ◌≤◌, ◌&&◌, not, Bool, true, false, if◌then◌else◌, List, [], ◌∷◌, ◌++◌}
 use Rattle.std.proofs.Common.{length, map, find, Option, Some, None, refl, ap, sym, ◌∙◌, arith, append-nil, length-append}
 use Rattle.std.specs.List.{list_any}
@@ -16,8 +16,8 @@ use Rattle.rt_app.specs.Level.{is_software}
 use Rattle.rt_app.specs.Stack.{is_bound_at, is_timed_at, has_handler, frames_of, need}
 use Rattle.rt_app.proofs.Sound.{accepted_are_sound}
 use Rattle.rt_trace.proofs.Tables.{found_passes, found_at}
-use Rattle.rt_app.specs.Forms.{has_no_software, body_holds_no_pend, is_brief, is_of_w_form}
-use Rattle.rt_reach.specs.Levels.{deepest_task, bound_number, deepest_irq}
+use Rattle.rt_app.specs.Forms.{has_no_software, body_holds_no_pend, is_brief, has_deepest_script}
+use Rattle.rt_reach.specs.Priorities.{deepest_task, bound_number, deepest_irq}
 use Rattle.rt_reach.proofs.Served.{IsDeepestAt, deepest_at, need_is}
 
 -- what the form says
@@ -27,7 +27,7 @@ pub record IsOfForm (app : App) : Type 0 where
   pub quiet : body_holds_no_pend app.init ≡ true
   pub brief : is_brief app ≡ true
 
-pub form_of : (app : App) → is_of_w_form app ≡ true → IsOfForm app
+pub form_of : (app : App) → has_deepest_script app ≡ true → IsOfForm app
 form_of app is =
     let parts = and_parts (has_no_software app && has_no_monotonic app) (body_holds_no_pend app.init && is_brief app) is in
     let alone = and_parts (has_no_software app) (has_no_monotonic app) parts.0 in
@@ -66,7 +66,7 @@ then_twice : {A : Type 0} (o : Option A) (f : A → Option ℕ) (g : ℕ → Opt
 then_twice None f g = refl
 then_twice (Some x) f g = refl
 
-module _ (app : App) (accepted : IsAccepted app) (form : is_of_w_form app ≡ true) where
+module _ (app : App) (accepted : IsAccepted app) (form : has_deepest_script app ≡ true) where
   abbrev sound : IsSound app
   sound = accepted_are_sound app accepted
 
@@ -89,12 +89,12 @@ module _ (app : App) (accepted : IsAccepted app) (form : is_of_w_form app ≡ tr
       by None at is = absurd (none-some irq is)
       by (Some t) at is =
           let test : Task → Bool = λ (u : Task). is_bound_at p u && (frame_words u.args u.body == need app p) in
-          let place = found_at test app.tasks t at in
+          let index = found_at test app.tasks t at in
           let bound = (and_parts (is_bound_at p t) (frame_words t.args t.body == need app p)
           (found_passes test app.tasks t at)).0 in
-          let level = (and_parts (not (is_software t)) (t.priority == p) bound).1 in
+          let priority = (and_parts (not (is_software t)) (t.priority == p) bound).1 in
           or_left (list_any (λ (u : Task). u.priority == p) app.tasks) (is_timed_at p app)
-          (any_passes (λ (u : Task). u.priority == p) app.tasks place.0 t place.1 level)
+          (any_passes (λ (u : Task). u.priority == p) app.tasks index.0 t index.1 priority)
 
   pub handled_deepest : (p : ℕ) → has_handler app p ≡ true → (irq : ℕ) × IsDeepestAt app p irq
   handled_deepest p has = let of_form = form_of app form in
@@ -107,7 +107,7 @@ module _ (app : App) (accepted : IsAccepted app) (form : is_of_w_form app ≡ tr
       by true is = let at = handled_deepest p is in absurd (none-some at.0 (sym none ∙ at.1.is))
       by false is = is
 
-  -- those of the levels below one
+  -- those of the priorities below one
   abbrev pub irqs_below : ℕ → List ℕ
   irqs_below p = map (λ q. or_zero (deepest_irq app q)) (those_below (has_handler app) p)
 
@@ -120,7 +120,7 @@ module _ (app : App) (accepted : IsAccepted app) (form : is_of_w_form app ≡ tr
   pub irqs_no : (p : ℕ) → has_handler app p ≡ false → irqs_below (suc p) ≡ irqs_below p
   irqs_no p is = ap (map (λ q. or_zero (deepest_irq app q))) (below_no (has_handler app) p is)
 
-  -- one level more
+  -- one priority more
   pub pushed : (p irq : ℕ) (irqs more : List ℕ) → irqs ≡ irqs_below p → deepest_irq app p ≡ Some irq
       → more ≡ irqs ++ irq ∷ [] → more ≡ irqs_below (p + 1)
   pushed p irq irqs more are is all =

@@ -13,13 +13,13 @@ use Rattle.rt_code.specs.Image.{Image}
 use Rattle.rt_core.specs.Core.{Core, reset}
 use Rattle.rt_core.specs.Stepping.{step}
 use Rattle.rt_core.specs.Trace.{core_after, labels}
-use Rattle.rt_core.specs.Transfer.{pended}
+use Rattle.rt_core.specs.Transfer.{core_after_pend}
 use Rattle.rt_core.proofs.Happening.{happens_by_event, core_after-append, labels-append}
 use Rattle.rt_laws.specs.State.{State, first}
 use Rattle.rt_laws.specs.Allowed.{May, after}
 use Rattle.rt_laws.specs.Run.{RunsOn}
 use Rattle.rt_laws.specs.ByItems.{after_all}
-use Rattle.rt_laws.specs.Sight.{first_sight}
+use Rattle.rt_laws.specs.Observer.{first_sight}
 use Rattle.rt_laws.proofs.Armings.{armings, first_armings}
 use Rattle.rt_laws.proofs.ByItems.{after_append}
 use Rattle.rt_laws.proofs.Fine.{Queued}
@@ -111,16 +111,16 @@ module _ (app : App) (img : Image) (accepted : IsAccepted app) (is_image : IsIma
       ∙ ap (λ ls. labels img (reset img) events ++ ls)
       (happens_by_event.labels_more img c (Arrive irq) []
       ∙ ap (λ r. r.1 ++ labels img r.0 []) (happens_by_event.arrive img c irq)
-      ∙ ap (λ ls. Arrived irq ∷ ls) (happens_by_event.labels_none img (pended c irq))))
+      ∙ ap (λ ls. Arrived irq ∷ ls) (happens_by_event.labels_none img (core_after_pend c irq))))
       ∙ after_append app (labels img (reset img) events) (Arrived irq ∷ []) (first app)
 
-  pub core_request : (events : List Event) (irq : ℕ) → core_behind (events ++ Arrive irq ∷ []) ≡ pended (core_behind events) irq
+  pub core_request : (events : List Event) (irq : ℕ) → core_behind (events ++ Arrive irq ∷ []) ≡ core_after_pend (core_behind events) irq
   core_request events irq =
       let c : Core = core_behind events in
       core_after-append img (reset img) events (Arrive irq ∷ [])
       ∙ happens_by_event.core_more img c (Arrive irq) []
       ∙ ap (λ r. core_after img r.0 []) (happens_by_event.arrive img c irq)
-      ∙ happens_by_event.core_none img (pended c irq)
+      ∙ happens_by_event.core_none img (core_after_pend c irq)
 
   -- nothing has come
   pub state_first : state_behind [] ≡ first app

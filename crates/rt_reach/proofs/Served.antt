@@ -1,5 +1,5 @@
--- In an application of hardware tasks alone, each level that has a handler has a deepest task, and its interrupt is
--- served by it at that level.
+-- In an application of hardware tasks alone, each priority that has a handler has a deepest task, and its interrupt is
+-- served by it at that priority.
 use Rattle.std.proofs.Common.{◌≡◌, ℕ, zero, suc, ◌+◌, ◌^◌, ◌==◌, ◌<◌, ◌≤◌, inl, inr, Bool, true, false, not, ◌&&◌}
 use Rattle.std.proofs.Common.{if◌then◌else◌, List, [], ◌∷◌, length, slice_get, Contains}
 use Rattle.std.proofs.Common.{Option, Some, None, option_map, is_none, refl, ap, sym, subst, ◌∙◌, arith, eq-eqb}
@@ -28,30 +28,30 @@ use Rattle.rt_laws.proofs.Dispatchers.{only_service}
 use Rattle.rt_trace.proofs.Tables.{found_passes, found_at}
 use Rattle.rt_app.specs.Forms.{has_no_software}
 use Rattle.rt_reach.proofs.Greatest.{greatest_attained}
-use Rattle.rt_reach.specs.Levels.{deepest_task, bound_number, deepest_irq}
+use Rattle.rt_reach.specs.Priorities.{deepest_task, bound_number, deepest_irq}
 
 -- the services of tasks
 task_served : (n k b : ℕ) (ts : List Task) (t : Task) → slice_get ts k ≡ Some t → t.binds ≡ Some b
-    → Contains (task_services n ts) (record { irq = b; handler = Runs (n + k); level = t.priority })
+    → Contains (task_services n ts) (record { irq = b; handler = Runs (n + k); priority = t.priority })
 task_served n k b [] t at binds = absurd (none-some t at)
 task_served n zero b (u ∷ ts) t at binds =
     let e : n ≡ n + 0 = omega arith in
-    let s : Service = record { irq = b; handler = Runs n; level = t.priority } in
-    subst (λ j. Contains (task_services n (u ∷ ts)) (record { irq = b; handler = Runs j; level = t.priority })) e
+    let s : Service = record { irq = b; handler = Runs n; priority = t.priority } in
+    subst (λ j. Contains (task_services n (u ∷ ts)) (record { irq = b; handler = Runs j; priority = t.priority })) e
     (contains_front (bound_service n u u.binds) (task_services (n + 1) ts) s
     (subst (λ v. Contains (bound_service n v v.binds) s) (sym (same_Some u t at))
     (subst (λ o. Contains (bound_service n t o) s) (sym binds) (contains_here s []))))
 task_served n (suc k) b (u ∷ ts) t at binds =
     let e : n + 1 + k ≡ n + suc k = omega arith in
     contains_back (bound_service n u u.binds) (task_services (n + 1) ts) _
-    (subst (λ j. Contains (task_services (n + 1) ts) (record { irq = b; handler = Runs j; level = t.priority })) e
+    (subst (λ j. Contains (task_services (n + 1) ts) (record { irq = b; handler = Runs j; priority = t.priority })) e
     (task_served (n + 1) k b ts t at binds))
 
 bound_of : (o : Option ℕ) → is_none o ≡ false → (b : ℕ) × (o ≡ Some b)
 bound_of None is = absurd (cc (is))
 bound_of (Some b) is = (b, refl)
 
--- the deepest task of a level, and what serves its interrupt
+-- the deepest task of a priority, and what serves its interrupt
 pub record IsDeepestAt (app : App) (p irq : ℕ) : Type 0 where
   pub is : deepest_irq app p ≡ Some irq
   pub number : ℕ
@@ -61,10 +61,10 @@ pub record IsDeepestAt (app : App) (p irq : ℕ) : Type 0 where
   pub service : Service
   pub served : service_at app irq ≡ Some service
   pub runs : service.handler ≡ Runs number
-  pub at_level : service.level ≡ p
-  pub place : ℕ
+  pub at_priority : service.priority ≡ p
+  pub index : ℕ
   pub decl : IrqDecl
-  pub declared : slice_get app.irqs place ≡ Some decl
+  pub declared : slice_get app.irqs index ≡ Some decl
   pub numbered : decl.number ≡ irq
 
 module _ (app : App) (accepted : IsAccepted app) (sound : IsSound app) (hardware : has_no_software app ≡ true)
@@ -115,7 +115,7 @@ module _ (app : App) (accepted : IsAccepted app) (sound : IsSound app) (hardware
   abbrev passes : ℕ → Task → Bool
   passes p t = is_bound_at p t && (frame_words t.args t.body == need app p)
 
-  -- a level that has a handler has a task
+  -- a priority that has a handler has a task
   some_task : (p : ℕ) → has_handler app p ≡ true → (n : ℕ) × (t : Task) × (slice_get app.tasks n ≡ Some t)
       × (is_bound_at p t ≡ true)
   some_task p has = elim (or_cases (list_any (λ t. t.priority == p) app.tasks) (is_timed_at p app) has) [
@@ -130,7 +130,7 @@ module _ (app : App) (accepted : IsAccepted app) (sound : IsSound app) (hardware
       let one = some_task p has in
       let top = greatest_attained (λ (t : Task). frame_words t.args t.body) (is_bound_at p) app.tasks one.0 one.1 one.2
       one.3 in
-      found (passes p) app.tasks top.place top.item top.at
+      found (passes p) app.tasks top.index top.item top.at
       (and_both _ _ top.passes (eq-eqb _ (need app p) (top.is ∙ sym (need_is p))))
 
   pub deepest_at : (p : ℕ) → has_handler app p ≡ true → (irq : ℕ) × IsDeepestAt app p irq
@@ -141,21 +141,21 @@ module _ (app : App) (accepted : IsAccepted app) (sound : IsSound app) (hardware
 
       by : (t : Task) → deepest_task app p ≡ Some t → (irq : ℕ) × IsDeepestAt app p irq
       by t is =
-          let place = found_at (passes p) app.tasks t is in
+          let index = found_at (passes p) app.tasks t is in
           let tests = and_parts (is_bound_at p t) (frame_words t.args t.body == need app p)
           (found_passes (passes p) app.tasks t is) in
-          let bound = bound_of t.binds (binds_some place.0 t place.1) in
+          let bound = bound_of t.binds (binds_some index.0 t index.1) in
           let level_is : t.priority ≡ p = eqb-true t.priority p
           (and_parts (not (is_software t)) (t.priority == p) tests.0).1 in
-          let s : Service = record { irq = bound.0; handler = Runs place.0; level = t.priority } in
-          let same : 0 + place.0 ≡ place.0 = omega arith in
+          let s : Service = record { irq = bound.0; handler = Runs index.0; priority = t.priority } in
+          let same : 0 + index.0 ≡ index.0 = omega arith in
           let in_services : IsIn (services app) s =
           contains_at (services app) s (contains_front (task_services 0 app.tasks) _ s
           (subst (λ j. Contains (task_services 0 app.tasks)
-          (record { irq = bound.0; handler = Runs j; level = t.priority })) same
-          (task_served 0 place.0 bound.0 app.tasks t place.1 bound.1))) in
+          (record { irq = bound.0; handler = Runs j; priority = t.priority })) same
+          (task_served 0 index.0 bound.0 app.tasks t index.1 bound.1))) in
           let within : bound.0 < length app.irqs =
-          (all_at (λ (v : Service). (v.irq < length app.irqs) × (1 ≤ v.level) × (v.level ≤ 2 ^ app.bits)) (services app)
+          (all_at (λ (v : Service). (v.irq < length app.irqs) × (1 ≤ v.priority) × (v.priority ≤ 2 ^ app.bits)) (services app)
           in_services.0 s sound.served in_services.1).0 in
           let row = there_is app.irqs bound.0 within in
           let number_is : irq_number app bound.0 ≡ Some row.0.number =
@@ -169,15 +169,15 @@ module _ (app : App) (accepted : IsAccepted app) (sound : IsSound app) (hardware
             record {
               is =
                   ap (λ o. then_from o (bound_number app)) is ∙ ap (λ o. then_from o (irq_number app)) bound.1 ∙ number_is;
-              number = place.0;
+              number = index.0;
               task = t;
-              there = place.1;
+              there = index.1;
               frame = eqb-true (frame_words t.args t.body) (need app p) tests.1;
               service = service.0;
               served = service.1;
               runs = ap (λ (v : Service). v.handler) only;
-              at_level = ap (λ (v : Service). v.level) only ∙ level_is;
-              place = bound.0;
+              at_priority = ap (λ (v : Service). v.priority) only ∙ level_is;
+              index = bound.0;
               decl = row.0;
               declared = row.1;
               numbered = refl;

@@ -1,4 +1,4 @@
--- The script that goes deepest: handlers nest, one of each level, the lowest first (Baker, Stack-Based Scheduling of
+-- The script that goes deepest: handlers nest, one of each priority, the lowest first (Baker, Stack-Based Scheduling of
 -- Realtime Processes, 1991, on sharing a stack). It is told by which interrupts are requested and by what the core does
 -- at each; the code runs a core as far as the first exception entry alone. The script is this project's own.
 use Rattle.std.specs.Prelude.{◌≡◌, ℕ, suc, ◌<◌, List, [], ◌∷◌, ◌++◌, flat_map, replicate, Option}
@@ -12,27 +12,27 @@ use Rattle.rt_script.specs.declared.line.Line.{Line}
 use Rattle.rt_script.specs.declared.line.Line.TheVariants.{Steps, Pends}
 use Rattle.rt_trace.specs.declared.item.What.{What}
 use Rattle.rt_reach.specs.Take.{IsTake}
-use Rattle.rt_reach.specs.Levels.{deepest_irqs}
+use Rattle.rt_reach.specs.Priorities.{deepest_irqs}
 
 -- an interrupt is requested, and so many core steps follow
-abbrev pub level_lines : ℕ → ℕ → List Line
-level_lines steps irq = Pends irq 1 ∷ Steps steps ∷ []
+abbrev pub priority_lines : ℕ → ℕ → List Line
+priority_lines steps irq = Pends irq 1 ∷ Steps steps ∷ []
 
 -- the script of these interrupts in order: so many core steps behind the first, and one behind each other
 abbrev pub script_of : ℕ → List ℕ → List Line
 script_of steps [] = []
-script_of steps (irq ∷ irqs) = level_lines steps irq ++ flat_map (level_lines 1) irqs
+script_of steps (irq ∷ irqs) = priority_lines steps irq ++ flat_map (priority_lines 1) irqs
 
 -- what the next core step shows where the interrupt is requested at reset and so many core steps are done
-abbrev pub shown_behind : Image → ℕ → ℕ → Option What
-shown_behind img irq done = (step img (core_after img (reset img) (Arrive irq ∷ replicate done Step))).1
+abbrev pub item_behind : Image → ℕ → ℕ → Option What
+item_behind img irq done = (step img (core_after img (reset img) (Arrive irq ∷ replicate done Step))).1
 
 -- where the interrupt is requested at reset, the core step of this number, from 1, is the first exception entry
 pub record IsFirstTake (img : Image) (irq steps : ℕ) : Type 0 where
   pub done : ℕ
   pub number : steps ≡ suc done
-  pub takes : IsTake (shown_behind img irq done)
-  pub none : (k : ℕ) → k < done → ¬ IsTake (shown_behind img irq k)
+  pub takes : IsTake (item_behind img irq done)
+  pub none : (k : ℕ) → k < done → ¬ IsTake (item_behind img irq k)
 
 -- so many core steps behind the first request, the last of them is the first exception entry
 abbrev pub LeadsToTake : Image → ℕ → List ℕ → Type 0

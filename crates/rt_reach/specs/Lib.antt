@@ -1,5 +1,5 @@
 pub mod Take
-pub mod Levels
+pub mod Priorities
 pub mod Deepest
 pub mod Spelled
 pub mod Inside

@@ -12,7 +12,7 @@ use Rattle.rt_script.specs.Text.{IsScriptText}
 use Rattle.rt_script.specs.declared.line.Line.{Line}
 use Rattle.rt_sim.specs.Good.{Good}
 use Rattle.rt_reach.specs.Deepest.{IsDeepest}
-use Rattle.rt_reach.specs.Levels.{deepest_irqs}
+use Rattle.rt_reach.specs.Priorities.{deepest_irqs}
 use Rattle.rt_reach.specs.Spelled.{script_text}
 
 -- the stack bytes in use are within the bound at every moment, and as many as the bound at one

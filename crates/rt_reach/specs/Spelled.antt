@@ -13,14 +13,14 @@ abbrev pub step_line : ℕ → List ℕ
 step_line steps = codes "step " ++ decimal steps
 
 -- a line with its end
-abbrev pub ended : List ℕ → List ℕ
-ended line = line ++ 10 ∷ []
+abbrev pub line_with_feed : List ℕ → List ℕ
+line_with_feed line = line ++ 10 ∷ []
 
--- the two lines of a level: a request, and the core steps behind it
-abbrev pub level_text : Names → ℕ → ℕ → List ℕ
-level_text names steps irq = ended (pend_line names irq) ++ ended (step_line steps)
+-- the two lines of a priority: a request, and the core steps behind it
+abbrev pub priority_text : Names → ℕ → ℕ → List ℕ
+priority_text names steps irq = line_with_feed (pend_line names irq) ++ line_with_feed (step_line steps)
 
 -- the text of the script of these interrupts in order, with so many core steps behind the first
 abbrev pub script_text : Names → ℕ → List ℕ → List ℕ
 script_text names steps [] = []
-script_text names steps (irq ∷ irqs) = level_text names steps irq ++ flat_map (level_text names 1) irqs
+script_text names steps (irq ∷ irqs) = priority_text names steps irq ++ flat_map (priority_text names 1) irqs

@@ -1,7 +1,7 @@
 // The script that goes deepest: on it the stack reaches the printed bound.
 #![tactic(auto)]
 
-mod levels;
+mod priorities;
 mod script;
 mod take;
 mod text;

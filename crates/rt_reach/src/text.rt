@@ -13,7 +13,7 @@ fn irq_name(names: &Names, irq: Irq) -> &[u8]
 
 /// Appends the line that requests an interrupt.
 fn push_pend(text: &mut Vec<u8>, names: &Names, irq: Irq) -> Result<(), NoMemory>
-    ensures { OnOk result (text.new.items ≡ text.old.items ++ spec.ended (spec.pend_line names.now irq)) }
+    ensures { OnOk result (text.new.items ≡ text.old.items ++ spec.line_with_feed (spec.pend_line names.now irq)) }
 {
     push_bytes(text, b"pend ")?;
     push_bytes(text, irq_name(names, irq))?;
@@ -22,33 +22,33 @@ fn push_pend(text: &mut Vec<u8>, names: &Names, irq: Irq) -> Result<(), NoMemory
 
 /// Appends the line of so many core steps.
 fn push_steps(text: &mut Vec<u8>, steps: u32) -> Result<(), NoMemory>
-    ensures { OnOk result (text.new.items ≡ text.old.items ++ spec.ended (spec.step_line steps)) }
+    ensures { OnOk result (text.new.items ≡ text.old.items ++ spec.line_with_feed (spec.step_line steps)) }
 {
     push_bytes(text, b"step ")?;
     push_number(text, steps)?;
     push_bytes(text, b"\n")
 }
 
-/// Appends the two lines of a level: an interrupt is requested, and so many core steps follow.
-fn push_level(text: &mut Vec<u8>, names: &Names, steps: u32, irq: Irq) -> Result<(), NoMemory>
-    ensures { OnOk result (text.new.items ≡ text.old.items ++ spec.level_text names.now steps irq) }
+/// Appends the two lines of a priority: an interrupt is requested, and so many core steps follow.
+fn push_priority(text: &mut Vec<u8>, names: &Names, steps: u32, irq: Irq) -> Result<(), NoMemory>
+    ensures { OnOk result (text.new.items ≡ text.old.items ++ spec.priority_text names.now steps irq) }
 {
     push_pend(text, names, irq)?;
     push_steps(text, steps)
 }
 
-/// Appends the lines of the levels above the first, each with one core step.
+/// Appends the lines of the priorities above the first, each with one core step.
 fn push_others(text: &mut Vec<u8>, names: &Names, irqs: &[Irq]) -> Result<(), NoMemory>
     ensures { OnOk result
-        (text.new.items ≡ text.old.items ++ flat_map (spec.level_text names.now 1) irqs.now) }
+        (text.new.items ≡ text.old.items ++ flat_map (spec.priority_text names.now 1) irqs.now) }
 {
     for irq in irqs {
-        push_level(text, names, 1, *irq)?;
+        push_priority(text, names, 1, *irq)?;
     }
     Ok(())
 }
 
-/// Appends the lines of all levels, with so many core steps behind the first request.
+/// Appends the lines of all priorities, with so many core steps behind the first request.
 pub(crate) fn push_script(
     text: &mut Vec<u8>,
     names: &Names,
@@ -57,8 +57,8 @@ pub(crate) fn push_script(
     others: &[Irq],
 ) -> Result<(), NoMemory>
     ensures { OnOk result (text.new.items ≡ text.old.items
-        ++ (spec.level_text names.now steps first ++ flat_map (spec.level_text names.now 1) others.now)) }
+        ++ (spec.priority_text names.now steps first ++ flat_map (spec.priority_text names.now 1) others.now)) }
 {
-    push_level(text, names, steps, first)?;
+    push_priority(text, names, steps, first)?;
     push_others(text, names, others)
 }

@@ -57,9 +57,9 @@ abbrev pub body_lines : List Task → BodyBound → List ℕ
 body_lines tasks b =
     line (codes "frame") (body_name tasks b.body) b.frame ++ line (codes "cost") (body_name tasks b.body) b.cost
 
--- the waiting bound of a level
+-- the waiting bound of a priority
 abbrev pub wait_line : Wait → List ℕ
-wait_line w = line (codes "wait") (decimal w.level) w.steps
+wait_line w = line (codes "wait") (decimal w.priority) w.steps
 
 -- the stack bound
 abbrev pub stack_line : ℕ → List ℕ

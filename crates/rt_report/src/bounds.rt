@@ -46,7 +46,7 @@ fn push_waits(out: &mut Vec<u8>, waits: &[Wait]) -> Result<(), NoMemory>
     ensures { OnOk result (out.new.items ≡ out.old.items ++ flat_map wait_line waits.now) }
 {
     for wait in waits {
-        push_numbered(out, b"wait", b"", wait.level, wait.steps)?;
+        push_numbered(out, b"wait", b"", wait.priority, wait.steps)?;
     }
     Ok(())
 }

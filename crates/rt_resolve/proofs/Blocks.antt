@@ -12,10 +12,10 @@ use Rattle.rt_app.specs.declared.violation.Violation.{Violation}
 use Rattle.rt_app.specs.Tree.{Block, Empty, Then}
 use Rattle.rt_app.specs.View.{statement_of, block_of}
 use Rattle.rt_app.specs.declared.stmt.Stmt.{Stmt}
-use Rattle.rt_resolve.specs.Scope.{Names, Scope, Variable, is_variable, declared}
+use Rattle.rt_resolve.specs.Scope.{Names, Scope, Variable, is_variable, scope_with_variable}
 use Rattle.rt_resolve.specs.Resolving.{statement, block, behind, binders_in, binders}
 use Rattle.rt_resolve.specs.Misnamed.{statement_faults, block_faults}
-use Rattle.rt_resolve.specs.Inside.Bindings.{left}
+use Rattle.rt_resolve.specs.Inside.Bindings.{scope_behind_block}
 
 -- the statements of a block and behind them those of another
 abbrev pub followed : Block → Block → Block
@@ -30,7 +30,7 @@ pushed_followed : (xs : List Stmt) (s : Stmt) (b : Block) → followed (block_of
 pushed_followed [] s b = refl
 pushed_followed (x ∷ xs) s b = ap (Then (statement_of x)) (pushed_followed xs s b)
 
--- the statement at a place, and those behind it
+-- the statement at an index, and those behind it
 pub statement_and_rest : (stmts : List source_stmt.Stmt) (i : ℕ) (s : source_stmt.Stmt) → i < length stmts → s ≡ get_or stmts i s
     → source.block_of (drop i stmts) ≡ written.Then (source.statement_of s) (source.block_of (drop (i + 1) stmts))
 statement_and_rest stmts i s h is = ap source.block_of (drop_as_cons stmts i s h is)
@@ -99,7 +99,7 @@ declared_if : (t : Bool) (s : Scope) (name : List ℕ) (n : ℕ)
 declared_if true s name n = refl
 declared_if false s name n = let e : s.here + 1 ≡ suc s.here = omega arith in rw e refl
 
-pub declared_outside : (s : Scope) (name : List ℕ) (n : ℕ) → outside (declared s name n) ≡ outside s
+pub declared_outside : (s : Scope) (name : List ℕ) (n : ℕ) → outside (scope_with_variable s name n) ≡ outside s
 declared_outside s name n = declared_if (list_any (is_variable name) (take s.here s.variables)) s name n
 
 pub outside_kept : (names : Names) (n : ℕ) (s : written.Statement) → outside (behind names n s).scope ≡ outside names.scope
@@ -113,16 +113,16 @@ outside_kept names n (Pend i) = refl
 outside_kept names n (Spawns s) = refl
 
 -- behind a block the scope is the one before it
-pub left_back : (s before : Scope) (outer : ℕ) → outside s ≡ before.variables → outer ≡ length before.variables - before.here → before.here ≤ length before.variables → left s outer ≡ before
+pub left_back : (s before : Scope) (outer : ℕ) → outside s ≡ before.variables → outer ≡ length before.variables - before.here → before.here ≤ length before.variables → scope_behind_block s outer ≡ before
 left_back s before outer e o h =
     let here : length before.variables - outer ≡ before.here = omega arith in
     ap (λ (vs : List Variable). let t : Scope = record { variables = vs; here = length vs - outer } in t) e ∙ ap (λ n. let t : Scope = record { variables = before.variables; here = n } in t) here
 
-pub names_back : (now before : Names) (outer : ℕ) → now.app ≡ before.app → now.local ≡ before.local → left now.scope outer ≡ before.scope
-    → let after : Names = record { app = now.app; local = now.local; scope = left now.scope outer } in after ≡ before
+pub names_back : (now before : Names) (outer : ℕ) → now.app ≡ before.app → now.local ≡ before.local → scope_behind_block now.scope outer ≡ before.scope
+    → let after : Names = record { app = now.app; local = now.local; scope = scope_behind_block now.scope outer } in after ≡ before
 names_back now before outer a l s =
-    ap (λ x. let t : Names = record { app = x; local = now.local; scope = left now.scope outer } in t) a
-    ∙ ap (λ x. let t : Names = record { app = before.app; local = x; scope = left now.scope outer } in t) l
+    ap (λ x. let t : Names = record { app = x; local = now.local; scope = scope_behind_block now.scope outer } in t) a
+    ∙ ap (λ x. let t : Names = record { app = before.app; local = x; scope = scope_behind_block now.scope outer } in t) l
     ∙ ap (λ x. let t : Names = record { app = before.app; local = before.local; scope = x } in t) s
 
 pub left_requires : (s before : Scope) (outer : ℕ) → outside s ≡ before.variables → outer ≡ length before.variables - before.here → outer ≤ length s.variables - s.here

@@ -11,7 +11,7 @@ use Rattle.rt_ast.specs.Tree.{Body, Task, App}
 use Rattle.rt_ast.specs.Printable.{IfThere, IsPrintableBody, IsPrintableInit, IsPrintableCapacity, IsPrintableTask, IsPrintableIrq, IsPrintableResource, IsPrintableLocal, IsPrintable}
 use Rattle.rt_app.specs.Limits.{KeepsBodyLimits, KeepsThreadLimits, KeepsTaskLimits, KeepsLimits}
 use Rattle.rt_resolve.specs.Scope.{inside}
-use Rattle.rt_resolve.specs.Resolved.{irq, shared, local, with_arguments, body_names, body, capacity_or_one, task, resolved}
+use Rattle.rt_resolve.specs.Resolved.{irq, resolved_shared, local, with_arguments, body_names, body, capacity_or_one, task, resolved_app}
 use Rattle.rt_resolve.proofs.KeptBody.{statements_are, blocks_are, block_shallow}
 use Rattle.rt_resolve.proofs.KeptNumbers.{block_fits}
 
@@ -52,7 +52,7 @@ irqs_kept : (irqs : List IrqTree) → AllByRecursion IsPrintableIrq irqs → All
 irqs_kept [] p = tt
 irqs_kept (d ∷ irqs) p = (p.0.1, irqs_kept irqs p.1)
 
-shared_kept : (rs : List SharedTree) → AllByRecursion IsPrintableResource rs → AllByRecursion (λ r. r.first < 2 ^ 32) (map shared rs)
+shared_kept : (rs : List SharedTree) → AllByRecursion IsPrintableResource rs → AllByRecursion (λ r. r.first < 2 ^ 32) (map resolved_shared rs)
 shared_kept [] p = tt
 shared_kept (r ∷ rs) p = (p.0.1, shared_kept rs p.1)
 
@@ -60,13 +60,13 @@ locals_kept : (rs : List LocalTree) → AllByRecursion IsPrintableLocal rs → A
 locals_kept [] p = tt
 locals_kept (r ∷ rs) p = (p.0.1, locals_kept rs p.1)
 
-pub resolved_kept : (app : App) → IsPrintable app → KeepsLimits (resolved app)
+pub resolved_kept : (app : App) → IsPrintable app → KeepsLimits (resolved_app app)
 resolved_kept app p = record {
   least_bits = p.bits.0;
   most_bits = p.bits.1;
   irqs = rw (length-map app.irqs irq) p.few_irqs;
   irq_numbers = irqs_kept app.irqs p.irqs;
-  shared = rw (length-map app.shared shared) p.few_shared;
+  shared = rw (length-map app.shared resolved_shared) p.few_shared;
   locals = rw (length-map app.locals local) p.few_locals;
   shared_values = shared_kept app.shared p.shared;
   local_values = locals_kept app.locals p.locals;

@@ -7,7 +7,7 @@ use Rattle.rt_ast.specs.Tree.{Expression, Num, Read, Oper, Spawn, Soon, After, C
 use Rattle.rt_ast.specs.Tree.{Statement, Bind, Assign, Branch, Repeat, Locked, Emit, Pend, Spawns, Block, Empty, Then}
 use Rattle.rt_app.specs.declared.violation.Violation.{Violation}
 use Rattle.rt_app.specs.Violation.{when}
-use Rattle.rt_resolve.specs.Scope.{Names, irq_named, task_named, shared_named, local_named, is_variable, inside}
+use Rattle.rt_resolve.specs.Scope.{Names, irq_named, task_named, shared_resource_named, local_named, is_variable, inside}
 use Rattle.rt_resolve.specs.Scope.{meaning}
 use Rattle.rt_resolve.specs.Resolving.{binders, binders_in, behind, in_loop}
 
@@ -18,7 +18,7 @@ if_unknown found at = when (is_none found) rule.UnknownName at
 -- whether a variable cannot have this name: a shared or local resource or a variable in scope has it
 abbrev pub is_taken : Names → List ℕ → Bool
 is_taken names name =
-    is_some (shared_named names.app name)
+    is_some (shared_resource_named names.app name)
     || (is_some (local_named names.app name) || list_any (is_variable name) names.scope.variables)
 
 -- a variable whose name is taken
@@ -65,7 +65,7 @@ abbrev mutual
   statement_faults names n (Repeat x first last turn) =
       if_taken names x ++ block_faults (in_loop names x n) (n + 1) turn
   statement_faults names n (Locked r inner) =
-      if_unknown (shared_named names.app r.name) r.at ++ block_faults (inside names) n inner
+      if_unknown (shared_resource_named names.app r.name) r.at ++ block_faults (inside names) n inner
   statement_faults names n (Emit e) = expression_faults names e
   statement_faults names n (Pend i) = if_unknown (irq_named names.app i.name) i.at
   statement_faults names n (Spawns s) = spawn_faults names s

@@ -8,7 +8,7 @@ use Rattle.rt_ast.specs.Tree.{Body, Task, App}
 use Rattle.rt_app.specs.declared.violation.Violation.{Violation}
 use Rattle.rt_app.specs.Violation.{when}
 use Rattle.rt_app.specs.Declarations.{Used}
-use Rattle.rt_resolve.specs.Scope.{Names, is_named, irq_named, shared_named, local_named, inside, with_variable}
+use Rattle.rt_resolve.specs.Scope.{Names, is_named, irq_named, shared_resource_named, local_named, inside, with_variable}
 use Rattle.rt_resolve.specs.Resolved.{with_arguments, body_names}
 use Rattle.rt_resolve.specs.Misnamed.{if_unknown, if_taken, block_faults}
 use Rattle.std.specs.Prelude.{length}
@@ -33,9 +33,9 @@ listing_of (Some n) at = record { number = n; at = at } ∷ []
 -- the resources that a body lists and that are not declared, or that it lists twice
 abbrev pub listing_faults : App → Body → List Violation
 listing_faults app b =
-    flat_map (λ l. if_unknown (shared_named app l.name.name) l.name.at) b.shared
+    flat_map (λ l. if_unknown (shared_resource_named app l.name.name) l.name.at) b.shared
     ++ (flat_map (λ x. if_unknown (local_named app x.name) x.at) b.local
-    ++ (listed_twice [] (flat_map (λ l. listing_of (shared_named app l.name.name) l.name.at) b.shared)
+    ++ (listed_twice [] (flat_map (λ l. listing_of (shared_resource_named app l.name.name) l.name.at) b.shared)
     ++ listed_twice [] (flat_map (λ x. listing_of (local_named app x.name) x.at) b.local)))
 
 -- arguments, before which so many variables stand

@@ -16,7 +16,7 @@ use Rattle.rt_app.specs.declared.app.Mono.{Mono}
 use Rattle.rt_app.specs.declared.app.Shared.{Shared}
 use Rattle.rt_app.specs.declared.app.Local.{Local}
 use Rattle.rt_app.specs.Tree as tree
-use Rattle.rt_resolve.specs.Scope.{Names, irq_named, shared_named, local_named, or_unknown, inside, with_variable}
+use Rattle.rt_resolve.specs.Scope.{Names, irq_named, shared_resource_named, local_named, or_unknown, inside, with_variable}
 use Rattle.rt_resolve.specs.Resolving.{block}
 
 -- a declared interrupt, with its offsets
@@ -28,33 +28,33 @@ abbrev pub dispatcher : App → Ident → Dispatcher
 dispatcher app x = record { irq = or_unknown (irq_named app x.name); at = x.at }
 
 -- a priority above 255 stands as 255, which no rule takes
-abbrev pub stored : ℕ → ℕ
-stored n = min n 255
+abbrev pub stored_priority : ℕ → ℕ
+stored_priority n = min n 255
 
 -- the monotonic with the number of its interrupt in the order of declaration
 abbrev pub mono : App → MonoTree → Mono
 mono app m = record {
   irq = or_unknown (irq_named app m.binds.name);
-  priority = stored m.priority.value;
+  priority = stored_priority m.priority.value;
   at = m.binds.at;
   priority_at = m.priority.at;
 }
 
 -- a shared resource: its name, its first value, and whether it is `lock_free`
-abbrev pub shared : SharedTree → Shared
-shared r = record { name = r.name.name; first = r.first; lock_free = r.lock_free }
+abbrev pub resolved_shared : SharedTree → Shared
+resolved_shared r = record { name = r.name.name; first = r.first; lock_free = r.lock_free }
 
 -- a local resource: its name and its first value
 abbrev pub local : LocalTree → Local
 local r = record { name = r.name.name; first = r.first }
 
 -- a listing of a shared resource, with the number of the resource
-abbrev pub listed : App → ListedTree → Listed
-listed app l = record { resource = or_unknown (shared_named app l.name.name); by_ref = l.by_ref; at = l.at }
+abbrev pub resolved_listing : App → ListedTree → Listed
+resolved_listing app l = record { resource = or_unknown (shared_resource_named app l.name.name); by_ref = l.by_ref; at = l.at }
 
 -- a listing of a local resource, with the number of the resource
-abbrev pub owned : App → Ident → Owned
-owned app x = record { local = or_unknown (local_named app x.name); at = x.at }
+abbrev pub resolved_local : App → Ident → Owned
+resolved_local app x = record { local = or_unknown (local_named app x.name); at = x.at }
 
 -- arguments, before which so many variables stand
 abbrev pub with_arguments : Names → ℕ → List Ident → Names
@@ -72,8 +72,8 @@ body_block app args b = block (inside (with_arguments (body_names app b) 0 args)
 -- a body that has these arguments, with numbers in place of names
 abbrev pub body : App → List Ident → Body → tree.Body
 body app args b = record {
-  shared = map (listed app) b.shared;
-  local = map (owned app) b.local;
+  shared = map (resolved_listing app) b.shared;
+  local = map (resolved_local app) b.local;
   block = body_block app args b;
   at = b.at;
 }
@@ -81,7 +81,7 @@ body app args b = record {
 -- the priority of a task, which is 1 where none is given, as in RTIC 1
 abbrev pub priority_or_one : Option Number → ℕ
 priority_or_one None = 1
-priority_or_one (Some n) = stored n.value
+priority_or_one (Some n) = stored_priority n.value
 
 -- the offset of a number, and 0 where there is none
 abbrev pub number_at : Option Number → ℕ
@@ -114,14 +114,14 @@ task app t = record {
 }
 
 -- the application that a tree declares, with numbers in place of names
-abbrev pub resolved : App → tree.App
-resolved app = record {
+abbrev pub resolved_app : App → tree.App
+resolved_app app = record {
   bits = app.bits;
   fpu = app.fpu;
   irqs = map irq app.irqs;
   dispatchers = map (dispatcher app) app.dispatchers;
   mono = option_map (mono app) app.mono;
-  shared = map shared app.shared;
+  shared = map resolved_shared app.shared;
   locals = map local app.locals;
   init = option_map (body app []) app.init;
   idle = option_map (body app []) app.idle;

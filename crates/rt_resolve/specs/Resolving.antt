@@ -1,11 +1,11 @@
--- The statements of a body, with numbers in place of names: a variable is its place among the arguments, `let` and
+-- The statements of a body, with numbers in place of names: a variable is its index among the arguments, `let` and
 -- `for` statements of the body in order of the text.
 use Rattle.std.specs.Prelude.{ℕ, ◌+◌, map}
 use Rattle.rt_ast.specs.declared.ident.Ident.{Ident}
 use Rattle.rt_ast.specs.Tree as written
 use Rattle.rt_ast.specs.Tree.{Statement, Bind, Assign, Branch, Repeat, Locked, Emit, Pend, Spawns, Block, Empty, Then}
 use Rattle.rt_app.specs.Tree as tree
-use Rattle.rt_resolve.specs.Scope.{Names, irq_named, task_named, shared_named, or_unknown, inside, with_variable}
+use Rattle.rt_resolve.specs.Scope.{Names, irq_named, task_named, shared_resource_named, or_unknown, inside, with_variable}
 use Rattle.rt_resolve.specs.Scope.{atom_named}
 
 -- an expression with what its names stand for
@@ -74,7 +74,7 @@ abbrev mutual
       tree.Branch (expression names e) (block (inside names) n first) (block (inside names) (n + binders first) second)
   statement names n (Repeat x first last turn) = tree.Repeat n first last (block (in_loop names x n) (n + 1) turn)
   statement names n (Locked r inner) =
-      tree.Locked (or_unknown (shared_named names.app r.name)) (block (inside names) n inner) r.at
+      tree.Locked (or_unknown (shared_resource_named names.app r.name)) (block (inside names) n inner) r.at
   statement names n (Emit e) = tree.Emit (expression names e)
   statement names n (Pend i) = tree.Pend (or_unknown (irq_named names.app i.name))
   statement names n (Spawns s) = tree.Spawns (spawn names s)

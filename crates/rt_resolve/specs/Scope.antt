@@ -1,4 +1,4 @@
--- What names mean: declared things by their place in the order of declaration, and variables by their scopes.
+-- What names mean: declared things by their index in the order of declaration, and variables by their scopes.
 use Rattle.std.specs.Prelude.{ℕ, ◌+◌, Bool, List, ◌∷◌, take, find, position, Option, None, option_map, unwrap_or}
 use Rattle.std.specs.Prelude.{if◌then◌else◌}
 use Rattle.std.specs.List.{list_any}
@@ -23,8 +23,8 @@ abbrev pub task_named : App → List ℕ → Option ℕ
 task_named app name = position (λ t. is_named name t.name) app.tasks
 
 -- the number of a declared shared resource by its name
-abbrev pub shared_named : App → List ℕ → Option ℕ
-shared_named app name = position (λ r. is_named name r.name) app.shared
+abbrev pub shared_resource_named : App → List ℕ → Option ℕ
+shared_resource_named app name = position (λ r. is_named name r.name) app.shared
 
 -- the number of a declared local resource by its name
 abbrev pub local_named : App → List ℕ → Option ℕ
@@ -53,12 +53,12 @@ abbrev pub one_more : Scope → List ℕ → ℕ → Scope
 one_more s name n = record { variables = record { name = name; number = n } ∷ s.variables; here = s.here + 1 }
 
 -- a second variable of a name in one block, which is refused, changes nothing: the name means the first
-abbrev pub declared : Scope → List ℕ → ℕ → Scope
-declared s name n = if list_any (is_variable name) (take s.here s.variables) then s else one_more s name n
+abbrev pub scope_with_variable : Scope → List ℕ → ℕ → Scope
+scope_with_variable s name n = if list_any (is_variable name) (take s.here s.variables) then s else one_more s name n
 
 -- inside a block that begins here
-abbrev pub entered : Scope → Scope
-entered s = record { variables = s.variables; here = 0 }
+abbrev pub scope_in_block : Scope → Scope
+scope_in_block s = record { variables = s.variables; here = 0 }
 
 -- where the names of a body are looked up: the declarations, the local resources that it lists, and its variables
 pub record Names : Type 0 where
@@ -68,26 +68,26 @@ pub record Names : Type 0 where
 
 -- the names inside a block that begins here
 abbrev pub inside : Names → Names
-inside names = record { app = names.app; local = names.local; scope = entered names.scope }
+inside names = record { app = names.app; local = names.local; scope = scope_in_block names.scope }
 
 -- the names with a variable more, of this number
 abbrev pub with_variable : Names → Ident → ℕ → Names
-with_variable names x n = record { app = names.app; local = names.local; scope = declared names.scope x.name n }
+with_variable names x n = record { app = names.app; local = names.local; scope = scope_with_variable names.scope x.name n }
 
 -- the variable in scope that a name means: the one declared last
 abbrev pub variable_named : Names → List ℕ → Option Atom
 variable_named names name = option_map (λ v. atom.Var v.number) (find (is_variable name) names.scope.variables)
 
 -- a local resource, where the body lists it
-abbrev pub owned_named : Names → List ℕ → Option Atom
-owned_named names name =
+abbrev pub owned_local_named : Names → List ℕ → Option Atom
+owned_local_named names name =
     if list_any (is_named name) names.local then option_map atom.Local (local_named names.app name) else None
 
 -- what a name in an expression or an assignment stands for: a variable before a shared resource before a local one
 abbrev pub meaning : Names → List ℕ → Option Atom
 meaning names name =
     option_or (variable_named names name)
-    (option_or (option_map atom.Shared (shared_named names.app name)) (owned_named names name))
+    (option_or (option_map atom.Shared (shared_resource_named names.app name)) (owned_local_named names name))
 
 -- what a name stands for, and an unknown shared resource where it means nothing
 abbrev pub atom_named : Names → List ℕ → Atom

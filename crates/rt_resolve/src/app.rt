@@ -45,7 +45,7 @@ pub(crate) fn resolve_app(
     app: &AppTree,
 ) -> Result<App, NoMemory>
     requires { IsPrintable (written.app_of app.now) }
-    ensures tree { IfOk result (λ a. built.app_of a ≡ meant.resolved (written.app_of app.now)) }
+    ensures tree { IfOk result (λ a. built.app_of a ≡ meant.resolved_app (written.app_of app.now)) }
     ensures faults { OnOk result (faults.new.items ≡
         faults.old.items ++ rules_on.name_violations (written.app_of app.now)) }
 {

@@ -9,8 +9,8 @@ ghost use Rattle.rt_resolve.specs.Misnamed as wrong;
 ghost use Rattle.rt_resolve.specs.Inside.NamesView.{names_of, IsCounted};
 
 use crate::expression::{resolve_atom, resolve_expression, resolve_spawn, resolve_value};
-use crate::faults::{known, push_when};
-use crate::lookup::{irq_named, is_taken, shared_named};
+use crate::faults::{number_or_fault, push_when};
+use crate::lookup::{irq_named, is_taken, shared_resource_named};
 use crate::scope::Names;
 use rt_app::Violation;
 use rt_ast::{Expr, Ident, Stmt, Value};
@@ -94,7 +94,7 @@ fn resolve_pend(
     ensures faults { OnOk result (faults.new.items ≡
         faults.old.items ++ wrong.if_unknown (named.irq_named (names_of names.now).app x.now.name) x.now.at) }
 {
-    let irq = known(faults, irq_named(names.app, x.name.bytes()), x.at)?;
+    let irq = number_or_fault(faults, irq_named(names.app, x.name.bytes()), x.at)?;
     Ok(rt_app::Stmt::Pend(irq))
 }
 
@@ -221,7 +221,11 @@ fn resolve_lock<'a>(
     ensures names { OnOk result (names_of names.new ≡ names_of names.old) }
     ensures next { OnOk result (next.new ≡ next.old + meant.binders (written.block_of inner.now)) }
 {
-    let resource = known(faults, shared_named(names.app, x.name.bytes()), x.at)?;
+    let resource = number_or_fault(
+        faults,
+        shared_resource_named(names.app, x.name.bytes()),
+        x.at,
+    )?;
     let inner = resolve_block(alloc, faults, names, next, inner)?;
     Ok(rt_app::Stmt::lock(ResId(resource), inner, x.at))
 }

@@ -13,7 +13,7 @@ ghost use Rattle.rt_resolve.specs.NameRules as rules_on;
 ghost use Rattle.rt_resolve.specs.Inside.NamesView.{names_of, IsCounted, IsShort};
 
 use crate::block::{push_if_taken, resolve_block};
-use crate::faults::known;
+use crate::faults::number_or_fault;
 use crate::listing::{push_local_twice, push_shared_twice, resolve_local, resolve_shared};
 use crate::lookup::irq_named;
 use crate::scope::Names;
@@ -136,7 +136,7 @@ fn resolve_binds(
     match binds {
         None => Ok(None),
         Some(x) => {
-            let irq = known(faults, irq_named(app, x.name.bytes()), x.at)?;
+            let irq = number_or_fault(faults, irq_named(app, x.name.bytes()), x.at)?;
             Ok(Some(irq))
         }
     }
@@ -163,8 +163,8 @@ fn number_at(number: Option<Number>) -> u32
 }
 
 /// A priority as it is stored: one above 255 as 255.
-pub(crate) fn stored(priority: u32) -> u8
-    ensures { result ≡ meant.stored priority }
+pub(crate) fn stored_priority(priority: u32) -> u8
+    ensures { result ≡ meant.stored_priority priority }
 {
     priority.min(255) as u8
 }
@@ -175,7 +175,7 @@ fn priority_or_one(priority: Option<Number>) -> u8
 {
     match priority {
         None => 1,
-        Some(number) => stored(number.value),
+        Some(number) => stored_priority(number.value),
     }
 }
 

@@ -9,8 +9,8 @@ ghost use Rattle.rt_resolve.specs.Misnamed as wrong;
 ghost use Rattle.rt_resolve.specs.NameRules as rules_on;
 ghost use Rattle.rt_resolve.specs.Inside.NamesView.{IsCounted};
 
-use crate::body::stored;
-use crate::faults::known;
+use crate::body::stored_priority;
+use crate::faults::number_or_fault;
 use crate::lookup::irq_named;
 use rt_app::{Dispatcher, IrqDecl, Local, Mono, Shared, Violation};
 use rt_ast::{AppTree, Ident, IrqTree, LocalTree, MonoTree, SharedTree};
@@ -44,7 +44,7 @@ pub(crate) fn resolve_irqs(alloc: Global, irqs: &[IrqTree]) -> Result<Vec<IrqDec
 
 /// The declared shared resources.
 pub(crate) fn resolve_shared(alloc: Global, shared: &[SharedTree]) -> Result<Vec<Shared>, NoMemory>
-    ensures { IfOk result (λ rs. rs.items ≡ map meant.shared shared.now) }
+    ensures { IfOk result (λ rs. rs.items ≡ map meant.resolved_shared shared.now) }
 {
     let mut resolved = Vec::new(alloc);
     for r in shared {
@@ -86,7 +86,7 @@ pub(crate) fn resolve_dispatchers(
 {
     let mut resolved = Vec::new(alloc);
     for x in dispatchers {
-        let irq = known(faults, irq_named(app, x.name.bytes()), x.at)?;
+        let irq = number_or_fault(faults, irq_named(app, x.name.bytes()), x.at)?;
         resolved.push(Dispatcher { irq, at: x.at })?;
     }
     Ok(resolved)
@@ -106,14 +106,14 @@ pub(crate) fn resolve_mono(
     match mono {
         None => Ok(None),
         Some(mono) => {
-            let irq = known(
+            let irq = number_or_fault(
                 faults,
                 irq_named(app, mono.binds.name.bytes()),
                 mono.binds.at,
             )?;
             Ok(Some(Mono {
                 irq,
-                priority: stored(mono.priority.value),
+                priority: stored_priority(mono.priority.value),
                 at: mono.binds.at,
                 priority_at: mono.priority.at,
             }))

@@ -6,7 +6,7 @@ ghost use Rattle.rt_resolve.specs.Resolving as meant;
 ghost use Rattle.rt_resolve.specs.Misnamed as wrong;
 ghost use Rattle.rt_resolve.specs.Inside.NamesView.{names_of, IsCounted};
 
-use crate::faults::{known, push_when};
+use crate::faults::{number_or_fault, push_when};
 use crate::lookup::{meaning, or_unknown_atom, task_named};
 use crate::scope::Names;
 use rt_app::{Atom, Violation};
@@ -79,14 +79,14 @@ fn resolve_expressions(
     Ok(resolved)
 }
 
-/// The place of a task.
+/// The index of a task.
 fn resolve_task(faults: &mut Vec<Violation>, names: &Names, x: &Ident) -> Result<TaskId, NoMemory>
     requires { IsCounted (names_of names.now).app }
     ensures task { IfOk result (λ t. t ≡ named.or_unknown (named.task_named (names_of names.now).app x.now.name)) }
     ensures faults { OnOk result (faults.new.items ≡
         faults.old.items ++ wrong.if_unknown (named.task_named (names_of names.now).app x.now.name) x.now.at) }
 {
-    let number = known(faults, task_named(names.app, x.name.bytes()), x.at)?;
+    let number = number_or_fault(faults, task_named(names.app, x.name.bytes()), x.at)?;
     Ok(TaskId(number))
 }
 

@@ -23,7 +23,11 @@ pub(crate) fn push_when(
 }
 
 /// The number of what is found under the name at this offset; a fault and 255 where nothing is.
-pub(crate) fn known(faults: &mut Vec<Violation>, found: Option<u8>, at: u32) -> Result<u8, NoMemory>
+pub(crate) fn number_or_fault(
+    faults: &mut Vec<Violation>,
+    found: Option<u8>,
+    at: u32,
+) -> Result<u8, NoMemory>
     ensures number { IfOk result (λ n. n ≡ or_unknown found) }
     ensures faults { OnOk result (faults.new.items ≡ faults.old.items ++ if_unknown found at) }
 {

@@ -6,7 +6,7 @@ ghost use Rattle.rt_ast.specs.View as written;
 ghost use Rattle.rt_ast.specs.Printable.{IsPrintable};
 ghost use Rattle.rt_app.specs.View.{app_of};
 ghost use Rattle.rt_app.specs.Limits.{KeepsLimits};
-ghost use Rattle.rt_resolve.specs.Resolved.{resolved};
+ghost use Rattle.rt_resolve.specs.Resolved.{resolved_app};
 ghost use Rattle.rt_resolve.specs.NameRules.{name_violations};
 
 mod app;
@@ -29,7 +29,7 @@ use std::alloc::Global;
 
 pub fn resolve(alloc: Global, tree: &AppTree) -> Result<Resolved, NoMemory>
     requires { IsPrintable (written.app_of tree.now) }
-    ensures app { IfOk result (λ r. app_of r.app ≡ resolved (written.app_of tree.now)) }
+    ensures app { IfOk result (λ r. app_of r.app ≡ resolved_app (written.app_of tree.now)) }
     ensures faults { IfOk result (λ r. r.faults.items ≡ name_violations (written.app_of tree.now)) }
     ensures limits { IfOk result (λ r. KeepsLimits (app_of r.app)) }
 {

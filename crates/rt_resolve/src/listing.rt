@@ -6,8 +6,8 @@ ghost use Rattle.rt_resolve.specs.Misnamed as wrong;
 ghost use Rattle.rt_resolve.specs.NameRules as rules_on;
 ghost use Rattle.rt_resolve.specs.Inside.NamesView.{IsCounted, use_of};
 
-use crate::faults::{known, push_when};
-use crate::lookup::{local_named, shared_named};
+use crate::faults::{number_or_fault, push_when};
+use crate::lookup::{local_named, shared_resource_named};
 use rt_app::{Listed, Owned, Violation};
 use rt_ast::{AppTree, Ident, ListedTree};
 use rt_ids::{NoMemory, ResId, Rule};
@@ -16,7 +16,7 @@ use std::alloc::Global;
 /// A listing of a resource that is declared.
 #[derive(Clone, Copy)]
 struct Listing {
-    /// The resource, by its place in the order of declaration.
+    /// The resource, by its index in the order of declaration.
     number: u8,
     /// The offset of its name.
     at: u32,
@@ -30,14 +30,18 @@ pub(crate) fn resolve_shared(
     listed: &[ListedTree],
 ) -> Result<Vec<Listed>, NoMemory>
     requires { IsCounted (written.app_of app.now) }
-    ensures listed { IfOk result (λ ls. ls.items ≡ map (meant.listed (written.app_of app.now)) listed.now) }
+    ensures listed { IfOk result (λ ls. ls.items ≡ map (meant.resolved_listing (written.app_of app.now)) listed.now) }
     ensures faults { OnOk result (faults.new.items ≡
         faults.old.items ++ flat_map
-        (λ l. wrong.if_unknown (named.shared_named (written.app_of app.now) l.name.name) l.name.at) listed.now) }
+        (λ l. wrong.if_unknown (named.shared_resource_named (written.app_of app.now) l.name.name) l.name.at) listed.now) }
 {
     let mut resolved = Vec::new(alloc);
     for l in listed {
-        let number = known(faults, shared_named(app, l.name.name.bytes()), l.name.at)?;
+        let number = number_or_fault(
+            faults,
+            shared_resource_named(app, l.name.name.bytes()),
+            l.name.at,
+        )?;
         resolved.push(Listed {
             resource: ResId(number),
             by_ref: l.by_ref,
@@ -55,13 +59,13 @@ pub(crate) fn resolve_local(
     listed: &[Ident],
 ) -> Result<Vec<Owned>, NoMemory>
     requires { IsCounted (written.app_of app.now) }
-    ensures owned { IfOk result (λ xs. xs.items ≡ map (meant.owned (written.app_of app.now)) listed.now) }
+    ensures owned { IfOk result (λ xs. xs.items ≡ map (meant.resolved_local (written.app_of app.now)) listed.now) }
     ensures faults { OnOk result (faults.new.items ≡ faults.old.items
         ++ flat_map (λ x. wrong.if_unknown (named.local_named (written.app_of app.now) x.name) x.at) listed.now) }
 {
     let mut resolved = Vec::new(alloc);
     for x in listed {
-        let number = known(faults, local_named(app, x.name.bytes()), x.at)?;
+        let number = number_or_fault(faults, local_named(app, x.name.bytes()), x.at)?;
         resolved.push(Owned {
             local: number,
             at: x.at,
@@ -90,11 +94,11 @@ fn shared_listings(
     requires { IsCounted (written.app_of app.now) }
     ensures { IfOk result (λ ls. map use_of ls.items ≡
         flat_map
-        (λ l. rules_on.listing_of (named.shared_named (written.app_of app.now) l.name.name) l.name.at) listed.now) }
+        (λ l. rules_on.listing_of (named.shared_resource_named (written.app_of app.now) l.name.name) l.name.at) listed.now) }
 {
     let mut listings = Vec::new(alloc);
     for l in listed {
-        let found = shared_named(app, l.name.name.bytes());
+        let found = shared_resource_named(app, l.name.name.bytes());
         push_listing(&mut listings, found, l.name.at)?;
     }
     Ok(listings)
@@ -138,7 +142,7 @@ pub(crate) fn push_shared_twice(
     ensures { OnOk result (faults.new.items ≡
         faults.old.items
         ++ rules_on.listed_twice [] (flat_map
-        (λ l. rules_on.listing_of (named.shared_named (written.app_of app.now) l.name.name) l.name.at) listed.now)) }
+        (λ l. rules_on.listing_of (named.shared_resource_named (written.app_of app.now) l.name.name) l.name.at) listed.now)) }
 {
     let listings = shared_listings(alloc, app, listed)?;
     push_listed_twice(faults, &listings)

@@ -13,8 +13,8 @@ use rt_app::{Atom, UNKNOWN};
 use rt_ast::{AppTree, Ident, IrqTree, LocalTree, SharedTree, TaskTree};
 use rt_ids::ResId;
 
-/// The place of what is found in its table, which has at most 255 rows.
-fn place(found: Option<usize>) -> Option<u8>
+/// The index of what is found in its table, which has at most 255 rows.
+fn index(found: Option<usize>) -> Option<u8>
     requires { IfSome found (λ n. n ≤ 255) }
     ensures { result ≡ found }
 {
@@ -24,68 +24,68 @@ fn place(found: Option<usize>) -> Option<u8>
     }
 }
 
-/// The place of the first interrupt of this name.
+/// The index of the first interrupt of this name.
 fn irq_position(irqs: &[IrqTree], name: &[u8]) -> Option<usize>
-    ensures place { result ≡ position (λ d. named.is_named name.now d.name) irqs.now }
+    ensures index { result ≡ position (λ d. named.is_named name.now d.name) irqs.now }
     ensures within { IfSome result (λ n. n < length irqs.now) }
 {
     irqs.iter().position(|d| is_named(&d.name, name))
 }
 
-/// The place of the interrupt of this name, where it is declared.
+/// The index of the interrupt of this name, where it is declared.
 pub(crate) fn irq_named(app: &AppTree, name: &[u8]) -> Option<u8>
     requires { IsCounted (app_of app.now) }
     ensures { result ≡ named.irq_named (app_of app.now) name.now }
 {
-    place(irq_position(&app.irqs, name))
+    index(irq_position(&app.irqs, name))
 }
 
-/// The place of the first task of this name.
+/// The index of the first task of this name.
 fn task_position(tasks: &[TaskTree], name: &[u8]) -> Option<usize>
-    ensures place { result ≡ position (λ t. named.is_named name.now t.name) tasks.now }
+    ensures index { result ≡ position (λ t. named.is_named name.now t.name) tasks.now }
     ensures within { IfSome result (λ n. n < length tasks.now) }
 {
     tasks.iter().position(|t| is_named(&t.name, name))
 }
 
-/// The place of the task of this name, where it is declared.
+/// The index of the task of this name, where it is declared.
 pub(crate) fn task_named(app: &AppTree, name: &[u8]) -> Option<u8>
     requires { IsCounted (app_of app.now) }
     ensures { result ≡ named.task_named (app_of app.now) name.now }
 {
-    place(task_position(&app.tasks, name))
+    index(task_position(&app.tasks, name))
 }
 
-/// The place of the first shared resource of this name.
+/// The index of the first shared resource of this name.
 fn shared_position(shared: &[SharedTree], name: &[u8]) -> Option<usize>
-    ensures place { result ≡ position (λ r. named.is_named name.now r.name) shared.now }
+    ensures index { result ≡ position (λ r. named.is_named name.now r.name) shared.now }
     ensures within { IfSome result (λ n. n < length shared.now) }
 {
     shared.iter().position(|r| is_named(&r.name, name))
 }
 
-/// The place of the shared resource of this name, where it is declared.
-pub(crate) fn shared_named(app: &AppTree, name: &[u8]) -> Option<u8>
+/// The index of the shared resource of this name, where it is declared.
+pub(crate) fn shared_resource_named(app: &AppTree, name: &[u8]) -> Option<u8>
     requires { IsCounted (app_of app.now) }
-    ensures { result ≡ named.shared_named (app_of app.now) name.now }
+    ensures { result ≡ named.shared_resource_named (app_of app.now) name.now }
 {
-    place(shared_position(&app.shared, name))
+    index(shared_position(&app.shared, name))
 }
 
-/// The place of the first local resource of this name.
+/// The index of the first local resource of this name.
 fn local_position(locals: &[LocalTree], name: &[u8]) -> Option<usize>
-    ensures place { result ≡ position (λ r. named.is_named name.now r.name) locals.now }
+    ensures index { result ≡ position (λ r. named.is_named name.now r.name) locals.now }
     ensures within { IfSome result (λ n. n < length locals.now) }
 {
     locals.iter().position(|r| is_named(&r.name, name))
 }
 
-/// The place of the local resource of this name, where it is declared.
+/// The index of the local resource of this name, where it is declared.
 pub(crate) fn local_named(app: &AppTree, name: &[u8]) -> Option<u8>
     requires { IsCounted (app_of app.now) }
     ensures { result ≡ named.local_named (app_of app.now) name.now }
 {
-    place(local_position(&app.locals, name))
+    index(local_position(&app.locals, name))
 }
 
 /// The number of what is found, and 255 where nothing is.
@@ -102,8 +102,8 @@ fn is_listed(listed: &[Ident], name: &[u8]) -> bool
     listed.iter().any(|x| is_named(x, name))
 }
 
-/// The place of a local resource of this name, where the body lists it.
-fn owned_named(names: &Names, name: &[u8]) -> Option<u8>
+/// The index of a local resource of this name, where the body lists it.
+fn owned_local_named(names: &Names, name: &[u8]) -> Option<u8>
     requires { IsCounted (names_of names.now).app }
     ensures { result ≡
         (if list_any (named.is_named name.now) names.now.local.now
@@ -120,11 +120,11 @@ fn owned_named(names: &Names, name: &[u8]) -> Option<u8>
 fn resource_named(names: &Names, name: &[u8]) -> Option<Atom>
     requires { IsCounted (names_of names.now).app }
     ensures { let n = names_of names.now in result ≡
-        option_or (option_map atom.Shared (named.shared_named n.app name.now)) (named.owned_named n name.now) }
+        option_or (option_map atom.Shared (named.shared_resource_named n.app name.now)) (named.owned_local_named n name.now) }
 {
-    match shared_named(names.app, name) {
+    match shared_resource_named(names.app, name) {
         Some(shared) => Some(Atom::Shared(ResId(shared))),
-        None => match owned_named(names, name) {
+        None => match owned_local_named(names, name) {
             Some(local) => Some(Atom::Local(local)),
             None => None,
         },
@@ -154,7 +154,7 @@ pub(crate) fn is_taken(names: &Names, name: &[u8]) -> bool
     requires { IsCounted (names_of names.now).app }
     ensures { result ≡ wrong.is_taken (names_of names.now) name.now }
 {
-    shared_named(names.app, name).is_some()
+    shared_resource_named(names.app, name).is_some()
         || local_named(names.app, name).is_some()
         || names.variables.has(name)
 }

@@ -1,18 +1,18 @@
 ghost use Rattle.std.specs.Prelude.{◌≡◌, ◌-◌, ◌+◌, ◌≤◌, ◌<◌, ◌∷◌, [], length, take, drop, find, option_map, OnOk};
 ghost use Rattle.std.specs.List.{list_any};
 ghost use Rattle.rt_resolve.specs.Scope as named;
-ghost use Rattle.rt_resolve.specs.Inside.Bindings.{left, IsKnown, IsRestored};
+ghost use Rattle.rt_resolve.specs.Inside.Bindings.{scope_behind_block, IsKnown, IsRestored};
 
 use rt_ids::NoMemory;
 use std::alloc::Global;
 use std::collections::HashMap;
 use std::marker::Model;
 
-/// What a name means: its number, and its place among the variables in scope.
+/// What a name means: its number, and its index among the variables in scope.
 #[derive(Clone, Copy)]
 pub(crate) struct Meaning {
     number: u16,
-    place: usize,
+    index: usize,
 }
 
 /// A variable in scope.
@@ -96,7 +96,7 @@ impl<'a> Variables<'a> {
         ensures { result ≡ list_any (named.is_variable name.now) (take self.now.here self.now.variables) }
     {
         match self.meanings.get(name) {
-            Some(meaning) => self.outer <= meaning.place,
+            Some(meaning) => self.outer <= meaning.index,
             None => false,
         }
     }
@@ -106,8 +106,8 @@ impl<'a> Variables<'a> {
         ensures { OnOk result (self.new ≡ named.one_more self.old name.now number) }
     {
         self.bindings.reserve(1)?;
-        let place = self.bindings.len();
-        let hidden = self.meanings.insert(name, Meaning { number, place })?;
+        let index = self.bindings.len();
+        let hidden = self.meanings.insert(name, Meaning { number, index })?;
         self.bindings.push(Binding {
             name,
             number,
@@ -118,7 +118,7 @@ impl<'a> Variables<'a> {
 
     /// Declares a variable in the innermost block. A second one of a name there changes nothing.
     pub(crate) fn declare(&mut self, name: &'a [u8], number: u16) -> Result<(), NoMemory>
-        ensures { OnOk result (self.new ≡ named.declared self.old name.now number) }
+        ensures { OnOk result (self.new ≡ named.scope_with_variable self.old name.now number) }
     {
         if self.has_here(name) {
             return Ok(());
@@ -130,7 +130,7 @@ impl<'a> Variables<'a> {
     pub(crate) fn enter(&mut self) -> usize
         ensures outer { result ≡ length self.old.variables - self.old.here }
         ensures within { self.old.here ≤ length self.old.variables }
-        ensures entered { self.new ≡ named.entered self.old }
+        ensures entered { self.new ≡ named.scope_in_block self.old }
     {
         let outer = self.outer;
         self.outer = self.bindings.len();
@@ -150,7 +150,7 @@ impl<'a> Variables<'a> {
     /// Ends a block: its variables go, and so many stand before the block outside.
     pub(crate) fn leave(&mut self, outer: usize)
         requires { outer ≤ length self.old.variables - self.old.here }
-        ensures { self.new ≡ left self.old outer }
+        ensures { self.new ≡ scope_behind_block self.old outer }
     {
         let count = self.bindings.len() - self.outer;
         for _i in 0..count {

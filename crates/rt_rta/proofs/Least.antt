@@ -14,13 +14,13 @@ use Rattle.rt_app.specs.declared.bounds.Wait.{Wait}
 use Rattle.rt_app.specs.declared.app.Task as code
 use Rattle.rt_app.specs.Tree.{Task, App}
 use Rattle.rt_app.specs.View.{task_of}
-use Rattle.rt_app.specs.Stack.{handler_levels}
+use Rattle.rt_app.specs.Stack.{handler_priorities}
 use Rattle.rt_app.specs.Waiting.{waiting_bound}
 use Rattle.rt_rta.specs.declared.limits.Limit.{Limit}
 use Rattle.rt_rta.specs.declared.load.Load.{Load}
 use Rattle.rt_rta.specs.declared.response.ResponseTime.{ResponseTime}
 use Rattle.rt_rta.specs.Limits.{number_of, every_of, AreLimits}
-use Rattle.rt_rta.specs.Response.{begun_in, requests, handling, task_demand, demand, Suffices, IsResponse, AreResponseTimes}
+use Rattle.rt_rta.specs.Response.{most_requests, requests, handling_steps, task_demand, demand, Suffices, IsResponse, AreResponseTimes}
 use Rattle.rt_rta.specs.Inside.Loads.{load_of, task_loads, loads, load_demand, loads_demand}
 use Rattle.rt_rta.proofs.Responding.{positive_row}
 use Rattle.rt_rta.specs.Inside.Least.{IsSmall, IsEnough, IsLeast, IsTimeOf, AreTimesOf}
@@ -34,17 +34,17 @@ all_item P [] i x all within is = absurd (omega arith)
 all_item P (y ∷ xs) zero x all within is = subst P (sym is) all.0
 all_item P (y ∷ xs) (suc i) x all within is = all_item P xs i x all.1 (omega arith) is
 
-begun_more : (steps more every : ℕ) → 1 ≤ every → steps ≤ more → begun_in steps every ≤ begun_in more every
+begun_more : (steps more every : ℕ) → 1 ≤ every → steps ≤ more → most_requests steps every ≤ most_requests more every
 begun_more steps more every some less =
     let below = div-mul-le_self (steps + (every - 1)) every in
-    le-div (begun_in steps every) (more + (every - 1)) every some (omega (arith, below, less))
+    le-div (most_requests steps every) (more + (every - 1)) every some (omega (arith, below, less))
 
 -- more steps ask for no less
 load_more : (p steps more : ℕ) (load : Load) → IsSmall load → steps ≤ more → load_demand p steps load ≤ load_demand p more load
-load_more p steps more load small less = by (nat_le p load.level) (mul-le-mul_right load.steps (begun_more steps more load.every small.positive less))
+load_more p steps more load small less = by (nat_le p load.priority) (mul-le-mul_right load.steps (begun_more steps more load.every small.positive less))
   where
-    by : (b : Bool) → begun_in steps load.every * load.steps ≤ begun_in more load.every * load.steps
-        → (if b then begun_in steps load.every * load.steps else 0) ≤ (if b then begun_in more load.every * load.steps else 0)
+    by : (b : Bool) → most_requests steps load.every * load.steps ≤ most_requests more load.every * load.steps
+        → (if b then most_requests steps load.every * load.steps else 0) ≤ (if b then most_requests more load.every * load.steps else 0)
     by true h = h
     by false h = omega arith
 
@@ -122,14 +122,14 @@ module _ (app : App) (limits : List Limit) (p steps : ℕ) where
   one_demand : (t : Task) → loads_demand p steps (task_loads app limits t) ≡ task_demand app limits p steps t
   one_demand t = of (then_from (number_of app t) (every_of limits))
     where
-      none : (b : Bool) → 0 ≡ (if b then 0 * handling app t else 0)
+      none : (b : Bool) → 0 ≡ (if b then 0 * handling_steps app t else 0)
       none true = omega arith
       none false = refl
 
-      of : (o : Option ℕ) → loads_demand p steps (load_of app t o) ≡ (if nat_le p t.priority then requests o steps * handling app t else 0)
+      of : (o : Option ℕ) → loads_demand p steps (load_of app t o) ≡ (if nat_le p t.priority then requests o steps * handling_steps app t else 0)
       of None = none (nat_le p t.priority)
       of (Some every) =
-          let one = sum_by-cons (load_demand p steps) (record { level = t.priority; every = every; steps = handling app t }) [] in
+          let one = sum_by-cons (load_demand p steps) (record { priority = t.priority; every = every; steps = handling_steps app t }) [] in
           omega (arith, one)
 
   tasks_demand : (ts : List Task) → loads_demand p steps (flat_map (task_loads app limits) ts) ≡ sum_by (task_demand app limits p steps) ts
@@ -143,7 +143,7 @@ module _ (app : App) (limits : List Limit) (p steps : ℕ) where
 
 module _ (app : App) (limits : List Limit) where
   abbrev wait_of : ℕ → Wait
-  wait_of p = record { level = p; steps = waiting_bound app p }
+  wait_of p = record { priority = p; steps = waiting_bound app p }
 
   abbrev all : List Load
   all = loads app limits
@@ -158,23 +158,23 @@ module _ (app : App) (limits : List Limit) where
   is_response p None none = λ steps within h. none steps within (enough p steps h)
   is_response p (Some least) is = (suffices p least is.0, is.1, λ steps h. is.2 steps (enough p steps h))
 
-  rows_levels : (ps : List ℕ) (rows : List ResponseTime) → AreTimesOf all (map wait_of ps) rows → map (λ row. row.level) rows ≡ ps
-  rows_levels [] [] is = refl
-  rows_levels [] (row ∷ rows) is = absurd is
-  rows_levels (p ∷ ps) [] is = absurd is
-  rows_levels (p ∷ ps) (row ∷ rows) is = ap (λ q. q ∷ map (λ row. row.level) rows) is.0.level ∙ ap (λ qs. p ∷ qs) (rows_levels ps rows is.1)
+  rows_priorities : (ps : List ℕ) (rows : List ResponseTime) → AreTimesOf all (map wait_of ps) rows → map (λ row. row.priority) rows ≡ ps
+  rows_priorities [] [] is = refl
+  rows_priorities [] (row ∷ rows) is = absurd is
+  rows_priorities (p ∷ ps) [] is = absurd is
+  rows_priorities (p ∷ ps) (row ∷ rows) is = ap (λ q. q ∷ map (λ row. row.priority) rows) is.0.priority ∙ ap (λ qs. p ∷ qs) (rows_priorities ps rows is.1)
 
   rows_each : (ps : List ℕ) (rows : List ResponseTime) → AreTimesOf all (map wait_of ps) rows
-      → AllByRecursion (λ row. IsResponse app limits row.level row.steps) rows
+      → AllByRecursion (λ row. IsResponse app limits row.priority row.steps) rows
   rows_each [] [] is = tt
   rows_each [] (row ∷ rows) is = absurd is
   rows_each (p ∷ ps) [] is = absurd is
   rows_each (p ∷ ps) (row ∷ rows) is =
-      (subst (λ q. IsResponse app limits q row.steps) (sym is.0.level) (is_response p row.steps is.0.least), rows_each ps rows is.1)
+      (subst (λ q. IsResponse app limits q row.steps) (sym is.0.priority) (is_response p row.steps is.0.least), rows_each ps rows is.1)
 
   -- the rows that were found are the response times
-  pub are_responses : (found : List Load) (waits : List Wait) (rows : List ResponseTime) → found ≡ all → waits ≡ map wait_of (handler_levels app)
+  pub are_responses : (found : List Load) (waits : List Wait) (rows : List ResponseTime) → found ≡ all → waits ≡ map wait_of (handler_priorities app)
       → AreTimesOf found waits rows → AreResponseTimes app limits rows
   are_responses found waits rows of_all of_waits is =
       let whole = subst (λ ws. AreTimesOf all ws rows) of_waits (subst (λ ls. AreTimesOf ls waits rows) of_all is) in
-      record { levels = rows_levels (handler_levels app) rows whole; each = rows_each (handler_levels app) rows whole }
+      record { priorities = rows_priorities (handler_priorities app) rows whole; each = rows_each (handler_priorities app) rows whole }

@@ -1,4 +1,4 @@
--- The core steps that are owed to a level: what its started jobs and the higher ones have left, and the whole handling
+-- The core steps that are owed to a priority: what its started jobs and the higher ones have left, and the whole handling
 -- of each of their interrupts that is pending.
 use Rattle.std.proofs.Common.{◌≡◌, ℕ, zero, suc, ◌+◌, ◌*◌, ◌≤◌, ◌<◌, ◌==◌, ◌≢◌, ◌⊎◌, inl, inr, Bool, true, false, nat_le, if◌then◌else◌, List, [], ◌∷◌, get_or, slice_get, slice_set, slice_index_or, Option, Some, None, refl, sym, ap, subst, ◌∙◌, arith, eq-eqb}
 use Rattle.std.specs.Prelude.{sum_by}
@@ -12,20 +12,20 @@ use Rattle.rt_lemmas.proofs.Bools.{true_and_false}
 use Rattle.rt_ids.specs.Lists.{then_from}
 use Rattle.rt_app.specs.Tree.{Task, App}
 use Rattle.rt_laws.specs.State.{Job, State}
-use Rattle.rt_laws.specs.Level.{level}
+use Rattle.rt_laws.specs.Preemption.{system_ceiling}
 use Rattle.rt_rta.specs.declared.limits.Limit.{Limit}
 use Rattle.rt_rta.specs.Limits.{number_of, every_of}
-use Rattle.rt_rta.specs.Response.{requests, handling, task_demand, demand}
+use Rattle.rt_rta.specs.Response.{requests, handling_steps, task_demand, demand}
 
--- as many as this, where the priority is at least the level
-abbrev pub at_level : ℕ → ℕ → ℕ → ℕ
-at_level p q n = if nat_le p q then n else 0
+-- as many as this, where the priority is at least the priority
+abbrev pub at_priority : ℕ → ℕ → ℕ → ℕ
+at_priority p q n = if nat_le p q then n else 0
 
-pub at_level_is : (p q n : ℕ) → p ≤ q → at_level p q n ≡ n
-at_level_is p q n over = ap (λ b. if b then n else 0) (le-leb p q over)
+pub at_priority_is : (p q n : ℕ) → p ≤ q → at_priority p q n ≡ n
+at_priority_is p q n over = ap (λ b. if b then n else 0) (le-leb p q over)
 
-pub not_at_level : (p q n : ℕ) → q < p → at_level p q n ≡ 0
-not_at_level p q n under = by (nat_le p q) refl
+pub not_at_priority : (p q n : ℕ) → q < p → at_priority p q n ≡ 0
+not_at_priority p q n under = by (nat_le p q) refl
   where
     by : (b : Bool) → nat_le p q ≡ b → (if b then n else 0) ≡ 0
     by true test = (let over = leb-true p q test in absurd (omega arith))
@@ -114,17 +114,17 @@ still_none : (test : Bool) (a : ℕ) → a ≡ 0 → (if test then a else 0) ≡
 still_none true a h = h
 still_none false a h = refl
 
--- of tasks, to a level
+-- of tasks, to a priority
 module _ (app : App) (p : ℕ) where
   abbrev pub owed_to : List Bool → Task → ℕ
-  owed_to pending t = at_level p t.priority (asked pending (number_of app t) (handling app t))
+  owed_to pending t = at_priority p t.priority (asked pending (number_of app t) (handling_steps app t))
 
   abbrev pub owed_pending : List Bool → List Task → ℕ
   owed_pending pending [] = 0
   owed_pending pending (t ∷ ts) = owed_to pending t + owed_pending pending ts
 
   abbrev pub raised_by : Counts → Task → ℕ
-  raised_by counts t = at_level p t.priority (counted counts (number_of app t) * handling app t)
+  raised_by counts t = at_priority p t.priority (counted counts (number_of app t) * handling_steps app t)
 
   abbrev pub raised : Counts → List Task → ℕ
   raised counts [] = 0
@@ -132,7 +132,7 @@ module _ (app : App) (p : ℕ) where
 
   abbrev pub owed_jobs : List Job → ℕ
   owed_jobs [] = 0
-  owed_jobs (job ∷ others) = at_level p job.priority job.left + owed_jobs others
+  owed_jobs (job ∷ others) = at_priority p job.priority job.left + owed_jobs others
 
   abbrev pub owed : State → ℕ
   owed s = owed_jobs s.jobs + owed_pending s.pending app.tasks
@@ -145,7 +145,7 @@ module _ (app : App) (p : ℕ) where
       let rest = request_raises pending counts irq ts in
       let here : owed_to (slice_set pending irq true) t + raised_by counts t
       ≤ owed_to pending t + raised_by (one_more irq counts) t =
-      both_less (nat_le p t.priority) _ _ _ _ (asked_raised pending counts irq (number_of app t) (handling app t)) in
+      both_less (nat_le p t.priority) _ _ _ _ (asked_raised pending counts irq (number_of app t) (handling_steps app t)) in
       omega (arith, rest, here)
 
   pub take_lowers : (pending : List Bool) (irq : ℕ) (ts : List Task)
@@ -154,30 +154,30 @@ module _ (app : App) (p : ℕ) where
   take_lowers pending irq (t ∷ ts) =
       let rest = take_lowers pending irq ts in
       let here : owed_to (slice_set pending irq false) t ≤ owed_to pending t =
-      one_less (nat_le p t.priority) _ _ (asked_cleared pending irq (number_of app t) (handling app t)) in
+      one_less (nat_le p t.priority) _ _ (asked_cleared pending irq (number_of app t) (handling_steps app t)) in
       omega (arith, rest, here)
 
   -- what is asked for a task whose interrupt is pending, and where it is not
   owes_handling : (pending : List Bool) (irq : ℕ) (t : Task) → p ≤ t.priority → number_of app t ≡ Some irq
-      → slice_index_or pending irq false ≡ true → owed_to pending t ≡ handling app t
+      → slice_index_or pending irq false ≡ true → owed_to pending t ≡ handling_steps app t
   owes_handling pending irq t over number set =
-      at_level_is p t.priority (asked pending (number_of app t) (handling app t)) over
-      ∙ ap (λ o. asked pending o (handling app t)) number ∙ ap (λ b. if b then handling app t else 0) set
+      at_priority_is p t.priority (asked pending (number_of app t) (handling_steps app t)) over
+      ∙ ap (λ o. asked pending o (handling_steps app t)) number ∙ ap (λ b. if b then handling_steps app t else 0) set
 
   owes_none : (pending : List Bool) (irq : ℕ) (t : Task) → p ≤ t.priority → number_of app t ≡ Some irq
       → slice_index_or pending irq false ≡ false → owed_to pending t ≡ 0
   owes_none pending irq t over number clear =
-      at_level_is p t.priority (asked pending (number_of app t) (handling app t)) over
-      ∙ ap (λ o. asked pending o (handling app t)) number ∙ ap (λ b. if b then handling app t else 0) clear
+      at_priority_is p t.priority (asked pending (number_of app t) (handling_steps app t)) over
+      ∙ ap (λ o. asked pending o (handling_steps app t)) number ∙ ap (λ b. if b then handling_steps app t else 0) clear
 
   -- a take of the interrupt of such a task
   pub take_clears : (pending : List Bool) (irq : ℕ) (ts : List Task) (k : ℕ) (t : Task) → slice_get ts k ≡ Some t
       → p ≤ t.priority → number_of app t ≡ Some irq → slice_index_or pending irq false ≡ true
-      → owed_pending (slice_set pending irq false) ts + handling app t ≤ owed_pending pending ts
+      → owed_pending (slice_set pending irq false) ts + handling_steps app t ≤ owed_pending pending ts
   take_clears pending irq [] k t at over number set = absurd (none-some t at)
   take_clears pending irq (u ∷ ts) zero t at over number set =
       let same : u ≡ t = same_Some u t at in
-      let before : owed_to pending u ≡ handling app t =
+      let before : owed_to pending u ≡ handling_steps app t =
       ap (owed_to pending) same ∙ owes_handling pending irq t over number set in
       let after : owed_to (slice_set pending irq false) u ≡ 0 =
       ap (owed_to (slice_set pending irq false)) same
@@ -189,7 +189,7 @@ module _ (app : App) (p : ℕ) where
       let here = take_lowers pending irq (u ∷ []) in
       omega (arith, rest, here)
 
-  -- a pending interrupt of the level owes
+  -- a pending interrupt of the priority owes
   pub pending_owes : (pending : List Bool) (irq : ℕ) (ts : List Task) (k : ℕ) (t : Task) → slice_get ts k ≡ Some t
       → p ≤ t.priority → number_of app t ≡ Some irq → slice_index_or pending irq false ≡ true
       → 0 < owed_pending pending ts
@@ -197,9 +197,9 @@ module _ (app : App) (p : ℕ) where
       let clears = take_clears pending irq ts k t at over number set in omega (arith, clears)
 
   pub record IsAsked (pending : List Bool) (ts : List Task) : Type 0 where
-    pub place : ℕ
+    pub index : ℕ
     pub task : Task
-    pub at : slice_get ts place ≡ Some task
+    pub at : slice_get ts index ≡ Some task
     pub over : p ≤ task.priority
     pub irq : ℕ
     pub number : number_of app task ≡ Some irq
@@ -214,20 +214,20 @@ module _ (app : App) (p : ℕ) where
       deeper : (0 < owed_pending pending ts → IsAsked pending ts) → owed_to pending t ≡ 0 → IsAsked pending (t ∷ ts)
       deeper next none =
           let one = next (omega (arith, some, none)) in
-          record { place = suc one.place; task = one.task; at = one.at; over = one.over; irq = one.irq; number = one.number; set = one.set }
+          record { index = suc one.index; task = one.task; at = one.at; over = one.over; irq = one.irq; number = one.number; set = one.set }
 
       set_or_not : (0 < owed_pending pending ts → IsAsked pending ts) → p ≤ t.priority → (n : ℕ) → number_of app t ≡ Some n → (b : Bool) → slice_index_or pending n false ≡ b → IsAsked pending (t ∷ ts)
-      set_or_not next over n number true set = record { place = 0; task = t; at = refl; over = over; irq = n; number = number; set = set }
+      set_or_not next over n number true set = record { index = 0; task = t; at = refl; over = over; irq = n; number = number; set = set }
       set_or_not next over n number false clear = deeper next (owes_none pending n t over number clear)
 
       numbered : (0 < owed_pending pending ts → IsAsked pending ts) → p ≤ t.priority → (o : Option ℕ) → number_of app t ≡ o → IsAsked pending (t ∷ ts)
       numbered next over (Some n) number = set_or_not next over n number (slice_index_or pending n false) refl
       numbered next over None number =
-          deeper next (at_level_is p t.priority (asked pending (number_of app t) (handling app t)) over ∙ ap (λ o. asked pending o (handling app t)) number)
+          deeper next (at_priority_is p t.priority (asked pending (number_of app t) (handling_steps app t)) over ∙ ap (λ o. asked pending o (handling_steps app t)) number)
 
       level_of : (0 < owed_pending pending ts → IsAsked pending ts) → (b : Bool) → nat_le p t.priority ≡ b → (o : Option ℕ) → number_of app t ≡ o → IsAsked pending (t ∷ ts)
       level_of next true test o number = numbered next (leb-true p t.priority test) o number
-      level_of next false test o number = deeper next (ap (λ b. if b then asked pending (number_of app t) (handling app t) else 0) test)
+      level_of next false test o number = deeper next (ap (λ b. if b then asked pending (number_of app t) (handling_steps app t) else 0) test)
 
   -- no more requests than may begin in so many steps ask for no more than they do
   pub raised_within : (limits : List Limit) (counts : Counts) (steps : ℕ)
@@ -240,19 +240,19 @@ module _ (app : App) (p : ℕ) where
       one_less (nat_le p t.priority) _ _ (of (number_of app t)) in
       omega (arith, rest, here, sum_by-cons (task_demand app limits p steps) t ts)
     where
-      of : (o : Option ℕ) → counted counts o * handling app t ≤ requests (then_from o (every_of limits)) steps * handling app t
+      of : (o : Option ℕ) → counted counts o * handling_steps app t ≤ requests (then_from o (every_of limits)) steps * handling_steps app t
       of None = omega arith
-      of (Some n) = mul-le-mul_right (handling app t) (few n)
+      of (Some n) = mul-le-mul_right (handling_steps app t) (few n)
 
-  -- jobs owe where one of them is of the level, which is then reached
-  pub jobs_reach : (js : List Job) → 0 < owed_jobs js → p ≤ level app js
+  -- jobs owe where one of them is of the priority, which is then reached
+  pub jobs_reach : (js : List Job) → 0 < owed_jobs js → p ≤ system_ceiling app js
   jobs_reach [] some = absurd (omega arith)
   jobs_reach (job ∷ others) some = by (λ more. jobs_reach others more) (nat_le p job.priority) refl
     where
-      by : (0 < owed_jobs others → p ≤ level app others) → (b : Bool) → nat_le p job.priority ≡ b → p ≤ level app (job ∷ others)
+      by : (0 < owed_jobs others → p ≤ system_ceiling app others) → (b : Bool) → nat_le p job.priority ≡ b → p ≤ system_ceiling app (job ∷ others)
       by next true test = (let over = leb-true p job.priority test in omega arith)
       by next false test =
-          let none : at_level p job.priority job.left ≡ 0 = ap (λ b. if b then job.left else 0) test in
+          let none : at_priority p job.priority job.left ≡ 0 = ap (λ b. if b then job.left else 0) test in
           let deeper = next (omega (arith, some, none)) in omega arith
 
   -- nothing is asked for where nothing was requested
@@ -263,6 +263,6 @@ module _ (app : App) (p : ℕ) where
       let here : raised_by (λ irq. 0) t ≡ 0 = still_none (nat_le p t.priority) _ (of (number_of app t)) in
       omega (arith, rest, here)
     where
-      of : (o : Option ℕ) → counted (λ irq. 0) o * handling app t ≡ 0
+      of : (o : Option ℕ) → counted (λ irq. 0) o * handling_steps app t ≡ 0
       of None = omega arith
       of (Some n) = omega arith

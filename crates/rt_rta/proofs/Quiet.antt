@@ -18,7 +18,7 @@ use Rattle.rt_app.specs.Tree.{Spawn, Soon, After, Cancel, Move, Calc, Now, Call,
 use Rattle.rt_app.specs.Variables.{variables, variables_in}
 use Rattle.rt_app.specs.Bodies.{Member, members, member_at}
 use Rattle.rt_app.specs.Level.{is_software}
-use Rattle.rt_app.specs.Forms.{has_no_software, statement_holds_no_pend, holds_no_pend, is_of_t_form}
+use Rattle.rt_app.specs.Forms.{has_no_software, statement_holds_no_pend, holds_no_pend, has_response_times}
 use Rattle.rt_app.specs.Handlers.{Runs, has_no_monotonic}
 use Rattle.rt_app.specs.Accepted.{IsAccepted}
 use Rattle.rt_app.specs.Sending.{Rest, act}
@@ -112,7 +112,7 @@ module _ (app : App) (hardware : list_any is_software app.tasks ≡ false) (m : 
       block_quiet m.body.block m.args [] [] (λ vars. rest) sound none (λ vars. quiet)
       (args ++ replicate (variables m.body.block) 0)
 
-module _ (app : App) (accepted : IsAccepted app) (form : is_of_t_form app ≡ true) where
+module _ (app : App) (accepted : IsAccepted app) (form : has_response_times app ≡ true) where
   forms : (has_no_software app ≡ true) × (has_no_monotonic app ≡ true)
   forms = and_parts (has_no_software app) (has_no_monotonic app)
       (and_left (has_no_software app && has_no_monotonic app) (list_all (λ m. holds_no_pend m.body.block) (members app)) form)

@@ -1,4 +1,4 @@
--- Each request is served within the response time of its level.
+-- Each request is served within the response time of its priority.
 use Rattle.std.proofs.Common.{◌≡◌, ℕ, zero, suc, ◌+◌, ◌-◌, ◌≤◌, ◌<◌, ◌^◌, ◌==◌, ◌⊎◌, inl, inr, Bool, true, false, if◌then◌else◌, List, [], ◌∷◌, ◌++◌, Contains, length, map, replicate, slice_index_or, take, find, Option, Some, None, refl, sym, ap, subst, ◌∙◌, arith, eq-eqb}
 use Rattle.std.specs.List.{AllByRecursion}
 use Rattle.std.proofs.lemmas.Bool.{eqb-true}
@@ -15,23 +15,23 @@ use Rattle.rt_trace.specs.declared.item.What.{What}
 use Rattle.rt_trace.specs.declared.item.What.TheVariants as what
 use Rattle.rt_app.specs.Tree.{App}
 use Rattle.rt_app.specs.Accepted.{IsAccepted}
-use Rattle.rt_app.specs.Forms.{is_of_t_form}
+use Rattle.rt_app.specs.Forms.{has_response_times}
 use Rattle.rt_app.specs.Handlers.{Service, services}
 use Rattle.rt_app.proofs.Sound.{accepted_are_sound}
 use Rattle.rt_laws.specs.Services.{is_declared, service_at, priority_of, timer_number}
 use Rattle.rt_laws.specs.State.{Role, Serving, Job, State, first_values, first}
-use Rattle.rt_laws.specs.Level.{level, candidate}
+use Rattle.rt_laws.specs.Preemption.{system_ceiling, candidate}
 use Rattle.rt_laws.specs.Allowed.{HasStep, May, after}
 use Rattle.rt_laws.specs.Run.{RunsOn}
 use Rattle.rt_laws.specs.ByItems.{after_all}
-use Rattle.rt_laws.specs.Sight.{Seen, Sight, first_sight, sees}
+use Rattle.rt_laws.specs.Observer.{Seen, Observer, first_sight, sees}
 use Rattle.rt_laws.specs.Unspent.{AreUnspent, NoneIsSpent}
 use Rattle.rt_laws.specs.Waiting.{is_take, is_return, is_pending}
 use Rattle.rt_laws.specs.Giving.{is_due}
 use Rattle.rt_laws.proofs.Waiting.{pending_stays}
 use Rattle.rt_laws.proofs.Well.{IsAbove, StackWell, StateWell}
 use Rattle.rt_laws.proofs.Pending.{made_number, priority_is, starts_above}
-use Rattle.rt_laws.proofs.Serving.{Up, up_after, up_level}
+use Rattle.rt_laws.proofs.Serving.{Up, up_after, up_ceiling}
 use Rattle.rt_laws.proofs.Happens.{Happens, Quietly, ByTake, ByStep, first_well, happens, after_well}
 use Rattle.rt_rta.specs.declared.limits.Limit.{Limit}
 use Rattle.rt_rta.specs.Limits.{every_of, AreLimits}
@@ -42,7 +42,7 @@ use Rattle.rt_rta.specs.Laws.{RunsRespond}
 use Rattle.rt_rta.proofs.Spacing.{Waits, requested, a_step_on, Spaced, all_spaced}
 use Rattle.rt_rta.proofs.Quiet.{IsQuiet, init_quiet}
 use Rattle.rt_rta.proofs.Tasks.{RunsTask, served_runs, served_number}
-use Rattle.rt_rta.proofs.Owing.{at_level, at_level_is, not_at_level, owed_jobs, owed_pending, owed, pending_owes, IsAsked, owes_pending}
+use Rattle.rt_rta.proofs.Owing.{at_priority, at_priority_is, not_at_priority, owed_jobs, owed_pending, owed, pending_owes, IsAsked, owes_pending}
 use Rattle.rt_rta.proofs.Spending.{Spends, SpendsOne, BeginsAnew, LeavesStack, Spent, step_spends}
 use Rattle.rt_rta.proofs.Stepping.{StaysQuiet, Lowers, zero_or_some, lowers, pending_taken}
 use Rattle.rt_rta.proofs.Walk.{Short, Stretch, fresh, on_request, on_step, any_step}
@@ -95,7 +95,7 @@ module _ (irq : ℕ) where
   }
 
 -- how many interrupts there are stays
-long_stays : (app : App) (v : Sight) (label : Label) → length (sees app v label).pending ≡ length v.pending
+long_stays : (app : App) (v : Observer) (label : Label) → length (sees app v label).pending ≡ length v.pending
 long_stays app v (Arrived i) = length-set v.pending i true
 long_stays app v Ticked = refl
 long_stays app v Rang = length-set v.pending (timer_number app) true
@@ -142,8 +142,8 @@ positive_row limits fine i every row =
     let one = made_number (λ (l : Limit). l.every) (find (λ l. l.irq == i) limits) every row in
     subst (λ n. 1 ≤ n) one.2 (find_has (λ l. 1 ≤ l.every) (λ l. l.irq == i) limits one.0 fine.positive one.1)
 
--- a declared interrupt has its place among the pending ones
-is_within : (app : App) → IsAccepted app → (irq : ℕ) (v : Sight) → is_declared app irq ≡ true
+-- a declared interrupt has its index among the pending ones
+is_within : (app : App) → IsAccepted app → (irq : ℕ) (v : Observer) → is_declared app irq ≡ true
     → length v.pending ≡ IRQ_NUMBERS → irq < length v.pending
 is_within app accepted irq v declared long =
     let one = any_one (λ d. d.number == irq) app.irqs declared in
@@ -151,27 +151,27 @@ is_within app accepted irq v declared long =
     let same : one.1.number ≡ irq = eqb-true one.1.number irq one.3 in
     omega arith
 
-module _ (app : App) (accepted : IsAccepted app) (form : is_of_t_form app ≡ true) (limits : List Limit)
+module _ (app : App) (accepted : IsAccepted app) (form : has_response_times app ≡ true) (limits : List Limit)
     (fine : AreLimits app limits) (irq : ℕ) (x : Service) (served : service_at app irq ≡ Some x) (least : ℕ)
-    (suffices : Suffices app limits x.level least) where
+    (suffices : Suffices app limits x.priority least) where
   abbrev p : ℕ
-  p = x.level
+  p = x.priority
 
   in_range : (1 ≤ p) × (p ≤ 2 ^ app.bits)
-  in_range = let h = find_has (λ (s : Service). (s.irq < length app.irqs) × (1 ≤ s.level) × (s.level ≤ 2 ^ app.bits))
+  in_range = let h = find_has (λ (s : Service). (s.irq < length app.irqs) × (1 ≤ s.priority) × (s.priority ≤ 2 ^ app.bits))
       _ (services app) x (accepted_are_sound app accepted).served served in (h.1, h.2)
 
   positive : 0 < p
   positive = let least = in_range.0 in omega arith
 
-  abbrev In : State → Sight → Waits → ℕ → Type 0
+  abbrev In : State → Observer → Waits → ℕ → Type 0
   In = Stretch app accepted form limits p positive in_range.1 least suffices
 
   abbrev owes : State → ℕ
   owes s = owed app p s
 
   -- at each moment
-  record Moment (s : State) (v : Sight) (waits : Waits) (labels : List Label) : Type 0 where
+  record Moment (s : State) (v : Observer) (waits : Waits) (labels : List Label) : Type 0 where
     well : StateWell app s v
     quiet : StaysQuiet s
     runs : RunsOn app s labels
@@ -179,7 +179,7 @@ module _ (app : App) (accepted : IsAccepted app) (form : is_of_t_form app ≡ tr
     spaced : Spaced limits waits labels
     long : length v.pending ≡ IRQ_NUMBERS
 
-  next_well : (s : State) (v : Sight) (label : Label) → StateWell app s v → May app s label
+  next_well : (s : State) (v : Observer) (label : Label) → StateWell app s v → May app s label
       → StateWell app (after app s label) (sees app v label)
   next_well s v label well may = after_well app accepted s v well label (happens app accepted s v well label may)
 
@@ -199,7 +199,7 @@ module _ (app : App) (accepted : IsAccepted app) (form : is_of_t_form app ≡ tr
       by false test = short k n is
 
   -- a label on
-  on_tick : (s : State) (v : Sight) (waits : Waits) (labels : List Label) → Moment s v waits (Ticked ∷ labels)
+  on_tick : (s : State) (v : Observer) (waits : Waits) (labels : List Label) → Moment s v waits (Ticked ∷ labels)
       → Moment (after app s Ticked) (sees app v Ticked) waits labels
   on_tick s v waits labels now = record {
     well = next_well s v Ticked now.well now.runs.0;
@@ -214,7 +214,7 @@ module _ (app : App) (accepted : IsAccepted app) (form : is_of_t_form app ≡ tr
     long = now.long;
   }
 
-  on_arrival : (s : State) (v : Sight) (waits : Waits) (i : ℕ) (labels : List Label)
+  on_arrival : (s : State) (v : Observer) (waits : Waits) (i : ℕ) (labels : List Label)
       → (now : Moment s v waits (Arrived i ∷ labels))
       → Moment (after app s (Arrived i)) (sees app v (Arrived i)) (requested i now.spaced.0 waits) labels
   on_arrival s v waits i labels now = record {
@@ -226,12 +226,12 @@ module _ (app : App) (accepted : IsAccepted app) (form : is_of_t_form app ≡ tr
     long = long_stays app v (Arrived i) ∙ now.long;
   }
 
-  lowers_at : (s : State) (v : Sight) (waits : Waits) (shown : Option What) (labels : List Label)
+  lowers_at : (s : State) (v : Observer) (waits : Waits) (shown : Option What) (labels : List Label)
       → Moment s v waits (Stepped shown ∷ labels)
       → Lowers app accepted form p positive s v (after app s (Stepped shown)) (sees app v (Stepped shown))
   lowers_at s v waits shown labels now = lowers app accepted form p positive s v now.well now.quiet shown now.runs.0
 
-  on_core_step : (s : State) (v : Sight) (waits : Waits) (shown : Option What) (labels : List Label)
+  on_core_step : (s : State) (v : Observer) (waits : Waits) (shown : Option What) (labels : List Label)
       → Moment s v waits (Stepped shown ∷ labels)
       → Moment (after app s (Stepped shown)) (sees app v (Stepped shown)) (a_step_on waits) labels
   on_core_step s v waits shown labels now = record {
@@ -243,7 +243,7 @@ module _ (app : App) (accepted : IsAccepted app) (form : is_of_t_form app ≡ tr
     long = long_stays app v (Stepped shown) ∙ now.long;
   }
 
-  in_tick : (s : State) (v : Sight) (waits : Waits) (steps : ℕ) → In s v waits steps
+  in_tick : (s : State) (v : Observer) (waits : Waits) (steps : ℕ) → In s v waits steps
       → In (after app s Ticked) (sees app v Ticked) waits steps
   in_tick s v waits steps stretch = record {
     short_of = stretch.short_of;
@@ -255,21 +255,21 @@ module _ (app : App) (accepted : IsAccepted app) (form : is_of_t_form app ≡ tr
     fits = stretch.fits;
   }
 
-  in_arrival : (s : State) (v : Sight) (waits : Waits) (i steps : ℕ) (labels : List Label)
+  in_arrival : (s : State) (v : Observer) (waits : Waits) (i steps : ℕ) (labels : List Label)
       → (now : Moment s v waits (Arrived i ∷ labels)) → In s v waits steps
       → In (after app s (Arrived i)) (sees app v (Arrived i)) (requested i now.spaced.0 waits) steps
   in_arrival s v waits i steps labels now stretch =
       on_request app accepted form limits p positive in_range.1 least suffices s v waits steps i now.spaced.0 now.short
       now.spaced.1 now.spaced.2 stretch
 
-  in_step : (s : State) (v : Sight) (waits : Waits) (shown : Option What) (steps : ℕ) (labels : List Label)
+  in_step : (s : State) (v : Observer) (waits : Waits) (shown : Option What) (steps : ℕ) (labels : List Label)
       → Moment s v waits (Stepped shown ∷ labels) → In s v waits steps → 0 < owes s → 0 < owes (after app s (Stepped shown))
       → In (after app s (Stepped shown)) (sees app v (Stepped shown)) (a_step_on waits) (steps + 1)
   in_step s v waits shown steps labels now stretch some more =
       on_step app accepted form limits p positive in_range.1 least suffices s v waits steps (after app s (Stepped shown))
       (sees app v (Stepped shown)) (lowers_at s v waits shown labels now) stretch some more
 
-  no_ring : (s : State) (v : Sight) (waits : Waits) (labels : List Label) → Moment s v waits (Rang ∷ labels) → ⊥
+  no_ring : (s : State) (v : Observer) (waits : Waits) (labels : List Label) → Moment s v waits (Rang ∷ labels) → ⊥
   no_ring s v waits labels now = true_and_false s.owing now.runs.0 now.quiet.not_owing
 
   -- the handler that has started owes
@@ -285,15 +285,15 @@ module _ (app : App) (accepted : IsAccepted app) (form : is_of_t_form app ≡ tr
   up_owes (job ∷ others) (seen ∷ seens) stack (inl is) unspent =
       let same : q ≡ job.priority = (subst (λ r. IsAbove app r job.priority others) is stack.1).0 in
       let some : 0 < job.left = subst (λ r. HasStep r job.left) is unspent.0 in
-      let here = at_level_is p job.priority job.left (omega (arith, same, level_is)) in
+      let here = at_priority_is p job.priority job.left (omega (arith, same, level_is)) in
       omega arith
   up_owes (job ∷ others) (seen ∷ seens) stack (inr deeper) unspent =
       let more = up_owes others seens stack.2 deeper.1 unspent.1 in omega arith
 
-  up_in : (s : State) (v : Sight) → StateWell app s v → Up irq q s.jobs → AreUnspent s.jobs → 0 < owes s
+  up_in : (s : State) (v : Observer) → StateWell app s v → Up irq q s.jobs → AreUnspent s.jobs → 0 < owes s
   up_in s v well up unspent = let some = up_owes s.jobs v.jobs well.stack up unspent in omega arith
 
-  up_next : (s : State) (v : Sight) (label : Label) → StateWell app s v → May app s label → Up irq q s.jobs
+  up_next : (s : State) (v : Observer) (label : Label) → StateWell app s v → May app s label → Up irq q s.jobs
       → is_return irq label ≡ false → Up irq q (after app s label).jobs
   up_next s v label well may up goes_on = by (happens app accepted s v well label may)
     where
@@ -301,14 +301,14 @@ module _ (app : App) (accepted : IsAccepted app) (form : is_of_t_form app ≡ tr
       by (Quietly good jobs views none no_take no_return) = subst (Up irq q) (sym jobs) up
       by (ByTake j d job is good jobs views role priority best) =
           let over = starts_above app s j best in
-          let reach : q ≤ level app s.jobs = up_level app accepted irq s.jobs v.jobs well.stack up in
+          let reach : q ≤ system_ceiling app s.jobs = up_ceiling app accepted irq s.jobs v.jobs well.stack up in
           subst (Up irq q) (sym jobs) (inr (omega arith, up))
       by (ByStep shown step steps no_take return) =
           up_after app accepted irq label step.job step.others step.seen step.seens shown (after app s label).jobs
           (sees app v label).jobs step.above (subst (Up irq q) step.jobs_are up) return goes_on step.led.moves
 
   -- it returns while the stretch lasts
-  returns_in : (labels : List Label) (s : State) (v : Sight) (waits : Waits) (steps k : ℕ) → Moment s v waits labels
+  returns_in : (labels : List Label) (s : State) (v : Observer) (waits : Waits) (steps k : ℕ) → Moment s v waits labels
       → In s v waits steps → Up irq q s.jobs → Unspent app s labels → steps + k ≡ least → k ≤ steps_of labels
       → ReturnsIn irq k labels
   returns_in [] s v waits steps k now stretch up unspent sum enough =
@@ -348,17 +348,17 @@ module _ (app : App) (accepted : IsAccepted app) (form : is_of_t_form app ≡ tr
           (next_well s v (Stepped shown) now.well now.runs.0) up_then (unspent 1)))
 
   -- the pending interrupt owes
-  pending_in : (s : State) (v : Sight) → StateWell app s v → is_pending v irq ≡ true → 0 < owes s
+  pending_in : (s : State) (v : Observer) → StateWell app s v → is_pending v irq ≡ true → 0 < owes s
   pending_in s v well pending =
       let runs = served_runs app accepted form irq x served in
-      let over : p ≤ runs.row.priority = let same = runs.level in omega arith in
+      let over : p ≤ runs.row.priority = let same = runs.priority in omega arith in
       let some = pending_owes app p s.pending irq app.tasks runs.task runs.row runs.at over
       (served_number app accepted form irq x served)
       (ap (λ ps. slice_index_or ps irq false) (sym well.pending) ∙ pending) in
       omega arith
 
   -- it is taken while the stretch lasts, and returns
-  served_in : (labels : List Label) (s : State) (v : Sight) (waits : Waits) (steps k : ℕ) → Moment s v waits labels
+  served_in : (labels : List Label) (s : State) (v : Observer) (waits : Waits) (steps k : ℕ) → Moment s v waits labels
       → In s v waits steps → is_pending v irq ≡ true → Unspent app s labels → steps + k ≡ least → k ≤ steps_of labels
       → ServedIn irq k labels
   served_in [] s v waits steps k now stretch pending unspent sum enough =
@@ -433,7 +433,7 @@ module _ (app : App) (accepted : IsAccepted app) (form : is_of_t_form app ≡ tr
   }
 
   -- while `init` runs nothing is pending; behind it each moment lies in a stretch
-  data Mode (s : State) (v : Sight) (waits : Waits) (labels : List Label) : Type 0 where
+  data Mode (s : State) (v : Observer) (waits : Waits) (labels : List Label) : Type 0 where
     Early : (job : Job) → s.jobs ≡ job ∷ [] → ((k : ℕ) → slice_index_or s.pending k false ≡ false) → Late labels
         → Mode s v waits labels
     Within : (steps : ℕ) → In s v waits steps → Mode s v waits labels
@@ -456,7 +456,7 @@ module _ (app : App) (accepted : IsAccepted app) (form : is_of_t_form app ≡ tr
       true_and_false (slice_index_or s.pending i false)
       (pending_taken app accepted form p positive s i taken.1) (none i)
 
-  early_step : (s : State) (v : Sight) (waits : Waits) (shown : Option What) (labels : List Label) (job : Job)
+  early_step : (s : State) (v : Observer) (waits : Waits) (shown : Option What) (labels : List Label) (job : Job)
       → Moment s v waits (Stepped shown ∷ labels) → s.jobs ≡ job ∷ []
       → ((k : ℕ) → slice_index_or s.pending k false ≡ false) → Late (Stepped shown ∷ labels)
       → Mode (after app s (Stepped shown)) (sees app v (Stepped shown)) (a_step_on waits) labels
@@ -486,9 +486,9 @@ module _ (app : App) (accepted : IsAccepted app) (form : is_of_t_form app ≡ tr
           shown_same : Stepped shown ≡ Stepped (Some (what.End body.Init)) → shown ≡ Some (what.End body.Init)
           shown_same e = cc
       by (BeginsAnew j js priority rest) =
-          calm (ap (owed_jobs app p) js ∙ last (not_at_level p j.priority j.left (subst (λ q. q < p) (sym priority) positive)))
+          calm (ap (owed_jobs app p) js ∙ last (not_at_priority p j.priority j.left (subst (λ q. q < p) (sym priority) positive)))
         where
-          last : at_level p j.priority j.left ≡ 0 → at_level p j.priority j.left + 0 ≡ 0
+          last : at_priority p j.priority j.left ≡ 0 → at_priority p j.priority j.left + 0 ≡ 0
           last none = omega arith
       by (LeavesStack js) = calm (ap (owed_jobs app p) js)
 
@@ -496,7 +496,7 @@ module _ (app : App) (accepted : IsAccepted app) (form : is_of_t_form app ≡ tr
   Then front behind = front ++ Arrived irq ∷ behind
 
   -- from a moment on to the request
-  walk : (front behind : List Label) (s : State) (v : Sight) (waits : Waits) → Moment s v waits (Then front behind)
+  walk : (front behind : List Label) (s : State) (v : Observer) (waits : Waits) → Moment s v waits (Then front behind)
       → Mode s v waits (Then front behind) → Unspent app s (Then front behind) → least ≤ steps_of behind
       → ServedIn irq least behind
   walk [] behind s v waits now (Early job jobs none late) unspent enough =

@@ -3,7 +3,7 @@ use Rattle.std.proofs.Common.{◌≡◌, ℕ, ◌-◌, true, List, [], ◌∷◌
 use Rattle.std.specs.List.{AllByRecursion}
 use Rattle.std.proofs.lemmas.Option.{none-some}
 use Rattle.rt_ids.specs.Content.{Values}
-use Rattle.rt_ids.specs.Action.{Action, Enters, Leaves, Emits, Posts, Clocks, Takes, Refuses, Readies, Starts, Frees, Arms, Fires, Cancels, Moves, SetsAlarm, Ends, Returns, effect}
+use Rattle.rt_ids.specs.Action.{Action, Enters, Leaves, Emits, Posts, Clocks, Places, FindsFull, Readies, Starts, Frees, Arms, Fires, Cancels, Moves, SetsAlarm, Ends, Returns, effect}
 use Rattle.rt_ids.specs.Doing.{Doing, over, does}
 use Rattle.rt_ids.specs.declared.ids.BodyId.TheVariants as body
 use Rattle.rt_trace.specs.Label.{Stepped}
@@ -11,11 +11,11 @@ use Rattle.rt_trace.specs.declared.item.What.{What}
 use Rattle.rt_trace.specs.declared.item.What.TheVariants as what
 use Rattle.rt_app.specs.Tree.{Body, App}
 use Rattle.rt_app.specs.Accepted.{IsAccepted}
-use Rattle.rt_app.specs.Forms.{is_of_t_form}
+use Rattle.rt_app.specs.Forms.{has_response_times}
 use Rattle.rt_laws.specs.State.{Job, State}
 use Rattle.rt_laws.specs.Giving.{item_of, next_item, item_given}
-use Rattle.rt_laws.specs.Acting.{spent, idling, answer, changed, acted}
-use Rattle.rt_laws.specs.Allowed.{May, stepped, given, after}
+use Rattle.rt_laws.specs.Acting.{job_after_step, idle_job, answer, state_after_action, state_after_doing}
+use Rattle.rt_laws.specs.Allowed.{May, state_after_silence, state_after_item, after}
 use Rattle.rt_rta.proofs.Quiet.{IsQuiet, idle_quiet}
 
 -- the running job and the others, before a step that shows this and behind it
@@ -35,12 +35,12 @@ pub record Spent (s : State) (job : Job) (others : List Job) (shown : Option Wha
   pub alarm : t.alarm ≡ s.alarm
   pub owing : t.owing ≡ s.owing
 
-module _ (app : App) (accepted : IsAccepted app) (form : is_of_t_form app ≡ true) (s : State) (job : Job) (others : List Job) where
-  idling_low : (vs : Values) (o : Option Body) → (idling app vs o).priority ≡ 0
+module _ (app : App) (accepted : IsAccepted app) (form : has_response_times app ≡ true) (s : State) (job : Job) (others : List Job) where
+  idling_low : (vs : Values) (o : Option Body) → (idle_job app vs o).priority ≡ 0
   idling_low vs None = refl
   idling_low vs (Some b) = refl
 
-  idling_quiet : (vs : Values) (o : Option Body) → IsQuiet (idling app vs o).rest
+  idling_quiet : (vs : Values) (o : Option Body) → IsQuiet (idle_job app vs o).rest
   idling_quiet vs None = tt
   idling_quiet vs (Some b) = idle_quiet app accepted form vs
 
@@ -49,14 +49,14 @@ module _ (app : App) (accepted : IsAccepted app) (form : is_of_t_form app ≡ tr
 
   acts : (action : Action) (made : Values) (next : ℕ → Values → Doing Values) → IsQuiet (does action made next) → (w : What)
       → item_of s job.role action ≡ Some w
-      → SpentBy w (changed app s job others action (effect action s.values) (next (answer s action) (effect action s.values)))
+      → SpentBy w (state_after_action app s job others action (effect action s.values) (next (answer s action) (effect action s.values)))
   acts (Enters x cost) made next quiet w is = record { spends = SpendsOne _ refl refl refl (quiet.1 0 _) (λ e. cc); pending = refl; alarm = refl; owing = refl }
   acts (Leaves x) made next quiet w is = record { spends = SpendsOne _ refl refl refl (quiet.1 0 _) (λ e. cc); pending = refl; alarm = refl; owing = refl }
   acts (Emits v) made next quiet w is = record { spends = SpendsOne _ refl refl refl (quiet.1 0 _) (λ e. cc); pending = refl; alarm = refl; owing = refl }
   acts (Posts irq) made next quiet w is = absurd quiet.0
   acts Clocks made next quiet w is = record { spends = SpendsOne _ refl refl refl (quiet.1 s.time _) (λ e. cc); pending = refl; alarm = refl; owing = refl }
-  acts (Takes n) made next quiet w is = record { spends = SpendsOne _ refl refl refl (quiet.1 0 _) (λ e. cc); pending = refl; alarm = refl; owing = refl }
-  acts (Refuses n) made next quiet w is = record { spends = SpendsOne _ refl refl refl (quiet.1 0 _) (λ e. cc); pending = refl; alarm = refl; owing = refl }
+  acts (Places n) made next quiet w is = record { spends = SpendsOne _ refl refl refl (quiet.1 0 _) (λ e. cc); pending = refl; alarm = refl; owing = refl }
+  acts (FindsFull n) made next quiet w is = record { spends = SpendsOne _ refl refl refl (quiet.1 0 _) (λ e. cc); pending = refl; alarm = refl; owing = refl }
   acts (Readies p m) made next quiet w is = record { spends = SpendsOne _ refl refl refl (quiet.1 0 _) (λ e. cc); pending = refl; alarm = refl; owing = refl }
   acts (Starts p m) made next quiet w is = record { spends = SpendsOne _ refl refl refl (quiet.1 0 _) (λ e. cc); pending = refl; alarm = refl; owing = refl }
   acts (Frees n) made next quiet w is = record { spends = SpendsOne _ refl refl refl (quiet.1 0 _) (λ e. cc); pending = refl; alarm = refl; owing = refl }
@@ -81,22 +81,22 @@ module _ (app : App) (accepted : IsAccepted app) (form : is_of_t_form app ≡ tr
   acts Returns made next quiet w is = record { spends = LeavesStack refl; pending = refl; alarm = refl; owing = refl }
 
   rest_acts : (rest : Doing Values) → IsQuiet rest → (w : What) → next_item s job.role rest ≡ Some w
-      → SpentBy w (acted app s job others rest)
+      → SpentBy w (state_after_doing app s job others rest)
   rest_acts over quiet w is = absurd (none-some w is)
   rest_acts (does action made next) quiet w is = acts action made next quiet w is
 
 -- a step of the running job
-module _ (app : App) (accepted : IsAccepted app) (form : is_of_t_form app ≡ true) (s : State) (job : Job) (others : List Job)
+module _ (app : App) (accepted : IsAccepted app) (form : has_response_times app ≡ true) (s : State) (job : Job) (others : List Job)
     (jobs_are : s.jobs ≡ job ∷ others) (quiet : IsQuiet job.rest) where
-  step_acts : (w : What) → item_given s s.jobs ≡ Some w → Spent s job others (Some w) (given app s s.jobs)
+  step_acts : (w : What) → item_given s s.jobs ≡ Some w → Spent s job others (Some w) (state_after_item app s s.jobs)
   step_acts w is =
-      subst (λ js. Spent s job others (Some w) (given app s js)) (sym jobs_are)
+      subst (λ js. Spent s job others (Some w) (state_after_item app s js)) (sym jobs_are)
       (rest_acts app accepted form s job others job.rest quiet w (subst (λ js. item_given s js ≡ Some w) jobs_are is))
 
   pub step_spends : (shown : Option What) → May app s (Stepped shown)
       → ((irq depth : ℕ) → ¬ (shown ≡ Some (what.Take irq depth))) → Spent s job others shown (after app s (Stepped shown))
   step_spends None may no_take =
-      subst (λ js. Spent s job others None (stepped s js)) (sym jobs_are)
-      (record { spends = SpendsOne (spent job) refl refl refl quiet (λ e. none-some _ e); pending = refl; alarm = refl; owing = refl })
+      subst (λ js. Spent s job others None (state_after_silence s js)) (sym jobs_are)
+      (record { spends = SpendsOne (job_after_step job) refl refl refl quiet (λ e. none-some _ e); pending = refl; alarm = refl; owing = refl })
   step_spends (Some (what.Take irq depth)) may no_take = absurd (no_take irq depth refl)
   step_spends (Some w) may no_take = step_acts w may.1

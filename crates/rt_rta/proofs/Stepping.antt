@@ -1,5 +1,5 @@
--- One label of a run, as it changes what is owed to a level: each core step that passes while something is owed lowers
--- it, or takes a step of the one lower section that may hold the level off; a request alone raises it.
+-- One label of a run, as it changes what is owed to a priority: each core step that passes while something is owed lowers
+-- it, or takes a step of the one lower section that may hold the priority off; a request alone raises it.
 use Rattle.std.proofs.Common.{◌≡◌, ℕ, zero, suc, ◌+◌, ◌-◌, ◌≤◌, ◌<◌, ◌^◌, ◌==◌, ◌⊎◌, inl, inr, Bool, true, false, nat_le, List, [], ◌∷◌, map, slice_set, slice_index_or, Option, Some, None, option_map, refl, sym, ap, subst, ◌∙◌, arith}
 use Rattle.std.specs.List.{AllByRecursion}
 use Rattle.std.proofs.lemmas.Bool.{leb-true, leb-false}
@@ -13,24 +13,24 @@ use Rattle.rt_trace.specs.declared.item.What.TheVariants as what
 use Rattle.rt_app.specs.Tree.{Task, App}
 use Rattle.rt_app.specs.BodyCost.{cost_measure, cost_of}
 use Rattle.rt_app.specs.Accepted.{IsAccepted}
-use Rattle.rt_app.specs.Forms.{is_of_t_form}
+use Rattle.rt_app.specs.Forms.{has_response_times}
 use Rattle.rt_app.specs.Handlers.{Service}
 use Rattle.rt_app.specs.Doings.{handler_doing}
 use Rattle.rt_laws.specs.Services.{service_at, priority_of, handler_cost}
-use Rattle.rt_laws.specs.State.{Role, Init, Idle, Waiting, Serving, Job, State, begun}
-use Rattle.rt_laws.specs.Level.{level, may_start, candidate, IsNoLater}
-use Rattle.rt_laws.specs.Allowed.{HasStep, MayStep, May, started, after}
-use Rattle.rt_laws.specs.Sight.{Seen, Sight, outside, sees}
+use Rattle.rt_laws.specs.State.{Role, Init, Idle, Waiting, Serving, Job, State, new_job}
+use Rattle.rt_laws.specs.Preemption.{system_ceiling, may_start, candidate, IsNoLater}
+use Rattle.rt_laws.specs.Allowed.{HasStep, MayStep, May, state_after_start, after}
+use Rattle.rt_laws.specs.Observer.{Seen, Observer, outside, sees}
 use Rattle.rt_laws.proofs.Candidate.{candidate_is_highest}
 use Rattle.rt_laws.proofs.Well.{IsAbove, StateWell}
 use Rattle.rt_laws.proofs.Pending.{priority_is, held_off, starts_above, goes_first}
 use Rattle.rt_laws.proofs.Happens.{Step, turn_silent, given_step}
 use Rattle.rt_laws.proofs.Waiting.{Low, Took, Higher, Lower, took}
 use Rattle.rt_rta.specs.Limits.{number_of}
-use Rattle.rt_rta.specs.Response.{handling}
+use Rattle.rt_rta.specs.Response.{handling_steps}
 use Rattle.rt_rta.proofs.Quiet.{IsQuiet, task_quiet}
 use Rattle.rt_rta.proofs.Tasks.{RunsTask, served_runs, served_number, Serves, task_serves}
-use Rattle.rt_rta.proofs.Owing.{at_level, at_level_is, not_at_level, owed_pending, owed_jobs, owed, take_lowers, take_clears, IsAsked, owes_pending, jobs_reach}
+use Rattle.rt_rta.proofs.Owing.{at_priority, at_priority_is, not_at_priority, owed_pending, owed_jobs, owed, take_lowers, take_clears, IsAsked, owes_pending, jobs_reach}
 use Rattle.rt_rta.proofs.Spending.{Spends, SpendsOne, BeginsAnew, LeavesStack, Spent, step_spends}
 
 -- nothing will be made pending by code
@@ -43,36 +43,36 @@ pub zero_or_some : (n : ℕ) → (n ≡ 0) ⊎ (0 < n)
 zero_or_some zero = inl refl
 zero_or_some (suc n) = inr (omega arith)
 
-module _ (app : App) (accepted : IsAccepted app) (form : is_of_t_form app ≡ true) (p : ℕ) (positive : 0 < p) where
+module _ (app : App) (accepted : IsAccepted app) (form : has_response_times app ≡ true) (p : ℕ) (positive : 0 < p) where
   abbrev owes : State → ℕ
   owes s = owed app p s
 
-  -- where nothing is to be taken, a level to which something is owed is reached
-  reaches : (s : State) → candidate app s ≡ None → 0 < owes s → p ≤ level app s.jobs
+  -- where nothing is to be taken, a priority to which something is owed is reached
+  reaches : (s : State) → candidate app s ≡ None → 0 < owes s → p ≤ system_ceiling app s.jobs
   reaches s none some = by (zero_or_some (owed_jobs app p s.jobs))
     where
-      waits : IsAsked app p s.pending app.tasks → p ≤ level app s.jobs
+      waits : IsAsked app p s.pending app.tasks → p ≤ system_ceiling app s.jobs
       waits one =
-          let serves = task_serves app accepted form one.place one.task one.irq one.at one.number in
-          let held : serves.service.level ≤ level app s.jobs = held_off app s one.irq serves.service serves.at one.set none in
+          let serves = task_serves app accepted form one.index one.task one.irq one.at one.number in
+          let held : serves.service.priority ≤ system_ceiling app s.jobs = held_off app s one.irq serves.service serves.at one.set none in
           let over = one.over in
-          let same = serves.level in
+          let same = serves.priority in
           omega arith
 
-      by : (owed_jobs app p s.jobs ≡ 0) ⊎ (0 < owed_jobs app p s.jobs) → p ≤ level app s.jobs
+      by : (owed_jobs app p s.jobs ≡ 0) ⊎ (0 < owed_jobs app p s.jobs) → p ≤ system_ceiling app s.jobs
       by (inl no_job) = waits (owes_pending app p s.pending app.tasks (omega (arith, some, no_job)))
       by (inr jobs) = jobs_reach app p s.jobs jobs
 
-  -- and what is taken is of the level or higher
+  -- and what is taken is of the priority or higher
   reaches_taken : (s : State) (irq : ℕ) → candidate app s ≡ Some irq → 0 < owes s → p ≤ priority_of app irq
   reaches_taken s irq taken some = by (zero_or_some (owed_jobs app p s.jobs))
     where
       waits : IsAsked app p s.pending app.tasks → p ≤ priority_of app irq
       waits one =
-          let serves = task_serves app accepted form one.place one.task one.irq one.at one.number in
-          let first : serves.service.level ≤ priority_of app irq = goes_first app s one.irq irq serves.service serves.at one.set taken in
+          let serves = task_serves app accepted form one.index one.task one.irq one.at one.number in
+          let first : serves.service.priority ≤ priority_of app irq = goes_first app s one.irq irq serves.service serves.at one.set taken in
           let over = one.over in
-          let same = serves.level in
+          let same = serves.priority in
           omega arith
 
       by : (owed_jobs app p s.jobs ≡ 0) ⊎ (0 < owed_jobs app p s.jobs) → p ≤ priority_of app irq
@@ -83,7 +83,7 @@ module _ (app : App) (accepted : IsAccepted app) (form : is_of_t_form app ≡ tr
           omega arith
 
   -- what a core step does
-  pub record Lowers (s : State) (v : Sight) (t : State) (u : Sight) : Type 0 where
+  pub record Lowers (s : State) (v : Observer) (t : State) (u : Observer) : Type 0 where
     pub quiet : StaysQuiet t
     pub no_more : owes t ≤ owes s
     pub spends : (entered left : ℕ) → 0 < owes s → Low app p entered left s.jobs v.jobs
@@ -102,24 +102,24 @@ module _ (app : App) (accepted : IsAccepted app) (form : is_of_t_form app ≡ tr
       by (Some v) at = (v, refl)
       by None at =
           let over = starts_above app s irq is in
-          let none : priority_of app irq ≡ 0 = ap (λ o. or_zero (option_map (λ (x : Service). x.level) o)) at in
+          let none : priority_of app irq ≡ 0 = ap (λ o. or_zero (option_map (λ (x : Service). x.priority) o)) at in
           absurd (omega arith)
 
-  module _ (s : State) (v : Sight) (quiet : StaysQuiet s) where
+  module _ (s : State) (v : Observer) (quiet : StaysQuiet s) where
     takes : (irq depth : ℕ) → candidate app s ≡ Some irq → (x : Service) → service_at app irq ≡ Some x
-        → Lowers s v (started app (record s { pending = slice_set s.pending irq false }) irq (Some x))
+        → Lowers s v (state_after_start app (record s { pending = slice_set s.pending irq false }) irq (Some x))
         (sees app v (Stepped (Some (what.Take irq depth))))
-    takes irq depth is x at = by (zero_or_some_level (nat_le p x.level) refl)
+    takes irq depth is x at = by (either_side (nat_le p x.priority) refl)
       where
         t : State
-        t = started app (record s { pending = slice_set s.pending irq false }) irq (Some x)
+        t = state_after_start app (record s { pending = slice_set s.pending irq false }) irq (Some x)
 
         runs : RunsTask app accepted form x
         runs = served_runs app accepted form irq x at
 
-        zero_or_some_level : (b : Bool) → nat_le p x.level ≡ b → (p ≤ x.level) ⊎ (x.level < p)
-        zero_or_some_level true test = inl (leb-true p x.level test)
-        zero_or_some_level false test = inr (leb-false p x.level test)
+        either_side : (b : Bool) → nat_le p x.priority ≡ b → (p ≤ x.priority) ⊎ (x.priority < p)
+        either_side true test = inl (leb-true p x.priority test)
+        either_side false test = inr (leb-false p x.priority test)
 
         stays : StaysQuiet t
         stays = record {
@@ -132,16 +132,16 @@ module _ (app : App) (accepted : IsAccepted app) (form : is_of_t_form app ≡ tr
           not_owing = quiet.not_owing;
         }
 
-        by : (p ≤ x.level) ⊎ (x.level < p) → Lowers s v t (sees app v (Stepped (Some (what.Take irq depth))))
+        by : (p ≤ x.priority) ⊎ (x.priority < p) → Lowers s v t (sees app v (Stepped (Some (what.Take irq depth))))
         by (inl over) =
-            let reach : p ≤ runs.row.priority = subst (λ q. p ≤ q) runs.level over in
-            let cost : handler_cost app x.handler + 1 ≡ handling app runs.row =
+            let reach : p ≤ runs.row.priority = subst (λ q. p ≤ q) runs.priority over in
+            let cost : handler_cost app x.handler + 1 ≡ handling_steps app runs.row =
             ap (λ h. handler_cost app h + 1) runs.handler
             ∙ ap (λ o. cost_of (cost_measure app) (option_map (λ (t : Task). t.body) o) + 1) runs.at in
             let clears = take_clears app p s.pending irq app.tasks runs.task runs.row runs.at reach
             (served_number app accepted form irq x at) (pending_taken s irq is) in
-            let new : at_level p x.level (handler_cost app x.handler) ≡ handler_cost app x.handler =
-            at_level_is p x.level (handler_cost app x.handler) over in
+            let new : at_priority p x.priority (handler_cost app x.handler) ≡ handler_cost app x.handler =
+            at_priority_is p x.priority (handler_cost app x.handler) over in
             let less : owes t + 1 ≤ owes s = omega (arith, cost, clears, new) in
             record {
               quiet = stays;
@@ -154,8 +154,8 @@ module _ (app : App) (accepted : IsAccepted app) (form : is_of_t_form app ≡ tr
             }
         by (inr under) =
             let lowers = take_lowers app p s.pending irq app.tasks in
-            let new : at_level p x.level (handler_cost app x.handler) ≡ 0 =
-            not_at_level p x.level (handler_cost app x.handler) under in
+            let new : at_priority p x.priority (handler_cost app x.handler) ≡ 0 =
+            not_at_priority p x.priority (handler_cost app x.handler) under in
             record {
               quiet = stays;
               no_more = omega (arith, lowers, new);
@@ -172,7 +172,7 @@ module _ (app : App) (accepted : IsAccepted app) (form : is_of_t_form app ≡ tr
     left_some Waiting q left others above has some = let none = above.1 in absurd (omega arith)
     left_some (Serving irq) q left others above has some = has
 
-    module _ (given shown : Option What) (t : State) (u : Sight) (step : Step app s v given t u)
+    module _ (given shown : Option What) (t : State) (u : Observer) (step : Step app s v given t u)
         (spent : Spent s step.job step.others shown t) (has : HasStep step.job.role step.job.left) where
       quiet_here : AllByRecursion (λ job. IsQuiet job.rest) (step.job ∷ step.others)
       quiet_here = subst (AllByRecursion (λ job. IsQuiet job.rest)) step.jobs_are quiet.rests
@@ -197,7 +197,7 @@ module _ (app : App) (accepted : IsAccepted app) (form : is_of_t_form app ≡ tr
       abbrev asked_for : ℕ
       asked_for = owed_pending app p s.pending app.tasks
 
-      before : owes s ≡ at_level p step.job.priority step.job.left + below_it + asked_for
+      before : owes s ≡ at_priority p step.job.priority step.job.left + below_it + asked_for
       before = ap (λ js. owed_jobs app p js + asked_for) step.jobs_are
 
       after_jobs : (js : List Job) → t.jobs ≡ js → owes t ≡ owed_jobs app p js + asked_for
@@ -205,48 +205,48 @@ module _ (app : App) (accepted : IsAccepted app) (form : is_of_t_form app ≡ tr
           ap (λ js. owed_jobs app p js + owed_pending app p t.pending app.tasks) is
           ∙ ap (λ ps. owed_jobs app p js + owed_pending app p ps app.tasks) spent.pending
 
-      -- a job of the level or higher has a step less left
+      -- a job of the priority or higher has a step less left
       less_over : p ≤ step.job.priority → Spends step.job step.others shown t.jobs → owes t + 1 ≤ owes s
       less_over over (SpendsOne j js priority left rest no_end) =
           let some : 0 < step.job.left = left_some step.job.role step.job.priority step.job.left step.others step.above has (omega arith) in
-          let old = at_level_is p step.job.priority step.job.left over in
-          let new : at_level p j.priority j.left ≡ step.job.left - 1 =
-          at_level_is p j.priority j.left (subst (λ q. p ≤ q) (sym priority) over) ∙ left in
+          let old = at_priority_is p step.job.priority step.job.left over in
+          let new : at_priority p j.priority j.left ≡ step.job.left - 1 =
+          at_priority_is p j.priority j.left (subst (λ q. p ≤ q) (sym priority) over) ∙ left in
           omega (arith, before, after_jobs (j ∷ step.others) js, old, new, some)
       less_over over (BeginsAnew j js priority rest) =
           let some : 0 < step.job.left = left_some step.job.role step.job.priority step.job.left step.others step.above has (omega arith) in
-          let old = at_level_is p step.job.priority step.job.left over in
-          let new = not_at_level p j.priority j.left (subst (λ q. q < p) (sym priority) positive) in
+          let old = at_priority_is p step.job.priority step.job.left over in
+          let new = not_at_priority p j.priority j.left (subst (λ q. q < p) (sym priority) positive) in
           omega (arith, before, after_jobs (j ∷ step.others) js, old, new, some)
       less_over over (LeavesStack js) =
           let some : 0 < step.job.left = left_some step.job.role step.job.priority step.job.left step.others step.above has (omega arith) in
-          let old = at_level_is p step.job.priority step.job.left over in
+          let old = at_priority_is p step.job.priority step.job.left over in
           omega (arith, before, after_jobs step.others js, old, some)
 
       -- a lower one owes nothing
       same_under : step.job.priority < p → Spends step.job step.others shown t.jobs → owes t ≤ owes s
       same_under under (SpendsOne j js priority left rest no_end) =
-          let new = not_at_level p j.priority j.left (subst (λ q. q < p) (sym priority) under) in
+          let new = not_at_priority p j.priority j.left (subst (λ q. q < p) (sym priority) under) in
           omega (arith, before, after_jobs (j ∷ step.others) js, new)
       same_under under (BeginsAnew j js priority rest) =
-          let new = not_at_level p j.priority j.left (subst (λ q. q < p) (sym priority) positive) in
+          let new = not_at_priority p j.priority j.left (subst (λ q. q < p) (sym priority) positive) in
           omega (arith, before, after_jobs (j ∷ step.others) js, new)
       same_under under (LeavesStack js) = omega (arith, before, after_jobs step.others js)
 
-      taken : (entered left : ℕ) → Low app p entered left s.jobs v.jobs → p ≤ level app s.jobs
+      taken : (entered left : ℕ) → Low app p entered left s.jobs v.jobs → p ≤ system_ceiling app s.jobs
           → Took app p positive entered left step.seen t.jobs u.jobs
       taken entered left low reach =
           took app p positive entered left step.job step.others step.seen step.seens step.well step.above
           (subst (λ js. Low app p entered left js (step.seen ∷ step.seens)) step.jobs_are
           (subst (λ vs. Low app p entered left s.jobs vs) step.views_are low))
-          (subst (λ js. p ≤ level app js) step.jobs_are reach) step.may given t.jobs u.jobs step.led.moves
+          (subst (λ js. p ≤ system_ceiling app js) step.jobs_are reach) step.may given t.jobs u.jobs step.led.moves
 
       over_spends : p ≤ step.job.priority → (entered left : ℕ) → Low app p entered left s.jobs v.jobs
           → (rest : ℕ) × Low app p entered rest t.jobs u.jobs × (owes t + rest + 1 ≤ owes s + left)
       over_spends over entered left low = by (taken entered left low reach)
         where
-          reach : p ≤ level app s.jobs
-          reach = subst (λ js. p ≤ level app js) (sym step.jobs_are) (omega arith)
+          reach : p ≤ system_ceiling app s.jobs
+          reach = subst (λ js. p ≤ system_ceiling app js) (sym step.jobs_are) (omega arith)
 
           by : Took app p positive entered left step.seen t.jobs u.jobs
               → (rest : ℕ) × Low app p entered rest t.jobs u.jobs × (owes t + rest + 1 ≤ owes s + left)
@@ -279,8 +279,8 @@ module _ (app : App) (accepted : IsAccepted app) (form : is_of_t_form app ≡ tr
                 spends = λ entered left some low. under_spends under entered left some low;
               }
 
-  module _ (s : State) (v : Sight) (well : StateWell app s v) (quiet : StaysQuiet s) where
-    of_step : (given shown : Option What) (t : State) (u : Sight) (step : Step app s v given t u)
+  module _ (s : State) (v : Observer) (well : StateWell app s v) (quiet : StaysQuiet s) where
+    of_step : (given shown : Option What) (t : State) (u : Observer) (step : Step app s v given t u)
         → May app s (Stepped shown) → MayStep s.jobs → ((irq depth : ℕ) → ¬ (shown ≡ Some (what.Take irq depth)))
         → t ≡ after app s (Stepped shown) → Lowers s v t u
     of_step given shown t u step may has no_take is =
@@ -299,7 +299,7 @@ module _ (app : App) (accepted : IsAccepted app) (form : is_of_t_form app ≡ tr
         may may.step (λ irq depth e. none-some _ e) refl
     lowers (Some (what.Take irq depth)) may =
         let x = is_served s irq may.1 in
-        subst (λ o. Lowers s v (started app (record s { pending = slice_set s.pending irq false }) irq o)
+        subst (λ o. Lowers s v (state_after_start app (record s { pending = slice_set s.pending irq false }) irq o)
         (sees app v (Stepped (Some (what.Take irq depth))))) (sym x.1)
         (takes s v quiet irq depth may.1 x.0 x.1)
     lowers (Some w) may =

@@ -14,14 +14,14 @@ use Rattle.rt_app.specs.Level.{is_software, is_of_level, levels}
 use Rattle.rt_app.specs.Handlers.{Runs, Service, dispatcher_of, bound_service, task_services, dispatcher_service, timer_service, services, irq_number}
 use Rattle.rt_app.specs.Accepted.{IsAccepted}
 use Rattle.rt_app.proofs.Members.{in_front, in_back}
-use Rattle.rt_app.specs.Forms.{is_of_t_form}
+use Rattle.rt_app.specs.Forms.{has_response_times}
 use Rattle.rt_laws.specs.Services.{service_at, handler_cost}
 use Rattle.rt_laws.proofs.Pending.{found_passes, some_number}
 use Rattle.rt_laws.proofs.Dispatchers.{only_service}
 use Rattle.rt_rta.specs.Limits.{number_of}
 use Rattle.rt_rta.proofs.Quiet.{hardware, untimed}
 
-module _ (app : App) (accepted : IsAccepted app) (form : is_of_t_form app ≡ true) where
+module _ (app : App) (accepted : IsAccepted app) (form : has_response_times app ≡ true) where
   -- it runs a task
   pub record RunsTask (v : Service) : Type 0 where
     pub task : ℕ
@@ -29,7 +29,7 @@ module _ (app : App) (accepted : IsAccepted app) (form : is_of_t_form app ≡ tr
     pub at : slice_get app.tasks task ≡ Some row
     pub binds : row.binds ≡ Some v.irq
     pub handler : v.handler ≡ Runs task
-    pub level : v.level ≡ row.priority
+    pub priority : v.priority ≡ row.priority
 
   tasks_run : (n : ℕ) (ts : List Task) → AreFrom app.tasks n ts → AllByRecursion RunsTask (task_services n ts)
   tasks_run n [] from = tt
@@ -46,13 +46,13 @@ module _ (app : App) (accepted : IsAccepted app) (form : is_of_t_form app ≡ tr
           at = first_from app.tasks n t ts from;
           binds = is;
           handler = refl;
-          level = refl;
+          priority = refl;
         },
         tt,
       )
 
-  no_level : (p : ℕ) → list_any (is_of_level p) app.tasks ≡ true → ⊥
-  no_level p some =
+  no_handler : (p : ℕ) → list_any (is_of_level p) app.tasks ≡ true → ⊥
+  no_handler p some =
       let one = any_one (is_of_level p) app.tasks some in
       true_and_false (list_any is_software app.tasks)
       (any_passes is_software app.tasks one.0 one.1 one.2 (and_left (is_software one.1) (one.1.priority == p) one.3))
@@ -68,7 +68,7 @@ module _ (app : App) (accepted : IsAccepted app) (form : is_of_t_form app ≡ tr
       (all_append RunsTask _ (timer_service app.mono)
       (all_flat_map RunsTask (λ p. dispatcher_service p (dispatcher_of app p)) (levels app)
       (those_all (λ p. AllByRecursion RunsTask (dispatcher_service p (dispatcher_of app p))) (λ p. list_any (is_of_level p) app.tasks) _
-      (λ p below some. absurd (no_level p some))))
+      (λ p below some. absurd (no_handler p some))))
       (no_timer app.mono refl))
 
   -- what serves an interrupt runs a task that binds it
@@ -84,26 +84,26 @@ module _ (app : App) (accepted : IsAccepted app) (form : is_of_t_form app ≡ tr
 
   -- a task serves the interrupt that it binds
   services_have : (n : ℕ) (ts : List Task) (k : ℕ) (t : Task) (irq : ℕ) → slice_get ts k ≡ Some t → t.binds ≡ Some irq
-      → IsIn (task_services n ts) (record { irq = irq; handler = Runs (n + k); level = t.priority })
+      → IsIn (task_services n ts) (record { irq = irq; handler = Runs (n + k); priority = t.priority })
   services_have n [] k t irq at binds = absurd (none-some t at)
   services_have n (u ∷ ts) zero t irq at binds =
-      in_front (bound_service n u u.binds) (task_services (n + 1) ts) (record { irq = irq; handler = Runs (n + 0); level = t.priority })
-      (subst (λ (o : Option ℕ). IsIn (bound_service n u o) (record { irq = irq; handler = Runs (n + 0); level = t.priority }))
+      in_front (bound_service n u u.binds) (task_services (n + 1) ts) (record { irq = irq; handler = Runs (n + 0); priority = t.priority })
+      (subst (λ (o : Option ℕ). IsIn (bound_service n u o) (record { irq = irq; handler = Runs (n + 0); priority = t.priority }))
       (sym (ap (λ (t : Task). t.binds) (same_Some u t at) ∙ binds)) (
         0,
-        ap (λ (v : Service). Some v) (ap (λ (k : ℕ). record { irq = irq; handler = Runs k; level = u.priority }) (omega arith)
-            ∙ ap (λ (q : ℕ). record { irq = irq; handler = Runs (n + 0); level = q }) (ap (λ (t : Task). t.priority) (same_Some u t at))),
+        ap (λ (v : Service). Some v) (ap (λ (k : ℕ). record { irq = irq; handler = Runs k; priority = u.priority }) (omega arith)
+            ∙ ap (λ (q : ℕ). record { irq = irq; handler = Runs (n + 0); priority = q }) (ap (λ (t : Task). t.priority) (same_Some u t at))),
       ))
   services_have n (u ∷ ts) (suc k) t irq at binds =
       let e : n + 1 + k ≡ n + suc k = omega arith in
-      in_back (bound_service n u u.binds) (task_services (n + 1) ts) (record { irq = irq; handler = Runs (n + suc k); level = t.priority })
-      (subst (λ (k : ℕ). IsIn (task_services (n + 1) ts) (record { irq = irq; handler = Runs k; level = t.priority })) e
+      in_back (bound_service n u u.binds) (task_services (n + 1) ts) (record { irq = irq; handler = Runs (n + suc k); priority = t.priority })
+      (subst (λ (k : ℕ). IsIn (task_services (n + 1) ts) (record { irq = irq; handler = Runs k; priority = t.priority })) e
       (services_have (n + 1) ts k t irq at binds))
 
   pub record Serves (t : Task) (number : ℕ) : Type 0 where
     pub service : Service
     pub at : service_at app number ≡ Some service
-    pub level : service.level ≡ t.priority
+    pub priority : service.priority ≡ t.priority
 
   pub task_serves : (k : ℕ) (t : Task) (number : ℕ) → slice_get app.tasks k ≡ Some t → number_of app t ≡ Some number
       → Serves t number
@@ -112,10 +112,10 @@ module _ (app : App) (accepted : IsAccepted app) (form : is_of_t_form app ≡ tr
       go : (o : Option ℕ) → t.binds ≡ o → then_from o (irq_number app) ≡ Some number → Serves t number
       go None binds is = absurd (none-some number is)
       go (Some irq) binds is =
-          let w : Service = record { irq = irq; handler = Runs (0 + k); level = t.priority } in
+          let w : Service = record { irq = irq; handler = Runs (0 + k); priority = t.priority } in
           let there : IsIn (services app) w =
           in_front (task_services 0 app.tasks) _ w (services_have 0 app.tasks k t irq at binds) in
           let one = found (λ (s : Service). is_some_and (λ n. n == number) (irq_number app s.irq)) (services app) there.0 w
           there.1 (ap (is_some_and (λ n. n == number)) is ∙ eq-eqb number number refl) in
           let same : one.0 ≡ w = only_service app accepted number one.0 w there is one.1 in
-          record { service = one.0; at = one.1; level = ap (λ (v : Service). v.level) same }
+          record { service = one.0; at = one.1; priority = ap (λ (v : Service). v.priority) same }

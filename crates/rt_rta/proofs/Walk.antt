@@ -1,4 +1,4 @@
--- A stretch of a run in which something is owed to a level: it is over before the response time has passed.
+-- A stretch of a run in which something is owed to a priority: it is over before the response time has passed.
 use Rattle.std.proofs.Common.{◌≡◌, ℕ, zero, suc, ◌+◌, ◌-◌, ◌*◌, ◌/◌, ◌≤◌, ◌<◌, ◌^◌, ◌==◌, ◌⊎◌, inl, inr, Bool, true, false, if◌then◌else◌, List, [], ◌∷◌, Option, Some, None, refl, sym, ap, subst, ◌∙◌, arith}
 use Rattle.std.proofs.lemmas.Bool.{eqb-true}
 use Rattle.std.proofs.lemmas.Nat.{le-div}
@@ -6,16 +6,16 @@ use Rattle.rt_trace.specs.Label.{Label, Arrived, Ticked, Rang, Stepped}
 use Rattle.rt_app.specs.Tree.{App}
 use Rattle.rt_app.specs.Waiting.{waiting_bound}
 use Rattle.rt_app.specs.Accepted.{IsAccepted}
-use Rattle.rt_app.specs.Forms.{is_of_t_form}
+use Rattle.rt_app.specs.Forms.{has_response_times}
 use Rattle.rt_laws.specs.State.{Job, State}
-use Rattle.rt_laws.specs.Acting.{pended}
+use Rattle.rt_laws.specs.Acting.{state_after_pend}
 use Rattle.rt_laws.specs.Allowed.{May, after}
-use Rattle.rt_laws.specs.Sight.{Seen, Sight, sees}
+use Rattle.rt_laws.specs.Observer.{Seen, Observer, sees}
 use Rattle.rt_laws.proofs.Well.{StateWell}
 use Rattle.rt_laws.proofs.Waiting.{Low, low_start}
 use Rattle.rt_rta.specs.declared.limits.Limit.{Limit}
 use Rattle.rt_rta.specs.Limits.{every_of}
-use Rattle.rt_rta.specs.Response.{begun_in, requests, demand, Suffices}
+use Rattle.rt_rta.specs.Response.{most_requests, requests, demand, Suffices}
 use Rattle.rt_rta.proofs.Spacing.{Waits, requested, a_step_on}
 use Rattle.rt_rta.proofs.Owing.{Counts, one_more, owed, raised, raised_none, raised_within, request_raises}
 use Rattle.rt_rta.proofs.Stepping.{StaysQuiet, Lowers, zero_or_some}
@@ -42,7 +42,7 @@ fits_begun (Some every) count steps waits fits =
     let some = fits.2 in
     le-div count (steps + 1 + (every - 1)) every some (omega arith)
 
-module _ (app : App) (accepted : IsAccepted app) (form : is_of_t_form app ≡ true) (limits : List Limit) (p : ℕ) (positive : 0 < p)
+module _ (app : App) (accepted : IsAccepted app) (form : has_response_times app ≡ true) (limits : List Limit) (p : ℕ) (positive : 0 < p)
     (top : p ≤ 2 ^ app.bits) (least : ℕ) (suffices : Suffices app limits p least) where
   abbrev owes : State → ℕ
   owes s = owed app p s
@@ -55,7 +55,7 @@ module _ (app : App) (accepted : IsAccepted app) (form : is_of_t_form app ≡ tr
   Short waits = (irq every : ℕ) → every_of limits irq ≡ Some every → (waits irq ≤ every) × (1 ≤ every)
 
   -- so many core steps into a stretch
-  pub record Stretch (s : State) (v : Sight) (waits : Waits) (steps : ℕ) : Type 0 where
+  pub record Stretch (s : State) (v : Observer) (waits : Waits) (steps : ℕ) : Type 0 where
     pub short_of : steps < least
     pub counts : Counts
     pub entered : ℕ
@@ -65,7 +65,7 @@ module _ (app : App) (accepted : IsAccepted app) (form : is_of_t_form app ≡ tr
     pub fits : (irq : ℕ) → Fits (every_of limits irq) (counts irq) steps (waits irq)
 
   -- it begins where nothing is owed
-  pub fresh : (s : State) (v : Sight) (waits : Waits) → StateWell app s v → Short waits → owes s ≡ 0 → Stretch s v waits 0
+  pub fresh : (s : State) (v : Observer) (waits : Waits) → StateWell app s v → Short waits → owes s ≡ 0 → Stretch s v waits 0
   fresh s v waits well short none =
       let start = low_start app p positive s.jobs v.jobs well.stack top in
       let some = suffices.some in
@@ -80,7 +80,7 @@ module _ (app : App) (accepted : IsAccepted app) (form : is_of_t_form app ≡ tr
       }
 
   -- a request
-  pub on_request : (s : State) (v : Sight) (waits : Waits) (steps irq every : ℕ) → Short waits
+  pub on_request : (s : State) (v : Observer) (waits : Waits) (steps irq every : ℕ) → Short waits
       → every_of limits irq ≡ Some every → waits irq ≡ 0
       → Stretch s v waits steps
       → Stretch (after app s (Arrived irq)) (sees app v (Arrived irq)) (requested irq every waits) steps
@@ -113,7 +113,7 @@ module _ (app : App) (accepted : IsAccepted app) (form : is_of_t_form app ≡ tr
       by k false test = stretch.fits k
 
   -- a step while something is owed, before and behind it
-  pub on_step : (s : State) (v : Sight) (waits : Waits) (steps : ℕ) (t : State) (u : Sight)
+  pub on_step : (s : State) (v : Observer) (waits : Waits) (steps : ℕ) (t : State) (u : Observer)
       → Lowers app accepted form p positive s v t u → Stretch s v waits steps → 0 < owes s → 0 < owes t
       → Stretch t u (a_step_on waits) (steps + 1)
   on_step s v waits steps t u lowers stretch some more =
@@ -149,7 +149,7 @@ module _ (app : App) (accepted : IsAccepted app) (form : is_of_t_form app ≡ tr
               absurd (omega arith)
 
   -- a step, wherever it is
-  pub any_step : (s : State) (v : Sight) (waits : Waits) (steps : ℕ) (t : State) (u : Sight) → StateWell app t u → Short waits
+  pub any_step : (s : State) (v : Observer) (waits : Waits) (steps : ℕ) (t : State) (u : Observer) → StateWell app t u → Short waits
       → Lowers app accepted form p positive s v t u → Stretch s v waits steps
       → (n : ℕ) × Stretch t u (a_step_on waits) n
   any_step s v waits steps t u well short lowers stretch = by (zero_or_some (owes t))

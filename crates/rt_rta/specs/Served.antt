@@ -23,9 +23,9 @@ pub record ServedIn (irq steps : ℕ) (labels : List Label) : Type 0 where
   pub first_return : AllByRecursion (λ label. is_return irq label ≡ false) serving
   pub in_time : steps_of waiting + 1 + steps_of serving + 1 ≤ steps
 
--- each request of an interrupt is served within the response time of its level, where the run goes on so long
+-- each request of an interrupt is served within the response time of its priority, where the run goes on so long
 abbrev pub Responds : App → List Limit → List Label → Type 0
 Responds app limits labels =
     (front behind : List Label) (irq : ℕ) (service : Service) (steps : ℕ) → labels ≡ front ++ Arrived irq ∷ behind
-    → service_at app irq ≡ Some service → IsResponse app limits service.level (Some steps) → steps ≤ steps_of behind
+    → service_at app irq ≡ Some service → IsResponse app limits service.priority (Some steps) → steps ≤ steps_of behind
     → ServedIn irq steps behind

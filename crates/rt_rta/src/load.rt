@@ -15,7 +15,7 @@ use std::alloc::Global;
 #[derive(Clone, Copy)]
 pub(crate) struct Load {
     /// The priority of the task.
-    pub(crate) level: u8,
+    pub(crate) priority: u8,
     /// The least distance between two requests, in core steps.
     pub(crate) every: u32,
     /// The core steps of one handling, its take counted.
@@ -26,8 +26,8 @@ pub(crate) struct Load {
 pub(crate) fn number_of(app: &App, task: &Task) -> Option<Irq>
     ensures { result ≡ spec.number_of (app_of app.now) (task_of task.now) }
 {
-    let place = task.binds?;
-    app.irqs.get(usize::from(place)).map(|irq| irq.number)
+    let index = task.binds?;
+    app.irqs.get(usize::from(index)).map(|irq| irq.number)
 }
 
 /// The least distance between requests of a task, where it has a limit.
@@ -51,7 +51,7 @@ fn push_load(
 {
     if let Some(every) = every_of(app, limits, task) {
         loads.push(Load {
-            level: task.priority,
+            priority: task.priority,
             every,
             steps: measure.body(&task.body) + 1,
         })?;

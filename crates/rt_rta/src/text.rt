@@ -5,7 +5,7 @@ use crate::response::ResponseTime;
 use rt_ids::{NoMemory, push_bytes, push_number};
 use std::alloc::Global;
 
-/// The response times as text: a line `time LEVEL STEPS` for each level, with `-` where it has none.
+/// The response times as text: a line `time LEVEL STEPS` for each priority, with `-` where it has none.
 pub fn report(alloc: Global, rows: &[ResponseTime]) -> Result<Vec<u8>, NoMemory>
     ensures { IfOk result (λ text. text.items ≡ spec.report rows.now) }
 {
@@ -16,19 +16,19 @@ pub fn report(alloc: Global, rows: &[ResponseTime]) -> Result<Vec<u8>, NoMemory>
     Ok(out)
 }
 
-/// Appends the line of a level.
+/// Appends the line of a priority.
 #[tactic(auto, unfolding(crate::specs::Report::line))]
 fn push_line(out: &mut Vec<u8>, row: ResponseTime) -> Result<(), NoMemory>
     ensures { OnOk result (out.new.items ≡ out.old.items ++ spec.line row) }
 {
     push_bytes(out, b"time ")?;
-    push_number(out, u32::from(row.level))?;
+    push_number(out, u32::from(row.priority))?;
     push_bytes(out, b" ")?;
     push_steps(out, row.steps)?;
     push_bytes(out, b"\n")
 }
 
-/// Appends the core steps of a level, or `-`.
+/// Appends the core steps of a priority, or `-`.
 fn push_steps(out: &mut Vec<u8>, steps: Option<u32>) -> Result<(), NoMemory>
     ensures { OnOk result (out.new.items ≡ out.old.items ++ spec.steps_text steps) }
 {

@@ -12,7 +12,7 @@ use Rattle.rt_app.specs.declared.violation.Violation.{Violation}
 use Rattle.rt_app.specs.Bodies.{Member}
 use Rattle.rt_app.specs.Tree.{App}
 use Rattle.rt_app.specs.Violation.{when}
-use Rattle.rt_app.specs.Listing.{Listing, first_listing, judged_by, judged}
+use Rattle.rt_app.specs.Listing.{Listing, first_listing, breaks_beside, listing_breaks}
 use Rattle.rt_app.specs.Declarations.{Used, used_twice, is_known, owns, owned_before, owned_twice}
 use Rattle.rt_rules.specs.Inside.First.{first_of}
 use Rattle.rt_rules.specs.Inside.Tables.{or_else}
@@ -77,8 +77,8 @@ none_at {A} n r =
     ]
 
 -- what a listing breaks, by the first one of its resource
-pub judged_by_first : (app : App) (l : Listing) (o : Option Listing) → o ≡ first_listing app l.listed.resource → (if is_known l.listed.resource then judged_by app l o else []) ≡ judged app l
-judged_by_first app l o e = ap (λ o. if is_known l.listed.resource then judged_by app l o else []) e
+pub judged_by_first : (app : App) (l : Listing) (o : Option Listing) → o ≡ first_listing app l.listed.resource → (if is_known l.listed.resource then breaks_beside app l o else []) ≡ listing_breaks app l
+judged_by_first app l o e = ap (λ o. if is_known l.listed.resource then breaks_beside app l o else []) e
 
 listed_or_else : (o : Option Listing) (b : Bool) (l : Listing) → option_map (λ l. l.listed) (or_else o (if b then Some l else None)) ≡ or_else (option_map (λ l. l.listed) o) (if b then Some l.listed else None)
 listed_or_else None true l = refl

@@ -10,7 +10,7 @@ use Rattle.rt_app.specs.Bodies.{Member}
 use Rattle.rt_app.specs.View.{expression_of, spawn_of, statement_of, block_of}
 use Rattle.rt_app.specs.Violation.{when}
 use Rattle.rt_app.specs.Statements.{is_bad_spawn, is_bad_message, use_breaks, breaks}
-use Rattle.rt_app.specs.Use.{Use, Placed, Locks, MakesSpawn, placed, reads, spawn_uses, statement_uses, uses}
+use Rattle.rt_app.specs.Use.{Use, Placed, Locks, MakesSpawn, use_with_locks, reads, spawn_uses, statement_uses, uses}
 use Rattle.rt_app.specs.declared.violation.Violation.{Violation}
 use Rattle.rt_app.specs.declared.expr.Expr.{Expr, Oper}
 use Rattle.rt_app.specs.declared.stmt.Spawn.{Spawn}
@@ -28,7 +28,7 @@ uses_behind app m o p q xs ys zs all before here =
 
 -- uses behind one
 pub uses_behind_one : (app : App) (m : Member) (o p q : Option Violation) (locked : List ℕ) (u : Use) (ys zs : List Placed)
-    → zs ≡ placed locked u ∷ ys → p ≡ first_of o (use_breaks app m locked u) → q ≡ first_use app m p ys → q ≡ first_use app m o zs
+    → zs ≡ use_with_locks locked u ∷ ys → p ≡ first_of o (use_breaks app m locked u) → q ≡ first_use app m p ys → q ≡ first_use app m o zs
 uses_behind_one app m o p q locked u ys zs all before here = behind o p q (use_breaks app m locked u) (flat_map (breaks app m) ys) before here ∙ ap (first_use app m o) (sym all)
 
 pub branch_uses : (locked : List ℕ) (stmt : Stmt) (e : Expr) (v w : Vec Stmt Global) (first second : List Stmt) → stmt ≡ Branch e v w → first ≡ v.items → second ≡ w.items
@@ -39,7 +39,7 @@ pub repeat_uses : (locked : List ℕ) (stmt : Stmt) (x a b : ℕ) (v : Vec Stmt 
 repeat_uses locked stmt x a b v turn is f = ap (λ s. statement_uses locked (statement_of s)) is ∙ ap (statement_uses locked) (repeat_is x a b v) ∙ rw f refl
 
 pub lock_uses : (locked : List ℕ) (stmt : Stmt) (r : ℕ) (v : Vec Stmt Global) (at : ℕ) (inner : List Stmt) → stmt ≡ Locked r v at → inner ≡ v.items
-    → statement_uses locked (statement_of stmt) ≡ placed locked (Locks r at) ∷ uses (r ∷ locked) (block_of inner)
+    → statement_uses locked (statement_of stmt) ≡ use_with_locks locked (Locks r at) ∷ uses (r ∷ locked) (block_of inner)
 lock_uses locked stmt r v at inner is f = ap (λ s. statement_uses locked (statement_of s)) is ∙ ap (statement_uses locked) (locked_is r v at) ∙ rw f refl
 
 uses_are : (locked : List ℕ) (stmts : List Stmt) → uses locked (block_of stmts) ≡ flat_map (λ s. statement_uses locked (statement_of s)) stmts

@@ -34,7 +34,7 @@ impl First {
     }
 
     /// The first violation, where there is one.
-    pub(crate) fn found(&self) -> Option<Violation>
+    pub(crate) fn violation(&self) -> Option<Violation>
         ensures { result ≡ self.now }
     {
         self.found

@@ -6,7 +6,7 @@ ghost use Rattle.rt_ids.specs.Lists.{is_some_and};
 ghost use Rattle.rt_app.specs.Use.{loops as loops_of};
 ghost use Rattle.rt_app.specs.Statements.{listing_in, is_lockable, is_free, is_outside, is_misplaced_lock};
 ghost use Rattle.rt_app.specs.Statements.{is_inside_itself, is_fixed, is_bad_spawn, is_bad_message};
-ghost use Rattle.rt_rules.specs.Inside.Locked.{locked_of};
+ghost use Rattle.rt_rules.specs.Inside.Locked.{locked_resources};
 ghost use Rattle.rt_rules.specs.Inside.Tables.{has, listing_at};
 ghost use Rattle.rt_rules.specs.Inside.View.{member_of};
 
@@ -83,7 +83,7 @@ impl<'a> Judge<'a> {
 
     /// Whether it is a shared resource that the body, one other than `init`, does not reach where these are locked.
     pub(crate) fn is_outside(&self, locked: &Locked<'_>, atom: &Atom) -> bool
-        ensures { result ≡ is_outside (app_of self.now.app.now) (member_of self.now.member) (locked_of locked.now)
+        ensures { result ≡ is_outside (app_of self.now.app.now) (member_of self.now.member) (locked_resources locked.now)
             atom.now }
     {
         match atom {
@@ -177,7 +177,7 @@ fn body_listings(member: &Member<'_>) -> FirstListings
 
 /// Whether a resource is locked inside itself.
 pub(crate) fn is_inside_itself(locked: &Locked<'_>, resource: ResId) -> bool
-    ensures { result ≡ is_inside_itself (locked_of locked.now) resource }
+    ensures { result ≡ is_inside_itself (locked_resources locked.now) resource }
 {
     resource.0 != UNKNOWN && is_locked(locked, resource)
 }

@@ -5,8 +5,8 @@ ghost use Rattle.std.specs.Prelude.{IfOk, OnOk};
 ghost use Rattle.rt_app.specs.View.{app_of};
 ghost use Rattle.rt_app.specs.Bodies.{members};
 ghost use Rattle.rt_app.specs.Declarations.{is_known};
-ghost use Rattle.rt_app.specs.Listing.{listings_of, listed, is_lock_free, is_shared_and_exclusive};
-ghost use Rattle.rt_app.specs.Listing.{is_at_two_priorities, judged_by, judged};
+ghost use Rattle.rt_app.specs.Listing.{listings_of, listings_breaks, is_lock_free, is_shared_and_exclusive};
+ghost use Rattle.rt_app.specs.Listing.{is_at_two_priorities, breaks_beside, listing_breaks};
 ghost use Rattle.rt_rules.specs.Inside.First.{first_of};
 ghost use Rattle.rt_rules.specs.Inside.View.{member_of};
 ghost use Rattle.rt_rules.specs.Inside.Tables.{listing_at, or_else};
@@ -136,7 +136,7 @@ fn is_at_two_priorities(app: &App, first: &Listing, listing: &Listing) -> bool
 
 /// Offers what a listing breaks beside the first one of its resource.
 fn judge_beside(first: &mut First, app: &App, listing: &Listing, judge: &Option<Listing>)
-    ensures { first.new ≡ first_of first.old (judged_by (app_of app.now) listing.now judge.now) }
+    ensures { first.new ≡ first_of first.old (breaks_beside (app_of app.now) listing.now judge.now) }
 {
     if let Some(judge) = judge {
         let at = listing.listed.at;
@@ -157,7 +157,7 @@ fn judge_beside(first: &mut First, app: &App, listing: &Listing, judge: &Option<
 fn judge_listing(first: &mut First, app: &App, judges: &FirstListings, listing: &Listing)
     ensures { first.new ≡ first_of first.old
         (if is_known listing.now.listed.resource
-        then judged_by (app_of app.now) listing.now (listing_at judges.now listing.now.listed.resource) else []) }
+        then breaks_beside (app_of app.now) listing.now (listing_at judges.now listing.now.listed.resource) else []) }
 {
     let resource = listing.listed.resource;
     if resource.0 != UNKNOWN {
@@ -173,7 +173,7 @@ pub(crate) fn judge_listings(
     bodies: &[Member<'_>],
 ) -> Result<(), NoMemory>
     requires { map member_of bodies.now ≡ members (app_of app.now) }
-    ensures { OnOk result (first.new ≡ first_of first.old (listed (app_of app.now))) }
+    ensures { OnOk result (first.new ≡ first_of first.old (listings_breaks (app_of app.now))) }
 {
     let listings = listings(alloc, bodies)?;
     let judges = first_listings(&listings);

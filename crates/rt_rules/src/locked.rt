@@ -1,6 +1,6 @@
 ghost use Rattle.std.specs.Prelude.{◌≡◌, ◌==◌};
 ghost use Rattle.std.specs.List.{list_any};
-ghost use Rattle.rt_rules.specs.Inside.Locked.{locked_of};
+ghost use Rattle.rt_rules.specs.Inside.Locked.{locked_resources};
 
 use rt_ids::ResId;
 
@@ -13,7 +13,7 @@ pub(crate) enum Locked<'a> {
 
 /// Whether a resource is locked.
 pub(crate) fn is_locked(locked: &Locked<'_>, resource: ResId) -> bool
-    ensures { result ≡ list_any (λ q. q == resource) (locked_of locked.now) }
+    ensures { result ≡ list_any (λ q. q == resource) (locked_resources locked.now) }
 {
     match locked {
         Locked::Nothing => false,

@@ -13,7 +13,7 @@ use std::alloc::Global;
 pub(crate) enum Which {
     Init,
     Idle,
-    /// That of a task, by its place in the order of declaration.
+    /// That of a task, by its index in the order of declaration.
     Task(usize),
 }
 

@@ -32,11 +32,11 @@ impl Numbers {
     pub(crate) fn insert(&mut self, number: u16) -> Result<(), NoMemory>
         ensures { OnOk result ((k : ℕ) → has self.new k ≡ (number == k || has self.old k)) }
     {
-        let place = number as usize;
-        if self.marks.len() <= place {
-            self.marks.resize(place + 1, false)?;
+        let index = number as usize;
+        if self.marks.len() <= index {
+            self.marks.resize(index + 1, false)?;
         }
-        self.marks[place] = true;
+        self.marks[index] = true;
         Ok(())
     }
 }

@@ -2,14 +2,14 @@
 
 ghost use Rattle.std.specs.Prelude.{◌≡◌, [], ◌∷◌, ◌++◌, flat_map, map, is_none, OnOk};
 ghost use Rattle.rt_app.specs.View.{app_of, expression_of, spawn_of, value_of, statement_of, block_of};
-ghost use Rattle.rt_app.specs.Use.{Reads, Writes, Locks, MakesSpawn, AsksTime, placed, reads, spawn_uses, value_uses};
+ghost use Rattle.rt_app.specs.Use.{Reads, Writes, Locks, MakesSpawn, AsksTime, use_with_locks, reads, spawn_uses, value_uses};
 ghost use Rattle.rt_app.specs.Use.{statement_uses, uses};
 ghost use Rattle.rt_app.specs.Bodies.{members};
 ghost use Rattle.rt_app.specs.Statements.{is_bad_spawn, is_bad_message, use_breaks, breaks};
 ghost use Rattle.rt_app.specs.Violation.{when};
 ghost use Rattle.rt_ids.specs.declared.rule.Rule.TheVariants as rule;
 ghost use Rattle.rt_rules.specs.Inside.First.{first_of};
-ghost use Rattle.rt_rules.specs.Inside.Locked.{locked_of};
+ghost use Rattle.rt_rules.specs.Inside.Locked.{locked_resources};
 ghost use Rattle.rt_rules.specs.Inside.Uses.{first_use};
 ghost use Rattle.rt_rules.specs.Inside.View.{member_of};
 
@@ -24,7 +24,7 @@ use std::alloc::Global;
 /// Offers a read of a shared resource outside its lock.
 fn judge_read(first: &mut First, judge: &Judge<'_>, locked: &Locked<'_>, atom: &Atom, at: u32)
     ensures { first.new ≡ first_of first.old
-        (use_breaks (app_of judge.now.app.now) (member_of judge.now.member) (locked_of locked.now)
+        (use_breaks (app_of judge.now.app.now) (member_of judge.now.member) (locked_resources locked.now)
         (Reads atom.now at)) }
 {
     first.offer_when(judge.is_outside(locked, atom), Rule::OutsideLock, at);
@@ -33,7 +33,7 @@ fn judge_read(first: &mut First, judge: &Judge<'_>, locked: &Locked<'_>, atom: &
 /// Offers a write of a shared resource outside its lock, or of what can only be read.
 fn judge_write(first: &mut First, judge: &Judge<'_>, locked: &Locked<'_>, atom: &Atom, at: u32)
     ensures { first.new ≡ first_of first.old
-        (use_breaks (app_of judge.now.app.now) (member_of judge.now.member) (locked_of locked.now)
+        (use_breaks (app_of judge.now.app.now) (member_of judge.now.member) (locked_resources locked.now)
         (Writes atom.now at)) }
 {
     first.offer_when(judge.is_outside(locked, atom), Rule::OutsideLock, at);
@@ -43,7 +43,7 @@ fn judge_write(first: &mut First, judge: &Judge<'_>, locked: &Locked<'_>, atom: 
 /// Offers a lock that is not the body's to take, or inside one of the same resource.
 fn judge_lock(first: &mut First, judge: &Judge<'_>, locked: &Locked<'_>, resource: ResId, at: u32)
     ensures { first.new ≡ first_of first.old
-        (use_breaks (app_of judge.now.app.now) (member_of judge.now.member) (locked_of locked.now)
+        (use_breaks (app_of judge.now.app.now) (member_of judge.now.member) (locked_resources locked.now)
         (Locks resource at)) }
 {
     first.offer_when(judge.is_misplaced_lock(resource), Rule::OutsideLock, at);
@@ -75,7 +75,7 @@ fn judge_message(first: &mut First, judge: &Judge<'_>, word: u32, task: TaskId, 
 /// Offers the uses of an expression.
 fn judge_expression(first: &mut First, judge: &Judge<'_>, locked: &Locked<'_>, expr: &Expr)
     ensures { first.new ≡ first_use (app_of judge.now.app.now) (member_of judge.now.member) first.old
-        (reads (locked_of locked.now) (expression_of expr.now)) }
+        (reads (locked_resources locked.now) (expression_of expr.now)) }
 {
     match expr {
         Expr::Num(_) => {}
@@ -90,7 +90,7 @@ fn judge_expression(first: &mut First, judge: &Judge<'_>, locked: &Locked<'_>, e
 /// Offers the uses of expressions.
 fn judge_expressions(first: &mut First, judge: &Judge<'_>, locked: &Locked<'_>, exprs: &[Expr])
     ensures { first.new ≡ first_use (app_of judge.now.app.now) (member_of judge.now.member) first.old
-        (flat_map (reads (locked_of locked.now)) (map expression_of exprs.now)) }
+        (flat_map (reads (locked_resources locked.now)) (map expression_of exprs.now)) }
 {
     for expr in exprs {
         judge_expression(first, judge, locked, expr);
@@ -100,7 +100,7 @@ fn judge_expressions(first: &mut First, judge: &Judge<'_>, locked: &Locked<'_>, 
 /// Offers the uses of a spawn.
 fn judge_spawn(first: &mut First, judge: &Judge<'_>, locked: &Locked<'_>, spawn: &Spawn)
     ensures { first.new ≡ first_use (app_of judge.now.app.now) (member_of judge.now.member) first.old
-        (spawn_uses (locked_of locked.now) (spawn_of spawn.now)) }
+        (spawn_uses (locked_resources locked.now) (spawn_of spawn.now)) }
 {
     match spawn {
         Spawn::Soon(task, args, at) => {
@@ -128,7 +128,7 @@ fn judge_spawn(first: &mut First, judge: &Judge<'_>, locked: &Locked<'_>, spawn:
 /// Offers the uses of what a variable is bound to.
 fn judge_value(first: &mut First, judge: &Judge<'_>, locked: &Locked<'_>, value: &Value)
     ensures { first.new ≡ first_use (app_of judge.now.app.now) (member_of judge.now.member) first.old
-        (value_uses (locked_of locked.now) (value_of value.now)) }
+        (value_uses (locked_resources locked.now) (value_of value.now)) }
 {
     match value {
         Value::Calc(expr) => judge_expression(first, judge, locked, expr),
@@ -141,7 +141,7 @@ fn judge_value(first: &mut First, judge: &Judge<'_>, locked: &Locked<'_>, value:
 #[cycle(block)]
 fn judge_statement(first: &mut First, judge: &Judge<'_>, locked: &Locked<'_>, stmt: &Stmt)
     ensures { first.new ≡ first_use (app_of judge.now.app.now) (member_of judge.now.member) first.old
-        (statement_uses (locked_of locked.now) (statement_of stmt.now)) }
+        (statement_uses (locked_resources locked.now) (statement_of stmt.now)) }
 {
     match stmt {
         Stmt::Bind(_variable, value) => judge_value(first, judge, locked, value),
@@ -169,7 +169,7 @@ fn judge_statement(first: &mut First, judge: &Judge<'_>, locked: &Locked<'_>, st
 #[cycle(block)]
 fn judge_block(first: &mut First, judge: &Judge<'_>, locked: &Locked<'_>, stmts: &[Stmt])
     ensures { first.new ≡ first_use (app_of judge.now.app.now) (member_of judge.now.member) first.old
-        (uses (locked_of locked.now) (block_of stmts.now)) }
+        (uses (locked_resources locked.now) (block_of stmts.now)) }
 {
     for stmt in stmts {
         judge_statement(first, judge, locked, stmt);

@@ -55,7 +55,7 @@ fn first_violation(alloc: Global, resolved: &Resolved) -> Result<Option<Violatio
     judge_listings(alloc, &mut first, app, &bodies)?;
     judge_statements(alloc, &mut first, app, &bodies)?;
     judge_lengths(&mut first, app, &bodies);
-    Ok(first.found())
+    Ok(first.violation())
 }
 
 /// The refusal of a rule, at the line and the column of its offset.

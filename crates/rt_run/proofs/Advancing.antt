@@ -12,7 +12,7 @@ use Rattle.rt_core.specs.Core.{Core}
 use Rattle.rt_core.specs.Machine.{Machine}
 use Rattle.rt_core.specs.Trace.{ring, tick, happen, core_after, labels}
 use Rattle.rt_core.specs.Stepping.{step}
-use Rattle.rt_core.specs.Transfer.{pended}
+use Rattle.rt_core.specs.Transfer.{core_after_pend}
 use Rattle.rt_core.specs.declared.alarm.Alarm.{Alarm}
 use Rattle.rt_core.proofs.Happening.{core_after-append, labels-append}
 use Rattle.rt_outside.specs.Bytes.{TookPrefix}
@@ -49,7 +49,7 @@ items-append n (Stepped (Some w) ∷ ls) ms =
 -- an alarm is no step
 ring_steps : (c : Core) (alarm : Option Alarm) (rest : List Label) → steps_of ((ring c alarm).1 ++ rest) ≡ steps_of rest
 ring_steps c None rest = refl
-ring_steps c (Some alarm) rest = one (nat_le alarm.instant c.time) (record (pended c alarm.irq) { alarm = None }) c
+ring_steps c (Some alarm) rest = one (nat_le alarm.instant c.time) (record (core_after_pend c alarm.irq) { alarm = None }) c
   where
     one : (due : Bool) (x y : Core)
         → steps_of ((if◌then◌else◌ {A = Core × List Label} due (x, Rang ∷ []) (y, [])).1 ++ rest) ≡ steps_of rest
@@ -59,7 +59,7 @@ ring_steps c (Some alarm) rest = one (nat_le alarm.instant c.time) (record (pend
 pub labelled_steps : (img : Image) (c : Core) (es : List Event) → steps_of (labels img c es) ≡ steps es
 unfolding labels happen
 labelled_steps img c [] = refl
-labelled_steps img c (Arrive irq ∷ es) = labelled_steps img (pended c irq) es
+labelled_steps img c (Arrive irq ∷ es) = labelled_steps img (core_after_pend c irq) es
 labelled_steps img c (Tick ∷ es) =
     ring_steps (record c { time = suc c.time }) c.alarm (labels img (tick c).0 es) ∙ labelled_steps img (tick c).0 es
 labelled_steps img c (Step ∷ es) = ap suc (labelled_steps img (step img c).0 es)

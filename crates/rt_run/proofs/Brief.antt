@@ -11,7 +11,7 @@ use Rattle.rt_code.specs.Lines.{HasLines}
 use Rattle.rt_core.specs.Core.{Core, reset}
 use Rattle.rt_core.specs.Machine.{Machine, IsFresh}
 use Rattle.rt_core.specs.Trace.{ring, happen, labels}
-use Rattle.rt_core.specs.Transfer.{pended}
+use Rattle.rt_core.specs.Transfer.{core_after_pend}
 use Rattle.rt_core.specs.declared.alarm.Alarm.{Alarm}
 use Rattle.rt_script.specs.Script.{IsScript, events}
 use Rattle.rt_script.specs.declared.line.Line.{Line}
@@ -39,7 +39,7 @@ rings_once c None = omega arith
 rings_once c (Some alarm) = one (nat_le alarm.instant c.time)
   where
     one : (due : Bool) → length (if◌then◌else◌ {A = Core × List Label} due
-        (record (pended c alarm.irq) { alarm = None }, Rang ∷ []) (c, [])).1 ≤ 1
+        (record (core_after_pend c alarm.irq) { alarm = None }, Rang ∷ []) (c, [])).1 ≤ 1
     one true = omega arith
     one false = omega arith
 

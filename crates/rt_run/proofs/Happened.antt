@@ -16,7 +16,7 @@ use Rattle.rt_ids.specs.Names.{Names}
 use Rattle.rt_core.specs.Machine.{Machine}
 use Rattle.rt_core.specs.Stepping.{step}
 use Rattle.rt_core.specs.Trace.{happen, core_after, labels}
-use Rattle.rt_core.specs.Transfer.{pended}
+use Rattle.rt_core.specs.Transfer.{core_after_pend}
 use Rattle.rt_trace.specs.Label.{Label, Ticked, Rang, Stepped, items_of}
 use Rattle.rt_trace.specs.Lined.{HasLine, IsDeclared}
 use Rattle.rt_trace.specs.Text.{text}
@@ -155,7 +155,7 @@ pub pend_leads : (old new : Machine) (irq : ℕ) (irqs : List ℕ) → irqs ≡ 
     → new ≡ record old { core = core_after old.image old.core (map Arrive irqs) } → Leads (Arrive irq ∷ []) old new
 unfolding core_after happen
 pend_leads old new irq irqs one state =
-    let is : new ≡ record old { core = pended old.core irq } =
+    let is : new ≡ record old { core = core_after_pend old.core irq } =
     state ∙ ap (λ is. record old { core = core_after old.image old.core (map Arrive is) }) one in
     subst (λ (m : Machine). Leads (Arrive irq ∷ []) old m) (sym is) (record {
       image = refl;

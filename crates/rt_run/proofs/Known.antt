@@ -9,7 +9,7 @@ use Rattle.rt_core.specs.Core.{Core}
 use Rattle.rt_core.specs.Machine.{Machine, IsFresh}
 use Rattle.rt_core.specs.Stepping.{step}
 use Rattle.rt_core.specs.Trace.{ring, happen, core_after}
-use Rattle.rt_core.specs.Transfer.{pended}
+use Rattle.rt_core.specs.Transfer.{core_after_pend}
 use Rattle.rt_core.specs.declared.alarm.Alarm.{Alarm}
 use Rattle.rt_core.proofs.Keeping.{step_keeps_time, tick_adds_one}
 use Rattle.rt_trace.specs.Label.{Label, Rang}
@@ -41,7 +41,7 @@ ring_known img c None h = h
 ring_known img c (Some alarm) h = one (nat_le alarm.instant c.time)
   where
     one : (due : Bool) → IsKnown img
-        (if◌then◌else◌ {A = Core × List Label} due (record (pended c alarm.irq) { alarm = None }, Rang ∷ []) (c, [])).0
+        (if◌then◌else◌ {A = Core × List Label} due (record (core_after_pend c alarm.irq) { alarm = None }, Rang ∷ []) (c, [])).0
     one true = record { cells = h.cells; below = h.below }
     one false = h
 
@@ -71,7 +71,7 @@ still_writable es a b run h = record {
 time_after : (img : Image) (c : Core) (es : List Event) → (core_after img c es).time ≡ c.time + ticks es
 unfolding core_after happen
 time_after img c [] = let e : c.time ≡ c.time + 0 = omega arith in e
-time_after img c (Arrive irq ∷ es) = time_after img (pended c irq) es
+time_after img c (Arrive irq ∷ es) = time_after img (core_after_pend c irq) es
 time_after img c (Tick ∷ es) = omega (arith, time_after img (happen img c Tick).0 es, tick_adds_one img c)
 time_after img c (Step ∷ es) = omega (arith, time_after img (step img c).0 es, step_keeps_time img c)
 

@@ -9,7 +9,7 @@ use Rattle.rt_code.specs.Image.{Image}
 use Rattle.rt_code.specs.Lines.{HasLines}
 use Rattle.rt_core.specs.Core.{Core}
 use Rattle.rt_core.specs.Machine.{Machine}
-use Rattle.rt_core.specs.Reaching.{StepsToItem, giving, and_the_last}
+use Rattle.rt_core.specs.Reaching.{StepsToItem, label_of_item, and_the_last}
 use Rattle.rt_core.specs.Stepping.{step}
 use Rattle.rt_core.specs.Trace.{happen, labels}
 use Rattle.rt_trace.specs.Label.{Label, Stepped, items_of}
@@ -48,15 +48,15 @@ silent_items n (suc s) ls = silent_items (suc n) s ls ∙ ap (λ k. items_of k l
 pub reached_nothing : (most : ℕ) (a b : Machine) (shown : Option What) (goes : StepsToItem most a b shown) → shown ≡ None
     → shown_items a (replicate goes.done Step) ≡ []
 reached_nothing most a b shown goes none =
-    ap (items_of a.steps) goes.reaches.shows ∙ silent_items a.steps goes.reaches.silent (giving shown)
-    ∙ ap (λ w. items_of (a.steps + goes.reaches.silent) (giving w)) none
+    ap (items_of a.steps) goes.reaches.shows ∙ silent_items a.steps goes.reaches.silent (label_of_item shown)
+    ∙ ap (λ w. items_of (a.steps + goes.reaches.silent) (label_of_item w)) none
 
 -- where the last step shows one
 pub reached_item : (most : ℕ) (a b : Machine) (shown : Option What) (w : What) (goes : StepsToItem most a b shown) → shown ≡ Some w
     → shown_items a (replicate goes.done Step) ≡ numbered (b.steps - 1) w ∷ []
 reached_item most a b shown w goes some =
-    ap (items_of a.steps) goes.reaches.shows ∙ silent_items a.steps goes.reaches.silent (giving shown)
-    ∙ ap (λ o. items_of (a.steps + goes.reaches.silent) (giving o)) some
+    ap (items_of a.steps) goes.reaches.shows ∙ silent_items a.steps goes.reaches.silent (label_of_item shown)
+    ∙ ap (λ o. items_of (a.steps + goes.reaches.silent) (label_of_item o)) some
     ∙ ap (λ n. numbered n w ∷ [])
     (let e : a.steps + goes.reaches.silent ≡ b.steps - 1 =
     omega (arith, goes.steps, goes.reaches.count, ap (λ o. and_the_last goes.reaches.silent o) some) in e)
@@ -84,7 +84,7 @@ pub reached_words : (most : ℕ) (a b : Machine) (shown : Option What) (w : What
     → HasLines a.image → IsKnown a.image a.core → HasWords a.image.names w
 reached_words most a b shown w goes some lines known =
     last_known a.image.names goes.reaches.silent w
-    (subst (λ o. AllByRecursion (HasLabelWords a.image.names) (replicate goes.reaches.silent (Stepped None) ++ giving o)) some
+    (subst (λ o. AllByRecursion (HasLabelWords a.image.names) (replicate goes.reaches.silent (Stepped None) ++ label_of_item o)) some
     (subst (AllByRecursion (HasLabelWords a.image.names)) goes.reaches.shows (labels_known a.image a.core goes.done lines known)))
 
 -- what is written where no step shows an item

@@ -14,14 +14,14 @@ use Rattle.rt_ids.specs.declared.ids.BodyId.TheVariants as body
 use Rattle.rt_ids.specs.declared.ids.Section.{Section}
 use Rattle.rt_ids.specs.declared.ids.Section.TheVariants as section
 use Rattle.rt_code.specs.Cells.{resource_cell, cell_named}
-use Rattle.rt_code.specs.Effect.{effect, done, next, slot}
+use Rattle.rt_code.specs.Effect.{effect, unchecked_effect, next, slot}
 use Rattle.rt_code.specs.Image.{Image, entry_words}
 use Rattle.rt_code.specs.Lines.{HasLines, HasCell}
 use Rattle.rt_code.specs.Listable.{HasIrq, HasTask, HasSection, HasBody, HasInstr, HasNote}
 use Rattle.rt_code.specs.Operands.{slots_of, are_there}
 use Rattle.rt_code.specs.Access.{cells_of}
 use Rattle.rt_code.specs.Processor.{Processor, Effect, Traps, Leads}
-use Rattle.rt_code.specs.Stack.{interrupted}
+use Rattle.rt_code.specs.Stack.{interrupted_context}
 use Rattle.rt_code.specs.Tables.{argument_count}
 use Rattle.rt_code.specs.declared.image.BodyRow.{BodyRow}
 use Rattle.rt_code.specs.declared.image.Handler.{Handler}
@@ -39,7 +39,7 @@ use Rattle.rt_trace.specs.Lined.{HasOperands, IsSection, HasValue, IsBody}
 use Rattle.rt_trace.specs.declared.item.What.{What}
 use Rattle.rt_trace.specs.declared.item.What.TheVariants as what
 use Rattle.rt_core.specs.Core.{Core, Context, depth}
-use Rattle.rt_core.specs.Note.{shown_by, left_value, slots_from}
+use Rattle.rt_core.specs.Note.{item_of_note, left_value, slots_from}
 use Rattle.rt_core.specs.Outcome.{Outcome, Trapped, Done, settle}
 use Rattle.rt_core.specs.Priority.{pick}
 use Rattle.rt_core.specs.Stepping as stepping
@@ -107,16 +107,16 @@ AsksWords names (request.Post irq) = HasIrq names irq
 AsksWords names asked = Unit {0}
 
 module _ (img : Image) (c : Core) (known : IsKnown img c) where
-  enter_known : (irq : ℕ) (h : Option Handler) → HasIrq img.names irq → IsKnownAfter img (transfer.enter img c irq h)
+  enter_known : (irq : ℕ) (h : Option Handler) → HasIrq img.names irq → IsKnownAfter img (transfer.exception_entry img c irq h)
   enter_known irq None is = (known, tt)
   enter_known irq (Some h) is =
-      let after : Core = transfer.entered c irq h in
+      let after : Core = transfer.core_after_entry c irq h in
       if_known img (transfer.has_room img c (entry_words img + h.frame))
       (Done after (Some (what.Take irq (depth img after)))) (Trapped c trap.Stack)
       (record { cells = known.cells; below = (is, known.below) }, is) known
 
   return_known : (caller : Option (List ℕ)) (below : List Context) → AllByRecursion (λ x. HasIrq img.names x.irq) below
-      → IsKnownAfter img (transfer.resumed c (interrupted caller below))
+      → IsKnownAfter img (transfer.outcome_of_return c (interrupted_context caller below))
   return_known None [] all = known
   return_known None (x ∷ below) all = (record { cells = known.cells; below = all.1 }, all.0)
   return_known (Some caller) [] all = known
@@ -125,7 +125,7 @@ module _ (img : Image) (c : Core) (known : IsKnown img c) where
   call_row_known : (row : Option BodyRow) (from : ℕ) → IsKnownAfter img (transfer.call_row img c row from)
   call_row_known None from = known
   call_row_known (Some row) from =
-      if_known img (transfer.call_fits img c row from) (Done (transfer.called c row from) None) (Trapped c trap.Stack)
+      if_known img (transfer.call_fits img c row from) (Done (transfer.core_after_call c row from) None) (Trapped c trap.Stack)
       (record { cells = known.cells; below = known.below }, tt) known
 
   back_known : (caller : Option (List ℕ)) → IsKnownAfter img (transfer.back_to c caller)
@@ -134,7 +134,7 @@ module _ (img : Image) (c : Core) (known : IsKnown img c) where
 
   alarm_known : (instant irq : ℕ) → IsKnownAfter img (transfer.set_alarm c instant irq)
   alarm_known instant irq =
-      if_known img (nat_le instant c.time) (Done (record (transfer.pended c irq) { alarm = None }) (Some what.Alarm))
+      if_known img (nat_le instant c.time) (Done (record (transfer.core_after_pend c irq) { alarm = None }) (Some what.Alarm))
       (Done (record c { alarm = Some (record { instant = instant; irq = irq }) }) (Some what.AlarmSet))
       (record { cells = known.cells; below = known.below }, tt)
       (record { cells = known.cells; below = known.below }, tt)
@@ -154,22 +154,22 @@ module _ (img : Image) (c : Core) (known : IsKnown img c) where
   answer_known request.Return h = return_known c.caller c.below known.below
 
   start_known : (t : ℕ) (args : Option (List ℕ)) → HasTask img.names t
-      → IsKnownAfter img (stepping.noted c (option_map (what.Start t) args))
+      → IsKnownAfter img (stepping.outcome_of_note c (option_map (what.Start t) args))
   start_known t None h = known
   start_known t (Some args) h = (known, h)
 
   arm_known : (t : ℕ) (instant : Option ℕ) → HasTask img.names t
-      → IsKnownAfter img (stepping.noted c (option_map (what.Arm t) instant))
+      → IsKnownAfter img (stepping.outcome_of_note c (option_map (what.Arm t) instant))
   arm_known t None h = known
   arm_known t (Some instant) h = (known, h)
 
   cancel_known : (t : ℕ) (handle : Option ℕ) → HasTask img.names t
-      → IsKnownAfter img (stepping.noted c (option_map (what.Cancel t) handle))
+      → IsKnownAfter img (stepping.outcome_of_note c (option_map (what.Cancel t) handle))
   cancel_known t None h = known
   cancel_known t (Some handle) h = (known, h)
 
   move_known : (t : ℕ) (handle instant : Option ℕ) → HasTask img.names t
-      → IsKnownAfter img (stepping.noted c (then_from handle (λ n. option_map (what.Move t n) instant)))
+      → IsKnownAfter img (stepping.outcome_of_note c (then_from handle (λ n. option_map (what.Move t n) instant)))
   move_known t None instant h = known
   move_known t (Some handle) None h = known
   move_known t (Some handle) (Some instant) h = (known, h)
@@ -192,7 +192,7 @@ module _ (img : Image) (c : Core) (known : IsKnown img c) where
   left_known section.Timer h = refl
 
   noted_known : (n : Note) → HasNote img.names (Some n) → HasCell img (Some n)
-      → IsKnownAfter img (stepping.noted c (shown_by img c n))
+      → IsKnownAfter img (stepping.outcome_of_note c (item_of_note img c n))
   noted_known (note.Start t from) h k = start_known t (slots_from c from (argument_count img t)) h
   noted_known (note.Arm t s) h k = arm_known t (slice_get c.processor.slots s) h
   noted_known (note.Cancel t s) h k = cancel_known t (slice_get c.processor.slots s) h
@@ -228,7 +228,7 @@ unmask_asks : (names : Names) (b : Bool) (p : Processor)
 unmask_asks names true p = tt
 unmask_asks names false p = tt
 
-done_asks : (names : Names) (i : Instr) (time : ℕ) (p : Processor) → HasInstr names i → EffectAsks names (done i time p)
+done_asks : (names : Names) (i : Instr) (time : ℕ) (p : Processor) → HasInstr names i → EffectAsks names (unchecked_effect i time p)
 done_asks names (instr.Post irq) time p h = h
 done_asks names (instr.Unmask s) time p h =
     unmask_asks names (nat_le (slot p s) 1) (record (next p) { primask = slot p s == 1 })
@@ -237,7 +237,7 @@ done_asks names i time p h = tt
 effect_asks : (names : Names) (i : Instr) (time : ℕ) (p : Processor) → HasInstr names i
     → EffectAsks names (effect i time p)
 effect_asks names i time p h =
-    tested_asks names (are_there (cells_of i p) p.cells) (are_there (slots_of i) p.slots) (done i time p)
+    tested_asks names (are_there (cells_of i p) p.cells) (are_there (slots_of i) p.slots) (unchecked_effect i time p)
     (done_asks names i time p h)
 
 go_on_known : (img : Image) (c : Core) (known : IsKnown img c) (n : Option Note) (e : Effect)

@@ -7,7 +7,7 @@ use Rattle.rt_core.specs.Core.{Core}
 use Rattle.rt_core.specs.Machine.{Machine}
 use Rattle.rt_trace.specs.Lined.{IsDeclared}
 
--- the core has as many cells as the image, and each handler that was entered is of an interrupt with a name
+-- the core has as many cells as the image, and each active handler is of an interrupt with a name
 pub record IsKnown (img : Image) (c : Core) : Type 0 where
   pub cells : length c.processor.cells ≡ length img.cells
   pub below : AllByRecursion (λ x. IsDeclared img.names x.irq) c.below

@@ -5,7 +5,7 @@ use Rattle.std.proofs.Common.{length-set}
 use Rattle.std.specs.List.{AllByRecursion}
 use Rattle.rt_ids.specs.Operation.{operate}
 use Rattle.rt_ids.specs.declared.ids.BodyId.TheVariants as body
-use Rattle.rt_code.specs.Effect.{slot, next, written, stored, done}
+use Rattle.rt_code.specs.Effect.{slot, next, next_with_slot, next_with_cell, unchecked_effect}
 use Rattle.rt_code.specs.Image.{Image}
 use Rattle.rt_code.specs.Processor.{Processor, Effect, Leads as LeadsTo}
 use Rattle.rt_code.specs.declared.instr.Instr.{Instr}
@@ -59,11 +59,11 @@ pub record Advances (img : Image) (c : Core) (inside : List Opened) (i : Instr) 
 module _ (img : Image) (c : Core) (inside : List Opened) where
   -- a slot is written that saves nothing
   writes : (i : Instr) (d v : ℕ) (e : Effect) (shown : Option What)
-      → settle (go_on img c None e) ≡ (record c { processor = written c.processor d v }, shown)
+      → settle (go_on img c None e) ≡ (record c { processor = next_with_slot c.processor d v }, shown)
       → LeadsOn i c.processor.address (suc c.processor.address) → IsSilent shown
       → AllByRecursion (λ o. ¬ rules.Saves o.kind d) inside → Advances img c inside i None e
   writes i d v e shown is to silent free = record {
-    after = written c.processor d v;
+    after = next_with_slot c.processor d v;
     pending = c.pending;
     shown = shown;
     is = is;
@@ -78,10 +78,10 @@ module _ (img : Image) (c : Core) (inside : List Opened) where
 
   -- a cell is written
   stores : (i : Instr) (n v : ℕ) (e : Effect)
-      → settle (go_on img c None e) ≡ (record c { processor = stored c.processor n v }, None)
+      → settle (go_on img c None e) ≡ (record c { processor = next_with_cell c.processor n v }, None)
       → LeadsOn i c.processor.address (suc c.processor.address) → Advances img c inside i None e
   stores i n v e is to = record {
-    after = stored c.processor n v;
+    after = next_with_cell c.processor n v;
     pending = c.pending;
     shown = None;
     is = is;
@@ -119,8 +119,8 @@ module _ (img : Image) (c : Core) (inside : List Opened) where
   jumps s l true = goes (instr.JumpZ s l) None l c.pending _ None refl (inr refl) tt
   jumps s l false = goes (instr.JumpZ s l) None (suc c.processor.address) c.pending _ None refl (inl refl) tt
 
-  pub simply : (i : Instr) → is_simple i ≡ true → rules.IsUnsaved inside (rules.written i)
-      → Advances img c inside i None (done i c.time c.processor)
+  pub simply : (i : Instr) → is_simple i ≡ true → rules.IsUnsaved inside (rules.written_slot i)
+      → Advances img c inside i None (unchecked_effect i c.time c.processor)
   simply (instr.Set d v) simple free = writes (instr.Set d v) d v _ None refl refl tt free
   simply (instr.Copy d s) simple free = writes (instr.Copy d s) d (slot c.processor s) _ None refl refl tt free
   simply (instr.Calc op d a b) simple free =
@@ -142,7 +142,7 @@ module _ (img : Image) (c : Core) (inside : List Opened) where
   simply i simple free = absurd (cc)
 
   pub anew : (to : ℕ) → Advances img c inside (instr.Jump to) (Some (note.End body.Idle))
-      (done (instr.Jump to) c.time c.processor)
+      (unchecked_effect (instr.Jump to) c.time c.processor)
   anew to =
       goes (instr.Jump to) (Some (note.End body.Idle)) to c.pending _ (Some (what.End body.Idle)) refl refl tt
 
@@ -178,10 +178,10 @@ no_end shown is end = subst IsSilent end is
 module _ (img : Image) (checked : IsChecked img) (c : Core) (p : Point) (qs : List Point) (fits : Fits img c p qs) where
   -- the step of a line that stands at the point, where no interrupt is taken
   pub line_steps : (line : HasLine img p) → pick img c ≡ None
-      → step img c ≡ settle (go_on img c line.told (done line.instr c.time c.processor))
+      → step img c ≡ settle (go_on img c line.told (unchecked_effect line.instr c.time c.processor))
   line_steps line picked =
       let i : Instr = line.instr in
-      let long : rules.HasItsCell (length img.cells) (rules.touched i) = line.operable.cell in
+      let long : rules.HasItsCell (length img.cells) (rules.touched_cell i) = line.operable.cell in
       let slots = slots_there _ c.processor.slots _ (sym fits.running.frame) line.operable.slots in
       let cells = cells_there i c.processor (length img.cells) line.operable.plain (sym fits.memory) long in
       steps_by_cause.line img c (i, line.told) fits.stopped picked
@@ -189,7 +189,7 @@ module _ (img : Image) (checked : IsChecked img) (c : Core) (p : Point) (qs : Li
       ∙ ap (λ e. settle (go_on img c line.told e)) (effect_is_done i c.time c.processor cells slots)
 
   module _ (line : HasLine img p) (picked : pick img c ≡ None)
-      (one : Advances img c p.inside line.instr line.told (done line.instr c.time c.processor))
+      (one : Advances img c p.inside line.instr line.told (unchecked_effect line.instr c.time c.processor))
       (owner : owner_after line.instr p.owner ≡ p.owner)
       (inside : inside_after line.instr line.told p.inside ≡ p.inside) where
     abbrev behind : Point

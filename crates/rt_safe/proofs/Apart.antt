@@ -16,14 +16,14 @@ use Rattle.rt_points.specs.declared.point.Owner.TheVariants.{Starting}
 use Rattle.rt_points.specs.declared.rule.Rule.TheVariants as rule
 use Rattle.rt_points.specs.Checked.{IsChecked}
 use Rattle.rt_points.specs.Leading.{IsPoint}
-use Rattle.rt_points.specs.Level.{owner_value, level_value}
+use Rattle.rt_points.specs.ExecutionPriority.{owner_value, execution_priority}
 use Rattle.rt_points.specs.Point.{Point, sections}
 use Rattle.rt_points.specs.Rules.{EntersAt}
 use Rattle.rt_safe.specs.Inside.Fits.{is_starting, base_under, IsOn, IsStacked}
 use Rattle.rt_safe.specs.Inside.Steps.{insides_of, FindsNone}
 use Rattle.rt_safe.proofs.Execution.{handler_value}
 use Rattle.rt_safe.proofs.Keeping.{are_apart, enters_apart}
-use Rattle.rt_safe.proofs.Levels.{level_within}
+use Rattle.rt_safe.proofs.PointPriorities.{priority_within}
 
 -- no section is open in two of these
 abbrev pub AreApart : List (List Section) → Type 0
@@ -67,28 +67,28 @@ module _ (img : Image) where
   all_points p (q ∷ qs) [] stacked = absurd stacked
   all_points p (q ∷ qs) (x ∷ below) stacked = (stacked.0.interrupted.point, all_points q qs below stacked.1)
 
-  -- whose level values are above the value of who runs
+  -- whose execution priorities are above the value of who runs
   all_above : (p : Point) (qs : List Point) (below : List Context) → IsStacked img p qs below
-      → AllByRecursion (λ q. owner_value img p.owner < level_value img q.owner q.inside) qs
+      → AllByRecursion (λ q. owner_value img p.owner < execution_priority img q.owner q.inside) qs
   all_above p [] below stacked = tt
   all_above p (q ∷ qs) [] stacked = absurd stacked
   all_above p (q ∷ qs) (x ∷ below) stacked =
       let on = stacked.0 in
       let value = handler_value img p q (base_under qs) x on in
-      let within = level_within img q.owner q.inside in
-      let here : owner_value img p.owner < level_value img q.owner q.inside = omega (arith, value, on.above) in (
+      let within = priority_within img q.owner q.inside in
+      let here : owner_value img p.owner < execution_priority img q.owner q.inside = omega (arith, value, on.above) in (
         here,
-        all_weaker (λ r. owner_value img q.owner < level_value img r.owner r.inside)
-            (λ r. owner_value img p.owner < level_value img r.owner r.inside)
+        all_weaker (λ r. owner_value img q.owner < execution_priority img r.owner r.inside)
+            (λ r. owner_value img p.owner < execution_priority img r.owner r.inside)
             (λ r less. omega (arith, here, within, less)) qs
             (all_above q qs below stacked.1),
       )
 
   -- both
   all_under : (p : Point) (qs : List Point) (below : List Context) → IsStacked img p qs below
-      → AllByRecursion (λ q. IsPoint img q × (owner_value img p.owner < level_value img q.owner q.inside)) qs
+      → AllByRecursion (λ q. IsPoint img q × (owner_value img p.owner < execution_priority img q.owner q.inside)) qs
   all_under p qs below stacked =
-      all_both (IsPoint img) (λ q. owner_value img p.owner < level_value img q.owner q.inside) qs
+      all_both (IsPoint img) (λ q. owner_value img p.owner < execution_priority img q.owner q.inside) qs
       (all_points p qs below stacked) (all_above p qs below stacked)
 
 module _ (img : Image) (checked : IsChecked img) where

@@ -13,16 +13,16 @@ use Rattle.rt_code.specs.Image.{Image, entry_words}
 use Rattle.rt_code.specs.Stack as stack
 use Rattle.rt_code.specs.declared.image.Handler.{Handler}
 use Rattle.rt_code.specs.declared.image.IrqRow.{IrqRow}
-use Rattle.rt_core.specs.Core.{Context, Core, context_words, used, depth}
+use Rattle.rt_core.specs.Core.{Context, Core, context_words, stack_in_use, depth}
 use Rattle.rt_core.specs.Transfer.{has_room}
 use Rattle.rt_points.specs.declared.point.Owner.{Owner}
 use Rattle.rt_points.specs.declared.point.Owner.TheVariants.{Starting, Thread, Handling}
 use Rattle.rt_points.specs.Point.{Point}
 use Rattle.rt_points.specs.Leading.{handler_at}
-use Rattle.rt_points.specs.Level.{owner_value, frame_of, level_value}
+use Rattle.rt_points.specs.ExecutionPriority.{owner_value, frame_of, execution_priority}
 use Rattle.rt_points.specs.Stack.{handlers, frames_at, bytes_of, bytes_below, stack_need}
 use Rattle.rt_safe.specs.Inside.Fits.{IsLowest, IsStacked, Fits}
-use Rattle.rt_safe.proofs.Levels.{level_within}
+use Rattle.rt_safe.proofs.PointPriorities.{priority_within}
 
 -- one frame more takes no less
 more_bytes : (entry frame : ℕ) (frames : List ℕ) → bytes_of entry frames ≤ bytes_of entry (frame ∷ frames)
@@ -54,14 +54,14 @@ module _ (entry value : ℕ) where
       by false = omega arith
 
   -- the frame of each handler of the value counts
-  row_counts : (irqs : List IrqRow) (place : ℕ) (h : Handler)
-      → then_from (slice_get irqs place) (λ row. row.handler) ≡ Some h
+  row_counts : (irqs : List IrqRow) (index : ℕ) (h : Handler)
+      → then_from (slice_get irqs index) (λ row. row.handler) ≡ Some h
       → h.value ≡ value → 4 * (entry + h.frame) ≤ taken (handlers irqs)
-  row_counts [] place h at is = absurd (none-some h at)
+  row_counts [] index h at is = absurd (none-some h at)
   row_counts (row ∷ irqs) zero h at is =
       subst (λ o. 4 * (entry + h.frame) ≤ taken (cons_option o (handlers irqs))) (sym at)
       (first_counts h (handlers irqs) is)
-  row_counts (row ∷ irqs) (suc place) h at is = by row.handler (row_counts irqs place h at is)
+  row_counts (row ∷ irqs) (suc index) h at is = by row.handler (row_counts irqs index h at is)
     where
       by : (o : Option Handler) → 4 * (entry + h.frame) ≤ taken (handlers irqs)
           → 4 * (entry + h.frame) ≤ taken (cons_option o (handlers irqs))
@@ -90,33 +90,33 @@ module _ (img : Image) where
       by (inr low) before = omega (arith, before low, value_counts b)
 
   -- a handler of a value on what is in use below it
-  handler_counts : (place : ℕ) (h : Handler) → handler_at img place ≡ Some h
+  handler_counts : (index : ℕ) (h : Handler) → handler_at img index ≡ Some h
       → bytes_below img h.value + 4 * (entry_words img + h.frame) ≤ bytes_below img (suc h.value)
-  handler_counts place h is =
-      let one = row_counts (entry_words img) h.value img.irqs place h is refl in
+  handler_counts index h is =
+      let one = row_counts (entry_words img) h.value img.irqs index h is refl in
       omega (arith, one, value_counts h.value)
 
   abbrev used_by : ℕ → List Context → ℕ
   used_by frame below = frame + sum_by (context_words (entry_words img)) below
 
   -- a handler of a value stands on what leaves room for it
-  over : (place : ℕ) (h : Handler) (level : ℕ) (words : ℕ) → handler_at img place ≡ Some h → h.value < level
-      → 4 * words + bytes_below img level ≤ stack_need img
+  over : (index : ℕ) (h : Handler) (priority : ℕ) (words : ℕ) → handler_at img index ≡ Some h → h.value < priority
+      → 4 * words + bytes_below img priority ≤ stack_need img
       → 4 * (words + (entry_words img + h.frame)) + bytes_below img h.value ≤ stack_need img
-  over place h level words is less room =
-      omega (arith, room, handler_counts place h is, bytes_rise (suc h.value) level less)
+  over index h priority words is less room =
+      omega (arith, room, handler_counts index h is, bytes_rise (suc h.value) priority less)
 
   lowest_within : (owner : Owner) → IsLowest owner
       → 4 * frame_of img owner + bytes_below img (owner_value img owner) ≤ stack_need img
   lowest_within Starting is = omega (arith, none_counts)
   lowest_within Thread is = omega arith
-  lowest_within (Handling place) is = absurd is
+  lowest_within (Handling index) is = absurd is
 
-  pub value_is : (place : ℕ) (h : Handler) → handler_at img place ≡ Some h → owner_value img (Handling place) ≡ h.value
-  value_is place h is = ap (λ o. unwrap_or (option_map (λ h. h.value) o) THREAD_VALUE) is
+  pub value_is : (index : ℕ) (h : Handler) → handler_at img index ≡ Some h → owner_value img (Handling index) ≡ h.value
+  value_is index h is = ap (λ o. unwrap_or (option_map (λ h. h.value) o) THREAD_VALUE) is
 
-  pub frame_is : (place : ℕ) (h : Handler) → handler_at img place ≡ Some h → frame_of img (Handling place) ≡ h.frame
-  frame_is place h is = ap (λ o. unwrap_or (option_map (λ h. h.frame) o) 0) is
+  pub frame_is : (index : ℕ) (h : Handler) → handler_at img index ≡ Some h → frame_of img (Handling index) ≡ h.frame
+  frame_is index h is = ap (λ o. unwrap_or (option_map (λ h. h.frame) o) 0) is
 
   -- what stands on one another, with the values above it
   stacked_within : (p : Point) (qs : List Point) (words : ℕ) (below : List Context) → words ≡ frame_of img p.owner
@@ -130,12 +130,12 @@ module _ (img : Image) where
       let on = stacked.0 in
       let before = stacked_within q qs (length x.slots) below on.interrupted.frame stacked.1 in
       let value : owner_value img p.owner ≡ on.handler.value =
-      ap (owner_value img) on.handles ∙ value_is on.place on.handler on.enabled in
+      ap (owner_value img) on.handles ∙ value_is on.index on.handler on.enabled in
       let own : words ≡ on.handler.frame =
-      frame ∙ ap (frame_of img) on.handles ∙ frame_is on.place on.handler on.enabled in
+      frame ∙ ap (frame_of img) on.handles ∙ frame_is on.index on.handler on.enabled in
       let none : length (stack.words_of x.caller) ≡ 0 = ap (λ o. length (stack.words_of o)) on.caller in
-      let less = level_within img q.owner q.inside in
-      let more = over on.place on.handler (owner_value img q.owner)
+      let less = priority_within img q.owner q.inside in
+      let more = over on.index on.handler (owner_value img q.owner)
       (length x.slots + sum_by (context_words (entry_words img)) below) on.enabled
       (omega (arith, on.above, less)) before in
       let same : bytes_below img (owner_value img p.owner) ≡ bytes_below img on.handler.value =
@@ -144,7 +144,7 @@ module _ (img : Image) where
 
   -- all that is in use is within the need
   pub within_need : (c : Core) (p : Point) (qs : List Point) → Fits img c p qs
-      → 4 * used img c + bytes_below img (owner_value img p.owner) ≤ stack_need img
+      → 4 * stack_in_use img c + bytes_below img (owner_value img p.owner) ≤ stack_need img
   within_need c p qs fits =
       let none : length (stack.words_of c.caller) ≡ 0 = ap (λ o. length (stack.words_of o)) fits.caller in
       let whole = stacked_within p qs (length c.processor.slots) c.below fits.running.frame fits.stack in
@@ -154,12 +154,12 @@ module _ (img : Image) where
       → depth img c ≤ img.stack_bytes
   depth_within enough c p qs fits = omega (arith, enough, within_need c p qs fits)
 
-  -- and a handler above the level of what runs has room
+  -- and a handler above the execution priority of what runs has room
   pub room_above : stack_need img ≤ img.stack_bytes → (c : Core) (p : Point) (qs : List Point) → Fits img c p qs
-      → (place : ℕ) (h : Handler) → handler_at img place ≡ Some h → h.value < level_value img p.owner p.inside
+      → (index : ℕ) (h : Handler) → handler_at img index ≡ Some h → h.value < execution_priority img p.owner p.inside
       → has_room img c (entry_words img + h.frame) ≡ true
-  room_above enough c p qs fits place h is above =
-      let less = level_within img p.owner p.inside in
-      let room = over place h (owner_value img p.owner) (used img c) is (omega (arith, above, less))
+  room_above enough c p qs fits index h is above =
+      let less = priority_within img p.owner p.inside in
+      let room = over index h (owner_value img p.owner) (stack_in_use img c) is (omega (arith, above, less))
       (within_need c p qs fits) in
-      le-leb (used img c + (entry_words img + h.frame)) (img.stack_bytes / 4) (omega (arith, room, enough))
+      le-leb (stack_in_use img c + (entry_words img + h.frame)) (img.stack_bytes / 4) (omega (arith, room, enough))

@@ -3,29 +3,29 @@ use Rattle.std.proofs.Common.{◌≡◌, ◌≢◌, ℕ, suc, false, List, [], �
 use Rattle.std.proofs.Common.{arith}
 use Rattle.std.proofs.lemmas.Bool.{false≢true}
 use Rattle.rt_ids.specs.declared.ids.BodyId.TheVariants as body
-use Rattle.rt_code.specs.Effect.{done}
+use Rattle.rt_code.specs.Effect.{unchecked_effect}
 use Rattle.rt_code.specs.Image.{Image}
-use Rattle.rt_code.specs.Stack.{interrupted}
+use Rattle.rt_code.specs.Stack.{interrupted_context}
 use Rattle.rt_code.specs.declared.instr.Instr.{Instr}
 use Rattle.rt_code.specs.declared.instr.Instr.TheVariants as instr
 use Rattle.rt_code.specs.declared.instr.Note.{Note}
 use Rattle.rt_code.specs.declared.instr.Note.TheVariants as note
 use Rattle.rt_trace.specs.declared.item.What.TheVariants as what
 use Rattle.rt_core.specs.Core.{Context, Core}
-use Rattle.rt_core.specs.Leading.{served, in_context}
+use Rattle.rt_core.specs.Leading.{core_serving, in_context}
 use Rattle.rt_core.specs.Outcome.{settle}
 use Rattle.rt_core.specs.Priority.{pick}
 use Rattle.rt_core.specs.Stepping.{step, go_on, with_note}
-use Rattle.rt_core.specs.Transfer.{resumed}
+use Rattle.rt_core.specs.Transfer.{outcome_of_return}
 use Rattle.rt_points.specs.declared.point.Owner.TheVariants.{Starting, Thread, Handling}
 use Rattle.rt_points.specs.Checked.{IsChecked}
 use Rattle.rt_points.specs.Leading.{IsPoint, Leads, owner_after}
-use Rattle.rt_points.specs.Level.{owner_value, frame_of}
+use Rattle.rt_points.specs.ExecutionPriority.{owner_value, frame_of}
 use Rattle.rt_points.specs.Point.{Point, sections}
 use Rattle.rt_safe.specs.Inside.Fits.{is_starting, base_inside, mask_inside, base_under, IsLowest, IsStacked, Fits}
 use Rattle.rt_safe.specs.Inside.Steps.{insides_of, Steps}
 use Rattle.rt_safe.proofs.Advancing.{line_steps}
-use Rattle.rt_safe.proofs.Levels.{level_within, unmasked}
+use Rattle.rt_safe.proofs.PointPriorities.{priority_within, unmasked}
 use Rattle.rt_safe.proofs.Lines.{HasLine}
 
 thread_differs : Thread ≢ Starting
@@ -60,7 +60,7 @@ module _ (img : Image) (checked : IsChecked img) (c : Core) (p : Point) (qs : Li
       inside = sym none;
     })
 
-    fits_thread : Fits img (served c (suc c.processor.address)) thread qs
+    fits_thread : Fits img (core_serving c (suc c.processor.address)) thread qs
     fits_thread = record {
       running = record {
         point = thread_point;
@@ -79,10 +79,10 @@ module _ (img : Image) (checked : IsChecked img) (c : Core) (p : Point) (qs : Li
 
     pub ends_init : Steps img c p qs
     ends_init = record {
-      core = served c (suc c.processor.address);
+      core = core_serving c (suc c.processor.address);
       shown = Some (what.End body.Init);
       is = line_steps img checked c p qs fits line picked
-          ∙ ap (λ (l : Instr × Option Note). settle (go_on img c l.1 (done l.0 c.time c.processor))) same_serve;
+          ∙ ap (λ (l : Instr × Option Note). settle (go_on img c l.1 (unchecked_effect l.0 c.time c.processor))) same_serve;
       point = thread;
       below = qs;
       fits = fits_thread;
@@ -93,7 +93,7 @@ module _ (img : Image) (checked : IsChecked img) (c : Core) (p : Point) (qs : Li
       ended = λ end. thread_differs;
     }
 
-  module _ (place : ℕ) (is : line.instr ≡ instr.Ret) (untold : line.told ≡ None) (handles : p.owner ≡ Handling place)
+  module _ (index : ℕ) (is : line.instr ≡ instr.Ret) (untold : line.told ≡ None) (handles : p.owner ≡ Handling index)
       (none : p.inside ≡ []) where
     same_return : ◌≡◌ {A = Instr × Option Note} (line.instr, line.told) (instr.Ret, None)
     same_return k = (is k, untold k)
@@ -105,9 +105,9 @@ module _ (img : Image) (checked : IsChecked img) (c : Core) (p : Point) (qs : Li
         → step img c ≡ (in_context c x below, Some (what.Ret x.irq))
     step_is x below others =
         line_steps img checked c p qs fits line picked
-        ∙ ap (λ (l : Instr × Option Note). settle (go_on img c l.1 (done l.0 c.time c.processor))) same_return
-        ∙ ap (λ o. settle (with_note img None (resumed c o)))
-        (ap (λ k. interrupted k c.below) fits.caller ∙ ap (interrupted None) others)
+        ∙ ap (λ (l : Instr × Option Note). settle (go_on img c l.1 (unchecked_effect l.0 c.time c.processor))) same_return
+        ∙ ap (λ o. settle (with_note img None (outcome_of_return c o)))
+        (ap (λ k. interrupted_context k c.below) fits.caller ∙ ap (interrupted_context None) others)
 
     no_end : (irq : ℕ) → Some (what.Ret irq) ≡ Some (what.End body.Init) → ⊥
     no_end irq same = cc (same)
@@ -118,7 +118,7 @@ module _ (img : Image) (checked : IsChecked img) (c : Core) (p : Point) (qs : Li
         let on = stacked.0 in
         let mask : mask_inside q.inside (is_starting q.owner) ≡ false =
         unmasked img q.owner q.inside (omega (arith, on.above)) in
-        let within = level_within img q.owner q.inside in
+        let within = priority_within img q.owner q.inside in
         record {
           core = in_context c x below;
           shown = Some (what.Ret x.irq);

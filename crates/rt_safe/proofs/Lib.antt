@@ -1,4 +1,4 @@
-pub mod Levels
+pub mod PointPriorities
 pub mod Depth
 pub mod Lines
 pub mod Keeping

@@ -23,30 +23,30 @@ use Rattle.rt_points.specs.declared.rule.Rule.TheVariants as rule
 use Rattle.rt_points.specs.Checked.{IsChecked}
 use Rattle.rt_points.specs.Leading.{IsPoint, StandsAt}
 use Rattle.rt_points.specs.Point.{Point}
-use Rattle.rt_points.specs.Rules.{is_plain, touched, HasItsCell, IsOperable, IsNotedWell, opens, ClosesInnermost}
+use Rattle.rt_points.specs.Rules.{is_plain, touched_cell, HasItsCell, IsOperable, IsNotedWell, opens, ClosesInnermost}
 use Rattle.rt_points.specs.Rules.{JumpsInThread}
 use Rattle.rt_safe.specs.Inside.Lines.{IsLine, Simply, Anew, Opens, Closes, EndsInit, Returns}
 
 -- slots that are below the words of a frame are in it
-pub slots_there : (places words : List ℕ) (n : ℕ) → n ≡ length words → AllByRecursion (λ place. place < n) places
+pub slots_there : (places words : List ℕ) (n : ℕ) → n ≡ length words → AllByRecursion (λ index. index < n) places
     → are_there places words ≡ true
 slots_there [] words n is all = refl
-slots_there (place ∷ places) words n is all =
-    and_both _ (are_there places words) (lt-ltb place (length words) (subst (λ m. place < m) is all.0))
+slots_there (index ∷ places) words n is all =
+    and_both _ (are_there places words) (lt-ltb index (length words) (subst (λ m. index < m) is all.0))
     (slots_there places words n is all.1)
 
 -- an instruction that may be used names the cell that it touches
-pub access_is : (i : Instr) (q : Processor) → is_plain i ≡ true → access_of i q ≡ touched i
+pub access_is : (i : Instr) (q : Processor) → is_plain i ≡ true → access_of i q ≡ touched_cell i
 access_is (instr.LoadAt d c s) q plain = absurd (false≢true plain)
 access_is (instr.StoreAt c s a) q plain = absurd (false≢true plain)
 access_is i q plain = refl
 
 -- and that is there
 pub cells_there : (i : Instr) (q : Processor) (n : ℕ) → is_plain i ≡ true → n ≡ length q.cells
-    → HasItsCell n (touched i)
+    → HasItsCell n (touched_cell i)
     → are_there (cells_of i q) q.cells ≡ true
 cells_there i q n plain long has =
-    ap (λ a. are_there (option_to_list (option_map cell_of a)) q.cells) (access_is i q plain) ∙ by (touched i) has
+    ap (λ a. are_there (option_to_list (option_map cell_of a)) q.cells) (access_is i q plain) ∙ by (touched_cell i) has
   where
     by : (a : Option Access) → HasItsCell n a → are_there (option_to_list (option_map cell_of a)) q.cells ≡ true
     by None has = refl

@@ -13,10 +13,10 @@ use Rattle.rt_app.specs.Tree.{App}
 use Rattle.rt_code.specs.Image.{Image}
 use Rattle.rt_core.specs.Core.{Core}
 use Rattle.rt_core.specs.Trace.{ring, happen, core_after, labels}
-use Rattle.rt_core.specs.Transfer.{pended}
+use Rattle.rt_core.specs.Transfer.{core_after_pend}
 use Rattle.rt_core.proofs.Happening.{happens_by_event}
 use Rattle.rt_laws.specs.Properties.{AtEach, AreExclusive, FindsFree}
-use Rattle.rt_laws.specs.Sight.{Sight, sees, sees_all}
+use Rattle.rt_laws.specs.Observer.{Observer, sees, sees_all}
 use Rattle.rt_points.specs.declared.point.Owner.TheVariants.{Starting}
 use Rattle.rt_points.specs.Checked.{IsChecked}
 use Rattle.rt_points.specs.Point.{Point}
@@ -48,18 +48,18 @@ module _ (img : Image) where
     pub fits : Fits img (core_after img c events) point below
     pub started : p.owner ≢ Starting → point.owner ≢ Starting
     pub ended : Contains (labels img c events) (Stepped (Some (what.End body.Init))) → point.owner ≢ Starting
-    pub seen : (app : App) (v : Sight) → seen_insides v.jobs ≡ insides_of (p ∷ qs)
+    pub seen : (app : App) (v : Observer) → seen_insides v.jobs ≡ insides_of (p ∷ qs)
         → seen_insides (sees_all app v (labels img c events)).jobs ≡ insides_of (point ∷ below)
-    pub exclusive : (app : App) (v : Sight) → seen_insides v.jobs ≡ insides_of (p ∷ qs)
+    pub exclusive : (app : App) (v : Observer) → seen_insides v.jobs ≡ insides_of (p ∷ qs)
         → AtEach (λ v label behind. AreExclusive (sees app v label).jobs) app v (labels img c events)
-    pub never_waits : (app : App) (v : Sight) → seen_insides v.jobs ≡ insides_of (p ∷ qs)
+    pub never_waits : (app : App) (v : Observer) → seen_insides v.jobs ≡ insides_of (p ∷ qs)
         → AtEach (λ v label behind. FindsFree v label) app v (labels img c events)
     pub no_trap : (n : ℕ) → AllByRecursion (λ item. IsNoTrap item.what) (items_of n (labels img c events))
 
 module _ (img : Image) (checked : IsChecked img) where
   happens : (c : Core) (p : Point) (qs : List Point) → Fits img c p qs → (e : Event) → Happens img c p qs e
   happens c p qs fits (Arrive irq) = record {
-    core = pended c irq;
+    core = core_after_pend c irq;
     label = Arrived irq;
     is = happens_by_event.arrive img c irq;
     point = p;
@@ -151,7 +151,7 @@ module _ (img : Image) (checked : IsChecked img) where
         ∙ ap (λ (r : Core × List Label). r.1 ++ labels img r.0 events) first.is
 
     -- what is seen behind the first label
-    seen_first : (app : App) (v : Sight) → seen_insides v.jobs ≡ insides_of (p ∷ qs)
+    seen_first : (app : App) (v : Observer) → seen_insides v.jobs ≡ insides_of (p ∷ qs)
         → seen_insides (sees app v first.label).jobs ≡ insides_of (first.point ∷ first.below)
     seen_first app v sight =
         sees_insides app v first.label ∙ ap (insides_after (shown_of first.label)) sight ∙ first.insides

@@ -17,7 +17,7 @@ use Rattle.rt_core.specs.Access.{access, access_by, access_by_line}
 use Rattle.rt_core.specs.Core.{Core, reset}
 use Rattle.rt_core.specs.Priority.{pick}
 use Rattle.rt_core.specs.Trace.{core_after, labels}
-use Rattle.rt_laws.specs.Sight.{Seen, first_sight, sees_all}
+use Rattle.rt_laws.specs.Observer.{Seen, first_sight, sees_all}
 use Rattle.rt_points.specs.declared.point.Owner.{Owner}
 use Rattle.rt_points.specs.declared.point.Owner.TheVariants.{Starting, Thread, Handling}
 use Rattle.rt_points.specs.declared.rule.Rule.TheVariants as rule
@@ -123,7 +123,7 @@ module _ (img : Image) (checked : IsChecked img) where
           inr (init_of shown jobs (sections whole.point.inside) (seen ∙ ap (λ qs. insides_of (whole.point ∷ qs)) alone)
           (λ ended. whole.ended ended same))
       by Thread same = outside (λ starting. false≢true (ap is_starting (sym same ∙ starting)))
-      by (Handling place) same = outside (λ starting. false≢true (ap is_starting (sym same ∙ starting)))
+      by (Handling index) same = outside (λ starting. false≢true (ap is_starting (sym same ∙ starting)))
 
 pub checked_images_are_safe : CheckedImagesAreSafe
 checked_images_are_safe img checked = record {

@@ -41,7 +41,7 @@ stacked_alike img p r same (q ∷ qs) [] stacked = stacked
 stacked_alike img p r same (q ∷ qs) (x ∷ below) stacked =
     let on = stacked.0 in (
       record {
-        place = on.place;
+        index = on.index;
         handler = on.handler;
         enabled = on.enabled;
         handles = sym same ∙ on.handles;

@@ -6,7 +6,7 @@ use Rattle.std.proofs.lemmas.Bool.{le-leb}
 use Rattle.rt_ids.specs.Operation.{number_of}
 use Rattle.rt_ids.specs.declared.ids.BodyId.TheVariants as body
 use Rattle.rt_ids.specs.declared.ids.Section.{Section}
-use Rattle.rt_code.specs.Effect.{slot, next, written, done}
+use Rattle.rt_code.specs.Effect.{slot, next, next_with_slot, unchecked_effect}
 use Rattle.rt_code.specs.Image.{Image}
 use Rattle.rt_code.specs.Operands.{slots_of}
 use Rattle.rt_code.specs.Processor.{Processor, Traps, Leads as LeadsTo}
@@ -27,12 +27,12 @@ use Rattle.rt_points.specs.declared.point.Kind.TheVariants.{Mark, Raise, Mask}
 use Rattle.rt_points.specs.declared.point.Opened.{Opened}
 use Rattle.rt_points.specs.Checked.{IsChecked}
 use Rattle.rt_points.specs.Leading.{IsPoint, Leads, LeadsOn}
-use Rattle.rt_points.specs.Level.{frame_of}
+use Rattle.rt_points.specs.ExecutionPriority.{frame_of}
 use Rattle.rt_points.specs.Point.{Point, sections}
 use Rattle.rt_points.specs.Rules as rules
 use Rattle.rt_safe.specs.Inside.Fits.{is_starting, base_by, mask_by, base_inside, mask_inside, base_under, SavesBy}
 use Rattle.rt_safe.specs.Inside.Fits.{Saves, Fits}
-use Rattle.rt_safe.specs.Inside.Lines.{opening}
+use Rattle.rt_safe.specs.Inside.Lines.{entering_instr}
 use Rattle.rt_safe.specs.Inside.Steps.{insides_of, FindsNone, Steps}
 use Rattle.rt_safe.proofs.Advancing.{line_steps}
 use Rattle.rt_safe.proofs.Keeping.{owner_of_opening, owner_of_closing, kind_of_opening}
@@ -42,8 +42,8 @@ use Rattle.rt_safe.proofs.Saving.{saves_kept, stacked_alike}
 -- the processor behind the instruction that opens a section of a kind
 opened : Processor → Kind → Processor
 opened p Mark = next p
-opened p (Raise d v) = record (written p d p.basepri) { basepri = v }
-opened p (Mask d) = record (written p d (number_of p.primask)) { primask = true }
+opened p (Raise d v) = record (next_with_slot p d p.basepri) { basepri = v }
+opened p (Mask d) = record (next_with_slot p d (number_of p.primask)) { primask = true }
 
 -- and behind the one that closes it
 closed : Processor → Kind → Processor
@@ -52,7 +52,7 @@ closed p (Raise d v) = record (next p) { basepri = slot p d }
 closed p (Mask d) = record (next p) { primask = slot p d == 1 }
 
 opening_leads : (kind : Kind) (time : ℕ) (p : Processor)
-    → done (opening kind) time p ≡ LeadsTo (opened p kind) request.Nothing
+    → unchecked_effect (entering_instr kind) time p ≡ LeadsTo (opened p kind) request.Nothing
 unfolding opened
 opening_leads Mark time p = refl
 opening_leads (Raise d v) time p = refl
@@ -63,7 +63,7 @@ number_small true = omega arith
 number_small false = omega arith
 
 closing_leads : (kind : Kind) (time : ℕ) (p : Processor) (base : ℕ) (mask : Bool) → SavesBy p.slots kind base mask
-    → done (rules.closing kind) time p ≡ LeadsTo (closed p kind) request.Nothing
+    → unchecked_effect (rules.leaving_instr kind) time p ≡ LeadsTo (closed p kind) request.Nothing
 unfolding closed
 closing_leads Mark time p base mask saves = refl
 closing_leads (Raise d v) time p base mask saves = refl
@@ -72,12 +72,12 @@ closing_leads (Mask d) time p base mask saves =
     ap (λ b. if b then LeadsTo (record (next p) { primask = slot p d == 1 }) request.Nothing else Traps trap.Stack)
     (le-leb (slot p d) 1 (omega (arith, small, saves.1)))
 
-opening_on : (kind : Kind) (at : ℕ) → LeadsOn (opening kind) at (suc at)
+opening_on : (kind : Kind) (at : ℕ) → LeadsOn (entering_instr kind) at (suc at)
 opening_on Mark at = refl
 opening_on (Raise d v) at = refl
 opening_on (Mask d) at = refl
 
-closing_on : (kind : Kind) (at : ℕ) → LeadsOn (rules.closing kind) at (suc at)
+closing_on : (kind : Kind) (at : ℕ) → LeadsOn (rules.leaving_instr kind) at (suc at)
 closing_on Mark at = refl
 closing_on (Raise d v) at = refl
 closing_on (Mask d) at = refl
@@ -94,7 +94,7 @@ record IsOpened (p : Processor) (kind : Kind) (inside : List Opened) (base : ℕ
 
 is_opened : (p : Processor) (kind : Kind) (inside : List Opened) (base : ℕ) (mask : Bool) (n : ℕ)
     → p.basepri ≡ base_inside inside base → p.primask ≡ mask_inside inside mask → length p.slots ≡ n
-    → AllByRecursion (λ d. d < n) (slots_of (opening kind)) → rules.IsUnsaved inside (rules.written (opening kind))
+    → AllByRecursion (λ d. d < n) (slots_of (entering_instr kind)) → rules.IsUnsaved inside (rules.written_slot (entering_instr kind))
     → Saves p.slots inside base mask → IsOpened p kind inside base mask
 unfolding opened
 is_opened p Mark inside base mask n basepri primask long there free saves = record {
@@ -166,17 +166,17 @@ no_init_end_left x value same = cc (same)
 
 module _ (img : Image) (checked : IsChecked img) (c : Core) (p : Point) (qs : List Point) (fits : Fits img c p qs)
     (line : HasLine img p) (picked : pick img c ≡ None) where
-  module _ (x : Section) (kind : Kind) (is : line.instr ≡ opening kind) (tells : line.told ≡ Some (note.Enter x))
+  module _ (x : Section) (kind : Kind) (is : line.instr ≡ entering_instr kind) (tells : line.told ≡ Some (note.Enter x))
       (free : FindsNone (Some (what.Enter x)) (insides_of (p ∷ qs))) where
     abbrev inner : Point
     inner = record { address = suc p.address; owner = p.owner; inside = record { section = x; kind = kind } ∷ p.inside }
 
-    same_line : ◌≡◌ {A = Instr × Option Note} (line.instr, line.told) (opening kind, Some (note.Enter x))
+    same_line : ◌≡◌ {A = Instr × Option Note} (line.instr, line.told) (entering_instr kind, Some (note.Enter x))
     same_line k = (is k, tells k)
 
     enters : IsPoint img inner
     enters = Leads p inner fits.running.point (record {
-      line = (opening kind, Some (note.Enter x));
+      line = (entering_instr kind, Some (note.Enter x));
       stands = line.stands.1 ∙ ap (λ (l : Instr × Option Note). Some l) same_line;
       address = opening_on kind p.address;
       owner = sym (owner_of_opening kind p.owner);
@@ -187,7 +187,7 @@ module _ (img : Image) (checked : IsChecked img) (c : Core) (p : Point) (qs : Li
     after_opening = is_opened c.processor kind p.inside (base_under qs) (is_starting p.owner) (frame_of img p.owner)
         fits.basepri fits.primask fits.running.frame
         (subst (λ i. AllByRecursion (λ d. d < frame_of img p.owner) (slots_of i)) is line.operable.slots)
-        (subst (λ i. rules.IsUnsaved p.inside (rules.written i)) is line.noted.unsaved) fits.running.saves
+        (subst (λ i. rules.IsUnsaved p.inside (rules.written_slot i)) is line.noted.unsaved) fits.running.saves
 
     fits_inside : Fits img (with_processor c (opened c.processor kind)) inner qs
     fits_inside = record {
@@ -211,7 +211,7 @@ module _ (img : Image) (checked : IsChecked img) (c : Core) (p : Point) (qs : Li
       core = with_processor c (opened c.processor kind);
       shown = Some (what.Enter x);
       is = line_steps img checked c p qs fits line picked
-          ∙ ap (λ (l : Instr × Option Note). settle (go_on img c l.1 (done l.0 c.time c.processor))) same_line
+          ∙ ap (λ (l : Instr × Option Note). settle (go_on img c l.1 (unchecked_effect l.0 c.time c.processor))) same_line
           ∙ ap (λ e. settle (go_on img c (Some (note.Enter x)) e)) (opening_leads kind c.time c.processor);
       point = inner;
       below = qs;
@@ -225,16 +225,16 @@ module _ (img : Image) (checked : IsChecked img) (c : Core) (p : Point) (qs : Li
 
   module _ (x : Section) (kind : Kind) (outer : List Opened)
       (inside : p.inside ≡ record { section = x; kind = kind } ∷ outer)
-      (is : line.instr ≡ rules.closing kind) (tells : line.told ≡ Some (note.Leave x)) where
+      (is : line.instr ≡ rules.leaving_instr kind) (tells : line.told ≡ Some (note.Leave x)) where
     abbrev outside : Point
     outside = record { address = suc p.address; owner = p.owner; inside = outer }
 
-    same_closing : ◌≡◌ {A = Instr × Option Note} (line.instr, line.told) (rules.closing kind, Some (note.Leave x))
+    same_closing : ◌≡◌ {A = Instr × Option Note} (line.instr, line.told) (rules.leaving_instr kind, Some (note.Leave x))
     same_closing k = (is k, tells k)
 
     leaves : IsPoint img outside
     leaves = Leads p outside fits.running.point (record {
-      line = (rules.closing kind, Some (note.Leave x));
+      line = (rules.leaving_instr kind, Some (note.Leave x));
       stands = line.stands.1 ∙ ap (λ (l : Instr × Option Note). Some l) same_closing;
       address = closing_on kind p.address;
       owner = sym (owner_of_closing kind p.owner);
@@ -275,7 +275,7 @@ module _ (img : Image) (checked : IsChecked img) (c : Core) (p : Point) (qs : Li
       core = with_processor c (closed c.processor kind);
       shown = Some (what.Leave x (left_value img (with_processor c (closed c.processor kind)) x));
       is = line_steps img checked c p qs fits line picked
-          ∙ ap (λ (l : Instr × Option Note). settle (go_on img c l.1 (done l.0 c.time c.processor))) same_closing
+          ∙ ap (λ (l : Instr × Option Note). settle (go_on img c l.1 (unchecked_effect l.0 c.time c.processor))) same_closing
           ∙ ap (λ e. settle (go_on img c (Some (note.Leave x)) e))
           (closing_leads kind c.time c.processor _ _ saved.0);
       point = outside;

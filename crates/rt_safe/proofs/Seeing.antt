@@ -12,7 +12,7 @@ use Rattle.rt_trace.specs.declared.item.What.{What}
 use Rattle.rt_trace.specs.declared.item.What.TheVariants as what
 use Rattle.rt_app.specs.Tree.{App}
 use Rattle.rt_laws.specs.Properties.{AreExclusive, FindsFree}
-use Rattle.rt_laws.specs.Sight.{Seen, Sight, IsInside, on_running, entering, leaving, sees}
+use Rattle.rt_laws.specs.Observer.{Seen, Observer, IsInside, on_running, seen_after_enter, seen_after_leave, sees}
 use Rattle.rt_safe.specs.Inside.Steps.{on_first, insides_after, FindsNone, IsNoTrapShown}
 use Rattle.rt_safe.specs.Safe.{IsInit}
 use Rattle.rt_safe.proofs.Apart.{AreApart}
@@ -27,11 +27,11 @@ abbrev pub seen_insides : List Seen → List (List Section)
 seen_insides jobs = map (λ job. job.inside) jobs
 
 entering_seen : (x : Section) (n : ℕ) (jobs : List Seen)
-    → seen_insides (on_running (entering x n) jobs) ≡ on_first (λ inside. x ∷ inside) (seen_insides jobs)
+    → seen_insides (on_running (seen_after_enter x n) jobs) ≡ on_first (λ inside. x ∷ inside) (seen_insides jobs)
 entering_seen x n [] = refl
 entering_seen x n (job ∷ others) = refl
 
-leaving_seen : (jobs : List Seen) → seen_insides (on_running leaving jobs) ≡ on_first (drop 1) (seen_insides jobs)
+leaving_seen : (jobs : List Seen) → seen_insides (on_running seen_after_leave jobs) ≡ on_first (drop 1) (seen_insides jobs)
 leaving_seen [] = refl
 leaving_seen (job ∷ others) = refl
 
@@ -44,7 +44,7 @@ ended_seen : (jobs : List Seen)
 ended_seen [] = refl
 ended_seen (job ∷ others) = refl
 
-pub sees_insides : (app : App) (v : Sight) (label : Label)
+pub sees_insides : (app : App) (v : Observer) (label : Label)
     → seen_insides (sees app v label).jobs ≡ insides_after (shown_of label) (seen_insides v.jobs)
 sees_insides app v (Stepped (Some (what.Ret irq))) = returned_seen v.jobs
 sees_insides app v (Stepped (Some (what.Enter x))) = entering_seen x v.steps v.jobs
@@ -61,7 +61,7 @@ exclusive_of jobs insides same apart i j a b x at_a at_b in_a in_b =
     (subst (λ xs. slice_get xs j ≡ Some b.inside) same (mapped_at (λ job. job.inside) jobs j b at_b)) in_a in_b
 
 -- where a section is entered no job is inside it
-pub free_of : (v : Sight) (label : Label) → FindsNone (shown_of label) (seen_insides v.jobs) → FindsFree v label
+pub free_of : (v : Observer) (label : Label) → FindsNone (shown_of label) (seen_insides v.jobs) → FindsFree v label
 free_of v (Stepped (Some (what.Enter x))) free = all_unmap (λ job. job.inside) (λ inside. ¬ IsIn inside x) v.jobs free
 free_of v label free = tt
 

@@ -1,7 +1,7 @@
 -- A core that fits steps to one that fits again.
 use Rattle.std.proofs.Common.{◌≡◌, List, Option, Some, None, refl, sym, ap, subst, ◌∙◌}
 use Rattle.rt_ids.specs.declared.ids.BodyId.TheVariants as body
-use Rattle.rt_code.specs.Effect.{done}
+use Rattle.rt_code.specs.Effect.{unchecked_effect}
 use Rattle.rt_code.specs.Image.{Image}
 use Rattle.rt_code.specs.declared.image.IrqRow.{IrqRow}
 use Rattle.rt_code.specs.declared.instr.Instr.{Instr}
@@ -15,7 +15,7 @@ use Rattle.rt_points.specs.Leading.{owner_after, inside_after}
 use Rattle.rt_points.specs.Point.{Point}
 use Rattle.rt_points.specs.Rules.{EntersAt}
 use Rattle.rt_safe.specs.Inside.Fits.{Fits}
-use Rattle.rt_safe.specs.Inside.Lines.{opening, IsLine, Simply, Anew, Opens, Closes, EndsInit, Returns}
+use Rattle.rt_safe.specs.Inside.Lines.{entering_instr, IsLine, Simply, Anew, Opens, Closes, EndsInit, Returns}
 use Rattle.rt_safe.specs.Inside.Steps.{Steps}
 use Rattle.rt_safe.proofs.Advancing.{Advances, simply, anew, advances}
 use Rattle.rt_safe.proofs.Apart.{finds_none}
@@ -29,29 +29,29 @@ module _ (img : Image) (checked : IsChecked img) (c : Core) (p : Point) (qs : Li
   by_line : (line : HasLine img p) → pick img c ≡ None → IsLine p line.instr line.told → Steps img c p qs
   by_line line picked (Simply simple untold unsaved) =
       advances img checked c p qs fits line picked
-      (subst (λ n. Advances img c p.inside line.instr n (done line.instr c.time c.processor)) (sym untold)
+      (subst (λ n. Advances img c p.inside line.instr n (unchecked_effect line.instr c.time c.processor)) (sym untold)
       (simply img c p.inside line.instr simple unsaved))
       (owner_of_simple line.instr p.owner simple) (ap (λ n. inside_after line.instr n p.inside) untold)
   by_line line picked (Anew to is tells thread) =
       let same : ◌≡◌ {A = Instr × Option Note} (line.instr, line.told) (instr.Jump to, Some (note.End body.Idle)) =
       λ k. (is k, tells k) in
       advances img checked c p qs fits line picked
-      (subst (λ (l : Instr × Option Note). Advances img c p.inside l.0 l.1 (done l.0 c.time c.processor)) (sym same)
+      (subst (λ (l : Instr × Option Note). Advances img c p.inside l.0 l.1 (unchecked_effect l.0 c.time c.processor)) (sym same)
       (anew img c p.inside to))
       (ap (λ i. owner_after i p.owner) is) (ap (λ n. inside_after line.instr n p.inside) tells)
   by_line line picked (Opens x kind is tells) =
-      let same : ◌≡◌ {A = Instr × Option Note} (line.instr, line.told) (opening kind, Some (note.Enter x)) =
+      let same : ◌≡◌ {A = Instr × Option Note} (line.instr, line.told) (entering_instr kind, Some (note.Enter x)) =
       λ k. (is k, tells k) in
-      let enters : EntersAt img p (opening kind) x =
+      let enters : EntersAt img p (entering_instr kind) x =
       (fits.running.point, line.stands.1 ∙ ap (λ (l : Instr × Option Note). Some l) same) in
       opens_section img checked c p qs fits line picked x kind is tells
-      (finds_none img checked p qs c.below (opening kind) x enters fits.stack)
+      (finds_none img checked p qs c.below (entering_instr kind) x enters fits.stack)
   by_line line picked (Closes x kind outer inside is tells) =
       closes_section img checked c p qs fits line picked x kind outer inside is tells
   by_line line picked (EndsInit is tells starting none) =
       ends_init img checked c p qs fits line picked is tells starting none
-  by_line line picked (Returns place is untold handles none) =
-      returns img checked c p qs fits line picked place is untold handles none
+  by_line line picked (Returns index is untold handles none) =
+      returns img checked c p qs fits line picked index is untold handles none
 
   pub steps : Steps img c p qs
   steps = by (pick img c) refl

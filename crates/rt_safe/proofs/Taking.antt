@@ -15,23 +15,23 @@ use Rattle.rt_trace.specs.declared.item.What.TheVariants as what
 use Rattle.rt_core.specs.Core.{Core, depth}
 use Rattle.rt_core.specs.Outcome.{Trapped, Done, settle}
 use Rattle.rt_core.specs.Priority.{running_value, base_value, mask_value, value_or_none, execution, can_preempt, pick}
-use Rattle.rt_core.specs.Transfer.{entered, enter}
+use Rattle.rt_core.specs.Transfer.{core_after_entry, exception_entry}
 use Rattle.rt_core.proofs.Happening.{steps_by_cause}
 use Rattle.rt_core.proofs.Picking.{picked_row}
 use Rattle.rt_points.specs.declared.point.Owner.TheVariants.{Starting, Handling}
 use Rattle.rt_points.specs.declared.rule.Rule.TheVariants as rule
 use Rattle.rt_points.specs.Checked.{IsChecked}
 use Rattle.rt_points.specs.Leading.{Enters, handler_at, starts_at}
-use Rattle.rt_points.specs.Level.{level_value}
+use Rattle.rt_points.specs.ExecutionPriority.{execution_priority}
 use Rattle.rt_points.specs.Point.{Point}
 use Rattle.rt_safe.specs.Inside.Fits.{is_starting, Fits}
 use Rattle.rt_safe.specs.Inside.Steps.{Steps}
 use Rattle.rt_safe.proofs.Depth.{frame_is, room_above}
 use Rattle.rt_safe.proofs.Execution.{execution_is}
-use Rattle.rt_safe.proofs.Levels.{unmasked}
+use Rattle.rt_safe.proofs.PointPriorities.{unmasked}
 
-pub handling_differs : (place : ℕ) → Handling place ≢ Starting
-handling_differs place same = false≢true (ap is_starting same)
+pub handling_differs : (index : ℕ) → Handling index ≢ Starting
+handling_differs index same = false≢true (ap is_starting same)
 
 -- what can preempt is enabled, and above the execution priority
 preempts : (c : Core) (row : IrqRow) → can_preempt c row ≡ true → value_or_none row.handler < execution c
@@ -47,18 +47,18 @@ execution_small c = by c.processor.primask
     by false = omega arith
 
 module _ (img : Image) (checked : IsChecked img) (c : Core) (p : Point) (qs : List Point) (fits : Fits img c p qs) where
-  entered_fits : (place irq : ℕ) (h : Handler) → handler_at img place ≡ Some h
-      → h.value < level_value img p.owner p.inside
-      → Fits img (entered c irq h) (starts_at h.entry (Handling place)) (p ∷ qs)
-  entered_fits place irq h is above = record {
+  entered_fits : (index irq : ℕ) (h : Handler) → handler_at img index ≡ Some h
+      → h.value < execution_priority img p.owner p.inside
+      → Fits img (core_after_entry c irq h) (starts_at h.entry (Handling index)) (p ∷ qs)
+  entered_fits index irq h is above = record {
     running = record {
-      point = Enters place h is;
-      frame = length-replicate h.frame 0 ∙ sym (frame_is img place h is);
+      point = Enters index h is;
+      frame = length-replicate h.frame 0 ∙ sym (frame_is img index h is);
       saves = tt;
     };
     stack = (
       record {
-        place = place;
+        index = index;
         handler = h;
         enabled = is;
         handles = refl;
@@ -95,15 +95,15 @@ module _ (img : Image) (checked : IsChecked img) (c : Core) (p : Point) (qs : Li
       by (Some h) is =
           let value : value_or_none row.handler ≡ h.value = ap value_or_none is in
           let at : handler_at img found.0.0 ≡ Some h = ap (λ o. then_from o (λ r. r.handler)) found.0.1 ∙ is in
-          let above : h.value < level_value img p.owner p.inside =
+          let above : h.value < execution_priority img p.owner p.inside =
           omega (arith, less, value, execution_is img checked c p qs fits) in
           let room = room_above img (checked rule.Numbers).stack_enough c p qs fits found.0.0 h at above in
-          let after : Core = entered c row.number h in
+          let after : Core = core_after_entry c row.number h in
           record {
             core = after;
             shown = Some (what.Take row.number (depth img after));
             is = steps_by_cause.entry img c row fits.stopped picked
-                ∙ ap (λ o. settle (enter img c row.number o)) is
+                ∙ ap (λ o. settle (exception_entry img c row.number o)) is
                 ∙ ap (λ b. settle (if b then Done after (Some (what.Take row.number (depth img after)))
                 else Trapped c trap.Stack)) room;
             point = starts_at h.entry (Handling found.0.0);

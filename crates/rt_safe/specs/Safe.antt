@@ -16,7 +16,7 @@ use Rattle.rt_core.specs.Access.{access}
 use Rattle.rt_core.specs.Core.{reset}
 use Rattle.rt_core.specs.Trace.{core_after, labels, trace, depth_after}
 use Rattle.rt_laws.specs.Properties.{Exclusive, NeverWaits}
-use Rattle.rt_laws.specs.Sight.{Seen, IsInside, first_sight, sees_all}
+use Rattle.rt_laws.specs.Observer.{Seen, IsInside, first_sight, sees_all}
 use Rattle.rt_points.specs.Rules.{IsContended}
 
 -- What holds of one list of events: whichever application one reads priorities from, which these properties do not use.

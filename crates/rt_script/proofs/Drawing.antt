@@ -8,30 +8,30 @@ use Rattle.rand_pcg.specs.Lcg.{Lcg}
 use Rattle.rand_pcg.specs.Pcg.{pcg32}
 use Rattle.rt_ids.specs.declared.limits.TheConstants.{SCRIPT_EVENTS}
 use Rattle.rt_ids.specs.declared.memory.NoMemory.{NoMemory}
-use Rattle.rt_script.specs.Generated.{drawn}
+use Rattle.rt_script.specs.Generated.{drawn_words}
 use Rattle.rt_script.specs.Script.{count, count_of}
 use Rattle.rt_script.specs.declared.line.Line.{Line}
 
 -- the lines of the words to come, the first of them drawn
 pub lines_more : (f : ℕ → Line) (word count n : ℕ) (lines all : List Line) (g next : Lcg) → n < count
-    → (word, next) ≡ pcg32 g → lines ++ map f (drawn (count - n) g) ≡ all
-    → (lines ++ f word ∷ []) ++ map f (drawn (count - (n + 1)) next) ≡ all
-unfolding drawn
+    → (word, next) ≡ pcg32 g → lines ++ map f (drawn_words (count - n) g) ≡ all
+    → (lines ++ f word ∷ []) ++ map f (drawn_words (count - (n + 1)) next) ≡ all
+unfolding drawn_words
 lines_more f word count n lines all g next within drew before =
     let rest : ℕ = count - (n + 1) in
     let one : count - n ≡ suc rest = omega arith in
-    append_assoc lines (f word ∷ []) (map f (drawn rest next))
-    ∙ ap (λ (w : ℕ × Lcg). lines ++ f w.0 ∷ map f (drawn rest w.1)) drew
-    ∙ ap (λ k. lines ++ map f (drawn k g)) (sym one)
+    append_assoc lines (f word ∷ []) (map f (drawn_words rest next))
+    ∙ ap (λ (w : ℕ × Lcg). lines ++ f w.0 ∷ map f (drawn_words rest w.1)) drew
+    ∙ ap (λ k. lines ++ map f (drawn_words k g)) (sym one)
     ∙ before
 
 -- no word is to come
 pub lines_all : (f : ℕ → Line) (count n : ℕ) (lines all : List Line) (g : Lcg) → count ≤ n
-    → lines ++ map f (drawn (count - n) g) ≡ all → lines ≡ all
-unfolding drawn
+    → lines ++ map f (drawn_words (count - n) g) ≡ all → lines ≡ all
+unfolding drawn_words
 lines_all f count n lines all g over before =
     sym (append-nil lines)
-    ∙ ap (λ k. lines ++ map f (drawn k g)) (let none : 0 ≡ count - n = omega arith in none) ∙ before
+    ∙ ap (λ k. lines ++ map f (drawn_words k g)) (let none : 0 ≡ count - n = omega arith in none) ∙ before
 
 -- a line has room, so that it is pushed
 pub has_room : (old new : List Line) (line : Line) (fits : Bool) (result : Result Bool NoMemory) → result ≡ Ok fits

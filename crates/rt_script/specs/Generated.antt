@@ -10,9 +10,9 @@ use Rattle.rt_script.specs.declared.line.Line.{Line}
 use Rattle.rt_script.specs.declared.line.Line.TheVariants.{Steps, Ticks, Pends}
 
 -- so many words of a generator, from the next one on
-unfoldable pub drawn : ℕ → Lcg → List ℕ
-drawn zero generator = []
-drawn (suc n) generator = (pcg32 generator).0 ∷ drawn n (pcg32 generator).1
+unfoldable pub drawn_words : ℕ → Lcg → List ℕ
+drawn_words zero generator = []
+drawn_words (suc n) generator = (pcg32 generator).0 ∷ drawn_words n (pcg32 generator).1
 
 -- the generator of a number and a stream, of which no word is drawn yet
 abbrev pub generator_of : ℕ → ℕ → Lcg
@@ -32,4 +32,4 @@ line_of irqs word =
 
 -- the script, where these interrupts are declared, in order
 abbrev pub generated : List ℕ → ℕ → ℕ → List Line
-generated irqs number stream = map (line_of irqs) (drawn 200 (generator_of number stream))
+generated irqs number stream = map (line_of irqs) (drawn_words 200 (generator_of number stream))

@@ -4,7 +4,7 @@ use Rattle.std.proofs.Common.{length, map, Option, Some, None, refl, sym, ap, su
 use Rattle.rt_lemmas.proofs.Bools.{and_parts, or_cases}
 use Rattle.rt_ids.specs.Choice.{IsIn}
 use Rattle.rt_ids.specs.Holder.{Guarded, is_same_section}
-use Rattle.rt_ids.specs.Storage.{Runner, Starting, AtLevel, At}
+use Rattle.rt_ids.specs.Storage.{Runner, Starting, AtPriority, At}
 use Rattle.rt_ids.specs.declared.ids.Section.{Section}
 use Rattle.rt_ids.specs.declared.ids.Section.TheVariants as section
 use Rattle.rt_app.specs.Tree.{App}
@@ -24,7 +24,7 @@ use Rattle.rt_core.specs.Access.{access, access_by, access_by_line}
 use Rattle.rt_core.specs.Priority.{pick}
 use Rattle.rt_core.proofs.Standing.{standing_leads}
 use Rattle.rt_laws.specs.State.{Role, Init, Idle, Waiting, Serving}
-use Rattle.rt_laws.specs.Sight.{Seen, Sight, IsInside}
+use Rattle.rt_laws.specs.Observer.{Seen, Observer, IsInside}
 use Rattle.rt_laws.proofs.Well.{StackWell, StateWell}
 use Rattle.rt_sim.specs.Guarded as guarded
 use Rattle.rt_sim.specs.Guarded.{IsInit, IsGuarded, is_read_alone}
@@ -69,7 +69,7 @@ module _ (app : App) (img : Image) (thread : ℕ)
   role_of (Serving irq) is = absurd (cc (is))
 
   -- what it owns it may store to
-  owned_seen : (v : Sight) → StateWell app (state_of m) v → (r : ℕ)
+  owned_seen : (v : Observer) → StateWell app (state_of m) v → (r : ℕ)
       → owns (storage app) (who m.running) m.running.held (Guarded (section.Res r)) ≡ true
       → guarded.MayStore app v.jobs r
   unfolding storage
@@ -82,9 +82,9 @@ module _ (app : App) (img : Image) (thread : ℕ)
       by : (runner : Runner) → who m.running ≡ runner → is_kept app runner (Guarded (section.Res r)) ≡ true
           → guarded.MayStore app v.jobs r
       by Starting same kept = inr (inl (init_seen m.below v.jobs well.stack fits.stack (role_of m.running.role same)))
-      by (AtLevel p) same kept = inr (inr (and_parts (is_lock_free app r) (is_some_at app (lists r) p) kept).0)
+      by (AtPriority p) same kept = inr (inr (and_parts (is_lock_free app r) (is_some_at app (lists r) p) kept).0)
 
-  read_seen : (v : Sight) → StateWell app (state_of m) v → (r : ℕ)
+  read_seen : (v : Observer) → StateWell app (state_of m) v → (r : ℕ)
       → reads (storage app) (who m.running) m.running.held (Guarded (section.Res r)) ≡ true
       → guarded.MayStore app v.jobs r ⊎ (is_read_alone app r ≡ true)
   unfolding storage
@@ -97,7 +97,7 @@ module _ (app : App) (img : Image) (thread : ℕ)
       by : (runner : Runner) → is_constant app runner (Guarded (section.Res r)) ≡ true → guarded.MayStore app v.jobs r
           ⊎ (is_read_alone app r ≡ true)
       by Starting constant = absurd (cc (constant))
-      by (AtLevel p) constant = inr constant
+      by (AtPriority p) constant = inr constant
 
   home_is : (cell r : ℕ) → resource_cell img r ≡ Some cell → (storage app).home cell ≡ At (Guarded (section.Res r))
   unfolding storage
@@ -105,7 +105,7 @@ module _ (app : App) (img : Image) (thread : ℕ)
       let one = named r cell is in
       ap (storage app).home one.1 ∙ resource_is_home app r one.0
 
-  may_is_guarded : (v : Sight) → StateWell app (state_of m) v → (a : Option Access)
+  may_is_guarded : (v : Observer) → StateWell app (state_of m) v → (a : Option Access)
       → MayAccess (storage app) (who m.running) (spot_of m.cells m.queues m.running) a → IsGuarded app img v.jobs a
   may_is_guarded v well None may = tt
   may_is_guarded v well (Some (Loads cell)) may = λ r is.
@@ -122,7 +122,7 @@ module _ (app : App) (img : Image) (thread : ℕ)
   no_steps s = s
 
   -- the access of the next step is guarded
-  pub access_is_guarded : (v : Sight) → StateWell app (state_of m) v → m.time < 2 ^ 31
+  pub access_is_guarded : (v : Observer) → StateWell app (state_of m) v → m.time < 2 ^ 31
       → IsGuarded app img v.jobs (access img (core_of app.bits m))
   access_is_guarded v well early = by_pick (pick img (core_of app.bits m)) refl
     where

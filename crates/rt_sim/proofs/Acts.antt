@@ -4,7 +4,7 @@ use Rattle.std.proofs.Common.{None, refl, ap, subst, ◌∙◌, length-set}
 use Rattle.std.specs.List.{list_any}
 use Rattle.rt_ids.specs.Holder.{Holder, Guarded, Own, is_same_section}
 use Rattle.rt_ids.specs.Content.{Values}
-use Rattle.rt_ids.specs.Action.{Action, Emits, Posts, Clocks, Refuses, effect}
+use Rattle.rt_ids.specs.Action.{Action, Emits, Posts, Clocks, FindsFull, effect}
 use Rattle.rt_ids.specs.Doing.{Doing, over, does}
 use Rattle.rt_ids.specs.Entry.{Entry, count}
 use Rattle.rt_ids.specs.Storage.{Runner}
@@ -15,23 +15,23 @@ use Rattle.rt_code.specs.Acting.{Acts}
 use Rattle.rt_code.specs.Image.{Image}
 use Rattle.rt_code.specs.Owning.{Held, Spot, owns, is_open, MayAccess, Agree}
 use Rattle.rt_code.specs.Processor.{Processor}
-use Rattle.rt_code.specs.Standing.{Stands, HaveLeft, moved, passed}
+use Rattle.rt_code.specs.Standing.{Stands, HaveLeft, spot_behind, spot_after_step}
 use Rattle.rt_core.specs.Access.{access}
 use Rattle.rt_core.specs.Core.{Core}
 use Rattle.rt_core.specs.Leading.{GoesPlainly, with_processor}
 use Rattle.rt_core.specs.Stepping.{step}
-use Rattle.rt_core.specs.Transfer.{pended}
+use Rattle.rt_core.specs.Transfer.{core_after_pend}
 use Rattle.rt_trace.specs.declared.item.What.{What}
 use Rattle.rt_trace.specs.declared.item.What.TheVariants as what
-use Rattle.rt_laws.specs.State.{reached}
-use Rattle.rt_laws.specs.Level.{candidate}
+use Rattle.rt_laws.specs.State.{reached_values}
+use Rattle.rt_laws.specs.Preemption.{candidate}
 use Rattle.rt_laws.specs.Giving.{next_item, item_of}
-use Rattle.rt_laws.specs.Acting.{acted}
+use Rattle.rt_laws.specs.Acting.{state_after_doing}
 use Rattle.rt_laws.specs.Allowed.{Turn}
 use Rattle.rt_sim.specs.Inside.Moment.{Moment, spot_of, sections_of, job_of}
 use Rattle.rt_sim.specs.Inside.States.{core_of, state_of}
 use Rattle.rt_sim.specs.Inside.Counts.{hands, IsOnce}
-use Rattle.rt_sim.specs.Inside.Sparing.{owns_in, held_after, IsActionOf, IsEntered, Spares, IsSparing}
+use Rattle.rt_sim.specs.Inside.Sparing.{owns_in, sections_after, IsActionOf, IsEntered, Spares, IsSparing}
 use Rattle.rt_sim.specs.Inside.Calling.{handles}
 use Rattle.rt_sim.specs.Inside.PartFits.{who, AgreesWith}
 use Rattle.rt_sim.specs.Inside.Fits.{Fits}
@@ -53,7 +53,7 @@ owns_alike app runner handler held (Own n) = refl
 
 pub agrees_reached : (app : App) (img : Image) (thread : ℕ) (runner : Runner) (held : List Held) (rest : Doing Values)
     (vs : Values)
-    → AgreesWith app img thread runner held (reached rest vs) rest
+    → AgreesWith app img thread runner held (reached_values rest vs) rest
 agrees_reached app img thread runner held over vs = tt
 agrees_reached app img thread runner held (does action made next) vs = λ h r. refl
 
@@ -101,10 +101,10 @@ module _ (app : App) (img : Image) (thread : ℕ) (m : Moment) (fits : Fits app 
     pub spared : IsActionOf app (who m.running) (handles m.running.role) action
         × ((n : ℕ) (vs : Values) → IsEntered app action vs
         → Spares app (who m.running) (handles m.running.role)
-        (held_after app (who m.running) (handles m.running.role) (sections_of m.running.held) action) vs
+        (sections_after app (who m.running) (handles m.running.role) (sections_of m.running.held) action) vs
         (follows n vs)
         × IsSparing app (who m.running) (handles m.running.role)
-        (held_after app (who m.running) (handles m.running.role) (sections_of m.running.held) action)
+        (sections_after app (who m.running) (handles m.running.role) (sections_of m.running.held) action)
         (follows n vs))
     spared = subst (λ rest. IsSparing app (who m.running) (handles m.running.role)
         (sections_of m.running.held) rest) is fits.parts.0.sparing
@@ -113,9 +113,9 @@ module _ (app : App) (img : Image) (thread : ℕ) (m : Moment) (fits : Fits app 
     pub gives_item : next_item (state_of m) m.running.role m.running.rest ≡ item_of (state_of m) m.running.role action
     gives_item = ap (next_item (state_of m) m.running.role) is
 
-    pub acts_as : acted app (state_of m) (job_of m.running) (map job_of m.below) m.running.rest
-        ≡ acted app (state_of m) (job_of m.running) (map job_of m.below) (does action values follows)
-    acts_as = ap (acted app (state_of m) (job_of m.running) (map job_of m.below)) is
+    pub acts_as : state_after_doing app (state_of m) (job_of m.running) (map job_of m.below) m.running.rest
+        ≡ state_after_doing app (state_of m) (job_of m.running) (map job_of m.below) (does action values follows)
+    acts_as = ap (state_after_doing app (state_of m) (job_of m.running) (map job_of m.below)) is
 
   -- where the action opens no section, and these places and queues are behind it
   pub acts_fit : (q : Processor) (n : ℕ) (action : Action) (answer : ℕ) (places : List Entry)
@@ -123,15 +123,15 @@ module _ (app : App) (img : Image) (thread : ℕ) (m : Moment) (fits : Fits app 
       → GoesPlainly (spot_of m.cells m.queues m.running) (core_of app.bits m).processor q
       → ChangesItsOwn app img thread m.running m.cells q.cells
       → (acts : Acts (storage app) m.running.rows (who m.running) action answer
-      (record (moved (passed (spot_of m.cells m.queues m.running)) q) { places = places; queues = queues })
+      (record (spot_behind (spot_after_step (spot_of m.cells m.queues m.running)) q) { places = places; queues = queues })
       (λ t. Stands (storage app) img.code m.running.rows thread (who m.running) n t))
       → ValuesItsOwn app img thread m.running m.values (effect action m.values)
       → QueuesItsOwn app img thread m.running m.queues queues
       → IsOnce queues (λ e. count e places + hands m.below e)
-      → ((held : List Section) → held_after app (who m.running) (handles m.running.role) held action ≡ held)
+      → ((held : List Section) → sections_after app (who m.running) (handles m.running.role) held action ≡ held)
       → IsEntered app action (effect action m.values)
       → Fits app img thread (moment_behind app img thread m q n (acts.follows answer (effect action m.values))
-      (reached (acts.follows answer (effect action m.values)) (effect action m.values)) places queues)
+      (reached_values (acts.follows answer (effect action m.values)) (effect action m.values)) places queues)
   acts_fit q n action answer places queues plain changes acts kept moves once closed entered =
       let vs : Values = effect action m.values in
       let rest = acts.follows answer vs in
@@ -139,7 +139,7 @@ module _ (app : App) (img : Image) (thread : ℕ) (m : Moment) (fits : Fits app 
       × IsSparing app (who m.running) (handles m.running.role) held rest)
       (closed (sections_of m.running.held))
       ((spared action acts.values acts.follows acts.is).1 answer vs entered) in
-      plain_fits app img thread m fits works q n rest (reached rest vs) places queues plain changes
+      plain_fits app img thread m fits works q n rest (reached_values rest vs) places queues plain changes
       (λ h away. spares.0 h (owns_alike app (who m.running) (handles m.running.role) m.running.held h ∙ away)
       ∙ kept h away) moves once
       (acts.on m.values (agreed action acts.values acts.follows acts.is))
@@ -150,13 +150,13 @@ module _ (app : App) (img : Image) (thread : ℕ) (m : Moment) (fits : Fits app 
       → GoesPlainly (spot_of m.cells m.queues m.running) (core_of app.bits m).processor q
       → ChangesItsOwn app img thread m.running m.cells q.cells
       → (acts : Acts (storage app) m.running.rows (who m.running) action answer
-      (moved (passed (spot_of m.cells m.queues m.running)) q)
+      (spot_behind (spot_after_step (spot_of m.cells m.queues m.running)) q)
       (λ t. Stands (storage app) img.code m.running.rows thread (who m.running) n t))
       → ((vs : Values) → effect action vs ≡ vs)
-      → ((held : List Section) → held_after app (who m.running) (handles m.running.role) held action ≡ held)
+      → ((held : List Section) → sections_after app (who m.running) (handles m.running.role) held action ≡ held)
       → IsEntered app action (effect action m.values)
       → Fits app img thread (moment_behind app img thread m q n (acts.follows answer (effect action m.values))
-      (reached (acts.follows answer (effect action m.values)) (effect action m.values)) m.running.places m.queues)
+      (reached_values (acts.follows answer (effect action m.values)) (effect action m.values)) m.running.places m.queues)
   acts_plainly q n action answer plain changes acts same closed entered =
       acts_fit q n action answer m.running.places m.queues plain changes acts
       (λ h away. ap (λ (vs : Values). vs h) (same m.values)) (λ h away. refl) fits.once closed entered
@@ -170,18 +170,18 @@ module _ (app : App) (img : Image) (thread : ℕ) (m : Moment) (fits : Fits app 
 
     abbrev ActsBy : Action → ℕ → Type 0
     ActsBy action answer = Acts (storage app) m.running.rows (who m.running) action answer
-        (moved (passed (spot_of m.cells m.queues m.running)) q)
+        (spot_behind (spot_after_step (spot_of m.cells m.queues m.running)) q)
         (λ t. Stands (storage app) img.code m.running.rows thread (who m.running) n t)
 
     abbrev Both : Type 0
     Both = StepsBoth app img thread (core_of app.bits m) (state_of m)
 
     abbrev Behind : Doing Values → Values → Moment
-    Behind rest vs = moment_behind app img thread m q n rest (reached rest vs) m.running.places m.queues
+    Behind rest vs = moment_behind app img thread m q n rest (reached_values rest vs) m.running.places m.queues
 
     pub silent : step img (core_of app.bits m) ≡ (with_processor (core_of app.bits m) q, None)
         → Stands (storage app) img.code m.running.rows thread (who m.running) n
-        (moved (passed (spot_of m.cells m.queues m.running)) q) → Both
+        (spot_behind (spot_after_step (spot_of m.cells m.queues m.running)) q) → Both
     silent is stands = record {
       core = with_processor (core_of app.bits m) q;
       shown = None;
@@ -229,24 +229,24 @@ module _ (app : App) (img : Image) (thread : ℕ) (m : Moment) (fits : Fits app 
     }
 
     pub finds_none : (t : ℕ) → step img (core_of app.bits m) ≡
-        (with_processor (core_of app.bits m) q, Some (what.Full t)) → ActsBy (Refuses t) 0 → Both
+        (with_processor (core_of app.bits m) q, Some (what.Full t)) → ActsBy (FindsFull t) 0 → Both
     finds_none t is acts = record {
       core = with_processor (core_of app.bits m) q;
       shown = Some (what.Full t);
       is = is;
-      may = (turn, gives_item (Refuses t) acts.values acts.follows acts.is);
+      may = (turn, gives_item (FindsFull t) acts.values acts.follows acts.is);
       agrees = record {
         moment = Behind (acts.follows 0 m.values) m.values;
         core = refl;
-        state = acts_as (Refuses t) acts.values acts.follows acts.is;
-        fits = acts_plainly q n (Refuses t) 0 plain (changes_by _ _ is may) acts (λ vs. refl) (λ held. refl) tt;
+        state = acts_as (FindsFull t) acts.values acts.follows acts.is;
+        fits = acts_plainly q n (FindsFull t) 0 plain (changes_by _ _ is may) acts (λ vs. refl) (λ held. refl) tt;
       };
     }
 
     pub posts : (irq : ℕ) → step img (core_of app.bits m) ≡
-        (pended (with_processor (core_of app.bits m) q) irq, Some (what.Post irq)) → ActsBy (Posts irq) 0 → Both
+        (core_after_pend (with_processor (core_of app.bits m) q) irq, Some (what.Post irq)) → ActsBy (Posts irq) 0 → Both
     posts irq is acts = record {
-      core = pended (with_processor (core_of app.bits m) q) irq;
+      core = core_after_pend (with_processor (core_of app.bits m) q) irq;
       shown = Some (what.Post irq);
       is = is;
       may = (turn, gives_item (Posts irq) acts.values acts.follows acts.is);

@@ -13,7 +13,7 @@ use Rattle.rt_code.specs.Acting.{SetsTheAlarm}
 use Rattle.rt_code.specs.Image.{Image}
 use Rattle.rt_code.specs.Owning.{MayAccess}
 use Rattle.rt_code.specs.Processor.{Processor}
-use Rattle.rt_code.specs.Standing.{Stands, HaveLeft, moved, passed}
+use Rattle.rt_code.specs.Standing.{Stands, HaveLeft, spot_behind, spot_after_step}
 use Rattle.rt_code.proofs.Mine.{owns_open, owns_reads}
 use Rattle.rt_core.specs.declared.alarm.Alarm.{Alarm}
 use Rattle.rt_core.specs.Access.{access}
@@ -22,15 +22,15 @@ use Rattle.rt_core.specs.Leading.{GoesPlainly, with_processor}
 use Rattle.rt_core.specs.Outcome.{Done, settle}
 use Rattle.rt_core.specs.Stepping.{step}
 use Rattle.rt_core.specs.Trace.{tick}
-use Rattle.rt_core.specs.Transfer.{pended, set_alarm}
+use Rattle.rt_core.specs.Transfer.{core_after_pend, set_alarm}
 use Rattle.rt_trace.specs.Label.{Label, Ticked, Rang, steps_of}
 use Rattle.rt_trace.specs.declared.item.What.TheVariants as what
 use Rattle.rt_laws.specs.Services.{timer_number}
-use Rattle.rt_laws.specs.State.{reached}
-use Rattle.rt_laws.specs.Level.{candidate}
+use Rattle.rt_laws.specs.State.{reached_values}
+use Rattle.rt_laws.specs.Preemption.{candidate}
 use Rattle.rt_laws.specs.Giving.{next_item, next_instant, is_due}
 use Rattle.rt_laws.specs.Acting as baker
-use Rattle.rt_laws.specs.Acting.{acted, alarm_set}
+use Rattle.rt_laws.specs.Acting.{state_after_doing, alarm_set}
 use Rattle.rt_laws.specs.Allowed.{after}
 use Rattle.rt_laws.specs.ByItems.{after_all}
 use Rattle.rt_laws.specs.Run.{RunsOn}
@@ -91,14 +91,14 @@ module _ (app : App) (img : Image) (thread : ℕ) where
 
     abbrev Sets : Option ℕ → Type 0
     Sets instant = SetsTheAlarm (storage app) m.running.rows (who m.running) instant
-        (moved (passed (spot_of m.cells m.queues m.running)) q)
+        (spot_behind (spot_after_step (spot_of m.cells m.queues m.running)) q)
         (λ t. Stands (storage app) img.code m.running.rows thread (who m.running) n t)
 
     module _ (instant : Option ℕ) (sets : Sets instant) where
       -- behind the step, but for the alarm
       abbrev Behind : Moment
       Behind = moment_behind app img thread m q n (sets.acts.follows 0 m.values)
-          (reached (sets.acts.follows 0 m.values) m.values) m.running.places m.queues
+          (reached_values (sets.acts.follows 0 m.values) m.values) m.running.places m.queues
 
       fits_behind : ChangesItsOwn app img thread m.running m.cells q.cells → Fits app img thread Behind
       fits_behind changes =
@@ -122,13 +122,13 @@ module _ (app : App) (img : Image) (thread : ℕ) where
           ∙ ap (λ b. Some (if b then what.Alarm else what.AlarmSet)) is
 
       acted_alarm : (due : Bool) → is_due m.time instant ≡ due
-          → acted app (state_of m) (job_of m.running) (map job_of m.below) m.running.rest
-          ≡ (if due then baker.pended (timer_number app) (record (state_of Behind) { alarm = None })
+          → state_after_doing app (state_of m) (job_of m.running) (map job_of m.below) m.running.rest
+          ≡ (if due then baker.state_after_pend (timer_number app) (record (state_of Behind) { alarm = None })
           else record (state_of Behind) { alarm = instant })
       acted_alarm due is =
           acts_as app img thread m fits works SetsAlarm sets.acts.values sets.acts.follows sets.acts.is
           ∙ ap (λ o. alarm_set app o (state_of Behind)) least_is
-          ∙ ap (λ b. if b then baker.pended (timer_number app) (record (state_of Behind) { alarm = None })
+          ∙ ap (λ b. if b then baker.state_after_pend (timer_number app) (record (state_of Behind) { alarm = None })
           else record (state_of Behind) { alarm = instant }) is
 
     -- nothing is armed, and so no alarm is set
@@ -157,16 +157,16 @@ module _ (app : App) (img : Image) (thread : ℕ) where
         number = timer_is app irq timer
 
         gives : (b : Bool) → nat_le instant m.time ≡ b → step img (core_of app.bits m)
-            ≡ settle (if b then Done (record (pended Next irq) { alarm = None }) (Some what.Alarm)
+            ≡ settle (if b then Done (record (core_after_pend Next irq) { alarm = None }) (Some what.Alarm)
             else Done (record Next { alarm = Some (record { instant = instant; irq = irq }) }) (Some what.AlarmSet))
         gives b due = is
-            ∙ ap (λ d. settle (if d then Done (record (pended Next irq) { alarm = None }) (Some what.Alarm)
+            ∙ ap (λ d. settle (if d then Done (record (core_after_pend Next irq) { alarm = None }) (Some what.Alarm)
             else Done (record Next { alarm = Some (record { instant = instant; irq = irq }) }) (Some what.AlarmSet)))
             due
 
         by : (b : Bool) → nat_le instant m.time ≡ b → Both
         by true due = record {
-          core = record (pended Next irq) { alarm = None };
+          core = record (core_after_pend Next irq) { alarm = None };
           shown = Some what.Alarm;
           is = gives true due;
           may = (may_turn app img thread m fits works none left, gives_alarm (Some instant) sets true due);
@@ -174,7 +174,7 @@ module _ (app : App) (img : Image) (thread : ℕ) where
             moment = record (Behind (Some instant) sets) { alarm = None; pending = slice_set m.pending irq true };
             core = refl;
             state = acted_alarm (Some instant) sets true due
-                ∙ ap (λ k. baker.pended k (record (state_of (Behind (Some instant) sets)) { alarm = None }))
+                ∙ ap (λ k. baker.state_after_pend k (record (state_of (Behind (Some instant) sets)) { alarm = None }))
                 (sym number);
             fits = pending_fits app img thread (record (Behind (Some instant) sets) { alarm = None })
                 (slice_set m.pending irq true) (length-set m.pending irq true)
@@ -221,12 +221,12 @@ module _ (app : App) (img : Image) (thread : ℕ) where
         moment = record m { alarm = None; time = suc m.time; pending = slice_set m.pending a.irq true };
         shown = Rang ∷ [];
         is = ap (λ b. if b then (
-          record (pended (core_of app.bits (record (with_alarm m a) { time = suc m.time })) a.irq) { alarm = None },
+          record (core_after_pend (core_of app.bits (record (with_alarm m a) { time = suc m.time })) a.irq) { alarm = None },
           Rang ∷ [],
         )
             else (core_of app.bits (record (with_alarm m a) { time = suc m.time }), [])) due;
         runs = (due, tt);
-        state = ap (λ k. baker.pended k (state_of (record m { alarm = None; time = suc m.time }))) (sym fits.alarmed);
+        state = ap (λ k. baker.state_after_pend k (state_of (record m { alarm = None; time = suc m.time }))) (sym fits.alarmed);
         fits = pending_fits app img thread (record m { alarm = None; time = suc m.time })
             (slice_set m.pending a.irq true) (length-set m.pending a.irq true)
             (time_fits (record m { alarm = None }) (suc m.time) (alarmed_fits (with_alarm m a) None tt fits));
@@ -238,7 +238,7 @@ module _ (app : App) (img : Image) (thread : ℕ) where
         moment = record (with_alarm m a) { time = suc m.time };
         shown = [];
         is = ap (λ b. if b then (
-          record (pended (core_of app.bits (record (with_alarm m a) { time = suc m.time })) a.irq) { alarm = None },
+          record (core_after_pend (core_of app.bits (record (with_alarm m a) { time = suc m.time })) a.irq) { alarm = None },
           Rang ∷ [],
         )
             else (core_of app.bits (record (with_alarm m a) { time = suc m.time }), [])) later;

@@ -9,7 +9,7 @@ use Rattle.rt_code.specs.Effect.{effect}
 use Rattle.rt_code.specs.Image.{Image}
 use Rattle.rt_code.specs.Owning.{Spot}
 use Rattle.rt_code.specs.Processor.{Effect, Traps, Leads}
-use Rattle.rt_code.specs.Standing.{Stands, LineFits, passed}
+use Rattle.rt_code.specs.Standing.{Stands, LineFits, spot_after_step}
 use Rattle.rt_code.specs.Tables.{arguments_in}
 use Rattle.rt_code.specs.declared.image.BodyRow.{BodyRow}
 use Rattle.rt_code.specs.declared.instr.Instr.{Instr}
@@ -20,10 +20,10 @@ use Rattle.rt_code.specs.declared.processor.Request.TheVariants as request
 use Rattle.rt_code.specs.declared.processor.Trap.TheVariants as trap
 use Rattle.rt_code.proofs.Standing.{stands_fits, stands_none}
 use Rattle.rt_core.specs.Core.{Core}
-use Rattle.rt_core.specs.Note.{left_value, slots_from, shown_by}
+use Rattle.rt_core.specs.Note.{left_value, slots_from, item_of_note}
 use Rattle.rt_core.specs.Outcome.{Outcome, Trapped, Done, settle}
 use Rattle.rt_core.specs.Priority.{pick}
-use Rattle.rt_core.specs.Stepping.{answer, noted, with_note, go_on, run, attempt, step}
+use Rattle.rt_core.specs.Stepping.{answer, outcome_of_note, with_note, go_on, run, attempt, step}
 use Rattle.rt_core.specs.Transfer.{may_call, call_row}
 use Rattle.rt_core.proofs.Happening.{step_by, step_is}
 use Rattle.rt_trace.specs.declared.item.What.TheVariants as what
@@ -40,7 +40,7 @@ module _ (img : Image) (rows : List BodyRow)
   left_alike c (section.Ready p) = refl
   left_alike c section.Timer = refl
 
-  shown_alike : (c : Core) (n : Note) → shown_by (with_rows img rows) c n ≡ shown_by img c n
+  shown_alike : (c : Core) (n : Note) → item_of_note (with_rows img rows) c n ≡ item_of_note img c n
   shown_alike c (note.Enter x) = refl
   shown_alike c (note.Leave x) = ap (λ v. Some (what.Leave x v)) (left_alike c x)
   shown_alike c (note.Placed t) = refl
@@ -58,7 +58,7 @@ module _ (img : Image) (rows : List BodyRow)
   with_note_alike None o = refl
   with_note_alike (Some n) (Trapped c t) = refl
   with_note_alike (Some n) (Done c (Some w)) = refl
-  with_note_alike (Some n) (Done c None) = ap (noted c) (shown_alike c n)
+  with_note_alike (Some n) (Done c None) = ap (outcome_of_note c) (shown_alike c n)
 
   row_alike : (c : Core) (o : Option BodyRow) (from : ℕ)
       → call_row (with_rows img rows) c o from ≡ call_row img c o from
@@ -122,5 +122,5 @@ pub stands_inside : (st : Storage) (code : List (Instr × Option Note)) (bodies 
     (who : Runner) (n : ℕ) (s : Spot) → Stands st code bodies thread who n s → s.address ≡ length code → ⊥
 stands_inside st code bodies thread who zero s stands is = stands_none st code bodies thread who s stands
 stands_inside st code bodies thread who (suc n) s stands is =
-    subst (λ line. LineFits st code bodies thread who line (passed s) (Stands st code bodies thread who n))
+    subst (λ line. LineFits st code bodies thread who line (spot_after_step s) (Stands st code bodies thread who n))
     (ap (slice_get code) is ∙ nothing_behind code) (stands_fits st code bodies thread who n s stands)

@@ -136,7 +136,7 @@ module _ (app : App) (img : Image) where
         (those_all (λ q. list_any (is_of_level q) app.tasks ≡ true) (λ q. list_any (is_of_level q) app.tasks) PRIORITIES
         (λ q below passes. passes)) is
 
-    -- a handler runs at the level
+    -- a handler runs at the priority
     pub level_handled : has_handler app p ≡ true
     level_handled =
         let one = any_one (is_of_level p) app.tasks has_tasks in

@@ -18,15 +18,15 @@ use Rattle.rt_app.specs.Holding.{storage}
 use Rattle.rt_app.specs.Stack.{stack_bytes}
 use Rattle.rt_code.specs.Image.{Image}
 use Rattle.rt_code.specs.Stack.{words_of, arguments_fit, caller_frame, body_frame, last_slot, return_address}
-use Rattle.rt_code.specs.Standing.{Stands, HaveLeft, Calls, ComesBack, passed}
+use Rattle.rt_code.specs.Standing.{Stands, HaveLeft, Calls, ComesBack, spot_after_step}
 use Rattle.rt_code.specs.declared.image.BodyRow.{BodyRow}
 use Rattle.rt_core.specs.Leading.{in_frame}
 use Rattle.rt_core.specs.Stepping.{step}
-use Rattle.rt_core.specs.Transfer.{called, has_room}
-use Rattle.rt_core.specs.Core.{used}
+use Rattle.rt_core.specs.Transfer.{core_after_call, has_room}
+use Rattle.rt_core.specs.Core.{stack_in_use}
 use Rattle.rt_trace.specs.declared.item.What.TheVariants as what
-use Rattle.rt_laws.specs.Level.{candidate}
-use Rattle.rt_laws.specs.State.{reached}
+use Rattle.rt_laws.specs.Preemption.{candidate}
+use Rattle.rt_laws.specs.State.{reached_values}
 use Rattle.rt_sim.specs.Inside.Moment.{Part, Moment, spot_of, sections_of}
 use Rattle.rt_sim.specs.Inside.States.{core_of, state_of}
 use Rattle.rt_sim.specs.Inside.Chains.{base_of, mask_of, Saves}
@@ -139,7 +139,7 @@ module _ (app : App) (img : Image) (thread : ℕ) where
   -- the running job may call by a row by which it calls: the body's code stands
   pub callable_by : (m : Moment) → Fits app img thread m → (n row from : ℕ)
       → (calls : Calls (storage app) img.code m.running.rows thread (who m.running) row from
-      (passed (spot_of m.cells m.queues m.running))
+      (spot_after_step (spot_of m.cells m.queues m.running))
       (λ t. Stands (storage app) img.code m.running.rows thread (who m.running) n t))
       → IsCallable app img m.running.role m.running.priority m.running.own row calls.called
   callable_by m fits n row from calls = elim (fits.parts.0.calls.each row calls.called calls.is_there) [
@@ -153,7 +153,7 @@ module _ (app : App) (img : Image) (thread : ℕ) where
       (none : candidate app (state_of m) ≡ None)
       (left : HaveLeft (m.running.lefts ++ m.running.left ∷ [])) where
     module _ (row from : ℕ) (calls : Calls (storage app) img.code m.running.rows thread (who m.running) row from
-        (passed (spot_of m.cells m.queues m.running))
+        (spot_after_step (spot_of m.cells m.queues m.running))
         (λ t. Stands (storage app) img.code m.running.rows thread (who m.running) n t)) where
       callable : IsCallable app img m.running.role m.running.priority m.running.own row calls.called
       callable = callable_by m fits n row from calls
@@ -205,7 +205,7 @@ module _ (app : App) (img : Image) (thread : ℕ) where
           let after = used_is app img thread (record m { running = Called }) fits_called in
           let before = used_is app img thread m fits in
           let alone : length (words_of m.running.caller) ≡ 0 = ap (λ c. length (words_of c)) calls.may_call.0 in
-          room_of (used img (core_of app.bits m)) calls.called.frame img.stack_bytes
+          room_of (stack_in_use img (core_of app.bits m)) calls.called.frame img.stack_bytes
           (omega (arith, deep, after, before, alone, frame_long m.running, long, sized))
 
       not_alone : is_empty (core_of app.bits m).below ≡ false
@@ -218,10 +218,10 @@ module _ (app : App) (img : Image) (thread : ℕ) where
 
       pub calls_body : (is_empty (core_of app.bits m).below ≡ false
           → has_room img (core_of app.bits m) calls.called.frame ≡ true
-          → step img (core_of app.bits m) ≡ (called (core_of app.bits m) calls.called from, None))
+          → step img (core_of app.bits m) ≡ (core_after_call (core_of app.bits m) calls.called from, None))
           → StepsBoth app img thread (core_of app.bits m) (state_of m)
       calls_body gives = record {
-        core = called (core_of app.bits m) calls.called from;
+        core = core_after_call (core_of app.bits m) calls.called from;
         shown = None;
         is = gives not_alone room;
         may = may_turn app img thread m fits works none left;
@@ -234,7 +234,7 @@ module _ (app : App) (img : Image) (thread : ℕ) where
       }
 
     module _ (t : ℕ) (back : ComesBack (storage app) img.code m.running.rows thread (who m.running) t
-        (passed (spot_of m.cells m.queues m.running))
+        (spot_after_step (spot_of m.cells m.queues m.running))
         (λ t. Stands (storage app) img.code m.running.rows thread (who m.running) n t)) where
       abbrev rest : Doing Values
       rest = back.acts.follows 0 m.values
@@ -245,7 +245,7 @@ module _ (app : App) (img : Image) (thread : ℕ) where
       abbrev moment_back : Moment
       moment_back = record m {
         running = out_of_body m.running back.frame n (back.acts.follows 0 m.values);
-        values = reached (back.acts.follows 0 m.values) m.values;
+        values = reached_values (back.acts.follows 0 m.values) m.values;
       }
 
       spares : Spares app (who m.running) (handles m.running.role) (sections_of m.running.held) m.values rest
@@ -273,7 +273,7 @@ module _ (app : App) (img : Image) (thread : ℕ) where
                 fits.parts.0.own;
           },
           others_kept app img thread m.running m.running m.cells m.cells m.queues m.queues m.values
-              (reached rest m.values) m.below
+              (reached_values rest m.values) m.below
               (apart_of app img thread m.running m.below fits.stack)
               (apart_of app img thread m.running m.below fits.stack)
               (all_clear app img thread m.queues m.running m.below fits.once) refl (λ cell. inl refl) (λ h away. refl)

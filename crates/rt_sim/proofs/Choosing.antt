@@ -26,8 +26,8 @@ use Rattle.rt_core.specs.Core.{Core}
 use Rattle.rt_core.specs.Priority.{value_or_none, execution, can_preempt, precedes, pick}
 use Rattle.rt_laws.specs.Services.{service_at, priority_of}
 use Rattle.rt_laws.specs.State.{State}
-use Rattle.rt_laws.specs.Level.{level, may_start, goes_before, candidate}
-use Rattle.rt_sim.proofs.Levels.{value_of_top}
+use Rattle.rt_laws.specs.Preemption.{system_ceiling, may_start, goes_before, candidate}
+use Rattle.rt_sim.proofs.ExecutionPriority.{value_of_top}
 use Rattle.rt_sim.proofs.Others.{not_so}
 
 -- a choice goes along with a view that keeps tests and order
@@ -109,14 +109,14 @@ module _ (app : App) (at : Entries) (few : 3 ≤ app.bits) (many : app.bits ≤ 
               let one : e ≡ d = same_Some e d (sym there ∙ ap (slice_get app.irqs) (eqb-true s.irq i same) ∙ is) in
               sym (eq-eqb e.number d.number (ap (λ (x : IrqDecl). x.number) one))
           by false other e there = sym (not_so (e.number == d.number) (λ same.
-              let place : s.irq ≡ i = sound.numbers_differ s.irq i d.number
+              let index : s.irq ≡ i = sound.numbers_differ s.irq i d.number
               (mapped_at (λ (x : IrqDecl). x.number) app.irqs s.irq e there
               ∙ ap Some (eqb-true e.number d.number same))
               (mapped_at (λ (x : IrqDecl). x.number) app.irqs i d is) in
-              true_and_false (s.irq == i) (eq-eqb s.irq i place) other))
+              true_and_false (s.irq == i) (eq-eqb s.irq i index) other))
 
-      all_alike : (ss : List Service) → AllByRecursion (λ s. (s.irq < length app.irqs) × (1 ≤ s.level) ×
-          (s.level ≤ 2 ^ app.bits)) ss
+      all_alike : (ss : List Service) → AllByRecursion (λ s. (s.irq < length app.irqs) × (1 ≤ s.priority) ×
+          (s.priority ≤ 2 ^ app.bits)) ss
           → AllByRecursion (λ s. (s.irq == i) ≡ is_some_and (λ n. n == d.number) (irq_number app s.irq)) ss
       all_alike ss all = all_weaker _ _ (λ s has. alike s has.0) ss all
 
@@ -143,7 +143,7 @@ module _ (app : App) (at : Entries) (few : 3 ≤ app.bits) (many : app.bits ≤ 
   pub priority_top : (irq : ℕ) → priority_of app irq ≤ 2 ^ app.bits
   priority_top irq = by (service_at app irq) refl
     where
-      by : (o : Option Service) → service_at app irq ≡ o → or_zero (option_map (λ s. s.level) o) ≤ 2 ^ app.bits
+      by : (o : Option Service) → service_at app irq ≡ o → or_zero (option_map (λ s. s.priority) o) ≤ 2 ^ app.bits
       by None is = omega arith
       by (Some s) is = (find_has _ _ (services app) s sound.served is).2
 
@@ -151,7 +151,7 @@ module _ (app : App) (at : Entries) (few : 3 ≤ app.bits) (many : app.bits ≤ 
   value_is r is = ap value_or_none is ∙ by (service_at app r.number)
     where
       by : (o : Option Service) → value_or_none (option_map (handler_row app at) o) ≡ hardware app.bits
-          (or_zero (option_map (λ s. s.level) o))
+          (or_zero (option_map (λ s. s.priority) o))
       by None = sym (hardware_of_none app.bits few many)
       by (Some s) = refl
 
@@ -166,7 +166,7 @@ module _ (app : App) (at : Entries) (few : 3 ≤ app.bits) (many : app.bits ≤ 
       none_less v q p h = grind (arith, nat_tests)
 
   module _ (c : Core) (s : State) (pending : c.pending ≡ s.pending)
-      (exec : execution c ≡ hardware app.bits (level app s.jobs)) where
+      (exec : execution c ≡ hardware app.bits (system_ceiling app s.jobs)) where
     passes_alike : (r : IrqRow) → IsServed r → can_preempt c r ≡ may_start app s r.number
     passes_alike r is =
         ap (λ xs. slice_index_or xs r.number false && nat_lt (value_or_none r.handler) (execution c)) pending
@@ -174,7 +174,7 @@ module _ (app : App) (at : Entries) (few : 3 ≤ app.bits) (many : app.bits ≤ 
         ∙ ap (λ e. slice_index_or s.pending r.number false && nat_lt
         (hardware app.bits (priority_of app r.number)) e) exec
         ∙ ap (λ b. slice_index_or s.pending r.number false && b)
-        (order_any (priority_of app r.number) (level app s.jobs) (priority_top r.number))
+        (order_any (priority_of app r.number) (system_ceiling app s.jobs) (priority_top r.number))
 
     beats_alike : (r o : IrqRow) → IsServed r → IsServed o → precedes r o ≡ goes_before app r.number o.number
     beats_alike r o is other =

@@ -1,4 +1,4 @@
--- The stack in use is within the bound: each level counts once, with what exception entry pushes and the greatest frame
+-- The stack in use is within the bound: each priority counts once, with what exception entry pushes and the greatest frame
 -- of its handlers.
 use Rattle.std.proofs.Common.{◌≡◌, ℕ, zero, suc, ◌+◌, ◌*◌, ◌/◌, ◌^◌, nat_le, ◌<◌, ◌≤◌, ◌⊎◌, inl, inr, true}
 use Rattle.std.proofs.Common.{if◌then◌else◌, List}
@@ -10,10 +10,10 @@ use Rattle.rt_ids.specs.Exception as exception
 use Rattle.rt_ids.specs.Priority.{hardware}
 use Rattle.rt_app.specs.Tree.{App}
 use Rattle.rt_app.specs.declared.costs.TheConstants.{PRIORITIES}
-use Rattle.rt_app.specs.Stack.{thread_words, has_handler, need, level_bytes, bytes_below, stack_bytes}
+use Rattle.rt_app.specs.Stack.{thread_words, has_handler, need, priority_bytes, bytes_below, stack_bytes}
 use Rattle.rt_code.specs.Image.{Image, entry_words}
 use Rattle.rt_code.specs.Stack as stack
-use Rattle.rt_core.specs.Core.{Context, context_words, used, depth}
+use Rattle.rt_core.specs.Core.{Context, context_words, stack_in_use, depth}
 use Rattle.rt_sim.specs.Inside.Moment.{Part, Moment, irq_of}
 use Rattle.rt_sim.specs.Inside.States.{contexts, core_of, words_under}
 use Rattle.rt_sim.specs.Inside.Fits.{IsStacked, Fits}
@@ -37,16 +37,16 @@ top_small b many = let e : 2 ^ b ≤ 2 ^ 7 = pow_mono many in omega (arith, e)
 
 module _ (app : App) (img : Image) (thread : ℕ) where
   pub used_is : (m : Moment) → Fits app img thread m
-      → used img (core_of app.bits m)
+      → stack_in_use img (core_of app.bits m)
       ≡ length (stack.words_of m.running.caller) + length m.running.slots + words_under (entry_words img) m.below
   used_is m fits =
       let more = words_are app.bits (entry_words img) (irq_of m.running.role)
       (hardware app.bits m.running.priority) m.below in
       omega (arith, more)
 
-  level_counts : (p : ℕ) → bytes_below app (suc p) ≡ bytes_below app p + level_bytes app p
+  priority_counts : (p : ℕ) → bytes_below app (suc p) ≡ bytes_below app p + priority_bytes app p
   unfolding bytes_below
-  level_counts p = refl
+  priority_counts p = refl
 
   bytes_rise : (a b : ℕ) → a ≤ b → bytes_below app a ≤ bytes_below app b
   bytes_rise a zero less = let same : a ≡ zero = omega arith in
@@ -57,10 +57,10 @@ module _ (app : App) (img : Image) (thread : ℕ) where
           → bytes_below app a ≤ bytes_below app (suc b)
       by (inl equal) before = let same : a ≡ suc b = omega arith in
           subst (λ n. bytes_below app a ≤ bytes_below app n) same (omega arith)
-      by (inr low) before = omega (arith, before low, level_counts b)
+      by (inr low) before = omega (arith, before low, priority_counts b)
 
   level_is : (p : ℕ) → has_handler app p ≡ true
-      → level_bytes app p ≡ 4 * (exception.entry_words app.fpu + need app p)
+      → priority_bytes app p ≡ 4 * (exception.entry_words app.fpu + need app p)
   level_is p has = ap (λ b. if b then 4 * (exception.entry_words app.fpu + need app p) else 0) has
 
 module _ (app : App) (img : Image) (thread : ℕ) (fpu : img.fpu ≡ app.fpu) where
@@ -82,7 +82,7 @@ module _ (app : App) (img : Image) (thread : ℕ) (fpu : img.fpu ≡ app.fpu) wh
         before,
         rise,
         entry_is,
-        level_counts app img thread p.priority,
+        priority_counts app img thread p.priority,
         level_is app img thread p.priority is.0.handled,
         is.0.frame,
       )
@@ -92,7 +92,7 @@ module _ (app : App) (img : Image) (thread : ℕ) (fpu : img.fpu ≡ app.fpu) wh
   depth_within many m fits = by m.below fits.stack (used_is app img thread m fits)
     where
       by : (ps : List Part) → IsStacked app img thread m.running ps
-          → used img (core_of app.bits m)
+          → stack_in_use img (core_of app.bits m)
           ≡ length (stack.words_of m.running.caller) + length m.running.slots + words_under (entry_words img) ps
           → depth img (core_of app.bits m) ≤ stack_bytes app
       by [] is used =

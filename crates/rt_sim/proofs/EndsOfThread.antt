@@ -6,7 +6,7 @@ use Rattle.rt_ids.specs.Holder.{Holder}
 use Rattle.rt_ids.specs.Content.{Values}
 use Rattle.rt_ids.specs.Action.{Ends}
 use Rattle.rt_ids.specs.Doing.{over}
-use Rattle.rt_ids.specs.Storage.{AtLevel}
+use Rattle.rt_ids.specs.Storage.{AtPriority}
 use Rattle.rt_ids.specs.declared.ids.BodyId.{BodyId}
 use Rattle.rt_ids.specs.declared.ids.BodyId.TheVariants as body
 use Rattle.rt_app.specs.Tree.{Body, App}
@@ -16,16 +16,16 @@ use Rattle.rt_app.specs.Holding.{storage, is_kept, is_constant, IsHeld}
 use Rattle.rt_build.specs.Image.{IdleStands}
 use Rattle.rt_code.specs.Image.{Image}
 use Rattle.rt_code.specs.declared.image.BodyRow.{BodyRow}
-use Rattle.rt_code.specs.Standing.{Finishes, HaveLeft, Stands, passed}
+use Rattle.rt_code.specs.Standing.{Finishes, HaveLeft, Stands, spot_after_step}
 use Rattle.rt_core.specs.Core.{Core}
-use Rattle.rt_core.specs.Leading.{with_processor, served, at_address}
+use Rattle.rt_core.specs.Leading.{with_processor, core_serving, at_address}
 use Rattle.rt_core.specs.Stepping.{step}
 use Rattle.rt_trace.specs.Label.{Stepped}
 use Rattle.rt_trace.specs.declared.item.What.TheVariants as what
-use Rattle.rt_laws.specs.State.{Role, Init, Idle, Waiting, Serving, Job, State, reached}
-use Rattle.rt_laws.specs.Acting.{idling}
+use Rattle.rt_laws.specs.State.{Role, Init, Idle, Waiting, Serving, Job, State, reached_values}
+use Rattle.rt_laws.specs.Acting.{idle_job}
 use Rattle.rt_laws.specs.Allowed.{after}
-use Rattle.rt_laws.specs.Level.{candidate}
+use Rattle.rt_laws.specs.Preemption.{candidate}
 use Rattle.rt_sim.specs.Inside.Moment.{Part, Moment, runner_of, spot_of, job_of}
 use Rattle.rt_sim.specs.Inside.States.{core_of, state_of}
 use Rattle.rt_sim.specs.Inside.Chains.{is_init, base_inside, mask_inside}
@@ -75,14 +75,14 @@ thread_part app img (Some b) address slots vs = record {
 
 module _ (app : App) (img : Image) (thread : ℕ)
     (idle : (bodies : List BodyRow) → IdleStands app img.code bodies thread app.idle)
-    (held_there : (p : ℕ) (h : Holder) → (is_kept app (AtLevel p) h || is_constant app (AtLevel p) h) ≡ true
+    (held_there : (p : ℕ) (h : Holder) → (is_kept app (AtPriority p) h || is_constant app (AtPriority p) h) ≡ true
     → IsHeld app h)
-    (sparing : SparesAlways app (AtLevel 0) false [] (idle_doing app)) where
+    (sparing : SparesAlways app (AtPriority 0) false [] (idle_doing app)) where
   module _ (m : Moment) (fits : Fits app img thread (record m { below = [] })) (works : IsWorking m.running.role)
       (none : candidate app (state_of (record m { below = [] })) ≡ None)
       (left : HaveLeft (m.running.lefts ++ m.running.left ∷ []))
       (b : BodyId) (ends : Finishes (storage app) img.code m.running.rows thread (who m.running) (Ends b)
-      (passed (spot_of m.cells m.queues m.running))) where
+      (spot_after_step (spot_of m.cells m.queues m.running))) where
     abbrev m0 : Moment
     m0 = record m { below = [] }
 
@@ -95,7 +95,7 @@ module _ (app : App) (img : Image) (thread : ℕ)
       running = thread_part app img o thread m.running.slots m.values;
       below = [];
       primask = false;
-      values = reached (thread_part app img o thread m.running.slots m.values).rest m.values;
+      values = reached_values (thread_part app img o thread m.running.slots m.values).rest m.values;
     }
 
     fits_idle : (c : Body) → app.idle ≡ Some c → Fits app img thread (moment_of (Some c))
@@ -110,7 +110,7 @@ module _ (app : App) (img : Image) (thread : ℕ)
       };
       parts = (
         record {
-          stands = subst (λ cost. Stands (storage app) img.code (no_rows app img) thread (AtLevel 0) cost
+          stands = subst (λ cost. Stands (storage app) img.code (no_rows app img) thread (AtPriority 0) cost
               (record (spot_of m.cells m.queues (thread_part app img (Some c) thread m.running.slots m.values)) {
                 lefts =
                     cost ∷ [];
@@ -120,7 +120,7 @@ module _ (app : App) (img : Image) (thread : ℕ)
               m.running.slots m.cells m.queues
               m.values fits.stack.frame fits.memory
               (λ h reads. all_spelled h (held_there 0 h reads)));
-          agrees = agrees_reached app img thread (AtLevel 0) [] (idle_doing app m.values) m.values;
+          agrees = agrees_reached app img thread (AtPriority 0) [] (idle_doing app m.values) m.values;
           counted = refl;
           sparing = (sparing m.values).1;
           opened = tt;
@@ -133,7 +133,7 @@ module _ (app : App) (img : Image) (thread : ℕ)
       );
       spelled = λ h held away.
           subst (λ content. (storage app).Spells h (slice_index m.cells) (m.queues h) content)
-          (sym ((sparing m.values).0 h (owns_alike app (AtLevel 0) false [] h ∙ away.0))) (all_spelled h held);
+          (sym ((sparing m.values).0 h (owns_alike app (AtPriority 0) false [] h ∙ away.0))) (all_spelled h held);
       basepri = fits.basepri ∙ ap (λ held. base_inside app held 0) ends.closed;
       primask = refl;
       memory = fits.memory;
@@ -185,7 +185,7 @@ module _ (app : App) (img : Image) (thread : ℕ)
     fits_thread (Some c) is = fits_idle c is
 
     idling_is : (o : Option Body)
-        → idling app m.values o ≡ job_of (thread_part app img o thread m.running.slots m.values)
+        → idle_job app m.values o ≡ job_of (thread_part app img o thread m.running.slots m.values)
     idling_is None = refl
     idling_is (Some c) = refl
 
@@ -195,12 +195,12 @@ module _ (app : App) (img : Image) (thread : ℕ)
     core_is (Some c) = ap (λ k. record (core_of app.bits (moment_of (Some c))) { caller = k }) ends.own_frame
 
     abbrev State_of : Job → State
-    State_of j = record (state_of m0) { jobs = j ∷ []; values = reached j.rest m.values }
+    State_of j = record (state_of m0) { jobs = j ∷ []; values = reached_values j.rest m.values }
 
     thread_goes_on : (c : Core) → c ≡ with_processor (core_of app.bits m0) (record
         (core_of app.bits m0).processor { address = thread; primask = false })
         → step img (core_of app.bits m0) ≡ (c, Some (what.End b))
-        → after app (state_of m0) (Stepped (Some (what.End b))) ≡ State_of (idling app m.values app.idle)
+        → after app (state_of m0) (Stepped (Some (what.End b))) ≡ State_of (idle_job app m.values app.idle)
         → StepsBoth app img thread (core_of app.bits m0) (state_of m0)
     thread_goes_on c there is state_is = record {
       core = c;
@@ -222,16 +222,16 @@ module _ (app : App) (img : Image) (thread : ℕ)
   pub ends_init : (m : Moment) (fits : Fits app img thread (record m { below = [] })) (works : IsWorking m.running.role)
       → candidate app (state_of (record m { below = [] })) ≡ None → HaveLeft (m.running.lefts ++ m.running.left ∷ [])
       → Finishes (storage app) img.code m.running.rows thread (who m.running) (Ends body.Init)
-      (passed (spot_of m.cells m.queues m.running))
+      (spot_after_step (spot_of m.cells m.queues m.running))
       → step img (core_of app.bits (record m { below = [] })) ≡
-      (served (core_of app.bits (record m { below = [] })) thread, Some (what.End body.Init))
+      (core_serving (core_of app.bits (record m { below = [] })) thread, Some (what.End body.Init))
       → StepsBoth app img thread (core_of app.bits (record m { below = [] })) (state_of (record m { below = [] }))
   ends_init m fits works none left ends is =
       thread_goes_on m fits works none left body.Init ends _ refl is
       (acts_as app img thread (record m { below = [] }) fits works
       (Ends body.Init) ends.values ends.follows ends.is)
 
-  not_init : (role : Role) (p : ℕ) → runner_of role p ≡ AtLevel 0 → is_init role ≡ false
+  not_init : (role : Role) (p : ℕ) → runner_of role p ≡ AtPriority 0 → is_init role ≡ false
   not_init Init p is = absurd (cc (is))
   not_init Idle p is = refl
   not_init Waiting p is = refl
@@ -239,9 +239,9 @@ module _ (app : App) (img : Image) (thread : ℕ)
 
   pub ends_idle : (m : Moment) (fits : Fits app img thread (record m { below = [] })) (works : IsWorking m.running.role)
       → candidate app (state_of (record m { below = [] })) ≡ None → HaveLeft (m.running.lefts ++ m.running.left ∷ [])
-      → who m.running ≡ AtLevel 0
+      → who m.running ≡ AtPriority 0
       → Finishes (storage app) img.code m.running.rows thread (who m.running) (Ends body.Idle)
-      (passed (spot_of m.cells m.queues m.running))
+      (spot_after_step (spot_of m.cells m.queues m.running))
       → step img (core_of app.bits (record m { below = [] })) ≡
       (at_address (core_of app.bits (record m { below = [] })) thread, Some (what.End body.Idle))
       → StepsBoth app img thread (core_of app.bits (record m { below = [] })) (state_of (record m { below = [] }))

@@ -5,7 +5,7 @@ use Rattle.std.proofs.Common.{ap, subst, ◌∙◌, arith}
 use Rattle.std.specs.List.{AllByRecursion}
 use Rattle.rt_lemmas.proofs.Bools.{or_neither, or_cases, or_left, or_right}
 use Rattle.rt_ids.specs.Holder.{Holder, Guarded, Own, is_same_section}
-use Rattle.rt_ids.specs.Storage.{Runner, AtLevel}
+use Rattle.rt_ids.specs.Storage.{Runner, AtPriority}
 use Rattle.rt_ids.specs.declared.ids.Section.{Section}
 use Rattle.rt_app.specs.Tree.{App}
 use Rattle.rt_app.specs.Ceiling.{ceiling}
@@ -14,7 +14,7 @@ use Rattle.rt_code.specs.Image.{Image}
 use Rattle.rt_code.specs.Masking.{IsWithin, NobodyKeeps}
 use Rattle.rt_code.specs.Owning.{Held, owns, reads, is_open}
 use Rattle.rt_code.proofs.Mine.{one_section}
-use Rattle.rt_laws.specs.Level.{level, greatest_ceiling}
+use Rattle.rt_laws.specs.Preemption.{system_ceiling, greatest_ceiling}
 use Rattle.rt_sim.specs.Inside.Moment.{Part, runner_of, sections_of, jobs_of}
 use Rattle.rt_sim.specs.Inside.PartFits.{who, Reads}
 use Rattle.rt_sim.specs.Inside.Fits.{IsStacked}
@@ -48,7 +48,7 @@ reads_less app runner h outer holder is =
     ]
 
 module _ (app : App) (img : Image) (thread : ℕ) where
-  -- an open section's ceiling counts for the level
+  -- an open section's ceiling counts for the system ceiling
   open_counts : (held : List Held) (x : Section) → is_open held x ≡ true
       → ceiling app x ≤ greatest_ceiling app (sections_of held)
   open_counts [] x is = absurd (cc)
@@ -62,21 +62,21 @@ module _ (app : App) (img : Image) (thread : ℕ) where
       by false same is later = let e = later is in omega (arith, e)
 
   -- below a job of a priority that there is no job is `init`
-  pub at_level : (p : Part) (ps : List Part) (top : ℕ) → top ≤ 2 ^ app.bits → level app (jobs_of p ps) < top
-      → IsStacked app img thread p ps → who p ≡ AtLevel p.priority
-  at_level p [] top most above is = elim is.role [
+  pub at_threshold : (p : Part) (ps : List Part) (top : ℕ) → top ≤ 2 ^ app.bits → system_ceiling app (jobs_of p ps) < top
+      → IsStacked app img thread p ps → who p ≡ AtPriority p.priority
+  at_threshold p [] top most above is = elim is.role [
     | inl init ↦ absurd (let e : p.priority ≡ 2 ^ app.bits = is.greatest init in omega (arith, e, above, most))
     | inr low ↦ elim low.0 [
       | inl idle ↦ ap (λ r. runner_of r p.priority) idle
       | inr waits ↦ ap (λ r. runner_of r p.priority) waits
     ]
   ]
-  at_level p (q ∷ ps) top most above is = ap (λ r. runner_of r p.priority) is.0.serves
+  at_threshold p (q ∷ ps) top most above is = ap (λ r. runner_of r p.priority) is.0.serves
 
   -- a section that a job may enter is read by none that it interrupted
-  free_one : (o : Part) (x : Section) (top : ℕ) → who o ≡ AtLevel o.priority
+  free_one : (o : Part) (x : Section) (top : ℕ) → who o ≡ AtPriority o.priority
       → greatest_ceiling app (sections_of o.held) < top → top ≤ ceiling app x
-      → NobodyKeeps (storage app) (AtLevel top) (AtLevel top) x → Reads app img thread o (Guarded x) ≡ false
+      → NobodyKeeps (storage app) (AtPriority top) (AtPriority top) x → Reads app img thread o (Guarded x) ≡ false
   free_one o x top runner above within nobody =
       or_neither (owns (storage app) (who o) o.held (Guarded x)) ((storage app).is_constant (who o) (Guarded x))
       (or_neither (is_open o.held x) ((storage app).is_kept (who o) (Guarded x))
@@ -84,14 +84,14 @@ module _ (app : App) (img : Image) (thread : ℕ) where
       (ap (λ w. (storage app).is_kept w (Guarded x)) runner ∙ (nobody o.priority).0))
       (ap (λ w. (storage app).is_constant w (Guarded x)) runner ∙ (nobody o.priority).1)
 
-  free_all : (p : Part) (ps : List Part) (x : Section) (top : ℕ) → top ≤ 2 ^ app.bits → level app (jobs_of p ps) < top
+  free_all : (p : Part) (ps : List Part) (x : Section) (top : ℕ) → top ≤ 2 ^ app.bits → system_ceiling app (jobs_of p ps) < top
       → IsStacked app img thread p ps
-      → top ≤ ceiling app x → NobodyKeeps (storage app) (AtLevel top) (AtLevel top) x
+      → top ≤ ceiling app x → NobodyKeeps (storage app) (AtPriority top) (AtPriority top) x
       → AllByRecursion (λ o. Reads app img thread o (Guarded x) ≡ false) (p ∷ ps)
   free_all p [] x top most above is within nobody =
-      (free_one p x top (at_level p [] top most above is) (omega arith) within nobody, tt)
+      (free_one p x top (at_threshold p [] top most above is) (omega arith) within nobody, tt)
   free_all p (q ∷ ps) x top most above is within nobody = (
-    free_one p x top (at_level p (q ∷ ps) top most above is) (omega arith) within nobody,
+    free_one p x top (at_threshold p (q ∷ ps) top most above is) (omega arith) within nobody,
     free_all q ps x top most (omega arith) is.1 within nobody,
   )
 
@@ -101,7 +101,7 @@ module _ (app : App) (img : Image) (thread : ℕ) where
   unfolding storage
   free_below p [] x is within nobody = tt
   free_below p (q ∷ ps) x is within nobody =
-      let runner : who p ≡ AtLevel p.priority = ap (λ r. runner_of r p.priority) is.0.serves in
+      let runner : who p ≡ AtPriority p.priority = ap (λ r. runner_of r p.priority) is.0.serves in
       free_all q ps x p.priority is.0.most is.0.above is.1
       (subst (λ w. IsWithin (storage app) w w x) runner within)
       (subst (λ w. NobodyKeeps (storage app) w w x) runner nobody)

@@ -9,12 +9,12 @@ use Rattle.rt_lemmas.proofs.Lists.{all_map}
 use Rattle.rt_lemmas.proofs.Membership.{contains_here, contains_there, all_weaker}
 use Rattle.rt_ids.specs.Holder.{Guarded}
 use Rattle.rt_ids.specs.Lists.{is_some_and}
-use Rattle.rt_ids.specs.Content.{Content, Number, Messages, Delays, Values, messages, timed, MayArm}
+use Rattle.rt_ids.specs.Content.{Content, Number, Messages, Delays, Values, messages, timer_content, MayArm}
 use Rattle.rt_ids.specs.Action.{Enters}
 use Rattle.rt_ids.specs.Doing.{Doing}
 use Rattle.rt_ids.specs.Operation.{number_of}
 use Rattle.rt_ids.specs.Priority.{hardware}
-use Rattle.rt_ids.specs.Storage.{Runner, Starting, AtLevel}
+use Rattle.rt_ids.specs.Storage.{Runner, Starting, AtPriority}
 use Rattle.rt_ids.specs.declared.ids.Section.{Section}
 use Rattle.rt_ids.specs.declared.ids.Section.TheVariants as section
 use Rattle.rt_app.specs.Tree.{App}
@@ -22,18 +22,18 @@ use Rattle.rt_app.specs.Ceiling.{ceiling}
 use Rattle.rt_app.specs.Holding.{storage, IsHeld, message_at}
 use Rattle.rt_app.specs.Level.{is_of_level}
 use Rattle.rt_code.specs.Image.{Image}
-use Rattle.rt_code.specs.Masking.{NobodyKeeps, GoesIn, TakesOver, saving}
+use Rattle.rt_code.specs.Masking.{NobodyKeeps, GoesIn, TakesOver, slots_with_mask}
 use Rattle.rt_code.specs.Owning.{Kind, Marked, Raised, Masked, Held, is_open, saved_slot, saved_slots}
 use Rattle.rt_code.specs.Processor.{Processor}
-use Rattle.rt_code.specs.Standing.{Stands, HaveLeft, passed}
+use Rattle.rt_code.specs.Standing.{Stands, HaveLeft, spot_after_step}
 use Rattle.rt_code.specs.declared.instr.Instr.{Instr}
 use Rattle.rt_code.proofs.Mine.{owns_more, queued_more}
 use Rattle.rt_core.specs.Leading.{with_processor}
-use Rattle.rt_core.specs.Masks.{mask_of, with_mask, opened}
+use Rattle.rt_core.specs.Masks.{mask_of, with_mask, processor_after_opening}
 use Rattle.rt_core.specs.Stepping.{step}
 use Rattle.rt_trace.specs.declared.item.What.TheVariants as what
-use Rattle.rt_laws.specs.State.{reached}
-use Rattle.rt_laws.specs.Level.{candidate}
+use Rattle.rt_laws.specs.State.{reached_values}
+use Rattle.rt_laws.specs.Preemption.{candidate}
 use Rattle.rt_laws.proofs.Armings.{armings}
 use Rattle.rt_sim.specs.Inside.Moment.{Part, Moment, spot_of, sections_of}
 use Rattle.rt_sim.specs.Inside.States.{core_of, state_of}
@@ -60,7 +60,7 @@ kept_beside slots slot v (d ∷ ds) none =
     let differs : d ≢ slot = λ e. none (subst (Contains (d ∷ ds)) e (contains_here d ds)) in
     (get_or-set_other slots slot d v 0 differs, kept_beside slots slot v ds (λ is. none (contains_there d ds slot is)))
 
-saving_long : (kind : Kind) (v : ℕ) (slots : List ℕ) → length (saving kind v slots) ≡ length slots
+saving_long : (kind : Kind) (v : ℕ) (slots : List ℕ) → length (slots_with_mask kind v slots) ≡ length slots
 saving_long Marked v slots = refl
 saving_long (Raised slot) v slots = length-set slots slot v
 saving_long (Masked slot) v slots = length-set slots slot v
@@ -70,7 +70,7 @@ module _ (app : App) where
   saves_more : (slots : List ℕ) (held : List Held) (x : Section) (kind : Kind) (base : ℕ) (mask : Bool) (p : Processor)
       → AllByRecursion (λ d. (d < length slots) × (¬ Contains (saved_slots held) d)) (saved_slot kind)
       → p.basepri ≡ base_inside app held base → p.primask ≡ mask_inside app held mask → Saves app slots held base mask
-      → Saves app (saving kind (mask_of p kind) slots) (record { section = x; kind = kind } ∷ held) base mask
+      → Saves app (slots_with_mask kind (mask_of p kind) slots) (record { section = x; kind = kind } ∷ held) base mask
   saves_more slots held x Marked base mask p slot b k saves = (tt, saves)
   saves_more slots held x (Raised slot) base mask p at b k saves = (
     (omega (arith, length-set slots slot p.basepri, at.0.0), get_or-set_same slots slot p.basepri 0 at.0.0 ∙ b),
@@ -105,7 +105,7 @@ module _ (app : App) where
 not_kept : (app : App) (runner : Runner) (x : Section) → NobodyKeeps (storage app) runner runner x
     → (storage app).is_kept runner (Guarded x) ≡ false
 not_kept app Starting x nobody = nobody
-not_kept app (AtLevel p) x nobody = (nobody p).0
+not_kept app (AtPriority p) x nobody = (nobody p).0
 
 -- behind the opening of a ready queue its messages are of its level, as its cells spell them
 entered_well : (app : App) (m : Moment) (x : Section) (cost : ℕ)
@@ -123,7 +123,7 @@ entered_well app m (section.Ready p) cost spells =
     (m.queues (Guarded (section.Ready p))) spells.1.places)
 
 -- where the timer queue opens one more message may be armed
-may_arm_into : (content : Content) → (timed content).given + (timed content).moved < 2 ^ 31 → MayArm content
+may_arm_into : (content : Content) → (timer_content content).given + (timer_content content).moved < 2 ^ 31 → MayArm content
 may_arm_into (Number n) few = tt
 may_arm_into (Messages ms) few = tt
 may_arm_into (Delays t) few = few
@@ -146,7 +146,7 @@ module _ (app : App) (img : Image) (thread : ℕ) where
     lefts = (cost - 1) ∷ map (λ n. n - 1) p.lefts;
     held = record { section = x; kind = kind } ∷ p.held;
     address = suc p.address;
-    slots = saving kind saved p.slots;
+    slots = slots_with_mask kind saved p.slots;
     steps = n;
   }
 
@@ -203,7 +203,7 @@ module _ (app : App) (img : Image) (thread : ℕ) where
       (few : armings m.values < 2 ^ 31) (n : ℕ)
       (none : candidate app (state_of m) ≡ None)
       (left : HaveLeft (m.running.lefts ++ m.running.left ∷ [])) (x : Section) (i : Instr)
-      (goes : GoesIn (storage app) (who m.running) x i (passed (spot_of m.cells m.queues m.running))
+      (goes : GoesIn (storage app) (who m.running) x i (spot_after_step (spot_of m.cells m.queues m.running))
       (λ t. Stands (storage app) img.code m.running.rows thread (who m.running) n t)) where
     abbrev saved : ℕ
     saved = mask_of (core_of app.bits m).processor goes.kind
@@ -223,7 +223,7 @@ module _ (app : App) (img : Image) (thread : ℕ) where
           ((storage app).value ((storage app).ceiling x)) goes.kind).basepri;
       primask = (with_mask (core_of app.bits m).processor
           ((storage app).value ((storage app).ceiling x)) goes.kind).primask;
-      values = reached (goes.follows 0 m.values) m.values;
+      values = reached_values (goes.follows 0 m.values) m.values;
     }
 
     free : AllByRecursion (λ o. Reads app img thread o (Guarded x) ≡ false) m.below
@@ -244,7 +244,7 @@ module _ (app : App) (img : Image) (thread : ℕ) where
     )
 
     takes : TakesOver (storage app) (who m.running) x
-        (passed (spot_of m.cells m.queues m.running)) goes.values m.values m.cells m.queues
+        (spot_after_step (spot_of m.cells m.queues m.running)) goes.values m.values m.cells m.queues
     takes = record {
       agree = agreed app img thread m fits works (Enters x goes.cost) goes.values goes.follows goes.is;
       same = record { long = refl; touched = λ cell may. refl; queued = λ h o. refl };
@@ -285,7 +285,7 @@ module _ (app : App) (img : Image) (thread : ℕ) where
               (saving_long goes.kind saved m.running.slots) ∙ fits.parts.0.own;
         },
         others_kept app img thread m.running Inside m.cells m.cells m.queues m.queues m.values
-            (reached rest m.values) m.below
+            (reached_values rest m.values) m.below
             (apart_of app img thread m.running m.below fits.stack)
             (apart_more m.running x goes.kind saved goes.cost n rest m.below free
             (apart_of app img thread m.running m.below fits.stack))
@@ -310,7 +310,7 @@ module _ (app : App) (img : Image) (thread : ℕ) where
       alarmed = fits.alarmed;
     }
 
-    core_inside : (kind : Kind) → with_processor (core_of app.bits m) (opened (core_of app.bits m).processor
+    core_inside : (kind : Kind) → with_processor (core_of app.bits m) (processor_after_opening (core_of app.bits m).processor
         ((storage app).value ((storage app).ceiling x)) kind)
         ≡ core_of app.bits (record m {
           running = with_section m.running x kind (mask_of (core_of app.bits m).processor kind) goes.cost n
@@ -319,21 +319,21 @@ module _ (app : App) (img : Image) (thread : ℕ) where
               ((storage app).value ((storage app).ceiling x)) kind).basepri;
           primask = (with_mask (core_of app.bits m).processor
               ((storage app).value ((storage app).ceiling x)) kind).primask;
-          values = reached (goes.follows 0 m.values) m.values;
+          values = reached_values (goes.follows 0 m.values) m.values;
         })
     core_inside Marked = refl
     core_inside (Raised slot) = refl
     core_inside (Masked slot) = refl
 
     pub enters : step img (core_of app.bits m) ≡ (
-      with_processor (core_of app.bits m) (opened (core_of app.bits m).processor
+      with_processor (core_of app.bits m) (processor_after_opening (core_of app.bits m).processor
           ((storage app).value ((storage app).ceiling x)) goes.kind),
       Some (what.Enter x),
     )
         → StepsBoth app img thread (core_of app.bits m) (state_of m)
     enters is = record {
       core = with_processor (core_of app.bits m)
-          (opened (core_of app.bits m).processor ((storage app).value ((storage app).ceiling x)) goes.kind);
+          (processor_after_opening (core_of app.bits m).processor ((storage app).value ((storage app).ceiling x)) goes.kind);
       shown = Some (what.Enter x);
       is = is;
       may = (

@@ -6,7 +6,7 @@ use Rattle.std.proofs.lemmas.List.{length-map}
 use Rattle.std.proofs.lemmas.Option.{none-some, same_Some, slice_get_within}
 use Rattle.rt_ids.specs.Lists.{then_from}
 use Rattle.rt_ids.specs.Event.{Event, Arrive, Tick, Step}
-use Rattle.rt_ids.specs.Action.{Action, Enters, Leaves, Emits, Posts, Clocks, Takes, Refuses, Readies, Starts, Frees}
+use Rattle.rt_ids.specs.Action.{Action, Enters, Leaves, Emits, Posts, Clocks, Places, FindsFull, Readies, Starts, Frees}
 use Rattle.rt_ids.specs.Action.{Arms, Fires, Cancels, Moves, SetsAlarm, Ends, Returns}
 use Rattle.rt_ids.specs.Content.{Values}
 use Rattle.rt_ids.specs.Doing.{Doing, over, does}
@@ -31,7 +31,7 @@ use Rattle.rt_laws.specs.State.{Role, Init, Idle, Waiting, Serving, Job, State, 
 use Rattle.rt_laws.specs.Giving.{gives, item_given, item_of, next_item, return_item, next_instant, is_due}
 use Rattle.rt_laws.specs.Allowed.{May, after}
 use Rattle.rt_laws.specs.Run.{RunsOn}
-use Rattle.rt_laws.specs.Sight.{Sight, first_sight, sees_all}
+use Rattle.rt_laws.specs.Observer.{Observer, first_sight, sees_all}
 use Rattle.rt_laws.proofs.Well.{StateWell}
 use Rattle.rt_laws.proofs.Armings.{armings, first_armings}
 use Rattle.rt_laws.proofs.Fine.{Queued}
@@ -72,8 +72,8 @@ not_trap s role (does action made next) k is = by action is
     by (Emits v) is = cc (is)
     by (Posts irq) is = cc (is)
     by Clocks is = cc (is)
-    by (Takes n) is = cc (is)
-    by (Refuses n) is = cc (is)
+    by (Places n) is = cc (is)
+    by (FindsFull n) is = cc (is)
     by (Readies p m) is = cc (is)
     by (Starts p m) is = cc (is)
     by (Frees n) is = cc (is)
@@ -178,7 +178,7 @@ module _ (app : App) (img : Image) (accepted : IsAccepted app) (is_image : IsIma
             let part = reached_by front short (front_declared app events n declared) in
             let well = well_after app accepted (labels img (reset img) front) (first app) (first_sight app)
             (first_well app accepted) part.runs in
-            let v : Sight = sees_all app (first_sight app) (labels img (reset img) front) in
+            let v : Observer = sees_all app (first_sight app) (labels img (reset img) front) in
             let early : part.agrees.moment.time < 2 ^ 31 =
             let same : (core_after img (reset img) front).time ≡ part.agrees.moment.time =
             ap (λ (c : Core). c.time) part.agrees.core in

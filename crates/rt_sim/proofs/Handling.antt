@@ -7,7 +7,7 @@ use Rattle.std.specs.List.{AllByRecursion, list_any}
 use Rattle.rt_lemmas.proofs.Bools.{and_both, or_left, or_right}
 use Rattle.rt_lemmas.proofs.Membership.{all_append, all_flat_map, all_from_members, any_passes}
 use Rattle.rt_ids.specs.Lists.{is_some_and, greatest}
-use Rattle.rt_ids.specs.Storage.{AtLevel}
+use Rattle.rt_ids.specs.Storage.{AtPriority}
 use Rattle.rt_ids.proofs.Greatest.{greatest_has}
 use Rattle.rt_app.specs.declared.app.Mono.{Mono}
 use Rattle.rt_app.specs.declared.costs.TheConstants.{TIMER_WORDS}
@@ -36,16 +36,16 @@ use Rattle.rt_sim.proofs.Takes.{IsHandler}
 
 module _ (app : App) (img : Image) (sound : IsSound app) (is_image : IsImageOf app img)
     (sparing_task : (k : ℕ) (t : Task) → slice_get app.tasks k ≡ Some t → is_software t ≡ false
-    → SparesAlways app (AtLevel t.priority) true [] (task_doing app k [] (act Returns nothing)))
+    → SparesAlways app (AtPriority t.priority) true [] (task_doing app k [] (act Returns nothing)))
     (sparing_level : (p : ℕ) → Contains (levels app) p
-    → SparesAlways app (AtLevel p) true [] (dispatcher_doing app p))
+    → SparesAlways app (AtPriority p) true [] (dispatcher_doing app p))
     (sparing_timer : (mono : Mono) → app.mono ≡ Some mono
-    → SparesAlways app (AtLevel mono.priority) true [] (timer_doing app)) where
+    → SparesAlways app (AtPriority mono.priority) true [] (timer_doing app)) where
   abbrev pub IsHandled : Service → Type 0
-  IsHandled v = v.level ≤ 2 ^ app.bits → IsHandler app img is_image.at.idle is_image.at v
+  IsHandled v = v.priority ≤ 2 ^ app.bits → IsHandler app img is_image.at.idle is_image.at v
 
   of_task : (irq k : ℕ) (t : Task) → slice_get app.tasks k ≡ Some t → is_software t ≡ false
-      → IsHandled (record { irq = irq; handler = Runs k; level = t.priority })
+      → IsHandled (record { irq = irq; handler = Runs k; priority = t.priority })
   of_task irq k t there hardware_task most =
       let words : handler_words app (Runs k) ≡ frame_words t.args t.body = ap task_words there in
       let cost : handler_cost app (Runs k) ≡ body_cost (cost_measure app) t.body =
@@ -58,10 +58,10 @@ module _ (app : App) (img : Image) (sound : IsSound app) (is_image : IsImageOf a
         rows = no_rows app img;
         most = most;
         code = subst (λ (w : ℕ). StandsFrom (storage app) img.code (no_rows app img) is_image.at.idle
-            (AtLevel t.priority) (length (memory app)) w (is_image.at.task k) (handler_cost app (Runs k))
+            (AtPriority t.priority) (length (memory app)) w (is_image.at.task k) (handler_cost app (Runs k))
             (task_doing app k [] (act Returns nothing))) (sym words)
             (subst (λ (c : ℕ). StandsFrom (storage app) img.code (no_rows app img) is_image.at.idle
-            (AtLevel t.priority) (length (memory app)) (frame_words t.args t.body) (is_image.at.task k) c
+            (AtPriority t.priority) (length (memory app)) (frame_words t.args t.body) (is_image.at.task k) c
             (task_doing app k [] (act Returns nothing))) (sym cost)
             (is_image.code.tasks k t there hardware_task (no_rows app img) is_image.at.idle));
         sparing = sparing_task k t there hardware_task;
@@ -72,7 +72,7 @@ module _ (app : App) (img : Image) (sound : IsSound app) (is_image : IsImageOf a
       }
 
   of_level : (irq p : ℕ) → Contains (levels app) p
-      → IsHandled (record { irq = irq; handler = Dispatches p; level = p })
+      → IsHandled (record { irq = irq; handler = Dispatches p; priority = p })
   of_level irq p is most = record {
     rows = level_rows app img p;
     most = most;
@@ -84,7 +84,7 @@ module _ (app : App) (img : Image) (sound : IsSound app) (is_image : IsImageOf a
   }
 
   of_timer : (mono : Mono) → app.mono ≡ Some mono
-      → IsHandled (record { irq = mono.irq; handler = Times; level = mono.priority })
+      → IsHandled (record { irq = mono.irq; handler = Times; priority = mono.priority })
   of_timer mono is most =
       let runs : is_timed_at mono.priority app ≡ true =
       ap (is_some_and (λ (one : Mono). one.priority == mono.priority)) is ∙ eq-eqb mono.priority mono.priority refl in

@@ -1,4 +1,4 @@
--- Who keeps or reads something without a section: it is something of the application, and no two levels that differ
+-- Who keeps or reads something without a section: it is something of the application, and no two priorities that differ
 -- keep
 -- and read the same.
 use Rattle.std.proofs.Common.{◌≡◌, ℕ, zero, suc, ◌<◌, ◌==◌, ◌||◌, ◌&&◌, inl, inr, Bool, true, not, List, [], ◌∷◌, map}
@@ -10,7 +10,7 @@ use Rattle.rt_lemmas.proofs.Bools.{and_parts, or_cases, true_and_false}
 use Rattle.rt_lemmas.proofs.Membership.{all_at, all_append, any_one}
 use Rattle.rt_ids.specs.Choice.{IsIn}
 use Rattle.rt_ids.specs.Holder.{Holder, Guarded, Own}
-use Rattle.rt_ids.specs.Storage.{AtLevel}
+use Rattle.rt_ids.specs.Storage.{AtPriority}
 use Rattle.rt_ids.specs.declared.ids.Section.TheVariants as section
 use Rattle.rt_app.specs.declared.body.Listed.{Listed}
 use Rattle.rt_app.specs.Tree.{App}
@@ -41,57 +41,57 @@ module _ (app : App) (accepted : IsAccepted app) (sound : IsSound app) where
   placed = members_all app accepted (λ m. IsBodyPlaced app m.args m.body)
       (λ id m is. (has_body app accepted id m is).placed)
 
-  -- a body at a level that passes
-  pub record IsAtLevel (test : Member → Bool) (p : ℕ) : Type 0 where
-    pub place : ℕ
+  -- a body at a priority that passes
+  pub record IsAtPriority (test : Member → Bool) (p : ℕ) : Type 0 where
+    pub index : ℕ
     pub member : Member
-    pub there : slice_get (members app) place ≡ Some member
-    pub level : member.priority ≡ p
+    pub there : slice_get (members app) index ≡ Some member
+    pub priority : member.priority ≡ p
     pub passes : test member ≡ true
 
-  at_level : (test : Member → Bool) (p : ℕ) → is_some_at app test p ≡ true → IsAtLevel test p
-  at_level test p is =
+  at_threshold : (test : Member → Bool) (p : ℕ) → is_some_at app test p ≡ true → IsAtPriority test p
+  at_threshold test p is =
       let one = any_one (λ m. not (is_init m.id) && ((m.priority == p) && test m)) (members app) is in
       let parts = and_parts (not (is_init one.1.id)) ((one.1.priority == p) && test one.1) one.3 in
       let more = and_parts (one.1.priority == p) (test one.1) parts.1 in
-      record { place = one.0; member = one.1; there = one.2; level = eqb-true one.1.priority p more.0; passes = more.1 }
+      record { index = one.0; member = one.1; there = one.2; priority = eqb-true one.1.priority p more.0; passes = more.1 }
 
-  -- a listing of a resource by a body of a level
+  -- a listing of a resource by a body of a priority
   pub record IsListedAt (r p : ℕ) : Type 0 where
     pub listing : Listing
     pub among : IsIn (listings app) listing
     pub of : listing.listed.resource ≡ r
-    pub level : listing.priority ≡ p
+    pub priority : listing.priority ≡ p
 
   listed_at : (r p : ℕ) → is_some_at app (lists r) p ≡ true → IsListedAt r p
   listed_at r p is =
-      let at = at_level (lists r) p is in
+      let at = at_threshold (lists r) p is in
       let one = any_one (λ l. l.resource == r) at.member.body.shared at.passes in
       record {
         listing = record { listed = one.1; priority = at.member.priority };
-        among = in_flat listings_of (members app) at.place at.member _ at.there
+        among = in_flat listings_of (members app) at.index at.member _ at.there
             (mapped_in (λ l. record {
               listed = l;
               priority =
                   at.member.priority;
             }) at.member.body.shared one.0 one.1 one.2);
         of = eqb-true one.1.resource r one.3;
-        level = at.level;
+        priority = at.priority;
       }
 
-  -- what a level keeps no other level keeps or reads
-  pub keepers_apart : (p q : ℕ) → ¬ (p ≡ q) → (h : Holder) → is_kept app (AtLevel p) h ≡ true
-      → (is_kept app (AtLevel q) h || is_constant app (AtLevel q) h) ≡ true → ⊥
+  -- what a priority keeps no other priority keeps or reads
+  pub keepers_apart : (p q : ℕ) → ¬ (p ≡ q) → (h : Holder) → is_kept app (AtPriority p) h ≡ true
+      → (is_kept app (AtPriority q) h || is_constant app (AtPriority q) h) ≡ true → ⊥
   keepers_apart p q differ (Guarded (section.Res r)) kept other =
       let mine = and_parts (is_lock_free app r) (is_some_at app (lists r) p) kept in
       let l = listed_at r p mine.1 in
-      elim (or_cases (is_kept app (AtLevel q) (Guarded (section.Res r)))
-      (is_constant app (AtLevel q) (Guarded (section.Res r))) other) [
+      elim (or_cases (is_kept app (AtPriority q) (Guarded (section.Res r)))
+      (is_constant app (AtPriority q) (Guarded (section.Res r))) other) [
         | inl keeps ↦
             let theirs = and_parts (is_lock_free app r) (is_some_at app (lists r) q) keeps in
             let k = listed_at r q theirs.1 in
-            differ (sym l.level ∙ sound.lock_free l.listing k.listing l.among k.among (l.of ∙ sym k.of)
-            (ap (is_lock_free app) l.of ∙ mine.0) ∙ k.level)
+            differ (sym l.priority ∙ sound.lock_free l.listing k.listing l.among k.among (l.of ∙ sym k.of)
+            (ap (is_lock_free app) l.of ∙ mine.0) ∙ k.priority)
         | inr reads ↦
             let one = any_one (λ k. (k.listed.resource == r) && k.listed.by_ref) (listings app) reads in
             let parts = and_parts (one.1.listed.resource == r) one.1.listed.by_ref one.3 in
@@ -103,15 +103,15 @@ module _ (app : App) (accepted : IsAccepted app) (sound : IsSound app) where
   keepers_apart p q differ (Guarded (section.Ready n)) kept other = cc (kept)
   keepers_apart p q differ (Guarded section.Timer) kept other = cc (kept)
   keepers_apart p q differ (Own n) kept other =
-      elim (or_cases (is_kept app (AtLevel q) (Own n)) (is_constant app (AtLevel q) (Own n)) other) [
+      elim (or_cases (is_kept app (AtPriority q) (Own n)) (is_constant app (AtPriority q) (Own n)) other) [
         | inl keeps ↦
-            let a = at_level (owns n) p kept in
-            let b = at_level (owns n) q keeps in
-            let same : a.place ≡ b.place =
-            sound.owners n a.place b.place a.member b.member a.there b.there a.passes b.passes in
+            let a = at_threshold (owns n) p kept in
+            let b = at_threshold (owns n) q keeps in
+            let same : a.index ≡ b.index =
+            sound.owners n a.index b.index a.member b.member a.there b.there a.passes b.passes in
             let one : a.member ≡ b.member = same_Some a.member b.member (sym a.there ∙ ap (slice_get (members app)) same
             ∙ b.there) in
-            differ (sym a.level ∙ ap (λ (m : Member). m.priority) one ∙ b.level)
+            differ (sym a.priority ∙ ap (λ (m : Member). m.priority) one ∙ b.priority)
         | inr reads ↦ cc (reads)
       ]
 
@@ -144,15 +144,15 @@ module _ (app : App) (accepted : IsAccepted app) (sound : IsSound app) where
       each (m ∷ ms) all = all_append _ (listings_of m) (flat_map listings_of ms)
           (mapped m.priority m.body.shared all.0.shared) (each ms all.1)
 
-  -- and what a level keeps or reads so is there
-  pub kept_is_held : (p : ℕ) (h : Holder) → (is_kept app (AtLevel p) h || is_constant app (AtLevel p) h) ≡ true
+  -- and what a priority keeps or reads so is there
+  pub kept_is_held : (p : ℕ) (h : Holder) → (is_kept app (AtPriority p) h || is_constant app (AtPriority p) h) ≡ true
       → IsHeld app h
   kept_is_held p (Guarded (section.Res r)) is =
-      elim (or_cases (is_kept app (AtLevel p) (Guarded (section.Res r)))
-      (is_constant app (AtLevel p) (Guarded (section.Res r))) is) [
+      elim (or_cases (is_kept app (AtPriority p) (Guarded (section.Res r)))
+      (is_constant app (AtPriority p) (Guarded (section.Res r))) is) [
         | inl keeps ↦
-            let at = at_level (lists r) p (and_parts (is_lock_free app r) (is_some_at app (lists r) p) keeps).1 in
-            resource_of at.member at.place r at.there at.passes
+            let at = at_threshold (lists r) p (and_parts (is_lock_free app r) (is_some_at app (lists r) p) keeps).1 in
+            resource_of at.member at.index r at.there at.passes
         | inr reads ↦
             let one = any_one (λ k. (k.listed.resource == r) && k.listed.by_ref) (listings app) reads in
             let parts = and_parts (one.1.listed.resource == r) one.1.listed.by_ref one.3 in
@@ -162,10 +162,10 @@ module _ (app : App) (accepted : IsAccepted app) (sound : IsSound app) where
   kept_is_held p (Guarded (section.Free n)) is = absurd (cc (is))
   kept_is_held p (Guarded (section.Ready n)) is = absurd (cc (is))
   kept_is_held p (Guarded section.Timer) is = absurd (cc (is))
-  kept_is_held p (Own n) is = elim (or_cases (is_kept app (AtLevel p) (Own n))
-      (is_constant app (AtLevel p) (Own n)) is) [
+  kept_is_held p (Own n) is = elim (or_cases (is_kept app (AtPriority p) (Own n))
+      (is_constant app (AtPriority p) (Own n)) is) [
         | inl keeps ↦
-            let at = at_level (owns n) p keeps in
-            local_held at.member at.place n at.there at.passes
+            let at = at_threshold (owns n) p keeps in
+            local_held at.member at.index n at.there at.passes
         | inr reads ↦ absurd (cc (reads))
       ]

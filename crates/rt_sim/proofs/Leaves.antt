@@ -25,12 +25,12 @@ use Rattle.rt_code.specs.Processor.{Processor}
 use Rattle.rt_code.specs.Standing.{Stands, HaveLeft}
 use Rattle.rt_code.proofs.Mine.{owns_more, reads_more, owns_reads, owns_open, same_section}
 use Rattle.rt_core.specs.Leading.{with_processor}
-use Rattle.rt_core.specs.Masks.{CanPutBack, with_saved, closed}
+use Rattle.rt_core.specs.Masks.{CanPutBack, with_saved, processor_after_closing}
 use Rattle.rt_core.specs.Note as note
 use Rattle.rt_core.specs.Stepping.{step}
 use Rattle.rt_trace.specs.declared.item.What.TheVariants as what
-use Rattle.rt_laws.specs.State.{reached}
-use Rattle.rt_laws.specs.Level.{candidate}
+use Rattle.rt_laws.specs.State.{reached_values}
+use Rattle.rt_laws.specs.Preemption.{candidate}
 use Rattle.rt_laws.specs.Giving.{left_value}
 use Rattle.rt_sim.specs.Inside.Moment.{Part, Moment, spot_of, sections_of}
 use Rattle.rt_sim.specs.Inside.States.{core_of, state_of}
@@ -188,7 +188,7 @@ module _ (app : App) (img : Image) (thread : ℕ) where
       running = without_section m.running outer n (follows 0 m.values);
       basepri = (with_saved (core_of app.bits m).processor kind).basepri;
       primask = (with_saved (core_of app.bits m).processor kind).primask;
-      values = reached (follows 0 m.values) m.values;
+      values = reached_values (follows 0 m.values) m.values;
     }
 
     abbrev inner : Held
@@ -248,7 +248,7 @@ module _ (app : App) (img : Image) (thread : ℕ) where
             },
             others_kept app img thread
                 (record m.running { held = inner ∷ outer }) Outside m.cells m.cells m.queues m.queues m.values
-                (reached (follows 0 m.values) m.values) m.below
+                (reached_values (follows 0 m.values) m.values) m.below
                 (apart_of app img thread (record m.running { held = inner ∷ outer }) m.below fits.stack)
                 (apart_less m.running inner outer n (follows 0 m.values) m.below
                 (apart_of app img thread (record m.running { held = inner ∷ outer }) m.below fits.stack))
@@ -271,12 +271,12 @@ module _ (app : App) (img : Image) (thread : ℕ) where
           alarmed = fits.alarmed;
         }
 
-    core_outside : (kind : Kind) → with_processor (core_of app.bits m) (closed (core_of app.bits m).processor kind)
+    core_outside : (kind : Kind) → with_processor (core_of app.bits m) (processor_after_closing (core_of app.bits m).processor kind)
         ≡ core_of app.bits (record m {
           running = without_section m.running outer n (follows 0 m.values);
           basepri = (with_saved (core_of app.bits m).processor kind).basepri;
           primask = (with_saved (core_of app.bits m).processor kind).primask;
-          values = reached (follows 0 m.values) m.values;
+          values = reached_values (follows 0 m.values) m.values;
         })
     core_outside Marked = refl
     core_outside (Raised slot) = refl
@@ -291,12 +291,12 @@ module _ (app : App) (img : Image) (thread : ℕ) where
     pub leaves_at : (CanPutBack kind m.running.slots
         → step img (core_of app.bits m) ≡ (
           with_processor (core_of app.bits m)
-              (closed (core_of app.bits m).processor kind),
+              (processor_after_closing (core_of app.bits m).processor kind),
           Some (what.Leave x (note.left_value img (core_of app.bits m) x)),
         ))
         → StepsBoth app img thread (core_of app.bits m) (state_of (with_held m x kind outer))
     leaves_at gives = record {
-      core = with_processor (core_of app.bits m) (closed (core_of app.bits m).processor kind);
+      core = with_processor (core_of app.bits m) (processor_after_closing (core_of app.bits m).processor kind);
       shown = Some (what.Leave x (note.left_value img (core_of app.bits m) x));
       is = gives (can_put_back app m.running.slots kind _ _ (saved_by m.running m.below inner outer fits.stack));
       may = (

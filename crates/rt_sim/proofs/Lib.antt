@@ -1,6 +1,6 @@
 pub mod Counting
 pub mod Others
-pub mod Levels
+pub mod ExecutionPriority
 pub mod Plain
 pub mod Acts
 pub mod Alarms

@@ -7,24 +7,24 @@ use Rattle.rt_lemmas.proofs.Bools.{true_and_false}
 use Rattle.rt_ids.specs.Holder.{Holder, Guarded, is_same_holder}
 use Rattle.rt_ids.specs.Content.{Values}
 use Rattle.rt_ids.specs.Entry.{Entry, count}
-use Rattle.rt_ids.specs.Action.{Action, Takes, Readies, Starts, Frees, Arms, Fires, Cancels, Moves, effect}
+use Rattle.rt_ids.specs.Action.{Action, Places, Readies, Starts, Frees, Arms, Fires, Cancels, Moves, effect}
 use Rattle.rt_ids.specs.declared.ids.Section.{Section}
 use Rattle.rt_ids.specs.declared.ids.Section.TheVariants as section
 use Rattle.rt_app.specs.Tree.{App}
 use Rattle.rt_app.specs.Holding.{storage}
-use Rattle.rt_code.specs.Acting.{TakesPlace, MakesReady, StartsMessage, GivesPlaceBack, ArmsMessage, FiresMessage}
+use Rattle.rt_code.specs.Acting.{PlacesMessage, ReadiesMessage, StartsMessage, FreesPlace, ArmsMessage, FiresMessage}
 use Rattle.rt_code.specs.Acting.{CancelsMessage, MovesMessage, with_queue}
 use Rattle.rt_code.specs.Image.{Image}
 use Rattle.rt_code.specs.Owning.{Spot, is_open, MayAccess}
 use Rattle.rt_code.specs.Processor.{Processor}
-use Rattle.rt_code.specs.Standing.{Stands, HaveLeft, moved, passed}
+use Rattle.rt_code.specs.Standing.{Stands, HaveLeft, spot_behind, spot_after_step}
 use Rattle.rt_code.proofs.Mine.{owns_open}
 use Rattle.rt_core.specs.Access.{access}
 use Rattle.rt_core.specs.Leading.{GoesPlainly, with_processor}
 use Rattle.rt_core.specs.Stepping.{step}
 use Rattle.rt_trace.specs.declared.item.What.TheVariants as what
-use Rattle.rt_laws.specs.Level.{candidate}
-use Rattle.rt_laws.specs.State.{reached}
+use Rattle.rt_laws.specs.Preemption.{candidate}
+use Rattle.rt_laws.specs.State.{reached_values}
 use Rattle.rt_sim.specs.Inside.Moment.{Moment, spot_of}
 use Rattle.rt_sim.specs.Inside.States.{core_of, state_of}
 use Rattle.rt_sim.specs.Inside.Counts.{hands, IsOnce}
@@ -53,7 +53,7 @@ module _ (app : App) (img : Image) (thread : ℕ) (m : Moment) (fits : Fits app 
       (access img (core_of app.bits m))) (q : Processor)
       (plain : GoesPlainly (spot_of m.cells m.queues m.running) (core_of app.bits m).processor q) where
     abbrev Here : Spot
-    Here = moved (passed (spot_of m.cells m.queues m.running)) q
+    Here = spot_behind (spot_after_step (spot_of m.cells m.queues m.running)) q
 
     abbrev Later : Spot → Type 0
     Later t = Stands (storage app) img.code m.running.rows thread (who m.running) n t
@@ -70,29 +70,29 @@ module _ (app : App) (img : Image) (thread : ℕ) (m : Moment) (fits : Fits app 
 
     pub takes_place : (t : ℕ) → step img (core_of app.bits m) ≡
         (with_processor (core_of app.bits m) q, Some (what.Placed t))
-        → TakesPlace (storage app) m.running.rows (who m.running) t
-        (moved (passed (spot_of m.cells m.queues m.running)) q)
+        → PlacesMessage (storage app) m.running.rows (who m.running) t
+        (spot_behind (spot_after_step (spot_of m.cells m.queues m.running)) q)
         (λ t. Stands (storage app) img.code m.running.rows thread (who m.running) n t) → Both
     takes_place t is noted =
         let acts = noted.acts in
         let x : Section = section.Free t in
         let places : List Entry = noted.entry ∷ m.running.places in
         let queues : Holder → List Entry = with_queue m.queues x noted.others in
-        let vs : Values = effect (Takes t) m.values in
+        let vs : Values = effect (Places t) m.values in
         record {
           core = with_processor (core_of app.bits m) q;
           shown = Some (what.Placed t);
           is = is;
           may = (
             may_turn app img thread m fits works none left,
-            gives_item app img thread m fits works (Takes t) acts.values acts.follows acts.is,
+            gives_item app img thread m fits works (Places t) acts.values acts.follows acts.is,
           );
           agrees = record {
-            moment = moment_behind app img thread m q n (acts.follows 0 vs) (reached (acts.follows 0 vs) vs)
+            moment = moment_behind app img thread m q n (acts.follows 0 vs) (reached_values (acts.follows 0 vs) vs)
                 places queues;
             core = refl;
-            state = acts_as app img thread m fits works (Takes t) acts.values acts.follows acts.is;
-            fits = acts_fit app img thread m fits works q n (Takes t) 0 places queues plain
+            state = acts_as app img thread m fits works (Places t) acts.values acts.follows acts.is;
+            fits = acts_fit app img thread m fits works q n (Places t) 0 places queues plain
                 (changes_by app img thread m fits works _ _ is may) acts
                 (λ h away. beside x _ (m.values h) noted.inside h away)
                 (λ h away. beside x noted.others (m.queues h) noted.inside h away)
@@ -104,8 +104,8 @@ module _ (app : App) (img : Image) (thread : ℕ) (m : Moment) (fits : Fits app 
 
     pub makes_ready : (t : ℕ) → step img (core_of app.bits m) ≡
         (with_processor (core_of app.bits m) q, Some (what.Ready t))
-        → MakesReady (storage app) m.running.rows (who m.running) t
-        (moved (passed (spot_of m.cells m.queues m.running)) q)
+        → ReadiesMessage (storage app) m.running.rows (who m.running) t
+        (spot_behind (spot_after_step (spot_of m.cells m.queues m.running)) q)
         (λ t. Stands (storage app) img.code m.running.rows thread (who m.running) n t) → Both
     makes_ready t is noted =
         let acts = noted.acts in
@@ -124,7 +124,7 @@ module _ (app : App) (img : Image) (thread : ℕ) (m : Moment) (fits : Fits app 
                 ∙ ap (λ k. Some (what.Ready k)) noted.of_task.1,
           );
           agrees = record {
-            moment = moment_behind app img thread m q n (acts.follows 0 vs) (reached (acts.follows 0 vs) vs)
+            moment = moment_behind app img thread m q n (acts.follows 0 vs) (reached_values (acts.follows 0 vs) vs)
                 noted.others queues;
             core = refl;
             state = acts_as app img thread m fits works action acts.values acts.follows acts.is;
@@ -140,7 +140,7 @@ module _ (app : App) (img : Image) (thread : ℕ) (m : Moment) (fits : Fits app 
 
     pub starts_message : (t from : ℕ)
         → (noted : StartsMessage (storage app) m.running.rows (who m.running) t from
-        (moved (passed (spot_of m.cells m.queues m.running)) q)
+        (spot_behind (spot_after_step (spot_of m.cells m.queues m.running)) q)
         (λ t. Stands (storage app) img.code m.running.rows thread (who m.running) n t))
         → step img (core_of app.bits m) ≡
         (with_processor (core_of app.bits m) q, Some (what.Start t noted.message.args)) → Both
@@ -161,7 +161,7 @@ module _ (app : App) (img : Image) (thread : ℕ) (m : Moment) (fits : Fits app 
                 ∙ ap (λ k. Some (what.Start k noted.message.args)) noted.of_task.1,
           );
           agrees = record {
-            moment = moment_behind app img thread m q n (acts.follows 0 vs) (reached (acts.follows 0 vs) vs)
+            moment = moment_behind app img thread m q n (acts.follows 0 vs) (reached_values (acts.follows 0 vs) vs)
                 places queues;
             core = refl;
             state = acts_as app img thread m fits works action acts.values acts.follows acts.is;
@@ -177,8 +177,8 @@ module _ (app : App) (img : Image) (thread : ℕ) (m : Moment) (fits : Fits app 
 
     pub gives_back : (t : ℕ) → step img (core_of app.bits m) ≡
         (with_processor (core_of app.bits m) q, Some (what.Free t))
-        → GivesPlaceBack (storage app) m.running.rows (who m.running) t
-        (moved (passed (spot_of m.cells m.queues m.running)) q)
+        → FreesPlace (storage app) m.running.rows (who m.running) t
+        (spot_behind (spot_after_step (spot_of m.cells m.queues m.running)) q)
         (λ t. Stands (storage app) img.code m.running.rows thread (who m.running) n t) → Both
     gives_back t is noted =
         let acts = noted.acts in
@@ -195,7 +195,7 @@ module _ (app : App) (img : Image) (thread : ℕ) (m : Moment) (fits : Fits app 
             gives_item app img thread m fits works (Frees t) acts.values acts.follows acts.is,
           );
           agrees = record {
-            moment = moment_behind app img thread m q n (acts.follows 0 vs) (reached (acts.follows 0 vs) vs)
+            moment = moment_behind app img thread m q n (acts.follows 0 vs) (reached_values (acts.follows 0 vs) vs)
                 noted.others queues;
             core = refl;
             state = acts_as app img thread m fits works (Frees t) acts.values acts.follows acts.is;
@@ -211,7 +211,7 @@ module _ (app : App) (img : Image) (thread : ℕ) (m : Moment) (fits : Fits app 
 
     pub arms_message : (t slot : ℕ)
         → (noted : ArmsMessage (storage app) m.running.rows (who m.running) t slot
-        (moved (passed (spot_of m.cells m.queues m.running)) q)
+        (spot_behind (spot_after_step (spot_of m.cells m.queues m.running)) q)
         (λ t. Stands (storage app) img.code m.running.rows thread (who m.running) n t))
         → step img (core_of app.bits m) ≡
         (with_processor (core_of app.bits m) q, Some (what.Arm t noted.instant)) → Both
@@ -232,7 +232,7 @@ module _ (app : App) (img : Image) (thread : ℕ) (m : Moment) (fits : Fits app 
                 ∙ ap (λ k. Some (what.Arm k noted.instant)) noted.of_task.1,
           );
           agrees = record {
-            moment = moment_behind app img thread m q n (acts.follows 0 vs) (reached (acts.follows 0 vs) vs)
+            moment = moment_behind app img thread m q n (acts.follows 0 vs) (reached_values (acts.follows 0 vs) vs)
                 noted.others queues;
             core = refl;
             state = acts_as app img thread m fits works action acts.values acts.follows acts.is;
@@ -248,7 +248,7 @@ module _ (app : App) (img : Image) (thread : ℕ) (m : Moment) (fits : Fits app 
 
     pub fires_message : (t : ℕ)
         → (noted : FiresMessage (storage app) m.running.rows (who m.running) t
-        (moved (passed (spot_of m.cells m.queues m.running)) q)
+        (spot_behind (spot_after_step (spot_of m.cells m.queues m.running)) q)
         (λ t. Stands (storage app) img.code m.running.rows thread (who m.running) n t))
         → step img (core_of app.bits m) ≡
         (with_processor (core_of app.bits m) q, Some (what.Fire t)) → Both
@@ -270,7 +270,7 @@ module _ (app : App) (img : Image) (thread : ℕ) (m : Moment) (fits : Fits app 
                 ∙ ap (λ k. Some (what.Fire k)) noted.of_task.1,
           );
           agrees = record {
-            moment = moment_behind app img thread m q n (acts.follows 0 vs) (reached (acts.follows 0 vs) vs)
+            moment = moment_behind app img thread m q n (acts.follows 0 vs) (reached_values (acts.follows 0 vs) vs)
                 places queues;
             core = refl;
             state = acts_as app img thread m fits works action acts.values acts.follows acts.is;
@@ -287,7 +287,7 @@ module _ (app : App) (img : Image) (thread : ℕ) (m : Moment) (fits : Fits app 
 
     pub cancels_message : (t slot : ℕ)
         → (noted : CancelsMessage (storage app) m.running.rows (who m.running) t slot
-        (moved (passed (spot_of m.cells m.queues m.running)) q)
+        (spot_behind (spot_after_step (spot_of m.cells m.queues m.running)) q)
         (λ t. Stands (storage app) img.code m.running.rows thread (who m.running) n t))
         → step img (core_of app.bits m) ≡
         (with_processor (core_of app.bits m) q, Some (what.Cancel t noted.handle)) → Both
@@ -308,7 +308,7 @@ module _ (app : App) (img : Image) (thread : ℕ) (m : Moment) (fits : Fits app 
             gives_item app img thread m fits works action acts.values acts.follows acts.is,
           );
           agrees = record {
-            moment = moment_behind app img thread m q n (acts.follows 0 vs) (reached (acts.follows 0 vs) vs)
+            moment = moment_behind app img thread m q n (acts.follows 0 vs) (reached_values (acts.follows 0 vs) vs)
                 places queues;
             core = refl;
             state = acts_as app img thread m fits works action acts.values acts.follows acts.is;
@@ -325,7 +325,7 @@ module _ (app : App) (img : Image) (thread : ℕ) (m : Moment) (fits : Fits app 
 
     pub moves_message : (t slot from : ℕ)
         → (noted : MovesMessage (storage app) m.running.rows (who m.running) t slot from
-        (moved (passed (spot_of m.cells m.queues m.running)) q)
+        (spot_behind (spot_after_step (spot_of m.cells m.queues m.running)) q)
         (λ t. Stands (storage app) img.code m.running.rows thread (who m.running) n t))
         → step img (core_of app.bits m) ≡
         (with_processor (core_of app.bits m) q, Some (what.Move t noted.handle noted.instant)) → Both
@@ -345,7 +345,7 @@ module _ (app : App) (img : Image) (thread : ℕ) (m : Moment) (fits : Fits app 
             gives_item app img thread m fits works action acts.values acts.follows acts.is,
           );
           agrees = record {
-            moment = moment_behind app img thread m q n (acts.follows 0 vs) (reached (acts.follows 0 vs) vs)
+            moment = moment_behind app img thread m q n (acts.follows 0 vs) (reached_values (acts.follows 0 vs) vs)
                 m.running.places queues;
             core = refl;
             state = acts_as app img thread m fits works action acts.values acts.follows acts.is;

@@ -13,7 +13,7 @@ use Rattle.rt_lemmas.proofs.Membership.{all_at, any_contained, contained_any, an
 use Rattle.rt_ids.specs.Choice.{IsIn}
 use Rattle.rt_ids.specs.Holder.{Guarded, Own, is_same_section}
 use Rattle.rt_ids.specs.Lists.{is_some_and, those_below}
-use Rattle.rt_ids.specs.Storage.{Starting, AtLevel}
+use Rattle.rt_ids.specs.Storage.{Starting, AtPriority}
 use Rattle.rt_ids.specs.declared.ids.Section.{Section}
 use Rattle.rt_ids.specs.declared.ids.Section.TheVariants as section
 use Rattle.rt_ids.proofs.Lists.{list_any-map}
@@ -82,7 +82,7 @@ module _ (app : App) (m : Member) (member : IsIn (members app) m) where
   owns_listed n listed = sym (list_any-map (λ o. o.local) (λ y. y == n) m.body.local)
       ∙ any_contained n (map (λ o. o.local) m.body.local) listed
 
-  -- some body that runs at a level passes
+  -- some body that runs at a priority passes
   some_at : (test : Member → Bool) → is_init m.id ≡ false → test m ≡ true → is_some_at app test m.priority ≡ true
   some_at test no_start passes =
       any_passes (λ n. not (is_init n.id) && ((n.priority == m.priority) && test n)) (members app) member.0 m member.1
@@ -101,10 +101,10 @@ module _ (app : App) (m : Member) (member : IsIn (members app) m) where
       by true is more = refl
       by false is more = more is
 
-  -- what it reaches without a lock, and may change, its level keeps
+  -- what it reaches without a lock, and may change, its priority keeps
   keeps_free : (r : ℕ) → is_init m.id ≡ false → is_free app m r ≡ true
       → is_some_and (λ l. l.by_ref) (listing_in m r) ≡ false
-      → is_kept app (AtLevel m.priority) (Guarded (section.Res r)) ≡ true
+      → is_kept app (AtPriority m.priority) (Guarded (section.Res r)) ≡ true
   keeps_free r no_start free writable =
       let one = is_one_that (λ l. l.by_ref || is_lock_free app r) (listing_in m r) free in
       let l : Listed = one.0 in
@@ -113,10 +113,10 @@ module _ (app : App) (m : Member) (member : IsIn (members app) m) where
       and_both (is_lock_free app r) _ lock_free (some_at (lists r) no_start (found_lists r m.body.shared l one.1))
 
   module _ (handles : Bool) where
-    pub level_owns_resource : is_init m.id ≡ false → (locked fixed : List ℕ) (r : ℕ)
+    pub priority_owns_resource : is_init m.id ≡ false → (locked fixed : List ℕ) (r : ℕ)
         → IsReached app m locked (atom.Shared r) → IsChangeable app m fixed (atom.Shared r)
-        → owns_in app (AtLevel m.priority) handles (sections_locked locked) (Guarded (section.Res r)) ≡ true
-    level_owns_resource no_start locked fixed r reached changes = elim reached.1 [
+        → owns_in app (AtPriority m.priority) handles (sections_locked locked) (Guarded (section.Res r)) ≡ true
+    priority_owns_resource no_start locked fixed r reached changes = elim reached.1 [
       | inl starts ↦ absurd (true_and_false (is_init m.id) starts no_start)
       | inr other ↦ elim other [
         | inl free ↦ or_right (list_any (λ y. is_same_section y (section.Res r)) (sections_locked locked)) _
@@ -124,14 +124,14 @@ module _ (app : App) (m : Member) (member : IsIn (members app) m) where
               | inl starts ↦ absurd (true_and_false (is_init m.id) starts no_start)
               | inr writable ↦ writable
             ]))
-        | inr lockable ↦ or_left _ (is_kept app (AtLevel m.priority) (Guarded (section.Res r)))
+        | inr lockable ↦ or_left _ (is_kept app (AtPriority m.priority) (Guarded (section.Res r)))
             (locked_open locked r lockable.1)
       ]
     ]
 
-    pub level_owns_local : is_init m.id ≡ false → (locked : List ℕ) (n : ℕ) → IsReached app m locked (atom.Local n)
-        → owns_in app (AtLevel m.priority) handles (sections_locked locked) (Own n) ≡ true
-    level_owns_local no_start locked n reached = some_at (owns n) no_start (owns_listed n reached.1)
+    pub priority_owns_local : is_init m.id ≡ false → (locked : List ℕ) (n : ℕ) → IsReached app m locked (atom.Local n)
+        → owns_in app (AtPriority m.priority) handles (sections_locked locked) (Own n) ≡ true
+    priority_owns_local no_start locked n reached = some_at (owns n) no_start (owns_listed n reached.1)
 
     pub start_owns_resource : (locked fixed : List ℕ) (r : ℕ)
         → IsReached app m locked (atom.Shared r) → IsChangeable app m fixed (atom.Shared r)

@@ -13,10 +13,10 @@ use Rattle.rt_app.specs.Holding.{storage}
 use Rattle.rt_code.specs.Image.{Image}
 use Rattle.rt_code.specs.Owning.{Kind, Marked, Raised, Masked, Held, Spot, saved_slot, saved_slots}
 use Rattle.rt_code.specs.Processor.{Processor}
-use Rattle.rt_code.specs.Standing.{Stands, HaveLeft, KeepsSaved, moved, passed}
+use Rattle.rt_code.specs.Standing.{Stands, HaveLeft, KeepsSaved, spot_behind, spot_after_step}
 use Rattle.rt_core.specs.Leading.{GoesPlainly, IsAt}
 use Rattle.rt_laws.specs.State.{Role, Init, Idle, Waiting, Serving}
-use Rattle.rt_laws.specs.Level.{candidate}
+use Rattle.rt_laws.specs.Preemption.{candidate}
 use Rattle.rt_laws.specs.Allowed.{HasStep, Turn}
 use Rattle.rt_sim.specs.Inside.Moment.{Part, Moment, spot_of, sections_of}
 use Rattle.rt_sim.specs.Inside.States.{core_of, state_of}
@@ -158,7 +158,7 @@ module _ (app : App) (img : Image) (thread : ℕ) where
         → QueuesItsOwn app img thread m.running m.queues queues
         → IsOnce queues (λ e. count e places + hands m.below e)
         → Stands (storage app) img.code m.running.rows thread (who m.running) n
-        (record (moved (passed (spot_of m.cells m.queues m.running)) q) {
+        (record (spot_behind (spot_after_step (spot_of m.cells m.queues m.running)) q) {
           rest = rest;
           places = places;
           queues = queues;

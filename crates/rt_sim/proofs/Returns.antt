@@ -9,12 +9,12 @@ use Rattle.rt_app.specs.Tree.{App}
 use Rattle.rt_app.specs.Holding.{storage, IsHeld}
 use Rattle.rt_code.specs.Image.{Image}
 use Rattle.rt_code.specs.Owning.{Held, owns}
-use Rattle.rt_code.specs.Standing.{Finishes, HaveLeft, passed}
+use Rattle.rt_code.specs.Standing.{Finishes, HaveLeft, spot_after_step}
 use Rattle.rt_code.proofs.Mine.{owns_reads}
 use Rattle.rt_core.specs.Stepping.{step}
 use Rattle.rt_trace.specs.declared.item.What.TheVariants as what
 use Rattle.rt_laws.specs.Giving.{return_item}
-use Rattle.rt_laws.specs.Level.{candidate}
+use Rattle.rt_laws.specs.Preemption.{candidate}
 use Rattle.rt_sim.specs.Inside.Moment.{Part, Moment, irq_of, spot_of}
 use Rattle.rt_sim.specs.Inside.States.{core_of, state_of}
 use Rattle.rt_sim.specs.Inside.Chains.{base_inside, mask_inside, base_under, mask_under}
@@ -36,7 +36,7 @@ owned_is_kept app runner held (Own n) closed is = is
 module _ (app : App) (img : Image) (thread : ℕ) where
   module _ (m : Moment) (fits : Fits app img thread m) (works : IsWorking m.running.role) (action : Action)
       (ends : Finishes (storage app) img.code m.running.rows thread (who m.running) action
-      (passed (spot_of m.cells m.queues m.running))) where
+      (spot_after_step (spot_of m.cells m.queues m.running))) where
     -- behind the last action of a job what it alone owned is spelled
     pub given_back : (h : Holder) → IsHeld app h → AllByRecursion (λ o. Owns app img thread o h ≡ false) m.below
         → (storage app).Spells h (slice_index m.cells) (m.queues h) (m.values h)
@@ -56,7 +56,7 @@ module _ (app : App) (img : Image) (thread : ℕ) where
       (none : candidate app (state_of (record m { below = q ∷ ps })) ≡ None)
       (left : HaveLeft (m.running.lefts ++ m.running.left ∷ []))
       (ends : Finishes (storage app) img.code m.running.rows thread (who m.running) Returns
-      (passed (spot_of m.cells m.queues m.running))) where
+      (spot_after_step (spot_of m.cells m.queues m.running))) where
     abbrev resumed : Moment
     resumed = record m { running = q; below = ps }
 

@@ -8,12 +8,12 @@ use Rattle.rt_app.specs.Listing.{is_lock_free}
 use Rattle.rt_code.specs.Access.{Stores}
 use Rattle.rt_code.specs.Cells.{resource_cell}
 use Rattle.rt_code.specs.Image.{Image}
-use Rattle.rt_laws.specs.Sight.{outside, entering}
+use Rattle.rt_laws.specs.Observer.{outside, seen_after_enter}
 use Rattle.rt_sim.specs.Guarded.{IsGuarded}
 
 -- a task at 3 on one at 2, which is inside the resource
 store_outside : (app : App) (img : Image) (r cell : ℕ) → resource_cell img r ≡ Some cell → is_lock_free app r ≡ false
-    → IsGuarded app img (outside 3 ∷ entering (section.Res r) 7 (outside 2) ∷ outside 0 ∷ []) (Some (Stores cell)) → ⊥
+    → IsGuarded app img (outside 3 ∷ seen_after_enter (section.Res r) 7 (outside 2) ∷ outside 0 ∷ []) (Some (Stores cell)) → ⊥
 store_outside app img r cell named locked is = elim (is r named) [
   | inl inside ↦ none-some (section.Res r) inside.1
   | inr other ↦ elim other [
@@ -24,5 +24,5 @@ store_outside app img r cell named locked is = elim (is r named) [
 
 -- and one by the task that is inside it, where no other resource has that cell
 store_inside : (app : App) (img : Image) (r cell : ℕ) → ((q : ℕ) → resource_cell img q ≡ Some cell → q ≡ r)
-    → IsGuarded app img (entering (section.Res r) 7 (outside 2) ∷ outside 0 ∷ []) (Some (Stores cell))
+    → IsGuarded app img (seen_after_enter (section.Res r) 7 (outside 2) ∷ outside 0 ∷ []) (Some (Stores cell))
 store_inside app img r cell alone = λ q named. inl (0, ap (λ n. Some (section.Res n)) (sym (alone q named)))

@@ -16,7 +16,7 @@ use Rattle.rt_laws.specs.State.{State}
 use Rattle.rt_laws.specs.Allowed.{after}
 use Rattle.rt_laws.specs.Run.{RunsOn}
 use Rattle.rt_laws.specs.ByItems.{after_all}
-use Rattle.rt_laws.specs.Sight.{Sight, sees, sees_all}
+use Rattle.rt_laws.specs.Observer.{Observer, sees, sees_all}
 use Rattle.rt_laws.proofs.Armings.{armings, rises}
 use Rattle.rt_laws.proofs.ByItems.{runs_append, after_append}
 use Rattle.rt_laws.proofs.Fine.{Queued}
@@ -32,7 +32,7 @@ use Rattle.rt_sim.proofs.Alarms.{ticks}
 
 module _ (app : App) where
   -- what is seen of the jobs is so behind labels
-  pub well_after : IsAccepted app → (labels : List Label) (s : State) (v : Sight) → StateWell app s v
+  pub well_after : IsAccepted app → (labels : List Label) (s : State) (v : Observer) → StateWell app s v
       → RunsOn app s labels → StateWell app (after_all app s labels) (sees_all app v labels)
   well_after accepted [] s v well runs = well
   well_after accepted (label ∷ labels) s v well runs =
@@ -53,7 +53,7 @@ module _ (app : App) (accepted : IsAccepted app) (img : Image) (thread : ℕ)
     pub time : core.time + armings (after_all app s shown).values ≤ c.time + armings s.values + 1
     pub counts : (ls : List Label) → steps_of (shown ++ ls) ≡ steps_in (e ∷ []) + steps_of ls
 
-  happens : (m : Moment) → Fits app img thread m → (v : Sight) → StateWell app (state_of m) v
+  happens : (m : Moment) → Fits app img thread m → (v : Observer) → StateWell app (state_of m) v
       → m.time + armings m.values < 2 ^ 31 → (e : Event) → AreDeclared app (e ∷ [])
       → Happens (core_of app.bits m) (state_of m) e
   happens m fits v well few (Arrive irq) declared = record {
@@ -113,7 +113,7 @@ module _ (app : App) (accepted : IsAccepted app) (img : Image) (thread : ℕ)
     pub agrees : Agrees app img thread (core_after img c events) (after_all app s (labels img c events))
 
   -- an event of two that agree
-  happens_next : (c : Core) (s : State) (v : Sight) → Agrees app img thread c s → StateWell app s v
+  happens_next : (c : Core) (s : State) (v : Observer) → Agrees app img thread c s → StateWell app s v
       → c.time + armings s.values < 2 ^ 31 → (e : Event) → AreDeclared app (e ∷ []) → Happens c s e
   happens_next c s v agrees well few e declared =
       let same : c.time ≡ agrees.moment.time = ap (λ (d : Core). d.time) agrees.core in
@@ -176,7 +176,7 @@ module _ (app : App) (accepted : IsAccepted app) (img : Image) (thread : ℕ)
   rest_declared Tick events d = d
   rest_declared Step events d = d
 
-  pub reaches : (events : List Event) (c : Core) (s : State) (v : Sight) → Agrees app img thread c s
+  pub reaches : (events : List Event) (c : Core) (s : State) (v : Observer) → Agrees app img thread c s
       → StateWell app s v → c.time + armings s.values + length events < 2 ^ 31 → AreDeclared app events
       → Reaches c s events
   reaches [] c s v agrees well few declared = reaches_none c s agrees

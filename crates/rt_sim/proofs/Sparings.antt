@@ -6,8 +6,8 @@ use Rattle.std.proofs.Common.{sym, ap, subst, ◌∙◌}
 use Rattle.rt_lemmas.proofs.Bools.{true_and_false}
 use Rattle.rt_ids.specs.Lists.{is_some_and, or_zero}
 use Rattle.rt_ids.specs.Holder.{Holder, Guarded, Own, is_same_holder}
-use Rattle.rt_ids.specs.Content.{Content, Values, Message, Number, timed, put_at}
-use Rattle.rt_ids.specs.Action.{Action, Enters, Leaves, Emits, Posts, Clocks, Takes, Refuses, Readies, Frees, Arms}
+use Rattle.rt_ids.specs.Content.{Content, Values, Message, Number, timer_content, values_with}
+use Rattle.rt_ids.specs.Action.{Action, Enters, Leaves, Emits, Posts, Clocks, Places, FindsFull, Readies, Frees, Arms}
 use Rattle.rt_ids.specs.Action.{Cancels, Moves, SetsAlarm}
 use Rattle.rt_ids.specs.Doing.{Doing, over, does}
 use Rattle.rt_ids.specs.Storage.{Runner}
@@ -33,21 +33,21 @@ use Rattle.rt_app.specs.Sending.{Rest, act, act_all, has_place, take_place, disp
 use Rattle.rt_app.specs.Sending.{instant_after, leave_timer, arm_actions, is_armed_as, cancel_actions, move_actions}
 use Rattle.rt_app.specs.Sending.{spawn_actions}
 use Rattle.rt_app.specs.Sound.{IsReached, IsChangeable, IsSoundSpawn, IsSoundStatement, IsSoundBlock}
-use Rattle.rt_sim.specs.Inside.Sparing.{owns_in, held_after, IsActionOf, Spares, IsSparing, SparesAlways}
+use Rattle.rt_sim.specs.Inside.Sparing.{owns_in, sections_after, IsActionOf, Spares, IsSparing, SparesAlways}
 use Rattle.rt_sim.proofs.Counting.{same_holder}
 use Rattle.rt_sim.proofs.Owned.{sections_locked}
 
 module _ (app : App) (who : Runner) (handles : Bool) where
   -- an action on which another rest follows
   pub act_sparing : (held : List Section) (action : Action) (rest : Rest) → IsActionOf app who handles action
-      → SparesAlways app who handles (held_after app who handles held action) rest
+      → SparesAlways app who handles (sections_after app who handles held action) rest
       → SparesAlways app who handles held (act action rest)
   act_sparing held action rest is later vs = (λ h away. refl, (is, λ n ws entered. later ws))
 
   -- what is put at something owned is sparing, where what follows is
   put_sparing : (held : List Section) (g : Holder) (content : Content) (rest : Doing Values) (vs : Values)
       → owns_in app who handles held g ≡ true
-      → Spares app who handles held (put_at vs g content) rest → Spares app who handles held vs rest
+      → Spares app who handles held (values_with vs g content) rest → Spares app who handles held vs rest
   put_sparing held g content over vs owned spares = λ h away. refl
   put_sparing held g content (does action made next) vs owned spares = λ h away. spares h away
       ∙ beside h away (is_same_holder g h) refl
@@ -65,14 +65,14 @@ module _ (app : App) (who : Runner) (handles : Bool) where
   take_sparing held n granted refused there gets none =
       act_sparing held (Enters (section.Free n) FREE_COST) _ there
       (λ vs. elim (has_place app n vs) as (λ b. Spares app who handles (section.Free n ∷ held) vs
-      (if b then act_all (Takes n ∷ Leaves (section.Free n) ∷ []) granted vs
-      else act_all (Refuses n ∷ Leaves (section.Free n) ∷ []) refused vs)
+      (if b then act_all (Places n ∷ Leaves (section.Free n) ∷ []) granted vs
+      else act_all (FindsFull n ∷ Leaves (section.Free n) ∷ []) refused vs)
       × IsSparing app who handles (section.Free n ∷ held)
-      (if b then act_all (Takes n ∷ Leaves (section.Free n) ∷ []) granted vs
-      else act_all (Refuses n ∷ Leaves (section.Free n) ∷ []) refused vs)) [
-        | true ↦ act_sparing (section.Free n ∷ held) (Takes n) (act (Leaves (section.Free n)) granted) tt
+      (if b then act_all (Places n ∷ Leaves (section.Free n) ∷ []) granted vs
+      else act_all (FindsFull n ∷ Leaves (section.Free n) ∷ []) refused vs)) [
+        | true ↦ act_sparing (section.Free n ∷ held) (Places n) (act (Leaves (section.Free n)) granted) tt
             (act_sparing (section.Free n ∷ held) (Leaves (section.Free n)) granted tt gets) vs
-        | false ↦ act_sparing (section.Free n ∷ held) (Refuses n) (act (Leaves (section.Free n)) refused) tt
+        | false ↦ act_sparing (section.Free n ∷ held) (FindsFull n) (act (Leaves (section.Free n)) refused) tt
             (act_sparing (section.Free n ∷ held) (Leaves (section.Free n)) refused tt none) vs
       ])
 
@@ -98,7 +98,7 @@ module _ (app : App) (who : Runner) (handles : Bool) where
   abbrev arming : ℕ → Message → (ℕ → Rest) → ℕ → Rest
   arming delay message rest time =
       act (Arms (instant_after app time delay) message)
-      (λ vs. leave_timer app (rest (timed (vs (Guarded section.Timer))).given) vs)
+      (λ vs. leave_timer app (rest (timer_content (vs (Guarded section.Timer))).given) vs)
 
   arm_sparing : (held : List Section) (cost delay : ℕ) (message : Message) (rest : ℕ → Rest)
       → IsHeld app (Guarded section.Timer) → ((answer : ℕ) → SparesAlways app who handles held (rest answer))
@@ -110,9 +110,9 @@ module _ (app : App) (who : Runner) (handles : Bool) where
         (
           tt,
           λ time ws known. act_sparing (section.Timer ∷ held) (Arms (instant_after app time delay) message)
-              (λ vs. leave_timer app (rest (timed (vs (Guarded section.Timer))).given) vs) tt
-              (λ xs. leave_sparing held (rest (timed (xs (Guarded section.Timer))).given)
-              (fine (timed (xs (Guarded section.Timer))).given) xs) ws,
+              (λ vs. leave_timer app (rest (timer_content (vs (Guarded section.Timer))).given) vs) tt
+              (λ xs. leave_sparing held (rest (timer_content (xs (Guarded section.Timer))).given)
+              (fine (timer_content (xs (Guarded section.Timer))).given) xs) ws,
         ),
       ))
 
@@ -191,15 +191,15 @@ module _ (app : App) (who : Runner) (handles : Bool) where
         → SparingLater locked later → SparingLater locked (assign x n later)
     assign_sparing locked fixed (atom.Var x) n later reach change fine vars vs = fine (slice_set vars x n) vs
     assign_sparing locked fixed (atom.Shared r) n later reach change fine vars vs =
-        let after = fine vars (put_at vs (Guarded (section.Res r)) (Number n)) in (
+        let after = fine vars (values_with vs (Guarded (section.Res r)) (Number n)) in (
           put_sparing (sections_locked locked) (Guarded (section.Res r)) (Number n)
-              (later vars (put_at vs (Guarded (section.Res r)) (Number n))) vs
+              (later vars (values_with vs (Guarded (section.Res r)) (Number n))) vs
               (owns_resource locked fixed r reach change) after.0,
           after.1,
         )
     assign_sparing locked fixed (atom.Local l) n later reach change fine vars vs =
-        let after = fine vars (put_at vs (Own l) (Number n)) in (
-          put_sparing (sections_locked locked) (Own l) (Number n) (later vars (put_at vs (Own l) (Number n))) vs
+        let after = fine vars (values_with vs (Own l) (Number n)) in (
+          put_sparing (sections_locked locked) (Own l) (Number n) (later vars (values_with vs (Own l) (Number n))) vs
               (owns_local locked l reach) after.0,
           after.1,
         )
@@ -209,11 +209,11 @@ module _ (app : App) (who : Runner) (handles : Bool) where
         → SparesAlways app who handles held (spawn_actions app value s rest)
     spawn_sparing held locked value (Soon n args at) rest sound fine =
         let t : Task = sound.0 in
-        let level : task_priority app n ≡ t.priority =
+        let as_declared : task_priority app n ≡ t.priority =
         ap (λ o. or_zero (option_map (λ (u : Task). u.priority) o)) sound.1.is_there in
         take_sparing held n _ (rest 0) (ap (is_some_and is_software) sound.1.is_there ∙ sound.1.software)
         (ready_sparing held (task_priority app n) (record { task = n; args = map value args }) (rest 1)
-        (subst (λ p. Contains (levels app) p) (sym level) (level_is n t sound.1.is_there sound.1.software)) (fine 1))
+        (subst (λ p. Contains (levels app) p) (sym as_declared) (level_is n t sound.1.is_there sound.1.software)) (fine 1))
         (fine 0)
     spawn_sparing held locked value (After word delay n args at) rest sound fine =
         take_sparing held n _ (rest 0) (ap (is_some_and is_software) sound.1.is_there ∙ sound.1.software)

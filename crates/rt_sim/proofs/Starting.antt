@@ -25,7 +25,7 @@ use Rattle.rt_build.specs.Image.{IsImageOf}
 use Rattle.rt_code.specs.Image.{Image}
 use Rattle.rt_code.specs.Standing.{Stands}
 use Rattle.rt_core.specs.Core.{reset}
-use Rattle.rt_laws.specs.State.{Init, first, first_values, reached}
+use Rattle.rt_laws.specs.State.{Init, first, first_values, reached_values}
 use Rattle.rt_sim.specs.Inside.Moment.{Part, Moment, spot_of}
 use Rattle.rt_sim.specs.Inside.Sparing.{SparesAlways}
 use Rattle.rt_sim.specs.Inside.Fits.{Fits}
@@ -68,7 +68,7 @@ module _ (app : App) (img : Image) (accepted : IsAccepted app) (sound : IsSound 
     primask = true;
     cells = cells_first;
     queues = first_queues app;
-    values = reached (init_doing app (first_values app)) (first_values app);
+    values = reached_values (init_doing app (first_values app)) (first_values app);
   }
 
   cells_are : cells_first ≡ map (λ cell. cell.first) (memory app)

@@ -9,7 +9,7 @@ use Rattle.std.proofs.lemmas.List.{length-replicate}
 use Rattle.rt_lemmas.proofs.Lists.{find_has}
 use Rattle.rt_ids.specs.Lists.{or_zero}
 use Rattle.rt_ids.specs.Action.{Returns}
-use Rattle.rt_ids.specs.Storage.{AtLevel}
+use Rattle.rt_ids.specs.Storage.{AtPriority}
 use Rattle.rt_app.specs.declared.app.Mono.{Mono}
 use Rattle.rt_app.specs.Tree.{Task, App}
 use Rattle.rt_app.specs.Accepted.{IsAccepted}
@@ -24,16 +24,16 @@ use Rattle.rt_code.specs.Cells.{resource_cell}
 use Rattle.rt_code.specs.Image.{Image, entry_words}
 use Rattle.rt_code.specs.declared.image.IrqRow.{IrqRow}
 use Rattle.rt_code.specs.declared.image.Handler as row
-use Rattle.rt_core.specs.Core.{Core, depth, used}
+use Rattle.rt_core.specs.Core.{Core, depth, stack_in_use}
 use Rattle.rt_core.specs.Outcome.{Trapped, Done, settle}
 use Rattle.rt_core.specs.Priority.{pick}
-use Rattle.rt_core.specs.Transfer.{has_room, enter, entered}
+use Rattle.rt_core.specs.Transfer.{has_room, exception_entry, core_after_entry}
 use Rattle.rt_core.proofs.Happening.{steps_by_cause}
 use Rattle.rt_code.specs.declared.processor.Trap.TheVariants as trap
 use Rattle.rt_trace.specs.declared.item.What.TheVariants as what
 use Rattle.rt_laws.specs.Services.{service_at, priority_of}
 use Rattle.rt_laws.specs.State.{Role, Init, Idle, Waiting, Serving}
-use Rattle.rt_laws.specs.Level.{candidate, level}
+use Rattle.rt_laws.specs.Preemption.{candidate, system_ceiling}
 use Rattle.rt_laws.specs.Allowed.{HasStep}
 use Rattle.rt_laws.proofs.Armings.{armings}
 use Rattle.rt_laws.proofs.Fine.{Queued}
@@ -45,7 +45,7 @@ use Rattle.rt_sim.specs.Inside.PartFits.{StandsBy, WaitsAt}
 use Rattle.rt_sim.specs.Inside.Fits.{IsStacked, Fits}
 use Rattle.rt_sim.specs.Inside.Agrees.{StepsBoth}
 use Rattle.rt_sim.proofs.Plain.{IsWorking, length-passed}
-use Rattle.rt_sim.proofs.Levels.{execution_is}
+use Rattle.rt_sim.proofs.ExecutionPriority.{execution_is}
 use Rattle.rt_sim.proofs.Choosing.{picks, IfServed, priority_top}
 use Rattle.rt_sim.proofs.Takes.{IsHandler, fits_taken, takes}
 use Rattle.rt_sim.proofs.Handling.{IsHandled, all_handled}
@@ -145,13 +145,13 @@ module _ (app : App) (img : Image) (thread : ℕ) where
 
 module _ (app : App) (img : Image) (accepted : IsAccepted app) (sound : IsSound app)
     (is_image : IsImageOf app img) (named : (r : ℕ) → r < length app.shared → resource_cell img r ≡ Some r)
-    (sparing_idle : SparesAlways app (AtLevel 0) false [] (idle_doing app))
+    (sparing_idle : SparesAlways app (AtPriority 0) false [] (idle_doing app))
     (sparing_task : (k : ℕ) (t : Task) → slice_get app.tasks k ≡ Some t → is_software t ≡ false
-    → SparesAlways app (AtLevel t.priority) true [] (task_doing app k [] (act Returns nothing)))
+    → SparesAlways app (AtPriority t.priority) true [] (task_doing app k [] (act Returns nothing)))
     (sparing_level : (p : ℕ) → Contains (levels app) p
-    → SparesAlways app (AtLevel p) true [] (dispatcher_doing app p))
+    → SparesAlways app (AtPriority p) true [] (dispatcher_doing app p))
     (sparing_timer : (mono : Mono) → app.mono ≡ Some mono
-    → SparesAlways app (AtLevel mono.priority) true [] (timer_doing app)) where
+    → SparesAlways app (AtPriority mono.priority) true [] (timer_doing app)) where
   abbrev at : Entries
   at = is_image.at
 
@@ -169,17 +169,17 @@ module _ (app : App) (img : Image) (accepted : IsAccepted app) (sound : IsSound 
   taking m fits r picked next None serves served =
       absurd (let above = starts_above app (state_of m) r.number next in
       let none : priority_of app r.number ≡ 0 =
-      ap (λ (o : Option Service). or_zero (option_map (λ s. s.level) o)) serves in omega (arith, above, none))
+      ap (λ (o : Option Service). or_zero (option_map (λ s. s.priority) o)) serves in omega (arith, above, none))
   taking m fits r picked next (Some v) serves served =
-      let level_is : priority_of app r.number ≡ v.level =
-      ap (λ (o : Option Service). or_zero (option_map (λ s. s.level) o)) serves in
-      let most : v.level ≤ 2 ^ app.bits = subst (λ p. p ≤ 2 ^ app.bits) level_is
+      let level_is : priority_of app r.number ≡ v.priority =
+      ap (λ (o : Option Service). or_zero (option_map (λ s. s.priority) o)) serves in
+      let most : v.priority ≤ 2 ^ app.bits = subst (λ p. p ≤ 2 ^ app.bits) level_is
       (priority_top app at few many sound r.number) in
       let has : IsHandler app img at.idle at v =
       find_has (IsHandled app img sound is_image sparing_task sparing_level sparing_timer) _ (services app) v
       (all_handled app img sound is_image sparing_task sparing_level sparing_timer) serves most in
-      let above : level app (jobs_of m.running m.below) < v.level =
-      subst (λ p. level app (jobs_of m.running m.below) < p) level_is
+      let above : system_ceiling app (jobs_of m.running m.below) < v.priority =
+      subst (λ p. system_ceiling app (jobs_of m.running m.below) < p) level_is
       (starts_above app (state_of m) r.number next) in
       let h : row.Handler = handler_row app at v in
       let c : Core = core_of app.bits m in
@@ -190,16 +190,16 @@ module _ (app : App) (img : Image) (accepted : IsAccepted app) (sound : IsSound 
       let before = used_is app img at.idle m fits in
       let zeros : List ℕ = replicate (handler_words app v.handler) 0 in
       let long : length zeros ≡ handler_words app v.handler = length-replicate (handler_words app v.handler) 0 in
-      let fitting : 4 * (used img c + (entry_words img + h.frame)) ≤ img.stack_bytes =
+      let fitting : 4 * (stack_in_use img c + (entry_words img + h.frame)) ≤ img.stack_bytes =
       omega (arith, deep, words, before, long, is_image.tables.stack) in
       let room : has_room img c (entry_words img + h.frame) ≡ true =
-      room_of (used img c) (entry_words img + h.frame) img.stack_bytes fitting in
+      room_of (stack_in_use img c) (entry_words img + h.frame) img.stack_bytes fitting in
       takes app img at.idle at few many (keepers_apart app accepted sound)
       (kept_is_held app accepted sound) r.number v serves has m fits above next
       (steps_by_cause.entry img c r refl picked
-      ∙ ap (λ o. settle (enter img c r.number o)) served
-      ∙ ap (λ b. settle (if b then Done (entered c r.number h)
-      (Some (what.Take r.number (depth img (entered c r.number h)))) else Trapped c trap.Stack)) room)
+      ∙ ap (λ o. settle (exception_entry img c r.number o)) served
+      ∙ ap (λ b. settle (if b then Done (core_after_entry c r.number h)
+      (Some (what.Take r.number (depth img (core_after_entry c r.number h)))) else Trapped c trap.Stack)) room)
 
   -- every core step
   pub step_both : (m : Moment) → Fits app img at.idle m → Queued app m.values → m.time + armings m.values < 2 ^ 31

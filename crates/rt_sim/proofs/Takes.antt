@@ -1,4 +1,4 @@
--- An interrupt is taken: its handler starts as a job above all others, in a frame of its own, with what its level
+-- An interrupt is taken: its handler starts as a job above all others, in a frame of its own, with what its priority
 -- keeps.
 use Rattle.std.proofs.Common.{◌≡◌, ℕ, ◌^◌, ◌<◌, ◌≤◌, ◌||◌, ◌⊎◌, inl, inr, min, Bool, true, false}
 use Rattle.std.proofs.Common.{List, [], ◌∷◌, length, replicate, slice_set, slice_index, Some, None}
@@ -11,7 +11,7 @@ use Rattle.rt_ids.specs.Holder.{Holder, Guarded, Own, is_same_section}
 use Rattle.rt_ids.specs.Content.{Values}
 use Rattle.rt_ids.specs.Entry.{Entry}
 use Rattle.rt_ids.specs.Priority.{hardware}
-use Rattle.rt_ids.specs.Storage.{Runner, AtLevel}
+use Rattle.rt_ids.specs.Storage.{Runner, AtPriority}
 use Rattle.rt_ids.specs.declared.ids.Section.{Section}
 use Rattle.rt_ids.proofs.Hardware.{hardware_falls}
 use Rattle.rt_app.specs.Tree.{App}
@@ -30,12 +30,12 @@ use Rattle.rt_code.proofs.Mine.{one_section}
 use Rattle.rt_core.specs.Core.{depth}
 use Rattle.rt_core.specs.Priority.{base_value, mask_value, running_value}
 use Rattle.rt_core.specs.Stepping.{step}
-use Rattle.rt_core.specs.Transfer.{entered}
+use Rattle.rt_core.specs.Transfer.{core_after_entry}
 use Rattle.rt_trace.specs.declared.item.What.TheVariants as what
-use Rattle.rt_laws.specs.State.{Serving, reached}
+use Rattle.rt_laws.specs.State.{Serving, reached_values}
 use Rattle.rt_laws.specs.Services.{service_at, handler_cost}
-use Rattle.rt_laws.specs.Allowed.{started}
-use Rattle.rt_laws.specs.Level.{candidate, level}
+use Rattle.rt_laws.specs.Allowed.{state_after_start}
+use Rattle.rt_laws.specs.Preemption.{candidate, system_ceiling}
 use Rattle.rt_sim.specs.Inside.Moment.{Part, Moment, spot_of, jobs_of}
 use Rattle.rt_sim.specs.Inside.States.{contexts_of, core_of, state_of}
 use Rattle.rt_sim.specs.Inside.Chains.{base_of, mask_of}
@@ -48,14 +48,14 @@ use Rattle.rt_sim.specs.Inside.Agrees.{StepsBoth}
 use Rattle.rt_sim.proofs.Counting.{fewer_once}
 use Rattle.rt_sim.proofs.Others.{all_clear, others_kept, not_so}
 use Rattle.rt_sim.proofs.Acts.{owns_alike, agrees_reached}
-use Rattle.rt_sim.proofs.Entering.{at_level}
-use Rattle.rt_sim.proofs.Levels.{held_off, masks_are}
+use Rattle.rt_sim.proofs.Entering.{at_threshold}
+use Rattle.rt_sim.proofs.ExecutionPriority.{held_off, masks_are}
 
 -- the job that a handler of an interrupt starts
 abbrev pub handler_part : App → Entries → ℕ → Service → List BodyRow → Values → Part
 handler_part app at irq v rows vs = record {
   role = Serving irq;
-  priority = v.level;
+  priority = v.priority;
   rest = handler_doing app v.handler vs;
   left = handler_cost app v.handler;
   lefts = [];
@@ -80,32 +80,32 @@ module _ (app : App) (img : Image) (thread : ℕ) where
       by true same is later = subst (λ y. NobodyKeeps (storage app) w w y) (one_section h.section x same) all.0.shared
       by false same is later = later is
 
-  -- what a level keeps or reads without a section
+  -- what a priority keeps or reads without a section
   abbrev Keeps : ℕ → Holder → Type 0
-  Keeps q h = (is_kept app (AtLevel q) h || is_constant app (AtLevel q) h) ≡ true
+  Keeps q h = (is_kept app (AtPriority q) h || is_constant app (AtPriority q) h) ≡ true
 
   -- nobody keeps it or reads it so
   abbrev IsKeptByNone : Holder → Type 0
-  IsKeptByNone h = (q : ℕ) → (is_kept app (AtLevel q) h ≡ false) × (is_constant app (AtLevel q) h ≡ false)
+  IsKeptByNone h = (q : ℕ) → (is_kept app (AtPriority q) h ≡ false) × (is_constant app (AtPriority q) h ≡ false)
 
-  reads_so : (q : ℕ) (held : List Held) (h : Holder) → AllByRecursion (IsOpenWell app img thread (AtLevel q)) held
-      → reads (storage app) (AtLevel q) held h ≡ true
+  reads_so : (q : ℕ) (held : List Held) (h : Holder) → AllByRecursion (IsOpenWell app img thread (AtPriority q)) held
+      → reads (storage app) (AtPriority q) held h ≡ true
       → IsKeptByNone h ⊎ Keeps q h
   unfolding storage
   reads_so q held (Guarded x) all is = by (is_open held x) refl is
     where
-      by : (b : Bool) → is_open held x ≡ b → ((b || is_kept app (AtLevel q) (Guarded x)) || is_constant app
-          (AtLevel q) (Guarded x)) ≡ true → IsKeptByNone (Guarded x) ⊎ Keeps q (Guarded x)
-      by true at is = inl (open_well (AtLevel q) held x all at)
+      by : (b : Bool) → is_open held x ≡ b → ((b || is_kept app (AtPriority q) (Guarded x)) || is_constant app
+          (AtPriority q) (Guarded x)) ≡ true → IsKeptByNone (Guarded x) ⊎ Keeps q (Guarded x)
+      by true at is = inl (open_well (AtPriority q) held x all at)
       by false at is = inr is
   reads_so q held (Own n) all is = inr is
 
-  module _ (apart : (p q : ℕ) → ¬ (p ≡ q) → (h : Holder) → is_kept app (AtLevel p) h ≡ true → Keeps q h → ⊥) where
-    -- a new job owns nothing that one of another level reads, and the other way round
-    apart_new : (p q : ℕ) → ¬ (p ≡ q) → (held : List Held) → AllByRecursion (IsOpenWell app img thread (AtLevel q)) held
-        → ((h : Holder) → owns (storage app) (AtLevel p) [] h ≡ true → reads (storage app) (AtLevel q) held h ≡ true
+  module _ (apart : (p q : ℕ) → ¬ (p ≡ q) → (h : Holder) → is_kept app (AtPriority p) h ≡ true → Keeps q h → ⊥) where
+    -- a new job owns nothing that one of another priority reads, and the other way round
+    apart_new : (p q : ℕ) → ¬ (p ≡ q) → (held : List Held) → AllByRecursion (IsOpenWell app img thread (AtPriority q)) held
+        → ((h : Holder) → owns (storage app) (AtPriority p) [] h ≡ true → reads (storage app) (AtPriority q) held h ≡ true
         → ⊥)
-        × ((h : Holder) → owns (storage app) (AtLevel q) held h ≡ true → reads (storage app) (AtLevel p) [] h ≡ true
+        × ((h : Holder) → owns (storage app) (AtPriority q) held h ≡ true → reads (storage app) (AtPriority p) [] h ≡ true
         → ⊥)
     unfolding storage
     apart_new p q differ held all = (
@@ -113,8 +113,8 @@ module _ (app : App) (img : Image) (thread : ℕ) where
         | inl none ↦ true_and_false _ (kept_of p h mine) (none p).0
         | inr keeps ↦ apart p q differ h (kept_of p h mine) keeps
       ],
-      λ h theirs mine. elim (reads_so q held h all (or_left _ (is_constant app (AtLevel q) h) theirs)) [
-        | inl none ↦ elim (or_cases (is_kept app (AtLevel p) h) (is_constant app (AtLevel p) h) (read_of p h mine)) [
+      λ h theirs mine. elim (reads_so q held h all (or_left _ (is_constant app (AtPriority q) h) theirs)) [
+        | inl none ↦ elim (or_cases (is_kept app (AtPriority p) h) (is_constant app (AtPriority p) h) (read_of p h mine)) [
           | inl keeps ↦ true_and_false _ keeps (none p).0
           | inr reads ↦ true_and_false _ reads (none p).1
         ]
@@ -122,39 +122,39 @@ module _ (app : App) (img : Image) (thread : ℕ) where
       ],
     )
       where
-        kept_of : (p : ℕ) (h : Holder) → owns (storage app) (AtLevel p) [] h ≡ true → is_kept app (AtLevel p) h ≡ true
+        kept_of : (p : ℕ) (h : Holder) → owns (storage app) (AtPriority p) [] h ≡ true → is_kept app (AtPriority p) h ≡ true
         kept_of p (Guarded x) is = is
         kept_of p (Own n) is = is
 
-        read_of : (p : ℕ) (h : Holder) → reads (storage app) (AtLevel p) [] h ≡ true
-            → (is_kept app (AtLevel p) h || is_constant app (AtLevel p) h) ≡ true
+        read_of : (p : ℕ) (h : Holder) → reads (storage app) (AtPriority p) [] h ≡ true
+            → (is_kept app (AtPriority p) h || is_constant app (AtPriority p) h) ≡ true
         read_of p (Guarded x) is = is
         read_of p (Own n) is = is
 
-        guarded : (x : Section) (b : Bool) → is_open held x ≡ b → (b || is_kept app (AtLevel q) (Guarded x)) ≡ true
-            → (is_kept app (AtLevel p) (Guarded x) || is_constant app (AtLevel p) (Guarded x)) ≡ true → ⊥
+        guarded : (x : Section) (b : Bool) → is_open held x ≡ b → (b || is_kept app (AtPriority q) (Guarded x)) ≡ true
+            → (is_kept app (AtPriority p) (Guarded x) || is_constant app (AtPriority p) (Guarded x)) ≡ true → ⊥
         guarded x true at theirs mine =
-            let none : IsKeptByNone (Guarded x) = open_well (AtLevel q) held x all at in
-            elim (or_cases (is_kept app (AtLevel p) (Guarded x)) (is_constant app (AtLevel p) (Guarded x)) mine) [
+            let none : IsKeptByNone (Guarded x) = open_well (AtPriority q) held x all at in
+            elim (or_cases (is_kept app (AtPriority p) (Guarded x)) (is_constant app (AtPriority p) (Guarded x)) mine) [
               | inl keeps ↦ true_and_false _ keeps (none p).0
               | inr reads ↦ true_and_false _ reads (none p).1
             ]
         guarded x false at theirs mine = apart q p (λ e. differ (sym e)) (Guarded x) theirs mine
 
-        owned_so : (h : Holder) → owns (storage app) (AtLevel q) held h ≡ true
-            → reads (storage app) (AtLevel p) [] h ≡ true → ⊥
+        owned_so : (h : Holder) → owns (storage app) (AtPriority q) held h ≡ true
+            → reads (storage app) (AtPriority p) [] h ≡ true → ⊥
         owned_so (Guarded x) theirs mine = guarded x (is_open held x) refl theirs mine
         owned_so (Own n) theirs mine = apart q p (λ e. differ (sym e)) (Own n) theirs mine
 
     apart_one : (top : ℕ) (o : Part) (cells : List ℕ) (queues : Holder → List Entry) (values : Values)
-        → who o ≡ AtLevel o.priority → o.priority < top
+        → who o ≡ AtPriority o.priority → o.priority < top
         → PartFits app img thread cells queues values o
-        → ((h : Holder) → owns (storage app) (AtLevel top) [] h ≡ true → Reads app img thread o h ≡ true → ⊥)
-        × ((h : Holder) → Owns app img thread o h ≡ true → reads (storage app) (AtLevel top) [] h ≡ true → ⊥)
+        → ((h : Holder) → owns (storage app) (AtPriority top) [] h ≡ true → Reads app img thread o h ≡ true → ⊥)
+        × ((h : Holder) → Owns app img thread o h ≡ true → reads (storage app) (AtPriority top) [] h ≡ true → ⊥)
     apart_one top o cells queues values runner less fits =
-        subst (λ w. ((h : Holder) → owns (storage app) (AtLevel top) [] h ≡ true
+        subst (λ w. ((h : Holder) → owns (storage app) (AtPriority top) [] h ≡ true
         → reads (storage app) w o.held h ≡ true → ⊥)
-        × ((h : Holder) → owns (storage app) w o.held h ≡ true → reads (storage app) (AtLevel top) [] h ≡ true → ⊥))
+        × ((h : Holder) → owns (storage app) w o.held h ≡ true → reads (storage app) (AtPriority top) [] h ≡ true → ⊥))
         (sym runner)
         (apart_new top o.priority (λ e. omega (arith, e, less)) o.held
         (subst (λ w. AllByRecursion (IsOpenWell app img thread w) o.held) runner fits.opened))
@@ -162,23 +162,23 @@ module _ (app : App) (img : Image) (thread : ℕ) where
     -- from every job of a stack that it is above
     pub apart_all : (at : Entries) (irq : ℕ) (v : Service) (rows : List BodyRow) (vs : Values) (p : Part)
         (ps : List Part) (cells : List ℕ) (queues : Holder → List Entry) (values : Values)
-        → v.level ≤ 2 ^ app.bits → level app (jobs_of p ps) < v.level → IsStacked app img thread p ps
+        → v.priority ≤ 2 ^ app.bits → system_ceiling app (jobs_of p ps) < v.priority → IsStacked app img thread p ps
         → AllByRecursion (PartFits app img thread cells queues values) (p ∷ ps)
         → AllByRecursion (AreApart app img thread (handler_part app at irq v rows vs)) (p ∷ ps)
     apart_all at irq v rows vs p [] cells queues values most above is fits = (
-      apart_one v.level p cells queues values (at_level app img thread p [] v.level most above is)
+      apart_one v.priority p cells queues values (at_threshold app img thread p [] v.priority most above is)
           (omega (arith, above)) fits.0,
       tt,
     )
     apart_all at irq v rows vs p (q ∷ ps) cells queues values most above is fits = (
-      apart_one v.level p cells queues values (at_level app img thread p (q ∷ ps) v.level most above is)
+      apart_one v.priority p cells queues values (at_threshold app img thread p (q ∷ ps) v.priority most above is)
           (omega (arith, above)) fits.0,
       apart_all at irq v rows vs q ps cells queues values most (omega (arith, above)) is.1 fits.1,
     )
 
   -- where an interrupt can be taken, PRIMASK is not set
   pub unmasked : (few : 3 ≤ app.bits) (many : app.bits ≤ 7) (m : Moment) → Fits app img thread m → (top : ℕ)
-      → top ≤ 2 ^ app.bits → level app (jobs_of m.running m.below) < top
+      → top ≤ 2 ^ app.bits → system_ceiling app (jobs_of m.running m.below) < top
       → mask_of app m.running m.below ≡ false
   unfolding held_off
   unmasked few many m fits top most above =
@@ -188,30 +188,30 @@ module _ (app : App) (img : Image) (thread : ℕ) where
     where
       go : (b : Bool) → min (running_value (contexts_of app.bits m.running m.below))
           (min (base_value (base_of app m.running m.below)) (mask_value b))
-          ≡ hardware app.bits (level app (jobs_of m.running m.below)) → b ≡ false
-      go true is = absurd (let less = hardware_falls app.bits (level app
+          ≡ hardware app.bits (system_ceiling app (jobs_of m.running m.below)) → b ≡ false
+      go true is = absurd (let less = hardware_falls app.bits (system_ceiling app
           (jobs_of m.running m.below)) top few many above most in omega (arith, is, less))
       go false is = refl
 
 -- what there is of a handler that an image has: its code, and the rows of bodies that it calls by
 pub record IsHandler (app : App) (img : Image) (thread : ℕ) (at : Entries) (v : Service) : Type 0 where
   pub rows : List BodyRow
-  pub most : v.level ≤ 2 ^ app.bits
-  pub code : StandsFrom (storage app) img.code rows thread (AtLevel v.level) (length (memory app))
+  pub most : v.priority ≤ 2 ^ app.bits
+  pub code : StandsFrom (storage app) img.code rows thread (AtPriority v.priority) (length (memory app))
       (handler_words app v.handler) (entry_of at v.handler) (handler_cost app v.handler) (handler_doing app v.handler)
-  pub sparing : SparesAlways app (AtLevel v.level) true [] (handler_doing app v.handler)
-  pub calls : (irq : ℕ) → CallsWithin app img (Serving irq) v.level (handler_words app v.handler) rows
-  pub handled : has_handler app v.level ≡ true
-  pub words : handler_words app v.handler ≤ need app v.level
+  pub sparing : SparesAlways app (AtPriority v.priority) true [] (handler_doing app v.handler)
+  pub calls : (irq : ℕ) → CallsWithin app img (Serving irq) v.priority (handler_words app v.handler) rows
+  pub handled : has_handler app v.priority ≡ true
+  pub words : handler_words app v.handler ≤ need app v.priority
 
 module _ (app : App) (img : Image) (thread : ℕ) (at : Entries) (few : 3 ≤ app.bits) (many : app.bits ≤ 7)
-    (apart : (p q : ℕ) → ¬ (p ≡ q) → (h : Holder) → is_kept app (AtLevel p) h ≡ true
-    → (is_kept app (AtLevel q) h || is_constant app (AtLevel q) h) ≡ true → ⊥)
-    (held_there : (p : ℕ) (h : Holder) → (is_kept app (AtLevel p) h || is_constant app (AtLevel p) h) ≡ true
+    (apart : (p q : ℕ) → ¬ (p ≡ q) → (h : Holder) → is_kept app (AtPriority p) h ≡ true
+    → (is_kept app (AtPriority q) h || is_constant app (AtPriority q) h) ≡ true → ⊥)
+    (held_there : (p : ℕ) (h : Holder) → (is_kept app (AtPriority p) h || is_constant app (AtPriority p) h) ≡ true
     → IsHeld app h)
     (irq : ℕ) (v : Service) (serves : service_at app irq ≡ Some v) (has : IsHandler app img thread at v) where
   module _ (m : Moment) (fits : Fits app img thread m)
-      (above : level app (jobs_of m.running m.below) < v.level) where
+      (above : system_ceiling app (jobs_of m.running m.below) < v.priority) where
     abbrev Taken : Part
     Taken = handler_part app at irq v has.rows m.values
 
@@ -220,36 +220,36 @@ module _ (app : App) (img : Image) (thread : ℕ) (at : Entries) (few : 3 ≤ ap
       running = handler_part app at irq v has.rows m.values;
       below = m.running ∷ m.below;
       pending = slice_set m.pending irq false;
-      values = reached (handler_doing app v.handler m.values) m.values;
+      values = reached_values (handler_doing app v.handler m.values) m.values;
     }
 
     is_apart : AllByRecursion (AreApart app img thread Taken) (m.running ∷ m.below)
     is_apart = apart_all app img thread apart at irq v has.rows m.values m.running m.below m.cells m.queues m.values
         has.most above fits.stack fits.parts
 
-    none_owns : (h : Holder) → reads (storage app) (AtLevel v.level) [] h ≡ true → (ps : List Part)
+    none_owns : (h : Holder) → reads (storage app) (AtPriority v.priority) [] h ≡ true → (ps : List Part)
         → AllByRecursion (AreApart app img thread Taken) ps
         → AllByRecursion (λ o. Owns app img thread o h ≡ false) ps
     none_owns h read [] all = tt
     none_owns h read (o ∷ ps) all = (not_so _ (λ owned. all.0.1 h owned read), none_owns h read ps all.1)
 
-    -- what its level keeps or reads is spelled
-    kept_spelled : (h : Holder) → ((storage app).is_kept (AtLevel v.level) h || (storage app).is_constant
-        (AtLevel v.level) h) ≡ true
+    -- what its priority keeps or reads is spelled
+    kept_spelled : (h : Holder) → ((storage app).is_kept (AtPriority v.priority) h || (storage app).is_constant
+        (AtPriority v.priority) h) ≡ true
         → (storage app).Spells h (slice_index m.cells) (m.queues h) (m.values h)
     unfolding storage
-    kept_spelled h reads_it = fits.spelled h (held_there v.level h reads_it)
+    kept_spelled h reads_it = fits.spelled h (held_there v.priority h reads_it)
         (none_owns h (reads_of h reads_it) (m.running ∷ m.below) is_apart)
       where
-        reads_of : (h : Holder) → (is_kept app (AtLevel v.level) h || is_constant app
-            (AtLevel v.level) h) ≡ true → reads (storage app) (AtLevel v.level) [] h ≡ true
+        reads_of : (h : Holder) → (is_kept app (AtPriority v.priority) h || is_constant app
+            (AtPriority v.priority) h) ≡ true → reads (storage app) (AtPriority v.priority) [] h ≡ true
         reads_of (Guarded x) is = is
         reads_of (Own n) is = is
 
     long : length {A = ℕ} (replicate (handler_words app v.handler) 0) ≡ handler_words app v.handler
     long = length-replicate (handler_words app v.handler) 0
 
-    stands : Stands (storage app) img.code has.rows thread (AtLevel v.level) (handler_cost app v.handler)
+    stands : Stands (storage app) img.code has.rows thread (AtPriority v.priority) (handler_cost app v.handler)
         (spot_of m.cells m.queues Taken)
     stands = has.code (replicate (handler_words app v.handler) 0) m.cells m.queues m.values long fits.memory
         kept_spelled
@@ -263,7 +263,7 @@ module _ (app : App) (img : Image) (thread : ℕ) (at : Entries) (few : 3 ≤ ap
           above = above;
           most = has.most;
           apart = is_apart;
-          unmasked = unmasked app img thread few many m fits v.level has.most above;
+          unmasked = unmasked app img thread few many m fits v.priority has.most above;
           handled = has.handled;
           frame = omega (arith, long, has.words);
           saves = tt;
@@ -273,7 +273,7 @@ module _ (app : App) (img : Image) (thread : ℕ) (at : Entries) (few : 3 ≤ ap
       parts = (
         record {
           stands = stands;
-          agrees = agrees_reached app img thread (AtLevel v.level) [] (handler_doing app v.handler m.values) m.values;
+          agrees = agrees_reached app img thread (AtPriority v.priority) [] (handler_doing app v.handler m.values) m.values;
           counted = refl;
           sparing = (has.sparing m.values).1;
           opened = tt;
@@ -283,17 +283,17 @@ module _ (app : App) (img : Image) (thread : ℕ) (at : Entries) (few : 3 ≤ ap
           own = long;
         },
         others_kept app img thread Taken Taken m.cells m.cells m.queues m.queues m.values
-            (reached (handler_doing app v.handler m.values) m.values) (m.running ∷ m.below)
+            (reached_values (handler_doing app v.handler m.values) m.values) (m.running ∷ m.below)
             is_apart is_apart
             (all_clear app img thread m.queues Taken (m.running ∷ m.below)
             (fewer_once m.queues (hands (m.running ∷ m.below)) (hands (Taken ∷ m.running ∷ m.below))
             (λ e. omega arith) fits.once))
             refl (λ cell. inl refl) (λ h away. refl)
-            (λ h away. (has.sparing m.values).0 h (owns_alike app (AtLevel v.level) true [] h ∙ away)) fits.parts,
+            (λ h away. (has.sparing m.values).0 h (owns_alike app (AtPriority v.priority) true [] h ∙ away)) fits.parts,
       );
       spelled = λ h held away.
           subst (λ content. (storage app).Spells h (slice_index m.cells) (m.queues h) content)
-          (sym ((has.sparing m.values).0 h (owns_alike app (AtLevel v.level) true [] h ∙ away.0)))
+          (sym ((has.sparing m.values).0 h (owns_alike app (AtPriority v.priority) true [] h ∙ away.0)))
           (fits.spelled h held away.1);
       basepri = fits.basepri;
       primask = fits.primask;
@@ -306,19 +306,19 @@ module _ (app : App) (img : Image) (thread : ℕ) (at : Entries) (few : 3 ≤ ap
 
     pub takes : candidate app (state_of m) ≡ Some irq
         → step img (core_of app.bits m) ≡ (
-          entered (core_of app.bits m) irq (handler_row app at v),
-          Some (what.Take irq (depth img (entered (core_of app.bits m) irq (handler_row app at v)))),
+          core_after_entry (core_of app.bits m) irq (handler_row app at v),
+          Some (what.Take irq (depth img (core_after_entry (core_of app.bits m) irq (handler_row app at v)))),
         )
         → StepsBoth app img thread (core_of app.bits m) (state_of m)
     takes next is = record {
-      core = entered (core_of app.bits m) irq (handler_row app at v);
-      shown = Some (what.Take irq (depth img (entered (core_of app.bits m) irq (handler_row app at v))));
+      core = core_after_entry (core_of app.bits m) irq (handler_row app at v);
+      shown = Some (what.Take irq (depth img (core_after_entry (core_of app.bits m) irq (handler_row app at v))));
       is = is;
       may = (refl, next);
       agrees = record {
         moment = taken;
         core = refl;
-        state = ap (λ o. started app (record (state_of m) { pending = slice_set m.pending irq false }) irq o) serves;
+        state = ap (λ o. state_after_start app (record (state_of m) { pending = slice_set m.pending irq false }) irq o) serves;
         fits = fits_taken;
       };
     }

@@ -17,7 +17,7 @@ use Rattle.rt_code.specs.Image.{Image}
 use Rattle.rt_code.specs.Standing.{Stands}
 use Rattle.rt_core.specs.declared.alarm.Alarm.{Alarm}
 use Rattle.rt_core.specs.Core.{Core, reset}
-use Rattle.rt_core.specs.Transfer.{pended}
+use Rattle.rt_core.specs.Transfer.{core_after_pend}
 use Rattle.rt_core.specs.Trace.{ring, tick, happen, labels, core_after}
 use Rattle.rt_laws.specs.State.{Role, Init, Idle, Waiting, Serving, State, first}
 use Rattle.rt_laws.specs.Allowed.{HasStep, after}
@@ -34,7 +34,7 @@ use Rattle.rt_sim.proofs.Good.{front_short, front_declared, reached_by}
 -- what a tick shows behind it
 rings : (c : Core) (o : Option Alarm) → ((ring c o).1 ≡ []) ⊎ ((ring c o).1 ≡ Rang ∷ [])
 rings c None = inl refl
-rings c (Some alarm) = either (nat_le alarm.instant c.time) (record (pended c alarm.irq) { alarm = None }, Rang ∷ []) (c, []) refl refl
+rings c (Some alarm) = either (nat_le alarm.instant c.time) (record (core_after_pend c alarm.irq) { alarm = None }, Rang ∷ []) (c, []) refl refl
   where
     either : (b : Bool) (x y : Core × List Label) → x.1 ≡ Rang ∷ [] → y.1 ≡ []
         → ((if◌then◌else◌ {A = Core × List Label} b x y).1 ≡ []) ⊎ ((if◌then◌else◌ {A = Core × List Label} b x y).1 ≡ Rang ∷ [])

@@ -7,7 +7,7 @@ use Rattle.rt_lemmas.proofs.Membership.{all_weaker}
 use Rattle.rt_ids.specs.Content.{Values, delays}
 use Rattle.rt_ids.specs.Holder.{Holder, Guarded}
 use Rattle.rt_ids.specs.Lists.{is_some_and}
-use Rattle.rt_ids.specs.Storage.{Starting, AtLevel}
+use Rattle.rt_ids.specs.Storage.{Starting, AtPriority}
 use Rattle.rt_ids.specs.Action.{Clocks, Returns, Ends}
 use Rattle.rt_ids.specs.declared.ids.BodyId.TheVariants as body
 use Rattle.rt_ids.specs.declared.ids.Section.TheVariants as section
@@ -23,7 +23,7 @@ use Rattle.rt_code.specs.Image.{Image}
 use Rattle.rt_code.specs.Effect.{effect}
 use Rattle.rt_code.specs.Owning.{Spot, MayAccess}
 use Rattle.rt_code.specs.Processor.{Processor, Effect, Traps, Leads}
-use Rattle.rt_code.specs.Standing.{Stands, HaveLeft, Finishes, moved, passed}
+use Rattle.rt_code.specs.Standing.{Stands, HaveLeft, Finishes, spot_behind, spot_after_step}
 use Rattle.rt_code.specs.declared.image.BodyRow.{BodyRow}
 use Rattle.rt_code.specs.declared.instr.Instr.{Instr}
 use Rattle.rt_code.specs.declared.instr.Note.{Note}
@@ -34,15 +34,15 @@ use Rattle.rt_code.proofs.StandingLaws.{standing_laws}
 use Rattle.rt_core.specs.Access.{access}
 use Rattle.rt_core.specs.Core.{Context}
 use Rattle.rt_gen_body.proofs.Stored.{stored}
-use Rattle.rt_core.specs.Masks.{closed}
-use Rattle.rt_core.specs.Leading.{GoesPlainly, with_processor, at_address, served, in_context, item_of}
+use Rattle.rt_core.specs.Masks.{processor_after_closing}
+use Rattle.rt_core.specs.Leading.{GoesPlainly, with_processor, at_address, core_serving, in_context, item_of}
 use Rattle.rt_core.specs.Priority.{pick}
 use Rattle.rt_core.specs.Standing.{StepsBy, BySilence, ByNote, ByEmit, ByPost, ByClock, ByAlarm, ByNoAlarm, ByEnter}
 use Rattle.rt_core.specs.Standing.{ByLeave, ByCall, ByBack, ByEndOfInit, ByEndOfIdle, ByReturn}
 use Rattle.rt_core.specs.Stepping.{step}
 use Rattle.rt_core.proofs.Standing.{standing_leads}
 use Rattle.rt_trace.specs.declared.item.What.TheVariants as what
-use Rattle.rt_laws.specs.Level.{candidate}
+use Rattle.rt_laws.specs.Preemption.{candidate}
 use Rattle.rt_laws.proofs.Armings.{armings}
 use Rattle.rt_laws.proofs.Fine.{IsTimedOne, Queued}
 use Rattle.rt_sim.specs.Inside.Moment.{Part, Moment, runner_of, spot_of}
@@ -73,9 +73,9 @@ module _ (app : App) (img : Image) (thread : ℕ) (many : app.bits ≤ 7) (fpu :
     (sized : img.stack_bytes ≡ stack_bytes app)
     (named : (r : ℕ) → r < length app.shared → resource_cell img r ≡ Some r)
     (idle : (bodies : List BodyRow) → IdleStands app img.code bodies thread app.idle)
-    (held_there : (p : ℕ) (h : Holder) → (is_kept app (AtLevel p) h || is_constant app (AtLevel p) h) ≡ true
+    (held_there : (p : ℕ) (h : Holder) → (is_kept app (AtPriority p) h || is_constant app (AtPriority p) h) ≡ true
     → IsHeld app h)
-    (sparing : SparesAlways app (AtLevel 0) false [] (idle_doing app)) where
+    (sparing : SparesAlways app (AtPriority 0) false [] (idle_doing app)) where
   no_steps : (m : Moment) → Stands (storage app) img.code m.running.rows thread (who m.running) zero
       (spot_of m.cells m.queues m.running) → ⊥
   unfolding Stands
@@ -96,13 +96,13 @@ module _ (app : App) (img : Image) (thread : ℕ) (many : app.bits ≤ 7) (fpu :
     by_note : (p : Processor) → GoesPlainly (spot_of m.cells m.queues m.running) (core_of app.bits m).processor p
         → (told : Note)
         → (noted : Noted (storage app) m.running.rows (who m.running) told
-        (moved (passed (spot_of m.cells m.queues m.running)) p)
+        (spot_behind (spot_after_step (spot_of m.cells m.queues m.running)) p)
         (λ t. Stands (storage app) img.code m.running.rows thread (who m.running) n t))
         → step img (core_of app.bits m) ≡ (
           with_processor (core_of app.bits m) p,
           Some (item_of (storage app) m.running.rows (who m.running)
               (λ t. Stands (storage app) img.code m.running.rows thread (who m.running) n t) told
-              (moved (passed (spot_of m.cells m.queues m.running)) p) noted),
+              (spot_behind (spot_after_step (spot_of m.cells m.queues m.running)) p) noted),
         ) → Both
     by_note p plain (note.Placed t) noted gives =
         takes_place app img thread m fits works n none left may p plain t gives noted
@@ -128,20 +128,20 @@ module _ (app : App) (img : Image) (thread : ℕ) (many : app.bits ≤ 7) (fpu :
 
     -- the ends of the thread's bodies: it is alone then
     of_init : who m.running ≡ Starting → Finishes (storage app) img.code m.running.rows thread (who m.running)
-        (Ends body.Init) (passed (spot_of m.cells m.queues m.running))
+        (Ends body.Init) (spot_after_step (spot_of m.cells m.queues m.running))
         → (ps : List Part) → Fits app img thread (record m { below = ps })
         → candidate app (state_of (record m { below = ps })) ≡ None
         → step img (core_of app.bits (record m { below = ps })) ≡
-        (served (core_of app.bits (record m { below = ps })) thread, Some (what.End body.Init))
+        (core_serving (core_of app.bits (record m { below = ps })) thread, Some (what.End body.Init))
         → StepsBoth app img thread (core_of app.bits (record m { below = ps })) (state_of (record m { below = ps }))
     of_init starts ends [] fit quiet gives =
         ends_init app img thread idle held_there sparing m fit works quiet left ends gives
     of_init starts ends (q ∷ ps) fit quiet gives =
-        absurd (let one : AtLevel m.running.priority ≡ Starting =
+        absurd (let one : AtPriority m.running.priority ≡ Starting =
         sym (ap (λ r. runner_of r m.running.priority) fit.stack.0.serves) ∙ starts in cc (one))
 
-    of_idle : who m.running ≡ AtLevel 0 → Finishes (storage app) img.code m.running.rows thread (who m.running)
-        (Ends body.Idle) (passed (spot_of m.cells m.queues m.running))
+    of_idle : who m.running ≡ AtPriority 0 → Finishes (storage app) img.code m.running.rows thread (who m.running)
+        (Ends body.Idle) (spot_after_step (spot_of m.cells m.queues m.running))
         → (ps : List Part) → Fits app img thread (record m { below = ps })
         → candidate app (state_of (record m { below = ps })) ≡ None
         → step img (core_of app.bits (record m { below = ps })) ≡
@@ -150,13 +150,13 @@ module _ (app : App) (img : Image) (thread : ℕ) (many : app.bits ≤ 7) (fpu :
     of_idle low ends [] fit quiet gives =
         ends_idle app img thread idle held_there sparing m fit works quiet left low ends gives
     of_idle low ends (q ∷ ps) fit quiet gives = absurd (
-        let one : AtLevel m.running.priority ≡ AtLevel 0 =
+        let one : AtPriority m.running.priority ≡ AtPriority 0 =
         sym (ap (λ r. runner_of r m.running.priority) fit.stack.0.serves) ∙ low in
         let zero_is : m.running.priority ≡ 0 = cc (one) in
         omega (arith, zero_is, fit.stack.0.above))
 
     of_return : Finishes (storage app) img.code m.running.rows thread (who m.running) Returns
-        (passed (spot_of m.cells m.queues m.running))
+        (spot_after_step (spot_of m.cells m.queues m.running))
         → (ps : List Part) → Fits app img thread (record m { below = ps })
         → candidate app (state_of (record m { below = ps })) ≡ None
         → ((x : Context) (others : List Context) → (core_of app.bits (record m { below = ps })).below ≡ x ∷ others
@@ -198,7 +198,7 @@ module _ (app : App) (img : Image) (thread : ℕ) (many : app.bits ≤ 7) (fpu :
         (λ fit quiet. leaves_at app img thread named m x comes.kind comes.outer fit works n quiet left comes.values
         comes.follows comes.is comes.spelled comes.on
         (λ can. sym same ∙ gives can ∙ ap (λ v. (
-          with_processor (core_of app.bits m) (closed (core_of app.bits m).processor comes.kind),
+          with_processor (core_of app.bits m) (processor_after_closing (core_of app.bits m).processor comes.kind),
           Some (what.Leave x v),
         )) (left_alike img m.running.rows fits.parts.0.calls.arguments (core_of app.bits m) x))) fits none
     by same (ByCall row from calls gives) =

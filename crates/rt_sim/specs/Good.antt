@@ -6,7 +6,7 @@ use Rattle.std.specs.Prelude.{◌≡◌, ℕ, ◌^◌, ◌<◌, ◌≤◌, true,
 use Rattle.std.specs.List.{AllByRecursion}
 use Rattle.rt_ids.specs.Event.{Event, Arrive, steps}
 use Rattle.rt_trace.specs.Label.{IsNoTrap}
-use Rattle.rt_trace.specs.Shown.{shown}
+use Rattle.rt_trace.specs.Shown.{shown_events}
 use Rattle.rt_app.specs.Tree.{App}
 use Rattle.rt_app.specs.Accepted.{IsAccepted}
 use Rattle.rt_app.specs.Stack.{stack_bytes}
@@ -30,7 +30,7 @@ AreDeclared app (e ∷ events) = AreDeclared app events
 pub record RunsWell (app : App) (img : Image) (events : List Event) : Type 0 where
   -- the trace is a run of Baker's machine, and shows exactly these events
   pub runs : Run app (trace img events) (steps events)
-  pub shows : shown 0 (trace img events) (steps events) ≡ events
+  pub shows : shown_events 0 (trace img events) (steps events) ≡ events
   -- sections are exclusive, no job finds one taken, and none waits for more than one section of one lower job
   pub laws : KeepsLaws app (labels img (reset img) events)
   -- At every moment: a message finds no place exactly where the capacity is out, and places are where they are counted;

@@ -14,7 +14,7 @@ use Rattle.rt_code.specs.Image.{Image}
 use Rattle.rt_core.specs.Access.{access}
 use Rattle.rt_core.specs.Core.{reset}
 use Rattle.rt_core.specs.Trace.{core_after, labels}
-use Rattle.rt_laws.specs.Sight.{Seen, IsInside, first_sight, sees_all}
+use Rattle.rt_laws.specs.Observer.{Seen, IsInside, first_sight, sees_all}
 
 -- some body lists the resource as `&name`
 abbrev pub is_read_alone : App → ℕ → Bool

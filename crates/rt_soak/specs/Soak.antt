@@ -19,12 +19,12 @@ irqs_of app = map (λ d. d.number) app.irqs
 
 -- what the run of a number shows: the trace of the image, from reset, under the script that is generated from the
 -- number of the soak, with the run's own as its stream
-abbrev pub shown_by : Image → List ℕ → ℕ → ℕ → List Item
-shown_by image irqs number run = trace image (events (generated irqs number run))
+abbrev pub items_of_run : Image → List ℕ → ℕ → ℕ → List Item
+items_of_run image irqs number run = trace image (events (generated irqs number run))
 
 -- what so many runs of an image show, one after another, counted
-abbrev pub soaked : Image → List ℕ → ℕ → ℕ → Summary
-soaked image irqs number count = summary_of count (flat_map (shown_by image irqs number) (numbers_below count))
+abbrev pub soak_summary : Image → List ℕ → ℕ → ℕ → Summary
+soak_summary image irqs number count = summary_of count (flat_map (items_of_run image irqs number) (numbers_below count))
 
 -- There is a good image of the application, the same for all runs, whose runs count up to this.
 pub record IsSoak (app : App) (number count : ℕ) (s : Summary) : Type 0 where
@@ -32,4 +32,4 @@ pub record IsSoak (app : App) (number count : ℕ) (s : Summary) : Type 0 where
   pub of_application : IsImageOf app image
   pub runnable : IsRunnable image
   pub good : Good app image
-  pub counted : s ≡ soaked image (irqs_of app) number count
+  pub counted : s ≡ soak_summary image (irqs_of app) number count

@@ -1,7 +1,7 @@
 ghost use Rattle.std.specs.Prelude.{◌≡◌, ◌+◌, ◌<◌, ◌≤◌, ◌^◌, [], length, flat_map, IfOk};
 ghost use Rattle.std.specs.List.{AllByRecursion};
 ghost use Rattle.rt_count.specs.Summary.{summary_of};
-ghost use Rattle.rt_soak.specs.Inside.Totals.{IsSmall, IsBounded, IsThere, AreFew, runs_in, totalled};
+ghost use Rattle.rt_soak.specs.Inside.Totals.{IsSmall, IsBounded, IsThere, AreFew, runs_in, summary_with_runs};
 
 use rt_count::Summary;
 use rt_ids::NoMemory;
@@ -18,7 +18,7 @@ fn add_runs(summary: &mut Summary, runs: &[Run])
     requires bounded { IsBounded summary.old }
     requires room { summary.old.runs + length runs.now < 2 ^ 32 }
     requires small { AllByRecursion IsSmall runs.now }
-    ensures total { summary.new ≡ totalled summary.old runs.now }
+    ensures total { summary.new ≡ summary_with_runs summary.old runs.now }
     ensures bounded { IsBounded summary.new }
     ensures runs { summary.new.runs ≡ summary.old.runs + length runs.now }
 {
@@ -32,7 +32,7 @@ pub(crate) fn total(parts: &[Result<Vec<Run>, NoMemory>]) -> Result<Summary, NoM
     requires few { length parts.now ≤ 64 }
     requires each { AllByRecursion AreFew parts.now }
     ensures there { IfOk result (λ s. AllByRecursion IsThere parts.now) }
-    ensures total { IfOk result (λ s. s ≡ totalled (summary_of 0 []) (flat_map runs_in parts.now)) }
+    ensures total { IfOk result (λ s. s ≡ summary_with_runs (summary_of 0 []) (flat_map runs_in parts.now)) }
 {
     let mut summary = Summary::of_silent_runs(0);
     for part in parts {

@@ -16,25 +16,25 @@ abbrev pub empty : ℕ → Region
 empty size = record { words = []; size = size }
 
 -- how many words are in use
-abbrev pub used : Region → ℕ
-used r = length r.words
+abbrev pub used_words : Region → ℕ
+used_words r = length r.words
 
 -- so many words more have room in a region
 abbrev pub Fits : Region → ℕ → Type 0
-Fits r n = used r + n ≤ r.size
+Fits r n = used_words r + n ≤ r.size
 
 -- the last so many words of a region
 abbrev pub top : Region → ℕ → List ℕ
-top r n = drop (used r - n) r.words
+top r n = drop (used_words r - n) r.words
 
 -- all words of a region but the last so many
 abbrev pub below : Region → ℕ → List ℕ
-below r n = take (used r - n) r.words
+below r n = take (used_words r - n) r.words
 
 -- a region with so many words more, each 0
-abbrev pub pushed : Region → ℕ → Region
-pushed r n = record r { words = r.words ++ replicate n 0 }
+abbrev pub region_after_push : Region → ℕ → Region
+region_after_push r n = record r { words = r.words ++ replicate n 0 }
 
 -- a region with so many words less
-abbrev pub popped : Region → ℕ → Region
-popped r n = record r { words = below r n }
+abbrev pub region_after_pop : Region → ℕ → Region
+region_after_pop r n = record r { words = below r n }

@@ -44,7 +44,7 @@ impl Region {
 
     /// How many words are in use.
     pub fn used(&self) -> u32
-        ensures words { result ≡ region.used self.now }
+        ensures words { result ≡ region.used_words self.now }
         ensures within { result ≤ self.now.size }
         ensures few { self.now.size < 2 ^ 30 }
     {
@@ -61,7 +61,7 @@ impl Region {
     /// Takes so many words more into use, each 0.
     pub fn push(&mut self, words: u32)
         requires { Fits self.old words }
-        ensures { self.new ≡ region.pushed self.old words }
+        ensures { self.new ≡ region.region_after_push self.old words }
     {
         let used = self.words.len() + words as usize;
         match self.words.resize(used, 0) {
@@ -72,15 +72,15 @@ impl Region {
 
     /// Takes the last so many words out of use.
     pub fn pop(&mut self, words: u32)
-        requires { words ≤ region.used self.old }
-        ensures { self.new ≡ region.popped self.old words }
+        requires { words ≤ region.used_words self.old }
+        ensures { self.new ≡ region.region_after_pop self.old words }
     {
         self.words.truncate(self.words.len() - words as usize);
     }
 
     /// Lends the last so many words to be written.
     pub fn top(&mut self, words: u32) -> &mut [u32]
-        requires { words ≤ region.used self.old }
+        requires { words ≤ region.used_words self.old }
         ensures value { result.now ≡ region.top self.old words }
         ensures len { length result.now ≡ words }
 
@@ -95,7 +95,7 @@ impl Region {
 
     /// Lends the last so many words to be read.
     pub fn top_ref(&self, words: u32) -> &[u32]
-        requires { words ≤ region.used self.now }
+        requires { words ≤ region.used_words self.now }
         ensures value { result.now ≡ region.top self.now words }
         ensures len { length result.now ≡ words }
     {

@@ -14,7 +14,7 @@ use Rattle.rt_baker.specs.Audit.{IsVerdict}
 use Rattle.rt_baker.specs.Judge.{HasJudged, MayTake}
 use Rattle.rt_baker.specs.declared.judge.Judge.{Judge}
 use Rattle.rt_baker.specs.declared.verdict.Verdict.{Verdict}
-use Rattle.rt_moves.specs.declared.machine.Machine.{Machine}
+use Rattle.rt_baker_moves.specs.declared.machine.Machine.{Machine}
 use Rattle.rt_trace.specs.Reader.{HasRead, ReadsMore, RefusesEnd, RefusesLine, RefusesMore}
 use Rattle.rt_trace.specs.Reading.{IsRefused, IsTraceText, IsWrongBehind}
 use Rattle.rt_trace.specs.Trace.{Trace}

@@ -27,7 +27,7 @@ use Rattle.rt_top.specs.Outputs as outputs
 use Rattle.rt_top.specs.Defined.{Inputs, inputs, RefusesFirst, RefusesSecond, Defined, refused, faulty, output, IsTold, IsFirstRefused, IsSecondRefused, AreTold, AreReadTold}
 use Rattle.rt_top.specs.Inside.Replies.{Replies, AnswersAudit, AnswersTimes, run_text}
 use Rattle.rt_top.specs.Inside.Started.{HasScript, IsStarted, AnswersRefusal, ShowsLive}
-use Rattle.rt_top.specs.Inside.Meant.{meant}
+use Rattle.rt_top.specs.Inside.Meant.{command_word}
 use Rattle.rt_top.specs.Inside.Replies as replies
 use Rattle.rt_top.specs.Inside.Decides.{Tells, Stops, Halts, Lists, IsPast, is_done, is_text, is_no, AnswersTrace, IsDecided, HasFailed, Decides}
 use Rattle.rt_top.specs.Inside.Decides.{Concludes}
@@ -373,21 +373,21 @@ two_kept c t kept two keeps (inr r) = keeps r
 
 -- a command ends as one that equals it
 pub concludes_as : (c k : code.Command) → c ≡ k → (t : Inputs) (first second : Type 0) (before after : Option (List ℕ))
-    (fb fa : ℕ) (result : Status) → Concludes (meant k) t first second before after fb fa result
-    → Concludes (meant c) t first second before after fb fa result
+    (fb fa : ℕ) (result : Status) → Concludes (command_word k) t first second before after fb fa result
+    → Concludes (command_word c) t first second before after fb fa result
 concludes_as c k same t first second before after fb fa result d =
-    subst (λ x. Concludes (meant x) t first second before after fb fa result) (sym same) d
+    subst (λ x. Concludes (command_word x) t first second before after fb fa result) (sym same) d
 
-pub kept_as : (c k : code.Command) → c ≡ k → (t : Inputs) (kept : Type 0) → ((reads (meant k) ≤ 1) ⊎ IsFirstRefused (meant k) t → kept) → (reads (meant c) ≤ 1) ⊎ IsFirstRefused (meant c) t → kept
-kept_as c k same t kept keeps = subst (λ x. (reads (meant x) ≤ 1) ⊎ IsFirstRefused (meant x) t → kept) (sym same) keeps
+pub kept_as : (c k : code.Command) → c ≡ k → (t : Inputs) (kept : Type 0) → ((reads (command_word k) ≤ 1) ⊎ IsFirstRefused (command_word k) t → kept) → (reads (command_word c) ≤ 1) ⊎ IsFirstRefused (command_word c) t → kept
+kept_as c k same t kept keeps = subst (λ x. (reads (command_word x) ≤ 1) ⊎ IsFirstRefused (command_word x) t → kept) (sym same) keeps
 
 -- a command that reads a source
-pub some_read : {P : Type 0} (c k : code.Command) → c ≡ k → 1 ≤ reads (meant k) → reads (meant c) ≡ 0 → P
-some_read c k same some none = let e = ap (λ (x : code.Command). reads (meant x)) same in absurd (omega (arith, some, none, e))
+pub some_read : {P : Type 0} (c k : code.Command) → c ≡ k → 1 ≤ reads (command_word k) → reads (command_word c) ≡ 0 → P
+some_read c k same some none = let e = ap (λ (x : code.Command). reads (command_word x)) same in absurd (omega (arith, some, none, e))
 
 -- the commands that read one source, of those that read two at most
-pub reads_one : (c : code.Command) → reads (meant c) ≤ 2 → (c ≡ command.Run → ⊥) → (c ≡ command.Live → ⊥) → (c ≡ command.Audit → ⊥)
-    → (c ≡ command.Times → ⊥) → ((n : ℕ) → c ≡ command.Demo n → ⊥) → reads (meant c) ≡ 1
+pub reads_one : (c : code.Command) → reads (command_word c) ≤ 2 → (c ≡ command.Run → ⊥) → (c ≡ command.Live → ⊥) → (c ≡ command.Audit → ⊥)
+    → (c ≡ command.Times → ⊥) → ((n : ℕ) → c ≡ command.Demo n → ⊥) → reads (command_word c) ≡ 1
 reads_one command.Run few run live audit times demo = absurd (run refl)
 reads_one command.Live few run live audit times demo = absurd (live refl)
 reads_one command.Audit few run live audit times demo = absurd (audit refl)
@@ -402,7 +402,7 @@ reads_one command.Pair few run live audit times demo = absurd (omega (arith, few
 reads_one (command.Soak number count workers) few run live audit times demo = refl
 
 -- and there is no other
-pub reads_other : (c : code.Command) → reads (meant c) ≡ 1 → (c ≡ command.Check → ⊥) → (c ≡ command.Fmt → ⊥)
+pub reads_other : (c : code.Command) → reads (command_word c) ≡ 1 → (c ≡ command.Check → ⊥) → (c ≡ command.Fmt → ⊥)
     → (c ≡ command.Build → ⊥) → (c ≡ command.Deepest → ⊥) → (c ≡ command.Verify → ⊥)
     → ((number count workers : ℕ) → c ≡ command.Soak number count workers → ⊥) → ⊥
 reads_other command.Run one check fmt build deepest verify soak = omega (arith, one)

@@ -12,7 +12,7 @@ use Rattle.rt_app.specs.Violation.{IsFirst}
 use Rattle.rt_baker.specs.Audit.{IsVerdict}
 use Rattle.rt_baker.specs.declared.verdict.Verdict.{Verdict}
 use Rattle.rt_baker.specs.declared.verdict.Verdict.TheVariants as judged
-use Rattle.rt_build.specs.Accepted.{broken, IsApplication}
+use Rattle.rt_build.specs.Accepted.{tree_violations, IsApplication}
 use Rattle.rt_build.proofs.Firsts.{no_first}
 use Rattle.rt_code.specs.Image.{Image}
 use Rattle.rt_load.specs.Reading.{IsListingText}
@@ -21,8 +21,8 @@ use Rattle.rt_load.specs.declared.refusal.LoadRefused.{LoadRefused}
 use Rattle.rt_load.specs.declared.refusal.LoadRefused.TheVariants as in_image
 use Rattle.rt_load.proofs.OneWay as listings
 use Rattle.rt_points.specs.Checked.{IsChecked}
-use Rattle.rt_resolve.specs.Resolved.{resolved}
-use Rattle.rt_app.specs.Forms.{is_of_t_form}
+use Rattle.rt_resolve.specs.Resolved.{resolved_app}
+use Rattle.rt_app.specs.Forms.{has_response_times}
 use Rattle.rt_rta.specs.Text as limits
 use Rattle.rt_rta.specs.declared.limits.Limit.{Limit}
 use Rattle.rt_rta.specs.declared.line.Wrong.TheVariants as limits_wrong
@@ -60,12 +60,12 @@ tree_passes text line a is (fault, met, says) = not_refused text a fault is met
 pub application_passes : (text line : List ℕ) (app : App) → IsApplication text app → RefusesApplication text line → ⊥
 application_passes text line app is (fault, inl met, says) = not_refused text is.tree fault is.text met
 application_passes text line app is (fault, inr b, says) =
-    no_first (broken is.tree) b.broken.violation is.kept.rules (subst (λ t. IsFirst (broken t) b.broken.violation) (text_only text b.tree is.tree b.text is.text) b.broken.first)
+    no_first (tree_violations is.tree) b.broken.violation is.kept.rules (subst (λ t. IsFirst (tree_violations t) b.broken.violation) (text_only text b.tree is.tree b.text is.text) b.broken.first)
 
 -- the application of a text is one
 application_only : (text : List ℕ) (a b : App) → IsApplication text a → IsApplication text b → a ≡ b
 application_only text a b one other =
-    one.kept.same ∙ (ap resolved (text_only text one.tree other.tree one.text other.text) ∙ sym other.kept.same)
+    one.kept.same ∙ (ap resolved_app (text_only text one.tree other.tree one.text other.text) ∙ sym other.kept.same)
 
 -- a script, over the names
 script_read : (names : Names) (more line : List ℕ) (s : List Line) (refusal : ScriptRefused) → script.IsScriptText names more s
@@ -136,9 +136,9 @@ timed_once : (app app' : App) → app' ≡ app → (ls ls' : List Limit) (a b : 
     → TellsTimes app' ls' b y → a ≡ b
 timed_once app app' same ls ls' a b x y (outputs.responds rows form are) (outputs.responds rows' form' are') = refl
 timed_once app app' same ls ls' a b x y (outputs.responds rows form are) (outputs.no_times form') =
-    let e = ap is_of_t_form same in absurd cc
+    let e = ap has_response_times same in absurd cc
 timed_once app app' same ls ls' a b x y (outputs.no_times form) (outputs.responds rows' form' are') =
-    let e = ap is_of_t_form same in absurd cc
+    let e = ap has_response_times same in absurd cc
 timed_once app app' same ls ls' a b x y (outputs.no_times form) (outputs.no_times form') = refl
 
 -- limits, of an application

@@ -2,7 +2,7 @@
 use Rattle.std.proofs.Common.{◌≡◌, ℕ, true, false, List, Result, Ok, Err, IfOk, Vec, Global, sym, subst}
 use Rattle.rt_ids.specs.declared.status.Status.{Status}
 use Rattle.rt_ids.specs.declared.status.Status.TheVariants as status
-use Rattle.rt_app.specs.Forms.{is_of_t_form, is_of_w_form}
+use Rattle.rt_app.specs.Forms.{has_response_times, has_deepest_script}
 use Rattle.rt_app.specs.Tree.{App}
 use Rattle.rt_rta.specs.Report.{report}
 use Rattle.rt_rta.specs.Response.{AreResponseTimes}
@@ -26,7 +26,7 @@ module _ (P : Status → List ℕ → Type 0) (other : P status.No no_line) wher
       replies_as (λ ended bytes. (ended ≡ status.No) × (bytes ≡ no_line)) P
       (λ ended bytes p. subst (λ s. P s bytes) (sym p.0) (subst (λ b. P status.No b) (sym p.1) other)) r tells
 
-pub deepest_other : (app : App) → is_of_w_form app ≡ false → (r : Reply) → Tells status.No (λ bytes. bytes ≡ no_line) r
+pub deepest_other : (app : App) → has_deepest_script app ≡ false → (r : Reply) → Tells status.No (λ bytes. bytes ≡ no_line) r
     → Replies (TellsDeepest app) r
 deepest_other app form r tells = other_replies (TellsDeepest app) (outputs.no_script form) r tells
 
@@ -39,12 +39,12 @@ module _ (app : App) (more : List ℕ) where
       (λ ended line p. subst (λ s. AnswersTimes app more s line) (sym p.0) (answered.refused_limits refusal line met p.1)) r tells
 
   module _ (ls : List Limit) (read : limits.IsLimitsText app more ls) where
-    pub times_other : is_of_t_form app ≡ false → (r : Reply) → Tells status.No (λ bytes. bytes ≡ no_line) r
+    pub times_other : has_response_times app ≡ false → (r : Reply) → Tells status.No (λ bytes. bytes ≡ no_line) r
         → Replies (AnswersTimes app more) r
     times_other form r tells =
         other_replies (AnswersTimes app more) (answered.told ls status.No no_line read (outputs.no_times form)) r tells
 
-    pub times_made : {E : Type 0} → is_of_t_form app ≡ true → (made : Result (Vec ℕ Global) E)
+    pub times_made : {E : Type 0} → has_response_times app ≡ true → (made : Result (Vec ℕ Global) E)
         → IfOk made (λ text. (rows : List ResponseTime) × AreResponseTimes app ls rows × (text.items ≡ report rows))
         → (r : Reply) → Tells status.Done (λ bytes. (rows : List ResponseTime) × AreResponseTimes app ls rows × (bytes ≡ report rows)) r
         → Replies (AnswersTimes app more) r

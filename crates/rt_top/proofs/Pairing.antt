@@ -27,7 +27,7 @@ use Rattle.rt_top.specs.Inside.Pairing.{IsOfSecond, ShowsPair, AnswersPair}
 use Rattle.rt_top.specs.Inside.Pairing as pairing
 use Rattle.rt_top.specs.declared.reply.Reply.{Reply}
 use Rattle.rt_top.specs.declared.reply.Reply.TheVariants as reply
-use Rattle.rt_top.specs.Inside.Meant.{meant}
+use Rattle.rt_top.specs.Inside.Meant.{command_word}
 use Rattle.rt_top.specs.declared.command.Command as code
 use Rattle.rt_top.specs.declared.command.Command.TheVariants as command
 use Rattle.rt_top.proofs.Deciding.{told_text}
@@ -197,9 +197,9 @@ third_left c t rose kept later left failed as_was before after fb fa result (inr
 module _ (c : code.Command) (same : c ≡ command.Pair) (t : Inputs) where
   pub pair_concludes : (rose later failed : Type 0) (before after : Option (List ℕ)) (fb fa : ℕ) (result : Status)
       → Concludes Pair t rose (later ⊎ failed) before after fb fa result
-      → Concludes (meant c) t rose (later ⊎ ((3 ≤ reads (meant c)) × failed)) before after fb fa result
+      → Concludes (command_word c) t rose (later ⊎ ((3 ≤ reads (command_word c)) × failed)) before after fb fa result
   pair_concludes rose later failed before after fb fa result d =
-      subst (λ x. Concludes (meant x) t rose (later ⊎ ((3 ≤ reads (meant x)) × failed)) before after fb fa result) (sym same) (by d)
+      subst (λ x. Concludes (command_word x) t rose (later ⊎ ((3 ≤ reads (command_word x)) × failed)) before after fb fa result) (sym same) (by d)
     where
       by : Concludes Pair t rose (later ⊎ failed) before after fb fa result
           → Concludes Pair t rose (later ⊎ ((3 ≤ reads Pair) × failed)) before after fb fa result
@@ -209,24 +209,24 @@ module _ (c : code.Command) (same : c ≡ command.Pair) (t : Inputs) where
       by (inr (inr (is, inr (two, inl f)), none)) = inr (inr (is, inr (two, inl f)), none)
       by (inr (inr (is, inr (two, inr f)), none)) = inr (inr (is, inr (two, inr (omega arith, f))), none)
 
-  pub pair_second_kept : (kept : Type 0) → (IsFirstRefused Pair t → kept) → (reads (meant c) ≤ 1) ⊎ IsFirstRefused (meant c) t → kept
+  pub pair_second_kept : (kept : Type 0) → (IsFirstRefused Pair t → kept) → (reads (command_word c) ≤ 1) ⊎ IsFirstRefused (command_word c) t → kept
   pair_second_kept kept keeps =
-      subst (λ x. (reads (meant x) ≤ 1) ⊎ IsFirstRefused (meant x) t → kept) (sym same) by
+      subst (λ x. (reads (command_word x) ≤ 1) ⊎ IsFirstRefused (command_word x) t → kept) (sym same) by
     where
       by : (reads Pair ≤ 1) ⊎ IsFirstRefused Pair t → kept
       by (inl few) = absurd (omega (arith, few))
       by (inr r) = keeps r
 
-  pub pair_third_kept : (kept : Type 0) → (IsApplicationRefused Pair t → kept) → (reads (meant c) ≤ 2) ⊎ IsApplicationRefused (meant c) t → kept
+  pub pair_third_kept : (kept : Type 0) → (IsApplicationRefused Pair t → kept) → (reads (command_word c) ≤ 2) ⊎ IsApplicationRefused (command_word c) t → kept
   pair_third_kept kept keeps =
-      subst (λ x. (reads (meant x) ≤ 2) ⊎ IsApplicationRefused (meant x) t → kept) (sym same) by
+      subst (λ x. (reads (command_word x) ≤ 2) ⊎ IsApplicationRefused (command_word x) t → kept) (sym same) by
     where
       by : (reads Pair ≤ 2) ⊎ IsApplicationRefused Pair t → kept
       by (inl few) = absurd (omega (arith, few))
       by (inr r) = keeps r
 
 -- every other command reads two sources at most
-pub reads_two : (c : code.Command) → (c ≡ command.Pair → ⊥) → reads (meant c) ≤ 2
+pub reads_two : (c : code.Command) → (c ≡ command.Pair → ⊥) → reads (command_word c) ≤ 2
 reads_two command.Run other = omega arith
 reads_two command.Check other = omega arith
 reads_two command.Fmt other = omega arith

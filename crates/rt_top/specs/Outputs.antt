@@ -8,7 +8,7 @@ use Rattle.rt_grammar.specs.Text.{IsText}
 use Rattle.rt_app.specs.Tree.{App}
 use Rattle.rt_app.specs.Bounds.{bounds}
 use Rattle.rt_app.specs.Ceiling.{ceilings}
-use Rattle.rt_app.specs.Forms.{is_of_t_form, is_of_w_form}
+use Rattle.rt_app.specs.Forms.{has_response_times, has_deepest_script}
 use Rattle.rt_app.specs.Names.{names_of}
 use Rattle.rt_baker.specs.Audit.{IsVerdict}
 use Rattle.rt_baker.specs.declared.verdict.Verdict.{Verdict}
@@ -116,8 +116,8 @@ no_line = codes "no\n"
 
 -- the status and the bytes of `deepest` for an application, by its form
 pub data TellsDeepest (app : App) : Status → List ℕ → Type 0 where
-  reaches_bound : (bytes : List ℕ) → is_of_w_form app ≡ true → ReachesTheBound app bytes → TellsDeepest app status.Done bytes
-  no_script : is_of_w_form app ≡ false → TellsDeepest app status.No no_line
+  reaches_bound : (bytes : List ℕ) → has_deepest_script app ≡ true → ReachesTheBound app bytes → TellsDeepest app status.Done bytes
+  no_script : has_deepest_script app ≡ false → TellsDeepest app status.No no_line
 
 -- `deepest`: a script on which the stack reaches its bound
 abbrev pub IsDeepened : List ℕ → Status → List ℕ → Type 0
@@ -125,11 +125,11 @@ IsDeepened text ended bytes = (app : App) × IsApplication text app × TellsDeep
 
 -- the status and the bytes of `times` for an application and limits, by its form
 pub data TellsTimes (app : App) (limits : List Limit) : Status → List ℕ → Type 0 where
-  responds : (rows : List ResponseTime) → is_of_t_form app ≡ true → AreResponseTimes app limits rows
+  responds : (rows : List ResponseTime) → has_response_times app ≡ true → AreResponseTimes app limits rows
       → TellsTimes app limits status.Done (times_report rows)
-  no_times : is_of_t_form app ≡ false → TellsTimes app limits status.No no_line
+  no_times : has_response_times app ≡ false → TellsTimes app limits status.No no_line
 
--- `times`: the response time of each level under these limits
+-- `times`: the response time of each priority under these limits
 pub record IsTimed (text more : List ℕ) (ended : Status) (bytes : List ℕ) : Type 0 where
   pub app : App
   pub of_text : IsApplication text app

@@ -6,7 +6,7 @@ ghost use Rattle.rt_app.specs.Accepted.{IsAccepted};
 ghost use Rattle.rt_app.specs.Names.{names_of};
 ghost use Rattle.rt_app.specs.Tree as tree;
 ghost use Rattle.rt_app.specs.View.{app_of};
-ghost use Rattle.rt_moves.specs.Machine.{IsMachine};
+ghost use Rattle.rt_baker_moves.specs.Machine.{IsMachine};
 ghost use Rattle.rt_top.specs.Words as word;
 ghost use Rattle.rt_top.specs.Ends.{IsKept};
 ghost use Rattle.rt_top.specs.Defined.{inputs, IsFirstRefused};
@@ -16,12 +16,12 @@ ghost use Rattle.rt_top.specs.Inside.Replies.{Gives, Replies, IsHeard, AnswersAu
 
 use crate::auditor::{Auditor, Chosen};
 use crate::reading::read_accepted;
-use crate::reply::{Reply, numbered, refuse_trace};
+use crate::reply::{Reply, refuse_trace, reply_number};
 use rt_app::App;
 use rt_baker::Verdict;
+use rt_baker_moves::{Machine, Tables};
 use rt_ids::limits::TRACE_BYTES;
 use rt_ids::{Names, Status};
-use rt_moves::{Machine, Tables};
 use rt_outside::{ReadFail, Source, read_lines};
 use rt_trace::TraceRefused;
 use std::alloc::Global;
@@ -82,7 +82,7 @@ fn audit_lines<C: Chosen, B: Source>(
         return Reply::Stop(Status::Memory);
     };
     match read_lines(alloc, second, TRACE_BYTES, &mut auditor) {
-        Ok(count) => judged(alloc, &mut auditor, count),
+        Ok(count) => audit_reply(alloc, &mut auditor, count),
         Err(ReadFail::TooLong) => refuse_trace(alloc, TraceRefused::TooLong),
         Err(ReadFail::Fault) => Reply::Stop(Status::Read),
         Err(ReadFail::NoMemory) => Reply::Stop(Status::Memory),
@@ -90,7 +90,7 @@ fn audit_lines<C: Chosen, B: Source>(
 }
 
 /// The reply to a text whose lines came to an auditor, so many.
-fn judged<C: Chosen>(alloc: Global, auditor: &mut Auditor<'_, C>, count: u32) -> Reply
+fn audit_reply<C: Chosen>(alloc: Global, auditor: &mut Auditor<'_, C>, count: u32) -> Reply
     requires follows { IsMachine auditor.old.machine.now }
     requires few { count < 2 ^ 32 - 1 }
     ensures { (app : tree.App) (text : List ℕ) → C.app ≡ Some app → length text ≤ TRACE_BYTES
@@ -100,8 +100,8 @@ fn judged<C: Chosen>(alloc: Global, auditor: &mut Auditor<'_, C>, count: u32) ->
         → Replies (AnswersAudit app text) result }
 {
     match auditor.end(count) {
-        Ok((Verdict::Yes, items)) => numbered(alloc, Status::Done, b"yes ", items, b"\n"),
-        Ok((Verdict::No(number), _)) => numbered(alloc, Status::No, b"no ", number, b"\n"),
+        Ok((Verdict::Yes, items)) => reply_number(alloc, Status::Done, b"yes ", items, b"\n"),
+        Ok((Verdict::No(number), _)) => reply_number(alloc, Status::No, b"no ", number, b"\n"),
         Err(refusal) => refuse_trace(alloc, refusal),
     }
 }

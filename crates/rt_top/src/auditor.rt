@@ -5,13 +5,13 @@ ghost use Rattle.rt_lines.specs.Parts.{lines};
 ghost use Rattle.rt_app.specs.Names.{names_of};
 ghost use Rattle.rt_app.specs.Tree as tree;
 ghost use Rattle.rt_app.specs.View.{app_of};
-ghost use Rattle.rt_moves.specs.Machine.{IsMachine};
+ghost use Rattle.rt_baker_moves.specs.Machine.{IsMachine};
 ghost use Rattle.rt_trace.specs.Reading.{IsRefused};
 ghost use Rattle.rt_top.specs.Inside.Auditor.{Goes, Stands, HasAudited, IsJudgedText};
 
 use rt_baker::{Judge, Verdict};
+use rt_baker_moves::Machine;
 use rt_ids::{Names, NoMemory};
-use rt_moves::Machine;
 use rt_outside::LineSink;
 use rt_trace::{TraceReader, TraceRefused};
 use std::marker::{Brand, PhantomData};

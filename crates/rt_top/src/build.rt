@@ -8,7 +8,7 @@ ghost use Rattle.rt_top.specs.Inside.Decides.{Decides, Lists};
 ghost use Rattle.rt_top.specs.Inside.Replies.{IsHeard};
 
 use crate::reading::read_accepted;
-use crate::reply::{Reply, told};
+use crate::reply::{Reply, reply_of_text};
 use rt_app::App;
 use rt_ids::{NoMemory, Status};
 use rt_listing::listing;
@@ -25,11 +25,11 @@ pub(crate) fn build<A: Source>(alloc: Global, app: &mut A) -> Reply
         Ok(accepted) => accepted,
         Err(reply) => return reply,
     };
-    told(Status::Done, listed(alloc, &accepted))
+    reply_of_text(Status::Done, build_text(alloc, &accepted))
 }
 
 /// The listing of its image.
-fn listed(alloc: Global, app: &App) -> Result<Vec<u8>, NoMemory>
+fn build_text(alloc: Global, app: &App) -> Result<Vec<u8>, NoMemory>
     requires accepted { IsAccepted (app_of app.now) }
     ensures { IfOk result (λ text. Lists (app_of app.now) text.items) }
 {

@@ -9,7 +9,7 @@ ghost use Rattle.rt_top.specs.Inside.Decides.{Decides};
 ghost use Rattle.rt_top.specs.Inside.Replies.{IsHeard};
 
 use crate::reading::read_accepted;
-use crate::reply::{Reply, told};
+use crate::reply::{Reply, reply_of_text};
 use rt_app::App;
 use rt_ceil::ceilings;
 use rt_frames::bounds;
@@ -28,11 +28,11 @@ pub(crate) fn check<A: Source>(alloc: Global, app: &mut A) -> Reply
         Ok(accepted) => accepted,
         Err(reply) => return reply,
     };
-    told(Status::Done, checked(alloc, &accepted))
+    reply_of_text(Status::Done, check_text(alloc, &accepted))
 }
 
 /// The report on an application.
-fn checked(alloc: Global, app: &App) -> Result<Vec<u8>, NoMemory>
+fn check_text(alloc: Global, app: &App) -> Result<Vec<u8>, NoMemory>
     requires { IsAccepted (app_of app.now) }
     ensures { IfOk result (λ text. text.items ≡ check_report (app_of app.now)) }
 {

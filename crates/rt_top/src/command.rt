@@ -1,7 +1,7 @@
 ghost use Rattle.std.specs.Prelude.{◌≡◌, ℕ, ◌↔◌, IsTrue, IfSome, IfNone};
 ghost use Rattle.rt_top.specs.Words as word;
 ghost use Rattle.rt_top.specs.Words.{texts, Names, IsCommand};
-ghost use Rattle.rt_top.specs.Inside.Meant.{meant};
+ghost use Rattle.rt_top.specs.Inside.Meant.{command_word};
 
 use crate::number::number_in;
 
@@ -47,7 +47,7 @@ pub(crate) enum Command {
 
 /// The command that the words name, None where they name none.
 pub(crate) fn command_of(words: &[&str]) -> Option<Command>
-    ensures some { IfSome result (λ c. Names (texts words.now) (meant c)) }
+    ensures some { IfSome result (λ c. Names (texts words.now) (command_word c)) }
     ensures none { IfNone result (¬ IsCommand (texts words.now)) }
 {
     if is_run(words) {
@@ -193,7 +193,7 @@ fn demo_tasks(words: &[&str]) -> Option<u8>
 
 /// The command, where the words are `soak APP NUMBER COUNT WORKERS`.
 fn soak_of(words: &[&str]) -> Option<Command>
-    ensures some { IfSome result (λ c. Names (texts words.now) (meant c)) }
+    ensures some { IfSome result (λ c. Names (texts words.now) (command_word c)) }
     ensures none { IfNone result ((number count workers : ℕ) →
         ¬ Names (texts words.now) (word.Soak number count workers)) }
 {

@@ -4,7 +4,7 @@ ghost use Rattle.rt_top.specs.Words.{reads};
 ghost use Rattle.rt_top.specs.Ends.{IsKept};
 ghost use Rattle.rt_top.specs.Defined.{inputs, IsFirstRefused, IsApplicationRefused};
 ghost use Rattle.rt_top.specs.Inside.Decides.{Concludes};
-ghost use Rattle.rt_top.specs.Inside.Meant.{meant, IsInRange};
+ghost use Rattle.rt_top.specs.Inside.Meant.{command_word, IsInRange};
 
 use crate::audit::audit;
 use crate::command::Command;
@@ -39,18 +39,18 @@ pub(crate) fn decide<
     out: &mut K,
     gate: &G,
 ) -> Status
-    requires { IsInRange (meant command) }
-    ensures concludes { Concludes (meant command) (inputs (A.left app.old) (B.left second.old) (C.left third.old))
+    requires { IsInRange (command_word command) }
+    ensures concludes { Concludes (command_word command) (inputs (A.left app.old) (B.left second.old) (C.left third.old))
         (Rose (A.faults app.old) (A.faults app.new) × IsKept B.left B.faults second.old second.new
         × IsKept C.left C.faults third.old third.new)
         ((Rose (B.faults second.old) (B.faults second.new) × IsKept C.left C.faults third.old third.new)
-        ⊎ ((3 ≤ reads (meant command)) × Rose (C.faults third.old) (C.faults third.new)))
+        ⊎ ((3 ≤ reads (command_word command)) × Rose (C.faults third.old) (C.faults third.new)))
         (K.taken out.old) (K.taken out.new) (K.faults out.old) (K.faults out.new) result }
-    ensures first_kept { reads (meant command) ≡ 0 → IsKept A.left A.faults app.old app.new }
+    ensures first_kept { reads (command_word command) ≡ 0 → IsKept A.left A.faults app.old app.new }
     ensures second_kept { let t = inputs (A.left app.old) (B.left second.old) (C.left third.old) in
-        (reads (meant command) ≤ 1) ⊎ IsFirstRefused (meant command) t → IsKept B.left B.faults second.old second.new }
+        (reads (command_word command) ≤ 1) ⊎ IsFirstRefused (command_word command) t → IsKept B.left B.faults second.old second.new }
     ensures third_kept { let t = inputs (A.left app.old) (B.left second.old) (C.left third.old) in
-        (reads (meant command) ≤ 2) ⊎ IsApplicationRefused (meant command) t →
+        (reads (command_word command) ≤ 2) ⊎ IsApplicationRefused (command_word command) t →
         IsKept C.left C.faults third.old third.new }
     ensures first_heard { (A.faults app.new ≡ A.faults app.old) ⊎ (result ≡ Status.Read) }
     ensures second_heard { (B.faults second.new ≡ B.faults second.old) ⊎ (result ≡ Status.Read) }
@@ -74,16 +74,16 @@ fn decide_two<R: Threads + Sync, A: Source, B: Source, K: Sink + Send, G: Gate +
     out: &mut K,
     gate: &G,
 ) -> Status
-    requires range { IsInRange (meant command) }
-    requires two { reads (meant command) ≤ 2 }
+    requires range { IsInRange (command_word command) }
+    requires two { reads (command_word command) ≤ 2 }
     ensures concludes { (third : Option (List ℕ)) →
-        Concludes (meant command) (inputs (A.left app.old) (B.left second.old) third)
+        Concludes (command_word command) (inputs (A.left app.old) (B.left second.old) third)
         (Rose (A.faults app.old) (A.faults app.new) × IsKept B.left B.faults second.old second.new)
         (Rose (B.faults second.old) (B.faults second.new))
         (K.taken out.old) (K.taken out.new) (K.faults out.old) (K.faults out.new) result }
-    ensures first_kept { reads (meant command) ≡ 0 → IsKept A.left A.faults app.old app.new }
+    ensures first_kept { reads (command_word command) ≡ 0 → IsKept A.left A.faults app.old app.new }
     ensures kept { (third : Option (List ℕ)) → let t = inputs (A.left app.old) (B.left second.old) third in
-        (reads (meant command) ≤ 1) ⊎ IsFirstRefused (meant command) t → IsKept B.left B.faults second.old second.new }
+        (reads (command_word command) ≤ 1) ⊎ IsFirstRefused (command_word command) t → IsKept B.left B.faults second.old second.new }
     ensures first_heard { (A.faults app.new ≡ A.faults app.old) ⊎ (result ≡ Status.Read) }
     ensures second_heard { (B.faults second.new ≡ B.faults second.old) ⊎ (result ≡ Status.Read) }
     ensures sink_heard { (K.faults out.new ≡ K.faults out.old) ⊎ (result ≡ Status.Write) }

@@ -22,13 +22,13 @@ pub(crate) fn deepest<A: Source>(alloc: Global, app: &mut A) -> Reply
     ensures heard { IsHeard (A.faults app.old) (A.faults app.new) result }
 {
     match read_accepted(alloc, app) {
-        Ok(accepted) => deepened(alloc, &accepted),
+        Ok(accepted) => deepest_reply(alloc, &accepted),
         Err(reply) => reply,
     }
 }
 
 /// The reply to an application.
-fn deepened(alloc: Global, app: &App) -> Reply
+fn deepest_reply(alloc: Global, app: &App) -> Reply
     requires { IsAccepted (app_of app.now) }
     ensures { Replies (TellsDeepest (app_of app.now)) result }
 {

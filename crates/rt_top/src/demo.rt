@@ -3,7 +3,7 @@ ghost use Rattle.rt_demo.specs.Demo as spec;
 ghost use Rattle.rt_ids.specs.declared.status.Status.TheVariants as status;
 ghost use Rattle.rt_top.specs.Inside.Decides.{Tells};
 
-use crate::reply::{Reply, told};
+use crate::reply::{Reply, reply_of_text};
 use rt_ids::Status;
 use std::alloc::Global;
 
@@ -13,5 +13,5 @@ pub(crate) fn demo(alloc: Global, tasks: u8) -> Reply
     requires most { tasks ≤ 48 }
     ensures { Tells status.Done (λ bytes. bytes ≡ spec.demo tasks) result }
 {
-    told(Status::Done, rt_demo::demo(alloc, tasks))
+    reply_of_text(Status::Done, rt_demo::demo(alloc, tasks))
 }

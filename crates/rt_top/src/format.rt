@@ -6,7 +6,7 @@ ghost use Rattle.rt_top.specs.Inside.Decides.{Decides};
 ghost use Rattle.rt_top.specs.Inside.Replies.{IsHeard};
 
 use crate::reading::read_tree;
-use crate::reply::{Reply, told};
+use crate::reply::{Reply, reply_of_text};
 use rt_ids::Status;
 use rt_outside::Source;
 use rt_print::canonical;
@@ -22,5 +22,5 @@ pub(crate) fn fmt<A: Source>(alloc: Global, app: &mut A) -> Reply
         Ok(written) => written,
         Err(reply) => return reply,
     };
-    told(Status::Done, canonical(alloc, &written.tree))
+    reply_of_text(Status::Done, canonical(alloc, &written.tree))
 }

@@ -59,7 +59,7 @@ pub(crate) fn read_tree<A: Source>(alloc: Global, app: &mut A) -> Result<Written
 }
 
 /// The application of what was read, where it breaks no rule.
-fn judged(alloc: Global, written: &Written) -> Result<App, Reply>
+fn judged_app(alloc: Global, written: &Written) -> Result<App, Reply>
     requires { IsText written.now.text.items (app_of written.now.tree) }
     ensures ok { IfOk result (λ app. KeepsRules (app_of written.now.tree) (resolved.app_of app)) }
     ensures kept { IfOk result (λ app. IsAccepted (resolved.app_of app)) }
@@ -82,7 +82,7 @@ pub(crate) fn read_accepted<A: Source>(alloc: Global, app: &mut A) -> Result<App
     ensures heard { IsHeardIn (A.faults app.old) (A.faults app.new) result }
 {
     match read_tree(alloc, app) {
-        Ok(written) => judged(alloc, &written),
+        Ok(written) => judged_app(alloc, &written),
         Err(reply) => Err(reply),
     }
 }

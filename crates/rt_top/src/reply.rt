@@ -31,7 +31,7 @@ pub(crate) enum Reply {
 }
 
 /// The reply of a text, where no memory was wanted for it.
-pub(crate) fn told<E: Drop>(status: Status, made: Result<Vec<u8>, E>) -> Reply
+pub(crate) fn reply_of_text<E: Drop>(status: Status, made: Result<Vec<u8>, E>) -> Reply
     ensures text { IfOk made (λ text. result ≡ Reply.Write status text) }
     ensures memory { OnErr made (result ≡ Reply.Stop Status.Memory) }
 {
@@ -45,18 +45,18 @@ pub(crate) fn told<E: Drop>(status: Status, made: Result<Vec<u8>, E>) -> Reply
 pub(crate) fn line(alloc: Global, status: Status, line: &[u8]) -> Reply
     ensures { Tells status (λ bytes. bytes ≡ line.now) result }
 {
-    told(status, Vec::from_slice(alloc, line))
+    reply_of_text(status, Vec::from_slice(alloc, line))
 }
 
 /// The reply of a refusal of the application.
 pub(crate) fn refuse(alloc: Global, fault: Fault) -> Reply
     ensures { Tells status.App (λ bytes. bytes ≡ refusal_line fault) result }
 {
-    told(Status::App, refusal_line(alloc, fault))
+    reply_of_text(Status::App, refusal_line(alloc, fault))
 }
 
 /// The reply of a line that has a number between two texts.
-pub(crate) fn numbered(
+pub(crate) fn reply_number(
     alloc: Global,
     status: Status,
     front: &[u8],
@@ -65,7 +65,7 @@ pub(crate) fn numbered(
 ) -> Reply
     ensures { Tells status (λ bytes. bytes ≡ front.now ++ decimal number ++ back.now) result }
 {
-    told(status, numbered_line(alloc, front, number, back))
+    reply_of_text(status, numbered_line(alloc, front, number, back))
 }
 
 /// A number between two texts.
@@ -85,7 +85,7 @@ pub(crate) fn of_second(alloc: Global, reply: Reply) -> Reply
     ensures { IsOfSecond reply result }
 {
     match reply {
-        Reply::Write { status, text } => told(status, second_line(alloc, &text)),
+        Reply::Write { status, text } => reply_of_text(status, second_line(alloc, &text)),
         Reply::Stop(status) => Reply::Stop(status),
     }
 }
@@ -122,7 +122,7 @@ pub(crate) fn refuse_script(alloc: Global, refusal: ScriptRefused) -> Reply
 fn script_line(alloc: Global, line: u32, words: &[u8]) -> Reply
     ensures { Tells status.Text (λ bytes. bytes ≡ script_line line words.now) result }
 {
-    numbered(alloc, Status::Text, b"script:", u64::from(line), words)
+    reply_number(alloc, Status::Text, b"script:", u64::from(line), words)
 }
 
 /// The reply of a refusal of a trace.
@@ -141,7 +141,7 @@ pub(crate) fn refuse_trace(alloc: Global, refusal: TraceRefused) -> Reply
 fn trace_line(alloc: Global, line: u32, words: &[u8]) -> Reply
     ensures { Tells status.Text (λ bytes. bytes ≡ trace_line line words.now) result }
 {
-    numbered(alloc, Status::Text, b"trace:", u64::from(line), words)
+    reply_number(alloc, Status::Text, b"trace:", u64::from(line), words)
 }
 
 /// The reply of a refusal of limits.
@@ -164,7 +164,7 @@ pub(crate) fn refuse_limits(alloc: Global, refusal: LimitsRefused) -> Reply
 fn limits_line(alloc: Global, line: u32, words: &[u8]) -> Reply
     ensures { Tells status.Text (λ bytes. bytes ≡ limits_line line words.now) result }
 {
-    numbered(alloc, Status::Text, b"limits:", u64::from(line), words)
+    reply_number(alloc, Status::Text, b"limits:", u64::from(line), words)
 }
 
 /// The reply of a refusal of a listing.
@@ -183,7 +183,7 @@ pub(crate) fn refuse_image(alloc: Global, refusal: LoadRefused) -> Reply
 fn image_line(alloc: Global, line: u64, words: &[u8]) -> Reply
     ensures { Tells status.Text (λ bytes. bytes ≡ image_line line words.now) result }
 {
-    numbered(alloc, Status::Text, b"image:", line, words)
+    reply_number(alloc, Status::Text, b"image:", line, words)
 }
 
 /// Writes a reply, and answers the status that the program ends with.

@@ -3,7 +3,7 @@ ghost use Rattle.rt_outside.specs.Faults.{Rose};
 ghost use Rattle.rt_top.specs.Words.{reads};
 ghost use Rattle.rt_top.specs.Defined.{inputs};
 ghost use Rattle.rt_top.specs.Inside.Decides.{Decides};
-ghost use Rattle.rt_top.specs.Inside.Meant.{meant, IsInRange};
+ghost use Rattle.rt_top.specs.Inside.Meant.{command_word, IsInRange};
 ghost use Rattle.rt_top.specs.Inside.Replies.{IsHeard};
 
 use crate::build::build;
@@ -25,9 +25,9 @@ pub(crate) fn single<R: Threads + Sync, A: Source>(
     command: Command,
     app: &mut A,
 ) -> Reply
-    requires one { reads (meant command) ≡ 1 }
-    requires range { IsInRange (meant command) }
-    ensures decides { (second third : Option (List ℕ)) → Decides (meant command) (inputs (A.left app.old) second third)
+    requires one { reads (command_word command) ≡ 1 }
+    requires range { IsInRange (command_word command) }
+    ensures decides { (second third : Option (List ℕ)) → Decides (command_word command) (inputs (A.left app.old) second third)
         (Rose (A.faults app.old) (A.faults app.new)) ⊥ result }
     ensures heard { IsHeard (A.faults app.old) (A.faults app.new) result }
 {

@@ -9,7 +9,7 @@ ghost use Rattle.rt_top.specs.Inside.Decides.{Decides};
 ghost use Rattle.rt_top.specs.Inside.Replies.{IsHeard};
 
 use crate::reading::read_accepted;
-use crate::reply::{Reply, told};
+use crate::reply::{Reply, reply_of_text};
 use rt_app::App;
 use rt_ids::{NoMemory, Status};
 use rt_outside::Source;
@@ -38,14 +38,14 @@ pub(crate) fn soak<R: Threads + Sync, A: Source>(
         Ok(accepted) => accepted,
         Err(reply) => return reply,
     };
-    told(
+    reply_of_text(
         Status::Done,
-        soaked(rt, alloc, &accepted, number, count, workers),
+        soak_text(rt, alloc, &accepted, number, count, workers),
     )
 }
 
 /// The summary of its runs.
-fn soaked<R: Threads + Sync>(
+fn soak_text<R: Threads + Sync>(
     rt: &R,
     alloc: Global,
     app: &App,

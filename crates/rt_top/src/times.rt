@@ -2,7 +2,7 @@ ghost use Rattle.std.specs.Prelude.{◌≡◌, ℕ, List, Option, true, IfOk};
 ghost use Rattle.rt_outside.specs.Faults.{Rose};
 ghost use Rattle.rt_app.specs.View.{app_of};
 ghost use Rattle.rt_app.specs.Accepted.{IsAccepted};
-ghost use Rattle.rt_app.specs.Forms.{is_of_t_form};
+ghost use Rattle.rt_app.specs.Forms.{has_response_times};
 ghost use Rattle.rt_rta.specs.Limits.{AreLimits};
 ghost use Rattle.rt_rta.specs.Report.{report};
 ghost use Rattle.rt_rta.specs.Response.{AreResponseTimes};
@@ -14,16 +14,16 @@ ghost use Rattle.rt_top.specs.Inside.Decides.{Decides};
 ghost use Rattle.rt_top.specs.Inside.Replies.{IsHeard, Replies, AnswersTimes};
 
 use crate::reading::{read_accepted, read_within};
-use crate::reply::{NOT_OF_FORM, Reply, line, refuse_limits, told};
+use crate::reply::{NOT_OF_FORM, Reply, line, refuse_limits, reply_of_text};
 use rt_app::App;
-use rt_frames::is_of_t_form;
+use rt_frames::has_response_times;
 use rt_ids::limits::SCRIPT_BYTES;
 use rt_ids::{NoMemory, Status};
 use rt_outside::Source;
 use rt_rta::{Limits, LimitsRefused, read_limits};
 use std::alloc::Global;
 
-/// `times APP LIMITS`: the response time of each level, or that the application is not of its form.
+/// `times APP LIMITS`: the response time of each priority, or that the application is not of its form.
 pub(crate) fn times<A: Source, B: Source>(alloc: Global, app: &mut A, second: &mut B) -> Reply
     ensures decides { (third : Option (List ℕ)) → Decides word.Times (inputs (A.left app.old) (B.left second.old) third)
         (Rose (A.faults app.old) (A.faults app.new) × IsKept B.left B.faults second.old second.new)
@@ -54,16 +54,16 @@ fn times_text(alloc: Global, app: &App, text: &[u8]) -> Reply
         Ok(limits) => limits,
         Err(refusal) => return refuse_limits(alloc, refusal),
     };
-    if !is_of_t_form(app) {
+    if !has_response_times(app) {
         return line(alloc, Status::No, NOT_OF_FORM);
     }
-    told(Status::Done, timed(alloc, app, &limits))
+    reply_of_text(Status::Done, response_lines(alloc, app, &limits))
 }
 
 /// The lines of the response times.
-fn timed(alloc: Global, app: &App, limits: &Limits) -> Result<Vec<u8>, NoMemory>
+fn response_lines(alloc: Global, app: &App, limits: &Limits) -> Result<Vec<u8>, NoMemory>
     requires accepted { IsAccepted (app_of app.now) }
-    requires form { is_of_t_form (app_of app.now) ≡ true }
+    requires form { has_response_times (app_of app.now) ≡ true }
     requires limits { AreLimits (app_of app.now) limits.now }
     ensures { IfOk result (λ text. (rows : List ResponseTime) × AreResponseTimes (app_of app.now) limits.now rows
         × (text.items ≡ report rows)) }

@@ -8,7 +8,7 @@ ghost use Rattle.rt_top.specs.Inside.Decides.{Decides};
 ghost use Rattle.rt_top.specs.Inside.Replies.{IsHeard, Replies};
 
 use crate::reading::read_within;
-use crate::reply::{Reply, line, numbered, refuse_image};
+use crate::reply::{Reply, line, refuse_image, reply_number};
 use rt_code::Image;
 use rt_ids::{NoMemory, Status};
 use rt_load::{IMAGE_BYTES, LoadRefused, Verified, load};
@@ -23,30 +23,30 @@ pub(crate) fn verify<A: Source>(alloc: Global, image: &mut A) -> Reply
     ensures heard { IsHeard (A.faults image.old) (A.faults image.new) result }
 {
     match read_within(alloc, image, IMAGE_BYTES) {
-        Ok(Some(text)) => verified(alloc, &text),
+        Ok(Some(text)) => verify_reply(alloc, &text),
         Ok(None) => refuse_image(alloc, LoadRefused::TooLong),
         Err(status) => Reply::Stop(status),
     }
 }
 
 /// The reply to the text of a listing.
-fn verified(alloc: Global, text: &[u8]) -> Reply
+fn verify_reply(alloc: Global, text: &[u8]) -> Reply
     ensures { Replies (IsVerified text.now) result }
 {
     match load(alloc, text) {
-        Ok(image) => judged(alloc, &image),
+        Ok(image) => image_reply(alloc, &image),
         Err(refusal) => refuse_image(alloc, refusal),
     }
 }
 
 /// The reply to an image.
-fn judged(alloc: Global, image: &Image) -> Reply
+fn image_reply(alloc: Global, image: &Image) -> Reply
     requires { IsLoadable image.now }
     ensures { Replies (TellsImage image.now) result }
 {
     match rt_load::verify(alloc, image) {
         Ok(Verified::Yes) => line(alloc, Status::Done, b"yes\n"),
-        Ok(Verified::No(rule)) => numbered(alloc, Status::No, b"no ", u64::from(rule), b"\n"),
+        Ok(Verified::No(rule)) => reply_number(alloc, Status::No, b"no ", u64::from(rule), b"\n"),
         Err(NoMemory) => Reply::Stop(Status::Memory),
     }
 }

@@ -21,7 +21,7 @@ use Rattle.rt_ids.specs.Word.{is_identifier}
 use Rattle.rt_lines.specs.Answers.{and_then, and_make}
 use Rattle.rt_lines.specs.Numbers.{are_digits, has_no_leading_zero, number_below}
 use Rattle.rt_trace.specs.Lined.{IsDeclared, IsTask}
-use Rattle.rt_trace.specs.Operand.{number_at, found, irq_at, task_at, resource_at}
+use Rattle.rt_trace.specs.Operand.{number_at, place_or_wrong, irq_at, task_at, resource_at}
 use Rattle.rt_trace.specs.declared.operand.Wrong.{Wrong}
 use Rattle.rt_trace.specs.declared.operand.Wrong.TheVariants as wrong
 use Rattle.rt_trace.proofs.Tables.{found_passes, found_at}
@@ -75,10 +75,10 @@ number_spelling bound n word few is =
     (sym text ∙ ap decimal same, omega (arith, below, same))
 
 -- what is found of a name
-pub found_ok : (word : List ℕ) (place : Option ℕ) (n : ℕ) → found word place ≡ Ok n → (is_identifier word ≡ true) × (place ≡ Some n)
-found_ok word place n e =
-    chosen (is_identifier word) (ok_or place wrong.Name) (Err wrong.Form) n ((is_identifier word ≡ true) × (place ≡ Some n)) e
-    (λ named is. (named, or_ok place wrong.Name n is)) (λ _ is. absurd (cc))
+pub found_ok : (word : List ℕ) (index : Option ℕ) (n : ℕ) → place_or_wrong word index ≡ Ok n → (is_identifier word ≡ true) × (index ≡ Some n)
+found_ok word index n e =
+    chosen (is_identifier word) (ok_or index wrong.Name) (Err wrong.Form) n ((is_identifier word ≡ true) × (index ≡ Some n)) e
+    (λ named is. (named, or_ok index wrong.Name n is)) (λ _ is. absurd (cc))
 
 place_named : (texts : List (List ℕ)) (word : List ℕ) (i : ℕ) → position (bytes_eq word) texts ≡ Some i → (word ≡ get_or texts i []) × (i < length texts)
 place_named texts word i e =

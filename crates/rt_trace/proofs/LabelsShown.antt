@@ -3,7 +3,7 @@ use Rattle.std.proofs.Common.{◌≡◌, ℕ, zero, suc, ◌+◌, ◌-◌, ◌�
 use Rattle.std.proofs.lemmas.List.{replicate_more}
 use Rattle.rt_ids.specs.Event.{Event, Arrive, Tick, Step}
 use Rattle.rt_trace.specs.Label.{Label, Arrived, Ticked, Rang, Stepped, items_of, steps_of}
-use Rattle.rt_trace.specs.Shown.{shown, events_of, ShowsNoEvent, ShowTheirEvents}
+use Rattle.rt_trace.specs.Shown.{shown_events, events_of, ShowsNoEvent, ShowTheirEvents}
 
 -- silent steps of which there are none
 none_before : (m : ℕ) (events : List Event) → replicate (m - m) Step ++ events ≡ events
@@ -18,7 +18,7 @@ one_before n m events le =
 
 -- from a number of steps on, with the silent steps up to where the labels begin
 shown_from : (n m total : ℕ) (labels : List Label) → n ≤ m → m + steps_of labels ≡ total → ShowsNoEvent labels
-    → shown n (items_of m labels) total ≡ replicate (m - n) Step ++ events_of labels
+    → shown_events n (items_of m labels) total ≡ replicate (m - n) Step ++ events_of labels
 shown_from n m total [] le all silent =
     let here : total ≡ m = omega arith in ap (λ k. replicate (k - n) Step) here ∙ sym (append-nil (replicate (m - n) Step))
 shown_from n m total (Arrived irq ∷ labels) le all silent =
@@ -33,7 +33,7 @@ shown_from n m total (Rang ∷ labels) le all silent =
 shown_from n m total (Stepped None ∷ labels) le all silent =
     shown_from n (suc m) total labels (omega arith) (omega arith) silent ∙ one_before n m (events_of labels) le
 shown_from n m total (Stepped (Some w) ∷ labels) le all silent =
-    subst (λ own. replicate (m - n) Step ++ (own ++ shown m (items_of (suc m) labels) total) ≡ replicate (m - n) Step ++ (Step ∷ events_of labels))
+    subst (λ own. replicate (m - n) Step ++ (own ++ shown_events m (items_of (suc m) labels) total) ≡ replicate (m - n) Step ++ (Step ∷ events_of labels))
     (sym silent.0)
     (ap (λ events. replicate (m - n) Step ++ events)
     (shown_from m (suc m) total labels (omega arith) (omega arith) silent.1

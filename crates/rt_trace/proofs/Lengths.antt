@@ -10,7 +10,7 @@ use Rattle.rt_ids.specs.declared.ids.Section.{Section}
 use Rattle.rt_ids.specs.declared.ids.Section.TheVariants as section
 use Rattle.rt_trace.specs.Laws.{LinesAreShort, RunsAreShort}
 use Rattle.rt_trace.specs.Lined.{HasLine, HasOperands, HasValue, IsSection, IsWord}
-use Rattle.rt_trace.specs.Text.{operands, spaced, text, total_text}
+use Rattle.rt_trace.specs.Text.{operands, spaced_text, text, total_text}
 use Rattle.rt_trace.specs.Verb.{spelling, verb_of}
 use Rattle.rt_trace.specs.declared.item.Item.{Item}
 use Rattle.rt_trace.specs.declared.item.What.{What}
@@ -18,10 +18,10 @@ use Rattle.rt_trace.specs.declared.item.What.TheVariants as what
 use Rattle.rt_trace.proofs.Short.{irq_name_short, task_name_short, resource_name_short}
 
 -- a word more
-spaced_le : (word : List ℕ) (words : List (List ℕ)) (n m k : ℕ) → length word ≤ n → length (spaced words) ≤ m → n + m < k → length (spaced (word ∷ words)) ≤ k
-spaced_le word words n m k short few fits = omega (arith, length-append word (spaced words))
+spaced_le : (word : List ℕ) (words : List (List ℕ)) (n m k : ℕ) → length word ≤ n → length (spaced_text words) ≤ m → n + m < k → length (spaced_text (word ∷ words)) ≤ k
+spaced_le word words n m k short few fits = omega (arith, length-append word (spaced_text words))
 
-alone : (word : List ℕ) (n : ℕ) → length word ≤ n → length (spaced (word ∷ [])) ≤ suc n
+alone : (word : List ℕ) (n : ℕ) → length word ≤ n → length (spaced_text (word ∷ [])) ≤ suc n
 alone word n short = spaced_le word [] n 0 (suc n) short (omega arith) (omega arith)
 
 irq_short : (names : Names) (i : ℕ) → AreNames names → length (irq_name names i) ≤ 32
@@ -36,7 +36,7 @@ word_short v h = length-decimal-le 10 v (omega arith) (omega (arith, h)) (omega 
 byte_short : (v : ℕ) → v < 2 ^ 8 → length (decimal v) ≤ 10
 byte_short v h = length-decimal-le 10 v (omega arith) (omega (arith, h)) (omega (arith, h))
 
-value_short : (v : ℕ) → IsWord v → length (spaced (decimal v ∷ [])) ≤ 11
+value_short : (v : ℕ) → IsWord v → length (spaced_text (decimal v ∷ [])) ≤ 11
 value_short v h = alone (decimal v) 10 (word_short v h)
 
 section_short : (names : Names) (x : Section) → AreNames names → IsSection names x → length (section_name names x) ≤ 37
@@ -50,38 +50,38 @@ body_short names body.Init are = omega arith
 body_short names body.Idle are = omega arith
 body_short names (body.Task t) are = task_short names t are
 
-optional_short : (x : Section) (value : Option ℕ) → HasValue x value → length (spaced (map decimal (option_to_list value))) ≤ 11
+optional_short : (x : Section) (value : Option ℕ) → HasValue x value → length (spaced_text (map decimal (option_to_list value))) ≤ 11
 optional_short x None h = omega arith
 optional_short (section.Res r) (Some v) h = let same : v ≡ h.0 = cc h.1 in value_short v (subst IsWord (sym same) h.2)
 optional_short (section.Free t) (Some v) h = absurd (cc)
 optional_short (section.Ready p) (Some v) h = absurd (cc)
 optional_short section.Timer (Some v) h = absurd (cc)
 
-values_short : (values : List ℕ) → AllByRecursion IsWord values → length (spaced (map decimal values)) ≤ 11 * length values
+values_short : (values : List ℕ) → AllByRecursion IsWord values → length (spaced_text (map decimal values)) ≤ 11 * length values
 values_short [] all = omega arith
 values_short (v ∷ values) all =
     spaced_le (decimal v) (map decimal values) 10 (11 * length values) (11 * suc (length values)) (word_short v all.0) (values_short values all.1) (omega arith)
 
 -- a verb of at most six letters, and words behind it
-verb_and : (verb : List ℕ) (words : List (List ℕ)) → length verb ≤ 6 → length (spaced words) ≤ 76 → length (spaced (verb ∷ words)) ≤ 83
+verb_and : (verb : List ℕ) (words : List (List ℕ)) → length verb ≤ 6 → length (spaced_text words) ≤ 76 → length (spaced_text (verb ∷ words)) ≤ 83
 verb_and verb words short few = spaced_le verb words 6 76 83 short few (omega arith)
 
-name_and : (name : List ℕ) (words : List (List ℕ)) → length name ≤ 32 → length (spaced words) ≤ 43 → length (spaced (name ∷ words)) ≤ 76
+name_and : (name : List ℕ) (words : List (List ℕ)) → length name ≤ 32 → length (spaced_text words) ≤ 43 → length (spaced_text (name ∷ words)) ≤ 76
 name_and name words short few = spaced_le name words 32 43 76 short few (omega arith)
 
-one_name : (verb name : List ℕ) → length verb ≤ 6 → length name ≤ 32 → length (spaced (verb ∷ name ∷ [])) ≤ 83
+one_name : (verb name : List ℕ) → length verb ≤ 6 → length name ≤ 32 → length (spaced_text (verb ∷ name ∷ [])) ≤ 83
 one_name verb name short named = verb_and verb (name ∷ []) short (name_and name [] named (omega arith))
 
-one_value : (verb : List ℕ) (v : ℕ) → length verb ≤ 6 → IsWord v → length (spaced (verb ∷ decimal v ∷ [])) ≤ 83
+one_value : (verb : List ℕ) (v : ℕ) → length verb ≤ 6 → IsWord v → length (spaced_text (verb ∷ decimal v ∷ [])) ≤ 83
 one_value verb v short word = let value = value_short v word in verb_and verb (decimal v ∷ []) short (omega (arith, value))
 
-name_value : (verb name : List ℕ) (v : ℕ) → length verb ≤ 6 → length name ≤ 32 → IsWord v → length (spaced (verb ∷ name ∷ decimal v ∷ [])) ≤ 83
+name_value : (verb name : List ℕ) (v : ℕ) → length verb ≤ 6 → length name ≤ 32 → IsWord v → length (spaced_text (verb ∷ name ∷ decimal v ∷ [])) ≤ 83
 name_value verb name v short named word =
     let value = value_short v word in
     verb_and verb (name ∷ decimal v ∷ []) short (name_and name (decimal v ∷ []) named (omega (arith, value)))
 
 -- what is shown, with a space in front
-shown_short : (names : Names) (w : What) → AreNames names → HasOperands names w → length (spaced (spelling (verb_of w) ∷ operands names w)) ≤ 83
+shown_short : (names : Names) (w : What) → AreNames names → HasOperands names w → length (spaced_text (spelling (verb_of w) ∷ operands names w)) ≤ 83
 shown_short names (what.Pend i) are h = one_name (codes "pend") (irq_name names i) (omega arith) (irq_short names i are)
 shown_short names what.Tick are h = verb_and (codes "tick") [] (omega arith) (omega arith)
 shown_short names what.Alarm are h = verb_and (codes "alarm") [] (omega arith) (omega arith)
@@ -120,7 +120,7 @@ shown_short names (what.Trap k) are h =
 
 pub lines_short : LinesAreShort
 lines_short names item are h few =
-    let shown = spaced (spelling (verb_of item.what) ∷ operands names item.what) in
+    let shown = spaced_text (spelling (verb_of item.what) ∷ operands names item.what) in
     let number = length-decimal-le 7 item.step (omega arith) few (omega (arith, few)) in
     let rest = shown_short names item.what are h.operands in
     omega (arith, number, rest, length-append (decimal item.step) shown, length-append (decimal item.step ++ shown) (10 ∷ []))

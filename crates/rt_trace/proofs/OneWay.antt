@@ -10,7 +10,7 @@ use Rattle.rt_lines.specs.Parts.{lines}
 use Rattle.rt_trace.specs.Laws.{AreReadOneWay}
 use Rattle.rt_trace.specs.Trace.{Trace}
 use Rattle.rt_trace.specs.Row.{row_of}
-use Rattle.rt_trace.specs.Reading.{AreRows, HasFault, IsClosing, IsFirstWrong, IsListing, IsPassed, IsTraceText, IsUnended, IsWrongBehind, IsWrongRow, begins_listing, ends_listing, is_account, shown}
+use Rattle.rt_trace.specs.Reading.{AreRows, HasFault, IsClosing, IsFirstWrong, IsListing, IsPassed, IsTraceText, IsUnended, IsWrongBehind, IsWrongRow, begins_listing, ends_listing, is_account, row_of_item}
 use Rattle.rt_trace.specs.declared.item.Item.{Item}
 use Rattle.rt_trace.specs.declared.operand.Wrong.{Wrong}
 use Rattle.rt_trace.specs.declared.operand.Wrong.TheVariants as wrong
@@ -40,13 +40,13 @@ abbrev rows : Names → Trace → ℕ → List (List ℕ) → Verdict
 rows names trace n [] = Ok trace
 rows names trace n (line ∷ ls) = judged trace.total names trace n line (λ after. rows names after (suc n) ls)
 
-same_first : (item : Item) (r : Result Row Wrong) (rs : List (Result Row Wrong)) (all : List Item) → r ∷ rs ≡ map shown (item ∷ all) → (r ≡ Ok (row.Shown item)) × (rs ≡ map shown all)
+same_first : (item : Item) (r : Result Row Wrong) (rs : List (Result Row Wrong)) (all : List Item) → r ∷ rs ≡ map row_of_item (item ∷ all) → (r ≡ Ok (row.Shown item)) × (rs ≡ map row_of_item all)
 same_first item r rs all e = (cc, cc)
 
 counted : (names : Names) (trace : Trace) (n k : ℕ) (rest : List (List ℕ)) → n ≡ k → rows names trace n rest ≡ rows names trace k rest
 counted names trace n k rest e = ap (λ (i : ℕ). rows names trace i rest) e
 
-items_through : (names : Names) (ls rest : List (List ℕ)) (read so_far : List Item) (n : ℕ) → map (row_of names) ls ≡ map shown read
+items_through : (names : Names) (ls rest : List (List ℕ)) (read so_far : List Item) (n : ℕ) → map (row_of names) ls ≡ map row_of_item read
     → rows names (trace_of so_far None) n (ls ++ rest) ≡ rows names (trace_of (so_far ++ read) None) (n + length ls) rest
 items_through names [] rest [] so_far n each =
     ap (λ (items : List Item). rows names (trace_of items None) n rest) (sym (append-nil so_far)) ∙ counted names (trace_of (so_far ++ []) None) n (n + 0) rest (omega arith)
@@ -97,9 +97,9 @@ fault_at names trace None n line w more has = ap (λ (r : Result Row Wrong). row
 fault_at names trace (Some total) n line w more has =
     ap (λ (b : Bool). account_judged trace n b more) has.0 ∙ ap (λ (v : Wrong). Err (suc n, v)) (sym has.1)
 
-wrong_through : (names : Names) (ls : List (List ℕ)) (n place : ℕ) (w : Wrong) → IsWrongRow names ls place w → rows names (trace_of [] None) n ls ≡ Err (n + place, w)
-wrong_through names ls n place w is =
-    let number : suc (n + length is.before) ≡ n + place = let at : place ≡ suc (length is.before) = is.number_is in omega (arith, at) in
+wrong_through : (names : Names) (ls : List (List ℕ)) (n index : ℕ) (w : Wrong) → IsWrongRow names ls index w → rows names (trace_of [] None) n ls ≡ Err (n + index, w)
+wrong_through names ls n index w is =
+    let number : suc (n + length is.before) ≡ n + index = let at : index ≡ suc (length is.before) = is.number_is in omega (arith, at) in
     ap (rows names (trace_of [] None) n) is.parts
     ∙ (rows_through names is.before (is.line ∷ is.behind) is.so_far n is.says
     ∙ (fault_at names is.so_far is.so_far.total (n + length is.before) is.line w (λ after. rows names after (suc (n + length is.before)) is.behind) is.has
@@ -159,7 +159,7 @@ wrong_line names ls n w (inl is) =
 wrong_line names ls n w (inr is) =
     ap (verdict names) is.parts
     ∙ (passed_through names is.heading is.rows is.passed
-    ∙ (wrong_through names is.rows (length is.heading) is.place w is.wrong_row
+    ∙ (wrong_through names is.rows (length is.heading) is.index w is.wrong_row
     ∙ ap (λ (k : ℕ). Err (k, w)) (sym is.number_is)))
 
 faulty : (names : Names) (text : List ℕ) (n : ℕ) (w : Wrong) → IsFirstWrong names text n w → verdict names (lines text) ≡ Err (n, w)
@@ -214,7 +214,7 @@ module _ (names : Names) (text : List ℕ) (short : length text ≤ TRACE_BYTES)
       found.1,
       record {
         short = short;
-        wrong_line = inr (record { heading = heading; rows = ls; parts = parts; passed = passed; place = found.0; wrong_row = found.2; number_is = refl });
+        wrong_line = inr (record { heading = heading; rows = ls; parts = parts; passed = passed; index = found.0; wrong_row = found.2; number_is = refl });
       },
     )
   ]

@@ -8,7 +8,7 @@ use Rattle.rt_lemmas.proofs.Bools.{and_both}
 use Rattle.rt_ids.specs.Names.{Names}
 use Rattle.rt_trace.specs.Trace.{Trace}
 use Rattle.rt_trace.specs.Row.{row_of}
-use Rattle.rt_trace.specs.Reading.{AreRows, IsClosing, IsListing, IsPassed, begins_listing, is_account, shown}
+use Rattle.rt_trace.specs.Reading.{AreRows, IsClosing, IsListing, IsPassed, begins_listing, is_account, row_of_item}
 use Rattle.rt_trace.specs.declared.item.Item.{Item}
 use Rattle.rt_trace.specs.declared.operand.Wrong.{Wrong}
 use Rattle.rt_trace.specs.declared.row.Row.{Row}
@@ -29,13 +29,13 @@ open_rows : (names : Names) (items closing : List (List ℕ)) (total : Option �
 open_rows names items [] total none closes = append-nil items
 open_rows names items (line ∷ closing) total none closes = absurd (none-some closes.0 (sym none ∙ closes.1))
 
-each_more : (names : Names) (items : List (List ℕ)) (line : List ℕ) (read : List Item) (item : Item) → map (row_of names) items ≡ map shown read → row_of names line ≡ Ok (row.Shown item)
-    → map (row_of names) (items ++ line ∷ []) ≡ map shown (read ++ item ∷ [])
+each_more : (names : Names) (items : List (List ℕ)) (line : List ℕ) (read : List Item) (item : Item) → map (row_of names) items ≡ map row_of_item read → row_of names line ≡ Ok (row.Shown item)
+    → map (row_of names) (items ++ line ∷ []) ≡ map row_of_item (read ++ item ∷ [])
 each_more names items line read item each this =
     map-append (row_of names) items (line ∷ [])
     ∙ (ap (λ (rs : List (Result Row Wrong)). rs ++ row_of names line ∷ []) each
-    ∙ (ap (λ (r : Result Row Wrong). map shown read ++ r ∷ []) this
-    ∙ sym (map-append shown read (item ∷ []))))
+    ∙ (ap (λ (r : Result Row Wrong). map row_of_item read ++ r ∷ []) this
+    ∙ sym (map-append row_of_item read (item ∷ []))))
 
 add_row : (names : Names) (before : List (List ℕ)) (line : List ℕ) (trace : Trace) (r : Row) → AreRows names before trace → trace.total ≡ None → row_of names line ≡ Ok r
     → AreRows names (before ++ line ∷ []) (with_row trace r)

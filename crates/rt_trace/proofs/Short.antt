@@ -15,10 +15,10 @@ found_short (Some irq) named = let name = named irq refl in name.short
 pub irq_name_short : (names : Names) (number : ℕ) → AreNames names → length (irq_name names number) ≤ NAME_BYTES
 irq_name_short names number are = found_short (irq_named names number) (λ irq found. find_has (λ irq. IsName irq.0) (λ irq. irq.1 == number) names.irqs irq are.irqs found)
 
-at_short : (texts : List (List ℕ)) (place : ℕ) → AllByRecursion IsName texts → length (slice_index_or texts place []) ≤ NAME_BYTES
-at_short [] place all = omega arith
+at_short : (texts : List (List ℕ)) (index : ℕ) → AllByRecursion IsName texts → length (slice_index_or texts index []) ≤ NAME_BYTES
+at_short [] index all = omega arith
 at_short (x ∷ texts) zero all = let name = all.0 in name.short
-at_short (x ∷ texts) (suc place) all = at_short texts place all.1
+at_short (x ∷ texts) (suc index) all = at_short texts index all.1
 
 pub task_name_short : (names : Names) (task : ℕ) → AreNames names → length (task_name names task) ≤ NAME_BYTES
 task_name_short names task are = at_short names.tasks task are.tasks

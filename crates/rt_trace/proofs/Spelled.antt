@@ -19,7 +19,7 @@ use Rattle.rt_trace.specs.Lined.{HasLine, HasOperands, HasValue, IsBody, IsSecti
 use Rattle.rt_trace.specs.Operand.{only, pair, bare, irq_at, task_at, resource_at, section_at, queue_at, ready_at, body_at, number_at, values_at}
 use Rattle.rt_trace.specs.Row.{row_at, item_at, item_row, what_at, take_of, arm_of, cancel_of, move_of, start_of}
 use Rattle.rt_trace.specs.Row.{leave_of}
-use Rattle.rt_trace.specs.Text.{operands, spaced}
+use Rattle.rt_trace.specs.Text.{operands, spaced_text}
 use Rattle.rt_trace.specs.Verb.{spelling, verbs, verb_named, verb_of}
 use Rattle.rt_trace.specs.Laws.{ReadLinesAreLines}
 use Rattle.rt_trace.specs.declared.item.Item.{Item}
@@ -307,7 +307,7 @@ row_says names (word ∷ ws) item differ e =
     (λ _ is. let made = make_ok (and_then (only ws) (number_at (2 ^ 32))) row.Total (row.Shown item) is in let other = made.2 in absurd (cc))
     (λ _ is. item_says names (word ∷ ws) item differ is)
 
-joined : (w : List ℕ) (ws : List (List ℕ)) → join_with_byte 32 (w ∷ ws) ≡ w ++ spaced ws
+joined : (w : List ℕ) (ws : List (List ℕ)) → join_with_byte 32 (w ∷ ws) ≡ w ++ spaced_text ws
 joined w [] = sym (append-nil w)
 joined w (v ∷ ws) = ap (λ (rest : List ℕ). w ++ 32 ∷ rest) (joined v ws)
 

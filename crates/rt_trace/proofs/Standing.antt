@@ -149,7 +149,7 @@ row_wrong names ls behind items line number w at here is = record {
   rows = at.rows ++ line ∷ behind;
   parts = ap (λ (before : List (List ℕ)). before ++ line ∷ behind) at.parts ∙ append_assoc at.heading at.rows (line ∷ behind);
   passed = passed_before at.heading at.rows behind line at.passed;
-  place = suc (length at.rows);
+  index = suc (length at.rows);
   wrong_row = record { before = at.rows; line = line; behind = behind; parts = refl; number_is = refl; so_far = trace_of items None; says = at.says; has = is };
   number_is = numbered ls at.heading at.rows number at.parts here;
 }
@@ -180,7 +180,7 @@ no_account names ls behind items line number total other here at = record {
   rows = at.rows ++ line ∷ behind;
   parts = ap (λ (before : List (List ℕ)). before ++ line ∷ behind) at.parts ∙ append_assoc at.heading at.rows (line ∷ behind);
   passed = passed_before at.heading at.rows behind line (passed_behind names ls items (Some total) line at);
-  place = suc (length at.rows);
+  index = suc (length at.rows);
   wrong_row = record { before = at.rows; line = line; behind = behind; parts = refl; number_is = refl; so_far = trace_of items (Some total); says = at.says; has = (other, refl) };
   number_is = numbered ls at.heading at.rows number at.parts here;
 }

@@ -24,8 +24,8 @@ found_first texts i differ within =
     let same : name ≡ get_or texts k [] = (bytes_eq-Decides name (get_or texts k [])).0 e in
     let here : k ≡ i = differ k i name (slice_get-get_or texts k [] (omega arith) ∙ ap Some (sym same)) (slice_get-get_or texts i [] within) in
     omega (arith, here, below)) in
-    let place : position_or_len (bytes_eq name) texts ≡ i = position_or_len_is (bytes_eq name) texts i [] (omega arith) before (λ _. same_text name) in
-    rw (place, lt-ltb i (length texts) within) refl
+    let index : position_or_len (bytes_eq name) texts ≡ i = position_or_len_is (bytes_eq name) texts i [] (omega arith) before (λ _. same_text name) in
+    rw (index, lt-ltb i (length texts) within) refl
 
 pub task_found : (names : Names) (task : ℕ) → AreNames names → task < length names.tasks → task_of names (task_name names task) ≡ Some task
 task_found names task are within = found_first names.tasks task are.tasks_differ within
@@ -42,7 +42,7 @@ found_passes test (x ∷ xs) y is = one (found_passes test xs y) (test x) refl i
     one rest true e is = subst (λ z. test z ≡ true) (same_Some x y is) e
     one rest false e is = rest is
 
-at_place : {X : Type 0} (xs : List X) (place : Option ℕ) (y : X) → option_and_then (slice_get xs) place ≡ Some y → (i : ℕ) × (slice_get xs i ≡ Some y)
+at_place : {X : Type 0} (xs : List X) (index : Option ℕ) (y : X) → option_and_then (slice_get xs) index ≡ Some y → (i : ℕ) × (slice_get xs i ≡ Some y)
 at_place xs None y is = absurd (none-some y is)
 at_place xs (Some i) y is = (i, is)
 
@@ -58,10 +58,10 @@ row_found irqs row i differ at =
     let all = map (λ (irq : List ℕ × ℕ). irq.0) irqs in
     let there : slice_get all i ≡ Some row.0 = slice_get-map (λ (irq : List ℕ × ℕ). irq.0) irqs i ∙ ap (option_map (λ (irq : List ℕ × ℕ). irq.0)) at in
     let name : get_or all i [] ≡ row.0 = get_or_from_slice_get all i row.0 [] there in
-    let place : position (λ (irq : List ℕ × ℕ). bytes_eq row.0 irq.0) irqs ≡ Some i =
+    let index : position (λ (irq : List ℕ × ℕ). bytes_eq row.0 irq.0) irqs ≡ Some i =
     sym (position-map (λ (irq : List ℕ × ℕ). irq.0) (bytes_eq row.0) irqs)
     ∙ subst (λ (text : List ℕ). position (bytes_eq text) all ≡ Some i) name (found_first all i differ (slice_get_within all i row.0 there)) in
-    find_by_position (λ (irq : List ℕ × ℕ). bytes_eq row.0 irq.0) irqs ∙ ap (option_and_then (slice_get irqs)) place ∙ at
+    find_by_position (λ (irq : List ℕ × ℕ). bytes_eq row.0 irq.0) irqs ∙ ap (option_and_then (slice_get irqs)) index ∙ at
 
 irq_by : (names : Names) (irq : ℕ) (found : Option (List ℕ × ℕ)) → AreNames names → irq_named names irq ≡ found → IsSome found
     → (is_identifier (unwrap_or (option_map (λ row. row.0) found) []) ≡ true) × (irq_of names (unwrap_or (option_map (λ row. row.0) found) []) ≡ Some irq)

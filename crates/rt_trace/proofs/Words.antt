@@ -9,7 +9,7 @@ use Rattle.rt_lemmas.proofs.Bools.{and_left, and_right, left_of_none, right_of_n
 use Rattle.rt_ids.specs.Byte.{is_letter, is_name_byte}
 use Rattle.rt_ids.specs.Word.{is_identifier}
 use Rattle.rt_lines.specs.Parts.{words}
-use Rattle.rt_trace.specs.Text.{spaced}
+use Rattle.rt_trace.specs.Text.{spaced_text}
 use Rattle.rt_trace.specs.Verb.{spelling}
 use Rattle.rt_trace.specs.declared.verb.Verb.{Verb}
 use Rattle.rt_trace.specs.declared.verb.Verb.TheVariants as verb
@@ -26,9 +26,9 @@ first_word : (w rest : List ℕ) → IsUnspaced w → words (w ++ 32 ∷ rest) �
 first_word [] rest h = refl
 first_word (b ∷ w) rest h = rw (h.0, first_word w rest h.1) refl
 
-pub words_spaced : (w : List ℕ) (ws : List (List ℕ)) → IsUnspaced w → AllByRecursion IsUnspaced ws → words (w ++ spaced ws) ≡ w ∷ ws
+pub words_spaced : (w : List ℕ) (ws : List (List ℕ)) → IsUnspaced w → AllByRecursion IsUnspaced ws → words (w ++ spaced_text ws) ≡ w ∷ ws
 words_spaced w [] h all = ap words (append-nil w) ∙ one_word w h
-words_spaced w (v ∷ ws) h all = first_word w (v ++ spaced ws) h ∙ ap (λ (vs : List (List ℕ)). w ∷ vs) (words_spaced v ws all.0 all.1)
+words_spaced w (v ∷ ws) h all = first_word w (v ++ spaced_text ws) h ∙ ap (λ (vs : List (List ℕ)). w ∷ vs) (words_spaced v ws all.0 all.1)
 
 digits_unspaced : (ds : List ℕ) → AllDigits 10 ds → IsUnspaced ds
 digits_unspaced [] h = tt

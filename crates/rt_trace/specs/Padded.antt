@@ -8,5 +8,5 @@ pub record IsPadded (count : ℕ) (values : List ℕ) : Type 0 where
   pub rest : drop count values ≡ replicate (4 - count) 0
 
 -- at most four numbers, with 0 behind them up to four
-abbrev pub padded : List ℕ → List ℕ
-padded values = values ++ replicate (4 - length values) 0
+abbrev pub padded_values : List ℕ → List ℕ
+padded_values values = values ++ replicate (4 - length values) 0

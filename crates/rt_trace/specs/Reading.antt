@@ -45,8 +45,8 @@ abbrev pub is_account : List ℕ → Bool
 is_account line = starts_with nat_eq line (codes "account ")
 
 -- what the line of an item says
-abbrev pub shown : Item → Result Row Wrong
-shown item = Ok (row.Shown item)
+abbrev pub row_of_item : Item → Result Row Wrong
+row_of_item item = Ok (row.Shown item)
 
 -- the lines from the total on, where there is one
 abbrev pub IsClosing : Names → List (List ℕ) → Option ℕ → Type 0
@@ -59,7 +59,7 @@ pub record AreRows (names : Names) (ls : List (List ℕ)) (trace : Trace) : Type
   pub items : List (List ℕ)
   pub closing : List (List ℕ)
   pub parts : ls ≡ items ++ closing
-  pub each : map (row_of names) items ≡ map shown trace.items
+  pub each : map (row_of names) items ≡ map row_of_item trace.items
   pub closes : IsClosing names closing trace.total
 
 -- the text of this trace, maybe behind a listing
@@ -100,9 +100,9 @@ pub record IsWrongBehind (names : Names) (ls : List (List ℕ)) (number : ℕ) (
   pub rows : List (List ℕ)
   pub parts : ls ≡ heading ++ rows
   pub passed : IsPassed heading rows
-  pub place : ℕ
-  pub wrong_row : IsWrongRow names rows place w
-  pub number_is : number ≡ length heading + place
+  pub index : ℕ
+  pub wrong_row : IsWrongRow names rows index w
+  pub number_is : number ≡ length heading + index
 
 -- the line of this number is the first wrong one of the text, for this fault
 pub record IsFirstWrong (names : Names) (text : List ℕ) (number : ℕ) (w : Wrong) : Type 0 where

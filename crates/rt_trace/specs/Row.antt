@@ -18,7 +18,7 @@ use Rattle.rt_trace.specs.declared.verb.Verb.TheVariants as verb
 use Rattle.rt_trace.specs.Operand.{only, number_at, irq_at, task_at, resource_at, queue_at, section_at, body_at}
 use Rattle.rt_trace.specs.Operand.{values_at, bare, pair}
 
--- an interrupt whose handler is entered, and the stack bytes in use
+-- an interrupt that is taken, and the stack bytes in use
 abbrev pub take_of : Names → List (List ℕ) → Result What Wrong
 take_of names words =
     and_then (pair words) (λ p. and_then (number_at (2 ^ 32) p.1)

@@ -14,9 +14,9 @@ event_of w = []
 
 -- The events that a trace of so many core steps shows, from a number of steps on: the steps between the items by their
 -- numbers, an arrival for each pend and a tick for each tick.
-abbrev pub shown : ℕ → List Item → ℕ → List Event
-shown n [] total = replicate (total - n) Step
-shown n (item ∷ items) total = replicate (item.step - n) Step ++ (event_of item.what ++ shown item.step items total)
+abbrev pub shown_events : ℕ → List Item → ℕ → List Event
+shown_events n [] total = replicate (total - n) Step
+shown_events n (item ∷ items) total = replicate (item.step - n) Step ++ (event_of item.what ++ shown_events item.step items total)
 
 -- the events that labels come from
 abbrev pub events_of : List Label → List Event
@@ -37,5 +37,5 @@ ShowsNoEvent (Stepped (Some w) ∷ labels) = (event_of w ≡ []) × ShowsNoEvent
 
 -- the items of labels show just the events that the labels come from
 abbrev pub ShowTheirEvents : Type 0
-ShowTheirEvents = (labels : List Label) → ShowsNoEvent labels → shown 0 (items_of 0 labels) (steps_of labels)
+ShowTheirEvents = (labels : List Label) → ShowsNoEvent labels → shown_events 0 (items_of 0 labels) (steps_of labels)
     ≡ events_of labels

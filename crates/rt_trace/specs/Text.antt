@@ -35,12 +35,12 @@ operands names (what.End b) = body_name names b ∷ []
 operands names (what.Trap k) = decimal k ∷ []
 
 -- words behind others, with a space in front of each
-abbrev pub spaced : List (List ℕ) → List ℕ
-spaced words = flat_map (λ word. 32 ∷ word) words
+abbrev pub spaced_text : List (List ℕ) → List ℕ
+spaced_text words = flat_map (λ word. 32 ∷ word) words
 
 -- the line of an item, without its line feed
 abbrev pub item_line : Names → Item → List ℕ
-item_line names item = decimal item.step ++ spaced (spelling (verb_of item.what) ∷ operands names item.what)
+item_line names item = decimal item.step ++ spaced_text (spelling (verb_of item.what) ∷ operands names item.what)
 
 -- the text of an item: its line
 abbrev pub text : Names → Item → List ℕ

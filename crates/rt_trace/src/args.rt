@@ -13,7 +13,7 @@ pub struct Args {
 }
 
 impl Model for Args {
-    ghost use Rattle.rt_trace.specs.Padded.{IsPadded, padded};
+    ghost use Rattle.rt_trace.specs.Padded.{IsPadded, padded_values};
     ghost use Rattle.std.specs.Prelude.{ℕ, List, take, length};
 
     ghost Value = { List ℕ };
@@ -22,7 +22,7 @@ impl Model for Args {
 
     ghost invariant = { λ args. IsPadded args.count args.values };
 
-    ghost inverse = { λ values. record { count = length values; values = padded values } };
+    ghost inverse = { λ values. record { count = length values; values = padded_values values } };
 
     ghost use Rattle.rt_trace.specs.Given.{args_given_back};
 

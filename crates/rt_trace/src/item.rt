@@ -12,7 +12,7 @@ pub enum What {
     Alarm,
     /// A step sets the alarm to an instant that is not due, or to none.
     AlarmSet,
-    /// The handler of an interrupt is entered, with so many stack bytes in use after it.
+    /// An interrupt is taken, with so many stack bytes in use after exception entry.
     Take(Irq, u32),
     /// A handler returns.
     Ret(Irq),

@@ -46,7 +46,7 @@ fn read_item(names: &Names, step: &[u8], words: Option<&[u8]>) -> Result<Item, W
 {
     let step = number_below(step, 1 << 31).ok_or(Wrong::Form)?;
     let (word, words) = next_word(words).ok_or(Wrong::Form)?;
-    let verb = Verb::named(word).ok_or(Wrong::Form)?;
+    let verb = Verb::of_spelling(word).ok_or(Wrong::Form)?;
     let what = read_what(names, verb, words)?;
     Ok(Item { step, what })
 }

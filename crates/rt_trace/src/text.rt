@@ -206,7 +206,7 @@ fn put_body(out: &mut [u8], at: usize, body: BodyId, names: &Names) -> usize
 fn put_values(out: &mut [u8], at: usize, values: &[u32]) -> usize
     requires few { length values.now ≤ 4 }
     requires room { at + 44 ≤ length out.old }
-    ensures written { take result out.new ≡ take at out.old ++ spec.spaced (map decimal values.now) }
+    ensures written { take result out.new ≡ take at out.old ++ spec.spaced_text (map decimal values.now) }
     ensures end { result ≤ at + 44 }
 {
     let mut end = at;
@@ -220,7 +220,7 @@ fn put_values(out: &mut [u8], at: usize, values: &[u32]) -> usize
 fn put_operands(out: &mut [u8], at: usize, what: &What, names: &Names) -> usize
     requires lined { HasOperands names.now what.now }
     requires room { at + 80 ≤ length out.old }
-    ensures written { take result out.new ≡ take at out.old ++ spec.spaced (spec.operands names.now what.now) }
+    ensures written { take result out.new ≡ take at out.old ++ spec.spaced_text (spec.operands names.now what.now) }
     ensures end { result ≤ at + 80 }
 {
     match what {

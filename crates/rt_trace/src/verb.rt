@@ -89,10 +89,10 @@ impl Verb {
     }
 
     /// The one of this spelling.
-    pub fn named(word: &[u8]) -> Option<Verb>
+    pub fn of_spelling(word: &[u8]) -> Option<Verb>
         ensures { result ≡ spec.verb_named word.now }
     {
-        spelled(&VERBS, word)
+        find_verb(&VERBS, word)
     }
 
     /// The one of what an item shows.
@@ -127,7 +127,7 @@ impl Verb {
 }
 
 /// The first of these of this spelling.
-fn spelled(verbs: &[Verb], word: &[u8]) -> Option<Verb>
+fn find_verb(verbs: &[Verb], word: &[u8]) -> Option<Verb>
     ensures { result ≡ find (λ v. bytes_eq (spec.spelling v) word.now) verbs.now }
 {
     for verb in verbs {

@@ -15,7 +15,7 @@ use Rattle.rt_words.specs.declared.call.Call.TheVariants.{Latch, Pend}
 use Rattle.rt_words.specs.declared.view.View.{View}
 use Rattle.rt_words.specs.Object.{IsAnswered}
 use Rattle.rt_words.specs.History.{Entry, Leads, IsLegal, part}
-use Rattle.rt_words.specs.Inside.Rule.{padded, Standing, Kept}
+use Rattle.rt_words.specs.Inside.Rule.{padded_words, Standing, Kept}
 use Rattle.rt_words.specs.Inside.Seats.{Seat, number_of, InUse, Seated}
 use Rattle.rt_words.specs.Inside.Steps.{newcomer, device}
 use Rattle.rt_words.proofs.Lists.{in_head, in_none, in_cases}
@@ -103,14 +103,14 @@ standing = record {
 }
 
 -- behind the pend, the core's latch of 0 alone is not legal
-illegal : (more : List Entry) (last : List ℕ) → Leads (padded word) more last → part more 255 ≡ Latch 0 0 ∷ []
+illegal : (more : List Entry) (last : List ℕ) → Leads (padded_words word) more last → part more 255 ≡ Latch 0 0 ∷ []
     → ((n : ℕ) → n ≢ 255 → part more n ≡ []) → ⊥
 illegal [] last leads own others = absurd cc
 illegal (e ∷ es) last leads own others = dite (ℕ_discrete e.line 255)
     (λ is.
     let both : e.call ∷ part es 255 ≡ Latch 0 0 ∷ [] = sym (part_first e es 255 is) ∙ own in
     let same : e.call ≡ Latch 0 0 = cc in
-    let answer : 0 ≡ 1 = subst (λ (c : Call). IsAnswered (padded word) c) same leads.0 in
+    let answer : 0 ≡ 1 = subst (λ (c : Call). IsAnswered (padded_words word) c) same leads.0 in
     absurd (omega arith))
     (λ ne.
     let gone : e.call ∷ part es e.line ≡ [] = sym (part_first e es e.line refl) ∙ others e.line ne in
@@ -123,7 +123,7 @@ AnswersBlindly found after = (after.0.calls ≡ Latch 0 0 ∷ []) × (after.0.ma
 -- no step has that, whatever it writes into the word
 pub blind_refused : (f : ℕ → ℕ) → Allows (Kept word) 0 0 (first_seat, []) 0 f AnswersBlindly → ⊥
 blind_refused f allows =
-    let left : List ℕ = padded (f 1 ∷ []) in
+    let left : List ℕ = padded_words (f 1 ∷ []) in
     let step = allows table (pend ∷ [], first_seat, standing) refl refl (omega arith) in
     let w : View = step.0 in
     let history : List Entry = step.3.0 in

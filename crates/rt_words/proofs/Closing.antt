@@ -9,11 +9,11 @@ use Rattle.atomic_table.specs.Table.{Seen, Final}
 use Rattle.rt_words.specs.declared.call.Call.{Call}
 use Rattle.rt_words.specs.declared.view.Part.{Part}
 use Rattle.rt_words.specs.declared.view.View.{View}
-use Rattle.rt_words.specs.Object.{pending}
+use Rattle.rt_words.specs.Object.{pending_bit}
 use Rattle.rt_words.specs.History.{Entry, part}
-use Rattle.rt_words.specs.Account.{raises, merges, latches, raised}
+use Rattle.rt_words.specs.Account.{raises, merges, latches, raised_count}
 use Rattle.rt_words.specs.Lines.{Row, numbers}
-use Rattle.rt_words.specs.Inside.Rule.{padded, Standing, Kept}
+use Rattle.rt_words.specs.Inside.Rule.{padded_words, Standing, Kept}
 use Rattle.rt_words.specs.Ending.{AllGathered, LatchedAreZero, OneHistory, calls_in}
 use Rattle.rt_words.specs.Inside.Seats.{Seat}
 use Rattle.rt_words.specs.Inside.Fields.{IsCoreSeat}
@@ -43,11 +43,11 @@ copied_more words bits k x is l e = record {
   rest = λ j m. let far : j ≢ k = omega arith in get_or-set_other bits k j x 0 far ∙ is.rest j (omega arith);
 }
 
-pub copied_all : (words bits : List ℕ) (k : ℕ) → Copied words bits k → length words ≡ k → k ≤ 16 → bits ≡ padded words
+pub copied_all : (words bits : List ℕ) (k : ℕ) → Copied words bits k → length words ≡ k → k ≤ 16 → bits ≡ padded_words words
 copied_all words bits k is whole few =
     let n : ℕ = 16 - length words in
-    let long : length (padded words) ≡ 16 = let a = length-append words (blank n) in let b = blank_long n in omega arith in
-    ext_get_or 0 bits (padded words) (is.long ∙ sym long) (λ j m. dite (dec_lt j k)
+    let long : length (padded_words words) ≡ 16 = let a = length-append words (blank n) in let b = blank_long n in omega arith in
+    ext_get_or 0 bits (padded_words words) (is.long ∙ sym long) (λ j m. dite (dec_lt j k)
     (λ l. is.same j l ∙ sym (get_or_padding words n j))
     (λ no_. is.rest j (omega arith) ∙ sym (get_or_padding words n j ∙ get_or_past words j 0 (omega arith))))
 
@@ -64,28 +64,28 @@ module _ (may words : List ℕ) (views : List View) (history : List Entry) (v : 
       by_parts test history v.calls v.gathered st.seated.own told no_core st.seated.once out
 
   one_history : (row : Row) (id : ℕ) (held : List (ℕ × Unit {0})) (counts : List ℕ) → IsCoreSeat id (v, held) counts → AllGathered v.made v.gathered
-      → OneHistory (record { words = row; calls = v.calls; made = v.made; gathered = v.gathered; since = v.since }) (padded words)
+      → OneHistory (record { words = row; calls = v.calls; made = v.made; gathered = v.gathered; since = v.since }) (padded_words words)
   one_history row id held counts is whole = record {
     history = history;
     legal = st.legal;
     core = st.seated.own;
     gathered = λ p h. (st.seated.parts p h).same_calls;
     unmade = st.seated.unmade;
-    account = λ irq l. accounts (padded words) history irq st.legal l;
+    account = λ irq l. accounts (padded_words words) history irq st.legal l;
     raised = λ irq. let r = sums whole (raises irq) in let z = is.raises irq in omega arith;
     merged = λ irq. let r = sums whole (merges irq) in let z = is.merges irq in omega arith;
     latched = λ irq. let r = sums whole (latches irq) in let z = is.others irq in omega arith;
   }
 
   balanced : (id : ℕ) (held : List (ℕ × Unit {0})) (counts : List ℕ) → IsCoreSeat id (v, held) counts → AllGathered v.made v.gathered
-      → (irq : ℕ) → irq < 512 → sum_by (λ (p : Part). raised irq p.calls) v.gathered ≡ get_or counts irq 0 + pending (padded words) irq
+      → (irq : ℕ) → irq < 512 → sum_by (λ (p : Part). raised_count irq p.calls) v.gathered ≡ get_or counts irq 0 + pending_bit (padded_words words) irq
   balanced id held counts is whole irq l =
       let r = sums whole (raises irq) in
       let s = sums whole (latches irq) in
-      omega (arith, r, s, is.raises irq, is.others irq, is.counted irq l, accounts (padded words) history irq st.legal l)
+      omega (arith, r, s, is.raises irq, is.others irq, is.counted irq l, accounts (padded_words words) history irq st.legal l)
 
   silent : AllGathered v.made v.gathered
-      → LatchedAreZero (drop v.since v.calls) (padded words)
+      → LatchedAreZero (drop v.since v.calls) (padded_words words)
   silent whole k word h = get_or_padding words (16 - length words) k ∙ st.quiet whole k word h
 
 -- the rule at the end, of the words that were left
@@ -99,7 +99,7 @@ ended may words slots id v first f =
       subst (λ (ws : List ℕ). Standing may ws s.views kept.0 v) f.2 (core_is may s.words s.views kept.0 kept.1 v kept.2 at),
     )
 
-pub ends_history : (may words bits : List ℕ) (slots : List (Unit {0})) (id : ℕ) (me : Seat) (counts : List ℕ) (row : Row) → IsCoreSeat id me counts → Final (Seen (Kept may) id me.0) words slots → bits ≡ padded words
+pub ends_history : (may words bits : List ℕ) (slots : List (Unit {0})) (id : ℕ) (me : Seat) (counts : List ℕ) (row : Row) → IsCoreSeat id me counts → Final (Seen (Kept may) id me.0) words slots → bits ≡ padded_words words
     → AllGathered me.0.made me.0.gathered → OneHistory (record { words = row; calls = me.0.calls; made = me.0.made; gathered = me.0.gathered; since = me.0.since }) bits
 ends_history may words bits slots id me counts row sits f is whole =
     let e = ended may words slots id me.0 sits.first f in
@@ -107,19 +107,19 @@ ends_history may words bits slots id me counts row sits f is whole =
     (one_history may words e.0 e.1 me.0 e.2 row id me.1 counts sits whole)
 
 -- behind the words the bits are 0
-pub ends_behind : (words bits : List ℕ) (k : ℕ) → bits ≡ padded words → length words ≤ k → get_or bits k 0 ≡ 0
+pub ends_behind : (words bits : List ℕ) (k : ℕ) → bits ≡ padded_words words → length words ≤ k → get_or bits k 0 ≡ 0
 ends_behind words bits k is l = ap (λ (b : List ℕ). get_or b k 0) is ∙ get_or_padding words (16 - length words) k ∙ get_or_past words k 0 l
 
-pub ends_silent : (may words bits : List ℕ) (slots : List (Unit {0})) (id : ℕ) (v : View) → id ≡ 0 → Final (Seen (Kept may) id v) words slots → bits ≡ padded words
+pub ends_silent : (may words bits : List ℕ) (slots : List (Unit {0})) (id : ℕ) (v : View) → id ≡ 0 → Final (Seen (Kept may) id v) words slots → bits ≡ padded_words words
     → AllGathered v.made v.gathered
     → LatchedAreZero (drop v.since v.calls) bits
 ends_silent may words bits slots id v first f is whole =
     let e = ended may words slots id v first f in
     subst (λ (b : List ℕ). LatchedAreZero (drop v.since v.calls) b) (sym is) (silent may words e.0 e.1 v e.2 whole)
 
-pub ends_balanced : (may words bits : List ℕ) (slots : List (Unit {0})) (id : ℕ) (me : Seat) (counts : List ℕ) → IsCoreSeat id me counts → Final (Seen (Kept may) id me.0) words slots → bits ≡ padded words
+pub ends_balanced : (may words bits : List ℕ) (slots : List (Unit {0})) (id : ℕ) (me : Seat) (counts : List ℕ) → IsCoreSeat id me counts → Final (Seen (Kept may) id me.0) words slots → bits ≡ padded_words words
     → AllGathered me.0.made me.0.gathered
-    → (irq : ℕ) → irq < 512 → sum_by (λ (p : Part). raised irq p.calls) me.0.gathered ≡ get_or counts irq 0 + pending bits irq
+    → (irq : ℕ) → irq < 512 → sum_by (λ (p : Part). raised_count irq p.calls) me.0.gathered ≡ get_or counts irq 0 + pending_bit bits irq
 ends_balanced may words bits slots id me counts sits f is whole irq l =
     let e = ended may words slots id me.0 sits.first f in
-    balanced may words e.0 e.1 me.0 e.2 id me.1 counts sits whole irq l ∙ ap (λ (b : List ℕ). get_or counts irq 0 + pending b irq) (sym is)
+    balanced may words e.0 e.1 me.0 e.2 id me.1 counts sits whole irq l ∙ ap (λ (b : List ℕ). get_or counts irq 0 + pending_bit b irq) (sym is)

@@ -9,10 +9,10 @@ use Rattle.rt_words.specs.declared.call.Call.TheVariants.{Latch, Pend}
 use Rattle.rt_words.specs.declared.view.View.{View}
 use Rattle.rt_words.specs.Object.{IsPending}
 use Rattle.rt_words.specs.History.{Entry, IsLegal}
-use Rattle.rt_words.specs.Inside.Rule.{IsRow, padded, Standing, Kept}
+use Rattle.rt_words.specs.Inside.Rule.{IsRow, padded_words, Standing, Kept}
 use Rattle.rt_words.specs.Ending.{LatchedAreZero}
 use Rattle.rt_words.specs.Inside.Seats.{Seat}
-use Rattle.rt_words.specs.Inside.Steps.{called, latched}
+use Rattle.rt_words.specs.Inside.Steps.{view_after_call, latch_step}
 use Rattle.rt_words.proofs.Lists.{in_push, drop_push}
 use Rattle.rt_words.proofs.Bits.{blank, zero_padding, zero_here, zero_below, zero_pending, get_or_padding, place_of}
 use Rattle.rt_words.proofs.Histories.{entry, Leads-push}
@@ -36,7 +36,7 @@ zero_row may words k is = record {
 }
 
 -- the words padded again after a word was set to 0
-zero_padded : (words : List ℕ) (k : ℕ) → set (padded words) k 0 ≡ padded (set words k 0)
+zero_padded : (words : List ℕ) (k : ℕ) → set (padded_words words) k 0 ≡ padded_words (set words k 0)
 zero_padded words k = zero_padding words (16 - length words) k ∙ ap (λ (n : ℕ). set words k 0 ++ blank (16 - n)) (sym (length-set words k 0))
 
 zero_quiet : (words : List ℕ) (core : View) (k n : ℕ) → core.since ≤ length core.calls
@@ -53,7 +53,7 @@ latched_standing : (may words : List ℕ) (views : List View) (history : List En
     → (
     let c : Call = Latch k (get_or words k 0) in
     let more : List Entry = history ++ entry 255 c ∷ [] in
-    Standing may (set words k 0) (set views 0 (called core more c)) more (called core more c))
+    Standing may (set words k 0) (set views 0 (view_after_call core more c)) more (view_after_call core more c))
 latched_standing may words views history core k st =
     let n : ℕ = get_or words k 0 in
     let c : Call = Latch k n in
@@ -62,23 +62,23 @@ latched_standing may words views history core k st =
     let b = st.behind in
     record {
       row = zero_row may words k st.row;
-      legal = subst (λ (l : List ℕ). IsLegal (history ++ entry 255 c ∷ []) l) (zero_padded words k) (Leads-push _ (padded words) history (entry 255 c) st.legal (sym (get_or_padding words (16 - length words) k)));
+      legal = subst (λ (l : List ℕ). IsLegal (history ++ entry 255 c ∷ []) l) (zero_padded words k) (Leads-push _ (padded_words words) history (entry 255 c) st.legal (sym (get_or_padding words (16 - length words) k)));
       seated = seated_latch history views core more c st.seated;
-      seen = seen_more history (entry 255 c ∷ []) views 0 (called core more c) st.seen (prefix_self more);
+      seen = seen_more history (entry 255 c ∷ []) views 0 (view_after_call core more c) st.seen (prefix_self more);
       same_may =
-          know_set may views 0 (called core more c) st.same_may
+          know_set may views 0 (view_after_call core more c) st.same_may
           (λ lives. core_knows may history views core st.seated st.same_may);
       behind = omega arith;
       quiet = λ all. zero_quiet words core k n st.behind (st.quiet all);
     }
 
-latches_first : (may : List ℕ) (slots k : ℕ) (me : Seat) → Allows (Kept may) slots 0 me k (λ n. bit_and n 0) (latched (step slots k 0 0 none) me)
+latches_first : (may : List ℕ) (slots k : ℕ) (me : Seat) → Allows (Kept may) slots 0 me k (λ n. bit_and n 0) (latch_step (step slots k 0 0 none) me)
 latches_first may slots k me s kept homes at small =
     let st = core_is may s.words s.views kept.0 kept.1 me.0 kept.2 at in
     let n : ℕ = get_or s.words k 0 in
     let c : Call = Latch k n in
     let more : List Entry = kept.0 ++ entry 255 c ∷ [] in
-    let w : View = called me.0 more c in (
+    let w : View = view_after_call me.0 more c in (
       w,
       keeps,
       tt,
@@ -97,5 +97,5 @@ latches_first may slots k me s kept homes at small =
     )
 
 -- a step of the first seat that sets a word to 0
-pub latches : (may : List ℕ) (slots id k : ℕ) (me : Seat) → id ≡ 0 → Allows (Kept may) slots id me k (λ n. bit_and n 0) (latched (step slots k 0 0 none) me)
-latches may slots id k me is = subst (λ (z : ℕ). Allows (Kept may) slots z me k (λ n. bit_and n 0) (latched (step slots k 0 0 none) me)) (sym is) (latches_first may slots k me)
+pub latches : (may : List ℕ) (slots id k : ℕ) (me : Seat) → id ≡ 0 → Allows (Kept may) slots id me k (λ n. bit_and n 0) (latch_step (step slots k 0 0 none) me)
+latches may slots id k me is = subst (λ (z : ℕ). Allows (Kept may) slots z me k (λ n. bit_and n 0) (latch_step (step slots k 0 0 none) me)) (sym is) (latches_first may slots k me)

@@ -7,8 +7,8 @@ use mathlib.Core.List.{IsPrefix}
 use mathlib.Core.Option.{some, some-injective, some-ne-none}
 use lib.ListN.{get_elem?}
 use Rattle.rt_words.specs.declared.view.View.{View}
-use Rattle.rt_words.specs.Object.{IsPending, pending}
-use Rattle.rt_words.specs.Inside.Rule.{IsRow, padded, Standing}
+use Rattle.rt_words.specs.Object.{IsPending, pending_bit}
+use Rattle.rt_words.specs.Inside.Rule.{IsRow, padded_words, Standing}
 use Rattle.rt_words.specs.Inside.Seats.{number_of, Seated}
 use Rattle.rt_words.specs.Inside.Steps.{newcomer}
 use Rattle.rt_words.proofs.Bits.{blank, blank_long, zeros}
@@ -19,11 +19,11 @@ blank_row : (may : List ℕ) (n : ℕ) → n ≤ 16 → ((irq : ℕ) → IsPendi
 blank_row may n l covers = record {
   short = subst (λ (m : ℕ). m ≤ 16) (sym (blank_long n)) l;
   low = λ k. subst (λ (m : ℕ). m < 2 ^ 32) (sym (zeros n k)) (omega arith);
-  within = λ irq h. let z : pending (blank n) irq ≡ 0 = ap (λ w. bit_at w (irq % 32)) (zeros n (irq / 32)) ∙ bit_at-zero (irq % 32) in absurd (omega arith);
+  within = λ irq h. let z : pending_bit (blank n) irq ≡ 0 = ap (λ w. bit_at w (irq % 32)) (zeros n (irq / 32)) ∙ bit_at-zero (irq % 32) in absurd (omega arith);
   covers = λ irq h. let c = covers irq h in subst (λ (m : ℕ). irq / 32 < m) (sym (blank_long n)) (omega arith);
 }
 
-blank_padded : (n : ℕ) → n ≤ 16 → blank 16 ≡ padded (blank n)
+blank_padded : (n : ℕ) → n ≤ 16 → blank 16 ≡ padded_words (blank n)
 blank_padded n l =
     let whole : n + (16 - n) ≡ 16 = omega arith in
     sym (ap (λ (m : ℕ). blank n ++ blank (16 - m)) (blank_long n) ∙ replicate-append-replicate n (16 - n) 0 ∙ ap blank whole)

@@ -16,9 +16,9 @@ use Rattle.rt_words.specs.declared.view.Stage.TheVariants.{Device}
 use Rattle.rt_words.specs.declared.view.View.{View}
 use Rattle.rt_words.specs.Object.{IsPending, IsAnswered, after}
 use Rattle.rt_words.specs.History.{Entry, IsLegal}
-use Rattle.rt_words.specs.Inside.Rule.{IsRow, padded, Standing, Kept}
+use Rattle.rt_words.specs.Inside.Rule.{IsRow, padded_words, Standing, Kept}
 use Rattle.rt_words.specs.Inside.Seats.{Seat}
-use Rattle.rt_words.specs.Inside.Steps.{called, Extends, answer_at, pended}
+use Rattle.rt_words.specs.Inside.Steps.{view_after_call, Extends, answer_at, pend_step}
 use Rattle.rt_words.proofs.Bits.{blank, set_padding, get_or_padding, with_bit, pend_other}
 use Rattle.rt_words.proofs.Histories.{entry, Leads-push}
 use Rattle.rt_words.proofs.Seeing.{prefix_self, seen_more, extends}
@@ -68,44 +68,44 @@ pend_row may words irq may_be is =
       covers = λ i h. let c = is.covers i h in omega arith;
     }
 
-pend_padded : (words : List ℕ) (irq : ℕ) (a : Pended) → irq / 32 < length words → after (padded words) (Pend irq a) ≡ padded (pend_in words irq)
+pend_padded : (words : List ℕ) (irq : ℕ) (a : Pended) → irq / 32 < length words → after (padded_words words) (Pend irq a) ≡ padded_words (pend_in words irq)
 pend_padded words irq a l =
     let i : ℕ = irq / 32 in
     let n : ℕ = with_bit (get_or words i 0) (irq % 32) in
-    ap (λ (w : ℕ). set (padded words) i (with_bit w (irq % 32))) (get_or_padding words (16 - length words) i)
+    ap (λ (w : ℕ). set (padded_words words) i (with_bit w (irq % 32))) (get_or_padding words (16 - length words) i)
     ∙ set_padding words (blank (16 - length words)) i n l
     ∙ ap (λ (m : ℕ). set words i n ++ blank (16 - m)) (sym (length-set words i n))
 
 pended_standing : (may words : List ℕ) (views : List View) (history : List Entry) (core : View) (id irq : ℕ) (v : View) → Standing may words views history core
     → get_elem? views id ≡ some v → v.stage ≡ Device → IsPending may irq
     → (c : Call) → c ≡ Pend irq (answer_at (get_or words (irq / 32) 0) (irq % 32))
-    → Standing may (pend_in words irq) (set views id (called v (history ++ entry v.line c ∷ []) c))
+    → Standing may (pend_in words irq) (set views id (view_after_call v (history ++ entry v.line c ∷ []) c))
     (history ++ entry v.line c ∷ []) core
 pended_standing may words views history core id irq v st at stage may_be c is =
     let n : ℕ = get_or words (irq / 32) 0 in
     let l = st.row.covers irq may_be in
     let mine = st.seated.lines id v.line v at (numbered v Device stage) in
     let more : List Entry = history ++ entry v.line c ∷ [] in
-    let a : IsAnswered (padded words) c = subst (λ (x : Call). IsAnswered (padded words) x) (sym is) (answered (padded words) irq n (get_or_padding words (16 - length words) (irq / 32))) in
+    let a : IsAnswered (padded_words words) c = subst (λ (x : Call). IsAnswered (padded_words words) x) (sym is) (answered (padded_words words) irq n (get_or_padding words (16 - length words) (irq / 32))) in
     record {
       row = pend_row may words irq may_be st.row;
-      legal = subst (λ (x : List ℕ). IsLegal (history ++ entry v.line c ∷ []) x) (ap (λ (x : Call). after (padded words) x) is ∙ pend_padded words irq (answer_at n (irq % 32)) l)
-          (Leads-push _ (padded words) history (entry v.line c) st.legal a);
+      legal = subst (λ (x : List ℕ). IsLegal (history ++ entry v.line c ∷ []) x) (ap (λ (x : Call). after (padded_words words) x) is ∙ pend_padded words irq (answer_at n (irq % 32)) l)
+          (Leads-push _ (padded_words words) history (entry v.line c) st.legal a);
       seated = seated_pend history views core id v more c st.seated at stage;
-      seen = seen_more history (entry v.line c ∷ []) views id (called v more c) st.seen (prefix_self more);
-      same_may = know_set may views id (called v more c) st.same_may (st.same_may id v at);
+      seen = seen_more history (entry v.line c ∷ []) views id (view_after_call v more c) st.seen (prefix_self more);
+      same_may = know_set may views id (view_after_call v more c) st.same_may (st.same_may id v at);
       behind = st.behind;
       quiet = λ all. absurd (mine.ungathered (all v.line mine.made));
     }
 
 -- a device's step that sets the bit of an interrupt
 pub pends : (may : List ℕ) (slots id irq : ℕ) (me : Seat) → me.0.stage ≡ Device → IsPending may irq
-    → Allows (Kept may) slots id me (irq / 32) (λ n. bit_or n (2 ^ (irq % 32))) (pended (step slots (irq / 32) (2 ^ (irq % 32)) 0 none) me)
+    → Allows (Kept may) slots id me (irq / 32) (λ n. bit_or n (2 ^ (irq % 32))) (pend_step (step slots (irq / 32) (2 ^ (irq % 32)) 0 none) me)
 pends may slots id irq me stage may_be s kept homes at small =
     let n : ℕ = get_or s.words (irq / 32) 0 in
     let c : Call = Pend irq (answer_at n (irq % 32)) in
     let more : List Entry = kept.0 ++ entry me.0.line c ∷ [] in
-    let w : View = called me.0 more c in (
+    let w : View = view_after_call me.0 more c in (
       w,
       keeps,
       tt,
@@ -117,7 +117,7 @@ pends may slots id irq me stage may_be s kept homes at small =
             let whole : irq ≡ 32 * (irq / 32) + bit = omega arith in
             let same : c ≡ Pend (32 * (irq / 32) + bit) (answer_at n bit) =
             ap (λ (x : ℕ × ℕ). Pend x.0 (answer_at n x.1)) (λ i. (whole i, is i)) in (
-              ap (λ (x : Call). (called me.0 more x, me.1)) same,
+              ap (λ (x : Call). (view_after_call me.0 more x, me.1)) same,
               subst (λ (x : Call). Extends me.0.seen me.0.line x more) same
                   (extends me.0.seen kept.0 me.0.line c (kept.2.seen id me.0 at)),
             ),
@@ -126,10 +126,10 @@ pends may slots id irq me stage may_be s kept homes at small =
 
 -- the same, at the word and the operand of the code
 pub pends_as : (may : List ℕ) (slots id irq word mask : ℕ) (me : Seat) → word ≡ irq / 32 → mask ≡ 2 ^ (irq % 32) → me.0.stage ≡ Device → IsPending may irq
-    → Allows (Kept may) slots id me word (λ n. bit_or n mask) (pended (step slots word mask 0 none) me)
+    → Allows (Kept may) slots id me word (λ n. bit_or n mask) (pend_step (step slots word mask 0 none) me)
 pends_as may slots id irq word mask me w m stage may_be =
-    subst (λ (x : ℕ). Allows (Kept may) slots id me x (λ n. bit_or n mask) (pended (step slots x mask 0 none) me)) (sym w)
-    (subst (λ (y : ℕ). Allows (Kept may) slots id me (irq / 32) (λ n. bit_or n y) (pended (step slots (irq / 32) y 0 none) me)) (sym m) (pends may slots id irq me stage may_be))
+    subst (λ (x : ℕ). Allows (Kept may) slots id me x (λ n. bit_or n mask) (pend_step (step slots x mask 0 none) me)) (sym w)
+    (subst (λ (y : ℕ). Allows (Kept may) slots id me (irq / 32) (λ n. bit_or n y) (pend_step (step slots (irq / 32) y 0 none) me)) (sym m) (pends may slots id irq me stage may_be))
 
 -- the answer, by the test of the bit
 pub answer_merged : (found bit : ℕ) → bit_at found bit ≡ 1 → answer_at found bit ≡ Merged

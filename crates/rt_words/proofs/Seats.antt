@@ -11,7 +11,7 @@ use Rattle.rt_words.specs.declared.view.View.{View}
 use Rattle.rt_words.specs.History.{Entry}
 use Rattle.rt_words.specs.Lines.{numbers}
 use Rattle.rt_words.specs.Inside.Seats.{number_at, calls_at, number_of, calls_of, InUse, Gathered, Seated, AllKnow}
-use Rattle.rt_words.specs.Inside.Steps.{called, device, reserving, without_reserved, copied, joined, spent}
+use Rattle.rt_words.specs.Inside.Steps.{view_after_call, device, view_after_reserve, without_reserved, view_of_copy, view_after_join, spent_view}
 use Rattle.rt_words.proofs.Lists.{in_head, in_tail, in_cases, in_map, of_map, at_push, at_below}
 use Rattle.rt_words.proofs.Histories.{entry, part-push_same, part-push_other}
 
@@ -70,9 +70,9 @@ not_first history views core id v s is at stage apart zero_is = apart (sym is.st
 -- the core has one call more
 pub seated_latch : (history : List Entry) (views : List View) (core : View) (seen : List Entry) (c : Call)
     → Seated history views core
-    → Seated (history ++ entry 255 c ∷ []) (set views 0 (called core seen c)) (called core seen c)
+    → Seated (history ++ entry 255 c ∷ []) (set views 0 (view_after_call core seen c)) (view_after_call core seen c)
 seated_latch history views core seen c is =
-    let w : View = called core seen c in
+    let w : View = view_after_call core seen c in
     let more = history ++ entry 255 c ∷ [] in
     let spoken : (number : ℕ) (u x : View) → calls_of x ≡ calls_of u → InUse history core u number → InUse more w x number = λ number u x same k. record {
       same_calls = part-push_other history 255 number c (λ e. k.other (sym e)) ∙ k.same_calls ∙ sym same;
@@ -97,9 +97,9 @@ seated_latch history views core seen c is =
 pub seated_pend : (history : List Entry) (views : List View) (core : View) (id : ℕ) (v : View) (seen : List Entry)
     (c : Call)
     → Seated history views core → get_elem? views id ≡ some v → v.stage ≡ Device
-    → Seated (history ++ entry v.line c ∷ []) (set views id (called v seen c)) core
+    → Seated (history ++ entry v.line c ∷ []) (set views id (view_after_call v seen c)) core
 seated_pend history views core id v seen c is at stage =
-    let w : View = called v seen c in
+    let w : View = view_after_call v seen c in
     let more = history ++ entry v.line c ∷ [] in
     let mine = is.lines id v.line v at (numbered v Device stage) in
     let away = not_first history views core id v Device is at stage (λ e. cc) in
@@ -134,9 +134,9 @@ seated_pend history views core id v seen c is at stage =
 
 -- the core makes a number and reserves it
 pub seated_reserve : (history : List Entry) (views : List View) (core : View) (number : ℕ) → Seated history views core → number ≢ 255 → ¬ Contains core.made number
-    → Seated history (set views 0 (reserving number core)) (reserving number core)
+    → Seated history (set views 0 (view_after_reserve number core)) (view_after_reserve number core)
 seated_reserve history views core number is other new =
-    let w : View = reserving number core in
+    let w : View = view_after_reserve number core in
     let claims : (n : ℕ) → number_of w ≡ Some n → number ≡ n = λ n e. inside number n (sym (numbered w First is.stage) ∙ e) in
     let old : (seat n : ℕ) (u : View) → get_elem? views seat ≡ some u → number_of u ≡ Some n → number ≢ n = λ seat n u at e f. new (subst (λ (m : ℕ). Contains core.made m) (sym f) (is.lines seat n u at e).made) in
     record {
@@ -163,10 +163,10 @@ seated_reserve history views core number is other new =
 
 -- a new seat begins with the reserved number
 pub seated_split : (history : List Entry) (views : List View) (core : View) → Seated history views core
-    → Seated history (set views 0 (without_reserved core) ++ copied core ∷ []) (without_reserved core)
+    → Seated history (set views 0 (without_reserved core) ++ view_of_copy core ∷ []) (without_reserved core)
 seated_split history views core is =
     let w : View = without_reserved core in
-    let new : View = copied core in
+    let new : View = view_of_copy core in
     let silent : (n : ℕ) → number_of w ≡ Some n → ⊥ = λ n e. let f : None ≡ Some n = sym (numbered w First is.stage) ∙ e in absurd (cc) in
     let spoken : (n : ℕ) (u : View) → InUse history core u n → InUse history w u n = λ n u k. record { same_calls = k.same_calls; made = k.made; ungathered = k.ungathered; other = k.other } in
     let old : (seat n : ℕ) (u : View) → get_elem? (set views 0 w) seat ≡ some u → number_of u ≡ Some n → (seat ≢ 0) × (get_elem? views seat ≡ some u) = λ seat n u at e. ⊎_elim (λ t. absurd (silent n (ap number_of t.1 ∙ e))) (λ t. t) (at_set views 0 seat w u at) in
@@ -217,10 +217,10 @@ seated_take history views core id v number is at stage has =
     }
 
 -- the core takes in a device's line
-pub seated_join : (history : List Entry) (views : List View) (core : View) (other : ℕ) (v : View) → Seated history views core → ¬ (other ≡ 0) → get_elem? (set views 0 (joined core v)) other ≡ some v → v.stage ≡ Device
-    → Seated history (set (set views 0 (joined core v)) other spent) (joined core v)
+pub seated_join : (history : List Entry) (views : List View) (core : View) (other : ℕ) (v : View) → Seated history views core → ¬ (other ≡ 0) → get_elem? (set views 0 (view_after_join core v)) other ≡ some v → v.stage ≡ Device
+    → Seated history (set (set views 0 (view_after_join core v)) other spent_view) (view_after_join core v)
 seated_join history views core other v is away found stage =
-    let w : View = joined core v in
+    let w : View = view_after_join core v in
     let at : get_elem? views other ≡ some v = sym (set_else views 0 other w away) ∙ found in
     let mine = is.lines other v.line v at (numbered v Device stage) in
     let line_of : Part → ℕ = λ q. q.line in
@@ -232,16 +232,16 @@ seated_join history views core other v is away found stage =
       other = k.other;
     } in
     let named : (n : ℕ) → v.line ≡ n → number_of v ≡ Some n = λ n e. numbered v Device stage ∙ ap (λ (m : ℕ). Some m) e in
-    let old : (seat n : ℕ) (u : View) → get_elem? (set (set views 0 w) other spent) seat ≡ some u → number_of u ≡ Some n → (x : View) × ((get_elem? views seat ≡ some x) × (number_of x ≡ Some n) × (seat ≢ other) × (calls_of u ≡ calls_of x)) =
+    let old : (seat n : ℕ) (u : View) → get_elem? (set (set views 0 w) other spent_view) seat ≡ some u → number_of u ≡ Some n → (x : View) × ((get_elem? views seat ≡ some x) × (number_of x ≡ Some n) × (seat ≢ other) × (calls_of u ≡ calls_of x)) =
     λ seat n u e is_n. ⊎_elim
     (λ t. let f : None ≡ Some n = ap number_of t.1 ∙ is_n in absurd cc)
     (λ t. ⊎_elim
     (λ z. (core, (ap (get_elem? views) z.0 ∙ is.first, numbered core First is.stage ∙ sym (numbered w First is.stage) ∙ ap number_of z.1 ∙ is_n, t.0, sym (ap calls_of z.1) ∙ calling w First is.stage ∙ sym (calling core First is.stage))))
     (λ z. (u, (z.1, is_n, t.0, refl)))
     (at_set views 0 seat w u t.1))
-    (at_set (set views 0 w) other seat spent u e) in
+    (at_set (set views 0 w) other seat spent_view u e) in
     record {
-      first = set_else (set views 0 w) other 0 spent (λ e. away (sym e)) ∙ set_here views 0 w (at_below views 0 core is.first);
+      first = set_else (set views 0 w) other 0 spent_view (λ e. away (sym e)) ∙ set_here views 0 w (at_below views 0 core is.first);
       stage = is.stage;
       own = is.own;
       lines = λ seat n u e is_n.

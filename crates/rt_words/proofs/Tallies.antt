@@ -8,10 +8,10 @@ use Rattle.rt_words.proofs.Counting.{one_if}
 use Rattle.rt_words.specs.declared.call.Pended.TheVariants.{Raised, Merged}
 use Rattle.rt_words.specs.declared.call.Call.{Call}
 use Rattle.rt_words.specs.declared.call.Call.TheVariants.{Latch, Pend}
-use Rattle.rt_words.specs.Account.{raises, merges, latches, latched}
+use Rattle.rt_words.specs.Account.{raises, merges, latches, latched_count}
 use Rattle.rt_words.specs.Inside.Fields.{Counts, IsCoreSeat, IsDeviceSeat}
 use Rattle.rt_words.specs.Inside.Seats.{Seat}
-use Rattle.rt_words.specs.Inside.Steps.{called, device, newcomer, reserving, without_reserved, joined}
+use Rattle.rt_words.specs.Inside.Steps.{view_after_call, device, newcomer, view_after_reserve, without_reserved, view_after_join}
 use Rattle.rt_words.specs.declared.view.Part.{Part}
 use Rattle.rt_words.specs.History.{Entry}
 use Rattle.rt_words.proofs.Bits.{blank, blank_long, zeros}
@@ -51,7 +51,7 @@ none_more f calls c is misses irq =
     omega arith
 
 after_merged_at : (me : Seat) (rs ms : List ℕ) (n : ℕ) (seen : List Entry) → IsDeviceSeat me rs ms → n < 512
-    → IsDeviceSeat (called me.0 seen (Pend n Merged), me.1) rs (set ms n (get_or ms n 0 + 1))
+    → IsDeviceSeat (view_after_call me.0 seen (Pend n Merged), me.1) rs (set ms n (get_or ms n 0 + 1))
 after_merged_at me rs ms n seen is l = let e = is.room_merged in record {
   slots = is.slots;
   stage = is.stage;
@@ -63,7 +63,7 @@ after_merged_at me rs ms n seen is l = let e = is.room_merged in record {
 }
 
 after_raised_at : (me : Seat) (rs ms : List ℕ) (n : ℕ) (seen : List Entry) → IsDeviceSeat me rs ms → n < 512
-    → IsDeviceSeat (called me.0 seen (Pend n Raised), me.1) (set rs n (get_or rs n 0 + 1)) ms
+    → IsDeviceSeat (view_after_call me.0 seen (Pend n Raised), me.1) (set rs n (get_or rs n 0 + 1)) ms
 after_raised_at me rs ms n seen is l = let e = is.room_raised in record {
   slots = is.slots;
   stage = is.stage;
@@ -76,20 +76,20 @@ after_raised_at me rs ms n seen is l = let e = is.room_raised in record {
 
 -- a device's line after a pend, with its count one more
 pub after_merged : (me me' : Seat) (rs ms : List ℕ) (n : ℕ) (seen : List Entry) → IsDeviceSeat me rs ms → n < 512
-    → me' ≡ (called me.0 seen (Pend n Merged), me.1) → IsDeviceSeat me' rs (set ms n (get_or ms n 0 + 1))
+    → me' ≡ (view_after_call me.0 seen (Pend n Merged), me.1) → IsDeviceSeat me' rs (set ms n (get_or ms n 0 + 1))
 after_merged me me' rs ms n seen is l e =
     subst (λ (x : Seat). IsDeviceSeat x rs (set ms n (get_or ms n 0 + 1))) (sym e)
     (after_merged_at me rs ms n seen is l)
 
 pub after_raised : (me me' : Seat) (rs ms : List ℕ) (n : ℕ) (seen : List Entry) → IsDeviceSeat me rs ms → n < 512
-    → me' ≡ (called me.0 seen (Pend n Raised), me.1) → IsDeviceSeat me' (set rs n (get_or rs n 0 + 1)) ms
+    → me' ≡ (view_after_call me.0 seen (Pend n Raised), me.1) → IsDeviceSeat me' (set rs n (get_or rs n 0 + 1)) ms
 after_raised me me' rs ms n seen is l e =
     subst (λ (x : Seat). IsDeviceSeat x (set rs n (get_or rs n 0 + 1)) ms) (sym e)
     (after_raised_at me rs ms n seen is l)
 
 after_latched_at : (id : ℕ) (me : Seat) (old new : List ℕ) (k word : ℕ) (seen : List Entry) → IsCoreSeat id me old
     → length new ≡ 512 → ((irq : ℕ) → get_or new irq 0 ≡ get_or old irq 0 + cond (latches irq (Latch k word)) 1 0)
-    → IsCoreSeat id (called me.0 seen (Latch k word), me.1) new
+    → IsCoreSeat id (view_after_call me.0 seen (Latch k word), me.1) new
 after_latched_at id me old new k word seen is room grown = record {
   first = is.first;
   slots = is.slots;
@@ -110,7 +110,7 @@ after_latched_at id me old new k word seen is room grown = record {
 pub after_latched : (id id' : ℕ) (me me' : Seat) (old new : List ℕ) (k word : ℕ) (seen : List Entry)
     → IsCoreSeat id me old → length new ≡ 512
     → ((irq : ℕ) → get_or new irq 0 ≡ get_or old irq 0 + cond (latches irq (Latch k word)) 1 0)
-    → id' ≡ id → me' ≡ (called me.0 seen (Latch k word), me.1) → IsCoreSeat id' me' new
+    → id' ≡ id → me' ≡ (view_after_call me.0 seen (Latch k word), me.1) → IsCoreSeat id' me' new
 after_latched id id' me me' old new k word seen is room grown same e =
     subst (λ (x : ℕ × Seat). IsCoreSeat x.0 x.1 new) (λ i. (sym same i, sym e i))
     (after_latched_at id me old new k word seen is room grown)
@@ -120,7 +120,7 @@ pub counts_room : (f : ℕ → Call → Bool) (counts : List ℕ) (calls : List 
 counts_room f counts calls is wide few irq = dite (dec_lt irq 512) (λ l. let b = count_by-le-length (f irq) calls in let c = is irq l in omega arith) (λ no_. let z : get_or counts irq 0 ≡ 0 = get_or_past counts irq 0 (omega arith) in omega arith)
 
 -- the core's line after it made a line
-pub after_made : (id id' number : ℕ) (me me' : Seat) (counts : List ℕ) → IsCoreSeat id me counts → id' ≡ id → me' ≡ (without_reserved (reserving number me.0), me.1) → IsCoreSeat id' me' counts
+pub after_made : (id id' number : ℕ) (me me' : Seat) (counts : List ℕ) → IsCoreSeat id me counts → id' ≡ id → me' ≡ (without_reserved (view_after_reserve number me.0), me.1) → IsCoreSeat id' me' counts
 after_made id id' number me me' counts is same e = subst (λ (x : ℕ × Seat). IsCoreSeat x.0 x.1 counts) (λ i. (sym same i, sym e i)) record {
   first = is.first;
   slots = is.slots;
@@ -150,7 +150,7 @@ new_device number seen may me rs ms e r m =
 -- the core's line after it took in a line
 pub after_gathered : (id id' : ℕ) (me me' dev : Seat) (counts rs ms : List ℕ) (since : ℕ) (seen : List Entry)
     → IsCoreSeat id me counts → IsDeviceSeat dev rs ms → id' ≡ id
-    → me' ≡ (record (joined me.0 dev.0) { since = since; seen = seen }, me.1) → IsCoreSeat id' me' counts
+    → me' ≡ (record (view_after_join me.0 dev.0) { since = since; seen = seen }, me.1) → IsCoreSeat id' me' counts
 after_gathered id id' me me' dev counts rs ms since seen is taken same e =
     subst (λ (x : ℕ × Seat). IsCoreSeat x.0 x.1 counts) (λ i. (sym same i, sym e i)) record {
       first = is.first;
@@ -162,7 +162,7 @@ after_gathered id id' me me' dev counts rs ms since seen is taken same e =
       raises = is.raises;
       merges = is.merges;
       others = λ irq.
-          let all = sum_by-cons (λ (p : Part). latched irq p.calls)
+          let all = sum_by-cons (λ (p : Part). latched_count irq p.calls)
           (record { line = dev.0.line; calls = dev.0.calls }) me.0.gathered in
           let one = taken.latches irq in
           let rest = is.others irq in

@@ -2,9 +2,9 @@
 use Rattle.std.proofs.Common.{◌≡◌, ℕ, List, [], ◌∷◌, replicate, refl}
 use Rattle.rt_words.specs.declared.call.Pended.TheVariants.{Raised, Merged}
 use Rattle.rt_words.specs.declared.call.Call.TheVariants.{Latch, Pend}
-use Rattle.rt_words.specs.Object.{pending}
+use Rattle.rt_words.specs.Object.{pending_bit}
 use Rattle.rt_words.specs.History.{Entry, IsLegal, part}
-use Rattle.rt_words.specs.Account.{raised, merged, latched}
+use Rattle.rt_words.specs.Account.{raised_count, merged_count, latched_count}
 use Rattle.rt_words.specs.Ending.{calls_in}
 use Rattle.rt_words.proofs.Histories.{entry}
 
@@ -21,5 +21,5 @@ is_legal = (refl, (refl, (refl, (refl, refl))))
 core_part : part history 255 ≡ Latch 0 8 ∷ []
 core_part = refl
 
-counts : (raised 3 (calls_in history) ≡ 2) × (merged 3 (calls_in history) ≡ 1) × (latched 3 (calls_in history) ≡ 1) × (pending left 3 ≡ 1)
+counts : (raised_count 3 (calls_in history) ≡ 2) × (merged_count 3 (calls_in history) ≡ 1) × (latched_count 3 (calls_in history) ≡ 1) × (pending_bit left 3 ≡ 1)
 counts = (refl, refl, refl, refl)

@@ -23,13 +23,13 @@ latches irq (Pend n answer) = false
 latches irq (Latch k word) = (k == irq / 32) && (bit_at word (irq % 32) == 1)
 
 -- how often an interrupt was raised by these calls
-abbrev pub raised : ℕ → List Call → ℕ
-raised irq calls = count_by (raises irq) calls
+abbrev pub raised_count : ℕ → List Call → ℕ
+raised_count irq calls = count_by (raises irq) calls
 
 -- how often a request of an interrupt was merged by these calls
-abbrev pub merged : ℕ → List Call → ℕ
-merged irq calls = count_by (merges irq) calls
+abbrev pub merged_count : ℕ → List Call → ℕ
+merged_count irq calls = count_by (merges irq) calls
 
 -- how often an interrupt was latched by these calls
-abbrev pub latched : ℕ → List Call → ℕ
-latched irq calls = count_by (latches irq) calls
+abbrev pub latched_count : ℕ → List Call → ℕ
+latched_count irq calls = count_by (latches irq) calls

@@ -3,9 +3,9 @@ use Rattle.std.specs.Prelude.{◌≡◌, ◌≢◌, ℕ, ◌+◌, ◌<◌, List,
 use Rattle.rt_words.specs.declared.call.Call.{Call}
 use Rattle.rt_words.specs.declared.call.Call.TheVariants.{Latch}
 use Rattle.rt_words.specs.declared.view.Part.{Part}
-use Rattle.rt_words.specs.Object.{pending}
+use Rattle.rt_words.specs.Object.{pending_bit}
 use Rattle.rt_words.specs.History.{Entry, IsLegal, part}
-use Rattle.rt_words.specs.Account.{raised, merged, latched}
+use Rattle.rt_words.specs.Account.{raised_count, merged_count, latched_count}
 use Rattle.rt_words.specs.Lines.{Core, numbers}
 
 -- every line that was made has been gathered
@@ -34,7 +34,7 @@ pub record OneHistory (line : Core) (bits : List ℕ) : Type 0 where
   pub gathered : (p : Part) → Contains line.gathered p → part history p.line ≡ p.calls
   pub unmade : (number : ℕ) → number ≢ 255 → ¬ Contains line.made number → part history number ≡ []
   pub account : (irq : ℕ) → irq < 512
-      → raised irq (calls_in history) ≡ latched irq (calls_in history) + pending bits irq
-  pub raised : (irq : ℕ) → raised irq (calls_in history) ≡ times_gathered (raised irq) line
-  pub merged : (irq : ℕ) → merged irq (calls_in history) ≡ times_gathered (merged irq) line
-  pub latched : (irq : ℕ) → latched irq (calls_in history) ≡ latched irq line.calls
+      → raised_count irq (calls_in history) ≡ latched_count irq (calls_in history) + pending_bit bits irq
+  pub raised : (irq : ℕ) → raised_count irq (calls_in history) ≡ times_gathered (raised_count irq) line
+  pub merged : (irq : ℕ) → merged_count irq (calls_in history) ≡ times_gathered (merged_count irq) line
+  pub latched : (irq : ℕ) → latched_count irq (calls_in history) ≡ latched_count irq line.calls

@@ -1,9 +1,9 @@
 ghost use Rattle.std.specs.Prelude.{◌≡◌, ◌≢◌, ℕ, ◌+◌, ◌-◌, ◌*◌, ◌^◌, ◌<◌, ◌++◌, ◌∷◌, [], length, slice_index, Contains};
 ghost use Rattle.std.specs.Int.{bit_at};
 ghost use Rattle.rt_words.specs.Object.{IsPending};
-ghost use Rattle.rt_words.specs.Account.{raised, merged};
+ghost use Rattle.rt_words.specs.Account.{raised_count, merged_count};
 ghost use Rattle.rt_words.specs.Lines.{count, numbers};
-ghost use Rattle.rt_words.specs.Inside.Steps.{reserving};
+ghost use Rattle.rt_words.specs.Inside.Steps.{view_after_reserve};
 ghost use Rattle.rt_words.specs.declared.call.Call.{Call};
 
 use crate::counts::count_bits;
@@ -47,7 +47,7 @@ fn reserve<N: Numbered>(words: &Words, seat: &mut Seat<(), View>, number: u8)
     requires other { number ≢ 255 }
     requires new { ¬ Contains seat.old.me.0.made number }
     ensures seat { (seat.new.table_id ≡ seat.old.table_id) × (seat.new.id ≡ seat.old.id) }
-    ensures view { seat.new.me ≡ (reserving number seat.old.me.0, seat.old.me.1) }
+    ensures view { seat.new.me ≡ (view_after_reserve number seat.old.me.0, seat.old.me.1) }
 {
     words.table.shared.load::<Reserve<N>>(seat, 0);
 }
@@ -95,8 +95,8 @@ impl CoreLine {
           gathered = record { line = line.number; calls = line.calls } ∷ self.old.gathered;
           since = length self.old.calls;
         } }
-        ensures raised { (irq : ℕ) → irq < 512 → slice_index result.raised irq ≡ raised irq line.calls }
-        ensures merged { (irq : ℕ) → irq < 512 → slice_index result.merged irq ≡ merged irq line.calls }
+        ensures raised { (irq : ℕ) → irq < 512 → slice_index result.raised irq ≡ raised_count irq line.calls }
+        ensures merged { (irq : ℕ) → irq < 512 → slice_index result.merged irq ≡ merged_count irq line.calls }
         ensures made { Contains self.old.made line.number }
         ensures once { ¬ Contains (numbers self.old.gathered) line.number }
     {

@@ -18,18 +18,18 @@ impl TableRule<(), View, [u32; 16]> for Law {
 pub(crate) struct Pend;
 
 impl Play<(), View> for Pend {
-    ghost use Rattle.rt_words.specs.Inside.Steps.{pended};
+    ghost use Rattle.rt_words.specs.Inside.Steps.{pend_step};
 
-    ghost then = { pended };
+    ghost then = { pend_step };
 }
 
 // The core latches.
 pub(crate) struct Latch;
 
 impl Play<(), View> for Latch {
-    ghost use Rattle.rt_words.specs.Inside.Steps.{latched};
+    ghost use Rattle.rt_words.specs.Inside.Steps.{latch_step};
 
-    ghost then = { latched };
+    ghost then = { latch_step };
 }
 
 // The number of the line that is being made. Each call of a program picks it.
@@ -49,47 +49,47 @@ pub(crate) struct Reserve<N> {
 }
 
 impl<N: Numbered> Play<(), View> for Reserve<N> {
-    ghost use Rattle.rt_words.specs.Inside.Steps.{reserved};
+    ghost use Rattle.rt_words.specs.Inside.Steps.{reserve_step};
 
-    ghost then = { reserved N.number };
+    ghost then = { reserve_step N.number };
 }
 
 // The core splits off a seat, which has the reserved number.
 pub(crate) struct SplitOff;
 
 impl Split<View> for SplitOff {
-    ghost use Rattle.rt_words.specs.Inside.Steps.{without_reserved, copied};
+    ghost use Rattle.rt_words.specs.Inside.Steps.{without_reserved, view_of_copy};
 
     ghost left = { without_reserved };
 
-    ghost right = { copied };
+    ghost right = { view_of_copy };
 }
 
 // The new seat takes its number.
 pub(crate) struct Take;
 
 impl Play<(), View> for Take {
-    ghost use Rattle.rt_words.specs.Inside.Steps.{took};
+    ghost use Rattle.rt_words.specs.Inside.Steps.{take_step};
 
-    ghost then = { took };
+    ghost then = { take_step };
 }
 
 // The core takes in a line.
 pub(crate) struct Gather;
 
 impl Join<View> for Gather {
-    ghost use Rattle.rt_words.specs.Inside.Steps.{joined, spent};
+    ghost use Rattle.rt_words.specs.Inside.Steps.{view_after_join, spent_view};
 
-    ghost both = { joined };
+    ghost both = { view_after_join };
 
-    ghost spent = { spent };
+    ghost spent = { spent_view };
 }
 
 // The core looks after a join.
 pub(crate) struct Look;
 
 impl Play<(), View> for Look {
-    ghost use Rattle.rt_words.specs.Inside.Steps.{looked};
+    ghost use Rattle.rt_words.specs.Inside.Steps.{look_step};
 
-    ghost then = { looked };
+    ghost then = { look_step };
 }

@@ -1,9 +1,9 @@
 ghost use Rattle.std.specs.Prelude.{◌≡◌, ℕ, ◌+◌, ◌*◌, ◌^◌, ◌<◌, ◌≤◌, [], drop, slice_index, sum_by, IfOk};
 ghost use Rattle.std.specs.Mem.Slots.{slots_items, slots_len, IsFull};
 ghost use Rattle.rt_ids.specs.declared.limits.TheConstants.{IRQ_NUMBERS};
-ghost use Rattle.rt_words.specs.Object.{IsPending, pending};
-ghost use Rattle.rt_words.specs.Account.{raised, latched};
-ghost use Rattle.rt_words.specs.Inside.Rule.{padded};
+ghost use Rattle.rt_words.specs.Object.{IsPending, pending_bit};
+ghost use Rattle.rt_words.specs.Account.{raised_count, latched_count};
+ghost use Rattle.rt_words.specs.Inside.Rule.{padded_words};
 ghost use Rattle.rt_words.specs.Ending.{AllGathered, LatchedAreZero, OneHistory};
 ghost use Rattle.rt_words.specs.Lines.{count, IsUnused};
 
@@ -69,10 +69,10 @@ impl Words {
         requires words { line.words ≡ self }
         requires gathered { AllGathered line.made line.gathered }
         ensures history { OneHistory line result.bits }
-        ensures latched { (irq : ℕ) → irq < 512 → slice_index result.latched irq ≡ latched irq line.calls }
+        ensures latched { (irq : ℕ) → irq < 512 → slice_index result.latched irq ≡ latched_count irq line.calls }
         ensures account { (irq : ℕ) → irq < 512
-            → sum_by (λ p. raised irq p.calls) line.gathered
-            ≡ slice_index result.latched irq + pending result.bits irq }
+            → sum_by (λ p. raised_count irq p.calls) line.gathered
+            ≡ slice_index result.latched irq + pending_bit result.bits irq }
         ensures behind { (k : ℕ) → count self ≤ k → slice_index result.bits k ≡ 0 }
         ensures silent { LatchedAreZero (drop line.since line.calls) result.bits }
     {
@@ -89,7 +89,7 @@ fn bits_in(closed: Closed<(), Global>) -> [u32; 16]
     requires short { slots_len closed.words ≤ 16 }
     requires low { (k : ℕ) → slice_index (slots_items closed.words) k < 2 ^ 32 }
     requires no_slots { slots_len closed.slots ≡ 0 }
-    ensures { result ≡ padded (slots_items closed.words) }
+    ensures { result ≡ padded_words (slots_items closed.words) }
 {
     let mut bits = [0u32; 16];
     for k in 0..closed.words.len() {

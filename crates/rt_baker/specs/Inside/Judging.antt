@@ -10,8 +10,8 @@ use Rattle.rt_laws.specs.State as laws
 use Rattle.rt_laws.specs.Allowed.{May, after}
 use Rattle.rt_laws.specs.Run.{RunsOn, IsWithinStack}
 use Rattle.rt_laws.specs.Counts.{AreWithin}
-use Rattle.rt_laws.specs.ByItems.{label_of, done_after, after_all, silent, Comes, after_item}
-use Rattle.rt_moves.specs.State.{Held, StateIs}
+use Rattle.rt_laws.specs.ByItems.{label_of, steps_after, after_all, silent, Comes, after_item}
+use Rattle.rt_baker_moves.specs.State.{Held, StateIs}
 use Rattle.rt_baker.specs.declared.done.Done.{Done}
 use Rattle.rt_baker.specs.Judge.{steps_done}
 
@@ -54,7 +54,7 @@ Passes app false old new k = (t : laws.State) → StateIs app old t → RunsOn a
 pub record Behind (app : App) (t : laws.State) (n : ℕ) (item : Item) (new : Held) (m : ℕ) : Type 0 where
   pub comes : Comes app t n item
   pub is : StateIs app new (after_item app t n item)
-  pub steps : m ≡ done_after item.step (label_of t.owing item.what)
+  pub steps : m ≡ steps_after item.step (label_of t.owing item.what)
 
 -- An item came with the silent steps in front of it where they might, and only there.
 unfoldable pub ItemComes : App → Option Done → Held → Held → ℕ → Item → Type 0

@@ -55,8 +55,8 @@ pub record HasDispatcher (app : App) (level : ℕ) (code : List Line) (entry : �
   pub there : HasCode code entry (dispatcher_code app level entry)
 
 -- the code of the timer handler at a level stands at an address
-pub record HasHandler (app : App) (level : ℕ) (code : List Line) (entry : ℕ) : Type 0 where
-  pub there : HasCode code entry (timer_code app level entry)
+pub record HasHandler (app : App) (priority : ℕ) (code : List Line) (entry : ℕ) : Type 0 where
+  pub there : HasCode code entry (timer_code app priority entry)
 
 module _ (app : App) (lines : List Line) where
   -- the code of `init` stands at 0, and that of the thread at this address, where it goes on behind `init`

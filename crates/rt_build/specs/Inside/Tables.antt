@@ -15,7 +15,7 @@ untimed_services app =
     task_services 0 app.tasks ++ flat_map (λ p. dispatcher_service p (dispatcher_of app p)) (levels app)
 
 module _ (app : App) (at : Entries) (services : List Service) where
-  -- how the interrupt of this place is served, if only these are served
+  -- how the interrupt of this index is served, if only these are served
   abbrev pub handler_of : ℕ → Option Handler
   handler_of irq = option_map (handler_row app at) (slice_get (filter (λ s. s.irq == irq) services) 0)
 

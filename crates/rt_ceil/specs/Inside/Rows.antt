@@ -11,23 +11,23 @@ use Rattle.rt_app.specs.Level.{is_software}
 use Rattle.rt_ids.specs.Lists.{those_below}
 use Rattle.rt_ceil.specs.Inside.Tables.{level_of}
 
--- the ceiling of a task's free places, where the task is a software task
+-- the ceiling of a task's free indices, where the task is a software task
 abbrev pub free_row : Task → ℕ → Option ℕ
 free_row t priority = if is_software t then Some (max t.priority priority) else None
 
--- the ceilings of the free places of the tasks from this number on
+-- the ceilings of the free indices of the tasks from this number on
 abbrev pub free_rows : List ℕ → ℕ → List Task → List (Option ℕ)
 free_rows table n [] = []
 free_rows table n (t ∷ ts) = free_row t (slice_index table n) ∷ free_rows table (n + 1) ts
 
 -- the levels with this one marked too
-abbrev pub marked : List Bool → Option ℕ → List Bool
-marked served None = served
-marked served (Some level) = if nat_lt level (length served) then slice_set served level true else served
+abbrev pub served_with : List Bool → Option ℕ → List Bool
+served_with served None = served
+served_with served (Some level) = if nat_lt level (length served) then slice_set served level true else served
 
 -- for each level, whether there is a software task of it
 abbrev pub served_levels : List Task → List Bool
-served_levels ts = fold (λ served t. marked served (level_of t)) (replicate PRIORITIES false) ts
+served_levels ts = fold (λ served t. served_with served (level_of t)) (replicate PRIORITIES false) ts
 
 -- the ceiling of the ready queue of a level: no less than the level itself
 abbrev pub ready_row : List ℕ → ℕ → ReadyCeiling

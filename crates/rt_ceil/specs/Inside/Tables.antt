@@ -25,23 +25,23 @@ abbrev pub tables : List ℕ → List ℕ → List ℕ → ℕ → Tables
 tables shared free ready timer = record { shared = shared; free = free; ready = ready; timer = timer }
 
 -- the tables before any body
-abbrev pub untouched : App → Tables
-untouched app = record {
+abbrev pub zero_tables : App → Tables
+zero_tables app = record {
   shared = replicate (length app.shared) 0;
   free = replicate (length app.tasks) 0;
   ready = replicate PRIORITIES 0;
   timer = 0;
 }
 
--- a table with the entry at this place at least this, where there is such a place
-abbrev pub raised : List ℕ → ℕ → ℕ → List ℕ
-raised table place priority =
-    if nat_lt place (length table) then slice_set table place (max (slice_index table place) priority) else table
+-- a table with the entry at this index at least this, where there is such an index
+abbrev pub raised_table : List ℕ → ℕ → ℕ → List ℕ
+raised_table table index priority =
+    if nat_lt index (length table) then slice_set table index (max (slice_index table index) priority) else table
 
 -- a table with the entry of a level at least this, where there is a level
 abbrev pub raised_level : List ℕ → Option ℕ → ℕ → List ℕ
 raised_level table None priority = table
-raised_level table (Some level) priority = raised table level priority
+raised_level table (Some level) priority = raised_table table level priority
 
 -- the level of a software task
 abbrev pub level_of : Task → Option ℕ
@@ -58,26 +58,26 @@ mover None = 0
 mover (Some mono) = mono.priority
 
 -- the tables after a spawn by a body of this priority
-abbrev pub spawned : App → ℕ → Tables → Spawn → Tables
-spawned app priority t (Soon task args at) = record {
+abbrev pub tables_after_spawn : App → ℕ → Tables → Spawn → Tables
+tables_after_spawn app priority t (Soon task args at) = record {
   shared = t.shared;
-  free = raised t.free task priority;
+  free = raised_table t.free task priority;
   ready = raised_level t.ready (level_in (slice_get app.tasks task)) priority;
   timer = t.timer;
 }
-spawned app priority t (After word delay task args at) = record {
+tables_after_spawn app priority t (After word delay task args at) = record {
   shared = t.shared;
-  free = raised t.free task priority;
+  free = raised_table t.free task priority;
   ready = raised_level t.ready (level_in (slice_get app.tasks task)) (mover app.mono);
   timer = max t.timer priority;
 }
-spawned app priority t (Cancel word task handle at) = record {
+tables_after_spawn app priority t (Cancel word task handle at) = record {
   shared = t.shared;
-  free = raised t.free task priority;
+  free = raised_table t.free task priority;
   ready = t.ready;
   timer = max t.timer priority;
 }
-spawned app priority t (Move word delay task handle at) = record {
+tables_after_spawn app priority t (Move word delay task handle at) = record {
   shared = t.shared;
   free = t.free;
   ready = t.ready;
@@ -85,28 +85,28 @@ spawned app priority t (Move word delay task handle at) = record {
 }
 
 -- the tables after a listing by a body of this priority
-abbrev pub listed : ℕ → Tables → Listed → Tables
-listed priority t l = record {
-  shared = raised t.shared l.resource priority;
+abbrev pub tables_after_listing : ℕ → Tables → Listed → Tables
+tables_after_listing priority t l = record {
+  shared = raised_table t.shared l.resource priority;
   free = t.free;
   ready = t.ready;
   timer = t.timer;
 }
 
 -- the tables after a body of this priority that lists these and does this
-abbrev pub used : App → ℕ → List Listed → Block → Tables → Tables
-used app priority shared block t = fold (spawned app priority) (fold (listed priority) t shared) (spawns block)
+abbrev pub tables_after_body : App → ℕ → List Listed → Block → Tables → Tables
+tables_after_body app priority shared block t = fold (tables_after_spawn app priority) (fold (tables_after_listing priority) t shared) (spawns block)
 
 -- the tables after `init` or `idle`, where it is declared
 abbrev pub used_by_thread : App → Tables → Option Body → Tables
 used_by_thread app t None = t
-used_by_thread app t (Some b) = used app 0 b.shared b.block t
+used_by_thread app t (Some b) = tables_after_body app 0 b.shared b.block t
 
 -- the tables after the body of a task
 abbrev pub used_by_task : App → Tables → Task → Tables
-used_by_task app t task = used app task.priority task.body.shared task.body.block t
+used_by_task app t task = tables_after_body app task.priority task.body.shared task.body.block t
 
 -- the tables after all bodies
-abbrev pub filled : App → Tables
-filled app =
-    fold (used_by_task app) (used_by_thread app (used_by_thread app (untouched app) app.init) app.idle) app.tasks
+abbrev pub filled_tables : App → Tables
+filled_tables app =
+    fold (used_by_task app) (used_by_thread app (used_by_thread app (zero_tables app) app.init) app.idle) app.tasks

@@ -25,8 +25,8 @@ abbrev pub below_caller : Option ℕ → List ℕ → List ℕ
 below_caller size ws = without (unwrap_or size 0) ws
 
 -- what was interrupted, by its exception frame, the words below that and the size of a caller's frame
-abbrev pub saved : List ℕ → List ℕ → Option ℕ → Saved
-saved pushed under caller =
+abbrev pub saved_context : List ℕ → List ℕ → Option ℕ → Saved
+saved_context pushed under caller =
     let n = slice_index pushed LINK in record {
       number = slice_index pushed STATUS;
       address = slice_index pushed RETURN_ADDRESS;
@@ -39,12 +39,12 @@ abbrev pub below_saved : List ℕ → List ℕ → Option ℕ → List ℕ
 below_saved pushed under caller = below_caller caller (without (slice_index pushed LINK) under)
 
 -- the contexts that words end with, by the size of an exception frame and that of a caller's frame in each
-abbrev pub saved_of : ℕ → List ℕ → List (Option ℕ) → List Saved
-saved_of entry ws [] = []
-saved_of entry ws (caller ∷ callers) =
+abbrev pub contexts_in_words : ℕ → List ℕ → List (Option ℕ) → List Saved
+contexts_in_words entry ws [] = []
+contexts_in_words entry ws (caller ∷ callers) =
     let pushed = last_of entry ws in
     let under = without entry ws in
-    saved pushed under caller ∷ saved_of entry (below_saved pushed under caller) callers
+    saved_context pushed under caller ∷ contexts_in_words entry (below_saved pushed under caller) callers
 
 -- the frames that the code's words and sizes spell
 unfoldable pub frames : Inside → Frames
@@ -55,7 +55,7 @@ frames c =
       entry = c.entry;
       slots = last_of c.frame c.region.words;
       caller = caller_of c.caller under;
-      below = saved_of c.entry (below_caller c.caller under) (reverse c.callers.items);
+      below = contexts_in_words c.entry (below_caller c.caller under) (reverse c.callers.items);
     }
 
 -- the size of a caller's frame

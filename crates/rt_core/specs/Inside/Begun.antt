@@ -14,8 +14,8 @@ use Rattle.rt_core.specs.declared.step.Begun.{Begun}
 use Rattle.rt_core.specs.declared.step.Begun.TheVariants as begun
 
 -- what comes of a step that began at a code address and has come so far, where an instruction came to this
-abbrev pub left_of : Image → Core → ℕ → Begun → Result Request Trap → Outcome
-left_of img c address (begun.Entry irq) came = attempt img c (pick img c)
-left_of img c address begun.Noted came = go_on img c (note_at img address) (Leads c.processor request.Nothing)
-left_of img c address begun.Asked came = go_on img c (note_at img address) (effect_of c.processor came)
-left_of img c address how came = Done c None
+abbrev pub outcome_of_rest : Image → Core → ℕ → Begun → Result Request Trap → Outcome
+outcome_of_rest img c address (begun.Entry irq) came = attempt img c (pick img c)
+outcome_of_rest img c address begun.Noted came = go_on img c (note_at img address) (Leads c.processor request.Nothing)
+outcome_of_rest img c address begun.Asked came = go_on img c (note_at img address) (effect_of c.processor came)
+outcome_of_rest img c address how came = Done c None

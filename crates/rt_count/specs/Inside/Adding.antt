@@ -5,8 +5,8 @@ use Rattle.rt_trace.specs.declared.item.What.TheVariants as what
 use Rattle.rt_count.specs.declared.summary.Summary.{Summary}
 
 -- a summary with this thing counted too
-abbrev pub counted : Summary → What → Summary
-counted s (what.Take irq depth) = record s { takes = s.takes + 1; depth = max s.depth depth }
-counted s (what.Emit value) = record s { emits = s.emits + 1; sum = (s.sum + value) % 2 ^ 64 }
-counted s (what.Full task) = record s { full = s.full + 1 }
-counted s w = s
+abbrev pub summary_with_item : Summary → What → Summary
+summary_with_item s (what.Take irq depth) = record s { takes = s.takes + 1; depth = max s.depth depth }
+summary_with_item s (what.Emit value) = record s { emits = s.emits + 1; sum = (s.sum + value) % 2 ^ 64 }
+summary_with_item s (what.Full task) = record s { full = s.full + 1 }
+summary_with_item s w = s

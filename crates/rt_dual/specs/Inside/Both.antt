@@ -13,15 +13,15 @@ use Rattle.rt_dual.specs.Inside.Ringing.{AreRoutes}
 use Rattle.rt_dual.specs.Inside.Running.{Ends}
 use Rattle.rt_dual.specs.declared.half.Half.{Half}
 use Rattle.rt_dual.specs.declared.pairing.Both.{Both}
-use Rattle.rt_dual.specs.declared.place.Place.{Place}
-use Rattle.rt_dual.specs.declared.place.Place.TheVariants.{First, Second}
+use Rattle.rt_dual.specs.declared.core_id.CoreId.{CoreId}
+use Rattle.rt_dual.specs.declared.core_id.CoreId.TheVariants.{First, Second}
 use Rattle.rt_dual.specs.declared.side.Side.{Side}
 
 -- the side of a core with what belongs to it, before its first event; the other side rings on its words
-pub record IsBefore (place : Place) (img other : Image) (half : Half) (side far : Side) : Type 0 where
-  pub made : IsMade img.names (number_of (other_of place)) half.words side.line far.bell half.rows.items
-  pub front : half.front.items ≡ front place img
-  pub at : side.place ≡ place
+pub record IsBefore (core_id : CoreId) (img other : Image) (half : Half) (side far : Side) : Type 0 where
+  pub made : IsMade img.names (number_of (other_of core_id)) half.words side.line far.bell half.rows.items
+  pub front : half.front.items ≡ front core_id img
+  pub at : side.core_id ≡ core_id
   pub routes : AreRoutes img other.names side.routes
   pub kept : side.trace.bytes.items ≡ []
 

@@ -17,11 +17,11 @@ use Rattle.rt_live.specs.Ready.{IsCounted}
 use Rattle.rt_live.specs.declared.account.AccountRow.{AccountRow}
 use Rattle.rt_live.specs.declared.turns.TheConstants.{WORDS}
 use Rattle.rt_dual.specs.Inside.Own.{line_of}
-use Rattle.rt_dual.specs.declared.place.Place.{Place}
+use Rattle.rt_dual.specs.declared.core_id.CoreId.{CoreId}
 
 -- the text in front of the trace of a core
-abbrev pub front : Place → Image → List ℕ
-front place img = line_of place ++ listing img ++ codes "trace\n"
+abbrev pub front : CoreId → Image → List ℕ
+front core_id img = line_of core_id ++ listing img ++ codes "trace\n"
 
 -- Words with the bits of the declared interrupts, the core's line of them, one line that it made for the other core,
 -- whose number this is, and empty rows: nothing was called yet.

@@ -2,7 +2,7 @@
 use Rattle.std.specs.Prelude.{◌≡◌, ℕ, List, ◌++◌, map, filter_map, slice_index_or, option_and_then, Option, Some, None}
 use Rattle.rt_code.specs.Image.{Image}
 use Rattle.rt_ids.specs.Names.{Names}
-use Rattle.rt_devices.specs.Work.{asked_by}
+use Rattle.rt_devices.specs.Work.{interrupt_asked}
 use Rattle.rt_trace.specs.declared.item.Item.{Item}
 use Rattle.rt_trace.specs.declared.item.What.{What}
 use Rattle.rt_trace.specs.declared.item.What.TheVariants as what
@@ -13,17 +13,17 @@ use Rattle.rt_dual.specs.Forwarded.{forward}
 use Rattle.rt_dual.specs.declared.side.Side.{Side}
 
 -- the interrupt that an item pends on the other core, by the table
-abbrev pub rung_by : List (Option ℕ) → What → Option ℕ
-rung_by routes (what.Post irq) = slice_index_or routes irq None
-rung_by routes shown = None
+abbrev pub irq_rung : List (Option ℕ) → What → Option ℕ
+irq_rung routes (what.Post irq) = slice_index_or routes irq None
+irq_rung routes shown = None
 
 -- the interrupt that a step pends on the other core, if it shows an item that does
-abbrev pub rung_of_shown : List (Option ℕ) → Option What → Option ℕ
-rung_of_shown routes shown = option_and_then (rung_by routes) shown
+abbrev pub irq_of_shown : List (Option ℕ) → Option What → Option ℕ
+irq_of_shown routes shown = option_and_then (irq_rung routes) shown
 
 -- the interrupts that these items pend on the other core, in order
-abbrev pub rung_of : List (Option ℕ) → List Item → List ℕ
-rung_of routes items = filter_map (λ item. rung_by routes item.what) items
+abbrev pub irqs_rung : List (Option ℕ) → List Item → List ℕ
+irqs_rung routes items = filter_map (λ item. irq_rung routes item.what) items
 
 -- the table is that of the posts of this image, where the other core's application has these names
 abbrev pub AreRoutes : Image → Names → List (Option ℕ) → Type 0
@@ -36,12 +36,12 @@ MayRing routes there = (irq n : ℕ) → slice_index_or routes irq None ≡ Some
 -- the line pended these interrupts, in order and no other
 pub record Rings (irqs : List ℕ) (old new : Line) : Type 0 where
   pub calls : List Call
-  pub asked : map asked_by calls ≡ map (λ irq. Some irq) irqs
+  pub asked : map interrupt_asked calls ≡ map (λ irq. Some irq) irqs
   pub line : new ≡ record old { calls = old.calls ++ calls }
 
 -- nothing of the side changed but the line by which it rings, and its count
 pub record IsSameBut (old new : Side) : Type 0 where
-  pub place : new.place ≡ old.place
+  pub core_id : new.core_id ≡ old.core_id
   pub line : new.line ≡ old.line
   pub routes : new.routes ≡ old.routes
   pub trace : new.trace ≡ old.trace

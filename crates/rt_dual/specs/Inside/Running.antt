@@ -7,9 +7,9 @@ use Rattle.rt_run.specs.Sending.{Sends, shown_items, lines_of}
 use Rattle.rt_trace.specs.Text.{total_text}
 use Rattle.rt_words.specs.Lines.{Row}
 use Rattle.rt_live.specs.Going.{IsWholeLook, IsSameLine}
-use Rattle.rt_live.specs.Weave.{Turn, looks, latches, weave}
+use Rattle.rt_live.specs.Interleaving.{Turn, looks, latches, interleaving}
 use Rattle.rt_live.specs.Inside.Able.{IsAble}
-use Rattle.rt_dual.specs.Inside.Ringing.{Rings, MayRing, rung_of}
+use Rattle.rt_dual.specs.Inside.Ringing.{Rings, MayRing, irqs_rung}
 use Rattle.rt_dual.specs.declared.side.Side.{Side}
 
 -- so many turns can be done on the side of a core with these words, which rings on those of the other core
@@ -23,17 +23,17 @@ pub record CanRun (n : ℕ) (m : Machine) (side : Side) (words there : Row) : Ty
   pub ring_room : length side.bell.calls + n < 2 ^ 32 - 1
 
 -- All of these turns were done. The core's line made the latches of their looks, and the line of the other core's words
--- the pends of what the core showed. The lines of the events of the weave were kept.
+-- the pends of what the core showed. The lines of the events of the interleaving were kept.
 pub record Runs (ts : List Turn) (a b : Machine) (old new : Side) : Type 0 where
   pub found : List (List ℕ)
   pub many : length found ≡ looks ts
   pub whole : AllByRecursion IsWholeLook found
   pub latched : new.line.calls ≡ old.line.calls ++ flat_map latches found
-  pub sends : Sends (weave ts found) a b (Some old.trace.bytes.items) (Some new.trace.bytes.items)
-  pub rings : Rings (rung_of old.routes (shown_items a (weave ts found))) old.bell new.bell
+  pub sends : Sends (interleaving ts found) a b (Some old.trace.bytes.items) (Some new.trace.bytes.items)
+  pub rings : Rings (irqs_rung old.routes (shown_items a (interleaving ts found))) old.bell new.bell
   pub few : length new.bell.calls ≤ length old.bell.calls + length ts
   pub line : IsSameLine old.line new.line
-  pub place : new.place ≡ old.place
+  pub core_id : new.core_id ≡ old.core_id
   pub routes : new.routes ≡ old.routes
 
 -- The same, and the line of the total was kept behind them.
@@ -42,10 +42,10 @@ pub record Ends (ts : List Turn) (a b : Machine) (old new : Side) : Type 0 where
   pub many : length found ≡ looks ts
   pub whole : AllByRecursion IsWholeLook found
   pub latched : new.line.calls ≡ old.line.calls ++ flat_map latches found
-  pub leads : Leads (weave ts found) a b
+  pub leads : Leads (interleaving ts found) a b
   pub kept : new.trace.bytes.items
-      ≡ old.trace.bytes.items ++ (lines_of a (weave ts found) ++ total_text b.steps)
-  pub rings : Rings (rung_of old.routes (shown_items a (weave ts found))) old.bell new.bell
+      ≡ old.trace.bytes.items ++ (lines_of a (interleaving ts found) ++ total_text b.steps)
+  pub rings : Rings (irqs_rung old.routes (shown_items a (interleaving ts found))) old.bell new.bell
   pub few : length new.bell.calls ≤ length old.bell.calls + length ts
   pub line : IsSameLine old.line new.line
 
@@ -53,4 +53,4 @@ pub record Ends (ts : List Turn) (a b : Machine) (old new : Side) : Type 0 where
 pub record Begins (ts : List Turn) (a b : Machine) : Type 0 where
   pub found : List (List ℕ)
   pub few : length found ≤ looks ts
-  pub done : HasDone (weave ts found) a b
+  pub done : HasDone (interleaving ts found) a b

@@ -8,9 +8,9 @@ use Rattle.rt_frames.specs.declared.flags.TheConstants.{NUMBERS}
 use Rattle.rt_app.specs.Spawned.{spawns, arms_message, target}
 
 -- a table with the flags of these numbers set; there is none where one of them has no place in it
-abbrev pub flagged : List ℕ → List Bool → List Bool
-flagged [] flags = flags
-flagged (n ∷ ns) flags = if nat_lt n (length flags) then flagged ns (slice_set flags n true) else []
+abbrev pub flags_with : List ℕ → List Bool → List Bool
+flags_with [] flags = flags
+flags_with (n ∷ ns) flags = if nat_lt n (length flags) then flags_with ns (slice_set flags n true) else []
 
 -- the numbers that pass are flagged, and no others
 pub record HasFlags (flags : List Bool) (test : ℕ → Bool) : Type 0 where
@@ -18,8 +18,8 @@ pub record HasFlags (flags : List Bool) (test : ℕ → Bool) : Type 0 where
   pub flag : (n : ℕ) → get_or flags n false ≡ test n
 
 -- the tasks of the spawns after a delay
-abbrev pub armed_by : List Spawn → List ℕ
-armed_by ss = map target (filter arms_message ss)
+abbrev pub delayed_targets : List Spawn → List ℕ
+delayed_targets ss = map target (filter arms_message ss)
 
 -- the spawns of `init` or `idle`, where it is declared
 abbrev pub thread_spawns : Option Body → List Spawn

@@ -7,12 +7,12 @@ use Rattle.rt_app.specs.Spawned.{value_spawns, statement_spawns, spawns}
 use Rattle.rt_app.specs.Frame.{depth, spawn_depth, value_depth, statement_depth, block_depth, is_loop, has_loop}
 use Rattle.rt_app.specs.Frame.{statement_locks, locks, spawn_words}
 use Rattle.rt_frames.specs.declared.frame.Parts.{Parts}
-use Rattle.rt_frames.specs.Inside.Saturated.{saturated}
+use Rattle.rt_frames.specs.Inside.Saturated.{saturated_number}
 
 -- what two pieces of a body need together
 abbrev pub both : Parts → Parts → Parts
 both a b = record {
-  variables = saturated (a.variables + b.variables);
+  variables = saturated_number (a.variables + b.variables);
   depth = max a.depth b.depth;
   has_loop = a.has_loop || b.has_loop;
   locks = max a.locks b.locks;
@@ -21,13 +21,13 @@ both a b = record {
 
 -- what an expression needs
 abbrev pub expression_parts : Expression → Parts
-expression_parts e = record { variables = 0; depth = saturated (depth e); has_loop = false; locks = 0; spawns = 0 }
+expression_parts e = record { variables = 0; depth = saturated_number (depth e); has_loop = false; locks = 0; spawns = 0 }
 
 -- what a spawn needs
 abbrev pub spawn_parts : Spawn → Parts
 spawn_parts s = record {
   variables = 0;
-  depth = saturated (spawn_depth s);
+  depth = saturated_number (spawn_depth s);
   has_loop = false;
   locks = 0;
   spawns = spawn_words s;
@@ -37,7 +37,7 @@ spawn_parts s = record {
 abbrev pub value_parts : Value → Parts
 value_parts v = record {
   variables = 0;
-  depth = saturated (value_depth v);
+  depth = saturated_number (value_depth v);
   has_loop = false;
   locks = 0;
   spawns = greatest (map spawn_words (value_spawns v));
@@ -46,19 +46,19 @@ value_parts v = record {
 -- what a statement needs
 abbrev pub statement_parts : Statement → Parts
 statement_parts s = record {
-  variables = saturated (variables_in s);
-  depth = saturated (statement_depth s);
+  variables = saturated_number (variables_in s);
+  depth = saturated_number (statement_depth s);
   has_loop = is_loop s;
-  locks = saturated (statement_locks s);
+  locks = saturated_number (statement_locks s);
   spawns = greatest (map spawn_words (statement_spawns s));
 }
 
 -- what a block needs
 abbrev pub block_parts : Block → Parts
 block_parts b = record {
-  variables = saturated (variables b);
-  depth = saturated (block_depth b);
+  variables = saturated_number (variables b);
+  depth = saturated_number (block_depth b);
   has_loop = has_loop b;
-  locks = saturated (locks b);
+  locks = saturated_number (locks b);
   spawns = greatest (map spawn_words (spawns b));
 }

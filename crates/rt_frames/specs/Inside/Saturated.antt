@@ -2,5 +2,5 @@
 use Rattle.std.specs.Prelude.{ℕ, ◌-◌, ◌^◌, min}
 
 -- a number, or the greatest one of 32 bits
-abbrev pub saturated : ℕ → ℕ
-saturated n = min n (2 ^ 32 - 1)
+abbrev pub saturated_number : ℕ → ℕ
+saturated_number n = min n (2 ^ 32 - 1)

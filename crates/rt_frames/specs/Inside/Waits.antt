@@ -27,8 +27,8 @@ ceiling_or_zero None = 0
 ceiling_or_zero (Some r) = r.ceiling
 
 -- the ceiling of a resource, and 0 where there is none
-abbrev pub shared_at : Ceilings → ℕ → ℕ
-shared_at c r = get_or c.shared r 0
+abbrev pub shared_ceiling : Ceilings → ℕ → ℕ
+shared_ceiling c r = get_or c.shared r 0
 
 -- the ceiling of the free places of a task, and 0 where there is none
 abbrev pub free_at : Ceilings → ℕ → ℕ
@@ -92,7 +92,7 @@ module _ (app : App) (m : Measure) (c : Ceilings) (p : ℕ) where
     statement_wait (Branch e first second) = max (block_wait first) (block_wait second)
     statement_wait (Repeat x first last turn) = block_wait turn
     statement_wait (Locked r inner at) =
-        if nat_le p (shared_at c r) then lock_cost (block_cost m inner) else block_wait inner
+        if nat_le p (shared_ceiling c r) then lock_cost (block_cost m inner) else block_wait inner
     statement_wait (Emit e) = 0
     statement_wait (Pend i) = 0
     statement_wait (Spawns s) = spawn_wait s

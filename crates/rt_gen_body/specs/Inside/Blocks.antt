@@ -65,34 +65,34 @@ module _ (c : Context) where
       loop_front x first last
       ++ plain (instr.JumpZ c.expressions (at + 4 + length turn + 3)) ∷ (turn ++ loop_back x (at + 1))
 
-  -- a section of a resource, whose block has code at a level, with a slot and an address
+  -- a section of a resource, whose block has code at a preemption threshold, with a slot and an address
   abbrev pub lock_code : ℕ → ℕ → ℕ → ℕ → (ℕ → ℕ → ℕ → List Line) → List Line
-  lock_code level lock at r block =
-      enter_line (section.Res r) (guard_at r) level lock
-      ∷ (block (max level (guard_at r).ceiling) (next_slot lock) (at + 1)
-      ++ leave_line (section.Res r) (guard_at r) level lock ∷ [])
+  lock_code threshold lock at r block =
+      enter_line (section.Res r) (guard_at r) threshold lock
+      ∷ (block (max threshold (guard_at r).ceiling) (next_slot lock) (at + 1)
+      ++ leave_line (section.Res r) (guard_at r) threshold lock ∷ [])
 
-  -- the code of a statement, at a static level, with a slot for the mask of the next section, from an address on
+  -- the code of a statement, at a static preemption threshold, with a slot for the mask of the next section, from an address on
   abbrev mutual
     pub statement_code : ℕ → ℕ → ℕ → Statement → List Line
-    statement_code level lock at (Bind x v) = bind_code c level at x v
-    statement_code level lock at (Assign x e place) = assign_code c x e
-    statement_code level lock at (Branch e first second) =
+    statement_code threshold lock at (Bind x v) = bind_code c threshold at x v
+    statement_code threshold lock at (Assign x e place) = assign_code c x e
+    statement_code threshold lock at (Branch e first second) =
         let test : List Line = value_code c e in
         test
-        ++ branch_code (at + length test) (λ a. block_code level lock a first)
-        (λ a. block_code level lock a second) second
-    statement_code level lock at (Repeat x first last turn) =
-        loop_code at x first last (block_code level lock (at + 4) turn)
-    statement_code level lock at (Locked r inner place) =
-        lock_code level lock at r (λ inside slot a. block_code inside slot a inner)
-    statement_code level lock at (Emit e) = emit_code c e
-    statement_code level lock at (Pend i) = plain (instr.Post (slice_index c.numbers i)) ∷ []
-    statement_code level lock at (Spawns s) = send_code c level at s
+        ++ branch_code (at + length test) (λ a. block_code threshold lock a first)
+        (λ a. block_code threshold lock a second) second
+    statement_code threshold lock at (Repeat x first last turn) =
+        loop_code at x first last (block_code threshold lock (at + 4) turn)
+    statement_code threshold lock at (Locked r inner place) =
+        lock_code threshold lock at r (λ inside slot a. block_code inside slot a inner)
+    statement_code threshold lock at (Emit e) = emit_code c e
+    statement_code threshold lock at (Pend i) = plain (instr.Post (slice_index c.numbers i)) ∷ []
+    statement_code threshold lock at (Spawns s) = send_code c threshold at s
 
     -- the code of a block, one statement behind the other
     pub block_code : ℕ → ℕ → ℕ → Block → List Line
-    block_code level lock at Empty = []
-    block_code level lock at (Then s rest) =
-        let first : List Line = statement_code level lock at s in
-        first ++ block_code level lock (at + length first) rest
+    block_code threshold lock at Empty = []
+    block_code threshold lock at (Then s rest) =
+        let first : List Line = statement_code threshold lock at s in
+        first ++ block_code threshold lock (at + length first) rest

@@ -29,9 +29,9 @@ pub record IsReady (g : Generator) : Type 0 where
   -- and by the rows of its messages that may be armed
   pub rows : g.rows.now ≡ g.plan.now.app.now
 
--- the blocks of a body with so many arguments, at a level, in an application whose resources are guarded so
+-- the blocks of a body with so many arguments, at a preemption threshold, in an application whose resources are guarded so
 abbrev pub slots_code : App → List Guard → ℕ → ℕ → Body → ℕ → List Line
-slots_code app guards args level b entry =
+slots_code app guards args threshold b entry =
     let with : Context = record {
       app = app;
       guards = guards;
@@ -40,4 +40,4 @@ slots_code app guards args level b entry =
       expressions = first_expression_slot args b;
       spawns = first_spawn_slot args b;
     } in
-    block_code with level (first_lock_slot args b) entry b.block
+    block_code with threshold (first_lock_slot args b) entry b.block

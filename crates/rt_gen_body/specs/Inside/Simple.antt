@@ -22,15 +22,15 @@ values_of (Move word delay n handle place) = delay ∷ handle ∷ []
 
 -- the code of a `spawn_after`, a `cancel` and a `reschedule_after`
 abbrev pub timed_lines : Timed → App → ℕ → ℕ → ℕ → ℕ → List Line
-timed_lines timed.After app n level slot at = after_code app n level slot at
-timed_lines timed.Cancel app n level slot at = cancel_code app n level slot at
-timed_lines timed.Move app n level slot at = move_code app n level slot at
+timed_lines timed.After app n threshold slot at = after_code app n threshold slot at
+timed_lines timed.Cancel app n threshold slot at = cancel_code app n threshold slot at
+timed_lines timed.Move app n threshold slot at = move_code app n threshold slot at
 
 module _ (c : Context) where
-  -- a spawn whose arguments are there, at a static level, from an address on; none of what is no software task
+  -- a spawn whose arguments are there, at a static preemption threshold, from an address on; none of what is no software task
   abbrev pub message_code : ℕ → ℕ → ℕ → List Line
-  message_code level at n =
-      if is_some_and is_software (slice_get c.app.tasks n) then spawn_code c.app n level c.spawns at else []
+  message_code threshold at n =
+      if is_some_and is_software (slice_get c.app.tasks n) then spawn_code c.app n threshold c.spawns at else []
 
   -- whether there is a timer queue that holds messages of a task
   abbrev pub is_timed : ℕ → Bool
@@ -38,7 +38,7 @@ module _ (c : Context) where
 
   -- what goes to the timer queue, whose delay, arguments and handle are there; none where there is none for the task
   abbrev pub timed_code : Timed → ℕ → ℕ → ℕ → List Line
-  timed_code kind level at n = if is_timed n then timed_lines kind c.app n level c.spawns at else []
+  timed_code kind threshold at n = if is_timed n then timed_lines kind c.app n threshold c.spawns at else []
 
   -- The values of a spawn come into the slots of spawns from the first on, in the order of the text.
   abbrev pub values_code : Spawn → List Line
@@ -46,22 +46,22 @@ module _ (c : Context) where
 
   -- what goes once they are there
   abbrev pub goes_code : ℕ → ℕ → Spawn → List Line
-  goes_code level at (Soon n args place) = message_code level at n
-  goes_code level at (After word delay n args place) = timed_code timed.After level at n
-  goes_code level at (Cancel word n handle place) = timed_code timed.Cancel level at n
-  goes_code level at (Move word delay n handle place) = timed_code timed.Move level at n
+  goes_code threshold at (Soon n args place) = message_code threshold at n
+  goes_code threshold at (After word delay n args place) = timed_code timed.After threshold at n
+  goes_code threshold at (Cancel word n handle place) = timed_code timed.Cancel threshold at n
+  goes_code threshold at (Move word delay n handle place) = timed_code timed.Move threshold at n
 
   -- a spawn: its values, and then what goes
   abbrev pub send_code : ℕ → ℕ → Spawn → List Line
-  send_code level at s =
+  send_code threshold at s =
       let front : List Line = values_code s in
-      front ++ goes_code level (at + length front) s
+      front ++ goes_code threshold (at + length front) s
 
   -- a `let` of a variable
   abbrev pub bind_code : ℕ → ℕ → ℕ → Value → List Line
-  bind_code level at x (Calc e) = value_code c e ++ plain (instr.Copy x c.expressions) ∷ []
-  bind_code level at x (Now place) = plain (instr.Clock x) ∷ []
-  bind_code level at x (Call s) = send_code level at s ++ plain (instr.Copy x c.spawns) ∷ []
+  bind_code threshold at x (Calc e) = value_code c e ++ plain (instr.Copy x c.expressions) ∷ []
+  bind_code threshold at x (Now place) = plain (instr.Clock x) ∷ []
+  bind_code threshold at x (Call s) = send_code threshold at s ++ plain (instr.Copy x c.spawns) ∷ []
 
   -- an assignment
   abbrev pub assign_code : Atom → Expression → List Line

@@ -29,7 +29,7 @@ context_of app m = record {
   spawns = first_spawn_slot m.args m.body;
 }
 
--- the level that a body holds off: `init` holds off all
+-- the preemption threshold of a body: `init` holds off all
 abbrev pub level_of : App → Member → ℕ
 level_of app m = if is_init m.id then 2 ^ app.bits else m.priority
 

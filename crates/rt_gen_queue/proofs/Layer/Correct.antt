@@ -1,6 +1,6 @@
 -- Code is correct from where a job is: one line of it leads on to where the code is correct again.
 use Rattle.rt_gen_queue.proofs.Vocabulary.{Asks, Bool, Goes, Instr, KeepsSaved, Leads, Line, LineFits, List, MayAccess}
-use Rattle.rt_gen_queue.proofs.Vocabulary.{None, Note, Option, Some, Spot, Stands, arith, false, passed, plain}
+use Rattle.rt_gen_queue.proofs.Vocabulary.{None, Note, Option, Some, Spot, Stands, arith, false, spot_after_step, plain}
 use Rattle.rt_gen_queue.proofs.Vocabulary.{processor_of, refl, slice_get, storage, subst, suc, sym, ℕ, ◌-◌, ◌≡◌}
 use Rattle.rt_code.proofs.Standing.{stands_step}
 use Rattle.rt_code.specs.{Access.access_of, Effect.effect, Processor.Effect, Standing.Does}
@@ -22,14 +22,14 @@ moved {z = z} {h = h} done at done_is at_is correct =
     subst (λ n. S z (record h { done = n })) done_is
     (subst (λ n. S z (record h { done = done; at = n })) at_is correct)
 
-pub at_passed : {z : Setting} (h : Here) → S z (record h { done = suc h.done }) → Later z h (passed (spot z h))
+pub at_passed : {z : Setting} (h : Here) → S z (record h { done = suc h.done }) → Later z h (spot_after_step (spot z h))
 at_passed {z = z} h correct =
     subst (λ (lefts : List ℕ). Later z h (record (spot z h) { lefts = lefts })) (sym (left_passed h.done h.deadlines))
     correct.stands
 
 pub by_line : {z : Setting} {h : Here} (i : Instr) (told : Option Note) → slice_get z.code h.at ≡ Some (i, told)
     → InTime (suc h.done) h
-    → LineFits (storage z.app) z.code z.bodies z.thread z.who (Some (i, told)) (passed (spot z h)) (Later z h) → S z h
+    → LineFits (storage z.app) z.code z.bodies z.thread z.who (Some (i, told)) (spot_after_step (spot z h)) (Later z h) → S z h
 by_line {z = z} {h = h} i told here time fits =
     let one : suc (h.until - suc h.done) ≡ h.until - h.done = omega (arith, time.0) in
     record {
@@ -37,7 +37,7 @@ by_line {z = z} {h = h} i told here time fits =
           (stands_step (storage z.app) z.code z.bodies z.thread z.who (h.until - suc h.done) (spot z h)
           (has_left h.done h.deadlines time.1)
           (subst (λ (line : Option Line). LineFits (storage z.app) z.code z.bodies z.thread z.who line
-          (passed (spot z h)) (Later z h)) (sym here) fits));
+          (spot_after_step (spot z h)) (Later z h)) (sym here) fits));
     }
 
 -- What an instruction that asks for nothing does here: it touches what the job may touch, keeps what sections saved,
@@ -55,12 +55,12 @@ given h slots to cells = record h { slots = slots; at = to; cells = cells }
 -- the same with what its note asks
 pub does : {z : Setting} {h : Here} {i : Instr} {slots : List ℕ} {to : ℕ} {cells : List ℕ} (told : Option Note)
     → Gives z h i slots to cells → Asks (storage z.app) z.code z.bodies z.thread z.who request.Nothing told
-    (passed (spot z (given h slots to cells))) (Later z h)
-    → Does (storage z.app) z.code z.bodies z.thread z.who i told (passed (spot z h)) (Later z h)
+    (spot_after_step (spot z (given h slots to cells))) (Later z h)
+    → Does (storage z.app) z.code z.bodies z.thread z.who i told (spot_after_step (spot z h)) (Later z h)
 does {z = z} {h = h} {i = i} told gives asks = record {
   touches = gives.may;
   goes = λ time b m fast.
-      subst (λ (e : Effect). Goes (storage z.app) z.code z.bodies z.thread z.who told b m (passed (spot z h))
+      subst (λ (e : Effect). Goes (storage z.app) z.code z.bodies z.thread z.who told b m (spot_after_step (spot z h))
       (Later z h) e) (sym (gives.leads time b m)) (refl, refl, gives.kept, asks);
 }
 

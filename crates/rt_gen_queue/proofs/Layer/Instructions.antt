@@ -8,7 +8,7 @@ use Rattle.rt_gen_queue.proofs.Vocabulary.{◌==◌, ◌∙◌, ◌≡◌, ◌�
 use Rattle.std.specs.Option.{option_to_list}
 use Rattle.rt_lemmas.proofs.Membership.{all_from_members}
 use Rattle.rt_ids.specs.declared.op.Op.{Op}
-use Rattle.rt_code.{proofs.Done.effect_is_done, specs.Effect.done, specs.Effect.next, specs.Effect.written}
+use Rattle.rt_code.{proofs.Done.effect_is_done, specs.Effect.unchecked_effect, specs.Effect.next, specs.Effect.next_with_slot}
 use Rattle.rt_code.{specs.Operands.are_there, specs.Operands.slots_of, specs.Processor.Processor}
 use Rattle.rt_code.specs.Access.{Access, Loads, Stores, access_of, cell_of, cells_of}
 use Rattle.rt_code.specs.declared.instr.Instr.TheVariants as instr
@@ -87,7 +87,7 @@ module _ {z : Setting} {h : Here} where
       → KeepsSaved h.held h.slots slots
       → ((b : ℕ) (m : Bool) → are_there (cells_of i (processor_of (spot z h) b m)) h.cells ≡ true)
       → are_there (slots_of i) h.slots ≡ true
-      → ((time b : ℕ) (m : Bool) → done i time (processor_of (spot z h) b m)
+      → ((time b : ℕ) (m : Bool) → unchecked_effect i time (processor_of (spot z h) b m)
       ≡ Leads (record { address = to; basepri = b; primask = m; slots = slots; cells = cells }) request.Nothing)
       → Gives z h i slots to cells
   by_table i may kept cells slots leads = record {
@@ -101,8 +101,8 @@ module _ {z : Setting} {h : Here} where
       → MayAccess (storage z.app) z.who (spot z h) (access_of i (processor_of (spot z h) 0 false))
       → ((b : ℕ) (m : Bool) → are_there (cells_of i (processor_of (spot z h) b m)) h.cells ≡ true)
       → are_there (slots_of i) h.slots ≡ true
-      → ((time b : ℕ) (m : Bool) → done i time (processor_of (spot z h) b m)
-      ≡ Leads (written (processor_of (spot z h) b m) d w) request.Nothing)
+      → ((time b : ℕ) (m : Bool) → unchecked_effect i time (processor_of (spot z h) b m)
+      ≡ Leads (next_with_slot (processor_of (spot z h) b m) d w) request.Nothing)
       → Gives z h i (slice_set h.slots d v) (suc h.at) h.cells
   by_slot {w = w} d i is free may cells slots leads =
       subst (λ w. Gives z h i (slice_set h.slots d w) (suc h.at) h.cells) is

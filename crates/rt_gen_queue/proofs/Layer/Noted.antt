@@ -2,7 +2,7 @@
 use Rattle.rt_gen_queue.proofs.Vocabulary.{Action, Agree, Clocks, Doing, Emits, Entry, Guarded, HasCode, Holder, Instr}
 use Rattle.rt_gen_queue.proofs.Vocabulary.{Line, LineFits, List, None, Posts, SetsAlarm, Some, Values, and_right, ap}
 use Rattle.rt_gen_queue.proofs.Vocabulary.{arith, delays, does, effect, is_open, least_instant, length, length-set, map}
-use Rattle.rt_gen_queue.proofs.Vocabulary.{passed, plain, refl, slice_index, slice_set, storage, subst, suc, sym, true}
+use Rattle.rt_gen_queue.proofs.Vocabulary.{spot_after_step, plain, refl, slice_index, slice_set, storage, subst, suc, sym, true}
 use Rattle.rt_gen_queue.proofs.Vocabulary.{ℕ, ◌+◌, ◌<◌, ◌^◌, ◌∙◌, ◌∷◌, ◌≡◌}
 use Rattle.rt_ids.specs.declared.ids.Section.TheVariants as section
 use Rattle.rt_code.specs.Acting.{Acts}
@@ -46,7 +46,7 @@ module _ {size mask : ℕ} where
     pub goes_later : {rest : Doing Values} {after : List ℕ} → length after ≡ length ws → MayRun f (line ∷ lines) h ws
         → HasCode z.code (suc h.at) (map (placed f.slot) lines)
         → Straight z f lines (behind_line h places cells queues rest) after
-        → Later z h (passed (spot z (Now f (record (behind_line h places cells queues rest) { done = h.done }) after)))
+        → Later z h (spot_after_step (spot z (Now f (record (behind_line h places cells queues rest) { done = h.done }) after)))
     goes_later {rest = rest} {after = after} long may has on =
         at_passed (Now f (record (behind_line h places cells queues rest) { done = h.done }) after)
         (on.runs (may_follow places cells queues rest after long may) has)
@@ -58,7 +58,7 @@ module _ {size mask : ℕ} where
         → ((vs : Values) → Agree (storage z.app) z.who h.held vs values
         → Straight z f lines (behind_line h places cells queues (rest (effect action vs))) after)
         → Acts (storage z.app) z.bodies z.who action 0
-        (passed (spot z (Now f (record (behind_line h places cells queues h.rest) { done = h.done }) after)))
+        (spot_after_step (spot z (Now f (record (behind_line h places cells queues h.rest) { done = h.done }) after)))
         (Later z h)
     acts_later {values = values} {rest = rest} action after long may has is on = record {
       values = values;
@@ -71,7 +71,7 @@ module _ {size mask : ℕ} where
     -- a line by what fits it where it is
     pub by_noted : (MayRun f (line ∷ lines) h ws → HasCode z.code (suc h.at) (map (placed f.slot) lines)
         → LineFits (storage z.app) z.code z.bodies z.thread z.who (Some (placed f.slot line))
-        (passed (spot z (Now f h ws))) (Later z h))
+        (spot_after_step (spot z (Now f h ws))) (Later z h))
         → Straight z f (line ∷ lines) h ws
     by_noted line_fits = record {
       runs = λ may has. by_line (placed f.slot line).0 (placed f.slot line).1 has.0 (next_in_time may)

@@ -2,7 +2,7 @@
 use Rattle.rt_gen_queue.proofs.Vocabulary.{Action, Agree, Asks, BodyRow, Bool, Clocks, Doing, Emits, Goes, Guarded}
 use Rattle.rt_gen_queue.proofs.Vocabulary.{Holder, Instr, Leads, MayAccess, None, Posts, Returns, SetsAlarm, Some}
 use Rattle.rt_gen_queue.proofs.Vocabulary.{Values, [], body_frame, caller_frame, delays, does, effect as action_effect}
-use Rattle.rt_gen_queue.proofs.Vocabulary.{false, is_open, least_instant, length, passed, plain, processor_of, refl}
+use Rattle.rt_gen_queue.proofs.Vocabulary.{false, is_open, least_instant, length, spot_after_step, plain, processor_of, refl}
 use Rattle.rt_gen_queue.proofs.Vocabulary.{slice_get, slice_index, slice_set, storage, subst, suc, sym, true, ℕ, ◌<◌}
 use Rattle.rt_gen_queue.proofs.Vocabulary.{◌^◌, ◌≡◌}
 use Rattle.rt_ids.specs.declared.ids.Section.TheVariants as section
@@ -23,7 +23,7 @@ Follows z h values rest =
 -- the next action, and what follows it
 abbrev pub acts : {z : Setting} {h : Here} {values : Values} {rest : Values → Doing Values} (action : Action)
     → h.rest ≡ does action values (λ answer. rest) → Follows z h values (λ vs. rest (action_effect action vs))
-    → Acts (storage z.app) z.bodies z.who action 0 (record (passed (spot z h)) { address = suc h.at }) (Later z h)
+    → Acts (storage z.app) z.bodies z.who action 0 (record (spot_after_step (spot z h)) { address = suc h.at }) (Later z h)
 acts {h = h} {values = values} {rest = rest} action is on = record {
   values = values;
   follows = λ answer. rest;
@@ -38,13 +38,13 @@ asks_for : {z : Setting} {h : Here} (i : Instr) (asked : Request) (to : ℕ) →
     ≡ Leads (record { address = to; basepri = b; primask = m; slots = h.slots; cells = h.cells }) asked)
     → MayAccess (storage z.app) z.who (spot z h)
     (access_of i (processor_of (spot z h) 0 false)) → Asks (storage z.app) z.code z.bodies z.thread z.who asked None
-    (record (passed (spot z h)) { address = to }) (Later z h) → S z h
+    (record (spot_after_step (spot z h)) { address = to }) (Later z h) → S z h
 asks_for {z = z} {h = h} i asked to here time leads may asks =
     by_line i None here time
     (record {
       touches = may;
       goes = λ now b m early.
-          subst (λ (e : Effect). Goes (storage z.app) z.code z.bodies z.thread z.who None b m (passed (spot z h))
+          subst (λ (e : Effect). Goes (storage z.app) z.code z.bodies z.thread z.who None b m (spot_after_step (spot z h))
           (Later z h) e) (sym (leads now b m)) (refl, refl, kept_same h.held h.slots, asks);
     })
 
@@ -72,7 +72,7 @@ module _ {z : Setting} {h : Here} where
       (λ now b m. effect_is_done (instr.Emit s) now (processor_of (spot z h) b m) refl
       (one_there s (length h.slots) there)) tt
       (subst (λ w. Acts (storage z.app) z.bodies z.who (Emits w) 0
-      (record (passed (spot z h)) { address = suc h.at }) (Later z h)) (sym shown) (acts (Emits v) is on))
+      (record (spot_after_step (spot z h)) { address = suc h.at }) (Later z h)) (sym shown) (acts (Emits v) is on))
 
   -- an interrupt becomes pending
   pub posts_here : {irq : ℕ} {values : Values} {rest : Values → Doing Values}
@@ -95,7 +95,7 @@ module _ {z : Setting} {h : Here} where
       (record {
         touches = tt;
         goes = λ now b m early.
-            subst (λ (e : Effect). Goes (storage z.app) z.code z.bodies z.thread z.who None b m (passed (spot z h))
+            subst (λ (e : Effect). Goes (storage z.app) z.code z.bodies z.thread z.who None b m (spot_after_step (spot z h))
             (Later z h) e)
             (sym (effect_is_done (instr.Clock d) now (processor_of (spot z h) b m) refl
             (one_there d (length h.slots) there))) (
@@ -139,7 +139,7 @@ module _ {z : Setting} {h : Here} where
   -- a body is called, with its arguments in the slots from one on
   pub calls_here : {row from : ℕ} (called : BodyRow) → slice_get z.code h.at ≡ Some (plain (instr.Call row from))
       → InTime (suc h.done) h → MayCall z h row from called
-      → Later z h (record (passed (spot z h)) {
+      → Later z h (record (spot_after_step (spot z h)) {
         address = called.entry;
         slots = body_frame (caller_frame h.slots (suc h.at)) called from;
         caller = Some (caller_frame h.slots (suc h.at));

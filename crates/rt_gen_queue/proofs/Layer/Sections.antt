@@ -1,8 +1,8 @@
 -- How a job goes into a section and comes out of it, whatever the section guards and however it holds others off.
 use Rattle.rt_gen_queue.proofs.Vocabulary.{Agree, AllByRecursion, Contains, Doing, Enters, Entry, Guarded, Held, Holder}
 use Rattle.rt_gen_queue.proofs.Vocabulary.{Instr, IsKindFor, IsWithin, Kind, Leaves, List, NobodyKeeps, Section, Some}
-use Rattle.rt_gen_queue.proofs.Vocabulary.{TakesOver, Values, [], ap, arith, closing, does, drop, false, is_open}
-use Rattle.rt_gen_queue.proofs.Vocabulary.{length, map, noted, opening, passed, refl, saved_slot, saved_slots, saving}
+use Rattle.rt_gen_queue.proofs.Vocabulary.{TakesOver, Values, [], ap, arith, closing_instr, does, drop, false, is_open}
+use Rattle.rt_gen_queue.proofs.Vocabulary.{length, map, line_with_note, opening_instr, spot_after_step, refl, saved_slot, saved_slots, slots_with_mask}
 use Rattle.rt_gen_queue.proofs.Vocabulary.{slice_get, slice_index, storage, subst, suc, sym, ℕ, ◌+◌, ◌-◌, ◌<◌, ◌∙◌, ◌∷◌}
 use Rattle.rt_gen_queue.proofs.Vocabulary.{◌≡◌}
 use Rattle.rt_code.specs.Masking.{inside}
@@ -33,7 +33,7 @@ entered h x kind cost saved cells queues rest = record h {
   held = record { section = x; kind = kind } ∷ h.held;
   done = suc h.done;
   deadlines = (h.done + cost) ∷ h.deadlines;
-  slots = saving kind saved h.slots;
+  slots = slots_with_mask kind saved h.slots;
   at = suc h.at;
   cells = cells;
   queues = queues;
@@ -42,11 +42,11 @@ entered h x kind cost saved cells queues rest = record h {
 
 module _ {z : Setting} {h : Here} where
   pub enters_here : {i : Instr} {x : Section} {values : Values} {rest : Values → Doing Values} (kind : Kind) (cost : ℕ)
-      → slice_get z.code h.at ≡ Some (noted i (note.Enter x))
-      → i ≡ opening ((storage z.app).value ((storage z.app).ceiling x)) kind → InTime (suc h.done) h
+      → slice_get z.code h.at ≡ Some (line_with_note i (note.Enter x))
+      → i ≡ opening_instr ((storage z.app).value ((storage z.app).ceiling x)) kind → InTime (suc h.done) h
       → MayOpen z h x kind → h.rest ≡ does (Enters x cost) values (λ answer. rest)
       → ((saved : ℕ) (vs : Values) (cells : List ℕ) (queues : Holder → List Entry)
-      → TakesOver (storage z.app) z.who x (passed (spot z h)) values vs cells queues
+      → TakesOver (storage z.app) z.who x (spot_after_step (spot z h)) values vs cells queues
       → S z (entered h x kind cost saved cells queues (rest vs)))
       → S z h
   enters_here {i = i} {x = x} {values = values} {rest = rest} kind cost here opens time may is on =
@@ -67,7 +67,7 @@ module _ {z : Setting} {h : Here} where
             let e : cost - 1 ≡ (h.done + cost) - suc h.done = omega arith in
             subst (λ (lefts : List ℕ). Later z h
             (record (inside (storage z.app) z.who x kind saved cost (rest vs) cells queues
-            (passed (spot z h))) { lefts = lefts }))
+            (spot_after_step (spot z h))) { lefts = lefts }))
             (sym (ap (λ m. m ∷ map (λ k. k - 1) (left_at h.done h.deadlines)) e
             ∙ ap (λ ms. ((h.done + cost) - suc h.done) ∷ ms) (left_passed h.done h.deadlines)))
             (on saved vs cells queues taken).stands;
@@ -75,7 +75,7 @@ module _ {z : Setting} {h : Here} where
 
   -- out of it: the deadlines are those around it
   pub leaves_here : {i : Instr} {x : Section} {values : Values} {rest : Values → Doing Values} (kind : Kind)
-      (may : MayClose h x kind) → slice_get z.code h.at ≡ Some (noted i (note.Leave x)) → i ≡ closing kind
+      (may : MayClose h x kind) → slice_get z.code h.at ≡ Some (line_with_note i (note.Leave x)) → i ≡ closing_instr kind
       → InTime (suc h.done) h → h.rest ≡ does (Leaves x) values (λ answer. rest)
       → (storage z.app).Spells (Guarded x) (slice_index h.cells) (h.queues (Guarded x)) (values (Guarded x))
       → ((vs : Values) → Agree (storage z.app) z.who may.outer vs values

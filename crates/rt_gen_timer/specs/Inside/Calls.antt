@@ -22,12 +22,12 @@ cost_of (After task) = SPAWN_AFTER_COST
 cost_of (Cancel task) = HANDLE_COST
 cost_of (Move task) = HANDLE_COST
 
--- its lines, at a queue, in a body at a level whose slots begin at one, of a task, from an address on
+-- its lines, at a queue, in a body at a preemption threshold whose slots begin at one, of a task, from an address on
 abbrev pub lines_of : Call → TimerQueue → ℕ → ℕ → ArmedTask → ℕ → List Line
-lines_of (After task) queue slot level armed at = after_lines queue slot level armed at
-lines_of (Cancel task) queue slot level armed at = cancel_lines queue slot level armed at
-lines_of (Move task) queue slot level armed at = move_lines queue slot level armed at
+lines_of (After task) queue slot threshold armed at = after_lines queue slot threshold armed at
+lines_of (Cancel task) queue slot threshold armed at = cancel_lines queue slot threshold armed at
+lines_of (Move task) queue slot threshold armed at = move_lines queue slot threshold armed at
 
 -- and in an application
 abbrev pub code_of : App → Call → ℕ → ℕ → ℕ → List Line
-code_of app call level slot at = lines_of call (queue_of app) slot level (armed_task app (task_of call)) at
+code_of app call threshold slot at = lines_of call (queue_of app) slot threshold (armed_task app (task_of call)) at

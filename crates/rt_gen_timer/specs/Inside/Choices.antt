@@ -8,5 +8,5 @@ use Rattle.rt_gen_timer.specs.TimerCode.{queue_of, armed_task}
 
 -- from an address on: the code for this task of this number, where messages of it may be armed
 abbrev pub task_code : App → ℕ → ℕ → ℕ → Task → List Line
-task_code app level at n t =
-    if is_software t && is_armed app n then choice_lines (queue_of app) 0 level (armed_task app n) at else []
+task_code app threshold at n t =
+    if is_software t && is_armed app n then choice_lines (queue_of app) 0 threshold (armed_task app n) at else []

@@ -8,8 +8,8 @@ abbrev pub text : Vec ℕ Global → List ℕ
 text name = name.items
 
 -- the names that three maps keep: of interrupts with their numbers, of tasks and of shared resources
-abbrev pub kept : List (Vec ℕ Global × ℕ) → List (Vec ℕ Global) → List (Vec ℕ Global) → Names
-kept irqs tasks shared = record {
+abbrev pub kept_names : List (Vec ℕ Global × ℕ) → List (Vec ℕ Global) → List (Vec ℕ Global) → Names
+kept_names irqs tasks shared = record {
   irqs = map (λ irq. (text irq.0, irq.1)) irqs;
   tasks = map text tasks;
   shared = map text shared;

@@ -11,7 +11,7 @@ use Rattle.rt_code.specs.declared.instr.Note.TheVariants as note
 use Rattle.rt_points.specs.Point.{Point}
 use Rattle.rt_points.specs.declared.point.Owner.TheVariants.{Starting}
 use Rattle.rt_points.specs.Leading.{inside_after}
-use Rattle.rt_points.specs.Level.{owner_value, level_value}
+use Rattle.rt_points.specs.ExecutionPriority.{owner_value, execution_priority}
 use Rattle.rt_judge.specs.Inside.Kept.{EntersBy, FreeAt}
 use Rattle.rt_judge.specs.declared.entering.Entering.{Entering}
 use Rattle.rt_judge.specs.declared.entering.Sections.{Sections}
@@ -31,17 +31,17 @@ pub record Enterer (img : Image) (ps : List Point) (x : Section) (p : Point) (i 
   pub seen : Contains ps p
   pub enters : EntersBy img p i x
 
--- the level value behind an entering
-abbrev pub level_behind : Image → Point → Instr → Section → ℕ
-level_behind img p i x = level_value img p.owner (inside_after i (Some (note.Enter x)) p.inside)
+-- the execution priority behind an entering
+abbrev pub priority_behind : Image → Point → Instr → Section → ℕ
+priority_behind img p i x = execution_priority img p.owner (inside_after i (Some (note.Enter x)) p.inside)
 
--- the greatest level value behind an entering
-pub record IsGreatestLevel (img : Image) (ps : List Point) (x : Section) (level : ℕ) : Type 0 where
-  pub all : (p : Point) (i : Instr) → Enterer img ps x p i → level_behind img p i x ≤ level
+-- the greatest execution priority behind an entering
+pub record IsGreatestPriority (img : Image) (ps : List Point) (x : Section) (priority : ℕ) : Type 0 where
+  pub all : (p : Point) (i : Instr) → Enterer img ps x p i → priority_behind img p i x ≤ priority
   pub point : Point
   pub instr : Instr
   pub enterer : Enterer img ps x point instr
-  pub is : level_behind img point instr x ≡ level
+  pub is : priority_behind img point instr x ≡ priority
 
 -- the least priority value of an enterer other than `init`
 pub record IsLeastValue (img : Image) (ps : List Point) (x : Section) (value : ℕ) : Type 0 where
@@ -59,7 +59,7 @@ IsLeastOrNone img ps x (Some value) = IsLeastValue img ps x value
 
 -- what a row has of a section, by the points that were looked at
 pub record IsEntering (img : Image) (ps : List Point) (x : Section) (e : Entering) : Type 0 where
-  pub level : IsGreatestLevel img ps x e.level
+  pub priority : IsGreatestPriority img ps x e.priority
   pub value : IsLeastOrNone img ps x e.value
 
 -- what the rows have of sections: each of its own, and there is one for each that is entered
@@ -77,17 +77,17 @@ least None other = other
 
 -- a row with one more entering of its section
 abbrev pub with_entering : Entering → Entering → Entering
-with_entering e row = record row { level = max row.level e.level; value = least row.value e.value }
+with_entering e row = record row { priority = max row.priority e.priority; value = least row.value e.value }
 
 -- a row with one more entering, if that is of the row's section
-abbrev pub added : Entering → Entering → Entering
-added e row = if is_same_section row.section e.section then with_entering e row else row
+abbrev pub row_with_entering : Entering → Entering → Entering
+row_with_entering e row = if is_same_section row.section e.section then with_entering e row else row
 
 -- the rows with one more entering
-abbrev pub entered : Entering → List Entering → List Entering
-entered e rows =
-    if list_any (λ row. is_same_section row.section e.section) rows then map (added e) rows else rows ++ e ∷ []
+abbrev pub rows_with_entering : Entering → List Entering → List Entering
+rows_with_entering e rows =
+    if list_any (λ row. is_same_section row.section e.section) rows then map (row_with_entering e) rows else rows ++ e ∷ []
 
 -- each entering holds off everyone who enters
 abbrev pub holds_off : Entering → Bool
-holds_off row = none_or (λ value. nat_le row.level value) row.value
+holds_off row = none_or (λ value. nat_le row.priority value) row.value

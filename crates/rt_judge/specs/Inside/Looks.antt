@@ -14,10 +14,10 @@ use Rattle.rt_points.specs.declared.rule.TheConstants.{MOST_OPEN}
 use Rattle.rt_judge.specs.Inside.Finds.{Finds, points_of}
 use Rattle.rt_judge.specs.Inside.Walks.{Table, IsWalked}
 use Rattle.rt_judge.specs.declared.findings.Findings.{Findings}
-use Rattle.rt_judge.specs.declared.walk.Place.{Place}
+use Rattle.rt_judge.specs.declared.walk.Visit.{Visit}
 
--- a walk from some places, and what was found on it
-pub record LooksFrom (img : Image) (owner : Owner) (starts : List Place) (old new : Findings) (bs : List Place) : Type 0 where
+-- a walk from some visits, and what was found on it
+pub record LooksFrom (img : Image) (owner : Owner) (starts : List Visit) (old new : Findings) (bs : List Visit) : Type 0 where
   pub table : Table
   pub walked : IsWalked img owner starts table bs
   pub finds : (ps : List Point) → Finds img ps old → Finds img (ps ++ points_of owner table.entries) new
@@ -32,28 +32,28 @@ pub record Looks (img : Image) (Mine : Owner → Type 0) (old new : Findings) : 
   pub few : (p : Point) → IsPoint img p → Mine p.owner → length p.inside ≤ MOST_OPEN
   pub finds : (ps : List Point) → Finds img ps old → Finds img (ps ++ points) new
 
--- the thread's points, from these places on
-abbrev pub LooksBehind : Image → List Place → Findings → Findings → Type 0
-LooksBehind img starts old new = (bs : List Place) × LooksFrom img Thread starts old new bs
+-- the thread's points, from these visits on
+abbrev pub LooksBehind : Image → List Visit → Findings → Findings → Type 0
+LooksBehind img starts old new = (bs : List Visit) × LooksFrom img Thread starts old new bs
 
 -- a handler's points, from its entry on
 abbrev pub LooksFromEntry : Image → ℕ → ℕ → Findings → Findings → Type 0
-LooksFromEntry img place entry old new =
-    (bs : List Place) × LooksFrom img (Handling place) (record { address = entry; nesting = [] } ∷ []) old new bs
+LooksFromEntry img visit entry old new =
+    (bs : List Visit) × LooksFrom img (Handling visit) (record { address = entry; nesting = [] } ∷ []) old new bs
 
--- the handler at a place
+-- the handler at a visit
 abbrev pub IsOf : ℕ → Owner → Type 0
-IsOf place owner = owner ≡ Handling place
+IsOf visit owner = owner ≡ Handling visit
 
 -- the owner is `init`, or the thread behind it
 abbrev pub IsThread : Owner → Type 0
 IsThread owner = (owner ≡ Starting) ⊎ (owner ≡ Thread)
 
--- the thread's, and those of the handlers at the places below this one
+-- the thread's, and those of the handlers at the visits below this one
 abbrev pub IsBelow : ℕ → Owner → Type 0
 IsBelow n Starting = Unit {0}
 IsBelow n Thread = Unit {0}
-IsBelow n (Handling place) = place < n
+IsBelow n (Handling visit) = visit < n
 
 -- all points of these, and what was found at them alone
 abbrev pub LookedBelow : Image → ℕ → Findings → Type 0

@@ -13,8 +13,8 @@ use Rattle.rt_points.specs.Point.{Point, sections}
 use Rattle.rt_points.specs.declared.point.Owner.TheVariants.{Starting}
 use Rattle.rt_points.specs.declared.point.Owner.{Owner}
 use Rattle.rt_points.specs.declared.point.Opened.{Opened}
-use Rattle.rt_points.specs.Level.{owner_value}
-use Rattle.rt_points.specs.Rules.{touched, IsStore}
+use Rattle.rt_points.specs.ExecutionPriority.{owner_value}
+use Rattle.rt_points.specs.Rules.{touched_cell, IsStore}
 use Rattle.rt_judge.specs.declared.touching.Touching.{Touching}
 use Rattle.rt_judge.specs.declared.touching.Touch.{Touch}
 
@@ -31,7 +31,7 @@ pub record Toucher (img : Image) (ps : List Point) (cell : ℕ) (p : Point) (a :
   pub instr : Instr
   pub told : Option Note
   pub stands : slice_get img.code p.address ≡ Some (instr, told)
-  pub by : touched instr ≡ Some a
+  pub by : touched_cell instr ≡ Some a
   pub touches : cell_of a ≡ cell
 
 -- an access to the cell that passes, or none does
@@ -93,10 +93,10 @@ pub record IsTouched (old new : List (Option Touching)) (touch : Touch) (opened 
 
 -- the touch of an instruction, `init` aside
 abbrev pub IsTouchOf : Image → Owner → Instr → Option Touch → Type 0
-IsTouchOf img owner i None = (owner ≡ Starting) ⊎ (touched i ≡ None)
+IsTouchOf img owner i None = (owner ≡ Starting) ⊎ (touched_cell i ≡ None)
 IsTouchOf img owner i (Some touch) =
-    (owner ≢ Starting) × (owner_value img owner ≡ touch.value) × (option_map cell_of (touched i) ≡ Some touch.cell)
-    × (is_stored (touched i) ≡ touch.stored)
+    (owner ≢ Starting) × (owner_value img owner ≡ touch.value) × (option_map cell_of (touched_cell i) ≡ Some touch.cell)
+    × (is_stored (touched_cell i) ≡ touch.stored)
 
 -- where owners contend there is a section that is open at each touch
 abbrev pub is_guarded : Touching → Bool

@@ -35,8 +35,8 @@ with_queues l t = record {
 }
 
 -- the layout behind a hardware task, which has no cells
-abbrev pub skipped : Layout → Layout
-skipped l = record {
+abbrev pub without_queues : Layout → Layout
+without_queues l = record {
   cells = l.cells;
   inputs = l.inputs ++ 0 ∷ [];
   free = l.free ++ 0 ∷ [];
@@ -46,7 +46,7 @@ skipped l = record {
 
 -- the layout with the queues of a task, if it is a software task
 abbrev pub with_task : Layout → Task → Layout
-with_task l t = if is_software t then with_queues l t else skipped l
+with_task l t = if is_software t then with_queues l t else without_queues l
 
 -- the layout with the ready queue of a level, which has room for so many messages
 abbrev pub with_level : Layout → ℕ → ℕ → Layout

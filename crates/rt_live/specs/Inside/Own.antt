@@ -4,7 +4,7 @@ use Rattle.rt_ids.specs.Event.{Arrive, Tick, Step}
 use Rattle.rt_script.specs.Script.{core_events}
 use Rattle.rt_script.specs.declared.line.Line.{Line}
 use Rattle.rt_script.specs.declared.line.Line.TheVariants.{Steps, Ticks, Pends, Device}
-use Rattle.rt_live.specs.Weave.{Turn, Happens}
+use Rattle.rt_live.specs.Interleaving.{Turn, Happens}
 
 -- one of the events that a line counts; a device's is none of the core's
 abbrev pub own_turn : Line → List Turn
@@ -14,9 +14,9 @@ own_turn (Pends irq n) = Happens (Arrive irq) ∷ []
 own_turn (Device d irq n) = []
 
 -- these turns so many times
-abbrev pub repeated : ℕ → List Turn → List Turn
-repeated zero ts = []
-repeated (suc n) ts = ts ++ repeated n ts
+abbrev pub repeated_turns : ℕ → List Turn → List Turn
+repeated_turns zero ts = []
+repeated_turns (suc n) ts = ts ++ repeated_turns n ts
 
 -- the turns of the core's own events
 abbrev pub own_turns : List Line → List Turn

@@ -7,7 +7,7 @@ use Rattle.rt_devices.specs.declared.device.Device.{Device}
 use Rattle.rt_script.specs.declared.line.Line.{Line}
 use Rattle.rt_script.specs.declared.line.Line.TheVariants.{Steps, Ticks, Pends, Device as DeviceLine}
 use Rattle.rt_words.specs.Lines.{Row}
-use Rattle.rt_words.specs.Object.{IsPending, pending}
+use Rattle.rt_words.specs.Object.{IsPending, pending_bit}
 use Rattle.rt_words.specs.declared.device_line.Tally.{Tally}
 use Rattle.rt_words.specs.declared.view.Part.{Part}
 use Rattle.rt_words.specs.declared.words.Left.{Left}
@@ -43,7 +43,7 @@ with_counts tally row =
 -- a row with what was latched and left
 abbrev pub with_left : Left → AccountRow → AccountRow
 with_left left row =
-    record row { latched = slice_index left.latched row.irq; left = pending left.bits row.irq }
+    record row { latched = slice_index left.latched row.irq; left = pending_bit left.bits row.irq }
 
 -- a row of which nothing is counted yet
 abbrev pub empty_row : ℕ → AccountRow

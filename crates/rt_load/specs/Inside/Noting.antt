@@ -89,16 +89,16 @@ note_behind names None = Ok None
 note_behind names (Some words) = and_make (note_at names words) Some
 
 -- what is wrong with an instruction or with its note: that a name is unknown only where nothing else is
-abbrev pub noted : Result Instr Wrong → Result (Option Note) Wrong → Result (Instr × Option Note) Wrong
-noted (Ok i) (Ok n) = Ok (i, n)
-noted (Ok i) (Err w) = Err w
-noted (Err w) (Ok n) = Err w
-noted (Err wrong.Name) (Err w) = Err w
-noted (Err w) (Err v) = Err w
+abbrev pub line_or_wrong : Result Instr Wrong → Result (Option Note) Wrong → Result (Instr × Option Note) Wrong
+line_or_wrong (Ok i) (Ok n) = Ok (i, n)
+line_or_wrong (Ok i) (Err w) = Err w
+line_or_wrong (Err w) (Ok n) = Err w
+line_or_wrong (Err wrong.Name) (Err w) = Err w
+line_or_wrong (Err w) (Err v) = Err w
 
 -- the line of code of this address and of these words behind its first
 abbrev pub line_at : Names → ℕ → List (List ℕ) → Result (Instr × Option Note) Wrong
 line_at names address [] = Err wrong.Form
 line_at names address (number ∷ words) =
     and_then (word_at number) (λ n. if n == address
-    then noted (instr_at names (in_front words)) (note_behind names (behind words)) else Err wrong.Form)
+    then line_or_wrong (instr_at names (in_front words)) (note_behind names (behind words)) else Err wrong.Form)

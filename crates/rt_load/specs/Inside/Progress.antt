@@ -1,7 +1,7 @@
 -- How far a listing is read, line by line.
 use Rattle.std.specs.Prelude.{◌≡◌, ℕ, suc, ◌+◌, ◌<◌, ◌≤◌, List, ◌++◌, length, flat_map, Result, Ok, Err}
 use Rattle.std.specs.List.{AllByRecursion}
-use Rattle.rt_load.specs.Reading.{ended, IsLine}
+use Rattle.rt_load.specs.Reading.{line_with_feed, IsLine}
 use Rattle.rt_load.specs.Inside.Taking.{take_all}
 use Rattle.rt_load.specs.declared.front.Front.{Front}
 use Rattle.rt_load.specs.declared.operand.Wrong.{Wrong}
@@ -11,14 +11,14 @@ use Rattle.rt_load.specs.declared.refusal.LoadRefused.TheVariants as refused
 
 -- a text that begins with this line and its line feed
 pub record IsCut (text line rest : List ℕ) : Type 0 where
-  pub is : text ≡ ended line ++ rest
+  pub is : text ≡ line_with_feed line ++ rest
   pub own : IsLine line
   pub shorter : length rest < length text
 
 -- the lines in front of the rest are taken; the number is that of the next line
 pub record HasRead (text rest : List ℕ) (number : ℕ) (front : Front) : Type 0 where
   pub before : List (List ℕ)
-  pub is : text ≡ flat_map ended before ++ rest
+  pub is : text ≡ flat_map line_with_feed before ++ rest
   pub are_lines : AllByRecursion IsLine before
   pub number_is : number ≡ suc (length before)
   pub taken : take_all before ≡ Ok front

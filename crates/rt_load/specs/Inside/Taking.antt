@@ -16,7 +16,7 @@ use Rattle.rt_lines.specs.Answers.{and_then, and_make}
 use Rattle.rt_lines.specs.Parts.{words}
 use Rattle.rt_listing.specs.Listing.{first_line, cell_line, irq_line, body_line, code_line}
 use Rattle.rt_load.specs.Loadable.{has_dot}
-use Rattle.rt_load.specs.Reading.{ended}
+use Rattle.rt_load.specs.Reading.{line_with_feed}
 use Rattle.rt_load.specs.Inside.Noting.{line_at}
 use Rattle.rt_load.specs.Inside.Operand.{number_at, word_at}
 use Rattle.rt_load.specs.Inside.Rows.{three_at, cell_at, irq_row_at, body_row_at}
@@ -26,7 +26,7 @@ use Rattle.rt_load.specs.declared.operand.Wrong.TheVariants as wrong
 
 -- this, where the printed line is the line that was read
 abbrev pub if_line : {A : Type 0} → List ℕ → List ℕ → A → Result A Wrong
-if_line printed line x = if bytes_eq printed (ended line) then Ok x else Err wrong.Form
+if_line printed line x = if bytes_eq printed (line_with_feed line) then Ok x else Err wrong.Form
 
 -- an image of these sizes, and how many instructions and cells it will have
 abbrev pub front_of : Bool → ℕ → ℕ → ℕ → ℕ → ℕ → Front

@@ -6,7 +6,7 @@ use Rattle.rt_ids.specs.Lists.{numbers_below}
 use Rattle.rt_nvic.specs.declared.best.Best.{Best}
 use Rattle.rt_nvic.specs.declared.sizes.TheConstants.{NONE_READY}
 use Rattle.rt_nvic.specs.Nvic.{Nvic, is_ready, beats}
-use Rattle.rt_nvic.specs.Inside.First.{shown, limit_of, is_before}
+use Rattle.rt_nvic.specs.Inside.First.{controller_of, limit_of, is_before}
 use Rattle.rt_nvic.specs.Inside.Bits.{AreReady}
 
 -- Of the numbers below a count it is the one that is taken where every priority value is below the execution
@@ -22,7 +22,7 @@ IsBest n kept = IsBestBelow n IRQ_NUMBERS kept
 -- the same, whatever is pending, where these words have the bits of the ready ones
 abbrev pub IsBestOf : List (Option ℕ) → List ℕ → ℕ → Best → Type 0
 IsBestOf priorities words count kept =
-    (pending : List Bool) → AreReady priorities pending words → IsBestBelow (shown priorities pending) count kept
+    (pending : List Bool) → AreReady priorities pending words → IsBestBelow (controller_of priorities pending) count kept
 
 -- the best with one more that is pending, where it is enabled
 abbrev pub with : Best → ℕ → Option ℕ → Best

@@ -3,11 +3,11 @@ use Rattle.std.specs.Prelude.{◌≡◌, ℕ, ◌≤◌, List, length, Option}
 use Rattle.rt_ids.specs.declared.limits.TheConstants.{IRQ_NUMBERS}
 use Rattle.rt_nvic.specs.declared.best.Best.{Best}
 use Rattle.rt_nvic.specs.declared.sizes.TheConstants.{ACTIVE, WORDS}
-use Rattle.rt_nvic.specs.Inside.First.{shown}
+use Rattle.rt_nvic.specs.Inside.First.{controller_of}
 use Rattle.rt_nvic.specs.Inside.Bits.{flags, AreReady}
 use Rattle.rt_nvic.specs.Inside.Best.{IsBest}
 
--- a place for each number, a word for each 32 of them, and a place for each interrupt that may be active
+-- an index for each number, a word for each 32 of them, and an index for each interrupt that may be active
 pub record IsFixed (priorities : List (Option ℕ)) (pending : List ℕ) (active : List ℕ) (top : ℕ) : Type 0 where
   pub priorities_long : length priorities ≡ IRQ_NUMBERS
   pub pending_long : length pending ≡ WORDS
@@ -19,4 +19,4 @@ pub record IsKept (priorities : List (Option ℕ)) (pending : List ℕ) (active 
     (kept : Best) : Type 0 where
   pub fixed : IsFixed priorities pending active top
   pub ready : AreReady priorities (flags pending) words
-  pub best : IsBest (shown priorities (flags pending)) kept
+  pub best : IsBest (controller_of priorities (flags pending)) kept

@@ -3,8 +3,8 @@ use Rattle.std.specs.Prelude.{ℕ, ◌==◌, ◌||◌, ◌&&◌, Bool, nat_lt, L
 use Rattle.rt_nvic.specs.Nvic.{Nvic, value_of}
 
 -- the controller of these lists, with nothing active
-abbrev pub shown : List (Option ℕ) → List Bool → Nvic
-shown priorities pending = record { priorities = priorities; pending = pending; active = [] }
+abbrev pub controller_of : List (Option ℕ) → List Bool → Nvic
+controller_of priorities pending = record { priorities = priorities; pending = pending; active = [] }
 
 -- a value below this one is taken in place of what was chosen
 abbrev pub limit_of : Nvic → ℕ → Option ℕ → ℕ

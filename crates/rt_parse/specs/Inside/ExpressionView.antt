@@ -39,18 +39,18 @@ signs_of strength.Product = (codes "*", op.Mul) ∷ (codes "/", op.Div) ∷ (cod
 signs_of strength.Atom = []
 
 -- the strengths from this one on, the weakest first
-abbrev pub levels : Strength → List Signs
-levels strength.Or = strengths
-levels strength.Xor = drop 1 strengths
-levels strength.And = drop 2 strengths
-levels strength.Shift = drop 3 strengths
-levels strength.Sum = drop 4 strengths
-levels strength.Product = drop 5 strengths
-levels strength.Atom = []
+abbrev pub strengths_from : Strength → List Signs
+strengths_from strength.Or = strengths
+strengths_from strength.Xor = drop 1 strengths
+strengths_from strength.And = drop 2 strengths
+strengths_from strength.Shift = drop 3 strengths
+strengths_from strength.Sum = drop 4 strengths
+strengths_from strength.Product = drop 5 strengths
+strengths_from strength.Atom = []
 
 -- those that are stronger
 abbrev pub stronger_than : Strength → List Signs
-stronger_than s = drop 1 (levels s)
+stronger_than s = drop 1 (strengths_from s)
 
 -- whether a token is an operator of one of these strengths
 abbrev pub is_of_some : List Signs → Token → Bool

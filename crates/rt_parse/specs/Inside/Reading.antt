@@ -57,13 +57,13 @@ refusal_at [] = refusal.Syntax
 refusal_at (t ∷ tokens) = refusal_of t.kind
 
 -- what is wrong where no text goes on with these tokens
-abbrev pub wrong_at : List Token → Found
-wrong_at tokens = record { at = next_offset tokens; refusal = refusal_at tokens }
+abbrev pub fault_found_at : List Token → Found
+fault_found_at tokens = record { at = next_offset tokens; refusal = refusal_at tokens }
 
 -- what is wrong with a token that was met, or with the end of the text
 abbrev pub wrong_token : Option code.Token → Found
-wrong_token None = wrong_at []
-wrong_token (Some t) = wrong_at (view t ∷ [])
+wrong_token None = fault_found_at []
+wrong_token (Some t) = fault_found_at (view t ∷ [])
 
 -- what was read, unless it passes a limit
 abbrev pub unless_limited : {A : Type 0} → ℕ → Option Limit → A → List Token → Result (A × List Token) Found
@@ -73,12 +73,12 @@ unless_limited at (Some what) x tokens = Err (record { at = Some at; refusal = r
 -- a token and those behind it, by what the token means, if it means something
 abbrev pub take_meaning : {A : Type 0} → Option A → (A → Option Limit) → Token → List Token
     → Result (A × List Token) Found
-take_meaning None limit t tokens = Err (wrong_at (t ∷ tokens))
+take_meaning None limit t tokens = Err (fault_found_at (t ∷ tokens))
 take_meaning (Some x) limit t tokens = unless_limited t.at (limit x) x tokens
 
 -- one token that means something
 unfoldable pub token_at : {A : Type 0} → (Token → Option A) → (A → Option Limit) → Reader A
-token_at meaning limit [] = Err (wrong_at [])
+token_at meaning limit [] = Err (fault_found_at [])
 token_at meaning limit (t ∷ tokens) = take_meaning (meaning t) limit t tokens
 
 -- whether the next token is one of these

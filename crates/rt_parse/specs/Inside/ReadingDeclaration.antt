@@ -14,10 +14,10 @@ use Rattle.rt_grammar.specs.Limits.{within}
 use Rattle.rt_grammar.specs.Options.{OfInit, OfIdle}
 use Rattle.rt_grammar.specs.Declaration.{Head}
 use Rattle.rt_parse.specs.declared.stop.Found.{Found}
-use Rattle.rt_parse.specs.Inside.Reading.{Reader, ◌>>=◌, begins_with, wrong_at, repeat_at, word_at, sign_at, name_at}
+use Rattle.rt_parse.specs.Inside.Reading.{Reader, ◌>>=◌, begins_with, fault_found_at, repeat_at, word_at, sign_at, name_at}
 use Rattle.rt_parse.specs.Inside.Reading.{this_name_at, limited_number_at}
 use Rattle.rt_parse.specs.Inside.ReadingList.{adds_at, names_at}
-use Rattle.rt_parse.specs.Inside.ReadingResources.{interrupts_at, monotonic_at, shared_at, locals_at}
+use Rattle.rt_parse.specs.Inside.ReadingResources.{interrupts_at, monotonic_at, shared_resources_at, locals_at}
 use Rattle.rt_parse.specs.Inside.ReadingBodies.{thread_body_at, task_at}
 
 -- the dispatchers behind their comma
@@ -57,8 +57,8 @@ alone_at tokens = do
   Ok (([], on.0), on.1)
 
 -- the dispatchers behind their comma, and the extension if it is there
-abbrev pub dispatched_at : Reader Features
-dispatched_at tokens = do
+abbrev pub dispatcher_features_at : Reader Features
+dispatcher_features_at tokens = do
   ds ← dispatchers_at tokens
   on ← fpu_at ds.1
   Ok ((ds.0, on.0), on.1)
@@ -66,7 +66,7 @@ dispatched_at tokens = do
 -- what stands behind the first comma: the extension alone, or the dispatchers first
 unfoldable pub behind_comma_at : Reader Features
 behind_comma_at tokens = if begins_with (is_this_name (codes "fpu")) tokens then alone_at tokens
-    else dispatched_at tokens
+    else dispatcher_features_at tokens
 
 -- both parts from the first comma on
 abbrev pub comma_features_at : Reader Features
@@ -80,28 +80,28 @@ features_at tokens = if begins_with (is_this_sign (codes ",")) tokens then comma
     else Ok (([], false), tokens)
 
 -- the first declaration behind its priority bits
-abbrev pub featured_at : Ident → ℕ → Reader Head
-featured_at name bits tokens = do
+abbrev pub head_rest_at : Ident → ℕ → Reader Head
+head_rest_at name bits tokens = do
   fs ← features_at tokens
   e ← sign_at (codes ")") fs.1
   f ← sign_at (codes ";") e.1
   Ok (record { name = name; bits = bits; dispatchers = fs.0.0; fpu = fs.0.1 }, f.1)
 
 -- the first declaration from its parenthesis on
-abbrev pub levels_at : Ident → Reader Head
-levels_at name tokens = do
+abbrev pub priority_bits_at : Ident → Reader Head
+priority_bits_at name tokens = do
   b ← sign_at (codes "(") tokens
   c ← word_at (codes "bits") b.1
   d ← sign_at (codes "=") c.1
   bits ← limited_number_at (within LEAST_BITS MOST_BITS limit.Bits) d.1
-  featured_at name bits.0.value bits.1
+  head_rest_at name bits.0.value bits.1
 
 -- the first declaration
 unfoldable pub head_at : Reader Head
 head_at tokens = do
   a ← word_at (codes "app") tokens
   x ← name_at a.1
-  levels_at x.0 x.1
+  priority_bits_at x.0 x.1
 
 -- what is declared before the bodies
 pub record Declared : Type 0 where
@@ -140,7 +140,7 @@ abbrev pub declarations_at : Head → Reader App
 declarations_at first tokens = do
   irqs ← interrupts_at tokens
   mono ← monotonic_at irqs.1
-  ss ← shared_at mono.1
+  ss ← shared_resources_at mono.1
   ls ← locals_at ss.1
   bodies_at (record { first = first; irqs = irqs.0; mono = mono.0; shared = ss.0; locals = ls.0 }) ls.1
 
@@ -157,7 +157,7 @@ is_end (t ∷ tokens) = false
 
 -- an application behind which no token is left
 abbrev pub whole_at : App → List Token → Result App Found
-whole_at app tokens = if is_end tokens then Ok app else Err (wrong_at tokens)
+whole_at app tokens = if is_end tokens then Ok app else Err (fault_found_at tokens)
 
 -- all of the tokens
 unfoldable pub text_at : List Token → Result App Found

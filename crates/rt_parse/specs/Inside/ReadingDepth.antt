@@ -16,26 +16,26 @@ pub record Measured : Type 0 where
   pub kept : Option Kept
 
 -- a tree, unless it is too deep
-abbrev pub kept_if : Bool → Kept → Option Kept
-kept_if deep k = if deep then None else Some k
+abbrev pub tree_unless_deep : Bool → Kept → Option Kept
+tree_unless_deep deep k = if deep then None else Some k
 
 -- an operation on two trees, unless one was too deep or it is
-abbrev pub kept_joined : Op → Option Kept → Option Kept → Option Kept
-kept_joined o None right = None
-kept_joined o (Some left) None = None
-kept_joined o (Some left) (Some right) =
-    kept_if (nat_lt DEPTH (1 + max left.depth right.depth))
+abbrev pub joined_tree : Op → Option Kept → Option Kept → Option Kept
+joined_tree o None right = None
+joined_tree o (Some left) None = None
+joined_tree o (Some left) (Some right) =
+    tree_unless_deep (nat_lt DEPTH (1 + max left.depth right.depth))
     (record { tree = Oper o left.tree right.tree; depth = 1 + max left.depth right.depth })
 
 -- an operation on two expressions as they are read
-abbrev pub measured_joined : Op → Measured → Measured → Measured
-measured_joined o left right = record { at = left.at; kept = kept_joined o left.kept right.kept }
+abbrev pub joined_measure : Op → Measured → Measured → Measured
+joined_measure o left right = record { at = left.at; kept = joined_tree o left.kept right.kept }
 
 -- how an operand of the grammar is read
 abbrev pub measure : Operand → Measured
 measure e = record {
   at = e.at;
-  kept = kept_if (nat_lt DEPTH (depth e.tree)) (record { tree = e.tree; depth = depth e.tree });
+  kept = tree_unless_deep (nat_lt DEPTH (depth e.tree)) (record { tree = e.tree; depth = depth e.tree });
 }
 
 -- an expression of one token, a number or a name, which is 1 deep

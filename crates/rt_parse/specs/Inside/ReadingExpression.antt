@@ -12,26 +12,26 @@ use Rattle.rt_ast.specs.Tree.{Expression, Num, Read}
 use Rattle.rt_grammar.specs.Tokens.{free}
 use Rattle.rt_grammar.specs.Expression.{Signs, comparisons, strengths, op_of}
 use Rattle.rt_grammar.specs.Reach.{is_of}
-use Rattle.rt_parse.specs.Inside.Reading.{Reader, ◌>>=◌, token_at, repeat_at, begins_with, wrong_at, limited_sign_at}
+use Rattle.rt_parse.specs.Inside.Reading.{Reader, ◌>>=◌, token_at, repeat_at, begins_with, fault_found_at, limited_sign_at}
 use Rattle.rt_parse.specs.Inside.Reading.{sign_at, name_at, number_at}
-use Rattle.rt_parse.specs.Inside.ReadingDepth.{Kept, Measured, measured_joined, atomic}
+use Rattle.rt_parse.specs.Inside.ReadingDepth.{Kept, Measured, joined_measure, atomic}
 
 -- one of these operators
 unfoldable pub operator_at : Signs → Reader Op
 operator_at signs tokens = token_at (op_of signs) (λ _. free) tokens
 
 -- one more operator and its operand
-unfoldable pub joined_at : Signs → Reader Measured → Measured → Reader Measured
-joined_at signs operand left tokens = do
+unfoldable pub joined_operand_at : Signs → Reader Measured → Measured → Reader Measured
+joined_operand_at signs operand left tokens = do
   o ← operator_at signs tokens
   right ← operand o.1
-  Ok (measured_joined o.0 left right.0, right.1)
+  Ok (joined_measure o.0 left right.0, right.1)
 
 -- operands with operators of one strength between them
 unfoldable pub chain_at : Signs → Reader Measured → Reader Measured
 chain_at signs operand tokens = do
   first ← operand tokens
-  repeat_at (is_of signs) (joined_at signs operand) (length first.1) first.0 first.1
+  repeat_at (is_of signs) (joined_operand_at signs operand) (length first.1) first.0 first.1
 
 -- operands with operators of these strengths between them, the weakest outermost
 unfoldable pub chains_at : List Signs → Reader Measured → Reader Measured
@@ -39,15 +39,15 @@ chains_at [] atom tokens = atom tokens
 chains_at (signs ∷ stronger) atom tokens = chain_at signs (chains_at stronger atom) tokens
 
 -- the comparison behind its left side, or none
-unfoldable pub compared_at : Reader Measured → Measured → Reader Measured
-compared_at operand left tokens =
-    if begins_with (is_of comparisons) tokens then joined_at comparisons operand left tokens else Ok (left, tokens)
+unfoldable pub comparison_tail_at : Reader Measured → Measured → Reader Measured
+comparison_tail_at operand left tokens =
+    if begins_with (is_of comparisons) tokens then joined_operand_at comparisons operand left tokens else Ok (left, tokens)
 
 -- an expression: one side, and perhaps a comparison
 unfoldable pub comparison_at : Reader Measured → Reader Measured
 comparison_at atom tokens = do
   left ← chains_at strengths atom tokens
-  compared_at (chains_at strengths atom) left.0 left.1
+  comparison_tail_at (chains_at strengths atom) left.0 left.1
 
 -- whether a token of this kind is a number
 abbrev pub is_number_kind : Kind → Bool
@@ -80,18 +80,18 @@ name_atom_at tokens = do
   Ok (atomic x.0.at (Read x.0), x.1)
 
 -- an expression in parentheses, read so
-unfoldable pub parenthesized_at : Reader Measured → Reader Measured
-parenthesized_at inner tokens = do
+unfoldable pub parenthesized_expression_at : Reader Measured → Reader Measured
+parenthesized_expression_at inner tokens = do
   at ← sign_at (codes "(") tokens
   e ← inner at.1
   b ← sign_at (codes ")") e.1
   Ok (record { at = at.0; kept = e.0.kept }, b.1)
 
 -- where no more parentheses may be opened
-unfoldable pub closed_at : Reader Measured
-closed_at tokens = do
+unfoldable pub refused_parenthesis_at : Reader Measured
+refused_parenthesis_at tokens = do
   at ← limited_sign_at (codes "(") (Some limit.Parentheses) tokens
-  Err (wrong_at at.1)
+  Err (fault_found_at at.1)
 
 -- a number or a name, or else what this reads
 unfoldable pub atom_or_at : Reader Measured → Reader Measured
@@ -101,13 +101,13 @@ atom_or_at nested tokens =
     else nested tokens
 
 -- an expression in parentheses, where so many may be opened
-unfoldable pub nested_at : ℕ → Reader Measured
-nested_at zero tokens = closed_at tokens
-nested_at (suc more) tokens = parenthesized_at (comparison_at (atom_or_at (nested_at more))) tokens
+unfoldable pub nested_expression_at : ℕ → Reader Measured
+nested_expression_at zero tokens = refused_parenthesis_at tokens
+nested_expression_at (suc more) tokens = parenthesized_expression_at (comparison_at (atom_or_at (nested_expression_at more))) tokens
 
 -- an atom, where so many parentheses may be opened
 abbrev pub atom_at : ℕ → Reader Measured
-atom_at more = atom_or_at (nested_at more)
+atom_at more = atom_or_at (nested_expression_at more)
 
 -- the tree of an expression, or that it is too deep
 abbrev pub unless_deep : ℕ → Option Kept → Reader Expression

@@ -4,7 +4,7 @@ use Rattle.std.specs.Prelude.{if◌then◌else◌}
 use Rattle.rt_lex.specs.Token.{Token, is_this_sign}
 use Rattle.rt_ast.specs.declared.ident.Ident.{Ident}
 use Rattle.rt_parse.specs.declared.stop.Found.{Found}
-use Rattle.rt_parse.specs.Inside.Reading.{Reader, ◌>>=◌, begins_with, wrong_at, sign_at, name_at}
+use Rattle.rt_parse.specs.Inside.Reading.{Reader, ◌>>=◌, begins_with, fault_found_at, sign_at, name_at}
 
 -- a comma, or nothing in front of the sign that closes a list
 abbrev pub comma_at : List ℕ → List Token → Result (List Token) Found
@@ -21,7 +21,7 @@ items_at closing item (suc n) s tokens =
 
 -- one more item of a list, of which there is none at the end of the text
 unfoldable pub adds_at : {A : Type 0} → (ℕ → Reader A) → List A → Reader (List A)
-adds_at item xs [] = Err (wrong_at [])
+adds_at item xs [] = Err (fault_found_at [])
 adds_at item xs (t ∷ tokens) = item (length xs) (t ∷ tokens) >>= λ x. Ok (xs ++ x.0 ∷ [], x.1)
 
 -- whether there is a token, and it is not this sign

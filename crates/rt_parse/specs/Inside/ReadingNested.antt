@@ -6,7 +6,7 @@ use Rattle.rt_ids.specs.declared.limit.Limit.TheVariants as limit
 use Rattle.rt_lex.specs.Token.{is_this_word}
 use Rattle.rt_ast.specs.Tree.{Statement, Block, Branch, Repeat, Locked, Empty, Then}
 use Rattle.rt_grammar.specs.Tokens.{limit_if, first_of}
-use Rattle.rt_grammar.specs.Limits.{turned}
+use Rattle.rt_grammar.specs.Limits.{turn_limit}
 use Rattle.rt_grammar.specs.Simple.{Counted}
 use Rattle.rt_parse.specs.Inside.Reading.{Reader, ◌>>=◌, begins_with, limited_word_at, word_at, sign_at}
 use Rattle.rt_parse.specs.Inside.Reading.{limited_name_at, name_at, number_at, limited_number_at}
@@ -46,7 +46,7 @@ loop_at block room tokens = do
   b ← word_at (codes "in") x.1
   first ← number_at b.1
   c ← sign_at (codes "..") first.1
-  last ← limited_number_at (turned first.0.value) c.1
+  last ← limited_number_at (turn_limit first.0.value) c.1
   turn ← block (room - 1) last.1
   Ok ((Repeat x.0 first.0.value last.0.value turn.0.0, turn.0.1), turn.1)
 

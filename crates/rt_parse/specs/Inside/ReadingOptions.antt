@@ -7,7 +7,7 @@ use Rattle.rt_lex.specs.Token.{Token, is_this_word, is_this_sign}
 use Rattle.rt_ast.specs.declared.app.ListedTree.{ListedTree}
 use Rattle.rt_grammar.specs.Limits.{within}
 use Rattle.rt_grammar.specs.Options.{Options, no_options, Owner, is_task, is_init}
-use Rattle.rt_parse.specs.Inside.Reading.{Reader, ◌>>=◌, begins_with, wrong_at, word_at, sign_at, name_at, number_at}
+use Rattle.rt_parse.specs.Inside.Reading.{Reader, ◌>>=◌, begins_with, fault_found_at, word_at, sign_at, name_at, number_at}
 use Rattle.rt_parse.specs.Inside.Reading.{limited_number_at}
 use Rattle.rt_parse.specs.Inside.ReadingList.{items_at, adds_at, names_at}
 
@@ -36,22 +36,22 @@ capacity_at o tokens = do
   Ok (record o { capacity = Some n.0.value }, n.1)
 
 -- a shared resource that is listed by reference, from its `&` on
-unfoldable pub listed_by_ref_at : Reader ListedTree
-listed_by_ref_at tokens = do
+unfoldable pub ref_resource_at : Reader ListedTree
+ref_resource_at tokens = do
   at ← sign_at (codes "&") tokens
   x ← name_at at.1
   Ok (record { name = x.0; by_ref = true; at = at.0 }, x.1)
 
 -- a shared resource that is listed by its name
-unfoldable pub listed_plainly_at : Reader ListedTree
-listed_plainly_at tokens = do
+unfoldable pub named_resource_at : Reader ListedTree
+named_resource_at tokens = do
   x ← name_at tokens
   Ok (record { name = x.0; by_ref = false; at = x.0.at }, x.1)
 
 -- a shared resource that a body lists
-unfoldable pub listed_at : Reader ListedTree
-listed_at tokens = if begins_with (is_this_sign (codes "&")) tokens then listed_by_ref_at tokens
-    else listed_plainly_at tokens
+unfoldable pub listed_resource_at : Reader ListedTree
+listed_resource_at tokens = if begins_with (is_this_sign (codes "&")) tokens then ref_resource_at tokens
+    else named_resource_at tokens
 
 -- the shared resources that a body lists
 unfoldable pub shared_list_at : Options → Reader Options
@@ -59,7 +59,7 @@ shared_list_at o tokens = do
   a ← word_at (codes "shared") tokens
   b ← sign_at (codes "=") a.1
   c ← sign_at (codes "[") b.1
-  xs ← items_at (codes "]") (adds_at (λ before. listed_at)) (length c.1) [] c.1
+  xs ← items_at (codes "]") (adds_at (λ before. listed_resource_at)) (length c.1) [] c.1
   Ok (record o { shared = Some xs.0 }, xs.1)
 
 -- the local resources that a body lists
@@ -85,7 +85,7 @@ option_at owner o tokens =
     else if begins_with (takes (not (is_init owner) && is_none o.shared) (codes "shared")) tokens
     then shared_list_at o tokens
     else if begins_with (takes (is_none o.local) (codes "local")) tokens then local_list_at o tokens
-    else Err (wrong_at tokens)
+    else Err (fault_found_at tokens)
 
 -- the options from their parenthesis on
 unfoldable pub some_options_at : Owner → Reader Options

@@ -70,8 +70,8 @@ lock_free_at before tokens = do
   Ok (record { name = x.0; first = n.0; lock_free = true }, n.1)
 
 -- a shared resource that is not `lock_free`, behind so many
-unfoldable pub locked_at : ℕ → Reader SharedTree
-locked_at before tokens = do
+unfoldable pub locked_resource_at : ℕ → Reader SharedTree
+locked_resource_at before tokens = do
   x ← limited_name_at (at_most SHARED limit.Shared before) tokens
   n ← first_value_at x.1
   Ok (record { name = x.0; first = n.0; lock_free = false }, n.1)
@@ -80,7 +80,7 @@ locked_at before tokens = do
 unfoldable pub resource_at : ℕ → Reader SharedTree
 resource_at before tokens =
     if begins_with (is_this_word (codes "lock_free")) tokens then lock_free_at before tokens
-    else locked_at before tokens
+    else locked_resource_at before tokens
 
 -- the shared resources from their word on
 unfoldable pub resources_at : Reader (List SharedTree)
@@ -90,8 +90,8 @@ resources_at tokens = do
   items_at (codes "}") (adds_at resource_at) (length b.1) [] b.1
 
 -- the shared resources, if their word comes next
-unfoldable pub shared_at : Reader (List SharedTree)
-shared_at tokens = if begins_with (is_this_word (codes "shared")) tokens then resources_at tokens else Ok ([], tokens)
+unfoldable pub shared_resources_at : Reader (List SharedTree)
+shared_resources_at tokens = if begins_with (is_this_word (codes "shared")) tokens then resources_at tokens else Ok ([], tokens)
 
 -- a local resource behind so many
 unfoldable pub local_at : ℕ → Reader LocalTree

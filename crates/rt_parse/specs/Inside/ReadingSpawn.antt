@@ -16,17 +16,17 @@ arguments_at tokens = do
   items_at (codes ")") (adds_at (λ before. expression_at)) (length a.1) [] a.1
 
 -- an expression in parentheses: a delay, or the handle of a message
-unfoldable pub enclosed_at : Reader Expression
-enclosed_at tokens = do
+unfoldable pub enclosed_expression_at : Reader Expression
+enclosed_expression_at tokens = do
   a ← sign_at (codes "(") tokens
   e ← expression_at a.1
   b ← sign_at (codes ")") e.1
   Ok (e.0, b.1)
 
 -- a delay, and the task behind it
-unfoldable pub delayed_at : Reader (Expression × Ident)
-delayed_at tokens = do
-  delay ← enclosed_at tokens
+unfoldable pub delayed_task_at : Reader (Expression × Ident)
+delayed_task_at tokens = do
+  delay ← enclosed_expression_at tokens
   task ← name_at delay.1
   Ok ((delay.0, task.0), task.1)
 
@@ -42,7 +42,7 @@ soon_at what tokens = do
 unfoldable pub after_at : Option Limit → Reader Spawn
 after_at what tokens = do
   at ← limited_word_at (codes "spawn_after") what tokens
-  task ← delayed_at at.1
+  task ← delayed_task_at at.1
   args ← arguments_at task.1
   Ok (After at.0 task.0.0 task.0.1 args.0, args.1)
 
@@ -51,15 +51,15 @@ unfoldable pub cancel_at : Option Limit → Reader Spawn
 cancel_at what tokens = do
   at ← limited_word_at (codes "cancel") what tokens
   task ← name_at at.1
-  handle ← enclosed_at task.1
+  handle ← enclosed_expression_at task.1
   Ok (Cancel at.0 task.0 handle.0, handle.1)
 
 -- a `reschedule_after`, whose first word may pass this limit
 unfoldable pub move_at : Option Limit → Reader Spawn
 move_at what tokens = do
   at ← limited_word_at (codes "reschedule_after") what tokens
-  task ← delayed_at at.1
-  handle ← enclosed_at task.1
+  task ← delayed_task_at at.1
+  handle ← enclosed_expression_at task.1
   Ok (Move at.0 task.0.0 task.0.1 handle.0, handle.1)
 
 -- any of these four, by its first word

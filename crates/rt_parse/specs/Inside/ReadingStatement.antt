@@ -6,7 +6,7 @@ use Rattle.rt_lex.specs.Token.{Token, is_this_word, is_this_sign}
 use Rattle.rt_ast.specs.Tree.{Statement, Block}
 use Rattle.rt_grammar.specs.Simple.{Counted}
 use Rattle.rt_grammar.specs.Statement.{block_of}
-use Rattle.rt_parse.specs.Inside.Reading.{Reader, ◌>>=◌, begins_with, wrong_at, repeat_at, limited_sign_at, sign_at}
+use Rattle.rt_parse.specs.Inside.Reading.{Reader, ◌>>=◌, begins_with, fault_found_at, repeat_at, limited_sign_at, sign_at}
 use Rattle.rt_parse.specs.Inside.ReadingExpression.{is_name}
 use Rattle.rt_parse.specs.Inside.ReadingSimple.{bind_at, assign_at, emit_at, pend_at, call_at}
 use Rattle.rt_parse.specs.Inside.ReadingNested.{branch_at, loop_at, further_at, lock_at}
@@ -50,8 +50,8 @@ abbrev pub is_inside : Token → Bool
 is_inside t = not (is_this_sign (codes "}") t)
 
 -- a block, inside which these readers read blocks and what is behind a lock's name
-unfoldable pub braced_at : (ℕ → Reader (Counted Block)) → (ℕ → Reader (Counted Block)) → ℕ → Reader (Counted Block)
-braced_at block inside room tokens = do
+unfoldable pub braced_block_at : (ℕ → Reader (Counted Block)) → (ℕ → Reader (Counted Block)) → ℕ → Reader (Counted Block)
+braced_block_at block inside room tokens = do
   a ← sign_at (codes "{") tokens
   all ← repeat_at is_inside (one_more_at block inside) (length a.1) ([], room) a.1
   b ← sign_at (codes "}") all.1
@@ -61,17 +61,17 @@ braced_at block inside room tokens = do
 unfoldable pub closed_block_at : Reader (Counted Block)
 closed_block_at tokens = do
   a ← limited_sign_at (codes "{") (Some limit.Nesting) tokens
-  Err (wrong_at a.1)
+  Err (fault_found_at a.1)
 
 -- no text, so that any token is wrong
 unfoldable pub nothing_at : ℕ → Reader (Counted Block)
-nothing_at room tokens = Err (wrong_at tokens)
+nothing_at room tokens = Err (fault_found_at tokens)
 
 -- a block, and what is behind a lock's name, where so many blocks may be opened
 unfoldable mutual
   pub block_at : ℕ → ℕ → Reader (Counted Block)
   block_at zero room tokens = closed_block_at tokens
-  block_at (suc left) room tokens = braced_at (block_at left) (inside_at left) room tokens
+  block_at (suc left) room tokens = braced_block_at (block_at left) (inside_at left) room tokens
 
   -- what is behind a lock's name, where so many blocks may be opened
   pub inside_at : ℕ → ℕ → Reader (Counted Block)
@@ -80,7 +80,7 @@ unfoldable mutual
       else closed_block_at tokens
   inside_at (suc left) room tokens =
       if begins_with (is_this_sign (codes ",")) tokens then further_at (inside_at left) (suc left) room tokens
-      else braced_at (block_at left) (inside_at left) room tokens
+      else braced_block_at (block_at left) (inside_at left) room tokens
 
 -- behind a further name, of which so many may come
 unfoldable pub below_at : ℕ → ℕ → Reader (Counted Block)

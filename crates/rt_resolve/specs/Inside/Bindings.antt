@@ -23,8 +23,8 @@ abbrev pub scope_of : List Binding → ℕ → Scope
 scope_of bindings outer = record { variables = map variable_of (reverse bindings); here = length bindings - outer }
 
 -- the scope behind a block, where so many variables stand before the block outside
-abbrev pub left : Scope → ℕ → Scope
-left s outer = let rest = drop s.here s.variables in record { variables = rest; here = length rest - outer }
+abbrev pub scope_behind_block : Scope → ℕ → Scope
+scope_behind_block s outer = let rest = drop s.here s.variables in record { variables = rest; here = length rest - outer }
 
 -- what a name means in a map
 abbrev pub meaning_at : Meanings → List ℕ → Option Meaning
@@ -34,7 +34,7 @@ meaning_at m name = get_by (λ k. bytes_eq name k.now) m
 abbrev pub meaning_in : List ℕ → List Binding → Option Meaning
 meaning_in name [] = None
 meaning_in name (b ∷ bs) =
-    if bytes_eq b.name.now name then Some (record { number = b.number; place = length bs }) else meaning_in name bs
+    if bytes_eq b.name.now name then Some (record { number = b.number; index = length bs }) else meaning_in name bs
 
 -- each variable keeps what its name means without it
 abbrev pub AreHiding : List Binding → Type 0

@@ -16,7 +16,7 @@ module _ (all : List Load) (wait : Wait) where
   -- a number of core steps that suffices: the wait and what is asked for in so many steps are no more
   pub record IsEnough (steps : ℕ) : Type 0 where
     pub some : 1 ≤ steps
-    pub covers : wait.steps + loads_demand wait.level steps all ≤ steps
+    pub covers : wait.steps + loads_demand wait.priority steps all ≤ steps
 
   -- the least number that suffices, or none up to the greatest that is looked at
   abbrev pub IsLeast : Option ℕ → Type 0
@@ -25,7 +25,7 @@ module _ (all : List Load) (wait : Wait) where
 
   -- the row of this wait
   pub record IsTimeOf (row : ResponseTime) : Type 0 where
-    pub level : row.level ≡ wait.level
+    pub priority : row.priority ≡ wait.priority
     pub least : IsLeast row.steps
 
 -- a row for each wait, in order

@@ -3,14 +3,14 @@ use Rattle.std.specs.Prelude.{ℕ, ◌*◌, nat_le, List, [], ◌∷◌, flat_ma
 use Rattle.rt_ids.specs.Lists.{then_from}
 use Rattle.rt_app.specs.Tree.{Task, App}
 use Rattle.rt_rta.specs.Limits.{number_of, every_of}
-use Rattle.rt_rta.specs.Response.{begun_in, handling}
+use Rattle.rt_rta.specs.Response.{most_requests, handling_steps}
 use Rattle.rt_rta.specs.declared.limits.Limit.{Limit}
 use Rattle.rt_rta.specs.declared.load.Load.{Load}
 
 -- of a task whose interrupt may be requested so often
 abbrev pub load_of : App → Task → Option ℕ → List Load
 load_of app t None = []
-load_of app t (Some every) = record { level = t.priority; every = every; steps = handling app t } ∷ []
+load_of app t (Some every) = record { priority = t.priority; every = every; steps = handling_steps app t } ∷ []
 
 -- what a task asks for, where its interrupt may be requested
 abbrev pub task_loads : App → List Limit → Task → List Load
@@ -20,9 +20,9 @@ task_loads app limits t = load_of app t (then_from (number_of app t) (every_of l
 abbrev pub loads : App → List Limit → List Load
 loads app limits = flat_map (task_loads app limits) app.tasks
 
--- what it asks for in so many core steps, where it is of this level or a higher one
+-- what it asks for in so many core steps, where it is of this priority or a higher one
 abbrev pub load_demand : ℕ → ℕ → Load → ℕ
-load_demand p steps load = if nat_le p load.level then begun_in steps load.every * load.steps else 0
+load_demand p steps load = if nat_le p load.priority then most_requests steps load.every * load.steps else 0
 
 -- what all these ask for in so many core steps
 abbrev pub loads_demand : ℕ → ℕ → List Load → ℕ

@@ -12,7 +12,7 @@ use Rattle.rt_points.specs.declared.point.Owner.{Owner}
 use Rattle.rt_points.specs.declared.point.Owner.TheVariants.{Starting, Handling}
 use Rattle.rt_points.specs.Point.{Point}
 use Rattle.rt_points.specs.Leading.{handler_at, IsPoint}
-use Rattle.rt_points.specs.Level.{level_value, frame_of}
+use Rattle.rt_points.specs.ExecutionPriority.{execution_priority, frame_of}
 
 -- whether it is `init`
 abbrev pub is_starting : Owner → Bool
@@ -58,7 +58,7 @@ Saves slots (o ∷ outer) base mask =
 
 -- `init` or the thread behind it, which interrupt nobody
 abbrev pub IsLowest : Owner → Type 0
-IsLowest (Handling place) = ⊥
+IsLowest (Handling index) = ⊥
 IsLowest owner = Unit {0}
 
 module _ (img : Image) where
@@ -68,14 +68,14 @@ module _ (img : Image) where
     pub frame : length slots ≡ frame_of img p.owner
     pub saves : Saves slots p.inside base (is_starting p.owner)
 
-  -- a handler at the first point on what it interrupted at the second: its priority is above the level there
+  -- a handler at the first point on what it interrupted at the second: its priority is above the execution priority there
   pub record IsOn (p q : Point) (base : ℕ) (x : Context) : Type 0 where
-    pub place : ℕ
+    pub index : ℕ
     pub handler : Handler
-    pub enabled : handler_at img place ≡ Some handler
-    pub handles : p.owner ≡ Handling place
+    pub enabled : handler_at img index ≡ Some handler
+    pub handles : p.owner ≡ Handling index
     pub value : x.value ≡ handler.value
-    pub above : handler.value < level_value img q.owner q.inside
+    pub above : handler.value < execution_priority img q.owner q.inside
     pub address : x.address ≡ q.address
     pub caller : x.caller ≡ None
     pub interrupted : RunsAt q x.slots base

@@ -1,5 +1,5 @@
 -- What holds at each moment of a run of an image: jobs own different things, priorities rise, masks and frames are as
--- the open sections and levels say, and what no started job owns is spelled in memory.
+-- the open sections and priorities say, and what no started job owns is spelled in memory.
 use Rattle.std.specs.Prelude.{◌≡◌, ℕ, ◌+◌, ◌^◌, ◌<◌, ◌≤◌, ◌⊎◌, true, false, None, IfSome, List, [], ◌∷◌, length}
 use Rattle.std.specs.Prelude.{slice_index}
 use Rattle.std.specs.List.{AllByRecursion}
@@ -14,7 +14,7 @@ use Rattle.rt_app.specs.Stack.{thread_words, has_handler, need}
 use Rattle.rt_code.specs.Image.{Image}
 use Rattle.rt_code.specs.Stack.{words_of}
 use Rattle.rt_laws.specs.State.{Init, Idle, Waiting, Serving}
-use Rattle.rt_laws.specs.Level.{level}
+use Rattle.rt_laws.specs.Preemption.{system_ceiling}
 use Rattle.rt_laws.specs.Services.{timer_number}
 use Rattle.rt_sim.specs.Inside.Moment.{Part, Moment, jobs_of}
 use Rattle.rt_sim.specs.Inside.Counts.{hands, IsOnce}
@@ -34,7 +34,7 @@ module _ (app : App) (img : Image) (thread : ℕ) where
   pub record IsOn (p q : Part) (ps : List Part) : Type 0 where
     pub irq : ℕ
     pub serves : p.role ≡ Serving irq
-    pub above : level app (jobs_of q ps) < p.priority
+    pub above : system_ceiling app (jobs_of q ps) < p.priority
     pub most : p.priority ≤ 2 ^ app.bits
     pub apart : AllByRecursion (AreApart app img thread p) (q ∷ ps)
     pub unmasked : mask_of app q ps ≡ false

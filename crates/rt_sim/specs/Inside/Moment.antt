@@ -5,7 +5,7 @@ use Rattle.rt_ids.specs.Holder.{Holder}
 use Rattle.rt_ids.specs.Content.{Values}
 use Rattle.rt_ids.specs.Entry.{Entry}
 use Rattle.rt_ids.specs.Doing.{Doing}
-use Rattle.rt_ids.specs.Storage.{Runner, Starting, AtLevel}
+use Rattle.rt_ids.specs.Storage.{Runner, Starting, AtPriority}
 use Rattle.rt_ids.specs.declared.ids.Section.{Section}
 use Rattle.rt_code.specs.Owning.{Held, Spot}
 use Rattle.rt_code.specs.declared.image.BodyRow.{BodyRow}
@@ -53,7 +53,7 @@ pub record Moment : Type 0 where
 -- who runs a job's code, as code that stands knows it
 abbrev pub runner_of : Role → ℕ → Runner
 runner_of Init priority = Starting
-runner_of role priority = AtLevel priority
+runner_of role priority = AtPriority priority
 
 -- the interrupt that a job handles
 abbrev pub irq_of : Role → ℕ

@@ -14,7 +14,7 @@ use Rattle.rt_app.specs.Tree.{App}
 use Rattle.rt_app.specs.Holding.{is_kept, IsHeld}
 use Rattle.rt_app.specs.Level.{is_software, is_of_level}
 use Rattle.rt_app.specs.Sending.{Rest}
-use Rattle.rt_laws.specs.State.{reached}
+use Rattle.rt_laws.specs.State.{reached_values}
 
 -- Behind the opening of a ready queue its messages are of tasks of its level, as they are spelled. Behind a reading of
 -- the clock, by which the timer handler looks for a due message, armed messages are of software tasks.
@@ -34,10 +34,10 @@ module _ (app : App) (who : Runner) (handles : Bool) where
   owns_in held (Own n) = is_kept app who (Own n)
 
   -- the sections that are open behind an action
-  abbrev pub held_after : List Section → Action → List Section
-  held_after held (Enters x cost) = x ∷ held
-  held_after held (Leaves x) = drop 1 held
-  held_after held action = held
+  abbrev pub sections_after : List Section → Action → List Section
+  sections_after held (Enters x cost) = x ∷ held
+  sections_after held (Leaves x) = drop 1 held
+  sections_after held action = held
 
   -- an action enters sections of things that there are, and only a handler returns
   abbrev pub IsActionOf : Action → Type 0
@@ -47,15 +47,15 @@ module _ (app : App) (who : Runner) (handles : Bool) where
 
   -- the values that it makes on its way are those before, but for what is owned
   abbrev pub Spares : List Section → Values → Doing Values → Type 0
-  Spares held vs rest = (h : Holder) → owns_in held h ≡ false → reached rest vs h ≡ vs h
+  Spares held vs rest = (h : Holder) → owns_in held h ≡ false → reached_values rest vs h ≡ vs h
 
   -- what is left to do is sparing, where these sections are open
   abbrev pub IsSparing : List Section → Doing Values → Type 0
   IsSparing held over = Unit {0}
   IsSparing held (does action made next) =
       IsActionOf action
-      × ((n : ℕ) (vs : Values) → IsEntered app action vs → Spares (held_after held action) vs (next n vs)
-      × IsSparing (held_after held action) (next n vs))
+      × ((n : ℕ) (vs : Values) → IsEntered app action vs → Spares (sections_after held action) vs (next n vs)
+      × IsSparing (sections_after held action) (next n vs))
 
   -- what is left to do is sparing from whatever values
   abbrev pub SparesAlways : List Section → Rest → Type 0

@@ -4,7 +4,7 @@ use Rattle.std.specs.List.{AllByRecursion}
 use Rattle.rt_ids.specs.Lists.{numbers_below}
 use Rattle.rt_code.specs.Image.{Image}
 use Rattle.rt_count.specs.Summary.{summary_of}
-use Rattle.rt_soak.specs.Soak.{shown_by}
+use Rattle.rt_soak.specs.Soak.{items_of_run}
 use Rattle.rt_soak.specs.declared.run.Run.{Run}
 use Rattle.rt_soak.specs.Inside.Totals.{Part, IsSmall}
 
@@ -14,7 +14,7 @@ first_of count workers worker = worker * count / workers
 
 -- the run of a number
 abbrev pub run_of : Image → List ℕ → ℕ → ℕ → Run
-run_of image irqs number i = record { number = i; summary = summary_of 1 (shown_by image irqs number i) }
+run_of image irqs number i = record { number = i; summary = summary_of 1 (items_of_run image irqs number i) }
 
 -- these are the runs from one number up to another: those before it and these are those before the other
 abbrev pub AreRuns : Image → List ℕ → ℕ → ℕ → ℕ → List Run → Type 0

@@ -4,13 +4,13 @@ use Rattle.std.specs.Global.{Global}
 use Rattle.std.specs.List.{AllByRecursion}
 use Rattle.rt_ids.specs.declared.limits.TheConstants.{SCRIPT_EVENTS}
 use Rattle.rt_ids.specs.declared.memory.NoMemory.{NoMemory}
-use Rattle.rt_count.specs.Joining.{joined, IsWithin}
+use Rattle.rt_count.specs.Joining.{joined_summary, IsWithin}
 use Rattle.rt_count.specs.declared.summary.Summary.{Summary}
 use Rattle.rt_soak.specs.declared.run.Run.{Run}
 
 -- a summary with runs behind it, one after another
-abbrev pub totalled : Summary → List Run → Summary
-totalled s runs = fold (λ before run. joined before run.summary) s runs
+abbrev pub summary_with_runs : Summary → List Run → Summary
+summary_with_runs s runs = fold (λ before run. joined_summary before run.summary) s runs
 
 -- one run, with no more of each thing than a script has events
 pub record IsSmall (run : Run) : Type 0 where

@@ -8,8 +8,8 @@ use Rattle.rt_baker.specs.Audit.{IsVerdict}
 use Rattle.rt_baker.specs.Judge.{HasJudged}
 use Rattle.rt_baker.specs.declared.judge.Judge.{Judge}
 use Rattle.rt_baker.specs.declared.verdict.Verdict.{Verdict}
-use Rattle.rt_moves.specs.Machine.{IsMachine}
-use Rattle.rt_moves.specs.declared.machine.Machine.{Machine}
+use Rattle.rt_baker_moves.specs.Machine.{IsMachine}
+use Rattle.rt_baker_moves.specs.declared.machine.Machine.{Machine}
 use Rattle.rt_trace.specs.Reader.{HasRead, RefusesLine}
 use Rattle.rt_trace.specs.Reading.{IsTraceText}
 use Rattle.rt_trace.specs.Trace.{Trace}

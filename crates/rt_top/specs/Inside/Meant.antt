@@ -5,19 +5,19 @@ use Rattle.rt_top.specs.declared.command.Command.{Command}
 use Rattle.rt_top.specs.declared.command.Command.TheVariants as command
 
 -- the command of the definitions that a command of the code is
-abbrev pub meant : Command → word.Command
-meant command.Run = word.Run
-meant command.Check = word.Check
-meant command.Fmt = word.Fmt
-meant command.Build = word.Build
-meant command.Audit = word.Audit
-meant command.Live = word.Live
-meant (command.Soak number count workers) = word.Soak number count workers
-meant (command.Demo n) = word.Demo n
-meant command.Deepest = word.Deepest
-meant command.Times = word.Times
-meant command.Verify = word.Verify
-meant command.Pair = word.Pair
+abbrev pub command_word : Command → word.Command
+command_word command.Run = word.Run
+command_word command.Check = word.Check
+command_word command.Fmt = word.Fmt
+command_word command.Build = word.Build
+command_word command.Audit = word.Audit
+command_word command.Live = word.Live
+command_word (command.Soak number count workers) = word.Soak number count workers
+command_word (command.Demo n) = word.Demo n
+command_word command.Deepest = word.Deepest
+command_word command.Times = word.Times
+command_word command.Verify = word.Verify
+command_word command.Pair = word.Pair
 
 -- the numbers of a command are in range
 abbrev pub IsInRange : word.Command → Type 0

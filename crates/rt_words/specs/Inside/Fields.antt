@@ -5,7 +5,7 @@ use Rattle.rt_words.specs.declared.call.Call.{Call}
 use Rattle.rt_words.specs.declared.view.Stage.TheVariants.{First, Device}
 use Rattle.rt_words.specs.Object.{IsPending}
 use Rattle.rt_words.specs.Inside.Seats.{Seat}
-use Rattle.rt_words.specs.Account.{raised, merged, latched}
+use Rattle.rt_words.specs.Account.{raised_count, merged_count, latched_count}
 
 -- a row has 1 to 16 words, with a place for each interrupt that may be pended
 pub record IsSound (table : TableId) (may : List ℕ) : Type 0 where
@@ -25,10 +25,10 @@ pub record IsCoreSeat (id : ℕ) (me : Seat) (counts : List ℕ) : Type 0 where
   pub stage : me.0.stage ≡ First
   pub free : me.0.reserved ≡ None
   pub room : length counts ≡ 512
-  pub counted : Counts latched counts me.0.calls
-  pub raises : (irq : ℕ) → raised irq me.0.calls ≡ 0
-  pub merges : (irq : ℕ) → merged irq me.0.calls ≡ 0
-  pub others : (irq : ℕ) → sum_by (λ p. latched irq p.calls) me.0.gathered ≡ 0
+  pub counted : Counts latched_count counts me.0.calls
+  pub raises : (irq : ℕ) → raised_count irq me.0.calls ≡ 0
+  pub merges : (irq : ℕ) → merged_count irq me.0.calls ≡ 0
+  pub others : (irq : ℕ) → sum_by (λ p. latched_count irq p.calls) me.0.gathered ≡ 0
 
 -- a device's calls are pends
 pub record IsDeviceSeat (me : Seat) (raises merges : List ℕ) : Type 0 where
@@ -36,6 +36,6 @@ pub record IsDeviceSeat (me : Seat) (raises merges : List ℕ) : Type 0 where
   pub stage : me.0.stage ≡ Device
   pub room_raised : length raises ≡ 512
   pub room_merged : length merges ≡ 512
-  pub count_raised : Counts raised raises me.0.calls
-  pub count_merged : Counts merged merges me.0.calls
-  pub latches : (irq : ℕ) → latched irq me.0.calls ≡ 0
+  pub count_raised : Counts raised_count raises me.0.calls
+  pub count_merged : Counts merged_count merges me.0.calls
+  pub latches : (irq : ℕ) → latched_count irq me.0.calls ≡ 0

@@ -15,14 +15,14 @@ pub record IsRow (may words : List ℕ) : Type 0 where
   pub covers : (irq : ℕ) → IsPending may irq → irq / 32 < length words
 
 -- the words with words of 0 behind them, 16 in all
-abbrev pub padded : List ℕ → List ℕ
-padded words = words ++ replicate (16 - length words) 0
+abbrev pub padded_words : List ℕ → List ℕ
+padded_words words = words ++ replicate (16 - length words) 0
 
 -- a legal history leaves the words as they stand, its parts are the seats' calls, and each seat has seen a beginning
 -- of it
 pub record Standing (may words : List ℕ) (views : List View) (history : List Entry) (core : View) : Type 0 where
   pub row : IsRow may words
-  pub legal : IsLegal history (padded words)
+  pub legal : IsLegal history (padded_words words)
   pub seated : Seated history views core
   pub seen : HaveSeen history views
   pub same_may : AllKnow may views

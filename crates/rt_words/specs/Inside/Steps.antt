@@ -46,8 +46,8 @@ device number calls seen may =
     }
 
 -- one call more, and what has been seen then
-abbrev pub called : View → List Entry → Call → View
-called v seen call = record v { calls = v.calls ++ call ∷ []; seen = seen }
+abbrev pub view_after_call : View → List Entry → Call → View
+view_after_call v seen call = record v { calls = v.calls ++ call ∷ []; seen = seen }
 
 -- all that had been seen, what came in between, and this call behind it
 abbrev pub Extends : List Entry → ℕ → Call → List Entry → Type 0
@@ -59,44 +59,44 @@ abbrev pub answer_at : ℕ → ℕ → Pended
 answer_at found bit = if bit_at found bit == 1 then Merged else Raised
 
 -- a pend of the interrupt whose bit it was
-abbrev pub pended : Step (Unit {0}) → Seat → ℕ → Seat → Type 0
-pended s me found after = (seen : List Entry) × ((bit : ℕ) → bit < 32 → s.first ≡ 2 ^ bit
-    → (after ≡ (called me.0 seen (Pend (32 * s.word + bit) (answer_at found bit)), me.1))
+abbrev pub pend_step : Step (Unit {0}) → Seat → ℕ → Seat → Type 0
+pend_step s me found after = (seen : List Entry) × ((bit : ℕ) → bit < 32 → s.first ≡ 2 ^ bit
+    → (after ≡ (view_after_call me.0 seen (Pend (32 * s.word + bit) (answer_at found bit)), me.1))
     × Extends me.0.seen me.0.line (Pend (32 * s.word + bit) (answer_at found bit)) seen)
 
 -- a latch, in which bits of interrupts that may be pended were found alone
-abbrev pub latched : Step (Unit {0}) → Seat → ℕ → Seat → Type 0
-latched s me found after = (seen : List Entry) × (after ≡ (called me.0 seen (Latch s.word found), me.1))
+abbrev pub latch_step : Step (Unit {0}) → Seat → ℕ → Seat → Type 0
+latch_step s me found after = (seen : List Entry) × (after ≡ (view_after_call me.0 seen (Latch s.word found), me.1))
     × Extends me.0.seen 255 (Latch s.word found) seen × (found < 2 ^ 32)
     × ((bit : ℕ) → bit < 32 → bit_at found bit ≡ 1 → IsPending me.0.may (32 * s.word + bit))
 
 -- the first seat makes the number, and reserves it for a new seat
-abbrev pub reserving : ℕ → View → View
-reserving number v = record v { made = number ∷ v.made; reserved = Some number; since = length v.calls }
+abbrev pub view_after_reserve : ℕ → View → View
+view_after_reserve number v = record v { made = number ∷ v.made; reserved = Some number; since = length v.calls }
 
 -- a step by which the first seat reserves a number
-abbrev pub reserved : ℕ → Step (Unit {0}) → Seat → ℕ → Seat → Type 0
-reserved number s me found after = after ≡ (reserving number me.0, me.1)
+abbrev pub reserve_step : ℕ → Step (Unit {0}) → Seat → ℕ → Seat → Type 0
+reserve_step number s me found after = after ≡ (view_after_reserve number me.0, me.1)
 
 -- a split gives the reserved number away, with a copy of all that is known
 abbrev pub without_reserved : View → View
 without_reserved v = record v { reserved = None }
 
 -- the view of a new seat as a split copies it, before it takes its number
-abbrev pub copied : View → View
-copied v = record v { stage = Copied }
+abbrev pub view_of_copy : View → View
+view_of_copy v = record v { stage = Copied }
 
 -- the new seat takes the number, and has no calls
-abbrev pub took : Step (Unit {0}) → Seat → ℕ → Seat → Type 0
-took s me found after = after ≡ (device (unwrap_or me.0.reserved 255) [] me.0.seen me.0.may, me.1)
+abbrev pub take_step : Step (Unit {0}) → Seat → ℕ → Seat → Type 0
+take_step s me found after = after ≡ (device (unwrap_or me.0.reserved 255) [] me.0.seen me.0.may, me.1)
 
 -- the first seat takes in a line
-abbrev pub joined : View → View → View
-joined v w = record v { gathered = record { line = w.line; calls = w.calls } ∷ v.gathered; since = length v.calls }
+abbrev pub view_after_join : View → View → View
+view_after_join v w = record v { gathered = record { line = w.line; calls = w.calls } ∷ v.gathered; since = length v.calls }
 
 -- what a seat knows once it is spent: nothing
-abbrev pub spent : View
-spent =
+abbrev pub spent_view : View
+spent_view =
     record {
       stage = Spent;
       line = 0;
@@ -110,7 +110,7 @@ spent =
     }
 
 -- the first seat looks at the history so far, and finds that it made each line that it gathered, none of them twice
-abbrev pub looked : Step (Unit {0}) → Seat → ℕ → Seat → Type 0
-looked s me found after = (seen : List Entry) × (after ≡ (record me.0 { since = length me.0.calls; seen = seen }, me.1))
+abbrev pub look_step : Step (Unit {0}) → Seat → ℕ → Seat → Type 0
+look_step s me found after = (seen : List Entry) × (after ≡ (record me.0 { since = length me.0.calls; seen = seen }, me.1))
     × IsPrefix me.0.seen seen × Distinct (numbers me.0.gathered)
     × ((number : ℕ) → Contains (numbers me.0.gathered) number → Contains me.0.made number)

@@ -4,7 +4,7 @@ use Rattle.std.proofs.lemmas.Nat.{one_shl}
 use Rattle.std.proofs.lemmas.Nat.Bits.{bit_at-pow_same, bit_at-pow_other, bit_at-zero}
 use mathlib.Core.Logic.{dite}
 use native.Mathlib.Decide.{ℕ_discrete}
-use Rattle.rt_words.specs.Object.{IsPending, pending}
+use Rattle.rt_words.specs.Object.{IsPending, pending_bit}
 use Rattle.rt_words.proofs.Bits.{blank, blank_long, zeros, bit_here, bit_elsewhere, one_place}
 use Rattle.program_tests.proofs.words.only.Goals as goal
 
@@ -21,10 +21,10 @@ alone : (irq n : ℕ) → irq < 512 → IsPending (one_bit irq) n → n ≡ irq
 alone irq n l h = dite (ℕ_discrete n irq) (λ e. e) (λ ne. dite (ℕ_discrete (n / 32) (irq / 32))
     (λ e.
     let other : n % 32 ≢ irq % 32 = λ f. ne (one_place n irq e f) in
-    let z : pending (one_bit irq) n ≡ 0 = bit_here (blank 16) (irq / 32) (2 ^ (irq % 32)) n (within irq l) e ∙ bit_at-pow_other (irq % 32) (n % 32) other in
+    let z : pending_bit (one_bit irq) n ≡ 0 = bit_here (blank 16) (irq / 32) (2 ^ (irq % 32)) n (within irq l) e ∙ bit_at-pow_other (irq % 32) (n % 32) other in
     absurd (omega arith))
     (λ no_.
-    let z : pending (one_bit irq) n ≡ 0 = bit_elsewhere (blank 16) (irq / 32) (2 ^ (irq % 32)) n no_ ∙ ap (λ (w : ℕ). bit_at w (n % 32)) (zeros 16 (n / 32)) ∙ bit_at-zero (n % 32) in
+    let z : pending_bit (one_bit irq) n ≡ 0 = bit_elsewhere (blank 16) (irq / 32) (2 ^ (irq % 32)) n no_ ∙ ap (λ (w : ℕ). bit_at w (n % 32)) (zeros 16 (n / 32)) ∙ bit_at-zero (n % 32) in
     absurd (omega arith)))
 
 written : (irq number word mask : ℕ) → number ≡ irq → word ≡ number / 32 → mask ≡ 1 * 2 ^ (number % 32) % 2 ^ 32 → set (blank 16) word mask ≡ one_bit irq

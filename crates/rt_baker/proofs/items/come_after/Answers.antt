@@ -1,6 +1,6 @@
 use Rattle.std.proofs.Common.{Bool, ap, ◌∙◌, subst}
 use Rattle.rt_app.specs.View.{app_of}
-use Rattle.rt_laws.specs.ByItems.{label_of, done_after}
+use Rattle.rt_laws.specs.ByItems.{label_of, steps_after}
 use Rattle.rt_baker.specs.Judge.{steps_done}
 use Rattle.rt_baker.specs.Inside.Judging.{Judges}
 use Rattle.rt_baker.proofs.Verdicts.{item_disordered, item_stopped, still_early, item_refused, item_comes}
@@ -45,4 +45,4 @@ returns-else-not-came c =
     c.args.item.now.what)
     c.if-not-came.false c.in_ok-came-in-Some.ensures)
     (c.behind-behind.ensures
-    ∙ ap (λ (owing : Bool). done_after c.args.item.now.step (label_of owing c.args.item.now.what)) c.is_owing.ensures)
+    ∙ ap (λ (owing : Bool). steps_after c.args.item.now.step (label_of owing c.args.item.now.what)) c.is_owing.ensures)

@@ -5,7 +5,7 @@ use Rattle.rt_build.specs.Inside.Tables.{HasHandlers}
 use Rattle.rt_build.proofs.Services.{served_below}
 use Rattle.rt_build.proofs.tables.serve_levels.Given as goal
 
-abbrev pub invariant-loop-place : goal.invariant-loop-place
-invariant-loop-place l =
+abbrev pub invariant-loop-index : goal.invariant-loop-index
+invariant-loop-index l =
     HasHandlers (app_of l.plan.app.now) (entries_of (app_of l.plan.app.now) l.code)
-    (served_below (app_of l.plan.app.now) l.place) l.handlers
+    (served_below (app_of l.plan.app.now) l.index) l.handlers

@@ -1,7 +1,7 @@
 use Rattle.std.proofs.Common.{◌≡◌, ◌++◌, [], List, ℕ, length, map, take, drop, ap, sym, subst, ◌∙◌, arith}
 use Rattle.std.specs.List.{AllByRecursion}
 use Rattle.std.proofs.lemmas.List.{take_at}
-use Rattle.rt_live.specs.Inside.Settled.{settled}
+use Rattle.rt_live.specs.Inside.Settled.{settled_row}
 use Rattle.rt_live.specs.Inside.Working.{with_counts}
 use Rattle.rt_live.specs.Ready.{IsCounted, irqs_of}
 use Rattle.rt_live.specs.declared.account.AccountRow.{AccountRow}
@@ -37,9 +37,9 @@ returns c =
     let whole : length ended ≡ rows.len = c.settle.auto.rows ∙ c.deref_mut-2.ensures.len in
     let mid : List AccountRow = take rows.len (front ++ drop (length front) rows.items) in
     let out : List AccountRow = take rows.len (ended ++ drop (length ended) mid) in
-    let is : out ≡ map (settled counts bits) front =
+    let is : out ≡ map (settled_row counts bits) front =
     take_at ended (drop (length ended) mid) rows.len whole
-    ∙ c.settle.ensures ∙ ap (map (settled counts bits)) lent in
+    ∙ c.settle.ensures ∙ ap (map (settled_row counts bits)) lent in
     subst (Settles c.args.own.calls c.args.bell (irqs_of rows.items)) (sym is)
     (settles c.args.own c.gather-tally.new.self c.args.bell c.requires.made c.requires.gathered c.gather-tally.ensures.core
     bits c.close-left.ensures.history counts tally rows.items front c.requires.empty

@@ -12,7 +12,7 @@ pub returns : goal.returns
 returns c =
     let words = c.in_ok-words.words in
     let own = c.in_ok-words.own in
-    let other : ℕ = number_of (other_of c.args.place) in
+    let other : ℕ = number_of (other_of c.args.core_id) in
     let numbered : c.number.result ≡ other = c.number.ensures ∙ ap number_of c.other.ensures in
     let unused = c.in_ok-words.ensures.line in
     let none : length own.calls ≡ 0 = ap (λ (l : Core). length l.calls) unused in

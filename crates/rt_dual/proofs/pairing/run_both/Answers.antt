@@ -1,7 +1,7 @@
 use Rattle.std.proofs.Common.{sym, subst}
 use Rattle.rt_dual.specs.Inside.Own.{HasNamesAt}
-use Rattle.rt_dual.specs.declared.place.Place.{Place}
-use Rattle.rt_dual.specs.declared.place.Place.TheVariants.{First, Second}
+use Rattle.rt_dual.specs.declared.core_id.CoreId.{CoreId}
+use Rattle.rt_dual.specs.declared.core_id.CoreId.TheVariants.{First, Second}
 use Rattle.rt_dual.proofs.Beforehand.{can_run}
 use Rattle.rt_dual.proofs.Owning.{names_first, names_second}
 use Rattle.rt_dual.proofs.pairing.run_both.Goals as goal
@@ -21,11 +21,11 @@ beside-ends-requires-clause-second_can g c = λ _ _.
 pub beside-ends-requires-clause-first_declared : goal.beside-ends-requires-clause-first_declared
 beside-ends-requires-clause-first_declared g c = λ _ _.
     let names = c.args.first.now.image.names in
-    subst (λ (p : Place). HasNamesAt p names c.args.script.now) (sym c.requires.before.one.at)
+    subst (λ (p : CoreId). HasNamesAt p names c.args.script.now) (sym c.requires.before.one.at)
     (names_first names c.args.script.now c.requires.declared)
 
 pub beside-ends-requires-clause-second_declared : goal.beside-ends-requires-clause-second_declared
 beside-ends-requires-clause-second_declared g c = λ _ _.
     let names = c.args.second.now.image.names in
-    subst (λ (p : Place). HasNamesAt p names c.args.script.now) (sym c.requires.before.two.at)
+    subst (λ (p : CoreId). HasNamesAt p names c.args.script.now) (sym c.requires.before.two.at)
     (names_second names c.args.script.now)

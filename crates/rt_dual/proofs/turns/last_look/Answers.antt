@@ -1,6 +1,6 @@
 use Rattle.std.proofs.Common.{[], ◌∷◌}
 use Rattle.std.proofs.lemmas.Result.{on_ok_weaker, on_err_weaker}
-use Rattle.rt_live.specs.Weave.{Looks}
+use Rattle.rt_live.specs.Interleaving.{Looks}
 use Rattle.rt_dual.proofs.Cutting.{stopped}
 use Rattle.rt_dual.proofs.Running.{looked}
 use Rattle.rt_dual.proofs.turns.last_look.Goals as goal

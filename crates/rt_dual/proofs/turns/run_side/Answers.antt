@@ -1,7 +1,7 @@
 use Rattle.std.proofs.Common.{◌≡◌, ◌+◌, ◌∷◌, [], ℕ, length, sym, ap, subst, ◌∙◌, arith}
 use Rattle.std.proofs.lemmas.Result.{on_ok_weaker}
 use Rattle.rt_lemmas.proofs.Results.{on_err_from}
-use Rattle.rt_live.specs.Weave.{Looks}
+use Rattle.rt_live.specs.Interleaving.{Looks}
 use Rattle.rt_script.specs.Script.{count}
 use Rattle.rt_dual.specs.Inside.Own.{own_turns}
 use Rattle.rt_dual.proofs.Cutting.{begins_before, begins_behind}
@@ -17,35 +17,35 @@ own_lines-requires-clause-can g c =
 pub returns-in_err-own_lines-clause-err : goal.returns-in_err-own_lines-clause-err
 returns-in_err-own_lines-clause-err g c =
     on_err_from c.from_residual.result
-    (begins_before (own_turns c.args.side.now.place c.args.script.now) (Looks ∷ []) c.args.core.now c.own_lines.new.core
+    (begins_before (own_turns c.args.side.now.core_id c.args.script.now) (Looks ∷ []) c.args.core.now c.own_lines.new.core
     c.in_err-own_lines.ensures.err)
 
 pub last_look-requires-clause-can : goal.last_look-requires-clause-can
 last_look-requires-clause-can g c =
-    can_on (own_turns c.args.side.now.place c.args.script.now) 1 (count c.args.script.now + 1) c.args.core.now
+    can_on (own_turns c.args.side.now.core_id c.args.script.now) 1 (count c.args.script.now + 1) c.args.core.now
     c.own_lines.new.core c.args.side.now c.own_lines.new.side _ _ c.in_ok-own_lines.ensures.ok
-    (omega (arith, own_few c.args.side.now.place c.args.script.now)) c.requires.can
+    (omega (arith, own_few c.args.side.now.core_id c.args.script.now)) c.requires.can
 
 pub returns-in_err-last_look-clause-err : goal.returns-in_err-last_look-clause-err
 returns-in_err-last_look-clause-err g c =
     let run = c.in_ok-own_lines.ensures.ok in
     on_err_from c.from_residual-in_err-last_look.result
-    (begins_behind (own_turns c.args.side.now.place c.args.script.now) (Looks ∷ []) run.found c.args.core.now
+    (begins_behind (own_turns c.args.side.now.core_id c.args.script.now) (Looks ∷ []) run.found c.args.core.now
     c.own_lines.new.core c.last_look.new.core run.many run.sends.leads c.in_err-last_look.ensures.err)
 
 pub put_end-requires : goal.put_end-requires
 put_end-requires g c =
-    let turns = own_turns c.args.side.now.place c.args.script.now in
+    let turns = own_turns c.args.side.now.core_id c.args.script.now in
     let can = can_on turns 1 (count c.args.script.now + 1) c.args.core.now
     c.own_lines.new.core c.args.side.now c.own_lines.new.side _ _ c.in_ok-own_lines.ensures.ok
-    (omega (arith, own_few c.args.side.now.place c.args.script.now)) c.requires.can in
+    (omega (arith, own_few c.args.side.now.core_id c.args.script.now)) c.requires.can in
     let last = can_on (Looks ∷ []) 0 1 c.own_lines.new.core c.last_look.new.core c.own_lines.new.side
     c.last_look.new.side _ _ c.in_ok-last_look.ensures.ok (omega arith) can in
     omega (arith, c.steps.ensures, last.few)
 
 pub returns-clause-ok : goal.returns-clause-ok
 returns-clause-ok g c =
-    let turns = own_turns c.args.side.now.place c.args.script.now in
+    let turns = own_turns c.args.side.now.core_id c.args.script.now in
     on_ok_weaker c.put_end.result
     (ended _ c.args.core.now c.last_look.new.core c.args.side.now c.last_look.new.side c.put_end.new.out _ _
     (runs_on turns (Looks ∷ []) c.args.core.now c.own_lines.new.core c.last_look.new.core c.args.side.now
@@ -55,7 +55,7 @@ returns-clause-ok g c =
 
 pub returns-clause-err : goal.returns-clause-err
 returns-clause-err g c =
-    let turns = own_turns c.args.side.now.place c.args.script.now in
+    let turns = own_turns c.args.side.now.core_id c.args.script.now in
     on_err_from c.put_end.result
     (all_begun _ c.args.core.now c.last_look.new.core c.args.side.now c.last_look.new.side
     (runs_on turns (Looks ∷ []) c.args.core.now c.own_lines.new.core c.last_look.new.core c.args.side.now

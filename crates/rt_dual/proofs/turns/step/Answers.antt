@@ -1,11 +1,11 @@
 use Rattle.std.proofs.Common.{[], ◌∷◌, arith}
 use Rattle.rt_lemmas.proofs.Results.{on_err_from}
 use Rattle.rt_run.proofs.Known.{still_writable}
-use Rattle.rt_live.specs.Weave.{Happens, Looks, weave}
+use Rattle.rt_live.specs.Interleaving.{Happens, Looks, interleaving}
 use Rattle.rt_ids.specs.Event.{Step}
 use Rattle.rt_live.proofs.Looking.{step_look_cut}
 use Rattle.rt_live.proofs.Woven.{look_steps}
-use Rattle.rt_dual.specs.Inside.Ringing.{rung_of_shown}
+use Rattle.rt_dual.specs.Inside.Ringing.{irq_of_shown}
 use Rattle.rt_dual.proofs.Cutting.{stopped}
 use Rattle.rt_dual.proofs.Ringing.{ring_few}
 use Rattle.rt_dual.proofs.Running.{stepped, step_begun}
@@ -21,7 +21,7 @@ returns-in_err-look-clause-err g c =
 pub show_step-requires-clause-writable : goal.show_step-requires-clause-writable
 show_step-requires-clause-writable g c =
     let run = c.in_ok-look.ensures.ok in
-    still_writable (weave (Looks ∷ []) run.found) c.args.core.now _ run.sends.leads c.requires.can.able.writable
+    still_writable (interleaving (Looks ∷ []) run.found) c.args.core.now _ run.sends.leads c.requires.can.able.writable
 
 pub show_step-requires-clause-few : goal.show_step-requires-clause-few
 show_step-requires-clause-few g c =
@@ -41,4 +41,4 @@ returns-clause-ok g c =
     stepped c.args.core.now c.look.new.core side c.look.new.line c.look.new.out c.in_ok-look.ensures.ok
     c.show_step.new.core c.show_step.new.trace c.look.ensures.same c.in_ok-shown.ensures.ok shown
     c.in_ok-shown.ensures.shown c.ring.new.self c.ring.ensures.rings
-    (ring_few (rung_of_shown side.routes shown) side.bell c.ring.new.self.bell c.ring.ensures.rings) c.ring.ensures.rest
+    (ring_few (irq_of_shown side.routes shown) side.bell c.ring.new.self.bell c.ring.ensures.rings) c.ring.ensures.rest

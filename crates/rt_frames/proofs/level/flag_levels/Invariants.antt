@@ -1,8 +1,8 @@
 -- The priorities so far are flagged.
 use Rattle.std.proofs.Common.{◌≡◌, map, take}
 use Rattle.rt_app.specs.View.{task_of}
-use Rattle.rt_frames.specs.Inside.Flags.{flagged, level_numbers}
+use Rattle.rt_frames.specs.Inside.Flags.{flags_with, level_numbers}
 use Rattle.rt_frames.proofs.level.flag_levels.Given as goal
 
 abbrev pub invariant-loop-task : goal.invariant-loop-task
-invariant-loop-task l = l.flags ≡ flagged (level_numbers (map task_of (take l.task-index l.tasks))) l.fn.flags
+invariant-loop-task l = l.flags ≡ flags_with (level_numbers (map task_of (take l.task-index l.tasks))) l.fn.flags

@@ -18,10 +18,10 @@ statement_wait-returns-in-Repeat t c =
     let is = repeat_at c.args.stmt.now c.in-Repeat._variable c.in-Repeat._first c.in-Repeat._last c.in-Repeat.turn c.deref-in-Repeat.result.now c.in-Repeat.is c.deref-in-Repeat.ensures.value in
     rw is c.block_wait-in-Repeat.ensures
 
-pub statement_wait-returns-else-priority-shared_at :
-    goal.statement_wait-returns-else-priority-shared_at
-statement_wait-returns-else-priority-shared_at t c =
-    let is = locked_at c.args.stmt.now c.in-Locked.resource c.in-Locked.inner c.in-Locked._at c.deref-else-priority-shared_at.result.now c.in-Locked.is c.deref-else-priority-shared_at.ensures.value in
-    c.block_wait-else-priority-shared_at.ensures
-    ∙ sym (locked_below (app_of c.args.app.now) c.args.measure.now c.args.ceilings.now c.args.priority (statement_of c.args.stmt.now) c.in-Locked.resource (block_of c.deref-else-priority-shared_at.result.now) c.in-Locked._at c.shared_at.result is
-    c.shared_at.ensures c.if-priority-shared_at.false)
+pub statement_wait-returns-else-priority-shared_ceiling :
+    goal.statement_wait-returns-else-priority-shared_ceiling
+statement_wait-returns-else-priority-shared_ceiling t c =
+    let is = locked_at c.args.stmt.now c.in-Locked.resource c.in-Locked.inner c.in-Locked._at c.deref-else-priority-shared_ceiling.result.now c.in-Locked.is c.deref-else-priority-shared_ceiling.ensures.value in
+    c.block_wait-else-priority-shared_ceiling.ensures
+    ∙ sym (locked_below (app_of c.args.app.now) c.args.measure.now c.args.ceilings.now c.args.priority (statement_of c.args.stmt.now) c.in-Locked.resource (block_of c.deref-else-priority-shared_ceiling.result.now) c.in-Locked._at c.shared_ceiling.result is
+    c.shared_ceiling.ensures c.if-priority-shared_ceiling.false)

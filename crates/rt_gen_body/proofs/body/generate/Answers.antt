@@ -8,8 +8,8 @@ guards-requires-clause-greatest c =
     (ap (λ (p : Plan). p.app.now.bits) c.plan.view_is)
     (c.deref.ensures.value ∙ ap (λ (p : Plan). p.ceil.shared) c.plan.view_is)
 
-pub declared-requires-clause-guards : goal.declared-requires-clause-guards
-declared-requires-clause-guards c =
+pub append_blocks-requires-clause-guards : goal.append_blocks-requires-clause-guards
+append_blocks-requires-clause-guards c =
     guards_are c.args.plan.now c.requires.planned c.plan.inside.0.0.now.bits c.deref.result.now c.deref-2.result.now
     (ap (λ (p : Plan). p.app.now.bits) c.plan.view_is)
     (c.deref.ensures.value ∙ ap (λ (p : Plan). p.ceil.shared) c.plan.view_is)

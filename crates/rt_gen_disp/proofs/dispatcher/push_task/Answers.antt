@@ -9,8 +9,8 @@ there c =
     task_there c.args.plan.now.app.now c.deref.result.now c.args.number c.in-Some.task.now c.deref.ensures.value
     c.in-Some.ensures.lookup.3.0 c.in-Some.ensures.lookup.1
 
-pub called_of-requires-clause-task : goal.called_of-requires-clause-task
-called_of-requires-clause-task c = there (goal.at.called_of-requires-clause-task c).In-Some
+pub callee_of-requires-clause-task : goal.callee_of-requires-clause-task
+callee_of-requires-clause-task c = there (goal.at.callee_of-requires-clause-task c).In-Some
 
 pub returns-then-not-is_of_level : goal.returns-then-not-is_of_level
 returns-then-not-is_of_level c =
@@ -25,7 +25,7 @@ returns-in-None c =
 
 pub returns-in_ok-at-in-Some : goal.returns-in_ok-at-in-Some
 returns-in_ok-at-in-Some c =
-    let sent = rw (c.called_of.ensures.is, c.next_for-next.ensures, c.from.ensures) at c.push_choice.ensures in
+    let sent = rw (c.callee_of.ensures.is, c.next_for-next.ensures, c.from.ensures) at c.push_choice.ensures in
     let pushed = rw (c.in_ok-at-in-Some.ensures.at, c.requires.queue) at sent in
     rw (there (goal.at.returns-in_ok-at-in-Some c).In-Some, sym c.is_of_level.ensures ∙ c.if-not-is_of_level.false)
     pushed

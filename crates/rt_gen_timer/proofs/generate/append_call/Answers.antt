@@ -8,18 +8,18 @@ use Rattle.rt_gen_timer.specs.Inside.Calls.{code_of, cost_of, lines_of, task_of}
 use Rattle.rt_gen_timer.specs.declared.call.Call.TheVariants.{After, Cancel, Move}
 
 -- a call has no more lines than it may have
-short : (app : App) (call : Call) (level slot at : ℕ) (t : Task) → Spawned app (task_of call) t
-    → length (code_of app call level slot at) ≤ cost_of call
-short app (After task) level slot at t facts = omega (arith, after_short app task level slot at t facts)
-short app (Cancel task) level slot at t facts = omega arith
-short app (Move task) level slot at t facts = omega arith
+short : (app : App) (call : Call) (threshold slot at : ℕ) (t : Task) → Spawned app (task_of call) t
+    → length (code_of app call threshold slot at) ≤ cost_of call
+short app (After task) threshold slot at t facts = omega (arith, after_short app task threshold slot at t facts)
+short app (Cancel task) threshold slot at t facts = omega arith
+short app (Move task) threshold slot at t facts = omega arith
 
 -- and they name what the application declares
-claimed : (app : App) → HasIrq (names_of app) (queue_of app).irq → (call : Call) (level slot at : ℕ) (t : Task)
-    → Spawned app (task_of call) t → AreClaimed (names_of app) (code_of app call level slot at)
-claimed app irq (After task) level slot at t facts = after_claimed app irq slot level task t facts at
-claimed app irq (Cancel task) level slot at t facts = cancel_claimed app irq slot level task t facts at
-claimed app irq (Move task) level slot at t facts = move_claimed app irq slot level task t facts at
+claimed : (app : App) → HasIrq (names_of app) (queue_of app).irq → (call : Call) (threshold slot at : ℕ) (t : Task)
+    → Spawned app (task_of call) t → AreClaimed (names_of app) (code_of app call threshold slot at)
+claimed app irq (After task) threshold slot at t facts = after_claimed app irq slot threshold task t facts at
+claimed app irq (Cancel task) threshold slot at t facts = cancel_claimed app irq slot threshold task t facts at
+claimed app irq (Move task) threshold slot at t facts = move_claimed app irq slot threshold task t facts at
 
 pub returns : goal.returns
 returns c =
@@ -27,19 +27,19 @@ returns c =
     let call = c.args.call.now in
     let task = spawned app (task_of call) c.requires.accepted c.requires.software in
     let irq = timer_named app c.requires.accepted c.requires.timed in
-    let armed = c.armed_of-armed.ensures.is ∙ ap (armed_task app) c.task.ensures in
-    let few = short app call c.args.level c.args.slot c.args.entry task.0 task.1 in
+    let armed = c.armed_task-armed.ensures.is ∙ ap (armed_task app) c.task.ensures in
+    let few = short app call c.args.threshold c.args.slot c.args.entry task.0 task.1 in
     let old : List Line = c.args.code.now.items in
-    let code : List Line = code_of app call c.args.level c.args.slot c.args.entry in
+    let code : List Line = code_of app call c.args.threshold c.args.slot c.args.entry in
     let is : c.extend_from_slice.new.self.items ≡ old ++ code =
     rw (c.extend_from_slice.ensures.items, c.in_ok-extend_from_slice.was, c.as_slice.ensures)
     (rw (c.in_ok-push_call.ensures, c.new-lines.ensures)
-    (λ i. old ++ lines_of call (c.in_ok-emitter.ensures.queue i) (c.in_ok-emitter.ensures.slot i) c.args.level (armed i)
+    (λ i. old ++ lines_of call (c.in_ok-emitter.ensures.queue i) (c.in_ok-emitter.ensures.slot i) c.args.threshold (armed i)
     c.args.entry)) in
     record {
       code = is;
       size = omega (arith, ap (λ (ls : List Line). length ls) is, length-append old code, few);
       lines = named_behind (names_of app) old c.extend_from_slice.new.self.items code is
-          (claimed app irq call c.args.level c.args.slot c.args.entry task.0 task.1);
+          (claimed app irq call c.args.threshold c.args.slot c.args.entry task.0 task.1);
       left = tt;
     }

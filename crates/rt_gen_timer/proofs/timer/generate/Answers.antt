@@ -9,7 +9,7 @@ pub returns : goal.returns
 returns c =
     let app = app_of c.args.plan.now.app.now in
     let old : Made = c.args.lines.now in
-    let front : List Line = front_lines (queue_of app) 0 c.args.level (next_address old) in
+    let front : List Line = front_lines (queue_of app) 0 c.args.threshold (next_address old) in
     let begins : Appends old c.push_front.new.lines front =
     rw (
       c.in_ok-push_front.ensures,
@@ -20,6 +20,6 @@ returns c =
     let place : next_address c.push_front.new.lines ≡ next_address old + 73 =
     omega (arith, ap (λ (m : Made). next_address m) begins, length-append old.lines front) in
     then old _ begins refl
-    (then _ _ c.in_ok-push_tasks.ensures (ap (λ a. choices_code app c.args.level a 0 app.tasks) place)
+    (then _ _ c.in_ok-push_tasks.ensures (ap (λ a. choices_code app c.args.threshold a 0 app.tasks) place)
     (last c.push_tasks.new.lines c.in_ok-push.ensures
     (ap (λ (at : ℕ). plain (instr.Jump (at + 10)) ∷ []) c.in_ok-entry.ensures)))

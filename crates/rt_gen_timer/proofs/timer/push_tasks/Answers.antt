@@ -8,7 +8,7 @@ loop-number-init c = refl
 
 pub loop-number-preserved : goal.loop-number-preserved
 loop-number-preserved c =
-    choices_next (begun c.args.plan.now.app.now c.args.level c.args.lines.now) c.loop-number.number
+    choices_next (begun c.args.plan.now.app.now c.args.threshold c.args.lines.now) c.loop-number.number
     c.loop-number.lines
     (mapped_read task_of c.args.plan.now.app.now.tasks.items c.loop-number.number c.index-task.result.now (omega arith)
     c.index-task.ensures) c.loop-number.invariant c.in_ok-push_task.ensures
@@ -24,5 +24,5 @@ push_task-requires-clause-small c =
 
 pub returns : goal.returns
 returns c =
-    choices_all (begun c.args.plan.now.app.now c.args.level c.args.lines.now) c.loop-number.number
+    choices_all (begun c.args.plan.now.app.now c.args.threshold c.args.lines.now) c.loop-number.number
     (omega (arith, length-map c.args.plan.now.app.now.tasks.items task_of)) c.loop-number.invariant

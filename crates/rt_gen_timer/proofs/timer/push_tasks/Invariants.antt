@@ -3,4 +3,4 @@ use Rattle.rt_gen_timer.proofs.Choosing.{AreLeft, begun}
 use Rattle.rt_gen_timer.proofs.timer.push_tasks.Given as goal
 
 abbrev pub invariant-loop-number : goal.invariant-loop-number
-invariant-loop-number l = AreLeft (begun l.plan.app.now l.level l.fn.lines) l.number l.lines
+invariant-loop-number l = AreLeft (begun l.plan.app.now l.threshold l.fn.lines) l.number l.lines

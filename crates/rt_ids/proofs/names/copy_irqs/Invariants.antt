@@ -1,5 +1,5 @@
 use Rattle.std.proofs.Common.{◌≡◌, take}
 use Rattle.rt_ids.proofs.names.copy_irqs.Given as goal
 
-abbrev pub invariant-loop-place : goal.invariant-loop-place
-invariant-loop-place l = l.to ≡ record l.initial.to { irqs = take l.place l.from.irqs }
+abbrev pub invariant-loop-index : goal.invariant-loop-index
+invariant-loop-index l = l.to ≡ record l.initial.to { irqs = take l.index l.from.irqs }

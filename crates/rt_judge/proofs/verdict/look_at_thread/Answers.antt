@@ -4,13 +4,13 @@ use Rattle.rt_points.specs.declared.point.Owner.TheVariants.{Starting}
 use Rattle.rt_points.specs.Rules.{NestsInOneWay}
 use Rattle.rt_judge.specs.Inside.Looks.{LooksFrom}
 use Rattle.rt_judge.specs.Inside.Walks.{ArePoints}
-use Rattle.rt_judge.specs.declared.walk.Place.{Place}
+use Rattle.rt_judge.specs.declared.walk.Visit.{Visit}
 use Rattle.rt_judge.proofs.Looking.{looks_thread, if_ok_weaker, kept_weaker, some_case}
 use Rattle.rt_judge.proofs.verdict.look_at_thread.Goals as goal
 
 pub look_from-requires-clause-points : goal.look_from-requires-clause-points
 look_from-requires-clause-points c =
-    subst (λ (s : List Place). ArePoints c.args.image.now Starting s) (sym c.in_ok-starts.ensures) (Begins, tt)
+    subst (λ (s : List Visit). ArePoints c.args.image.now Starting s) (sym c.in_ok-starts.ensures) (Begins, tt)
 
 pub returns-in-Some : goal.returns-in-Some
 returns-in-Some c =

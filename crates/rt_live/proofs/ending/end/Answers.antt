@@ -5,7 +5,7 @@ use Rattle.rt_lemmas.proofs.Results.{on_err_from}
 use Rattle.rt_ids.specs.Event.{Step}
 use Rattle.rt_run.proofs.Taking.{cause_on}
 use Rattle.rt_live.specs.Going.{Goes, Stops}
-use Rattle.rt_live.specs.Weave.{Happens, Looks}
+use Rattle.rt_live.specs.Interleaving.{Happens, Looks}
 use Rattle.rt_live.proofs.Ended.{ended, ended_cut}
 use Rattle.rt_live.proofs.Turning.{steps_below}
 use Rattle.rt_live.proofs.ending.end.Goals as goal

@@ -1,8 +1,8 @@
 use Rattle.std.proofs.Common.{◌≡◌, ℕ, ◌<◌, ◌/◌, ◌%◌, length, get_or, rules, ap, ◌∙◌}
 use Rattle.std.proofs.lemmas.Nat.Bits.{shr_and_one}
 use Rattle.rt_lemmas.proofs.Rows.{changed}
-use Rattle.rt_words.specs.Object.{pending}
-use Rattle.rt_live.specs.Inside.Settled.{settled}
+use Rattle.rt_words.specs.Object.{pending_bit}
+use Rattle.rt_live.specs.Inside.Settled.{settled_row}
 use Rattle.rt_live.specs.declared.account.AccountRow.{AccountRow}
 use Rattle.rt_live.proofs.left.settle.Goals as goal
 
@@ -18,11 +18,11 @@ loop-row-preserved c =
     let irq : c.from-irq.result ≡ x.irq = c.from-irq.ensures ∙ c.get.ensures.value in
     let latched : c.from-row.result ≡ get_or counts x.irq 0 =
     c.from-row.ensures ∙ ap (λ n. get_or counts n 0) irq in
-    let left : c.from-row-in-loop-row.result ≡ pending bits x.irq =
+    let left : c.from-row-in-loop-row.result ≡ pending_bit bits x.irq =
     c.from-row-in-loop-row.ensures
     ∙ shr_and_one (get_or bits (c.from-irq.result / 32) 0) (c.from-irq.result % 32)
-    ∙ ap (pending bits) irq in
-    changed (settled counts bits) rows old i within c.loop-row.invariant c.row-item.result _
+    ∙ ap (pending_bit bits) irq in
+    changed (settled_row counts bits) rows old i within c.loop-row.invariant c.row-item.result _
     (λ k. record {
       irq = x.irq;
       raised = x.raised;

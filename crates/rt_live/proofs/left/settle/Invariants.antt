@@ -1,8 +1,8 @@
 use Rattle.std.proofs.Common.{◌≡◌, ◌++◌, map, take, drop}
-use Rattle.rt_live.specs.Inside.Settled.{settled}
+use Rattle.rt_live.specs.Inside.Settled.{settled_row}
 use Rattle.rt_live.proofs.left.settle.Given as goal
 
 abbrev pub invariant-loop-row : goal.invariant-loop-row
 invariant-loop-row l =
     l.rows
-    ≡ map (settled l.left.latched l.left.bits) (take l.row-index l.fn.rows) ++ drop l.row-index l.fn.rows
+    ≡ map (settled_row l.left.latched l.left.bits) (take l.row-index l.fn.rows) ++ drop l.row-index l.fn.rows

@@ -6,7 +6,7 @@ use Rattle.rt_script.specs.declared.line.Line.{Line}
 use Rattle.rt_live.specs.Latched.{Halts, Completes}
 use Rattle.rt_live.specs.Output.{Lives, TookPart, IsBalanced}
 use Rattle.rt_live.specs.Ready.{Prepared}
-use Rattle.rt_live.specs.Weave.{turns}
+use Rattle.rt_live.specs.Interleaving.{turns}
 use Rattle.rt_live.specs.Written.{live_text}
 use Rattle.rt_live.proofs.Concluded.{lives, rows_balanced, failed_part}
 use Rattle.rt_live.proofs.running.live.Goals as goal

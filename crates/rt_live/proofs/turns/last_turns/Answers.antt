@@ -2,7 +2,7 @@ use Rattle.std.proofs.Common.{◌≡◌, [], ◌∷◌, replicate, subst, ◌∙
 use Rattle.rt_lemmas.proofs.Results.{on_err_from}
 use Rattle.std.proofs.lemmas.List.{length-replicate}
 use Rattle.rt_ids.specs.Event.{Step}
-use Rattle.rt_live.specs.Weave.{Happens, Looks, weave}
+use Rattle.rt_live.specs.Interleaving.{Happens, Looks, interleaving}
 use Rattle.rt_live.specs.Going.{Goes}
 use Rattle.rt_live.proofs.Turning.{stops_before, steps_below, calls_below}
 use Rattle.rt_live.proofs.Owning.{still_able, same_line_on, step_more, step_more_cut}
@@ -25,7 +25,7 @@ loop-done-init g c = record {
 pub step-requires-clause-able : goal.step-requires-clause-able
 step-requires-clause-able g c =
     let run = c.loop-done.invariant.run in
-    still_able (weave (Looks ∷ replicate c.loop-done._done (Happens Step)) run.found) c.args.core.now _
+    still_able (interleaving (Looks ∷ replicate c.loop-done._done (Happens Step)) run.found) c.args.core.now _
     c.args.line.now _ _ run.sends.leads c.loop-done.invariant.same c.requires.able
 
 pub step-requires-clause-few : goal.step-requires-clause-few

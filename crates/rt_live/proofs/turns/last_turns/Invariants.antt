@@ -1,7 +1,7 @@
 use Rattle.std.proofs.Common.{◌≡◌, [], ◌∷◌, replicate}
 use Rattle.rt_ids.specs.Event.{Step}
 use Rattle.rt_live.specs.Going.{Goes, IsSameLine}
-use Rattle.rt_live.specs.Weave.{Happens, Looks}
+use Rattle.rt_live.specs.Interleaving.{Happens, Looks}
 use Rattle.rt_live.proofs.turns.last_turns.Given as goal
 
 abbrev pub invariant-loop-done : goal.invariant-loop-done

@@ -4,7 +4,7 @@ use Rattle.std.proofs.lemmas.List.{length-append}
 use Rattle.rt_code.specs.Image.{Image}
 use Rattle.rt_run.proofs.Known.{still_writable}
 use Rattle.rt_words.specs.Lines.{Core}
-use Rattle.rt_live.specs.Weave.{arrived, latches, arrivals_from}
+use Rattle.rt_live.specs.Interleaving.{look_arrivals, latches, arrivals_from}
 use Rattle.rt_live.specs.Inside.Able.{MayArrive}
 use Rattle.rt_live.proofs.Looking.{finds_none, find_more, find_cut, looks_alone}
 use Rattle.rt_live.proofs.Owning.{one_call_on, same_line}
@@ -39,7 +39,7 @@ latch-found-requires-clause-word g c = omega (arith, c.requires.able.many)
 
 pub arrive_word-requires-clause-writable : goal.arrive_word-requires-clause-writable
 arrive_word-requires-clause-writable g c =
-    still_writable (arrived c.loop-k.invariant.run.found) c.args.core.now _ c.loop-k.invariant.run.sends.leads
+    still_writable (look_arrivals c.loop-k.invariant.run.found) c.args.core.now _ c.loop-k.invariant.run.sends.leads
     c.requires.able.writable
 
 pub arrive_word-requires-clause-few : goal.arrive_word-requires-clause-few

@@ -2,9 +2,9 @@ use Rattle.std.proofs.Common.{◌≡◌, refl, sym, subst, ◌∙◌, arith}
 use Rattle.rt_lemmas.proofs.Results.{on_err_from}
 use Rattle.rt_code.specs.Image.{Image}
 use Rattle.rt_script.specs.Script.{HasName}
-use Rattle.rt_live.specs.Weave.{weave}
+use Rattle.rt_live.specs.Interleaving.{interleaving}
 use Rattle.rt_live.specs.Going.{Goes}
-use Rattle.rt_live.specs.Inside.Own.{own_turn, repeated}
+use Rattle.rt_live.specs.Inside.Own.{own_turn, repeated_turns}
 use Rattle.rt_live.proofs.Turning.{goes_none, steps_below, time_below, calls_below}
 use Rattle.rt_live.proofs.Owning.{still_able, same_line_on, few_turns, once_more, once_cut, same_line}
 use Rattle.rt_live.proofs.turns.own_line.Goals as goal
@@ -20,7 +20,7 @@ loop-done-init g c = record {
 pub turn-requires-clause-able : goal.turn-requires-clause-able
 turn-requires-clause-able g c =
     let run = c.loop-done.invariant.run in
-    still_able (weave (repeated c.loop-done._done (own_turn c.args.asked.now)) run.found) c.args.core.now _
+    still_able (interleaving (repeated_turns c.loop-done._done (own_turn c.args.asked.now)) run.found) c.args.core.now _
     c.args.line.now _ _ run.sends.leads c.loop-done.invariant.same c.requires.able
 
 pub turn-requires-clause-few : goal.turn-requires-clause-few
@@ -80,6 +80,6 @@ loop-done-preserved g c = record {
 pub returns-clause-ok : goal.returns-clause-ok
 returns-clause-ok g c =
     let all : c.loop-done._done ≡ c.count-done-end.result = omega arith in
-    subst (λ n. Goes (repeated n (own_turn c.args.asked.now)) c.args.line.now.calls c.loop-done.line.calls
+    subst (λ n. Goes (repeated_turns n (own_turn c.args.asked.now)) c.args.line.now.calls c.loop-done.line.calls
     c.args.core.now c.loop-done.core (g.K.Sink.taken c.args.out.now) (g.K.Sink.taken c.loop-done.out))
     (all ∙ c.count-done-end.ensures) c.loop-done.invariant.run

@@ -6,7 +6,7 @@ use Rattle.rt_lemmas.proofs.Results.{on_err_from}
 use Rattle.rt_code.specs.Image.{Image}
 use Rattle.rt_script.specs.Script.{HasName}
 use Rattle.rt_script.specs.declared.line.Line.{Line}
-use Rattle.rt_live.specs.Weave.{weave}
+use Rattle.rt_live.specs.Interleaving.{interleaving}
 use Rattle.rt_live.specs.Going.{Goes}
 use Rattle.rt_live.specs.Inside.Own.{own_turns}
 use Rattle.rt_live.proofs.Turning.{goes_none, steps_below, time_below, calls_below}
@@ -24,7 +24,7 @@ loop-asked-init g c = record {
 pub own_line-requires-clause-able : goal.own_line-requires-clause-able
 own_line-requires-clause-able g c =
     let run = c.loop-asked.invariant.run in
-    still_able (weave (own_turns (take c.loop-asked.asked-index c.args.script.now)) run.found) c.args.core.now _
+    still_able (interleaving (own_turns (take c.loop-asked.asked-index c.args.script.now)) run.found) c.args.core.now _
     c.args.line.now _ _ run.sends.leads c.loop-asked.invariant.same c.requires.able
 
 pub own_line-requires-clause-few : goal.own_line-requires-clause-few

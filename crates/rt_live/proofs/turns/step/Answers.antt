@@ -3,7 +3,7 @@ use Rattle.std.proofs.lemmas.Result.{on_ok_weaker, on_err_weaker}
 use Rattle.rt_lemmas.proofs.Results.{on_err_from}
 use Rattle.rt_run.proofs.Known.{still_writable}
 use Rattle.rt_run.proofs.Taking.{cause_on}
-use Rattle.rt_live.specs.Weave.{Looks, weave}
+use Rattle.rt_live.specs.Interleaving.{Looks, interleaving}
 use Rattle.rt_live.proofs.Looking.{step_alone, step_cut, step_look_cut}
 use Rattle.rt_live.proofs.Woven.{look_steps}
 use Rattle.rt_live.proofs.turns.step.Goals as goal
@@ -15,7 +15,7 @@ returns-in_err-look-clause-err g c =
 pub send_step-requires-clause-writable : goal.send_step-requires-clause-writable
 send_step-requires-clause-writable g c =
     let run = c.in_ok-look.ensures.ok in
-    still_writable (weave (Looks ∷ []) run.found) c.args.core.now _ run.sends.leads c.requires.able.writable
+    still_writable (interleaving (Looks ∷ []) run.found) c.args.core.now _ run.sends.leads c.requires.able.writable
 
 pub send_step-requires-clause-few : goal.send_step-requires-clause-few
 send_step-requires-clause-few g c =

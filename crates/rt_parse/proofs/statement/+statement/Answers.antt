@@ -6,13 +6,13 @@ use Rattle.rt_ast.specs.Tree.{Statement}
 use Rattle.rt_ast.specs.View.{statement_of}
 use Rattle.rt_parse.specs.Inside.Reading.{Stops}
 use Rattle.rt_parse.specs.declared.stop.Stop.{Stop}
-use Rattle.rt_parse.specs.Inside.ReadingStatement.{one_more_at, statement_at, is_inside, block_at, inside_at, below_at, braced_at}
+use Rattle.rt_parse.specs.Inside.ReadingStatement.{one_more_at, statement_at, is_inside, block_at, inside_at, below_at, braced_block_at}
 use Rattle.rt_parse.proofs.Loops.{goes_on, stops, ended}
 use Rattle.rt_parse.proofs.Numbers.{still_stops}
 use Rattle.rt_parse.proofs.ShorterStatement.{shorter_one_more, shorter_block, shorter_inside}
 use Rattle.rt_parse.proofs.statement.+statement.Goals as goal
 
-block_suc : (left room : ℕ) (tokens : List Token) → block_at (suc left) room tokens ≡ braced_at (block_at left) (inside_at left) room tokens
+block_suc : (left room : ℕ) (tokens : List Token) → block_at (suc left) room tokens ≡ braced_block_at (block_at left) (inside_at left) room tokens
 unfolding block_at
 block_suc left room tokens = refl
 
@@ -28,7 +28,7 @@ below-returns-in-Some t c =
 pub block-returns-in-Some : goal.block-returns-in-Some
 block-returns-in-Some t c =
     let e : c.args.left ≡ suc c.in-Some.fewer = omega (arith, c.in-Some.ensures.0, c.in-Some.ensures.1) in
-    rw (ap (λ left. block_at left c.args.room c.args.tokens) e ∙ block_suc c.in-Some.fewer c.args.room c.args.tokens) c.braced.ensures
+    rw (ap (λ left. block_at left c.args.room c.args.tokens) e ∙ block_suc c.in-Some.fewer c.args.room c.args.tokens) c.braced_block.ensures
 
 -- one more statement behind those so far, or what stops it
 more : (left room room' : ℕ) (so_far : List Statement) (s : Statement) (rest behind : List Token) → statement_at (block_at left) (inside_at left) room rest ≡ Ok ((s, room'), behind) → one_more_at (block_at left) (inside_at left) (so_far, room) rest ≡ Ok ((so_far ++ s ∷ [], room'), behind)

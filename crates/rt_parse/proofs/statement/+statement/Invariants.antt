@@ -37,8 +37,8 @@ decreases-statement l = l.left * 10 + 5
 abbrev pub decreases-statements : goal.decreases-statements
 decreases-statements l = l.left * 10 + 6
 
-abbrev pub decreases-braced : goal.decreases-braced
-decreases-braced l = l.left * 10 + 7
+abbrev pub decreases-braced_block : goal.decreases-braced_block
+decreases-braced_block l = l.left * 10 + 7
 
 abbrev pub invariant-statements-loop-alloc : goal.invariant-statements-loop-alloc
 invariant-statements-loop-alloc l =

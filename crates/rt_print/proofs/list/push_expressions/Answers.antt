@@ -3,12 +3,12 @@ use Rattle.std.proofs.lemmas.Result.{on_ok_weaker}
 use Rattle.rt_lemmas.proofs.Lists.{flat_map-map}
 use Rattle.rt_ast.specs.declared.expr.Expr.{Expr}
 use Rattle.rt_ast.specs.View.{expression_of}
-use Rattle.rt_ast.specs.CanonicalExpression.{separated, expression_text}
+use Rattle.rt_ast.specs.CanonicalExpression.{separated_list, expression_text}
 use Rattle.rt_print.proofs.list.push_expressions.Goals as goal
 
 -- the texts of what is seen of expressions are theirs
-seen : (exprs : List Expr) → separated (λ expr. expression_text (expression_of expr)) exprs
-    ≡ separated expression_text (map expression_of exprs)
+seen : (exprs : List Expr) → separated_list (λ expr. expression_text (expression_of expr)) exprs
+    ≡ separated_list expression_text (map expression_of exprs)
 seen [] = refl
 seen (expr ∷ exprs) =
     ap (λ text. expression_text (expression_of expr) ++ text)

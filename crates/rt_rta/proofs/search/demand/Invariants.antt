@@ -6,6 +6,6 @@ use Rattle.rt_rta.proofs.search.demand.Given as goal
 
 abbrev pub invariant-loop-load : goal.invariant-loop-load
 invariant-loop-load l = record {
-  value : l.sum ≡ loads_demand l.level l.steps (take l.load-index l.all);
+  value : l.sum ≡ loads_demand l.priority l.steps (take l.load-index l.all);
   most : l.sum ≤ l.load-index * MOST_DEMAND;
 }

@@ -1,13 +1,13 @@
 use Rattle.rt_app.specs.View.{app_of, expression_of}
 use Rattle.rt_app.specs.Use.{reads}
-use Rattle.rt_rules.specs.Inside.Locked.{locked_of}
+use Rattle.rt_rules.specs.Inside.Locked.{locked_resources}
 use Rattle.rt_rules.specs.Inside.View.{member_of}
 use Rattle.rt_rules.proofs.Uses.{uses_behind, operands}
 use Rattle.rt_rules.proofs.statements.+judge_expression.Goals as goal
 
 pub returns-in-Oper : goal.returns-in-Oper
 returns-in-Oper t c =
-    let locked = locked_of c.args.locked.now in
+    let locked = locked_resources c.args.locked.now in
     let left = c.deref.result.now in
     let right = c.deref-in-Oper.result.now in
     uses_behind (app_of c.args.judge.now.app.now) (member_of c.args.judge.now.member) c.args.first.now c.judge_expression.new.first c.judge_expression-in-Oper.new.first

@@ -6,8 +6,8 @@ use Rattle.rt_code.specs.Image.{Image}
 use Rattle.rt_lemmas.proofs.Lists.{all_from_places}
 use Rattle.rt_count.specs.Summary.{summary_of}
 use Rattle.rt_count.specs.declared.summary.Summary.{Summary}
-use Rattle.rt_soak.specs.Soak.{IsSoak, soaked}
-use Rattle.rt_soak.specs.Inside.Totals.{Part, IsThere, AreFew, runs_in, totalled}
+use Rattle.rt_soak.specs.Soak.{IsSoak, soak_summary}
+use Rattle.rt_soak.specs.Inside.Totals.{Part, IsThere, AreFew, runs_in, summary_with_runs}
 use Rattle.rt_soak.proofs.Sharing.{all_runs, few_in}
 use Rattle.rt_soak.proofs.Totals.{total_is, if_ok_both}
 use Rattle.rt_soak.proofs.soaking.soak.Goals as goal
@@ -36,12 +36,12 @@ returns g c =
       good = c.in_ok-core.ensures.good;
       counted =
           is
-          ∙ ap (λ (ps : List Part). totalled (summary_of 0 []) (flat_map runs_in ps)) c.deref-3.ensures.value
-          ∙ ap (totalled (summary_of 0 []))
+          ∙ ap (λ (ps : List Part). summary_with_runs (summary_of 0 []) (flat_map runs_in ps)) c.deref-3.ensures.value
+          ∙ ap (summary_with_runs (summary_of 0 []))
           (all_runs image irqs c.args.number c.args.count c.args.workers parts (omega (arith, c.requires.worker)) many
           c.in_ok-parts.ensures.each (subst (AllByRecursion IsThere) c.deref-3.ensures.value there))
           ∙ total_is image irqs c.args.number c.args.count
-          ∙ ap (λ numbers. soaked image numbers c.args.number c.args.count)
+          ∙ ap (λ numbers. soak_summary image numbers c.args.number c.args.count)
           (c.deref-2.ensures.value ∙ c.in_ok-irqs.ensures ∙ ap (map (λ (d : IrqDecl). d.number)) c.deref.ensures.value);
     })
     c.total.ensures.there c.total.ensures.total

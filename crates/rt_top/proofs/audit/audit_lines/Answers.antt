@@ -5,8 +5,8 @@ use Rattle.rt_top.proofs.Audited.{whole_told, long_told}
 use Rattle.rt_top.proofs.Auditing.{few_lines}
 use Rattle.rt_top.proofs.audit.audit_lines.Goals as goal
 
-pub judged-requires-clause-few : goal.judged-requires-clause-few
-judged-requires-clause-few g c =
+pub audit_reply-requires-clause-few : goal.audit_reply-requires-clause-few
+audit_reply-requires-clause-few g c =
     let whole = c.in-Ok-read_lines.ensures.whole in
     omega (arith, few_lines whole.0, whole.2, whole.3)
 
@@ -15,8 +15,8 @@ returns-in-Ok-read_lines-clause-answers g c =
     let app = app_of c.args.machine.now.code.now.app.now in
     let whole = c.in-Ok-read_lines.ensures.whole in
     whole_told app (g.B.Source.left c.args.second.now) (g.B.Source.left c.read_lines.new.source) whole.0
-    (Rose (g.B.Source.faults c.args.second.now) (g.B.Source.faults c.read_lines.new.source)) whole.1 c.judged.result
-    (c.judged.ensures app whole.0 c.requires.chosen whole.2 (sym whole.3) whole.4)
+    (Rose (g.B.Source.faults c.args.second.now) (g.B.Source.faults c.read_lines.new.source)) whole.1 c.audit_reply.result
+    (c.audit_reply.ensures app whole.0 c.requires.chosen whole.2 (sym whole.3) whole.4)
 
 pub returns-in-Err-TooLong-clause-answers : goal.returns-in-Err-TooLong-clause-answers
 returns-in-Err-TooLong-clause-answers g c =

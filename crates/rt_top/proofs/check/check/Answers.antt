@@ -21,5 +21,5 @@ returns-clause-decides g c second third =
     tells_decides Check (inputs (g.A.Source.left c.args.app.now) second third)
     (Rose (g.A.Source.faults c.args.app.now) (g.A.Source.faults c.read_accepted.new.app)) ⊥ status.Done (λ bytes. bytes ≡ check_report (app_of c.in-Ok.accepted))
     (checked_decided (g.A.Source.left c.args.app.now) second third (app_of c.in-Ok.accepted) (λ text told. c.in-Ok.ensures.accepted text told))
-    c.told.result
-    (made_tells status.Done (λ bytes. bytes ≡ check_report (app_of c.in-Ok.accepted)) c.checked.result c.checked.ensures c.told.result c.told.ensures.text c.told.ensures.memory)
+    c.reply_of_text.result
+    (made_tells status.Done (λ bytes. bytes ≡ check_report (app_of c.in-Ok.accepted)) c.check_text.result c.check_text.ensures c.reply_of_text.result c.reply_of_text.ensures.text c.reply_of_text.ensures.memory)

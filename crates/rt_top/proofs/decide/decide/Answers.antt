@@ -3,7 +3,7 @@ use Rattle.rt_outside.specs.Faults.{Rose}
 use Rattle.rt_top.specs.Ends.{IsKept}
 use Rattle.rt_top.specs.Defined.{inputs}
 use Rattle.rt_top.specs.Words.{reads}
-use Rattle.rt_top.specs.Inside.Meant.{meant}
+use Rattle.rt_top.specs.Inside.Meant.{command_word}
 use Rattle.rt_top.specs.declared.command.Command.TheVariants as command
 use Rattle.rt_top.proofs.Deciding.{some_read}
 use Rattle.rt_top.proofs.Pairing.{pair_concludes, pair_second_kept, pair_third_kept, third_left, reads_two}
@@ -42,13 +42,13 @@ decide_two-requires-clause-two g c lifetimes outlives = reads_two c.args.command
 
 pub returns-in_default-clause-concludes : goal.returns-in_default-clause-concludes
 returns-in_default-clause-concludes g c =
-    third_left (meant c.args.command)
+    third_left (command_word c.args.command)
     (inputs (g.A.Source.left c.args.app.now) (g.B.Source.left c.args.second.now) (g.C.Source.left c.args.third.now))
     (Rose (g.A.Source.faults c.args.app.now) (g.A.Source.faults c.decide_two.new.app))
     (IsKept g.B.Source.left g.B.Source.faults c.args.second.now c.decide_two.new.second)
     (Rose (g.B.Source.faults c.args.second.now) (g.B.Source.faults c.decide_two.new.second))
     (IsKept g.C.Source.left g.C.Source.faults c.args.third.now c.args.third.now)
-    ((3 ≤ reads (meant c.args.command)) × Rose (g.C.Source.faults c.args.third.now) (g.C.Source.faults c.args.third.now))
+    ((3 ≤ reads (command_word c.args.command)) × Rose (g.C.Source.faults c.args.third.now) (g.C.Source.faults c.args.third.now))
     (record { has_all = refl; no_fault = refl })
     (g.K.Sink.taken c.args.out.now) (g.K.Sink.taken c.decide_two.new.out) (g.K.Sink.faults c.args.out.now)
     (g.K.Sink.faults c.decide_two.new.out) c.decide_two.result

@@ -4,7 +4,7 @@ use Rattle.rt_top.specs.Words.{Run, Audit, Live, Demo, Times, reads}
 use Rattle.rt_top.specs.Ends.{IsKept}
 use Rattle.rt_top.specs.Defined.{inputs}
 use Rattle.rt_top.specs.Inside.Decides.{Stops, HasFailed, IsDecided}
-use Rattle.rt_top.specs.Inside.Meant.{meant, IsInRange}
+use Rattle.rt_top.specs.Inside.Meant.{command_word, IsInRange}
 use Rattle.rt_top.specs.declared.command.Command as code
 use Rattle.rt_top.specs.declared.command.Command.TheVariants as command
 use Rattle.rt_top.proofs.Giving.{finished, heard}
@@ -113,7 +113,7 @@ returns-in-Times-clause-second_heard g c =
 
 pub demo-requires : goal.demo-requires
 demo-requires g c =
-    let range = subst (λ x. IsInRange (meant x)) c.in-Demo.is c.requires.range in
+    let range = subst (λ x. IsInRange (command_word x)) c.in-Demo.is c.requires.range in
     record { some = range.0; most = range.1 }
 
 pub returns-in-Demo-clause-concludes : goal.returns-in-Demo-clause-concludes
@@ -140,11 +140,11 @@ returns-in_default-clause-concludes g c third =
     let both = rose × IsKept g.B.Source.left g.B.Source.faults c.args.second.now c.args.second.now in
     let second = Rose (g.B.Source.faults c.args.second.now) (g.B.Source.faults c.args.second.now) in
     let one = reads_one c.args.command c.requires.two c.in_default.not-Run c.in_default.not-Live c.in_default.not-Audit c.in_default.not-Times c.in_default.not-Demo in
-    let few : reads (meant c.args.command) ≤ 1 = omega (arith, one) in
+    let few : reads (command_word c.args.command) ≤ 1 = omega (arith, one) in
     finished (g.K.Sink.taken c.args.out.now) (g.K.Sink.taken c.finish-in_default.new.out) (g.K.Sink.faults c.args.out.now)
-    (g.K.Sink.faults c.finish-in_default.new.out) c.finish-in_default.result (IsDecided (meant c.args.command) t)
-    (Stops (HasFailed (meant c.args.command) both second)) c.single.result
-    (only_first (meant c.args.command) t few rose both second (λ h. (h, record { has_all = refl; no_fault = refl })) c.single.result
+    (g.K.Sink.faults c.finish-in_default.new.out) c.finish-in_default.result (IsDecided (command_word c.args.command) t)
+    (Stops (HasFailed (command_word c.args.command) both second)) c.single.result
+    (only_first (command_word c.args.command) t few rose both second (λ h. (h, record { has_all = refl; no_fault = refl })) c.single.result
     (c.single.ensures.decides (g.B.Source.left c.args.second.now) third))
     c.finish-in_default.ensures.finished
 

@@ -13,7 +13,7 @@ returns-in-Ok-clause-decides g c second third =
     replies_decides Deepest (inputs (g.A.Source.left c.args.app.now) second third)
     (Rose (g.A.Source.faults c.args.app.now) (g.A.Source.faults c.read_accepted.new.app)) ⊥ (TellsDeepest (app_of c.in-Ok.accepted))
     (deepened_decided (g.A.Source.left c.args.app.now) second third (app_of c.in-Ok.accepted) (λ text told. c.in-Ok.ensures.accepted text told))
-    c.deepened.result c.deepened.ensures
+    c.deepest_reply.result c.deepest_reply.ensures
 
 pub returns-in-Err-clause-decides : goal.returns-in-Err-clause-decides
 returns-in-Err-clause-decides g c second third =

@@ -21,5 +21,5 @@ returns-clause-decides g c second third =
     tells_decides Fmt (inputs (g.A.Source.left c.args.app.now) second third)
     (Rose (g.A.Source.faults c.args.app.now) (g.A.Source.faults c.read_tree.new.app)) ⊥ status.Done (λ bytes. bytes ≡ canonical (app_of c.in-Ok.written.tree))
     (formatted_decided (g.A.Source.left c.args.app.now) second third (app_of c.in-Ok.written.tree) (λ text told. c.in-Ok.ensures.text text told))
-    c.told.result
-    (made_tells status.Done (λ bytes. bytes ≡ canonical (app_of c.in-Ok.written.tree)) c.canonical.result c.canonical.ensures c.told.result c.told.ensures.text c.told.ensures.memory)
+    c.reply_of_text.result
+    (made_tells status.Done (λ bytes. bytes ≡ canonical (app_of c.in-Ok.written.tree)) c.canonical.result c.canonical.ensures c.reply_of_text.result c.reply_of_text.ensures.text c.reply_of_text.ensures.memory)

@@ -25,5 +25,5 @@ returns-clause-decides g c second third =
     (Rose (g.A.Source.faults c.args.app.now) (g.A.Source.faults c.read_accepted.new.app)) ⊥ status.Done
     (TellsSoak (app_of c.in-Ok.accepted) number count)
     (soaked_decided (g.A.Source.left c.args.app.now) second third (app_of c.in-Ok.accepted) (λ text told. c.in-Ok.ensures.accepted text told) number count c.args.workers)
-    c.told.result
-    (made_tells status.Done (TellsSoak (app_of c.in-Ok.accepted) number count) c.soaked.result c.soaked.ensures c.told.result c.told.ensures.text c.told.ensures.memory)
+    c.reply_of_text.result
+    (made_tells status.Done (TellsSoak (app_of c.in-Ok.accepted) number count) c.soak_text.result c.soak_text.ensures c.reply_of_text.result c.reply_of_text.ensures.text c.reply_of_text.ensures.memory)

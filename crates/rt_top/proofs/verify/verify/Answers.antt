@@ -16,7 +16,7 @@ returns-in-Ok-Some-clause-decides g c second third =
     (IsVerified c.deref.result.now)
     (verified_decided (g.A.Source.left c.args.image.now) second third c.deref.result.now
     (λ text told. c.deref.ensures.value ∙ (rw c.in-Ok-Some.field-0-is at c.in-Ok-Some.ensures.whole text told)))
-    c.verified.result c.verified.ensures
+    c.verify_reply.result c.verify_reply.ensures
 
 pub returns-in-Ok-None-clause-decides : goal.returns-in-Ok-None-clause-decides
 returns-in-Ok-None-clause-decides g c second third =

@@ -5,7 +5,7 @@ use Rattle.rt_baker.proofs.judge.Judge.verdict.Goals as goal
 
 pub returns-in-Some : goal.returns-in-Some
 returns-in-Some c =
-    finds_wrong (app_of c.args.machine.now.code.now.app.now) c.args.total c.args.self.now c.in-Some.place
+    finds_wrong (app_of c.args.machine.now.code.now.app.now) c.args.total c.args.self.now c.in-Some.index
     (c.from.result + 1) c.in-Some.is (omega (arith, c.from.ensures))
 
 pub returns-then-judge_total : goal.returns-then-judge_total

@@ -1,5 +1,5 @@
 use Rattle.std.proofs.Common.{Some, refl, sym, ◌∙◌}
-use Rattle.rt_context.specs.Moves.{called}
+use Rattle.rt_context.specs.Moves.{frames_after_call}
 use Rattle.rt_context.specs.Inside.Parts.{Spells}
 use Rattle.rt_context.proofs.Spelling.{spelled, kept}
 use Rattle.rt_context.proofs.Running.{seen, fits_from_room}
@@ -17,7 +17,7 @@ push-requires-clause-fits c =
     fits_from_room c.args.self.now c.self.inside c.args.row.frame s (may (goal.at.push-requires-clause-fits c).After-from-args).room
 
 spells : (c : After-push) → MayCall c.args.self.now c.args.row c.args.from
-    → Spells (called c.args.self.now c.args.row c.args.from c.args.address) (record { region = c.push.new.region; entry = c.self.inside.entry; frame = c.args.row.frame; caller = Some c.self.inside.frame; callers = c.self.inside.callers })
+    → Spells (frames_after_call c.args.self.now c.args.row c.args.from c.args.address) (record { region = c.push.new.region; entry = c.self.inside.entry; frame = c.args.row.frame; caller = Some c.self.inside.frame; callers = c.self.inside.callers })
 spells c may =
     let s = seen c.args.self.now c.self.inside c.self.invariant c.self.view_is in
     spells_called c.args.self.now c.self.inside _ c.args.row c.args.from c.from-args.result c.args.address s may c.from-args.ensures c.push.ensures refl refl refl refl

@@ -1,7 +1,7 @@
 use Rattle.std.proofs.Common.{◌≡◌, ◌≤◌, None, reverse, refl, sym, subst, arith}
 use Rattle.std.proofs.lemmas.Grind.{common_steps}
 use Rattle.rt_ids.specs.declared.exception.TheConstants.{BASIC_FRAME_WORDS}
-use Rattle.rt_context.specs.Moves.{left}
+use Rattle.rt_context.specs.Moves.{frames_after_return}
 use Rattle.rt_context.proofs.Running.{seen}
 use Rattle.rt_context.proofs.Returning.{Finds, finds, entry_is_there, Leads, left_leads, leads_kept, leads_view}
 use Rattle.rt_context.proofs.frames.Frames.leave.Goals as goal
@@ -22,7 +22,7 @@ leave-interrupted-requires c =
     }
 
 leads : (c : After-leave-interrupted) → Finds c.args.self.now c.in_ok-caller.caller (reverse c.pop.new.self.items)
-    → Leads (left c.args.self.now) (record { region = c.leave-interrupted.new.region; entry = c.self.inside.entry; frame = c.leave-interrupted.result.frame; caller = c.in_ok-caller.caller; callers = c.pop.new.self }) c.leave-interrupted.result.address
+    → Leads (frames_after_return c.args.self.now) (record { region = c.leave-interrupted.new.region; entry = c.self.inside.entry; frame = c.leave-interrupted.result.frame; caller = c.in_ok-caller.caller; callers = c.pop.new.self }) c.leave-interrupted.result.address
 leads c finds =
     let s = seen c.args.self.now c.self.inside c.self.invariant c.self.view_is in
     left_leads c.args.self.now c.self.inside c.in_ok-caller.caller (reverse c.pop.new.self.items) s finds _ c.leave-interrupted.result.address c.leave-interrupted.ensures.popped refl c.leave-interrupted.ensures.frame refl refl c.leave-interrupted.ensures.address

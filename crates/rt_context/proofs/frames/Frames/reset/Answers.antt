@@ -1,5 +1,5 @@
 use Rattle.std.proofs.Common.{◌≡◌, ℕ, ◌-◌, length, take, None, ap, ap₂, ◌∙◌, refl, arith}
-use Rattle.rt_stack.specs.Region.{Region, empty, pushed}
+use Rattle.rt_stack.specs.Region.{Region, empty, region_after_push}
 use Rattle.rt_context.specs.Frames.{Frames}
 use Rattle.rt_context.specs.Moves.{thread}
 use Rattle.rt_context.specs.Inside.Parts.{Spells}
@@ -16,7 +16,7 @@ spells c =
     let emptied : c.pop.new.self ≡ empty is.region.size =
     c.pop.ensures ∙ ap (λ (k : ℕ). record { words = take k is.region.words; size = is.region.size }) none in
     spells_thread is.region.size is.entry c.args.thread_words _ (omega (arith, s.size, s.small)) (omega (arith, s.entry, s.basic))
-    (c.push.ensures ∙ ap (λ (r : Region). pushed r c.args.thread_words) emptied)
+    (c.push.ensures ∙ ap (λ (r : Region). region_after_push r c.args.thread_words) emptied)
     refl refl refl c.clear.ensures
 
 pub invariant_of-self : goal.invariant_of-self

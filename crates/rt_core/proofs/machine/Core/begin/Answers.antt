@@ -18,4 +18,4 @@ pub returns-clause-begun : goal.returns-clause-begun
 returns-clause-begun c =
     let core = c.args.self.now in
     let goes : core.core.stopped ≡ false = ap (λ (m : Machine). m.core.stopped) (sym c.self.view_is) ∙ c.if-self.false in
-    instruction_steps core.image core.core goes (sym c.picked.ensures ∙ c.in_default.is) ∙ ap settle c.go.ensures.begun
+    instruction_steps core.image core.core goes (sym c.irq_to_take.ensures ∙ c.in_default.is) ∙ ap settle c.go.ensures.begun

@@ -29,4 +29,4 @@ returns-clause-outcome c =
     ∙ call_is c.self.inside.program (core c.self.inside) c.self.inside.frames c.args.row c.args.from c.in-Some.body c.self.invariant.frames may found
     ∙ ap (outcome_of (core c.self.inside) c.in-Some.body c.args.from) fits
     ∙ ap (λ (f : Frames). Done (core (record c.self.inside { frames = f; registers = record c.self.inside.registers { address = c.in-Some.body.entry } })) None)
-    (ap (λ a. moves.called c.self.inside.frames c.in-Some.body c.args.from a) (sym next) ∙ sym (c.if-not-call.ensures.called refl))
+    (ap (λ a. moves.frames_after_call c.self.inside.frames c.in-Some.body c.args.from a) (sym next) ∙ sym (c.if-not-call.ensures.called refl))

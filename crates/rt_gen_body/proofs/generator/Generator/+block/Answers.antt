@@ -41,8 +41,8 @@ lock-returns t c =
       c.in_ok-push_noted-2.ensures,
       c.in_ok-block.ensures,
       c.in_ok-push_noted.ensures,
-      c.opening.ensures,
-      c.closing.ensures,
+      c.opening_instr.ensures,
+      c.closing_instr.ensures,
       c.max.ensures,
       c.next_slot.ensures,
       c.guard_at-guard.ensures,
@@ -69,7 +69,7 @@ statement-returns-then-is_empty t c =
     let none = no_second c.in-Branch.second.len c.in-Branch.second.items c.in-Branch.second.ok.0
     (sym c.if-is_empty.true ∙ c.is_empty.ensures) in
     let block : ℕ → List Line =
-    λ at. block_code (context c.args.self.now) c.args.level c.args.lock at (block_of c.deref.result.now) in
+    λ at. block_code (context c.args.self.now) c.args.threshold c.args.lock at (block_of c.deref.result.now) in
     on_ok_weaker c.choose_one.result
     (Appends c.value.new.code c.choose_one.new.code
     (one_code (context c.args.self.now) (next_address c.value.new.code) block)) _
@@ -83,7 +83,7 @@ statement-returns-then-is_empty t c =
 pub statement-returns-in_ok-over-in-Branch : goal.statement-returns-in_ok-over-in-Branch
 statement-returns-in_ok-over-in-Branch t c =
     let block : List Stmt → ℕ → List Line =
-    λ stmts at. block_code (context c.args.self.now) c.args.level c.args.lock at (block_of stmts) in
+    λ stmts at. block_code (context c.args.self.now) c.args.threshold c.args.lock at (block_of stmts) in
     on_ok_weaker c.choose_second.result _ _
     (λ ends. rw (
       two_emitted (context c.args.self.now) c.value.new.code c.choose_first.new.code
@@ -129,7 +129,7 @@ statement-choose_second-requires t c =
     (branch_at _ _ _ _ _ _ c.in-Branch.is c.deref-else-is_empty.ensures.value c.deref-else-is_empty-2.ensures.value) in
     let within =
     first_within (context c.args.self.now) c.value.new.code c.choose_first.new.code c.in_ok-over-in-Branch.over
-    (block_code (context c.args.self.now) c.args.level c.args.lock (next_address c.value.new.code + 1)
+    (block_code (context c.args.self.now) c.args.threshold c.args.lock (next_address c.value.new.code + 1)
     (block_of c.deref-else-is_empty.result.now)) c.in_ok-over-in-Branch.ensures.place
     c.in_ok-over-in-Branch.ensures.lines in
     (omega (arith, c.decreases), (c.requires, within))

@@ -6,7 +6,7 @@ use Rattle.rt_gen_body.specs.Inside.{Blocks.block_code, Generating.context}
 
 abbrev pub invariant-block-loop-stmt : goal.invariant-block-loop-stmt
 invariant-block-loop-stmt l =
-    Appends l.initial.code l.code (block_code (context l.self) l.level l.lock (next_address l.initial.code)
+    Appends l.initial.code l.code (block_code (context l.self) l.threshold l.lock (next_address l.initial.code)
     (block_of (take l.stmt-index l.stmts)))
 
 abbrev pub decreases-statement : goal.decreases-statement

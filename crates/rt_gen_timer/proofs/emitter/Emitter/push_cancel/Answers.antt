@@ -10,4 +10,4 @@ returns c =
     (then _ _ c.in_ok-append-2.ensures c.alarm.ensures
     (then _ _ c.in_ok-append-3.ensures c.place.ensures
     (then _ _ c.in_ok-append-4.ensures c.free.ensures
-    (last _ c.in_ok-append-5.ensures c.missing.ensures))))))
+    (last _ c.in_ok-append-5.ensures c.missing_lines.ensures))))))

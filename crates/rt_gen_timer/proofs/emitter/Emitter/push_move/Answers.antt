@@ -8,4 +8,4 @@ returns c =
     (then c.push_find.new.lines _ c.in_ok-push_again.ensures refl
     (then _ _ c.in_ok-append.ensures c.alarm.ensures
     (then _ _ c.in_ok-append-2.ensures (ap (λ line. line ∷ []) c.leave.ensures)
-    (last _ c.in_ok-append-3.ensures c.missing.ensures))))
+    (last _ c.in_ok-append-3.ensures c.missing_lines.ensures))))

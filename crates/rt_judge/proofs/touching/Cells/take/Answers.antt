@@ -31,4 +31,4 @@ returns-then-touch-len-clause-told c = on_ok_weaker c.touch.result _ _ (λ done 
     let new = c.touch.new.self.rows.items in
     takes_inner_touch c.args.image.now ps (point address c.args.owner c.args.nesting.now) line.0 line.1 at touch made.access
     is.0 is.1 made.by made.at made.stores old new
-    (subst (λ (opened : List Opened). IsTouched old new touch opened) c.opened.ensures done) tells) c.touch.ensures.touched
+    (subst (λ (opened : List Opened). IsTouched old new touch opened) c.open_sections.ensures done) tells) c.touch.ensures.touched

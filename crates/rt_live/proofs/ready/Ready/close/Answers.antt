@@ -3,7 +3,7 @@ use Rattle.std.proofs.lemmas.List.{take_at}
 use Rattle.rt_words.specs.Lines.{Core}
 use Rattle.rt_live.specs.Closed.{Closes}
 use Rattle.rt_live.specs.Ready.{Prepared, IsReady, irqs_of}
-use Rattle.rt_live.specs.Inside.Settled.{settled}
+use Rattle.rt_live.specs.Inside.Settled.{settled_row}
 use Rattle.rt_live.specs.declared.account.AccountRow.{AccountRow}
 use Rattle.rt_live.proofs.Closed.{all_gathered, closes, room_for_all, gathering_words}
 use Rattle.rt_live.proofs.ready.Ready.close.Goals as goal
@@ -32,9 +32,9 @@ returns-clause-closes c =
     let mid : List AccountRow =
     take c.self.inside.rows.len (front ++ drop (length front) c.self.inside.rows.items) in
     let out : List AccountRow = take c.self.inside.rows.len (ended ++ drop (length ended) mid) in
-    let rows : out ≡ map (settled counts bits) front =
+    let rows : out ≡ map (settled_row counts bits) front =
     take_at ended (drop (length ended) mid) c.self.inside.rows.len whole
-    ∙ c.settle.ensures ∙ ap (map (settled counts bits)) lent in
+    ∙ c.settle.ensures ∙ ap (map (settled_row counts bits)) lent in
     subst (λ (ready : Prepared). Closes ready out) c.self.view_is
     (subst (Closes _) (sym rows)
     (closes _ c.self.invariant c.gather_all.new.line c.gather_all.ensures.line bits c.close-left.ensures.history counts front

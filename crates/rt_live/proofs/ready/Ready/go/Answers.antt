@@ -19,7 +19,7 @@ use Rattle.rt_live.proofs.Halting.{halts_own, halts_behind, latched_last, stops_
 use Rattle.rt_live.proofs.Owning.{own_turns_length}
 use Rattle.rt_code.specs.Image.{Image}
 use Rattle.rt_run.proofs.Known.{still_writable}
-use Rattle.rt_live.specs.Weave.{Happens, Looks, weave}
+use Rattle.rt_live.specs.Interleaving.{Happens, Looks, interleaving}
 use Rattle.rt_live.specs.Inside.Able.{MayArrive}
 use Rattle.rt_live.specs.Inside.Own.{own_turns}
 use Rattle.rt_live.proofs.Tallied.{same_calls, same_words, since_within}
@@ -103,7 +103,7 @@ end-requires-clause-able g c =
     (record { lines = c.requires.lines; known = fresh_known core c.requires.fresh }) refl in
     let run = c.in_ok-done.ensures.ok in
     record {
-      writable = still_writable (weave (own_turns c.lines-lines.result.now) run.found) core _ run.sends.leads able.writable;
+      writable = still_writable (interleaving (own_turns c.lines-lines.result.now) run.found) core _ run.sends.leads able.writable;
       words =
           ap (λ (l : Core). l.words) c.gather_all.ensures.line
           ∙ same_words (take c.self.inside.devices.len (c.beside-done.new.devices

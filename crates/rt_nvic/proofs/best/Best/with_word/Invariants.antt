@@ -1,4 +1,4 @@
--- The best of the words before and of the places so far.
+-- The best of the words before and of the indices so far.
 use Rattle.std.proofs.Common.{◌+◌, ◌-◌, ◌*◌, ◌≤◌}
 use Rattle.rt_nvic.specs.Inside.Best.{IsBestOf}
 use Rattle.rt_nvic.proofs.best.Best.with_word.Given as goal

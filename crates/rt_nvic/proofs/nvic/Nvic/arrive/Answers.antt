@@ -1,6 +1,6 @@
 use Rattle.std.proofs.Common.{◌≡◌, ℕ, ◌+◌, ◌*◌, length, List, Bool, true, false, get_or, set, sym, ap, ◌∙◌, arith}
 use Rattle.rt_nvic.specs.Nvic.{Nvic, is_pending}
-use Rattle.rt_ids.specs.Arrivals.{arrivals_below, pended}
+use Rattle.rt_ids.specs.Arrivals.{arrivals_below, pending_with}
 use Rattle.rt_nvic.proofs.Arriving.{pended_none, pended_set, pended_clear}
 use Rattle.rt_nvic.proofs.Flags.{length-flags}
 use Rattle.rt_nvic.proofs.Pending.{each}
@@ -14,7 +14,7 @@ pub loop-bit-preserved : goal.loop-bit-preserved
 loop-bit-preserved c =
     elim c.if-bits-bit-eq1.branch [
       | then-bits-bit-eq1 w ↦ let e = pended_set c.args.k c.args.bits c.loop-bit.bit c.args.self.now.pending w.if-bits-bit-eq1.true in
-          let before = pended (arrivals_below c.args.k c.args.bits c.loop-bit.bit) c.args.self.now.pending in
+          let before = pending_with (arrivals_below c.args.k c.args.bits c.loop-bit.bit) c.args.self.now.pending in
           w.self-is
           ∙ w.post_number.ensures
           ∙ ap (λ (n : Nvic). record n { pending = set n.pending (32 * w.from.result + c.loop-bit.bit) true }) c.loop-bit.invariant
@@ -29,5 +29,5 @@ returns-clause-each c = λ irq low.
     let long = sym (ap (λ (n : Nvic). length n.pending) c.self.view_is) ∙ length-flags c.self.inside.pending in
     let all : c.loop-bit.bit ≡ 32 = omega arith in
     ap (λ (n : Nvic). is_pending n irq) c.loop-bit.invariant
-    ∙ ap (λ (places : ℕ). get_or (pended (arrivals_below c.args.k c.args.bits places) pending) irq false) all
+    ∙ ap (λ (places : ℕ). get_or (pending_with (arrivals_below c.args.k c.args.bits places) pending) irq false) all
     ∙ each c.args.k c.args.bits irq pending (omega arith)

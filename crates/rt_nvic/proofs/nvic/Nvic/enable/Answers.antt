@@ -11,7 +11,7 @@ invariant_of-self c =
     let is = c.self.inside in
     let k = c.from.result in
     let number = c.get-number.result in
-    let place : number ≡ k = sym c.from.ensures in
+    let index : number ≡ k = sym c.from.ensures in
     let l : number < IRQ_NUMBERS = c.get-number.ensures.in_range in
     let low : k < IRQ_NUMBERS = omega arith in
     let at_number =
@@ -22,6 +22,6 @@ invariant_of-self c =
     λ i. bit_of c.set.new.self i ≡ (if get_or (flags is.pending) i false then 1 else bit_of is.ready i) in
     kept_enabled is.priorities is.pending is.pending is.active is.top is.ready c.set.new.self is.best k low
     c.self.invariant
-    (λ j ne. c.set.ensures.others j (λ e. ne (e ∙ place))) c.args.prio c.of-self-inside.result
-    (subst Same place at_number)
+    (λ j ne. c.set.ensures.others j (λ e. ne (e ∙ index))) c.args.prio c.of-self-inside.result
+    (subst Same index at_number)
     c.of-self-inside.ensures

@@ -10,7 +10,7 @@ returns c =
     let n = c.args.words in
     let k = c.len.result - n in
     let long = r.words.ok.0 in
-    let within : n ≤ r.words.len = omega (arith, ap region.used c.self.view_is) in
+    let within : n ≤ r.words.len = omega (arith, ap region.used_words c.self.view_is) in
     let from : k ≡ r.words.len - n = omega arith in
     let lent = range-last n r.words.len k r.words.items long within from in (
       (refl, λ w. with_top-lent r.words.len n k r.size r.words.items w c.args.self.now long within from c.self.view_is),

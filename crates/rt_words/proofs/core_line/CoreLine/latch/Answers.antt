@@ -1,7 +1,7 @@
 use Rattle.std.proofs.Common.{◌≡◌, ℕ, sym, ap, ◌∙◌, arith}
 use Rattle.rt_words.specs.declared.call.Call.TheVariants.{Latch}
 use Rattle.rt_words.specs.Lines.{Row, Core}
-use Rattle.rt_words.specs.Inside.Steps.{called}
+use Rattle.rt_words.specs.Inside.Steps.{view_after_call}
 use Rattle.rt_words.proofs.Latching.{latches}
 use Rattle.rt_words.proofs.Tallies.{after_latched}
 use Rattle.rt_words.proofs.core_line.CoreLine.latch.Goals as goal
@@ -22,4 +22,4 @@ invariant_of-self c =
     let me = c.self.inside.seat.me in
     after_latched c.self.inside.seat.id _ me _ c.self.inside.latched _ c.args.k c.fetch_and-found.result f.2.0
     c.self.invariant (c.count_bits.array_long) c.count_bits.ensures f.1
-    (f.2.1 ∙ ap (λ (k : ℕ). (called me.0 f.2.0 (Latch k c.fetch_and-found.result), me.1)) c.from.ensures)
+    (f.2.1 ∙ ap (λ (k : ℕ). (view_after_call me.0 f.2.0 (Latch k c.fetch_and-found.result), me.1)) c.from.ensures)

@@ -8,7 +8,7 @@ use Rattle.rt_words.specs.declared.view.View.{View}
 use Rattle.rt_words.specs.Object.{IsPending}
 use Rattle.rt_words.specs.Lines.{Row, Line}
 use Rattle.rt_words.specs.History.{Entry}
-use Rattle.rt_words.specs.Inside.Steps.{called, Extends, answer_at}
+use Rattle.rt_words.specs.Inside.Steps.{view_after_call, Extends, answer_at}
 use Rattle.rt_words.proofs.Pending.{pends_as, answer_merged, answer_raised}
 use Rattle.rt_words.proofs.Tallies.{after_merged, after_raised}
 use Rattle.rt_words.proofs.device_line.DeviceLine.pend.Goals as goal
@@ -30,12 +30,12 @@ fetch_or-found-requires c =
 told : (word number found : ℕ) (me me' : Me (Unit {0}) View) (mask : ℕ) (answer : Pended) (seen : List Entry)
     → number % 32 < 32 → mask ≡ 2 ^ (number % 32) → word ≡ number / 32
     → ((bit : ℕ) → bit < 32 → mask ≡ 2 ^ bit
-    → (me' ≡ (called me.0 seen (Pend (32 * word + bit) (answer_at found bit)), me.1))
+    → (me' ≡ (view_after_call me.0 seen (Pend (32 * word + bit) (answer_at found bit)), me.1))
     × Extends me.0.seen me.0.line (Pend (32 * word + bit) (answer_at found bit)) seen)
-    → answer_at found (number % 32) ≡ answer → me' ≡ (called me.0 seen (Pend number answer), me.1)
+    → answer_at found (number % 32) ≡ answer → me' ≡ (view_after_call me.0 seen (Pend number answer), me.1)
 told word number found me me' mask answer seen l m w tell is =
     let whole : 32 * word + number % 32 ≡ number = omega arith in
-    (tell (number % 32) l m).0 ∙ ap (λ (x : ℕ × Pended). (called me.0 seen (Pend x.0 x.1), me.1)) (λ i. (whole i, is i))
+    (tell (number % 32) l m).0 ∙ ap (λ (x : ℕ × Pended). (view_after_call me.0 seen (Pend x.0 x.1), me.1)) (λ i. (whole i, is i))
 
 pub invariant_of-self : goal.invariant_of-self
 invariant_of-self c =

@@ -1,0 +1,141 @@
+// Runs a core for so many steps on a small image with so many declared interrupts, and prints what it showed: `thread N
+// I` spins in the thread, `handler N I` in a handler that does arithmetic. With `pended` behind it the interrupt 1 is
+// not enabled, and pending throughout. bench/run times it.
+#![tactic(auto)]
+
+ghost use Rattle.std.specs.Prelude.{◌≡◌, ◌<◌, ◌^◌, IfSome};
+
+mod images;
+mod spin;
+
+use anyhow::Result;
+use images::Irqs;
+use rt_code::Image;
+use rt_core::Core;
+use rt_ids::NoMemory;
+use rt_ids::limits::IRQS;
+use rt_image_tables::is_runnable;
+use spin::spin;
+use std::alloc::Global;
+use std::env;
+
+const USAGE: &str =
+    "usage: bench_core thread STEPS INTERRUPTS [pended] | bench_core handler STEPS INTERRUPTS [pended]";
+
+/// What spins.
+#[derive(Clone, Copy)]
+enum Code {
+    Thread,
+    Handler,
+}
+
+/// What is asked for.
+#[derive(Clone, Copy)]
+struct Request {
+    code: Code,
+    /// Core steps, fewer than 2^31.
+    steps: u32,
+    irqs: Irqs,
+}
+
+/// What spins, by its word.
+fn code_of(word: &str) -> Option<Code> {
+    match word {
+        "thread" => Some(Code::Thread),
+        "handler" => Some(Code::Handler),
+        _ => None,
+    }
+}
+
+/// The number of core steps that a word says: fewer than 2^31.
+fn steps(word: &str) -> Option<u32>
+    ensures { IfSome result (λ steps. steps < 2 ^ 31) }
+{
+    let steps = word.parse::<u32>().ok()?;
+    if steps < 1 << 31 { Some(steps) } else { None }
+}
+
+/// How many interrupts a word says: at most as many as may be declared.
+fn count(word: &str) -> Option<u16> {
+    let count = word.parse::<u16>().ok()?;
+    if usize::from(count) <= IRQS {
+        Some(count)
+    } else {
+        None
+    }
+}
+
+/// What words ask for.
+fn request_of(words: &[String]) -> Option<Request>
+    ensures { IfSome result (λ request. request.steps < 2 ^ 31) }
+{
+    let code = code_of(words.first()?.as_str())?;
+    let steps = steps(words.get(1)?.as_str())?;
+    let count = count(words.get(2)?.as_str())?;
+    let is_second_off = words.get(3).map_or(false, |word| word.as_str() == "pended");
+    Some(Request {
+        code,
+        steps,
+        irqs: Irqs {
+            count,
+            is_second_off,
+        },
+    })
+}
+
+/// The image that is asked for.
+fn image(alloc: Global, request: Request) -> Result<Image, NoMemory> {
+    match request.code {
+        Code::Thread => images::thread(alloc, request.irqs),
+        Code::Handler => images::handler(alloc, request.irqs),
+    }
+}
+
+/// Requests the handler's interrupt, and the one that is not enabled.
+fn arrive(core: &mut Core, request: Request)
+    ensures { core.new.steps ≡ core.old.steps }
+{
+    if matches!(request.code, Code::Handler) {
+        core.arrive(0, 1);
+    }
+    if request.irqs.is_second_off {
+        core.arrive(0, 2);
+    }
+}
+
+/// Runs a core as is asked, and prints what it showed.
+fn run<R: Print>(rt: &R, core: &mut Core, request: Request) -> Result<()>
+    requires start { core.old.steps ≡ 0 }
+    requires few { request.steps < 2 ^ 31 }
+{
+    arrive(core, request);
+    let shown = spin(core, request.steps);
+    println!(rt;
+        "steps {}, items {}, values {}, stack {}",
+        core.steps(),
+        shown.items,
+        shown.values,
+        core.depth()
+    )?;
+    Ok(())
+}
+
+/// Makes a core of an image that is runnable.
+fn start<R: Print + AllocGlobal>(rt: &R, request: Request) -> Result<()>
+    requires few { request.steps < 2 ^ 31 }
+{
+    let image = image(rt.alloc(), request)?;
+    if !is_runnable(&image) {
+        return Ok(());
+    }
+    let mut core = Core::new(rt.alloc(), image)?;
+    run(rt, &mut core, request)
+}
+
+fn main(rt: HostRuntime) -> Result<()> {
+    let words: Vec<String> = env::args(&rt)?.skip(1).collect(rt.alloc())?;
+    match request_of(&words) {
+        Some(request) => start(&rt, request),
+        None => Ok(println!(rt; "{USAGE}")?),
+    }
+}

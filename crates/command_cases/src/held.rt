@@ -1,0 +1,139 @@
+// Runs in which a gate holds the core and a device, so that it is known which pends meet and when they arrive. A run
+// that does one after the other fails, and so does one that makes its arrivals up: the gate alone knows the step.
+use crate::live::end_of;
+use anyhow::{Context, Result};
+use rt_ids::Status;
+use std::alloc::Global;
+use std::sync::atomic::Ordering::SeqCst;
+use std::sync::atomic::{AtomicBool, AtomicU64};
+use std::thread;
+use std::thread::Threads;
+use std::time::{Clock, Duration};
+use test_commands::{Gate, Outside, run_on};
+use test_tables::Case;
+
+/// How often a hold looks whether it is over, before it gives up.
+const TURNS: u32 = 10_000;
+
+/// How long it waits between two looks, in milliseconds.
+const PAUSE: u64 = 1;
+
+/// Pends of the device that meet before the core goes on; the pend behind them is held.
+const MEET: u64 = 2;
+
+/// Core steps that have to begin before the last pend is made, from the held one on.
+const LATER: u64 = 2;
+
+/// A gate that lets two pends of a device come before one core step, and the third behind the next.
+struct ByTurns<'a, R> {
+    rt: &'a R,
+    /// The core step that is held.
+    step: u64,
+    /// The core steps that have come.
+    steps: AtomicU64,
+    /// The pends that have come.
+    pends: AtomicU64,
+    /// Whether a hold gave up.
+    is_late: AtomicBool,
+}
+
+impl<R> Drop for ByTurns<'_, R> {
+    fn drop(self) {
+        let ByTurns {
+            rt: _,
+            step: _,
+            steps: _,
+            pends: _,
+            is_late: _,
+        } = self;
+    }
+}
+
+/// Waits until so many have come, and tells whether they have before the hold gives up.
+pub(crate) fn is_in_time<R: Clock>(rt: &R, come: &AtomicU64, wanted: u64) -> bool {
+    for _turn in 0..TURNS {
+        if come.load(SeqCst) >= wanted {
+            return true;
+        }
+        thread::sleep(rt, Duration::from_millis(PAUSE));
+    }
+    false
+}
+
+impl<R: Clock> ByTurns<'_, R> {
+    /// Waits until so many have come.
+    fn hold(&self, come: &AtomicU64, wanted: u64) {
+        if !is_in_time(self.rt, come, wanted) {
+            self.is_late.store(true, SeqCst);
+        }
+    }
+}
+
+impl<R: Clock> Gate for ByTurns<'_, R> {
+    fn before_step(&self, n: u64) {
+        self.steps.store(n.saturating_add(1), SeqCst);
+        if n == self.step {
+            self.hold(&self.pends, MEET + 1);
+        }
+    }
+
+    fn before_pend(&self, _device: u8, n: u64) {
+        self.pends.store(n.saturating_add(1), SeqCst);
+        if n == 0 {
+            self.hold(&self.steps, self.step.saturating_add(1));
+        } else if n == MEET {
+            self.hold(&self.steps, self.step.saturating_add(1 + LATER));
+        }
+    }
+}
+
+/// Whether the items behind the end of `init` begin with some lines.
+fn begins_with(output: &str, items: &str) -> bool {
+    match output.split_once("\n0 end init\n") {
+        Some((_front, behind)) => behind.starts_with(items),
+        None => false,
+    }
+}
+
+/// What is told of an output: `ok`, or what differs.
+fn held_difference(output: &str, case: &Case) -> Option<&'static str> {
+    let (total, account) = end_of(output)?;
+    if !begins_with(output, case.text("items")?) {
+        return Some("the first items differ");
+    }
+    if total != case.text("total")?.trim() {
+        return Some("the total differs");
+    }
+    Some(if account.starts_with(case.text("account")?) {
+        "ok"
+    } else {
+        "the account differs"
+    })
+}
+
+/// What is told of a case: `ok`, or what differs. Its parts are the texts `app` and `second`, a script of one device
+/// with three pends; the `step` that is held; and what is wanted: the `items` that come first behind the end of
+/// `init`, the `total`, and the first lines of the `account`.
+pub fn verdict<R: Threads + Clock + Sync>(
+    rt: &R,
+    alloc: Global,
+    case: &Case,
+) -> Result<&'static str> {
+    let gate = ByTurns {
+        rt,
+        step: u64::from(case.number("step").context("no number of a step")?),
+        steps: AtomicU64::new(0),
+        pends: AtomicU64::new(0),
+        is_late: AtomicBool::new(false),
+    };
+    let outside = Outside::of(alloc, case.bytes("app"), case.bytes("second"))?;
+    let ran = run_on(rt, alloc, &["live", "app", "script"], outside, &gate);
+    if gate.is_late.load(SeqCst) {
+        return Ok("a hold gave up");
+    }
+    if ran.status != Status::Done {
+        return Ok("the exit status differs");
+    }
+    let output = std::str::from_utf8(ran.output()).ok().context("no text")?;
+    Ok(held_difference(output, case).unwrap_or("there is no account"))
+}

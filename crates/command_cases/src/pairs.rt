@@ -1,0 +1,189 @@
+// Runs of two cores beside each other. When a request of the other core arrives is free: the output of each core is
+// audited by its own application, its account is compared, and its whole text where all of it is known.
+use crate::held::is_in_time;
+use crate::live::{end_of, is_audited};
+use anyhow::{Context, Result};
+use rt_ids::Status;
+use std::alloc::Global;
+use std::sync::atomic::Ordering::SeqCst;
+use std::sync::atomic::{AtomicBool, AtomicU64};
+use std::thread::Threads;
+use std::time::Clock;
+use test_commands::{Gate, NoGate, Outside, Ran, run_on};
+use test_tables::Case;
+
+/// The number of the second core.
+const SECOND: u8 = 2;
+
+/// Requests of the second core that have to come before the first core goes on.
+const ANSWERED: u64 = 2;
+
+/// A gate that holds the first request of the second core until a step of the first has come, and the first core at
+/// that step until the second core has answered. Cores that run one after the other do not come through it.
+struct Answers<'a, R> {
+    rt: &'a R,
+    /// The step of the first core that is held.
+    step: u64,
+    /// The steps of the first core that have come.
+    steps: AtomicU64,
+    /// The requests of the second core that have come.
+    requests: AtomicU64,
+    /// Whether a hold gave up.
+    is_late: AtomicBool,
+}
+
+impl<R> Drop for Answers<'_, R> {
+    fn drop(self) {
+        let Answers {
+            rt: _,
+            step: _,
+            steps: _,
+            requests: _,
+            is_late: _,
+        } = self;
+    }
+}
+
+impl<R: Clock> Answers<'_, R> {
+    /// Waits until so many have come.
+    fn hold(&self, come: &AtomicU64, wanted: u64) {
+        if !is_in_time(self.rt, come, wanted) {
+            self.is_late.store(true, SeqCst);
+        }
+    }
+}
+
+impl<R: Clock> Gate for Answers<'_, R> {
+    fn before_step(&self, n: u64) {
+        self.steps.store(n.saturating_add(1), SeqCst);
+        if n == self.step {
+            self.hold(&self.requests, ANSWERED);
+        }
+    }
+
+    fn before_pend(&self, core: u8, n: u64) {
+        if core != SECOND {
+            return;
+        }
+        self.requests.store(n.saturating_add(1), SeqCst);
+        if n == 0 {
+            self.hold(&self.steps, self.step.saturating_add(1));
+        }
+    }
+}
+
+/// Whether a line of an account is one of an interrupt that the other core requested so often: each request raised it
+/// or was merged, and what was raised was latched or is left.
+fn is_row(line: &str, irq: &str, requests: u64) -> Option<bool> {
+    let row = line
+        .strip_prefix("account ")?
+        .strip_prefix(irq)?
+        .strip_prefix(" ")?;
+    let (raised, rest) = row.split_once(' ')?;
+    let (merged, rest) = rest.split_once(' ')?;
+    let (latched, left) = rest.split_once(' ')?;
+    let raised = raised.parse::<u64>().ok()?;
+    let sum = raised.checked_add(merged.parse::<u64>().ok()?)?;
+    let left = left.parse::<u64>().ok()?;
+    let found = latched.parse::<u64>().ok()?.checked_add(left)?;
+    Some(sum == requests && (raised == 0) == (requests == 0) && found == raised && left <= 1)
+}
+
+/// Whether an account has just the lines of some interrupts in order, each given with the number of its requests.
+fn is_account(account: &str, requests: &str) -> Option<bool> {
+    let mut rows = account.lines();
+    for line in requests.lines() {
+        let (irq, count) = line.split_once(' ')?;
+        if !is_row(rows.next()?, irq, count.parse::<u64>().ok()?)? {
+            return Some(false);
+        }
+    }
+    Some(rows.next().is_none())
+}
+
+/// What is told of the text of a core: `ok`, or what differs.
+fn told_of_core<R: Threads + Sync>(
+    rt: &R,
+    alloc: Global,
+    app: &[u8],
+    text: &str,
+    requests: &str,
+    whole: &str,
+) -> Result<&'static str> {
+    if !is_audited(rt, alloc, app, text.as_bytes())? {
+        return Ok("the audit says no");
+    }
+    let (_total, account) = end_of(text).context("no account")?;
+    if !is_account(account, requests).unwrap_or(false) {
+        return Ok("the account differs");
+    }
+    if !whole.is_empty() && text.trim_end() != whole.trim_end() {
+        return Ok("the text differs");
+    }
+    Ok("ok")
+}
+
+/// The texts of the two cores in an output.
+fn texts_of(output: &str) -> Option<(&str, &str)> {
+    let texts = output.strip_prefix("core 1\n")?;
+    texts.split_once("\ncore 2\n")
+}
+
+/// What is told of an output: `ok`, or what differs.
+fn pair_difference<R: Threads + Sync>(
+    rt: &R,
+    alloc: Global,
+    case: &Case,
+    ran: &Ran,
+) -> Result<&'static str> {
+    if ran.status != Status::Done {
+        return Ok("the exit status differs");
+    }
+    let output = std::str::from_utf8(ran.output()).ok().context("no text")?;
+    let Some((first, second)) = texts_of(output) else {
+        return Ok("there are no two cores");
+    };
+    let requests = case.text("first_requests").context("no requests")?;
+    let whole = case.text("first").context("no text")?;
+    let told = told_of_core(rt, alloc, case.bytes("app"), first, requests, whole)?;
+    if told != "ok" {
+        return Ok(told);
+    }
+    let requests = case.text("second_requests").context("no requests")?;
+    let whole = case.text("other").context("no text")?;
+    told_of_core(rt, alloc, case.bytes("second"), second, requests, whole)
+}
+
+/// What is told of a case: `ok`, or what differs. Its parts are the texts `app`, `second` and `third`, two applications
+/// and a script; perhaps the `step` of the first core at which a gate holds it; and what is wanted of each core:
+/// `first_requests` and `second_requests`, a line for each declared interrupt in order with the number of the other core's
+/// requests, and perhaps its whole text, `first` and `other`.
+pub fn verdict<R: Threads + Clock + Sync>(
+    rt: &R,
+    alloc: Global,
+    case: &Case,
+) -> Result<&'static str> {
+    let words = ["pair", "app", "second", "script"];
+    let outside = Outside::of_three(
+        alloc,
+        case.bytes("app"),
+        case.bytes("second"),
+        case.bytes("third"),
+    )?;
+    let Some(step) = case.number("step") else {
+        let ran = run_on(rt, alloc, &words, outside, &NoGate);
+        return pair_difference(rt, alloc, case, &ran);
+    };
+    let gate = Answers {
+        rt,
+        step: u64::from(step),
+        steps: AtomicU64::new(0),
+        requests: AtomicU64::new(0),
+        is_late: AtomicBool::new(false),
+    };
+    let ran = run_on(rt, alloc, &words, outside, &gate);
+    if gate.is_late.load(SeqCst) {
+        return Ok("a hold gave up");
+    }
+    pair_difference(rt, alloc, case, &ran)
+}

@@ -1,0 +1,22 @@
+// Baker's machine as an auditor follows it: the state that is kept of jobs, interrupts, values and time, what is known
+// beforehand of the application, and the moves from a state to the next.
+#![tactic(auto)]
+
+mod candidate;
+mod guards;
+mod idle;
+mod job;
+pub mod machine;
+mod moves;
+mod reset;
+mod served;
+mod shows;
+mod spending;
+mod starts;
+pub mod state;
+mod system_ceiling;
+pub mod tables;
+
+pub use machine::{Machine, Served};
+pub use state::State;
+pub use tables::Tables;

@@ -1,0 +1,12 @@
+use Rattle.std.proofs.Common.{ap}
+use Rattle.rt_baker_work.specs.Store.{Store, contents}
+use Rattle.rt_baker_work.proofs.store.Store.local.Goals as goal
+
+pub returns : goal.returns
+unfolding contents
+returns c = let e = ap (λ (s : Store). s.locals) c.self.view_is in cc (
+  e,
+  c.at.ensures,
+  c.deref.ensures.value,
+  c.from.ensures,
+)

@@ -1,0 +1,61 @@
+-- The order in which things happen to the core under `live`, and the interrupts that device threads pend. It is this
+-- project's own. A look is one latch of every word, from word 0 up; what it found is the list of the words that the
+-- latches answered, and the bits of these words arrive at the core, the lowest first. The core's own lines of the script
+-- happen in order, each core step behind a look; then comes one look alone, and then as many core steps again, each
+-- behind a look, so that what devices pended last is served too. The lists say what happened, wherever the program kept
+-- it: it latches word by word and writes each event's lines as it happens.
+use Rattle.std.specs.Prelude.{ℕ, zero, suc, List, [], ◌∷◌, ◌++◌, map, replicate}
+use Rattle.rt_ids.specs.Event.{Event, Arrive, Tick, Step, steps}
+use Rattle.rt_ids.specs.Arrivals.{arrivals}
+use Rattle.rt_script.specs.Script.{core_events}
+use Rattle.rt_script.specs.declared.line.Line.{Line}
+use Rattle.rt_words.specs.declared.call.Call.{Call}
+use Rattle.rt_words.specs.declared.call.Call.TheVariants.{Latch}
+
+-- one thing that is done on the core's side
+pub data Turn : Type 0 where
+  -- an event of the core; a core step comes behind a look
+  Happens : (event : Event) → Turn
+  -- a look without a core step
+  Looks : Turn
+
+-- what is done under a script
+abbrev pub turns : List Line → List Turn
+turns script = map Happens (core_events script) ++ Looks ∷ replicate (steps (core_events script)) (Happens Step)
+
+-- how many looks are among them
+abbrev pub looks : List Turn → ℕ
+looks [] = zero
+looks (Looks ∷ ts) = suc (looks ts)
+looks (Happens Step ∷ ts) = suc (looks ts)
+looks (Happens Tick ∷ ts) = looks ts
+looks (Happens (Arrive irq) ∷ ts) = looks ts
+
+-- the interrupts whose bits these words hold, the first of them being the word of this number
+abbrev pub arrivals_from : ℕ → List ℕ → List ℕ
+arrivals_from k [] = []
+arrivals_from k (word ∷ words) = arrivals k word ++ arrivals_from (suc k) words
+
+-- what arrives of a look that found these words
+abbrev pub look_arrivals : List ℕ → List Event
+look_arrivals words = map Arrive (arrivals_from 0 words)
+
+-- the calls of a look that found these words, from the word of this number on
+abbrev pub latches_from : ℕ → List ℕ → List Call
+latches_from k [] = []
+latches_from k (word ∷ words) = Latch k word ∷ latches_from (suc k) words
+
+-- the calls of a whole look that found these words, from word 0 up
+abbrev pub latches : List ℕ → List Call
+latches words = latches_from 0 words
+
+-- the events of these turns, whose looks found these words, one list of words for each look; a turn that wants a look
+-- that is not there ends them
+abbrev pub interleaving : List Turn → List (List ℕ) → List Event
+interleaving [] found = []
+interleaving (Happens Tick ∷ ts) found = Tick ∷ interleaving ts found
+interleaving (Happens (Arrive irq) ∷ ts) found = Arrive irq ∷ interleaving ts found
+interleaving (Happens Step ∷ ts) [] = []
+interleaving (Happens Step ∷ ts) (words ∷ found) = look_arrivals words ++ Step ∷ interleaving ts found
+interleaving (Looks ∷ ts) [] = []
+interleaving (Looks ∷ ts) (words ∷ found) = look_arrivals words ++ interleaving ts found

@@ -1,8 +1,0 @@
-use Rattle.rt_app.specs.View.{app_of}
-use Rattle.rt_top.proofs.Listed.{lists_by}
-use Rattle.rt_top.proofs.build.listed.Goals as goal
-
-pub returns : goal.returns
-returns c =
-    lists_by (app_of c.args.app.now) c.in_ok-image.image c.in_ok-image.ensures.image c.in_ok-image.ensures.runnable
-    c.listing.result (λ text. text.items) c.listing.ensures.text

@@ -1,7 +1,0 @@
-use Rattle.rt_work.proofs.Walks.{three_more}
-use Rattle.rt_work.proofs.statement.lock.Goals as goal
-
-pub returns : goal.returns
-returns c =
-    three_more c.args.work.now c.push.new.self c.push-2.new.self c.push-3.new.self _ _ _ c.in_ok-push.ensures
-    c.in_ok-push-2.ensures c.in_ok-push-3.ensures
