@@ -156,8 +156,8 @@ fn pair_difference<R: Threads + Sync>(
 
 /// What is told of a case: `ok`, or what differs. Its parts are the texts `app`, `second` and `third`, two applications
 /// and a script; perhaps the `step` of the first core at which a gate holds it; and what is wanted of each core:
-/// `first_requests` and `second_requests`, a line for each declared interrupt in order with the number of the other core's
-/// requests, and perhaps its whole text, `first` and `other`.
+/// `first_requests` and `second_requests`, a line for each declared interrupt in order with the number of the other
+/// core's requests, and perhaps its whole text, `first` and `other`.
 pub fn verdict<R: Threads + Clock + Sync>(
     rt: &R,
     alloc: Global,

@@ -1,10 +1,14 @@
 -- Costs and sizes are plain sums up to the cap.
-use Rattle.std.proofs.Common.{◌≡◌, ℕ, ◌+◌, ◌*◌, ◌<◌, ◌≤◌, ◌⊎◌, zero, suc, max, Bool, true, false, List, [], ◌∷◌, if◌then◌else◌, sym, ap, zero-mul, ⊎_elim, inl, inr, ◌∙◌, arith}
+use Rattle.std.proofs.Common.{◌≡◌, ℕ, ◌+◌, ◌*◌, ◌<◌, ◌≤◌, ◌⊎◌, zero, suc, max, Bool, true, false, List, [], ◌∷◌}
+use Rattle.std.proofs.Common.{if◌then◌else◌, sym, ap, zero-mul, ⊎_elim, inl, inr, ◌∙◌, arith}
 use Rattle.std.proofs.Math.Nat.{min-eq_left}
 use Rattle.std.proofs.lemmas.Bool.{cases_order}
-use Rattle.rt_app.specs.Tree.{Expression, Num, Read, Oper, Spawn, Soon, After, Cancel, Move, Value, Calc, Now, Call, Statement, Bind, Assign, Branch, Repeat, Locked, Emit, Pend, Spawns, Block, Empty, Then}
-use Rattle.rt_app.specs.Cost.{Measure, capped_cost, branch_cost, turns, expression_cost, expressions_cost, spawn_cost, bind_cost, statement_cost, block_cost}
-use Rattle.rt_app.specs.Steps.{expression_steps, expressions_steps, spawn_steps, bind_steps, statement_steps, block_steps, CapSteps}
+use Rattle.rt_app.specs.Tree.{Expression, Num, Read, Oper, Spawn, Soon, After, Cancel, Move, Value, Calc, Now, Call}
+use Rattle.rt_app.specs.Tree.{Statement, Bind, Assign, Branch, Repeat, Locked, Emit, Pend, Spawns, Block, Empty, Then}
+use Rattle.rt_app.specs.Cost.{Measure, capped_cost, branch_cost, turns, expression_cost, expressions_cost, spawn_cost}
+use Rattle.rt_app.specs.Cost.{bind_cost, statement_cost, block_cost}
+use Rattle.rt_app.specs.Steps.{expression_steps, expressions_steps, spawn_steps, bind_steps, statement_steps}
+use Rattle.rt_app.specs.Steps.{block_steps, CapSteps}
 
 capped_expression : (e : Expression) → expression_cost e ≡ capped_cost (expression_steps e)
 capped_expression (Num n) = omega arith
@@ -18,7 +22,8 @@ capped_expressions (e ∷ es) = omega (arith, capped_expression e, capped_expres
 -- turns of a capped block pass the cap where those of the block do
 capped_turns : (t s : ℕ) → capped_cost (4 + t * (capped_cost s + 6)) ≡ capped_cost (4 + t * (s + 6))
 capped_turns zero s = ap (λ n. capped_cost (4 + n)) (zero-mul (capped_cost s + 6) ∙ sym (zero-mul (s + 6)))
-capped_turns (suc k) s = ⊎_elim (λ h. ap (λ n. capped_cost (4 + suc k * (n + 6))) (min-eq_left h)) many (either (cases_order s 1000001))
+capped_turns (suc k) s = ⊎_elim (λ h. ap (λ n. capped_cost (4 + suc k * (n + 6))) (min-eq_left h)) many
+    (either (cases_order s 1000001))
   where
     either : (s ≡ 1000001) ⊎ ((s < 1000001) ⊎ (1000001 < s)) → (s ≤ 1000001) ⊎ (1000001 < s)
     either (inl same) = inl (omega arith)
@@ -31,10 +36,13 @@ capped_turns (suc k) s = ⊎_elim (λ h. ap (λ n. capped_cost (4 + suc k * (n +
     many : 1000001 < s → capped_cost (4 + suc k * (capped_cost s + 6)) ≡ capped_cost (4 + suc k * (s + 6))
     many more = omega (arith, grows (capped_cost s + 6), grows (s + 6))
 
-capped_branch : (m : Measure) (a b e : ℕ) → capped_cost (e + 2 + branch_cost m (capped_cost a) (capped_cost b)) ≡ capped_cost (e + 2 + branch_cost m a b)
+capped_branch : (m : Measure) (a b e : ℕ) → capped_cost (e + 2 + branch_cost m (capped_cost a) (capped_cost b))
+    ≡ capped_cost (e + 2 + branch_cost m a b)
 capped_branch m a b e = one m.is_size
   where
-    one : (is_size : Bool) → capped_cost (e + 2 + (if is_size then capped_cost a + capped_cost b else max (capped_cost a) (capped_cost b))) ≡ capped_cost (e + 2 + (if is_size then a + b else max a b))
+    one : (is_size : Bool) → capped_cost (e + 2 + (if is_size then capped_cost a
+        + capped_cost b else max (capped_cost a) (capped_cost b))) ≡ capped_cost
+        (e + 2 + (if is_size then a + b else max a b))
     one true = omega arith
     one false = omega arith
 
@@ -55,11 +63,13 @@ module _ (m : Measure) where
     capped_statement (Bind x v) = capped_bind v
     capped_statement (Assign x e at) = omega (arith, capped_expression e)
     capped_statement (Branch e first second) =
-        ap (λ n. capped_cost (expression_cost e + 2 + n)) (λ i. branch_cost m (capped_block first i) (capped_block second i))
+        ap (λ n. capped_cost (expression_cost e + 2 + n))
+        (λ i. branch_cost m (capped_block first i) (capped_block second i))
         ∙ capped_branch m (block_steps m first) (block_steps m second) (expression_cost e)
         ∙ omega (arith, capped_expression e)
     capped_statement (Repeat x first last turn) =
-        ap (λ n. capped_cost (4 + turns m first last * (n + 6))) (capped_block turn) ∙ capped_turns (turns m first last) (block_steps m turn)
+        ap (λ n. capped_cost (4 + turns m first last * (n + 6))) (capped_block turn)
+        ∙ capped_turns (turns m first last) (block_steps m turn)
     capped_statement (Locked r inner at) = omega (arith, capped_block inner)
     capped_statement (Emit e) = omega (arith, capped_expression e)
     capped_statement (Pend i) = omega arith
@@ -70,4 +80,10 @@ module _ (m : Measure) where
     capped_block (Then s rest) = omega (arith, capped_statement s, capped_block rest)
 
 pub cap_steps : CapSteps
-cap_steps = record { expressions = capped_expression; spawns = capped_spawn; statements = capped_statement; blocks = capped_block }
+cap_steps = record {
+  expressions = capped_expression;
+  spawns = capped_spawn;
+  statements = capped_statement;
+  blocks =
+      capped_block;
+}

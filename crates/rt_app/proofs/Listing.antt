@@ -8,11 +8,13 @@ use Rattle.rt_app.specs.Ceiling.{lists}
 use Rattle.rt_app.specs.Statements.{is_lockable}
 
 -- one that is found is there
-any_found : {A : Type 0} (test also : A → Bool) (xs : List A) → is_some_and also (find test xs) ≡ true → list_any test xs ≡ true
+any_found : {A : Type 0} (test also : A → Bool) (xs : List A) → is_some_and also (find test xs) ≡ true
+    → list_any test xs ≡ true
 any_found test also [] is = absurd (cc)
 any_found test also (x ∷ xs) is = go (test x) refl (any_found test also xs) is
   where
-    go : (b : Bool) → test x ≡ b → (is_some_and also (find test xs) ≡ true → list_any test xs ≡ true) → is_some_and also (if b then Some x else find test xs) ≡ true → (b || list_any test xs) ≡ true
+    go : (b : Bool) → test x ≡ b → (is_some_and also (find test xs) ≡ true → list_any test xs ≡ true)
+        → is_some_and also (if b then Some x else find test xs) ≡ true → (b || list_any test xs) ≡ true
     go true e others found = refl
     go false e others found = others found
 

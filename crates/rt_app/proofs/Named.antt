@@ -29,10 +29,13 @@ module _ (app : App) where
 
   -- shared resources differ, since all resources do
   pub shared_differ : HasNames (app_of app) → AreDifferent (map (λ (r : Shared). r.name) app.shared.items)
-  shared_differ has = different_front (map (λ r. r.name) app.shared.items) (map (λ r. r.name) app.locals.items) has.resources_differ
+  shared_differ has = different_front (map (λ r. r.name) app.shared.items) (map (λ r. r.name) app.locals.items)
+      has.resources_differ
 
-  pub named_by : (irqs : List (List ℕ × ℕ)) (tasks shared : List (List ℕ)) → irqs ≡ map (λ d. (d.name, d.number)) app.irqs.items → tasks ≡ task_names
-      → shared ≡ map (λ r. r.name) app.shared.items → ◌≡◌ {A = Names} (record { irqs = irqs; tasks = tasks; shared = shared }) (names_of (app_of app))
+  pub named_by : (irqs : List (List ℕ × ℕ)) (tasks shared : List (List ℕ)) → irqs
+      ≡ map (λ d. (d.name, d.number)) app.irqs.items → tasks ≡ task_names
+      → shared ≡ map (λ r. r.name) app.shared.items → ◌≡◌ {A = Names}
+      (record { irqs = irqs; tasks = tasks; shared = shared }) (names_of (app_of app))
   named_by irqs tasks shared p q r =
       let all = q ∙ viewed in
       λ i. record { irqs = p i; tasks = all i; shared = r i }

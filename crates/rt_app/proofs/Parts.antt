@@ -4,7 +4,8 @@ use Rattle.rt_lemmas.proofs.Lists.{append_none_left, append_none_right}
 use Rattle.rt_app.specs.declared.violation.Violation.{Violation}
 use Rattle.rt_app.specs.Tree.{App}
 use Rattle.rt_app.specs.Bodies.{members}
-use Rattle.rt_app.specs.Declarations.{mono_priority, task_priority, priorities, used_twice, interrupt_uses, number_uses, interrupts, dispatchers, owned_twice, hardware_tasks, declarations}
+use Rattle.rt_app.specs.Declarations.{mono_priority, task_priority, priorities, used_twice, interrupt_uses, number_uses}
+use Rattle.rt_app.specs.Declarations.{interrupts, dispatchers, owned_twice, hardware_tasks, declarations}
 use Rattle.rt_app.specs.Listing.{listings_breaks}
 use Rattle.rt_app.specs.Statements.{statements}
 use Rattle.rt_app.specs.Length.{lengths}

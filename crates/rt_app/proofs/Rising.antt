@@ -1,5 +1,6 @@
 -- Levels rise, and each has a dispatcher of its own.
-use Rattle.std.proofs.Common.{◌≡◌, ℕ, zero, suc, ◌+◌, ◌<◌, ◌≤◌, Bool, true, false, List, [], ◌∷◌, ◌++◌, length, filter, Contains, refl, sym, ap, subst, ◌∙◌, inl, inr, arith, if◌then◌else◌, append-nil}
+use Rattle.std.proofs.Common.{◌≡◌, ℕ, zero, suc, ◌+◌, ◌<◌, ◌≤◌, Bool, true, false, List, [], ◌∷◌, ◌++◌, length, filter}
+use Rattle.std.proofs.Common.{Contains, refl, sym, ap, subst, ◌∙◌, inl, inr, arith, if◌then◌else◌, append-nil}
 use Rattle.std.specs.Prelude.{nat_lt}
 use Rattle.std.specs.List.{AllByRecursion}
 use Rattle.std.proofs.lemmas.Bool.{lt-ltb, le-ltb, ltb-true, ltb-false}
@@ -13,24 +14,31 @@ IsRising (x ∷ xs) = AllByRecursion (λ y. x < y) xs × IsRising xs
 
 rising_push : (xs : List ℕ) (n : ℕ) → IsRising xs → AllByRecursion (λ x. x < n) xs → IsRising (xs ++ n ∷ [])
 rising_push [] n rising below = (tt, tt)
-rising_push (x ∷ xs) n rising below = (all_append (λ y. x < y) xs (n ∷ []) rising.0 (below.0, tt), rising_push xs n rising.1 below.1)
+rising_push (x ∷ xs) n rising below = (
+  all_append (λ y. x < y) xs (n ∷ []) rising.0 (below.0, tt),
+  rising_push xs n rising.1 below.1,
+)
 
-one_more : (xs : List ℕ) (n : ℕ) (b : Bool) → IsRising xs → AllByRecursion (λ x. x < n) xs → IsRising (xs ++ (if b then n ∷ [] else []))
+one_more : (xs : List ℕ) (n : ℕ) (b : Bool) → IsRising xs → AllByRecursion (λ x. x < n) xs
+    → IsRising (xs ++ (if b then n ∷ [] else []))
 one_more xs n true rising below = rising_push xs n rising below
 one_more xs n false rising below = subst IsRising (sym (append-nil xs)) rising
 
 pub those_rise : (test : ℕ → Bool) (n : ℕ) → IsRising (those_below test n)
 unfolding those_below
 those_rise test zero = tt
-those_rise test (suc n) = one_more (those_below test n) n (test n) (those_rise test n) (those_all (λ p. p < n) test n (λ p below is. below))
+those_rise test (suc n) = one_more (those_below test n) n (test n) (those_rise test n)
+    (those_all (λ p. p < n) test n (λ p below is. below))
 
 -- how many are greater than a number
 abbrev pub above : ℕ → List ℕ → ℕ
 above p xs = length (filter (nat_lt p) xs)
 
 one_above : (p x : ℕ) (xs : List ℕ) (b : Bool) → nat_lt p x ≡ b → above p (x ∷ xs) ≡ (if b then 1 else 0) + above p xs
-one_above p x xs true is = ap (λ b. length (if b then x ∷ filter (nat_lt p) xs else filter (nat_lt p) xs)) is ∙ omega arith
-one_above p x xs false is = ap (λ b. length (if b then x ∷ filter (nat_lt p) xs else filter (nat_lt p) xs)) is ∙ omega arith
+one_above p x xs true is = ap (λ b. length (if b then x ∷ filter (nat_lt p) xs else filter (nat_lt p) xs)) is
+    ∙ omega arith
+one_above p x xs false is = ap (λ b. length (if b then x ∷ filter (nat_lt p) xs else filter (nat_lt p) xs)) is
+    ∙ omega arith
 
 pub fewer_above : (p q : ℕ) (xs : List ℕ) → p ≤ q → above q xs ≤ above p xs
 fewer_above p q [] less = omega arith
@@ -46,7 +54,13 @@ fewer_above p q (x ∷ xs) less = go (nat_lt q x) (nat_lt p x) refl refl (fewer_
 pub more_above : (p q : ℕ) (xs : List ℕ) → p < q → Contains xs q → above q xs < above p xs
 more_above p q [] less is = absurd (contains_none q is)
 more_above p q (x ∷ xs) less is = elim (contains_cases x xs q is) [
-  | inl same ↦ (let rest = fewer_above p q xs (omega arith) in omega (arith, rest, one_above q x xs false (le-ltb q x (omega arith)), one_above p x xs true (lt-ltb p x (omega arith))))
+  | inl same ↦ (let rest = fewer_above p q xs (omega arith) in
+      omega (
+        arith,
+        rest,
+        one_above q x xs false (le-ltb q x (omega arith)),
+        one_above p x xs true (lt-ltb p x (omega arith)),
+      ))
   | inr behind ↦ go (nat_lt q x) (nat_lt p x) refl refl (more_above p q xs less behind)
 ]
   where

@@ -1,4 +1,5 @@
--- Short forms for the worked examples: a rest that plays by itself, values after reset, and parts of applications. Offsets are 0.
+-- Short forms for the worked examples: a rest that plays by itself, values after reset, and parts of applications.
+-- Offsets are 0.
 use Rattle.std.proofs.Common.{ℕ, true, false, List, [], ◌∷◌, map, Some, None, slice_get}
 use Rattle.rt_ids.specs.Lists.{or_zero}
 use Rattle.rt_ids.specs.Holder.{Guarded, Own}
@@ -25,7 +26,8 @@ alone time (does action values next) = action ∷ alone time (next (answer time 
 -- and the values behind its last action
 abbrev pub left : ℕ → Doing Values → Values → Values
 left time over values = values
-left time (does action before next) values = left time (next (answer time action) (effect action before)) (effect action before)
+left time (does action before next) values = left time (next (answer time action) (effect action before))
+    (effect action before)
 
 -- values after reset, where the shared resources have these: all places are free, and no message is ready or armed
 abbrev pub at_reset : List ℕ → Values
@@ -49,9 +51,15 @@ abbrev pub shared : List ℕ → ℕ → Shared
 shared name first = record { name = name; first = first; lock_free = false }
 
 abbrev pub body_listing : List ℕ → Block → Body
-body_listing resources block = record { shared = map (λ r. record { resource = r; by_ref = false; at = 0 }) resources; local = []; block = block; at = 0 }
+body_listing resources block = record {
+  shared = map (λ r. record { resource = r; by_ref = false; at = 0 }) resources;
+  local = [];
+  block = block;
+  at = 0;
+}
 
--- a hardware task that binds an interrupt at a priority, and a software task of a level with a capacity and so many arguments
+-- a hardware task that binds an interrupt at a priority, and a software task of a level with a capacity and so many
+-- arguments
 abbrev pub hardware : List ℕ → ℕ → ℕ → Body → Task
 hardware name i priority body = record {
   name = name;

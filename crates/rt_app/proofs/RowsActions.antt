@@ -8,7 +8,8 @@ use Rattle.rt_ids.specs.declared.ids.Section.TheVariants as section
 use Rattle.rt_app.specs.Tree.{Oper, Num, Locked, Emit, Pend, Then, App}
 use Rattle.rt_app.specs.Handlers.{Runs}
 use Rattle.rt_app.specs.Doings.{handler_doing}
-use Rattle.rt_app.proofs.RowParts.{alone, left, at_reset, irq, shared, body_listing, hardware, last, resource, set_resource}
+use Rattle.rt_app.proofs.RowParts.{alone, left, at_reset, irq, shared, body_listing, hardware, last, resource}
+use Rattle.rt_app.proofs.RowParts.{set_resource}
 
 -- interrupts { A = 0 }  shared { s = 5 }
 -- task a(binds = A, priority = 2, shared = [s]) { lock s { s = s + 1; } }
@@ -23,16 +24,19 @@ own = record {
   locals = [];
   init = None;
   idle = None;
-  tasks = hardware (codes "a") 0 2 (body_listing (0 ∷ []) (last (Locked 0 (last (set_resource 0 (Oper op.Add (resource 0) (Num 1)))) 0))) ∷ [];
+  tasks = hardware (codes "a") 0 2 (body_listing (0 ∷ [])
+      (last (Locked 0 (last (set_resource 0 (Oper op.Add (resource 0) (Num 1)))) 0))) ∷ [];
   name_at = 0;
 }
 
 -- A lock is entered and left, and takes 6 core steps: 2 and those of the assignment, which are 1, 1, 1 and 1.
-one_lock : alone 0 (handler_doing own (Runs 0) (at_reset (5 ∷ []))) ≡ Enters (section.Res 0) 6 ∷ Leaves (section.Res 0) ∷ Returns ∷ []
+one_lock : alone 0 (handler_doing own (Runs 0) (at_reset (5 ∷ []))) ≡ Enters (section.Res 0) 6 ∷ Leaves (section.Res 0)
+    ∷ Returns ∷ []
 unfolding own
 one_lock = refl
 
-one_lock_adds : left 0 (handler_doing own (Runs 0) (at_reset (5 ∷ []))) (at_reset (5 ∷ [])) (Guarded (section.Res 0)) ≡ Number 6
+one_lock_adds : left 0 (handler_doing own (Runs 0) (at_reset (5 ∷ []))) (at_reset (5 ∷ [])) (Guarded (section.Res 0))
+    ≡ Number 6
 unfolding own
 one_lock_adds = refl
 
@@ -51,7 +55,8 @@ top = record {
   init = None;
   idle = None;
   tasks = hardware (codes "lo") 0 1 (body_listing (0 ∷ [])
-      (Then (Locked 0 (Then (set_resource 0 (Num 1)) (Then (Pend 1) (last (set_resource 0 (Num 2))))) 0) (last (Emit (Num 9)))))
+      (Then (Locked 0 (Then (set_resource 0 (Num 1)) (Then (Pend 1) (last (set_resource 0 (Num 2))))) 0)
+      (last (Emit (Num 9)))))
       ∷ hardware (codes "hi") 1 8 (body_listing (0 ∷ []) (last (Locked 0 (last (Emit (resource 0))) 0)))
       ∷ [];
   name_at = 0;
@@ -64,7 +69,8 @@ unfolding top
 pend_in_a_lock = refl
 
 -- which emits what the lock has left
-reads_behind_the_lock : alone 0 (handler_doing top (Runs 1) (left 0 (handler_doing top (Runs 0) (at_reset (0 ∷ []))) (at_reset (0 ∷ []))))
+reads_behind_the_lock : alone 0 (handler_doing top (Runs 1)
+    (left 0 (handler_doing top (Runs 0) (at_reset (0 ∷ []))) (at_reset (0 ∷ []))))
     ≡ Enters (section.Res 0) 4 ∷ Emits 2 ∷ Leaves (section.Res 0) ∷ Returns ∷ []
 unfolding top
 reads_behind_the_lock = refl
@@ -85,7 +91,8 @@ nest = record {
   init = None;
   idle = None;
   tasks = hardware (codes "l") 0 1 (body_listing (0 ∷ 1 ∷ [])
-      (last (Locked 0 (Then (Locked 1 (last (set_resource 1 (Num 1))) 0) (Then (Pend 2) (last (set_resource 0 (Num 1))))) 0)))
+      (last (Locked 0 (Then (Locked 1 (last (set_resource 1 (Num 1))) 0)
+      (Then (Pend 2) (last (set_resource 0 (Num 1))))) 0)))
       ∷ hardware (codes "m") 1 2 (body_listing (0 ∷ []) (last (Locked 0 (last (Emit (resource 0))) 0)))
       ∷ hardware (codes "h") 2 3 (body_listing (1 ∷ []) (last (Locked 1 (last (Emit (resource 1))) 0)))
       ∷ [];
@@ -94,15 +101,18 @@ nest = record {
 
 -- the outer lock takes 9 core steps, the inner one 4 of them
 nested_locks : alone 0 (handler_doing nest (Runs 0) (at_reset (0 ∷ 0 ∷ [])))
-    ≡ Enters (section.Res 0) 9 ∷ Enters (section.Res 1) 4 ∷ Leaves (section.Res 1) ∷ Posts 2 ∷ Leaves (section.Res 0) ∷ Returns ∷ []
+    ≡ Enters (section.Res 0) 9 ∷ Enters (section.Res 1) 4 ∷ Leaves (section.Res 1) ∷ Posts 2 ∷ Leaves (section.Res 0)
+    ∷ Returns ∷ []
 unfolding nest
 nested_locks = refl
 
-middle_body : alone 0 (handler_doing nest (Runs 1) (at_reset (0 ∷ 0 ∷ []))) ≡ Enters (section.Res 0) 4 ∷ Emits 0 ∷ Leaves (section.Res 0) ∷ Returns ∷ []
+middle_body : alone 0 (handler_doing nest (Runs 1) (at_reset (0 ∷ 0 ∷ []))) ≡ Enters (section.Res 0) 4 ∷ Emits 0
+    ∷ Leaves (section.Res 0) ∷ Returns ∷ []
 unfolding nest
 middle_body = refl
 
-higher_body : alone 0 (handler_doing nest (Runs 2) (left 0 (handler_doing nest (Runs 0) (at_reset (0 ∷ 0 ∷ []))) (at_reset (0 ∷ 0 ∷ []))))
+higher_body : alone 0 (handler_doing nest (Runs 2) (left 0 (handler_doing nest (Runs 0) (at_reset (0 ∷ 0 ∷ [])))
+    (at_reset (0 ∷ 0 ∷ []))))
     ≡ Enters (section.Res 1) 4 ∷ Emits 1 ∷ Leaves (section.Res 1) ∷ Returns ∷ []
 unfolding nest
 higher_body = refl

@@ -40,7 +40,8 @@ cells_by_region : (layout laid).cells
     ≡ cell (codes "s") 5
     ∷ cell (codes "local.n") 7
     ∷ cell (codes "free.t.count") 2 ∷ cell (codes "free.t.0") 0 ∷ cell (codes "free.t.1") 1
-    ∷ cell (codes "input.t.0.0") 0 ∷ cell (codes "input.t.0.1") 0 ∷ cell (codes "input.t.1.0") 0 ∷ cell (codes "input.t.1.1") 0
+    ∷ cell (codes "input.t.0.0") 0 ∷ cell (codes "input.t.0.1") 0 ∷ cell (codes "input.t.1.0") 0
+    ∷ cell (codes "input.t.1.1") 0
     ∷ cell (codes "free.u.count") 1 ∷ cell (codes "free.u.0") 0
     ∷ cell (codes "free.v.count") 1 ∷ cell (codes "free.v.0") 0
     ∷ cell (codes "input.v.0.0") 0

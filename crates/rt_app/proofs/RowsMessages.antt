@@ -1,7 +1,9 @@
--- Worked examples: what bodies and handlers come to is what a person worked out from the language's rules. Messages of software tasks.
+-- Worked examples: what bodies and handlers come to is what a person worked out from the language's rules. Messages of
+-- software tasks.
 use Rattle.std.proofs.Common.{◌≡◌, false, [], ◌∷◌, refl, codes, Some, None}
 use Rattle.rt_ids.specs.Content.{Values}
-use Rattle.rt_ids.specs.Action.{Enters, Leaves, Emits, Posts, Clocks, Places, FindsFull, Readies, Starts, Frees, Arms, Fires, SetsAlarm, Ends, Returns}
+use Rattle.rt_ids.specs.Action.{Enters, Leaves, Emits, Posts, Clocks, Places, FindsFull, Readies, Starts, Frees, Arms}
+use Rattle.rt_ids.specs.Action.{Fires, SetsAlarm, Ends, Returns}
 use Rattle.rt_ids.specs.Lists.{those_below}
 use Rattle.rt_ids.specs.declared.op.Op.TheVariants as op
 use Rattle.rt_ids.specs.declared.ids.BodyId.TheVariants as body
@@ -9,7 +11,8 @@ use Rattle.rt_ids.specs.declared.ids.Section.TheVariants as section
 use Rattle.rt_app.specs.Tree.{Oper, Num, Branch, Emit, Spawns, Soon, After, Empty, Then, App}
 use Rattle.rt_app.specs.Handlers.{Runs, Dispatches, Times}
 use Rattle.rt_app.specs.Doings.{handler_doing}
-use Rattle.rt_app.proofs.RowParts.{alone, left, at_reset, message, irq, dispatcher, body_listing, hardware, software, last, argument}
+use Rattle.rt_app.proofs.RowParts.{alone, left, at_reset, message, irq, dispatcher, body_listing, hardware, software}
+use Rattle.rt_app.proofs.RowParts.{last, argument}
 
 -- app cap(bits = 4, dispatchers = [D])  interrupts { A = 0, D = 1 }
 -- task a(binds = A, priority = 2) { spawn t(1); spawn t(2); spawn t(3); }
@@ -26,9 +29,11 @@ cap = record {
   init = None;
   idle = None;
   tasks = hardware (codes "a") 0 2 (body_listing []
-      (Then (Spawns (Soon 1 (Num 1 ∷ []) 0)) (Then (Spawns (Soon 1 (Num 2 ∷ []) 0)) (last (Spawns (Soon 1 (Num 3 ∷ []) 0))))))
+      (Then (Spawns (Soon 1 (Num 1 ∷ []) 0)) (Then (Spawns (Soon 1 (Num 2 ∷ []) 0))
+      (last (Spawns (Soon 1 (Num 3 ∷ []) 0))))))
       ∷ software (codes "t") 1 2 1 (body_listing []
-      (Then (Emit argument) (last (Branch (Oper op.Eq argument (Num 1)) (last (Spawns (Soon 1 (Num 4 ∷ []) 0))) Empty))))
+      (Then (Emit argument) (last (Branch (Oper op.Eq argument (Num 1)) (last (Spawns (Soon 1 (Num 4 ∷ []) 0)))
+      Empty))))
       ∷ [];
   name_at = 0;
 }
@@ -56,8 +61,8 @@ after_second = left 0 (handler_doing cap (Dispatches 1) after_first) after_first
 after_third : Values
 after_third = left 0 (handler_doing cap (Dispatches 1) after_second) after_second
 
--- The dispatcher starts the oldest message, and pends itself since one more is ready. The place is free again before the body runs,
--- so the spawn in the body is granted.
+-- The dispatcher starts the oldest message, and pends itself since one more is ready. The place is free again before
+-- the body runs, so the spawn in the body is granted.
 first_message : alone 0 (handler_doing cap (Dispatches 1) after_task)
     ≡ Enters (section.Ready 1) 56 ∷ Starts 1 (message 1 1) ∷ Posts 1 ∷ Leaves (section.Ready 1)
     ∷ Enters (section.Free 1) 48 ∷ Frees 1 ∷ Leaves (section.Free 1)
@@ -83,7 +88,8 @@ third_message : alone 0 (handler_doing cap (Dispatches 1) after_second)
 unfolding cap after_task after_first after_second those_below
 third_message = refl
 
-no_message : alone 0 (handler_doing cap (Dispatches 1) after_third) ≡ Enters (section.Ready 1) 56 ∷ Leaves (section.Ready 1) ∷ Returns ∷ []
+no_message : alone 0 (handler_doing cap (Dispatches 1) after_third) ≡ Enters (section.Ready 1) 56
+    ∷ Leaves (section.Ready 1) ∷ Returns ∷ []
 unfolding cap after_task after_first after_second after_third those_below
 no_message = refl
 
@@ -102,14 +108,15 @@ timed = record {
   init = None;
   idle = None;
   tasks = hardware (codes "a") 0 1 (body_listing []
-      (Then (Spawns (After 0 (Num 2) 1 (Num 1 ∷ []) 0)) (Then (Spawns (After 0 (Num 2) 1 (Num 2 ∷ []) 0)) (last (Spawns (After 0 (Num 0) 1 (Num 3 ∷ []) 0))))))
+      (Then (Spawns (After 0 (Num 2) 1 (Num 1 ∷ []) 0)) (Then (Spawns (After 0 (Num 2) 1 (Num 2 ∷ []) 0))
+      (last (Spawns (After 0 (Num 0) 1 (Num 3 ∷ []) 0))))))
       ∷ software (codes "t") 2 3 1 (body_listing [] (last (Emit argument)))
       ∷ [];
   name_at = 0;
 }
 
--- Each message is armed for its instant, and the alarm is set each time. A section of the timer queue takes 80 core steps and 48 for
--- each of the 3 messages that may be armed.
+-- Each message is armed for its instant, and the alarm is set each time. A section of the timer queue takes 80 core
+-- steps and 48 for each of the 3 messages that may be armed.
 three_armed : alone 0 (handler_doing timed (Runs 0) (at_reset []))
     ≡ Enters (section.Free 1) 48 ∷ Places 1 ∷ Leaves (section.Free 1)
     ∷ Enters section.Timer 224 ∷ Clocks ∷ Arms 2 (message 1 1) ∷ SetsAlarm ∷ Leaves section.Timer
@@ -155,7 +162,8 @@ unfolding timed armed fired_one those_below
 starts_the_least = refl
 
 -- then nothing is due before the time 2
-nothing_due : alone 1 (handler_doing timed Times started_one) ≡ Enters section.Timer 224 ∷ Clocks ∷ SetsAlarm ∷ Leaves section.Timer ∷ Returns ∷ []
+nothing_due : alone 1 (handler_doing timed Times started_one) ≡ Enters section.Timer 224 ∷ Clocks ∷ SetsAlarm
+    ∷ Leaves section.Timer ∷ Returns ∷ []
 unfolding timed armed fired_one started_one those_below
 nothing_due = refl
 

@@ -21,15 +21,20 @@ use Rattle.rt_app.proofs.SoundStack.{small, pairs}
 use Rattle.rt_app.proofs.SoundNames.{are_names}
 
 -- a hardware task has no arguments, else it would break the rule on what is a software task's
-hardware_alone : (ts : List Task) → flat_map (λ t. when (is_mixed t) rule.NotSoftware t.at) ts ≡ [] → AllByRecursion (λ t. is_software t ≡ false → t.args ≡ 0) ts
+hardware_alone : (ts : List Task) → flat_map (λ t. when (is_mixed t) rule.NotSoftware t.at) ts ≡ []
+    → AllByRecursion (λ t. is_software t ≡ false → t.args ≡ 0) ts
 hardware_alone [] fine = tt
 hardware_alone (t ∷ ts) fine =
-    let own = append_none_left (when (is_mixed t) rule.NotSoftware t.at) (flat_map (λ t. when (is_mixed t) rule.NotSoftware t.at) ts) fine in (
-      λ bound. takes_none (is_software t) t.has_capacity t.args bound (not_broken (is_mixed t) rule.NotSoftware t.at own),
-      hardware_alone ts (append_none_right (when (is_mixed t) rule.NotSoftware t.at) (flat_map (λ t. when (is_mixed t) rule.NotSoftware t.at) ts) fine),
+    let own = append_none_left (when (is_mixed t) rule.NotSoftware t.at)
+    (flat_map (λ t. when (is_mixed t) rule.NotSoftware t.at) ts) fine in (
+      λ bound. takes_none (is_software t) t.has_capacity t.args bound
+          (not_broken (is_mixed t) rule.NotSoftware t.at own),
+      hardware_alone ts (append_none_right (when (is_mixed t) rule.NotSoftware t.at)
+          (flat_map (λ t. when (is_mixed t) rule.NotSoftware t.at) ts) fine),
     )
   where
-    takes_none : (software capacity : Bool) (args : ℕ) → software ≡ false → (not software && (capacity || nat_lt 0 args)) ≡ false → args ≡ 0
+    takes_none : (software capacity : Bool) (args : ℕ) → software ≡ false
+        → (not software && (capacity || nat_lt 0 args)) ≡ false → args ≡ 0
     takes_none true capacity args bound fine = absurd cc
     takes_none false true args bound fine = absurd cc
     takes_none false false args bound fine = let few : args ≤ 0 = ltb-false 0 args fine in omega arith

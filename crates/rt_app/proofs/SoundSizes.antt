@@ -1,5 +1,6 @@
 -- The bodies of an accepted application are short, and so is all its code.
-use Rattle.std.proofs.Common.{◌≡◌, ℕ, zero, suc, ◌+◌, ◌≤◌, Bool, false, List, [], ◌∷◌, ◌++◌, Option, Some, None, sum_by, refl, ap, arith}
+use Rattle.std.proofs.Common.{◌≡◌, ℕ, zero, suc, ◌+◌, ◌≤◌, Bool, false, List, [], ◌∷◌, ◌++◌, Option, Some, None, sum_by}
+use Rattle.std.proofs.Common.{refl, ap, arith}
 use Rattle.std.specs.Prelude.{nat_lt, ◌||◌}
 use Rattle.std.specs.List.{AllByRecursion, list_any}
 use Rattle.std.proofs.lemmas.Bool.{ltb-false}
@@ -41,22 +42,34 @@ module _ (app : App) where
 
   module _ (before : ℕ) (m : Member) (ms : List Member) (fine : too_long app before (m ∷ ms) ≡ []) where
     unbroken : is_broken before m ≡ false
-    unbroken = not_broken (is_broken before m) rule.TooLongBody m.body.at (append_none_left (when (is_broken before m) rule.TooLongBody m.body.at) (too_long app (before + size_of m) ms) fine)
+    unbroken = not_broken (is_broken before m) rule.TooLongBody m.body.at
+        (append_none_left (when (is_broken before m) rule.TooLongBody m.body.at) (too_long app (before + size_of m) ms)
+        fine)
 
     short : body_cost (cost_measure app) m.body ≤ BODY_COST
-    short = ltb-false BODY_COST (body_cost (cost_measure app) m.body) (left_of_none (nat_lt BODY_COST (body_cost (cost_measure app) m.body)) (nat_lt CODE_SIZE (before + size_of m)) unbroken)
+    short = ltb-false BODY_COST (body_cost (cost_measure app) m.body)
+        (left_of_none (nat_lt BODY_COST (body_cost (cost_measure app) m.body)) (nat_lt CODE_SIZE (before + size_of m))
+        unbroken)
 
     small : before + size_of m ≤ CODE_SIZE
-    small = ltb-false CODE_SIZE (before + size_of m) (right_of_none (nat_lt BODY_COST (body_cost (cost_measure app) m.body)) (nat_lt CODE_SIZE (before + size_of m)) unbroken)
+    small = ltb-false CODE_SIZE (before + size_of m)
+        (right_of_none (nat_lt BODY_COST (body_cost (cost_measure app) m.body)) (nat_lt CODE_SIZE (before + size_of m))
+        unbroken)
 
     others : too_long app (before + size_of m) ms ≡ []
-    others = append_none_right (when (is_broken before m) rule.TooLongBody m.body.at) (too_long app (before + size_of m) ms) fine
+    others = append_none_right (when (is_broken before m) rule.TooLongBody m.body.at)
+        (too_long app (before + size_of m) ms) fine
 
-  steps_kept : (before : ℕ) (ms : List Member) → too_long app before ms ≡ [] → AllByRecursion (λ m. block_steps (cost_measure app) m.body.block + 1 ≤ BODY_COST) ms
+  steps_kept : (before : ℕ) (ms : List Member) → too_long app before ms ≡ []
+      → AllByRecursion (λ m. block_steps (cost_measure app) m.body.block + 1 ≤ BODY_COST) ms
   steps_kept before [] fine = tt
-  steps_kept before (m ∷ ms) fine = (omega (arith, short before m ms fine, cap_steps.blocks (cost_measure app) m.body.block), steps_kept (before + size_of m) ms (others before m ms fine))
+  steps_kept before (m ∷ ms) fine = (
+    omega (arith, short before m ms fine, cap_steps.blocks (cost_measure app) m.body.block),
+    steps_kept (before + size_of m) ms (others before m ms fine),
+  )
 
-  size_kept : (before : ℕ) (ms : List Member) → too_long app before ms ≡ [] → (ms ≡ [] → before ≤ CODE_SIZE) → before + sum_by size_of ms ≤ CODE_SIZE
+  size_kept : (before : ℕ) (ms : List Member) → too_long app before ms ≡ [] → (ms ≡ [] → before ≤ CODE_SIZE) → before
+      + sum_by size_of ms ≤ CODE_SIZE
   size_kept before [] fine empty = let some = empty refl in omega arith
   size_kept before (m ∷ ms) fine empty =
       let rest = size_kept (before + size_of m) ms (others before m ms fine) (λ _. small before m ms fine) in
@@ -65,17 +78,20 @@ module _ (app : App) where
   -- an application without bodies has no code but that of the thread and of the timer handler
   bare_size : app.tasks ≡ [] → shared_size app ≤ CODE_SIZE
   bare_size none =
-      let no_levels : levels app ≡ [] = those_none (λ p. list_any (is_of_level p) app.tasks) (λ p. ap (λ ts. list_any (is_of_level p) ts) none) PRIORITIES in
+      let no_levels : levels app ≡ [] = those_none (λ p. list_any (is_of_level p) app.tasks)
+      (λ p. ap (λ ts. list_any (is_of_level p) ts) none) PRIORITIES in
       let no_messages : armed_messages app ≡ 0 = ap (armed_capacities app 0) none in
       let no_armed : armed_tasks app ≡ 0 = ap (armed_count app 0) none in
-      let no_dispatchers : sum_by (dispatcher_size app) (levels app) ≡ 0 = ap (sum_by (dispatcher_size app)) no_levels in
+      let no_dispatchers : sum_by (dispatcher_size app) (levels app) ≡ 0 =
+      ap (sum_by (dispatcher_size app)) no_levels in
       omega (arith, no_dispatchers, timer app.mono no_messages no_armed)
     where
       timer : (o : Option Mono) → armed_messages app ≡ 0 → armed_tasks app ≡ 0 → timer_size app o ≤ 192
       timer None no_messages no_armed = omega arith
       timer (Some mono) no_messages no_armed = omega arith
 
-  pub steps_short : Parts app → AllByRecursion (λ m. block_steps (cost_measure app) m.body.block + 1 ≤ BODY_COST) (members app)
+  pub steps_short : Parts app → AllByRecursion (λ m. block_steps (cost_measure app) m.body.block + 1 ≤ BODY_COST)
+      (members app)
   steps_short parts = steps_kept (shared_size app) (members app) parts.lengths
 
   pub code_small : Parts app → shared_size app + sum_by size_of (members app) ≤ CODE_SIZE
@@ -85,4 +101,6 @@ module _ (app : App) where
       threads = thread_members body.Init app.init
 
       no_tasks : members app ≡ [] → app.tasks ≡ []
-      no_tasks none = none_declared 0 app.tasks (append_none_right (thread_members body.Idle app.idle) (task_members 0 app.tasks) (append_none_right (thread_members body.Init app.init) (thread_members body.Idle app.idle ++ task_members 0 app.tasks) none))
+      no_tasks none = none_declared 0 app.tasks (append_none_right (thread_members body.Idle app.idle)
+          (task_members 0 app.tasks) (append_none_right (thread_members body.Init app.init)
+          (thread_members body.Idle app.idle ++ task_members 0 app.tasks) none))

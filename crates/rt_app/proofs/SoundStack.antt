@@ -1,5 +1,6 @@
 -- The stack of an accepted application is small, and whole pairs of words.
-use Rattle.std.proofs.Common.{◌≡◌, ℕ, zero, suc, ◌+◌, ◌*◌, ◌/◌, ◌%◌, ◌^◌, ◌≤◌, min, max, Bool, true, false, List, [], ◌∷◌, map, filter, Option, Some, None, refl, arith, if◌then◌else◌}
+use Rattle.std.proofs.Common.{◌≡◌, ℕ, zero, suc, ◌+◌, ◌*◌, ◌/◌, ◌%◌, ◌^◌, ◌≤◌, min, max, Bool, true, false, List, []}
+use Rattle.std.proofs.Common.{◌∷◌, map, filter, Option, Some, None, refl, arith, if◌then◌else◌}
 use Rattle.std.specs.List.{AllByRecursion, list_any}
 use Rattle.std.proofs.Math.Nat.{pow-le-pow_right}
 use Rattle.rt_lemmas.proofs.Membership.{all_weaker}
@@ -11,9 +12,12 @@ use Rattle.rt_app.specs.Tree.{Pend, Spawns, Block, Empty, Then, Body, Task, App}
 use Rattle.rt_app.specs.Variables.{variables, variables_in}
 use Rattle.rt_app.specs.Spawned.{spawns}
 use Rattle.rt_app.specs.Level.{is_of_level}
-use Rattle.rt_app.specs.Frame.{block_depth, has_loop, statement_locks, locks, spawn_words, expression_words, even, first_spawn_slot, frame_words}
-use Rattle.rt_app.specs.Stack.{is_bound_at, frames_of, is_timed_at, has_handler, dispatcher_need, timer_need, need, priority_bytes, bytes_below, thread_frame, stack_bytes}
-use Rattle.rt_app.specs.Limits.{statements_in, statements_of, inner_blocks, blocks_of, KeepsBodyLimits, KeepsThreadLimits, KeepsTaskLimits}
+use Rattle.rt_app.specs.Frame.{block_depth, has_loop, statement_locks, locks, spawn_words, expression_words, even}
+use Rattle.rt_app.specs.Frame.{first_spawn_slot, frame_words}
+use Rattle.rt_app.specs.Stack.{is_bound_at, frames_of, is_timed_at, has_handler, dispatcher_need, timer_need, need}
+use Rattle.rt_app.specs.Stack.{priority_bytes, bytes_below, thread_frame, stack_bytes}
+use Rattle.rt_app.specs.Limits.{statements_in, statements_of, inner_blocks, blocks_of, KeepsBodyLimits}
+use Rattle.rt_app.specs.Limits.{KeepsThreadLimits, KeepsTaskLimits}
 use Rattle.rt_app.specs.Accepted.{IsAccepted}
 use Rattle.rt_app.proofs.Parts.{Parts}
 use Rattle.rt_ids.proofs.Greatest.{greatest_within}
@@ -93,17 +97,22 @@ entry_small false = omega arith
 max_even : (a b : ℕ) → IsEven a → IsEven b → IsEven (max a b)
 max_even a b (i, e) (j, f) = (max i j, omega arith)
 
-greatest_even : {X : Type 0} (f : X → ℕ) (test : X → Bool) (xs : List X) → AllByRecursion (λ x. IsEven (f x)) xs → IsEven (greatest (map f (filter test xs)))
+greatest_even : {X : Type 0} (f : X → ℕ) (test : X → Bool) (xs : List X) → AllByRecursion (λ x. IsEven (f x)) xs
+    → IsEven (greatest (map f (filter test xs)))
 greatest_even f test [] all = (0, omega arith)
 greatest_even f test (x ∷ xs) all = go (test x) (greatest_even f test xs all.1)
   where
-    go : (b : Bool) → IsEven (greatest (map f (filter test xs))) → IsEven (greatest (map f (if b then x ∷ filter test xs else filter test xs)))
+    go : (b : Bool) → IsEven (greatest (map f (filter test xs))) → IsEven
+        (greatest (map f (if b then x ∷ filter test xs else filter test xs)))
     go true rest = max_even (f x) (greatest (map f (filter test xs))) all.0 rest
     go false rest = rest
 
 all_even : (ts : List Task) → AllByRecursion (λ t. IsEven (frame_words t.args t.body)) ts
 all_even [] = tt
-all_even (t ∷ ts) = (even_is (first_spawn_slot t.args t.body + greatest (map spawn_words (spawns t.body.block))), all_even ts)
+all_even (t ∷ ts) = (
+  even_is (first_spawn_slot t.args t.body + greatest (map spawn_words (spawns t.body.block))),
+  all_even ts,
+)
 
 module _ (app : App) where
   frames_even : (test : Task → Bool) → IsEven (greatest (frames_of test app))
@@ -112,7 +121,8 @@ module _ (app : App) where
   dispatcher_even : (p : ℕ) → IsEven (dispatcher_need app p)
   dispatcher_even p = go (list_any (is_of_level p) app.tasks) (frames_even (is_of_level p))
     where
-      go : (b : Bool) → IsEven (greatest (frames_of (is_of_level p) app)) → IsEven (if b then 16 + greatest (frames_of (is_of_level p) app) else 0)
+      go : (b : Bool) → IsEven (greatest (frames_of (is_of_level p) app))
+          → IsEven (if b then 16 + greatest (frames_of (is_of_level p) app) else 0)
       go true (k, e) = (8 + k, omega arith)
       go false h = (0, omega arith)
 
@@ -141,7 +151,8 @@ module _ (app : App) where
   below_pairs : (p : ℕ) → IsPairs (bytes_below app p)
   unfolding bytes_below
   below_pairs zero = (0, omega arith)
-  below_pairs (suc p) = let below = below_pairs p in let own = priority_pairs p in let e = below.1 in let f = own.1 in (below.0 + own.0, omega arith)
+  below_pairs (suc p) = let below = below_pairs p in let own = priority_pairs p in let e = below.1 in let f = own.1 in
+      (below.0 + own.0, omega arith)
 
   thread_even : (o : Option Body) → IsEven (thread_frame o)
   thread_even None = (0, omega arith)
@@ -149,7 +160,8 @@ module _ (app : App) where
 
   pub pairs : stack_bytes app % 8 ≡ 0
   pairs =
-      let thread = max_even (thread_frame app.init) (thread_frame app.idle) (thread_even app.init) (thread_even app.idle) in
+      let thread = max_even (thread_frame app.init) (thread_frame app.idle) (thread_even app.init)
+      (thread_even app.idle) in
       let below = below_pairs PRIORITIES in
       let e = thread.1 in
       let f = below.1 in
@@ -158,12 +170,15 @@ module _ (app : App) where
 
 module _ (app : App) (accepted : IsAccepted app) (parts : Parts app) where
   frames_small : (test : Task → Bool) → greatest (frames_of test app) ≤ 1061
-  frames_small test = greatest_within (λ t. frame_words t.args t.body) test 1061 app.tasks (all_weaker KeepsTaskLimits (λ t. frame_words t.args t.body ≤ 1061) (λ t limits. small_frame t.args t.body limits.args limits.body) app.tasks accepted.limits.tasks)
+  frames_small test = greatest_within (λ t. frame_words t.args t.body) test 1061 app.tasks
+      (all_weaker KeepsTaskLimits (λ t. frame_words t.args t.body ≤ 1061)
+      (λ t limits. small_frame t.args t.body limits.args limits.body) app.tasks accepted.limits.tasks)
 
   dispatcher_small : (p : ℕ) → dispatcher_need app p ≤ 1077
   dispatcher_small p = go (list_any (is_of_level p) app.tasks) (frames_small (is_of_level p))
     where
-      go : (b : Bool) → greatest (frames_of (is_of_level p) app) ≤ 1061 → (if b then 16 + greatest (frames_of (is_of_level p) app) else 0) ≤ 1077
+      go : (b : Bool) → greatest (frames_of (is_of_level p) app) ≤ 1061
+          → (if b then 16 + greatest (frames_of (is_of_level p) app) else 0) ≤ 1077
       go true h = omega arith
       go false h = omega arith
 
@@ -203,4 +218,9 @@ module _ (app : App) (accepted : IsAccepted app) (parts : Parts app) where
   thread_small (Some b) limits = small_frame 0 b (omega arith) limits
 
   pub small : stack_bytes app ≤ 2 ^ 20
-  small = omega (arith, thread_small app.init accepted.limits.init, thread_small app.idle accepted.limits.idle, below_small PRIORITIES)
+  small = omega (
+    arith,
+    thread_small app.init accepted.limits.init,
+    thread_small app.idle accepted.limits.idle,
+    below_small PRIORITIES,
+  )

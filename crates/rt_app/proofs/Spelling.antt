@@ -1,7 +1,9 @@
--- What a holder's cells spell depends on the cells that belong to it, and on those of the places in its queue, alone. It is said of
--- holders that the application has: a resource, a local resource, the places of a software task, a level of software tasks,
--- the timer queue.
-use Rattle.std.proofs.Common.{◌≡◌, ◌⊎◌, ℕ, zero, suc, ◌+◌, ◌-◌, ◌*◌, ◌%◌, ◌==◌, ◌<◌, ◌≤◌, Bool, true, false, List, [], ◌∷◌, length, map, Some, None, IsSome, option_map, slice_get, Contains, refl, sym, ap, ◌∙◌, arith, inl, inr}
+-- What a holder's cells spell depends on the cells that belong to it, and on those of the places in its queue, alone.
+-- It is said of holders that the application has: a resource, a local resource, the places of a software task, a level
+-- of software tasks, the timer queue.
+use Rattle.std.proofs.Common.{◌≡◌, ◌⊎◌, ℕ, zero, suc, ◌+◌, ◌-◌, ◌*◌, ◌%◌, ◌==◌, ◌<◌, ◌≤◌, Bool, true, false, List, []}
+use Rattle.std.proofs.Common.{◌∷◌, length, map, Some, None, IsSome, option_map, slice_get, Contains, refl, sym, ap, ◌∙◌}
+use Rattle.std.proofs.Common.{arith, inl, inr}
 use Rattle.std.specs.List.{AllByRecursion, range_with_len}
 use Rattle.std.proofs.lemmas.Option.{slice_get_within}
 use Rattle.rt_lemmas.proofs.Bools.{and_left}
@@ -16,7 +18,8 @@ use Rattle.rt_app.specs.Tree.{Task, App}
 use Rattle.rt_app.specs.Level.{is_software, is_of_level, levels, is_armed, armed_messages}
 use Rattle.rt_app.specs.Sending.{capacity_of}
 use Rattle.rt_app.specs.Layout.{resource_at, local_at, free_at, inputs_at, ready_at, ready_room, timer_at, home_of}
-use Rattle.rt_app.specs.Holding.{arguments_of, message_at, armed_place, instant_at, arming_at, handle_at, arming_of_entry}
+use Rattle.rt_app.specs.Holding.{arguments_of, message_at, armed_place, instant_at, arming_at, handle_at}
+use Rattle.rt_app.specs.Holding.{arming_of_entry}
 use Rattle.rt_app.specs.Holding.{SpellsFree, SpellsReady, SpellsTimer, Spells, is_kept, IsHeld}
 use Rattle.rt_app.proofs.Laid.{resource_is_home, local_is_home}
 use Rattle.rt_app.proofs.LaidQueues.{free_is_home, input_is_home, ready_is_home}
@@ -28,7 +31,8 @@ use Rattle.rt_app.proofs.Arranged.{arranged_alike}
 -- The cells of a holder are what they were, and, where no runner keeps it, those of the places in its queue.
 abbrev pub IsLeft : App → Holder → List Entry → (ℕ → ℕ) → (ℕ → ℕ) → Type 0
 IsLeft app h entries before after =
-    (c : ℕ) → (home_of app c ≡ At h) ⊎ (((who : Runner) → is_kept app who h ≡ false) × ((e : Entry) × (home_of app c ≡ In e) × (0 < count e entries))) → after c ≡ before c
+    (c : ℕ) → (home_of app c ≡ At h) ⊎ (((who : Runner) → is_kept app who h ≡ false)
+    × ((e : Entry) × (home_of app c ≡ In e) × (0 < count e entries))) → after c ≡ before c
 
 -- a place of a software task that may be armed
 abbrev pub IsTimedPlace : App → Entry → Type 0
@@ -44,33 +48,42 @@ no_keeper : (app : App) (who : Runner) → is_kept app who (Guarded section.Time
 no_keeper app Starting = refl
 no_keeper app (AtPriority q) = refl
 
-pub the_task : (test : Task → Bool) (app : App) (n : ℕ) → is_some_and test (slice_get app.tasks n) ≡ true → (t : Task) × (slice_get app.tasks n ≡ Some t) × (test t ≡ true)
+pub the_task : (test : Task → Bool) (app : App) (n : ℕ) → is_some_and test (slice_get app.tasks n) ≡ true → (t : Task)
+    × (slice_get app.tasks n ≡ Some t) × (test t ≡ true)
 the_task test app n is = go (slice_get app.tasks n) refl is
   where
-    go : (o : _) → slice_get app.tasks n ≡ o → is_some_and test o ≡ true → (t : Task) × (slice_get app.tasks n ≡ Some t) × (test t ≡ true)
+    go : (o : _) → slice_get app.tasks n ≡ o → is_some_and test o ≡ true → (t : Task) × (slice_get app.tasks n ≡ Some t)
+        × (test t ≡ true)
     go None at is = absurd cc
     go (Some t) at is = (t, at, is)
 
-map_range_alike : (f g : ℕ → ℕ) (a n : ℕ) → ((k : ℕ) → k < n → f (a + k) ≡ g (a + k)) → map f (range_with_len a n) ≡ map g (range_with_len a n)
+map_range_alike : (f g : ℕ → ℕ) (a n : ℕ) → ((k : ℕ) → k < n → f (a + k) ≡ g (a + k)) → map f (range_with_len a n)
+    ≡ map g (range_with_len a n)
 map_range_alike f g a zero same = refl
 map_range_alike f g a (suc n) same =
     let e : a + 0 ≡ a = omega arith in
     let here : f a ≡ g a = ap f (sym e) ∙ (same 0 (omega arith) ∙ ap g e) in
     ap (λ x. x ∷ map f (range_with_len (a + 1) n)) here
-    ∙ ap (λ xs. g a ∷ xs) (map_range_alike f g (a + 1) n (λ k less. (let d : a + 1 + k ≡ a + suc k = omega arith in ap f d ∙ (same (suc k) (omega arith) ∙ ap g (sym d)))))
+    ∙ ap (λ xs. g a ∷ xs) (map_range_alike f g (a + 1) n
+    (λ k less. (let d : a + 1 + k ≡ a + suc k = omega arith in ap f d
+    ∙ (same (suc k) (omega arith) ∙ ap g (sym d)))))
 
-map_alike_at : {X Y : Type 0} (f g : X → Y) (xs : List X) → ((i : ℕ) (x : X) → slice_get xs i ≡ Some x → f x ≡ g x) → map f xs ≡ map g xs
+map_alike_at : {X Y : Type 0} (f g : X → Y) (xs : List X) → ((i : ℕ) (x : X) → slice_get xs i ≡ Some x → f x ≡ g x)
+    → map f xs ≡ map g xs
 map_alike_at f g [] same = refl
-map_alike_at f g (x ∷ xs) same = ap (λ y. y ∷ map f xs) (same 0 x refl) ∙ ap (λ ys. g x ∷ ys) (map_alike_at f g xs (λ i y at. same (suc i) y at))
+map_alike_at f g (x ∷ xs) same = ap (λ y. y ∷ map f xs) (same 0 x refl)
+    ∙ ap (λ ys. g x ∷ ys) (map_alike_at f g xs (λ i y at. same (suc i) y at))
 
 module _ (app : App) (before after : ℕ → ℕ) (entries : List Entry) where
-  free_left : (n : ℕ) (t : Task) → slice_get app.tasks n ≡ Some t → is_software t ≡ true → IsLeft app (Guarded (section.Free n)) entries before after
+  free_left : (n : ℕ) (t : Task) → slice_get app.tasks n ≡ Some t → is_software t ≡ true
+      → IsLeft app (Guarded (section.Free n)) entries before after
       → (j : ℕ) → j ≤ capacity_of app n → after (free_at app n + j) ≡ before (free_at app n + j)
   free_left n t at software left j within =
       let capacity : capacity_of app n ≡ t.capacity = ap (λ o. or_zero (option_map (λ t. t.capacity) o)) at in
       left (free_at app n + j) (inl (free_is_home app n t at software j (omega arith)))
 
-  spells_free : (n : ℕ) (t : Task) (content : Content) → slice_get app.tasks n ≡ Some t → is_software t ≡ true → IsLeft app (Guarded (section.Free n)) entries before after
+  spells_free : (n : ℕ) (t : Task) (content : Content) → slice_get app.tasks n ≡ Some t → is_software t ≡ true
+      → IsLeft app (Guarded (section.Free n)) entries before after
       → SpellsFree app before n entries content → SpellsFree app after n entries content
   spells_free n t content at software left spells =
       let same = free_left n t at software left in
@@ -84,7 +97,8 @@ module _ (app : App) (before after : ℕ → ℕ) (entries : List Entry) where
         stack = λ i e is. same (length entries - i) (omega arith) ∙ spells.stack i e is;
       }
 
-  ready_left : (p : ℕ) → Contains (levels app) p → IsLeft app (Guarded (section.Ready p)) entries before after → (j : ℕ) → j < 2 + ready_room app p → after (ready_at app p + j) ≡ before (ready_at app p + j)
+  ready_left : (p : ℕ) → Contains (levels app) p → IsLeft app (Guarded (section.Ready p)) entries before after → (j : ℕ)
+      → j < 2 + ready_room app p → after (ready_at app p + j) ≡ before (ready_at app p + j)
   ready_left p is left j within = left (ready_at app p + j) (inl (ready_is_home app p is j within))
 
   -- the message of a place in the queue of a holder that no runner keeps
@@ -109,26 +123,33 @@ module _ (app : App) (before after : ℕ → ℕ) (entries : List Entry) where
           counted entries i e is,
         ),
       )))) in
-      ap (λ args. record { task = e.task; args = args }) (map_range_alike before after first (arguments_of app e.task) same)
+      ap (λ args. record { task = e.task; args = args })
+      (map_range_alike before after first (arguments_of app e.task) same)
 
   message_left : (p : ℕ) → IsLeft app (Guarded (section.Ready p)) entries before after
-      → AllByRecursion (λ e. (is_some_and (is_of_level p) (slice_get app.tasks e.task) ≡ true) × (e.place < capacity_of app e.task)) entries
+      → AllByRecursion (λ e. (is_some_and (is_of_level p) (slice_get app.tasks e.task) ≡ true)
+      × (e.place < capacity_of app e.task)) entries
       → (i : ℕ) (e : Entry) → slice_get entries i ≡ Some e → message_at app before e ≡ message_at app after e
   message_left p left all i e is =
-      let here = all_at (λ e. (is_some_and (is_of_level p) (slice_get app.tasks e.task) ≡ true) × (e.place < capacity_of app e.task)) entries i e all is in
+      let here = all_at (λ e. (is_some_and (is_of_level p) (slice_get app.tasks e.task) ≡ true)
+      × (e.place < capacity_of app e.task)) entries i e all is in
       let task = the_task (is_of_level p) app e.task here.0 in
       let software = and_left (is_software task.0) (task.0.priority == p) task.2 in
       message_kept (Guarded (section.Ready p)) (no_runner app p) left i e is task.0 task.1 software here.1
 
-  spells_ready : (p : ℕ) (content : Content) → Contains (levels app) p → IsLeft app (Guarded (section.Ready p)) entries before after → SpellsReady app before p entries content → SpellsReady app after p entries content
+  spells_ready : (p : ℕ) (content : Content) → Contains (levels app) p
+      → IsLeft app (Guarded (section.Ready p)) entries before after → SpellsReady app before p entries content
+      → SpellsReady app after p entries content
   spells_ready p content is left spells =
       let same = ready_left p is left in
       let room = spells.room in
       let size = ready_room app p in
       let zeroth : ready_at app p + 0 ≡ ready_at app p = omega arith in
-      let head : after (ready_at app p) ≡ before (ready_at app p) = ap after (sym zeroth) ∙ (same 0 (omega arith) ∙ ap before zeroth) in
+      let head : after (ready_at app p) ≡ before (ready_at app p) = ap after (sym zeroth)
+      ∙ (same 0 (omega arith) ∙ ap before zeroth) in
       record {
-        messages = spells.messages ∙ ap Messages (map_alike_at (message_at app before) (message_at app after) entries (message_left p left spells.places));
+        messages = spells.messages ∙ ap Messages (map_alike_at (message_at app before) (message_at app after) entries
+            (message_left p left spells.places));
         room = spells.room;
         places = spells.places;
         head = let h = spells.head in omega arith;
@@ -139,7 +160,8 @@ module _ (app : App) (before after : ℕ → ℕ) (entries : List Entry) where
             let some : 0 < size = omega arith in
             let inside : j < size = less some in
             let d : ready_at app p + 2 + j ≡ ready_at app p + (2 + j) = omega arith in
-            ap (λ h. after (ready_at app p + 2 + (h + i) % size)) head ∙ (ap after d ∙ (same (2 + j) (omega arith) ∙ (ap before (sym d) ∙ spells.ring i e at))));
+            ap (λ h. after (ready_at app p + 2 + (h + i) % size)) head
+            ∙ (ap after d ∙ (same (2 + j) (omega arith) ∙ (ap before (sym d) ∙ spells.ring i e at))));
       }
 
   spells_timer : (content : Content) → IsSome app.mono → IsLeft app (Guarded section.Timer) entries before after
@@ -148,7 +170,8 @@ module _ (app : App) (before after : ℕ → ℕ) (entries : List Entry) where
       record {
         timed = spells.timed;
         is = spells.is;
-        messages = spells.messages ∙ map_alike_at (arming_of_entry app before) (arming_of_entry app after) entries armed;
+        messages = spells.messages ∙ map_alike_at (arming_of_entry app before) (arming_of_entry app after) entries
+            armed;
         handled = spells.handled;
         places = spells.places;
         room = spells.room;
@@ -190,7 +213,8 @@ module _ (app : App) (before after : ℕ → ℕ) (entries : List Entry) where
           let less = row i e at in
           sym (same _ (3 + 2 * armed_messages app + armed_place app e) (omega arith) (omega arith))
 
-      armed : (i : ℕ) (e : Entry) → slice_get entries i ≡ Some e → arming_of_entry app before e ≡ arming_of_entry app after e
+      armed : (i : ℕ) (e : Entry) → slice_get entries i ≡ Some e → arming_of_entry app before e
+          ≡ arming_of_entry app after e
       armed i e at =
           let here = place i e at in
           let task = the_task is_software app e.task here.1 in
@@ -200,10 +224,16 @@ module _ (app : App) (before after : ℕ → ℕ) (entries : List Entry) where
           λ k. record { instant = a k; message = message k; handle = h k }
 
 -- whatever else changes
-pub spells_by_its_own : (app : App) (h : Holder) (before after : ℕ → ℕ) (entries : List Entry) (content : Content) → IsHeld app h → IsLeft app h entries before after
+pub spells_by_its_own : (app : App) (h : Holder) (before after : ℕ → ℕ) (entries : List Entry) (content : Content)
+    → IsHeld app h → IsLeft app h entries before after
     → Spells app before h entries content → Spells app after h entries content
-spells_by_its_own app (Guarded (section.Res r)) before after entries content has left spells = spells ∙ ap Number (sym (left (resource_at app r) (inl (resource_is_home app r has))))
-spells_by_its_own app (Guarded (section.Free n)) before after entries content has left spells = let task = the_task is_software app n has in spells_free app before after entries n task.0 content task.1 task.2 left spells
-spells_by_its_own app (Guarded (section.Ready p)) before after entries content has left spells = spells_ready app before after entries p content has left spells
-spells_by_its_own app (Guarded section.Timer) before after entries content has left spells = spells_timer app before after entries content has left spells
-spells_by_its_own app (Own n) before after entries content has left spells = spells ∙ ap Number (sym (left (local_at app n) (inl (local_is_home app n has))))
+spells_by_its_own app (Guarded (section.Res r)) before after entries content has left spells =
+    spells ∙ ap Number (sym (left (resource_at app r) (inl (resource_is_home app r has))))
+spells_by_its_own app (Guarded (section.Free n)) before after entries content has left spells = let task =
+    the_task is_software app n has in spells_free app before after entries n task.0 content task.1 task.2 left spells
+spells_by_its_own app (Guarded (section.Ready p)) before after entries content has left spells =
+    spells_ready app before after entries p content has left spells
+spells_by_its_own app (Guarded section.Timer) before after entries content has left spells =
+    spells_timer app before after entries content has left spells
+spells_by_its_own app (Own n) before after entries content has left spells =
+    spells ∙ ap Number (sym (left (local_at app n) (inl (local_is_home app n has))))

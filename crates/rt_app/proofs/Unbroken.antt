@@ -24,7 +24,8 @@ pub is_there : {A : Type 0} (o : Option A) → is_none o ≡ false → (x : A) �
 is_there None some = absurd (cc)
 is_there (Some x) some = (x, refl)
 
-pub is_one_that : {A : Type 0} (test : A → Bool) (o : Option A) → is_some_and test o ≡ true → (x : A) × (o ≡ Some x) × (test x ≡ true)
+pub is_one_that : {A : Type 0} (test : A → Bool) (o : Option A) → is_some_and test o ≡ true → (x : A) × (o ≡ Some x)
+    × (test x ≡ true)
 is_one_that test None is = absurd (cc)
 is_one_that test (Some x) is = (x, refl, is)
 

@@ -51,7 +51,8 @@ pub record IsSound (app : App) : Type 0 where
       → owns n m ≡ true → owns n o ≡ true → i ≡ j
   -- an interrupt that serves something is declared, serves that alone, and at a priority that there is; numbers are
   -- those of interrupts, and differ; each level of software tasks has a dispatcher
-  pub served : AllByRecursion (λ s. (s.irq < length app.irqs) × (1 ≤ s.priority) × (s.priority ≤ 2 ^ app.bits)) (services app)
+  pub served : AllByRecursion (λ s. (s.irq < length app.irqs) × (1 ≤ s.priority) × (s.priority ≤ 2 ^ app.bits))
+      (services app)
   pub services_differ : AreDifferent (map (λ s. s.irq) (services app))
   pub numbers : AllByRecursion (λ d. d.number < IRQ_NUMBERS) app.irqs
   pub numbers_differ : AreDifferent (map (λ d. d.number) app.irqs)

@@ -113,8 +113,9 @@ module _ (app : App) where
   abbrev pub is_some_at : (Member → Bool) → ℕ → Bool
   is_some_at test p = list_any (λ m. not (is_init m.id) && ((m.priority == p) && test m)) (members app)
 
-  -- What a runner keeps from its start to its end: `init` every resource and the local ones that it lists, a priority the
-  -- local resources and the `lock_free` ones that its bodies list. At most one job of a priority has started at a time.
+  -- What a runner keeps from its start to its end: `init` every resource and the local ones that it lists, a priority
+  -- the local resources and the `lock_free` ones that its bodies list. At most one job of a priority has started at a
+  -- time.
   abbrev pub is_kept : Runner → Holder → Bool
   is_kept Starting (Guarded (section.Res r)) = nat_lt r (length app.shared)
   is_kept Starting (Own n) = list_any (λ m. is_init m.id && owns n m) (members app)

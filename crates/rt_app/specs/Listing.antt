@@ -55,7 +55,8 @@ first_listing app r = find (λ l. l.listed.resource == r) (listings app)
 
 -- the rules that a listing breaks
 abbrev pub listing_breaks : App → Listing → List Violation
-listing_breaks app l = if is_known l.listed.resource then breaks_beside app l (first_listing app l.listed.resource) else []
+listing_breaks app l = if is_known l.listed.resource then breaks_beside app l (first_listing app l.listed.resource) else
+    []
 
 -- every rule on listings that is broken
 abbrev pub listings_breaks : App → List Violation

@@ -1,5 +1,5 @@
--- How deep the one stack can get. Handlers of one priority never stand on each other, so each priority counts once, with
--- the greatest need of its handlers: a maximum per priority, where the machine has nested frames (Baker, 1991, on
+-- How deep the one stack can get. Handlers of one priority never stand on each other, so each priority counts once,
+-- with the greatest need of its handlers: a maximum per priority, where the machine has nested frames (Baker, 1991, on
 -- sharing a stack).
 use Rattle.std.specs.Prelude.{ℕ, zero, suc, ◌+◌, ◌*◌, ◌==◌, max, Bool, not, ◌&&◌, ◌||◌, List, map, filter, Option, Some}
 use Rattle.std.specs.Prelude.{None, if◌then◌else◌}

@@ -5,7 +5,8 @@ use Rattle.rt_ast.specs.Tree as tree
 use Rattle.rt_ast.specs.View.{expression_of, statement_of, row_block, block_of}
 use Rattle.rt_ast.specs.declared.ident.Ident.{Ident}
 use Rattle.rt_ast.specs.declared.expr.Expr.{Expr}
-use Rattle.rt_ast.specs.declared.stmt.Stmt.{Stmt, Row_of-Stmt, end_of-Stmt, more_of-Stmt, Branch, Repeat, Locked, Locked', items-the_row-Stmt, items_hidden-the_row-Stmt-0}
+use Rattle.rt_ast.specs.declared.stmt.Stmt.{Stmt, Row_of-Stmt, end_of-Stmt, more_of-Stmt, Branch, Repeat, Locked}
+use Rattle.rt_ast.specs.declared.stmt.Stmt.{Locked', items-the_row-Stmt, items_hidden-the_row-Stmt-0}
 
 row_is : (n : _) (row : Row_of-Stmt n) → row_block row ≡ block_of (items-the_row-Stmt n row)
 row_is n end_of-Stmt = refl
@@ -22,8 +23,11 @@ hidden r v = let row = row_of (Locked r v) in row_is row.0 row.1 ∙ ap block_of
 pub locked_is : (r : Ident) (v : Vec Stmt Global) → statement_of (Locked r v) ≡ tree.Locked r (block_of v.items)
 locked_is r v = ap (tree.Locked r) (hidden r v)
 
-pub repeat_is : (x : Ident) (first last : ℕ) (v : Vec Stmt Global) → statement_of (Repeat x first last v) ≡ tree.Repeat x first last (block_of v.items)
+pub repeat_is : (x : Ident) (first last : ℕ) (v : Vec Stmt Global) → statement_of (Repeat x first last v)
+    ≡ tree.Repeat x first last (block_of v.items)
 repeat_is x first last v = ap (tree.Repeat x first last) (hidden x v)
 
-pub branch_is : (r : Ident) (e : Expr) (v w : Vec Stmt Global) → statement_of (Branch e v w) ≡ tree.Branch (expression_of e) (block_of v.items) (block_of w.items)
-branch_is r e v w = ap (λ b. tree.Branch (expression_of e) b (row_block (row_of (Locked r w)).1)) (hidden r v) ∙ ap (tree.Branch (expression_of e) (block_of v.items)) (hidden r w)
+pub branch_is : (r : Ident) (e : Expr) (v w : Vec Stmt Global) → statement_of (Branch e v w)
+    ≡ tree.Branch (expression_of e) (block_of v.items) (block_of w.items)
+branch_is r e v w = ap (λ b. tree.Branch (expression_of e) b (row_block (row_of (Locked r w)).1)) (hidden r v)
+    ∙ ap (tree.Branch (expression_of e) (block_of v.items)) (hidden r w)

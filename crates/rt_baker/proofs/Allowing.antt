@@ -174,7 +174,8 @@ turn_needs : (app : App) (t : laws.State) (w : What) → IsTurn w → May app t 
 turn_needs app t (what.Take irq depth) is may = absurd is
 turn_needs app t w is may = (may.0, may.1)
 
-turn_after : (app : App) (t : laws.State) (w : What) → IsTurn w → state_after_item app t t.jobs ≡ after app t (Stepped (Some w))
+turn_after : (app : App) (t : laws.State) (w : What) → IsTurn w → state_after_item app t t.jobs
+    ≡ after app t (Stepped (Some w))
 turn_after app t (what.Take irq depth) is = absurd is
 turn_after app t w is = refl
 

@@ -22,7 +22,8 @@ use Rattle.rt_baker.specs.declared.done.Done.{Done}
 use Rattle.rt_baker.specs.declared.judge.Judge.{Judge}
 use Rattle.rt_baker.specs.declared.verdict.Verdict.{Verdict}
 use Rattle.rt_baker.specs.Audit.{front, IsRight, IsWrongAt, IsVerdict}
-use Rattle.rt_baker.specs.Judge.{steps_done, state_behind, steps_done_behind, AreRight, Follows, FailsAt, Stands, HasJudged}
+use Rattle.rt_baker.specs.Judge.{steps_done, state_behind, steps_done_behind, AreRight, Follows, FailsAt, Stands}
+use Rattle.rt_baker.specs.Judge.{HasJudged}
 use Rattle.rt_baker.specs.Judge.{MayTake}
 use Rattle.rt_baker.specs.Inside.Judging.{MayGoOn, Judges, Passes, Behind, ItemComes, ItemJudged, Ends, TotalJudged}
 use Rattle.rt_baker.proofs.Allowing.{owes_as}
@@ -143,7 +144,8 @@ follows_more : (app : App) (xs : List Item) (n : ℕ) (x : Item) (old new : Held
     → ItemJudged app (Some d) old new n x → Follows app (xs ++ x ∷ []) new (steps_done d)
 unfolding ItemJudged
 follows_more app xs n x old new d h judged =
-    let b : Behind app (state_behind app (first app) 0 xs) (steps_done_behind app (first app) 0 xs) x new (steps_done d) =
+    let b : Behind app (state_behind app (first app) 0 xs) (steps_done_behind app (first app) 0 xs) x new
+    (steps_done d) =
     subst (λ (m : ℕ). Behind app (state_behind app (first app) 0 xs) m x new (steps_done d)) h.steps
     (judged.1 (state_behind app (first app) 0 xs) h.is) in
     record {
@@ -300,11 +302,13 @@ told_ends app t n (Some k) total told le runs =
     subst (λ (m : ℕ). Ends app t n (Some m)) (sym told) (le, runs)
 
 right_ends : (app : App) (trace : Trace) → Judged app trace
-    → Ends app (state_behind app (first app) 0 trace.items) (steps_done_behind app (first app) 0 trace.items) trace.total
+    → Ends app (state_behind app (first app) 0 trace.items) (steps_done_behind app (first app) 0 trace.items)
+    trace.total
 right_ends app trace judged =
     let ends = run_ends app trace.items (first app) 0 judged.total
     (runs_are_by_items.by_items app trace.items judged.total judged.run) in
-    told_ends app (state_behind app (first app) 0 trace.items) (steps_done_behind app (first app) 0 trace.items) trace.total
+    told_ends app (state_behind app (first app) 0 trace.items) (steps_done_behind app (first app) 0 trace.items)
+    trace.total
     judged.total judged.told ends.0 ends.1
 
 judged_fronts : (app : App) (trace : Trace) (m n : ℕ) → AreRight app (take m trace.items) → n ≤ m

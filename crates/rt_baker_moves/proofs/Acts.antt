@@ -29,7 +29,8 @@ use Rattle.rt_baker_work.proofs.Walks.{with_todos, behind_more}
 use Rattle.rt_baker_moves.specs.Job.{Kept, finish, rest_of, with_rest, JobIs}
 use Rattle.rt_baker_moves.specs.State.{Held, with_jobs, JobsAre, StateIs}
 use Rattle.rt_baker_moves.specs.Waiting.{waiting_irqs}
-use Rattle.rt_baker_moves.specs.Inside.Acts.{kept_after_action, IsPerformed, held_with_job, with_work, before, held_after_pend, held_alarm, beyond}
+use Rattle.rt_baker_moves.specs.Inside.Acts.{kept_after_action, IsPerformed, held_with_job, with_work, before}
+use Rattle.rt_baker_moves.specs.Inside.Acts.{held_after_pend, held_alarm, beyond}
 use Rattle.rt_baker_moves.specs.Inside.Acts.{Resumes}
 use Rattle.rt_baker_moves.proofs.Pending.{pended_stands}
 
@@ -173,7 +174,8 @@ pub record Stands (app : App) (new : Kept) (is : Store) (k : laws.Job) (vs : Val
 
 pub job_stands : (app : App) (a : Action) (j new : Kept) (w : Work) (was is : Store) (vs : Values)
     → j.role ≢ laws.Waiting → vs ≡ contents was → IsPerformed app a (with_work j w) was new is
-    → Stands app new is (with_rest app (kept_after_action a j) (rest_of app (with_work j w) (effect a vs))) (reached_values (rest_of
+    → Stands app new is (with_rest app (kept_after_action a j) (rest_of app (with_work j w) (effect a vs)))
+    (reached_values (rest_of
     app (with_work j w) (effect a vs)) (effect a vs))
 job_stands app a j new w was is vs busy alike p =
     let role : new.role ≡ j.role = ap (λ (l : laws.Job). l.role) (p.tracks over) ∙ tracks_role a (with_work j w) in
@@ -222,12 +224,14 @@ alarm_stands app i s t h = record {
 set_stands : (app : App) → IsAccepted app → (i : Option ℕ) (s : Held) (t : laws.State) → StateIs app s t
     → StateIs app (held_alarm app i s) (alarm_set app i t)
 set_stands app accepted i s t h =
-    subst (λ (n : ℕ). StateIs app (held_alarm app i s) (if is_due n i then state_after_pend (timer_number app) (record t {
+    subst (λ (n : ℕ). StateIs app (held_alarm app i s) (if is_due n i then state_after_pend (timer_number app)
+    (record t {
       alarm
           = None;
     }) else record t { alarm = i })) (sym (ap (λ (u : laws.State). u.time) h.is)) (go (is_due s.time i))
   where
-    go : (due : Bool) → StateIs app (if due then held_after_pend app (timer_number app) (with_alarm None s) else with_alarm
+    go : (due : Bool) → StateIs app (if due then held_after_pend app (timer_number app) (with_alarm None s) else
+        with_alarm
         i s) (if due then state_after_pend (timer_number app) (record t { alarm = None }) else record t { alarm = i })
     go true =
         pended_stands app accepted (timer_number app) (with_alarm None s) (record t { alarm = None }) (alarm_stands app
@@ -252,15 +256,18 @@ plain_acts app accepted a i s new t job plain r h early =
     let st = job_stands app (action_of a) j r.after job.work s.store r.store t.values busy (ap (λ (u : laws.State).
     u.values) h.is) r.performs in
     let rest : Doing Values = rest_of app (with_work j job.work) (effect (action_of a) t.values) in
-    let moved_to : laws.State = with_first t (with_rest app (kept_after_action (action_of a) j) rest) parts.1 (reached_values rest
+    let moved_to : laws.State = with_first t (with_rest app (kept_after_action (action_of a) j) rest) parts.1
+    (reached_values rest
     (effect (action_of a) t.values)) in
     let same : i ≡ next_instant t = early ∙ ap (λ (u : laws.State). next_instant u) (sym h.is) in
     let gives : state_after_item app t t.jobs ≡ machine_beyond app (action_of a) (next_instant t) moved_to =
     ap (λ (l : List laws.Job). state_after_item app t l) parts.2
     ∙ plain_given app a t j parts.0 parts.1 job.work plain parts.3 refl in
-    let after : StateIs app (beyond app (action_of a) (next_instant t) (held_with_job s r.after r.store)) (machine_beyond
+    let after : StateIs app (beyond app (action_of a) (next_instant t) (held_with_job s r.after r.store))
+    (machine_beyond
     app (action_of a) (next_instant t) moved_to) =
-    beyond_stands app accepted (action_of a) (next_instant t) (held_with_job s r.after r.store) moved_to (moved_stands app s t
+    beyond_stands app accepted (action_of a) (next_instant t) (held_with_job s r.after r.store) moved_to
+    (moved_stands app s t
     _ parts.1 _ j r.after r.store h.is h.waiting st parts.4) in
     subst (λ (u : laws.State). StateIs app (beyond app (action_of a) i new) u) (sym gives)
     (subst (λ (n : Held). StateIs app (beyond app (action_of a) i n) (machine_beyond app (action_of a)

@@ -24,14 +24,17 @@ use Rattle.rt_baker_moves.proofs.Acts.{with_first, first_of, is_busy, on_top, St
 clock_given : (app : App) (r : Reading) (t : laws.State) (job : Kept) (k : laws.Job) (ks : List laws.Job) (w : Work)
     (s : Store) → JobIs app (with_next (todo.Clock r) job) k → t.values ≡ contents s
     → Becomes app (use_clock app r t.time) job.work s w s
-    → state_after_doing app t k ks k.rest ≡ with_first t (with_rest app (kept_after_action Clocks job) (rest_of app (with_work job w)
+    → state_after_doing app t k ks k.rest ≡ with_first t
+    (with_rest app (kept_after_action Clocks job) (rest_of app (with_work job w)
     t.values)) ks (reached_values (rest_of app (with_work job w) t.values) t.values)
 clock_given app r t job k ks w s h held answers =
     let j = with_next (todo.Clock r) job in
     ap (λ (l : laws.Job). state_after_doing app t l ks l.rest) h.is
-    ∙ ap (λ (d : Doing Values). state_after_doing app t (with_rest app j (rest_of app j h.values)) ks d) (on_top app j job.work
+    ∙ ap (λ (d : Doing Values). state_after_doing app t (with_rest app j (rest_of app j h.values)) ks d)
+    (on_top app j job.work
     (todo.Clock r) h.values refl)
-    ∙ ap (λ (d : Doing Values). with_first t (with_rest app (kept_after_action Clocks job) d) ks (reached_values d t.values))
+    ∙ ap (λ (d : Doing Values). with_first t (with_rest app (kept_after_action Clocks job) d) ks
+    (reached_values d t.values))
     (ap (use_clock app r t.time (behind app job.work.todos (finish job.role)) job.work.vars) held
     ∙ answers.same (finish job.role)
     ∙ ap (λ (vs : Values). rest_of app (with_work job w) vs) (sym held))
@@ -68,11 +71,13 @@ at_end app j k h none =
 -- what the machine does then
 ended : (app : App) (t : laws.State) (j : Kept) (k : laws.Job) (ks : List laws.Job) (r : laws.Role)
     (h : JobIs app j k) → j.work.todos ≡ [] → j.role ≡ r
-    → state_after_doing app t k ks k.rest ≡ state_after_doing app t (with_rest app j (finish r j.work.vars h.values)) ks (finish r
+    → state_after_doing app t k ks k.rest ≡ state_after_doing app t (with_rest app j (finish r j.work.vars h.values)) ks
+    (finish r
     j.work.vars h.values)
 ended app t j k ks r h none role =
     ap (λ (l : laws.Job). state_after_doing app t l ks l.rest) (at_end app j k h none)
-    ∙ ap (λ (q : laws.Role). state_after_doing app t (with_rest app j (finish q j.work.vars h.values)) ks (finish q j.work.vars
+    ∙ ap (λ (q : laws.Role). state_after_doing app t (with_rest app j (finish q j.work.vars h.values)) ks
+    (finish q j.work.vars
     h.values)) role
 
 abbrev pub IsThread : laws.Role → Type 0
@@ -97,7 +102,8 @@ idles app s new job r thread role begins none t h =
     let begun = begins.begins in
     let st : Stands app begins.job begins.store (idle_job app t.values app.idle) (reached_values (idle_job app t.values
     app.idle).rest t.values) =
-    subst (λ (vs : Values). Stands app begins.job begins.store (idle_job app vs app.idle) (reached_values (idle_job app vs
+    subst (λ (vs : Values). Stands app begins.job begins.store (idle_job app vs app.idle)
+    (reached_values (idle_job app vs
     app.idle).rest vs)) values (record { job = begun.job; values = begun.values }) in
     let gives = ap (λ (l : List laws.Job). state_after_item app t l) parts.2
     ∙ ended app t job parts.0 parts.1 r parts.3 none role
@@ -121,7 +127,8 @@ pub returned : (app : App) (s : Held) (job : Kept) (irq : ℕ) → job.role ≡ 
     → Advances app (held_with_job s job s.store) s
 returned app s job irq role none t h =
     let parts = first_of app job s.jobs t.jobs h.jobs in
-    let gives : state_after_item app t t.jobs ≡ record t { jobs = parts.1 } = ap (λ (l : List laws.Job). state_after_item app t l) parts.2
+    let gives : state_after_item app t t.jobs ≡ record t { jobs = parts.1 } =
+    ap (λ (l : List laws.Job). state_after_item app t l) parts.2
     ∙ ended app t job parts.0 parts.1 (laws.Serving irq) parts.3 none role in
     subst (λ (u : laws.State). StateIs app s u) (sym gives)
     (record { jobs = parts.4; is = ap (λ (u : laws.State). record u { jobs = parts.1 }) h.is; waiting = h.waiting })

@@ -18,7 +18,8 @@ use Rattle.rt_baker_moves.specs.Inside.Moves.{with_next}
 
 -- an action gives one handle at most
 given_behind : (a : Action) (vs : Values)
-    → (timer_content (effect a vs (Guarded section.Timer))).given ≤ (timer_content (vs (Guarded section.Timer))).given + 1
+    → (timer_content (effect a vs (Guarded section.Timer))).given ≤ (timer_content (vs (Guarded section.Timer))).given
+    + 1
 given_behind (Arms i m) vs = omega arith
 given_behind a vs = omega arith
 

@@ -32,7 +32,8 @@ lessened_more k xs cur i n d within e is = ap (λ (l : List ℕ). set l i n) e �
 abbrev pub kept : laws.Role → ℕ → Work → ℕ → List Section → List ℕ → Kept
 kept r p w left xs ns = record { role = r; priority = p; work = w; left = left; sections = xs; lefts = ns }
 
-rest_stays : (app : App) (a : Action) (j : Kept) (vs : Values) → rest_of app (kept_after_action a j) vs ≡ rest_of app j vs
+rest_stays : (app : App) (a : Action) (j : Kept) (vs : Values) → rest_of app (kept_after_action a j) vs
+    ≡ rest_of app j vs
 rest_stays app (Enters x cost) j vs = refl
 rest_stays app (Leaves x) j vs = refl
 rest_stays app _ j vs = refl

@@ -74,7 +74,8 @@ module _ (app : App) where
       go : (irq < IRQ_NUMBERS) ⊎ (IRQ_NUMBERS ≤ irq) → waiting ≡ waiting_with app irq waiting
       go (inl small) = absurd (true_and_false (is_some o) (within small) (ap is_some none))
       go (inr beyond) =
-          sym (ap (λ (b : Bool). if b then insert_before (goes_before app) irq waiting else waiting) (none_beyond accepted
+          sym (ap (λ (b : Bool). if b then insert_before (goes_before app) irq waiting else waiting)
+          (none_beyond accepted
           irq beyond))
 
   numbers_differ : IsAccepted app → AreDifferent numbers
@@ -129,8 +130,10 @@ module _ (app : App) where
   none_ordered : (n : ℕ) (irqs : List ℕ) → chosen_in_order (waits app (replicate n false)) (goes_before app) irqs ≡ []
   none_ordered n [] = refl
   none_ordered n (x ∷ xs) =
-      ap (λ (b : Bool). if b && nat_lt 0 (priority_of app x) then insert_before (goes_before app) x (chosen_in_order (waits app
-      (replicate n false)) (goes_before app) xs) else chosen_in_order (waits app (replicate n false)) (goes_before app) xs)
+      ap (λ (b : Bool). if b && nat_lt 0 (priority_of app x) then insert_before (goes_before app) x
+      (chosen_in_order (waits app
+      (replicate n false)) (goes_before app) xs) else chosen_in_order (waits app (replicate n false)) (goes_before app)
+      xs)
       (copies_read false n x)
       ∙ none_ordered n xs
 
@@ -177,13 +180,15 @@ abbrev pub silenced : Held → Held
 silenced s = record s { alarm = None; owing = false }
 
 pub rung : (app : App) → IsAccepted app → (s old new : Held) (n : ℕ) → old ≡ s → n ≡ timer_number app
-    → new ≡ held_after_pend app n (silenced old) → (t : laws.State) → StateIs app s t → StateIs app new (after app t Rang)
+    → new ≡ held_after_pend app n (silenced old) → (t : laws.State) → StateIs app s t
+    → StateIs app new (after app t Rang)
 rung app accepted s old new n view timer is t h =
     let silent : StateIs app (silenced s) (record t { alarm = None; owing = false }) = record {
       jobs = h.jobs;
       is = ap (λ (u : laws.State). record u { alarm = None; owing = false }) h.is;
       waiting = h.waiting;
     } in
-    subst (λ (k : Held). StateIs app k (after app t Rang)) (sym (is ∙ ap (λ (k : Held). held_after_pend app n (silenced k))
+    subst (λ (k : Held). StateIs app k (after app t Rang))
+    (sym (is ∙ ap (λ (k : Held). held_after_pend app n (silenced k))
     view ∙ ap (λ (m : ℕ). held_after_pend app m (silenced s)) timer))
     (pended_stands app accepted (timer_number app) (silenced s) (record t { alarm = None; owing = false }) silent)

@@ -213,7 +213,8 @@ handler_stands : (app : App) (irq p cost : ℕ) (h : Handler) (v : Service) (s n
     → StateIs app new (machine.state_after_start app t irq (Some v))
 handler_stands app irq p cost h v s new t does_it at takes l held =
     let rest : Doing Values = handler_doing app v.handler t.values in
-    let stands : Stands app l.after l.store (laws.new_job (laws.Serving irq) p cost rest) (reached_values rest t.values) =
+    let stands : Stands app l.after l.store (laws.new_job (laws.Serving irq) p cost rest)
+    (reached_values rest t.values) =
     begins_stand app (laws.Serving irq) p cost (run_handler app h) s.store l.store l.after rest t.values (serving_works
     irq) l.begins
     (handler_is app irq v.handler t.values
@@ -224,7 +225,8 @@ handler_stands app irq p cost h v s new t does_it at takes l held =
     subst (λ (k : Held). StateIs app k (machine.state_after_start app t irq (Some v))) (sym l.is)
     (subst (λ (n : ℕ). StateIs app (held_with_job s l.after l.store) (with_first t (laws.new_job (laws.Serving irq) n
     (handler_cost app v.handler) rest) t.jobs (reached_values rest t.values))) at
-    (subst (λ (n : ℕ). StateIs app (held_with_job s l.after l.store) (with_first t (laws.new_job (laws.Serving irq) p n rest)
+    (subst (λ (n : ℕ). StateIs app (held_with_job s l.after l.store)
+    (with_first t (laws.new_job (laws.Serving irq) p n rest)
     t.jobs (reached_values rest t.values))) takes moves))
 
 -- an interrupt is taken: nothing serves it, or its handler starts
@@ -234,7 +236,8 @@ pub none_taken : (app : App) → IsAccepted app → (irq : ℕ) (o : Option Serv
 none_taken app accepted irq o s mid serves none cleared depth t h = go (service_at app irq) (subst (λ (x : Option
     Served). IsServed app x (service_at app irq)) none serves)
   where
-    go : (v : Option Service) → IsServed app None v → StateIs app mid (machine.state_after_start app (taken_from irq t) irq v)
+    go : (v : Option Service) → IsServed app None v → StateIs app mid
+        (machine.state_after_start app (taken_from irq t) irq v)
     go None is =
         subst (λ (k : Held). StateIs app k (taken_from irq t)) (sym cleared) (taken_stands app accepted irq s t h)
     go (Some v) is = absurd is

@@ -18,7 +18,8 @@ use Rattle.rt_baker_moves.specs.Inside.SystemCeiling.{job_threshold, kept_ceilin
 use Rattle.rt_baker_moves.specs.Inside.Waiting.{if_above}
 use Rattle.rt_baker_moves.proofs.Waiting.{first_ordered, over_best}
 
-pub ceiling_is : (app : App) (js : List Kept) (ks : List laws.Job) → JobsAre app js ks → system_ceiling app ks ≡ kept_ceiling app js
+pub ceiling_is : (app : App) (js : List Kept) (ks : List laws.Job) → JobsAre app js ks → system_ceiling app ks
+    ≡ kept_ceiling app js
 ceiling_is app [] [] h = refl
 ceiling_is app [] (k ∷ ks) h = absurd h
 ceiling_is app (j ∷ js) [] h = absurd h
@@ -56,10 +57,12 @@ candidate_is app s t o h is =
     ∙ ap (λ (irqs : List ℕ). if_above (priority_of app) (kept_ceiling app s.jobs) (slice_get irqs 0)) h.waiting
     ∙ ap (if_above (priority_of app) (kept_ceiling app s.jobs)) (first_ordered (waits app s.pending) (goes_before app)
     numbers)
-    ∙ ap (λ (n : ℕ). if_above (priority_of app) n (best (waits app s.pending) (goes_before app) numbers)) (sym (ceiling_is
+    ∙ ap (λ (n : ℕ). if_above (priority_of app) n (best (waits app s.pending) (goes_before app) numbers))
+    (sym (ceiling_is
     app s.jobs t.jobs h.jobs))
     ∙ over_best (priority_of app) (λ irq. slice_index_or s.pending irq false) (system_ceiling app t.jobs) numbers
-    ∙ ap (λ (ps : List Bool). best (λ irq. slice_index_or ps irq false && nat_lt (system_ceiling app t.jobs) (priority_of app
+    ∙ ap (λ (ps : List Bool). best (λ irq. slice_index_or ps irq false
+    && nat_lt (system_ceiling app t.jobs) (priority_of app
     irq)) (goes_before app) numbers) (sym (ap (λ (u : laws.State). u.pending) h.is))
   where
     numbers : List ℕ

@@ -27,7 +27,8 @@ module _ (passes : ℕ → Bool) (beats : ℕ → ℕ → Bool) where
   first_placed x [] = refl
   first_placed x (y ∷ ys) = go (beats x y)
     where
-      go : (b : Bool) → slice_get (if b then x ∷ y ∷ ys else y ∷ insert_before beats x ys) 0 ≡ (if b then Some x else Some y)
+      go : (b : Bool) → slice_get (if b then x ∷ y ∷ ys else y ∷ insert_before beats x ys) 0
+          ≡ (if b then Some x else Some y)
       go true = refl
       go false = refl
 
@@ -36,7 +37,8 @@ module _ (passes : ℕ → Bool) (beats : ℕ → ℕ → Bool) where
   first_ordered (x ∷ xs) = go (passes x) (first_ordered xs)
     where
       go : (b : Bool) → slice_get (chosen_in_order passes beats xs) 0 ≡ best passes beats xs
-          → slice_get (if b then insert_before beats x (chosen_in_order passes beats xs) else chosen_in_order passes beats xs) 0
+          → slice_get (if b then insert_before beats x (chosen_in_order passes beats xs) else chosen_in_order passes
+          beats xs) 0
           ≡ (if b then better_of beats x (best passes beats xs) else best passes beats xs)
       go true e = first_placed x (chosen_in_order passes beats xs) ∙ ap (better_of beats x) e
       go false e = e
@@ -198,17 +200,20 @@ module _ (beats : ℕ → ℕ → Bool) (one_way : (x y : ℕ) → beats x y ≡
     (some_way : (x y : ℕ) → x ≢ y → beats x y ≡ false → beats y x ≡ true)
     (onward : (x y z : ℕ) → beats x y ≡ true → beats y z ≡ true → beats x z ≡ true) where
   -- of two, whichever comes first
-  pair_placed : (x y : ℕ) (zs : List ℕ) → beats x y ≡ true → insert_before beats x zs ≡ x ∷ zs → insert_before beats y zs ≡ y ∷ zs
+  pair_placed : (x y : ℕ) (zs : List ℕ) → beats x y ≡ true → insert_before beats x zs ≡ x ∷ zs
+      → insert_before beats y zs ≡ y ∷ zs
       → insert_before beats x (insert_before beats y zs) ≡ insert_before beats y (insert_before beats x zs)
   pair_placed x y zs first own other =
       ap (insert_before beats x) other ∙ front beats x y zs first
-      ∙ sym (ap (insert_before beats y) own ∙ behind beats y x zs (one_way x y first) ∙ ap (λ (l : List ℕ). x ∷ l) other)
+      ∙ sym (ap (insert_before beats y) own ∙ behind beats y x zs (one_way x y first)
+      ∙ ap (λ (l : List ℕ). x ∷ l) other)
 
   both_placed : (x y : ℕ) (zs : List ℕ) → x ≢ y → insert_before beats x zs ≡ x ∷ zs → insert_before beats y zs ≡ y ∷ zs
       → insert_before beats x (insert_before beats y zs) ≡ insert_before beats y (insert_before beats x zs)
   both_placed x y zs differ own other = go (beats x y) refl
     where
-      go : (b : Bool) → beats x y ≡ b → insert_before beats x (insert_before beats y zs) ≡ insert_before beats y (insert_before beats x zs)
+      go : (b : Bool) → beats x y ≡ b → insert_before beats x (insert_before beats y zs)
+          ≡ insert_before beats y (insert_before beats x zs)
       go true e = pair_placed x y zs e own other
       go false e = sym (pair_placed y x zs (some_way x y differ e) other own)
 
@@ -218,12 +223,14 @@ module _ (beats : ℕ → ℕ → Bool) (one_way : (x y : ℕ) → beats x y ≡
   across x y z zs differ wins loses = go (beats x y) refl
     where
       go : (b : Bool) → beats x y ≡ b
-          → insert_before beats x (insert_before beats y (z ∷ zs)) ≡ insert_before beats y (insert_before beats x (z ∷ zs))
+          → insert_before beats x (insert_before beats y (z ∷ zs)) ≡ insert_before beats y
+          (insert_before beats x (z ∷ zs))
       go true e = absurd (false≢true (sym loses ∙ onward x y z e wins))
       go false e =
           ap (insert_before beats x) (front beats y z zs wins) ∙ behind beats x y (z ∷ zs) e
           ∙ ap (λ (l : List ℕ). y ∷ l) (behind beats x z zs loses)
-          ∙ sym (ap (insert_before beats y) (behind beats x z zs loses) ∙ front beats y z (insert_before beats x zs) wins)
+          ∙ sym (ap (insert_before beats y) (behind beats x z zs loses)
+          ∙ front beats y z (insert_before beats x zs) wins)
 
   placed_twice : (x y : ℕ) → x ≢ y → (zs : List ℕ)
       → insert_before beats x (insert_before beats y zs) ≡ insert_before beats y (insert_before beats x zs)
@@ -232,7 +239,8 @@ module _ (beats : ℕ → ℕ → Bool) (one_way : (x y : ℕ) → beats x y ≡
     where
       go : (b c : Bool) → beats x z ≡ b → beats y z ≡ c
           → insert_before beats x (insert_before beats y zs) ≡ insert_before beats y (insert_before beats x zs)
-          → insert_before beats x (insert_before beats y (z ∷ zs)) ≡ insert_before beats y (insert_before beats x (z ∷ zs))
+          → insert_before beats x (insert_before beats y (z ∷ zs)) ≡ insert_before beats y
+          (insert_before beats x (z ∷ zs))
       go true true e f rest = both_placed x y (z ∷ zs) differ (front beats x z zs e) (front beats y z zs f)
       go true false e f rest = sym (across y x z zs (λ same. differ (sym same)) e f)
       go false true e f rest = across x y z zs differ f e
@@ -246,14 +254,17 @@ module _ (beats : ℕ → ℕ → Bool) (one_way : (x y : ℕ) → beats x y ≡
       → chosen_in_order p beats xs ≡ chosen_in_order q beats xs
   ordered_alike p q [] alike = refl
   ordered_alike p q (x ∷ xs) alike =
-      ap (λ (b : Bool). if b then insert_before beats x (chosen_in_order p beats xs) else chosen_in_order p beats xs) (alike x (contains_here
+      ap (λ (b : Bool). if b then insert_before beats x (chosen_in_order p beats xs) else chosen_in_order p beats xs)
+      (alike x (contains_here
       x xs))
-      ∙ ap (λ (l : List ℕ). if q x then insert_before beats x l else l) (ordered_alike p q xs (λ y is. alike y (contains_there
+      ∙ ap (λ (l : List ℕ). if q x then insert_before beats x l else l)
+      (ordered_alike p q xs (λ y is. alike y (contains_there
       x xs y is)))
 
   -- one more passes
   pub ordered_more : (p q : ℕ → Bool) (n : ℕ) → p n ≡ false → q n ≡ true → ((x : ℕ) → x ≢ n → p x ≡ q x)
-      → (xs : List ℕ) → AreDifferent xs → Contains xs n → chosen_in_order q beats xs ≡ insert_before beats n (chosen_in_order p beats xs)
+      → (xs : List ℕ) → AreDifferent xs → Contains xs n → chosen_in_order q beats xs
+      ≡ insert_before beats n (chosen_in_order p beats xs)
   ordered_more p q n out into others [] differ is = absurd (contains_none n is)
   ordered_more p q n out into others (x ∷ xs) differ is = elim (contains_cases x xs n is) [
     | inl same ↦ here same
@@ -265,26 +276,32 @@ module _ (beats : ℕ → ℕ → Bool) (one_way : (x y : ℕ) → beats x y ≡
       here same =
           let own : q x ≡ true = ap q same ∙ into in
           let none : p x ≡ false = ap p same ∙ out in
-          let rest : chosen_in_order p beats xs ≡ chosen_in_order q beats xs = ordered_alike p q xs (λ y there. others y (λ again.
+          let rest : chosen_in_order p beats xs ≡ chosen_in_order q beats xs =
+          ordered_alike p q xs (λ y there. others y (λ again.
           different_head x xs differ (subst (Contains xs) (again ∙ sym same) there))) in
-          ap (λ (b : Bool). if b then insert_before beats x (chosen_in_order q beats xs) else chosen_in_order q beats xs) own
+          ap (λ (b : Bool). if b then insert_before beats x (chosen_in_order q beats xs) else chosen_in_order q beats
+          xs) own
           ∙ ap (λ (m : ℕ). insert_before beats m (chosen_in_order q beats xs)) same
           ∙ ap (insert_before beats n) (sym rest)
-          ∙ sym (ap (λ (b : Bool). insert_before beats n (if b then insert_before beats x (chosen_in_order p beats xs) else chosen_in_order p beats
+          ∙ sym (ap (λ (b : Bool). insert_before beats n
+          (if b then insert_before beats x (chosen_in_order p beats xs) else chosen_in_order p beats
           xs)) none)
 
       later : x ≢ n → chosen_in_order q beats xs ≡ insert_before beats n (chosen_in_order p beats xs)
           → chosen_in_order q beats (x ∷ xs) ≡ insert_before beats n (chosen_in_order p beats (x ∷ xs))
       later other rest = go (p x) (q x) (others x other)
         where
-          go : (b c : Bool) → b ≡ c → (if c then insert_before beats x (chosen_in_order q beats xs) else chosen_in_order q beats xs)
-              ≡ insert_before beats n (if b then insert_before beats x (chosen_in_order p beats xs) else chosen_in_order p beats xs)
+          go : (b c : Bool) → b ≡ c → (if c then insert_before beats x (chosen_in_order q beats xs) else chosen_in_order
+              q beats xs)
+              ≡ insert_before beats n (if b then insert_before beats x (chosen_in_order p beats xs) else chosen_in_order
+              p beats xs)
           go true true e = ap (insert_before beats x) rest ∙ placed_twice x n other (chosen_in_order p beats xs)
           go false false e = rest
           go true false e = absurd (false≢true (sym e))
           go false true e = absurd (false≢true e)
 
-  all_placed : (P : ℕ → Type 0) (x : ℕ) (ys : List ℕ) → P x → AllByRecursion P ys → AllByRecursion P (insert_before beats x ys)
+  all_placed : (P : ℕ → Type 0) (x : ℕ) (ys : List ℕ) → P x → AllByRecursion P ys
+      → AllByRecursion P (insert_before beats x ys)
   all_placed P x [] own all = (own, tt)
   all_placed P x (y ∷ ys) own all = go (beats x y) (all_placed P x ys own all.1)
     where
@@ -299,7 +316,8 @@ module _ (beats : ℕ → ℕ → Bool) (one_way : (x y : ℕ) → beats x y ≡
   ordered_passes p (x ∷ xs) = go (p x) refl (ordered_passes p xs)
     where
       go : (b : Bool) → p x ≡ b → AllByRecursion (λ y. p y ≡ true) (chosen_in_order p beats xs)
-          → AllByRecursion (λ y. p y ≡ true) (if b then insert_before beats x (chosen_in_order p beats xs) else chosen_in_order p beats xs)
+          → AllByRecursion (λ y. p y ≡ true) (if b then insert_before beats x (chosen_in_order p beats xs) else
+          chosen_in_order p beats xs)
       go true e all = all_placed (λ y. p y ≡ true) x (chosen_in_order p beats xs) e all
       go false e all = all
 
@@ -320,7 +338,8 @@ module _ (beats : ℕ → ℕ → Bool) (one_way : (x y : ℕ) → beats x y ≡
           → without n (if b then n ∷ x ∷ xs else x ∷ insert_before beats n xs) ≡ x ∷ xs
       go true rest = without_first n (x ∷ xs)
       go false rest =
-          ap (λ (b : Bool). if b then insert_before beats n xs else x ∷ without n (insert_before beats n xs)) (ne_eqb x n none.0)
+          ap (λ (b : Bool). if b then insert_before beats n xs else x ∷ without n (insert_before beats n xs))
+          (ne_eqb x n none.0)
           ∙ ap (λ (l : List ℕ). x ∷ l) rest
 
   -- one passes no longer
@@ -333,10 +352,13 @@ module _ (beats : ℕ → ℕ → Bool) (one_way : (x y : ℕ) → beats x y ≡
           all_weaker (λ x. q x ≡ true) (λ x. x ≢ n) (λ x passes same. false≢true (sym out ∙ ap q (sym same) ∙ passes))
           (chosen_in_order q beats xs) (ordered_passes q xs)
 
-      unchanged : ((x : ℕ) → Contains xs x → q x ≡ p x) → without n (chosen_in_order p beats xs) ≡ chosen_in_order q beats xs
-      unchanged alike = ap (without n) (sym (ordered_alike q p xs alike)) ∙ without_none n (chosen_in_order q beats xs) none
+      unchanged : ((x : ℕ) → Contains xs x → q x ≡ p x) → without n (chosen_in_order p beats xs)
+          ≡ chosen_in_order q beats xs
+      unchanged alike = ap (without n) (sym (ordered_alike q p xs alike))
+          ∙ without_none n (chosen_in_order q beats xs) none
 
-      go : (b c : Bool) → p n ≡ b → list_any (λ x. x == n) xs ≡ c → without n (chosen_in_order p beats xs) ≡ chosen_in_order q beats xs
+      go : (b c : Bool) → p n ≡ b → list_any (λ x. x == n) xs ≡ c → without n (chosen_in_order p beats xs)
+          ≡ chosen_in_order q beats xs
       go true true e f =
           ap (without n) (ordered_more q p n out e others xs differ (contained_any n xs f))
           ∙ without_placed n (chosen_in_order q beats xs) none

@@ -84,7 +84,8 @@ impl<'a> State<'a> {
 
     /// The running job, where there is one, is taken out of the state.
     fn take_running(&mut self) -> Option<Job<'a>>
-        ensures { MatchOption result ((self.old.jobs ≡ []) × (self.new ≡ self.old)) (λ job. self.old ≡ held_with_job self.new
+        ensures { MatchOption result ((self.old.jobs ≡ []) × (self.new ≡ self.old))
+            (λ job. self.old ≡ held_with_job self.new
             job self.new.store) }
     {
         if self.jobs.len() == 0 {
@@ -132,7 +133,8 @@ impl<'a> State<'a> {
         requires machine { IsMachine machine.now }
         requires early { IsEarly self.old }
         requires seen { is_seen todo ≡ true }
-        ensures { OnOk result (Advances (app_of machine.now.code.now.app.now) (held_with_job self.old (with_next todo.entry
+        ensures { OnOk result (Advances (app_of machine.now.code.now.app.now)
+            (held_with_job self.old (with_next todo.entry
             job.entry) self.old.store) self.new) }
     {
         match todo {
@@ -152,7 +154,8 @@ impl<'a> State<'a> {
     fn read(&mut self, code: &Code<'a>, reading: Reading, mut job: Job<'a>) -> Result<(), NoMemory>
         requires code { IsCode code.now }
         requires early { IsEarly self.old }
-        ensures { OnOk result (Advances (app_of code.now.app.now) (held_with_job self.old (with_next (Todo.Clock reading)
+        ensures { OnOk result (Advances (app_of code.now.app.now)
+            (held_with_job self.old (with_next (Todo.Clock reading)
             job.entry) self.old.store) self.new) }
     {
         answer(reading, self.time, &mut job.work)?;
@@ -176,7 +179,8 @@ impl<'a> State<'a> {
     fn finish(&mut self, code: &Code<'a>, job: Job<'a>) -> Result<(), NoMemory>
         requires code { IsCode code.now }
         requires early { IsEarly self.old }
-        ensures { OnOk result (job.entry.work.todos ≡ [] → Advances (app_of code.now.app.now) (held_with_job self.old job.entry
+        ensures { OnOk result (job.entry.work.todos ≡ [] → Advances (app_of code.now.app.now)
+            (held_with_job self.old job.entry
             self.old.store) self.new) }
     {
         match job.role {

@@ -119,7 +119,8 @@ pub none_ready : (app : App) (p : ℕ) (all : List Message) (old new : Work) (s 
     → Becomes app (meaning app (todo.Dispatch p)) old s new s
 unfolding behind
 none_ready app p all old new s read none is =
-    pushed app (meaning app (todo.Dispatch p)) old new s _ is (λ later. ap (λ (ms : List Message). start_message app p ms
+    pushed app (meaning app (todo.Dispatch p)) old new s _ is
+    (λ later. ap (λ (ms : List Message). start_message app p ms
     later old.vars (contents s)) (sym read ∙ none))
 
 pub oldest_ready : (app : App) (p : ℕ) (all : List Message) (m : Message) (rest : List Message) (old new : Work) (s
@@ -128,7 +129,8 @@ pub oldest_ready : (app : App) (p : ℕ) (all : List Message) (m : Message) (res
     → Becomes app (meaning app (todo.Dispatch p)) old s new s
 oldest_ready app p all m rest old new s read is pushes = record {
   same = λ later.
-      ap (λ (ms : List Message). start_message app p ms (behind app old.todos later) old.vars (contents s)) (sym read ∙ is)
+      ap (λ (ms : List Message). start_message app p ms (behind app old.todos later) old.vars (contents s))
+      (sym read ∙ is)
       ∙ pushes.same later old.vars (contents s)
       ∙ ap (λ (vars : List ℕ). behind app new.todos later vars (contents s)) (sym pushes.vars);
 }

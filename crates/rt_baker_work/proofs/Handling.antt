@@ -42,7 +42,8 @@ pub runs : (app : App) (h : Handler) (n : ℕ) (m : Message) (old new : Work) �
 runs app h n m old new is task args begins s = record {
   same = λ later.
       ap (λ (k : Handler). run_handler app k (behind app old.todos later) old.vars (contents s)) is
-      ∙ ap (λ (k : ℕ). enter_body app (task_body app k) [] (behind app old.todos later) old.vars (contents s)) (sym task)
+      ∙ ap (λ (k : ℕ). enter_body app (task_body app k) [] (behind app old.todos later) old.vars (contents s))
+      (sym task)
       ∙ ap (λ (xs : List ℕ). enter_body app (task_body app m.task) xs (behind app old.todos later) old.vars (contents
       s)) (sym args)
       ∙ (begins s).same later;

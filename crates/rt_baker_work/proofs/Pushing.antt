@@ -20,7 +20,8 @@ use Rattle.rt_baker_work.specs.declared.todo.Todo.TheVariants as todo
 use Rattle.rt_baker_work.specs.declared.todo.Reading.TheVariants as reading
 use Rattle.rt_baker_work.specs.Actions.{action_of}
 use Rattle.rt_baker_work.specs.Store.{Store, contents}
-use Rattle.rt_baker_work.specs.Todo.{give_answer, give_handle, send_message, place_message, use_clock, cancel_message, move_message, behind}
+use Rattle.rt_baker_work.specs.Todo.{give_answer, give_handle, send_message, place_message, use_clock, cancel_message}
+use Rattle.rt_baker_work.specs.Todo.{move_message, behind}
 use Rattle.rt_baker_work.specs.Work.{Work, Becomes}
 use Rattle.rt_baker_work.specs.Inside.Pushes.{Pushes}
 use Rattle.rt_baker_work.proofs.Walks.{made, with_todos, behind_more, three_more, variable_set}
@@ -80,7 +81,8 @@ pub told_some : (v : Option ℕ) (x n : ℕ) (old new : Work) → v ≡ Some x �
     → (app : App) → Pushes app (give_answer v n) old new
 unfolding behind
 told_some v x n old new is grown app =
-    all_pushed app (give_answer v n) old new (todo.Set x n ∷ []) grown (λ later vars vs. ap (λ (o : Option ℕ). give_answer o n
+    all_pushed app (give_answer v n) old new (todo.Set x n ∷ []) grown
+    (λ later vars vs. ap (λ (o : Option ℕ). give_answer o n
     later vars vs) is)
 
 -- a message becomes ready
@@ -119,7 +121,8 @@ pub sent_soon : (app : App) (variable delay : Option ℕ) (m : Message) (old mid
     → Pushes app (λ later vars. send_message app delay m (λ value. give_answer variable value later vars)) old new
 sent_soon app variable delay m old mid new is told p =
     as_pushes app _ _ old new
-    (λ later vars vs. ap (λ (o : Option ℕ). send_message app o m (λ value. give_answer variable value later vars) vs) is)
+    (λ later vars vs. ap (λ (o : Option ℕ). send_message app o m (λ value. give_answer variable value later vars) vs)
+    is)
     (then_pushed app (give_answer variable 1)
     (λ later vars. act_all (ready_actions app (task_priority app m.task) m) (later vars)) old mid new told p)
 
@@ -128,7 +131,8 @@ pub armed : (app : App) (variable : Option ℕ) (ticks cost : ℕ) (m : Message)
     → a ≡ with_todos old (todo.Act (action.Leave section.Timer) ∷ todo.Act action.SetAlarm ∷ [])
     → Pushes app (give_handle variable) a b
     → new ≡ with_todos b (todo.Clock (reading.Arm ticks m) ∷ todo.Act (action.Enter section.Timer cost) ∷ [])
-    → Pushes app (λ later vars. arm_actions app (timer_section_cost app) ticks m (λ value. give_answer variable value later
+    → Pushes app (λ later vars. arm_actions app (timer_section_cost app) ticks m
+    (λ value. give_answer variable value later
     vars)) old new
 unfolding behind
 armed app variable ticks cost m old a b new takes closes hands grown =
@@ -157,12 +161,14 @@ armed app variable ticks cost m old a b new takes closes hands grown =
 
 pub sent_after : (app : App) (variable delay : Option ℕ) (ticks : ℕ) (m : Message) (old new : Work)
     → delay ≡ Some ticks
-    → Pushes app (λ later vars. arm_actions app (timer_section_cost app) ticks m (λ value. give_answer variable value later
+    → Pushes app (λ later vars. arm_actions app (timer_section_cost app) ticks m
+    (λ value. give_answer variable value later
     vars)) old new
     → Pushes app (λ later vars. send_message app delay m (λ value. give_answer variable value later vars)) old new
 sent_after app variable delay ticks m old new is p =
     as_pushes app _ _ old new
-    (λ later vars vs. ap (λ (o : Option ℕ). send_message app o m (λ value. give_answer variable value later vars) vs) is) p
+    (λ later vars vs. ap (λ (o : Option ℕ). send_message app o m (λ value. give_answer variable value later vars) vs)
+    is) p
 
 -- a place is taken where one is left
 pub place_taken : (app : App) (variable delay : Option ℕ) (m : Message) (n : ℕ) (old b new : Work) (s : Store)
@@ -184,15 +190,18 @@ place_taken app variable delay m n old b new s out capacity task counted has roo
     let q = then_pushed app _ _ old b new sends p in
     pushes_become app _ (place_message app variable delay m) old new s
     (λ later.
-    ap (λ (k : ℕ). place_message app variable delay (record { task = k; args = m.args }) later old.vars (contents s)) (sym
+    ap (λ (k : ℕ). place_message app variable delay (record { task = k; args = m.args }) later old.vars (contents s))
+    (sym
     task)
     ∙ ap (λ (b : Bool). (if b then act_all (action_of (action.Place n) ∷ action_of (action.Leave (section.Free n))
-    ∷ []) (send_message app delay (record { task = n; args = m.args }) (λ value. give_answer variable value later old.vars)) (contents
+    ∷ []) (send_message app delay (record { task = n; args = m.args })
+    (λ value. give_answer variable value later old.vars)) (contents
     s)
     else act_all (action_of (action.Full n) ∷ action_of (action.Leave (section.Free n)) ∷ []) (give_answer variable 0
     later old.vars) (contents s))) is
     ∙ ap (λ (k : ℕ). act_all (action_of (action.Place n) ∷ action_of (action.Leave (section.Free n)) ∷ []) (send_message
-    app delay (record { task = k; args = m.args }) (λ value. give_answer variable value later old.vars)) (contents s)) task) q
+    app delay (record { task = k; args = m.args }) (λ value. give_answer variable value later old.vars)) (contents s))
+    task) q
 
 pub place_refused : (app : App) (variable delay : Option ℕ) (m : Message) (n : ℕ) (old a new : Work) (s : Store)
     (out capacity : ℕ)
@@ -213,10 +222,12 @@ place_refused app variable delay m n old a new s out capacity task counted has f
     let q = then_pushed app _ _ old a new told p in
     pushes_become app _ (place_message app variable delay m) old new s
     (λ later.
-    ap (λ (k : ℕ). place_message app variable delay (record { task = k; args = m.args }) later old.vars (contents s)) (sym
+    ap (λ (k : ℕ). place_message app variable delay (record { task = k; args = m.args }) later old.vars (contents s))
+    (sym
     task)
     ∙ ap (λ (b : Bool). (if b then act_all (action_of (action.Place n) ∷ action_of (action.Leave (section.Free n))
-    ∷ []) (send_message app delay (record { task = n; args = m.args }) (λ value. give_answer variable value later old.vars)) (contents
+    ∷ []) (send_message app delay (record { task = n; args = m.args })
+    (λ value. give_answer variable value later old.vars)) (contents
     s)
     else act_all (action_of (action.Full n) ∷ action_of (action.Leave (section.Free n)) ∷ []) (give_answer variable 0
     later old.vars) (contents s))) is) q

@@ -11,7 +11,8 @@ use Rattle.std.specs.Option.{option_and_then}
 use Rattle.rt_ids.proofs.Lists.{find_by_position}
 use Rattle.rt_lemmas.proofs.Lists.{mapped_read}
 use Rattle.rt_ids.specs.Holder.{Holder, Guarded, Own}
-use Rattle.rt_ids.specs.Content.{Message, Armed, Timed, Content, Number, Messages, Delays, Values, values_with, timer_content}
+use Rattle.rt_ids.specs.Content.{Message, Armed, Timed, Content, Number, Messages, Delays, Values, values_with}
+use Rattle.rt_ids.specs.Content.{timer_content}
 use Rattle.rt_ids.specs.Content.{without_least, has_handle, without_handle, postponed_message, message_of_handle}
 use Rattle.rt_ids.specs.Action.{effect, Places, Frees, Readies, Starts, Arms, Fires, Cancels, Moves}
 use Rattle.rt_ids.specs.declared.ids.Section.TheVariants as section
@@ -166,7 +167,8 @@ pub armed : (s t : Store) (i n : ℕ) (m : Message) (list : List Armed) → s �
 unfolding contents
 armed s t i n m list e next is =
     set_timed s (timed_as n s.timed.moved list)
-    ∙ ap (λ (ks : List Armed). values_with (contents s) (Guarded section.Timer) (Delays (timed_as n s.timed.moved ks))) is
+    ∙ ap (λ (ks : List Armed). values_with (contents s) (Guarded section.Timer) (Delays (timed_as n s.timed.moved ks)))
+    is
     ∙ ap (λ (k : ℕ). values_with (contents s) (Guarded section.Timer) (Delays (timed_as k s.timed.moved (s.timed.armed
     ++ record { instant = i; message = m; handle = k } ∷ [])))) next
     ∙ ap (λ (u : Store). effect (Arms i m) (contents u)) e
@@ -195,8 +197,10 @@ pub put_off : (s t : Store) (n h i k : ℕ) (list : List Armed) → s ≡ t → 
 unfolding contents
 put_off s t n h i k list e next is =
     set_timed s (timed_as s.timed.given k list)
-    ∙ ap (λ (ks : List Armed). values_with (contents s) (Guarded section.Timer) (Delays (timed_as s.timed.given k ks))) is
-    ∙ ap (λ (j : ℕ). values_with (contents s) (Guarded section.Timer) (Delays (timed_as s.timed.given j (without_handle n
+    ∙ ap (λ (ks : List Armed). values_with (contents s) (Guarded section.Timer) (Delays (timed_as s.timed.given k ks)))
+    is
+    ∙ ap (λ (j : ℕ). values_with (contents s) (Guarded section.Timer)
+    (Delays (timed_as s.timed.given j (without_handle n
     h s.timed.armed ++ postponed_message i (message_of_handle n h s.timed.armed))))) next
     ∙ ap (λ (u : Store). effect (Moves n h i) (contents u)) e
 

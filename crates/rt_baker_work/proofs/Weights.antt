@@ -14,7 +14,8 @@ use Rattle.rt_baker_work.specs.declared.todo.Todo.{Todo}
 use Rattle.rt_baker_work.specs.declared.todo.Todo.TheVariants as todo
 use Rattle.rt_baker_work.specs.Todo.{task_body}
 use Rattle.rt_baker_work.specs.Work.{Work, is_seen}
-use Rattle.rt_baker_work.specs.Inside.Weights.{turns_weight, statement_weight, block_weight, bodies_weight, weight, weights}
+use Rattle.rt_baker_work.specs.Inside.Weights.{turns_weight, statement_weight, block_weight, bodies_weight, weight}
+use Rattle.rt_baker_work.specs.Inside.Weights.{weights}
 use Rattle.rt_baker_work.proofs.Walks.{made, with_todos}
 use Rattle.rt_baker_work.proofs.Beginning.{served, reposted}
 

@@ -83,7 +83,8 @@ module _ (app : App) where
   use_clock (reading.Arm delay m) time later vars vs = act (Arms (instant_after app time delay) m) (later vars) vs
   use_clock (reading.Move delay n handle) time later vars vs =
       act (Moves n handle (instant_after app time delay)) (later vars) vs
-  use_clock reading.Fire time later vars vs = fire_message (due app time (delays (vs (Guarded section.Timer)))) (later vars) vs
+  use_clock reading.Fire time later vars vs = fire_message (due app time (delays (vs (Guarded section.Timer))))
+      (later vars) vs
 
   -- inside the section of the armed messages one of them is taken back, where it has the handle
   abbrev pub cancel_message : Option ℕ → ℕ → ℕ → Later → Later

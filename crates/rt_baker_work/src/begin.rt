@@ -79,7 +79,8 @@ pub fn begin_body<'a>(
     body: &'a Option<Body>,
     work: &mut Work<'a>,
 ) -> Result<(), NoMemory>
-    ensures { OnOk result ((app : tree.App) (s : store.Store) → Becomes app (enter_body app (option_map body_of body.now)
+    ensures { OnOk result ((app : tree.App) (s : store.Store) → Becomes app
+        (enter_body app (option_map body_of body.now)
         []) work.old s work.new s) }
 {
     match body {

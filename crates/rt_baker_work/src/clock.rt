@@ -15,7 +15,8 @@ use rt_ids::{NoMemory, TaskId};
 /// A variable comes to hold the time.
 fn bind<'a>(variable: u16, time: u64, work: &mut Work<'a>)
     requires { time < 2 ^ 32 }
-    ensures { (app : App) (s : store.Store) → Becomes app (use_clock app (Reading.Bind variable) time) work.old s work.new
+    ensures { (app : App) (s : store.Store) → Becomes app (use_clock app (Reading.Bind variable) time) work.old s
+        work.new
         s }
 {
     work.set(variable, time as u32);

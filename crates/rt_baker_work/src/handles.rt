@@ -28,7 +28,8 @@ pub(crate) fn told_handle<'a>(variable: u16, work: &mut Work<'a>, store: &Store)
 
 /// No armed message has the handle: a variable is told so.
 fn miss<'a>(variable: Option<u16>, work: &mut Work<'a>) -> Result<(), NoMemory>
-    ensures same { OnOk result ((app : App) → Pushes app (λ later vars. act (Leaves section.Timer) (give_answer variable 1
+    ensures same { OnOk result ((app : App) → Pushes app
+        (λ later vars. act (Leaves section.Timer) (give_answer variable 1
         later vars)) work.old work.new) }
     ensures lighter { OnOk result ((app : App) → weights app work.new.todos ≤ weights app work.old.todos + 1) }
 {

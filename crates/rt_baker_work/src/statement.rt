@@ -92,7 +92,8 @@ fn spawn<'a>(
     store: &Store,
 ) -> Result<(), NoMemory>
     requires { IsCode code.now }
-    ensures same { OnOk result (Becomes (app_of code.now.app.now) (make_spawn (app_of code.now.app.now) variable (spawn_of
+    ensures same { OnOk result (Becomes (app_of code.now.app.now)
+        (make_spawn (app_of code.now.app.now) variable (spawn_of
         spawn.now)) work.old store.now work.new store.now) }
     ensures lighter { let app = app_of code.now.app.now in
         OnOk result (weights app work.new.todos ≤ weights app work.old.todos + 2) }

@@ -64,7 +64,8 @@ pub fn drop_first<T: Drop>(items: &mut Vec<T>)
 
 /// The armed message of a task that has a handle, where there is one, goes last for another instant.
 fn postpone(armed: &mut Vec<Armed>, task: TaskId, handle: u32, instant: u64) -> Result<(), NoMemory>
-    ensures { OnOk result (armed.new.items ≡ without_handle task handle armed.old.items ++ postponed_message instant (message_of_handle
+    ensures { OnOk result (armed.new.items ≡ without_handle task handle armed.old.items
+        ++ postponed_message instant (message_of_handle
         task handle armed.old.items)) }
 {
     if let Some(index) = by_handle(armed, task, handle) {

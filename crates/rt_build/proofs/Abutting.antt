@@ -166,7 +166,8 @@ module _ (app : App) (first before after : List Line) (kept : IsKept first befor
       here : at.dispatcher p ≡ entry
       here =
           agrees (length entries) p (omega (arith, long)) at_end
-          ∙ (ap (λ (es : List ℕ). slice_index es (length entries)) is ∙ get_or_push entries entry 0 (length entries) refl)
+          ∙ (ap (λ (es : List ℕ). slice_index es (length entries)) is
+          ∙ get_or_push entries entry 0 (length entries) refl)
 
       before_it : (j q : ℕ) → j < length entries → slice_get (levels app) j ≡ Some q
           → at.dispatcher q ≡ slice_index entries j

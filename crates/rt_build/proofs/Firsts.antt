@@ -1,5 +1,6 @@
 -- A list has one first violation at the most.
-use Rattle.std.proofs.Common.{◌≡◌, ◌==◌, ℕ, inl, inr, List, [], refl, sym, ap, subst, ◌∙◌, arith, Contains, if◌then◌else◌}
+use Rattle.std.proofs.Common.{◌≡◌, ◌==◌, ℕ, inl, inr, List, [], refl, sym, ap, subst, ◌∙◌, arith, Contains}
+use Rattle.std.proofs.Common.{if◌then◌else◌}
 use Rattle.rt_lemmas.proofs.Membership.{all_has, contains_none}
 use Rattle.rt_ids.specs.declared.rule.Rule.{Rule}
 use Rattle.rt_ids.specs.declared.rule.Rule.TheVariants as rule
@@ -9,9 +10,12 @@ use Rattle.rt_app.specs.Violation.{rank, IsNotAfter, IsFirst}
 -- the rule of a number
 abbrev of_rank : ℕ → Rule
 of_rank n =
-    if n == 5 then rule.UnknownName else if n == 6 then rule.DeclaredTwice else if n == 7 then rule.PriorityOutOfRange else if n == 8 then rule.InterruptUsedTwice
-    else if n == 9 then rule.TooFewDispatchers else if n == 10 then rule.LocalInTwoTasks else if n == 11 then rule.OutsideLock else if n == 12 then rule.LockedInsideItself
-    else if n == 13 then rule.SharedAndExclusive else if n == 14 then rule.LockFreeAtTwoPriorities else if n == 15 then rule.NotSoftware else if n == 16 then rule.NoMonotonic
+    if n == 5 then rule.UnknownName else if n == 6 then rule.DeclaredTwice else if n == 7 then rule.PriorityOutOfRange
+    else if n == 8 then rule.InterruptUsedTwice
+    else if n == 9 then rule.TooFewDispatchers else if n == 10 then rule.LocalInTwoTasks else if n == 11 then
+    rule.OutsideLock else if n == 12 then rule.LockedInsideItself
+    else if n == 13 then rule.SharedAndExclusive else if n == 14 then rule.LockFreeAtTwoPriorities else if n == 15 then
+    rule.NotSoftware else if n == 16 then rule.NoMonotonic
     else if n == 17 then rule.TooLongBody else rule.NotWritable
 
 of_rank_is : (r : Rule) → of_rank (rank r) ≡ r
@@ -32,7 +36,8 @@ same v w (inr a) (inr b) =
     let at = a.0 in λ i. record { at = at i; rule = e i }
 
 pub one_first : (vs : List Violation) (v w : Violation) → IsFirst vs v → IsFirst vs w → v ≡ w
-one_first vs v w a b = same v w (all_has (IsNotAfter v) vs w a.first b.is_one) (all_has (IsNotAfter w) vs v b.first a.is_one)
+one_first vs v w a b = same v w (all_has (IsNotAfter v) vs w a.first b.is_one)
+    (all_has (IsNotAfter w) vs v b.first a.is_one)
 
 -- nothing is broken where nothing is the first
 pub no_first : (vs : List Violation) (v : Violation) → vs ≡ [] → IsFirst vs v → ⊥

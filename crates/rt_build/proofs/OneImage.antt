@@ -1,5 +1,6 @@
 -- An application whose code is fixed has one image.
-use Rattle.std.proofs.Common.{◌≡◌, ℕ, ◌+◌, Bool, true, false, List, [], ◌∷◌, ◌++◌, length, map, filter, Option, Some, None}
+use Rattle.std.proofs.Common.{◌≡◌, ℕ, ◌+◌, Bool, true, false, List, [], ◌∷◌, ◌++◌, length, map, filter, Option, Some}
+use Rattle.std.proofs.Common.{None}
 use Rattle.std.proofs.Common.{option_map, slice_get, refl, sym, ap, subst, ◌∙◌, append-nil, if◌then◌else◌, not, arith}
 use Rattle.std.proofs.Common.{flat_map, sum_by, ◌==◌, IsSome}
 use Rattle.std.specs.Prelude.{is_none, IsPermutation}
@@ -90,7 +91,8 @@ module _ (app : App) where
         → AreAbutting app one from parts xs → AreAbutting app other from parts ys
         → (xs ≡ ys) × AllByRecursion BeginsAlike parts
     parts_same [] from xs ys fixed first second = (first ∙ sym second, tt)
-    parts_same (part ∷ parts) from xs ys (fixed, more_fixed) (own, more, is, first, rest) (own2, more2, is2, second, rest2) =
+    parts_same (part ∷ parts) from xs ys (fixed, more_fixed) (own, more, is, first, rest)
+        (own2, more2, is2, second, rest2) =
         let same : own ≡ own2 = part_same part from own own2 fixed first.formed second.formed in
         let behind = parts_same parts (from + length own) more more2 more_fixed rest
         (subst (λ (lines : List Line). AreAbutting app other (from + length lines) parts more2) (sym same) rest2) in (
@@ -161,9 +163,11 @@ module _ (app : App) where
     services_are : services app ≡ task_services 0 app.tasks
     services_are =
         ap (λ (ps : List ℕ). task_services 0 app.tasks ++ (flat_map (λ p. dispatcher_service p (dispatcher_of app p)) ps
-        ++ timer_service app.mono)) (none_mapped OfLevel (levels app) (none_both (map OfLevel (levels app)) _ no_others).0)
+        ++ timer_service app.mono)) (none_mapped OfLevel (levels app)
+        (none_both (map OfLevel (levels app)) _ no_others).0)
         ∙ (ap (λ (ss : List Service). task_services 0 app.tasks ++ ss)
-        (untimed app.mono (none_both (map OfLevel (levels app)) _ no_others).1) ∙ append-nil (task_services 0 app.tasks))
+        (untimed app.mono (none_both (map OfLevel (levels app)) _ no_others).1)
+        ∙ append-nil (task_services 0 app.tasks))
       where
         untimed : (o : Option Mono) → timer_parts o ≡ [] → timer_service o ≡ []
         untimed None none = refl

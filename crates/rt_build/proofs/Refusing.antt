@@ -16,19 +16,39 @@ use Rattle.rt_rules.proofs.Earliest.{is_first, is_none}
 use Rattle.rt_build.specs.Accepted.{tree_violations, IsApplication, IsRefusedText}
 use Rattle.rt_build.proofs.Firsts.{no_first}
 
-pub application_not_refused : (src : List ℕ) (app : App) (fault : Fault) → IsApplication src app → IsRefusedText src fault → ⊥
+pub application_not_refused : (src : List ℕ) (app : App) (fault : Fault) → IsApplication src app
+    → IsRefusedText src fault → ⊥
 application_not_refused src app fault a (inl refused) = text_not_refused src a.tree fault a.text refused
 application_not_refused src app fault a (inr b) =
-    no_first (tree_violations a.tree) b.broken.violation a.kept.rules (subst (λ (t : written.App). IsFirst (tree_violations t) b.broken.violation) (text_only src b.tree a.tree b.text a.text) b.broken.first)
+    no_first (tree_violations a.tree) b.broken.violation a.kept.rules
+    (subst (λ (t : written.App). IsFirst (tree_violations t) b.broken.violation)
+    (text_only src b.tree a.tree b.text a.text) b.broken.first)
 
 -- what is an application's text, or its refusal
 abbrev IsEither : List ℕ → Type 0
 IsEither src = ((app : App) × IsApplication src app) ⊎ ((fault : Fault) × IsRefusedText src fault)
 
-judged : (src : List ℕ) (tree : written.App) → IsText src tree → (first : Option Violation) → first_of None (tree_violations tree) ≡ first → IsEither src
-judged src tree text None e = inl (resolved_app tree, record { tree = tree; text = text; kept = record { same = refl; rules = is_none (tree_violations tree) e } })
+judged : (src : List ℕ) (tree : written.App) → IsText src tree → (first : Option Violation)
+    → first_of None (tree_violations tree) ≡ first → IsEither src
+judged src tree text None e = inl (
+  resolved_app tree,
+  record {
+    tree = tree;
+    text = text;
+    kept =
+        record { same = refl; rules = is_none (tree_violations tree) e };
+  },
+)
 judged src tree text (Some v) e =
-    inr (fault_at src v, inr (record { tree = tree; text = text; broken = record { violation = v; first = is_first (tree_violations tree) v e; says = refl } }))
+    inr (
+      fault_at src v,
+      inr (record {
+        tree = tree;
+        text = text;
+        broken =
+            record { violation = v; first = is_first (tree_violations tree) v e; says = refl };
+      }),
+    )
 
 pub application_or_refused : (src : List ℕ) → IsEither src
 application_or_refused src = go (text_or_refused src)

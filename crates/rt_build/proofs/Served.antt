@@ -138,7 +138,8 @@ module _ (app : App) (sound : IsSound app) (before behind : List Service) (s : S
     (are : services app ≡ before ++ s ∷ behind) where
   placed : (s.irq < length app.irqs) × (1 ≤ s.priority) × (s.priority ≤ 2 ^ app.bits)
   placed =
-      let IsPlaced : Service → Type 0 = λ s. (s.irq < length app.irqs) × (1 ≤ s.priority) × (s.priority ≤ 2 ^ app.bits) in
+      let IsPlaced : Service → Type 0 = λ s. (s.irq < length app.irqs) × (1 ≤ s.priority)
+      × (s.priority ≤ 2 ^ app.bits) in
       (all_behind IsPlaced before (s ∷ behind) (subst (AllByRecursion IsPlaced) are sound.served)).0
 
   pub declared_irq : s.irq < length app.irqs

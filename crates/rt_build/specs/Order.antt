@@ -1,7 +1,8 @@
 -- The order and the form of the code of an image (this project's own). `init` stands first, `idle` behind it, and then
 -- the hardware tasks as they are declared; the bodies of software tasks, the dispatchers and the timer handler follow,
 -- in an order that is free. Each part begins where the one before it ends, and has no more instructions than the rule
--- on sizes counts for it. Of a body the end is fixed, and where it emits literals and pends interrupts alone, each line.
+-- on sizes counts for it. Of a body the end is fixed, and where it emits literals and pends interrupts alone, each
+-- line.
 use Rattle.std.specs.Prelude.{◌≡◌, ℕ, ◌+◌, ◌≤◌, Bool, not, List, [], ◌∷◌, ◌++◌, length, map, sum_by, IsPermutation}
 use Rattle.std.specs.Prelude.{Option, Some, None, if◌then◌else◌}
 use Rattle.rt_ids.specs.declared.ids.BodyId.{BodyId}

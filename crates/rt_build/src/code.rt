@@ -168,7 +168,8 @@ fn push_dispatchers(
     Ok(entries)
 }
 
-/// Appends the code of the timer handler where there is a monotonic, and answers where it begins; 0 where there is none.
+/// Appends the code of the timer handler where there is a monotonic, and answers where it begins; 0 where there is
+/// none.
 fn push_timer(
     alloc: Global,
     plan: &Plan<'_>,

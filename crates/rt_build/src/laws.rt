@@ -7,8 +7,8 @@ pub fn code_that_stands_keeps_its_laws()
     ensures { CodeKeepsLaws }
 {}
 
-/// An application that has no software tasks and no monotonic, and whose bodies emit literals and pend interrupts and do
-/// nothing else, has one image, and so one listing.
+/// An application that has no software tasks and no monotonic, and whose bodies emit literals and pend interrupts and
+/// do nothing else, has one image, and so one listing.
 pub fn fixed_code_has_one_image()
     ensures { FixedCodeHasOneImage }
 {}

@@ -1,7 +1,8 @@
 ghost use Rattle.std.specs.Prelude.{◌≡◌, map, option_map, IfOk};
 ghost use Rattle.std.specs.List.{fold};
 ghost use Rattle.rt_app.specs.View.{block_of, body_of, task_of, app_of};
-ghost use Rattle.rt_ceil.specs.Inside.Tables.{tables_after_listing, tables_after_body, used_by_thread, used_by_task, filled_tables};
+ghost use Rattle.rt_ceil.specs.Inside.Tables.{tables_after_listing, tables_after_body, used_by_thread, used_by_task};
+ghost use Rattle.rt_ceil.specs.Inside.Tables.{filled_tables};
 
 use crate::spawns::count_block;
 use crate::tables::{Tables, raise};

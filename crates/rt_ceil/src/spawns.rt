@@ -62,7 +62,8 @@ fn count_spawn(tables: &mut Tables, app: &App, priority: u8, spawn: &Spawn)
 
 /// Counts the spawn that a variable is bound to.
 fn count_value(tables: &mut Tables, app: &App, priority: u8, value: &Value)
-    ensures { tables.new ≡ fold (tables_after_spawn (app_of app.now) priority) tables.old (value_spawns (value_of value.now)) }
+    ensures { tables.new ≡ fold (tables_after_spawn (app_of app.now) priority) tables.old
+        (value_spawns (value_of value.now)) }
 {
     if let Value::Call(spawn) = value {
         count_spawn(tables, app, priority, spawn);

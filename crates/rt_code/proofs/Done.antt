@@ -12,4 +12,5 @@ tested e cells slots = if not cells then Traps trap.Address else if not slots th
 
 pub effect_is_done : EffectIsDone
 effect_is_done i time p cells slots =
-    ap (λ b. tested (unchecked_effect i time p) b (are_there (slots_of i) p.slots)) cells ∙ ap (tested (unchecked_effect i time p) true) slots
+    ap (λ b. tested (unchecked_effect i time p) b (are_there (slots_of i) p.slots)) cells
+    ∙ ap (tested (unchecked_effect i time p) true) slots

@@ -1,5 +1,5 @@
--- What a line does when more serves: a weaker wish for what comes later, code that stands elsewhere, and other `lefts`. R says which
--- `lefts` may stand for which; it holds of what opening and leaving a section make of them.
+-- What a line does when more serves: a weaker wish for what comes later, code that stands elsewhere, and other `lefts`.
+-- R says which `lefts` may stand for which; it holds of what opening and leaving a section make of them.
 use Rattle.std.proofs.Common.{ℕ, ◌-◌, Bool, List, ◌∷◌, drop, Option, Some, None}
 use Rattle.rt_ids.specs.Action.{Action, effect}
 use Rattle.rt_ids.specs.Storage.{Storage, Runner}
@@ -27,7 +27,8 @@ pub record Serves (R : List ℕ → List ℕ → Type 0) : Type 0 where
 abbrev pub Carries : (List ℕ → List ℕ → Type 0) → (Spot → Type 0) → (Spot → Type 0) → Type 0
 Carries R later other = (s : Spot) (lefts : List ℕ) → R s.lefts lefts → later s → other (record s { lefts = lefts })
 
-module _ (st : Storage) (bodies : List BodyRow) (who : Runner) (R : List ℕ → List ℕ → Type 0) (serves : Serves R) (later other : Spot → Type 0) (carry : Carries R later other) where
+module _ (st : Storage) (bodies : List BodyRow) (who : Runner) (R : List ℕ → List ℕ → Type 0) (serves : Serves R)
+    (later other : Spot → Type 0) (carry : Carries R later other) where
   pub acts_later : (action : Action) (answer : ℕ) (s : Spot) (lefts : List ℕ) → R s.lefts lefts
       → Acts st bodies who action answer s later → Acts st bodies who action answer (record s { lefts = lefts }) other
   acts_later action answer s lefts r a = record {
@@ -38,11 +39,18 @@ module _ (st : Storage) (bodies : List BodyRow) (who : Runner) (R : List ℕ →
   }
 
   pub alarm_later : (instant : Option ℕ) (s : Spot) (lefts : List ℕ) → R s.lefts lefts
-      → SetsTheAlarm st bodies who instant s later → SetsTheAlarm st bodies who instant (record s { lefts = lefts }) other
+      → SetsTheAlarm st bodies who instant s later → SetsTheAlarm st bodies who instant (record s { lefts = lefts })
+      other
   unfolding acts_later
-  alarm_later instant s lefts r a = record { acts = acts_later _ 0 s lefts r a.acts; inside = a.inside; least = a.least }
+  alarm_later instant s lefts r a = record {
+    acts = acts_later _ 0 s lefts r a.acts;
+    inside = a.inside;
+    least =
+        a.least;
+  }
 
-  pub noted_later : (told : Note) (s : Spot) (lefts : List ℕ) → R s.lefts lefts → Noted st bodies who told s later → Noted st bodies who told (record s { lefts = lefts }) other
+  pub noted_later : (told : Note) (s : Spot) (lefts : List ℕ) → R s.lefts lefts → Noted st bodies who told s later
+      → Noted st bodies who told (record s { lefts = lefts }) other
   noted_later (note.Placed t) s lefts r a = record {
     entry = a.entry;
     others = a.others;
@@ -129,7 +137,8 @@ module _ (st : Storage) (bodies : List BodyRow) (who : Runner) (R : List ℕ →
   }
   noted_later told s lefts r a = absurd a
 
-  pub enters_later : (x : Section) (i : Instr) (s : Spot) (lefts : List ℕ) → R s.lefts lefts → GoesIn st who x i s later → GoesIn st who x i (record s { lefts = lefts }) other
+  pub enters_later : (x : Section) (i : Instr) (s : Spot) (lefts : List ℕ) → R s.lefts lefts → GoesIn st who x i s later
+      → GoesIn st who x i (record s { lefts = lefts }) other
   enters_later x i s lefts r g = record {
     cost = g.cost;
     values = g.values;
@@ -152,7 +161,8 @@ module _ (st : Storage) (bodies : List BodyRow) (who : Runner) (R : List ℕ →
         }));
   }
 
-  pub leaves_later : (x : Section) (i : Instr) (s : Spot) (lefts : List ℕ) → R s.lefts lefts → ComesOut st who x i s later → ComesOut st who x i (record s { lefts = lefts }) other
+  pub leaves_later : (x : Section) (i : Instr) (s : Spot) (lefts : List ℕ) → R s.lefts lefts
+      → ComesOut st who x i s later → ComesOut st who x i (record s { lefts = lefts }) other
   leaves_later x i s lefts r g = record {
     values = g.values;
     follows = g.follows;
@@ -167,7 +177,8 @@ module _ (st : Storage) (bodies : List BodyRow) (who : Runner) (R : List ℕ →
 
   -- the code that a line stands in is not read by the line
   module _ (code more : List (Instr × Option Note)) (thread : ℕ) where
-    pub finishes_later : (action : Action) (s : Spot) (lefts : List ℕ) → Finishes st code bodies thread who action s → Finishes st more bodies thread who action (record s { lefts = lefts })
+    pub finishes_later : (action : Action) (s : Spot) (lefts : List ℕ) → Finishes st code bodies thread who action s
+        → Finishes st more bodies thread who action (record s { lefts = lefts })
     finishes_later action s lefts f = record {
       values = f.values;
       follows = f.follows;
@@ -179,7 +190,8 @@ module _ (st : Storage) (bodies : List BodyRow) (who : Runner) (R : List ℕ →
     }
 
     pub calls_later : (row from : ℕ) (s : Spot) (lefts : List ℕ) → R s.lefts lefts
-        → Calls st code bodies thread who row from s later → Calls st more bodies thread who row from (record s { lefts = lefts }) other
+        → Calls st code bodies thread who row from s later → Calls st more bodies thread who row from
+        (record s { lefts = lefts }) other
     calls_later row from s lefts r c = record {
       called = c.called;
       is_there = c.is_there;
@@ -190,17 +202,26 @@ module _ (st : Storage) (bodies : List BodyRow) (who : Runner) (R : List ℕ →
     }
 
     pub back_later : (t : ℕ) (s : Spot) (lefts : List ℕ) → R s.lefts lefts
-        → ComesBack st code bodies thread who t s later → ComesBack st more bodies thread who t (record s { lefts = lefts }) other
-    back_later t s lefts r c = record { frame = c.frame; caller = c.caller; closed = c.closed; acts = acts_later _ 0 _ lefts r c.acts }
+        → ComesBack st code bodies thread who t s later → ComesBack st more bodies thread who t
+        (record s { lefts = lefts }) other
+    back_later t s lefts r c = record {
+      frame = c.frame;
+      caller = c.caller;
+      closed = c.closed;
+      acts =
+          acts_later _ 0 _ lefts r c.acts;
+    }
 
     pub ends_later : (b : BodyId) (i : Instr) (s : Spot) (lefts : List ℕ) → R s.lefts lefts
-        → EndsBody st code bodies thread who b i s later → EndsBody st more bodies thread who b i (record s { lefts = lefts }) other
+        → EndsBody st code bodies thread who b i s later → EndsBody st more bodies thread who b i
+        (record s { lefts = lefts }) other
     ends_later body.Init i s lefts r (serve, starts, on, f) = (serve, starts, on, finishes_later _ s lefts f)
     ends_later body.Idle i s lefts r (jump, idle, f) = (jump, idle, finishes_later _ s lefts f)
     ends_later (body.Task t) i s lefts r (back, c) = (back, back_later t s lefts r c)
 
     pub asks_later : (asked : Request) (told : Option Note) (s : Spot) (lefts : List ℕ) → R s.lefts lefts
-        → Asks st code bodies thread who asked told s later → Asks st more bodies thread who asked told (record s { lefts = lefts }) other
+        → Asks st code bodies thread who asked told s later → Asks st more bodies thread who asked told
+        (record s { lefts = lefts }) other
     asks_later request.Nothing None s lefts r a = carry s lefts r a
     asks_later request.Nothing (Some told) s lefts r a = noted_later told s lefts r a
     asks_later (request.Emit value) None s lefts r a = acts_later _ 0 s lefts r a
@@ -213,26 +234,33 @@ module _ (st : Storage) (bodies : List BodyRow) (who : Runner) (R : List ℕ →
     asks_later request.Back None s lefts r a = absurd a
     asks_later asked (Some told) s lefts r a = absurd a
 
-    pub goes_later : (told : Option Note) (basepri : ℕ) (primask : Bool) (e : Effect) (s : Spot) (lefts : List ℕ) → R s.lefts lefts
-        → Goes st code bodies thread who told basepri primask s later e → Goes st more bodies thread who told basepri primask (record s { lefts = lefts }) other e
+    pub goes_later : (told : Option Note) (basepri : ℕ) (primask : Bool) (e : Effect) (s : Spot) (lefts : List ℕ)
+        → R s.lefts lefts
+        → Goes st code bodies thread who told basepri primask s later e
+        → Goes st more bodies thread who told basepri primask (record s { lefts = lefts }) other e
     goes_later told basepri primask (Traps t) s lefts r g = g
-    goes_later told basepri primask (Leads p asked) s lefts r (base, mask, saved, a) = (base, mask, saved, asks_later asked told (spot_behind s p) lefts r a)
+    goes_later told basepri primask (Leads p asked) s lefts r (base, mask, saved, a) =
+        (base, mask, saved, asks_later asked told (spot_behind s p) lefts r a)
 
     pub does_later : (i : Instr) (told : Option Note) (s : Spot) (lefts : List ℕ) → R s.lefts lefts
-        → Does st code bodies thread who i told s later → Does st more bodies thread who i told (record s { lefts = lefts }) other
+        → Does st code bodies thread who i told s later → Does st more bodies thread who i told
+        (record s { lefts = lefts }) other
     does_later i told s lefts r d = record {
       touches = d.touches;
-      goes = λ time basepri primask early. goes_later told basepri primask _ s lefts r (d.goes time basepri primask early);
+      goes = λ time basepri primask early. goes_later told basepri primask _ s lefts r
+          (d.goes time basepri primask early);
     }
 
     pub fits_later : (i : Instr) (told : Option Note) (s : Spot) (lefts : List ℕ) → R s.lefts lefts
-        → Fits st code bodies thread who i told s later → Fits st more bodies thread who i told (record s { lefts = lefts }) other
+        → Fits st code bodies thread who i told s later → Fits st more bodies thread who i told
+        (record s { lefts = lefts }) other
     fits_later i (Some (note.Enter x)) s lefts r f = enters_later x i s lefts r f
     fits_later i (Some (note.Leave x)) s lefts r f = leaves_later x i s lefts r f
     fits_later i (Some (note.End b)) s lefts r f = ends_later b i s lefts r f
     fits_later i told s lefts r f = does_later i told s lefts r f
 
     pub line_later : (line : Option (Instr × Option Note)) (s : Spot) (lefts : List ℕ) → R s.lefts lefts
-        → LineFits st code bodies thread who line s later → LineFits st more bodies thread who line (record s { lefts = lefts }) other
+        → LineFits st code bodies thread who line s later → LineFits st more bodies thread who line
+        (record s { lefts = lefts }) other
     line_later None s lefts r f = f
     line_later (Some line) s lefts r f = fits_later line.0 line.1 s lefts r f

@@ -1,5 +1,7 @@
--- What is a job's own, where others have changed memory and queues, where the place of a message moves, and where a section closes.
-use Rattle.std.proofs.Common.{◌≡◌, ℕ, zero, suc, ◌+◌, ◌<◌, ◌≤◌, ◌⊎◌, inl, inr, Bool, true, false, if◌then◌else◌, List, [], ◌∷◌, sum_by, refl, ap, arith}
+-- What is a job's own, where others have changed memory and queues, where the place of a message moves, and where a
+-- section closes.
+use Rattle.std.proofs.Common.{◌≡◌, ℕ, zero, suc, ◌+◌, ◌<◌, ◌≤◌, ◌⊎◌, inl, inr, Bool, true, false, if◌then◌else◌, List}
+use Rattle.std.proofs.Common.{[], ◌∷◌, sum_by, refl, ap, arith}
 use Rattle.std.proofs.lemmas.Bool.{eqb-true, eq-eqb, or_left, or_right, or_cases}
 use Rattle.std.proofs.lemmas.List.Sums.{sum_by-cons}
 use Rattle.rt_ids.specs.Entry.{Entry, count}
@@ -33,10 +35,12 @@ queue_counts queues e x [] inside = absurd (cc)
 queue_counts queues e x (h ∷ held) inside =
     two (λ there. queue_counts queues e x held there) (or_cases (is_same_section h.section x) (is_open held x) inside)
   where
-    two : (is_open held x ≡ true → count e (queues (Guarded x)) ≤ queued queues e held) → (is_same_section h.section x ≡ true) ⊎ (is_open held x ≡ true)
+    two : (is_open held x ≡ true → count e (queues (Guarded x)) ≤ queued queues e held)
+        → (is_same_section h.section x ≡ true) ⊎ (is_open held x ≡ true)
         → count e (queues (Guarded x)) ≤ queued queues e (h ∷ held)
     two rest (inl here) =
-        let same : count e (queues (Guarded h.section)) ≡ count e (queues (Guarded x)) = ap (λ y. count e (queues (Guarded y))) (one_section h.section x here) in
+        let same : count e (queues (Guarded h.section)) ≡ count e (queues (Guarded x)) =
+        ap (λ y. count e (queues (Guarded y))) (one_section h.section x here) in
         let more = queued_more queues e h held in omega arith
     two rest (inr there) = let more = queued_more queues e h held in let least = rest there in omega arith
 
@@ -49,12 +53,15 @@ same_section section.Timer = refl
 
 -- the queues of open sections as they were
 pub queues_same : (one other : Holder → List Entry) (e : Entry) (held : List Held)
-    → ((x : Section) → is_open held x ≡ true → other (Guarded x) ≡ one (Guarded x)) → queued other e held ≡ queued one e held
+    → ((x : Section) → is_open held x ≡ true → other (Guarded x) ≡ one (Guarded x)) → queued other e held
+    ≡ queued one e held
 queues_same one other e [] same = refl
 queues_same one other e (h ∷ held) same =
     let here : count e (other (Guarded h.section)) ≡ count e (one (Guarded h.section)) =
-    ap (count e) (same h.section (or_left (is_same_section h.section h.section) (is_open held h.section) (same_section h.section))) in
-    let rest = queues_same one other e held (λ x inside. same x (or_right (is_same_section h.section x) (is_open held x) inside)) in
+    ap (count e) (same h.section (or_left (is_same_section h.section h.section) (is_open held h.section)
+    (same_section h.section))) in
+    let rest = queues_same one other e held (λ x inside. same x
+    (or_right (is_same_section h.section x) (is_open held x) inside)) in
     let left = queued_more one e h held in
     let right = queued_more other e h held in omega arith
 
@@ -62,7 +69,8 @@ some_of : (a b : ℕ) → 0 < a + b → (0 < a) ⊎ (0 < b)
 some_of zero b some = inr (omega arith)
 some_of (suc a) b some = inl (omega arith)
 
-one_of : (b : Bool) (e : Entry) (entries others : List Entry) → 0 < count e (if b then entries else others) → (0 < count e entries) ⊎ (0 < count e others)
+one_of : (b : Bool) (e : Entry) (entries others : List Entry) → 0 < count e (if b then entries else others)
+    → (0 < count e entries) ⊎ (0 < count e others)
 one_of true e entries others some = inl some
 one_of false e entries others some = inr some
 
@@ -72,17 +80,23 @@ pub queued_with : (queues : Holder → List Entry) (x : Section) (entries : List
 queued_with queues x entries e [] some = absurd (omega arith)
 queued_with queues x entries e (h ∷ held) some =
     let more = queued_more (with_queue queues x entries) e h held in
-    let either : 0 < count e (with_queue queues x entries (Guarded h.section)) + queued (with_queue queues x entries) e held = omega arith in
-    two (λ here. one_of (is_same_section x h.section) e entries (queues (Guarded h.section)) here) (λ rest. queued_with queues x entries e held rest)
-    (some_of (count e (with_queue queues x entries (Guarded h.section))) (queued (with_queue queues x entries) e held) either)
+    let either : 0 < count e (with_queue queues x entries (Guarded h.section))
+    + queued (with_queue queues x entries) e held = omega arith in
+    two (λ here. one_of (is_same_section x h.section) e entries (queues (Guarded h.section)) here)
+    (λ rest. queued_with queues x entries e held rest)
+    (some_of (count e (with_queue queues x entries (Guarded h.section))) (queued (with_queue queues x entries) e held)
+    either)
   where
-    wider : {n : ℕ} → (0 < count e entries) ⊎ (0 < n) → n ≤ queued queues e (h ∷ held) → (0 < count e entries) ⊎ (0 < queued queues e (h ∷ held))
+    wider : {n : ℕ} → (0 < count e entries) ⊎ (0 < n) → n ≤ queued queues e (h ∷ held) → (0 < count e entries)
+        ⊎ (0 < queued queues e (h ∷ held))
     wider (inl a) least = inl a
     wider (inr b) least = inr (omega arith)
 
-    two : (0 < count e (with_queue queues x entries (Guarded h.section)) → (0 < count e entries) ⊎ (0 < count e (queues (Guarded h.section))))
+    two : (0 < count e (with_queue queues x entries (Guarded h.section)) → (0 < count e entries)
+        ⊎ (0 < count e (queues (Guarded h.section))))
         → (0 < queued (with_queue queues x entries) e held → (0 < count e entries) ⊎ (0 < queued queues e held))
-        → (0 < count e (with_queue queues x entries (Guarded h.section))) ⊎ (0 < queued (with_queue queues x entries) e held)
+        → (0 < count e (with_queue queues x entries (Guarded h.section)))
+        ⊎ (0 < queued (with_queue queues x entries) e held)
         → (0 < count e entries) ⊎ (0 < queued queues e (h ∷ held))
     two first rest (inl here) = wider (first here) (omega (arith, queued_more queues e h held))
     two first rest (inr there) = wider (rest there) (omega (arith, queued_more queues e h held))
@@ -118,7 +132,8 @@ module _ (st : Storage) (who : Runner) where
   owns_kept held (Own n) kept = kept
 
   -- with one more section open it owns and reads no less
-  pub owns_more : (h : Held) (outer : List Held) (holder : Holder) → owns st who outer holder ≡ true → owns st who (h ∷ outer) holder ≡ true
+  pub owns_more : (h : Held) (outer : List Held) (holder : Holder) → owns st who outer holder ≡ true
+      → owns st who (h ∷ outer) holder ≡ true
   owns_more h outer (Guarded x) own = two (or_cases (is_open outer x) (st.is_kept who (Guarded x)) own)
     where
       two : (is_open outer x ≡ true) ⊎ (st.is_kept who (Guarded x) ≡ true) → owns st who (h ∷ outer) (Guarded x) ≡ true
@@ -126,15 +141,18 @@ module _ (st : Storage) (who : Runner) where
       two (inr kept) = owns_kept (h ∷ outer) (Guarded x) kept
   owns_more h outer (Own n) own = own
 
-  pub reads_more : (h : Held) (outer : List Held) (holder : Holder) → reads st who outer holder ≡ true → reads st who (h ∷ outer) holder ≡ true
+  pub reads_more : (h : Held) (outer : List Held) (holder : Holder) → reads st who outer holder ≡ true
+      → reads st who (h ∷ outer) holder ≡ true
   reads_more h outer holder may = two (or_cases (owns st who outer holder) (st.is_constant who holder) may)
     where
-      two : (owns st who outer holder ≡ true) ⊎ (st.is_constant who holder ≡ true) → reads st who (h ∷ outer) holder ≡ true
+      two : (owns st who outer holder ≡ true) ⊎ (st.is_constant who holder ≡ true) → reads st who (h ∷ outer) holder
+          ≡ true
       two (inl own) = owns_reads (h ∷ outer) holder (owns_more h outer holder own)
       two (inr constant) = or_right (owns st who (h ∷ outer) holder) (st.is_constant who holder) constant
 
   -- what it may load goes by the sections that are open and by what is its own
-  pub may_load : (s t : Spot) (home : Home) → ((h : Holder) → reads st who s.held h ≡ true → reads st who t.held h ≡ true)
+  pub may_load : (s t : Spot) (home : Home) → ((h : Holder) → reads st who s.held h ≡ true → reads st who t.held h
+      ≡ true)
       → ((e : Entry) → 0 < mine s e → 0 < mine t e) → MayLoad st who s home → MayLoad st who t home
   may_load s t (At h) read own may = read h may
   may_load s t (In e) read own may = own e may

@@ -1,5 +1,6 @@
 -- Code that stands, step by step; it stands before further code, and with more steps than it needs.
-use Rattle.std.proofs.Common.{◌≡◌, ℕ, zero, suc, ◌-◌, ◌<◌, ◌≤◌, List, [], ◌∷◌, ◌++◌, map, drop, slice_get, Option, Some, None, refl, ap, subst, sym, arith}
+use Rattle.std.proofs.Common.{◌≡◌, ℕ, zero, suc, ◌-◌, ◌<◌, ◌≤◌, List, [], ◌∷◌, ◌++◌, map, drop, slice_get, Option, Some}
+use Rattle.std.proofs.Common.{None, refl, ap, subst, sym, arith}
 use Rattle.std.proofs.lemmas.Option.{none-some}
 use Rattle.std.specs.List.{AllByRecursion}
 use Rattle.rt_ids.specs.Storage.{Storage, Runner}
@@ -12,17 +13,21 @@ use Rattle.rt_code.specs.declared.instr.Note.{Note}
 use Rattle.rt_code.proofs.Later.{Serves, Carries, line_later}
 
 module _ (st : Storage) (code : List (Instr × Option Note)) (bodies : List BodyRow) (thread : ℕ) (who : Runner) where
-  pub stands_step : (n : ℕ) (s : Spot) → AllByRecursion (λ n. 0 < n) s.lefts → LineFits st code bodies thread who (slice_get code s.address) (spot_after_step s) (Stands st code bodies thread who n)
+  pub stands_step : (n : ℕ) (s : Spot) → AllByRecursion (λ n. 0 < n) s.lefts
+      → LineFits st code bodies thread who (slice_get code s.address) (spot_after_step s)
+      (Stands st code bodies thread who n)
       → Stands st code bodies thread who (suc n) s
   unfolding Stands
   stands_step n s left fits = (left, fits)
 
-  pub stands_left : (n : ℕ) (s : Spot) → Stands st code bodies thread who (suc n) s → AllByRecursion (λ n. 0 < n) s.lefts
+  pub stands_left : (n : ℕ) (s : Spot) → Stands st code bodies thread who (suc n) s
+      → AllByRecursion (λ n. 0 < n) s.lefts
   unfolding Stands
   stands_left n s stands = stands.0
 
   pub stands_fits : (n : ℕ) (s : Spot) → Stands st code bodies thread who (suc n) s
-      → LineFits st code bodies thread who (slice_get code s.address) (spot_after_step s) (Stands st code bodies thread who n)
+      → LineFits st code bodies thread who (slice_get code s.address) (spot_after_step s)
+      (Stands st code bodies thread who n)
   unfolding Stands
   stands_fits n s stands = stands.1
 
@@ -32,12 +37,15 @@ module _ (st : Storage) (code : List (Instr × Option Note)) (bodies : List Body
   stands_none s stands = stands
 
 -- a line with a weaker wish for what comes later
-pub line_weaker : (st : Storage) (code : List (Instr × Option Note)) (bodies : List BodyRow) (thread : ℕ) (who : Runner) (later other : Spot → Type 0)
+pub line_weaker : (st : Storage) (code : List (Instr × Option Note)) (bodies : List BodyRow) (thread : ℕ) (who : Runner)
+    (later other : Spot → Type 0)
     → ((s : Spot) → later s → other s) → (line : Option (Instr × Option Note)) (s : Spot)
     → LineFits st code bodies thread who line s later → LineFits st code bodies thread who line s other
 line_weaker st code bodies thread who later other weaker line s fits =
-    line_later st bodies who (λ ls ms. ls ≡ ms) (record { more = λ n ls ms e. ap (λ l. n ∷ l) e; fewer = λ ls ms e. ap (drop 1) e }) later other
-    (λ s lefts e h. subst (λ l. other (record s { lefts = l })) e (weaker s h)) code code thread line s s.lefts refl fits
+    line_later st bodies who (λ ls ms. ls ≡ ms)
+    (record { more = λ n ls ms e. ap (λ l. n ∷ l) e; fewer = λ ls ms e. ap (drop 1) e }) later other
+    (λ s lefts e h. subst (λ l. other (record s { lefts = l })) e (weaker s h)) code code thread line s s.lefts refl
+    fits
 
 -- what is at least as great
 pub least_more : (n : ℕ) (ls ms : List ℕ) → AreAtLeast ls ms → AreAtLeast (n ∷ ls) (n ∷ ms)
@@ -77,11 +85,14 @@ front_place (x ∷ xs) ys (suc i) y h = front_place xs ys i y h
 pub has_front : (code more : List (Instr × Option Note)) → HasLines code (code ++ more)
 has_front code more = record { at = λ k line h. front_place code more k line h }
 
-module _ (st : Storage) (bodies : List BodyRow) (thread : ℕ) (who : Runner) (code more : List (Instr × Option Note)) where
-  line_there : (a b : Option (Instr × Option Note)) (s : Spot) (later : Spot → Type 0) → ((line : Instr × Option Note) → a ≡ Some line → b ≡ Some line)
+module _ (st : Storage) (bodies : List BodyRow) (thread : ℕ) (who : Runner)
+    (code more : List (Instr × Option Note)) where
+  line_there : (a b : Option (Instr × Option Note)) (s : Spot) (later : Spot → Type 0)
+      → ((line : Instr × Option Note) → a ≡ Some line → b ≡ Some line)
       → LineFits st more bodies thread who a s later → LineFits st more bodies thread who b s later
   line_there None b s later there fits = absurd fits
-  line_there (Some line) b s later there fits = subst (λ l. LineFits st more bodies thread who l s later) (sym (there line refl)) fits
+  line_there (Some line) b s later there fits = subst (λ l. LineFits st more bodies thread who l s later)
+      (sym (there line refl)) fits
 
   -- code with the same lines and more, more steps and greater `lefts` serve
   pub stands_more : HasLines code more → (n m : ℕ) (s : Spot) (lefts : List ℕ) → n ≤ m → AreAtLeast s.lefts lefts
@@ -90,10 +101,13 @@ module _ (st : Storage) (bodies : List BodyRow) (thread : ℕ) (who : Runner) (c
   stands_more has (suc n) zero s lefts steps least stands = absurd (omega arith)
   stands_more has (suc n) (suc m) s lefts steps least stands =
       let steps : n ≤ m = omega arith in
-      let carry : Carries AreAtLeast (Stands st code bodies thread who n) (Stands st more bodies thread who m) = λ t ls h. stands_more has n m t ls steps h in
-      stands_step st more bodies thread who m (record s { lefts = lefts }) (least_left s.lefts lefts least (stands_left st code bodies thread who n s stands))
+      let carry : Carries AreAtLeast (Stands st code bodies thread who n) (Stands st more bodies thread who m) =
+      λ t ls h. stands_more has n m t ls steps h in
+      stands_step st more bodies thread who m (record s { lefts = lefts })
+      (least_left s.lefts lefts least (stands_left st code bodies thread who n s stands))
       (line_there (slice_get code s.address) (slice_get more s.address) _ _ (has.at s.address)
-      (line_later st bodies who AreAtLeast least_serves _ _ carry code more thread (slice_get code s.address) (spot_after_step s) (map (λ n. n - 1) lefts)
+      (line_later st bodies who AreAtLeast least_serves _ _ carry code more thread (slice_get code s.address)
+      (spot_after_step s) (map (λ n. n - 1) lefts)
       (least_passed s.lefts lefts least) (stands_fits st code bodies thread who n s stands)))
 
 -- The laws: further code behind it changes nothing of code that stands, and more steps and greater `lefts` serve.
@@ -101,7 +115,8 @@ module _ (st : Storage) (bodies : List BodyRow) (thread : ℕ) (who : Runner) wh
   pub stands_before_more : StandsBeforeMore st bodies thread who
   stands_before_more code more n s stands =
       let same : n ≤ n = omega arith in
-      stands_more st bodies thread who code (code ++ more) (has_front code more) n n s s.lefts same (least_same s.lefts) stands
+      stands_more st bodies thread who code (code ++ more) (has_front code more) n n s s.lefts same (least_same s.lefts)
+      stands
 
   pub stands_with_more : StandsWithMore st bodies thread who
   stands_with_more code n m s lefts steps least stands =

@@ -24,7 +24,8 @@ inside b h = (no_blank b h, λ dot. false≢true (subst (λ n. is_name_byte n �
 
 all_inside : (bytes : List ℕ) → list_all is_name_byte bytes ≡ true → AllByRecursion IsInside bytes
 all_inside [] h = tt
-all_inside (b ∷ bytes) h = let parts = and_parts (is_name_byte b) (list_all is_name_byte bytes) h in (inside b parts.0, all_inside bytes parts.1)
+all_inside (b ∷ bytes) h = let parts = and_parts (is_name_byte b) (list_all is_name_byte bytes) h in
+    (inside b parts.0, all_inside bytes parts.1)
 
 -- a letter may also stand later in a name
 letter_later : (b : ℕ) → is_letter b ≡ true → is_name_byte b ≡ true
@@ -32,7 +33,8 @@ letter_later b h = rw h refl
 
 name_inside : (text : List ℕ) → is_identifier text ≡ true → AllByRecursion IsInside text
 name_inside [] h = tt
-name_inside (b ∷ text) h = let parts = and_parts (is_letter b) (list_all is_name_byte text) h in (inside b (letter_later b parts.0), all_inside text parts.1)
+name_inside (b ∷ text) h = let parts = and_parts (is_letter b) (list_all is_name_byte text) h in
+    (inside b (letter_later b parts.0), all_inside text parts.1)
 
 plain : (text : List ℕ) → IsName text → IsPlain text
 plain text named = record {

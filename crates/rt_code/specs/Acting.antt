@@ -5,7 +5,8 @@ use Rattle.std.specs.Prelude.{if◌then◌else◌}
 use Rattle.rt_ids.specs.Holder.{Holder, Guarded, is_same_holder}
 use Rattle.rt_ids.specs.Content.{Message, Values, delays, least_instant}
 use Rattle.rt_ids.specs.Entry.{Entry}
-use Rattle.rt_ids.specs.Action.{Action, Places, FindsFull, Readies, Starts, Frees, Arms, Fires, Cancels, Moves, SetsAlarm}
+use Rattle.rt_ids.specs.Action.{Action, Places, FindsFull, Readies, Starts, Frees, Arms, Fires, Cancels, Moves}
+use Rattle.rt_ids.specs.Action.{SetsAlarm}
 use Rattle.rt_ids.specs.Action.{effect}
 use Rattle.rt_ids.specs.Doing.{Doing, does}
 use Rattle.rt_ids.specs.Storage.{Storage, Runner}

@@ -38,21 +38,26 @@ unmask p value =
 abbrev pub unchecked_effect : Instr → ℕ → Processor → Effect
 unchecked_effect (instr.Set d v) time p = Leads (next_with_slot p d v) request.Nothing
 unchecked_effect (instr.Copy d s) time p = Leads (next_with_slot p d (slot p s)) request.Nothing
-unchecked_effect (instr.Calc op d a b) time p = Leads (next_with_slot p d (operate op (slot p a) (slot p b))) request.Nothing
+unchecked_effect (instr.Calc op d a b) time p = Leads (next_with_slot p d (operate op (slot p a) (slot p b)))
+    request.Nothing
 unchecked_effect (instr.Load d c) time p = Leads (next_with_slot p d (slice_index p.cells c)) request.Nothing
 unchecked_effect (instr.Store c s) time p = Leads (next_with_cell p c (slot p s)) request.Nothing
-unchecked_effect (instr.LoadAt d c s) time p = Leads (next_with_slot p d (slice_index p.cells (c + slot p s))) request.Nothing
+unchecked_effect (instr.LoadAt d c s) time p = Leads (next_with_slot p d (slice_index p.cells (c + slot p s)))
+    request.Nothing
 unchecked_effect (instr.StoreAt c s a) time p = Leads (next_with_cell p (c + slot p s) (slot p a)) request.Nothing
 unchecked_effect (instr.Jump l) time p = Leads (record p { address = l }) request.Nothing
-unchecked_effect (instr.JumpZ s l) time p = Leads (if slot p s == 0 then record p { address = l } else next p) request.Nothing
+unchecked_effect (instr.JumpZ s l) time p = Leads (if slot p s == 0 then record p { address = l } else next p)
+    request.Nothing
 unchecked_effect (instr.Emit s) time p = Leads (next p) (request.Emit (slot p s))
 unchecked_effect (instr.Post irq) time p = Leads (next p) (request.Post irq)
 unchecked_effect (instr.Clock d) time p = Leads (next_with_slot p d time) (request.Clock time)
 unchecked_effect (instr.Alarm s irq) time p = Leads (next p) (request.Alarm (slot p s) irq)
 unchecked_effect instr.NoAlarm time p = Leads (next p) request.NoAlarm
-unchecked_effect (instr.Raise d v) time p = Leads (record (next_with_slot p d p.basepri) { basepri = v }) request.Nothing
+unchecked_effect (instr.Raise d v) time p = Leads (record (next_with_slot p d p.basepri) { basepri = v })
+    request.Nothing
 unchecked_effect (instr.Restore s) time p = Leads (record (next p) { basepri = slot p s }) request.Nothing
-unchecked_effect (instr.Mask d) time p = Leads (record (next_with_slot p d (number_of p.primask)) { primask = true }) request.Nothing
+unchecked_effect (instr.Mask d) time p = Leads (record (next_with_slot p d (number_of p.primask)) { primask = true })
+    request.Nothing
 unchecked_effect (instr.Unmask s) time p = unmask p (slot p s)
 unchecked_effect instr.Mark time p = Leads (next p) request.Nothing
 unchecked_effect instr.Serve time p = Leads (record (next p) { primask = false }) request.Nothing

@@ -93,7 +93,8 @@ module _ (st : Storage) (code : List (Instr × Option Note)) (bodies : List Body
 
   -- Giving back: at its closing what it guards, spelled by its cells.
   abbrev pub GivingBack : Type 0
-  GivingBack = (x : Section) (i : Instr) → IsLine i (Some (note.Leave x)) → ComesOut st who x i (spot_after_step s) Later
+  GivingBack = (x : Section) (i : Instr) → IsLine i (Some (note.Leave x))
+      → ComesOut st who x i (spot_after_step s) Later
 
   -- Ends: `init`, `idle` and a job end with nothing open or in hands, and give back what their runner keeps; the
   -- thread goes on at its address.

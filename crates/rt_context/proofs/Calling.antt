@@ -1,8 +1,11 @@
 -- The frame of a called body, above that of its caller.
-use Rattle.std.proofs.Common.{◌≡◌, ℕ, ◌+◌, ◌-◌, ◌<◌, ◌≤◌, ◌==◌, ◌&&◌, ◌||◌, not, IsTrue, nat_le, Option, Some, None, is_none, List, [], ◌∷◌, ◌++◌, length, take, drop, set, replicate, reverse, refl, sym, ap, ◌∙◌, arith, append_assoc, append-nil, length-append, length-set, length-drop}
+use Rattle.std.proofs.Common.{◌≡◌, ℕ, ◌+◌, ◌-◌, ◌<◌, ◌≤◌, ◌==◌, ◌&&◌, ◌||◌, not, IsTrue, nat_le, Option, Some, None}
+use Rattle.std.proofs.Common.{is_none, List, [], ◌∷◌, ◌++◌, length, take, drop, set, replicate, reverse, refl, sym, ap}
+use Rattle.std.proofs.Common.{◌∙◌, arith, append_assoc, append-nil, length-append, length-set, length-drop}
 use Rattle.std.proofs.lemmas.Bool.{leb-true}
 use Rattle.std.proofs.lemmas.Bool.Decides.{nat_tests}
-use Rattle.std.proofs.lemmas.List.{length-replicate, take-append-drop, take_at, drop_at, drop-drop, drop-replicate, set-append_left}
+use Rattle.std.proofs.lemmas.List.{length-replicate, take-append-drop, take_at, drop_at, drop-drop, drop-replicate}
+use Rattle.std.proofs.lemmas.List.{set-append_left}
 use Rattle.rt_lemmas.proofs.Lists.{take-drop-front, length-take-drop}
 use Rattle.rt_lemmas.proofs.Bools.{both_true}
 use Rattle.rt_stack.specs.Region.{Region, used_words, top, below, region_after_push}
@@ -26,24 +29,34 @@ copied caller from args slots =
 abbrev called_with : ℕ → ℕ → ℕ → List ℕ → List ℕ
 called_with from args frame xs = xs ++ (take args (drop from xs) ++ replicate (frame - args) 0)
 
-module _ (caller from args frame : ℕ) (xs : List ℕ) (long : length xs ≡ caller) (there : 0 < args → from + args ≤ caller) where
+module _ (caller from args frame : ℕ) (xs : List ℕ) (long : length xs ≡ caller)
+    (there : 0 < args → from + args ≤ caller) where
   copied-append : copied caller from args (xs ++ replicate frame 0) ≡ called_with from args frame xs
   copied-append =
       let zs : List ℕ = replicate frame 0 in
       let rest : drop (caller + args) (xs ++ zs) ≡ replicate (frame - args) 0 =
-      sym (drop-drop args caller (xs ++ zs)) ∙ ap (drop args) (drop_at xs zs caller long) ∙ drop-replicate args frame 0 in
-      λ i. take_at xs zs caller long i ++ (take-drop-front args from xs zs (λ some. omega (arith, there some)) i ++ rest i)
+      sym (drop-drop args caller (xs ++ zs)) ∙ ap (drop args) (drop_at xs zs caller long)
+      ∙ drop-replicate args frame 0 in
+      λ i. take_at xs zs caller long i ++ (take-drop-front args from xs zs (λ some. omega (arith, there some)) i
+      ++ rest i)
 
   length-called_with : args ≤ frame → length (called_with from args frame xs) ≡ caller + frame
   length-called_with taken =
       let arguments : List ℕ = take args (drop from xs) in
       let rest : List ℕ = replicate (frame - args) 0 in
       let count : length arguments ≡ args = length-take-drop args from xs (λ some. omega (arith, there some)) in
-      omega (arith, length-append xs (arguments ++ rest), length-append arguments rest, length-replicate {A = ℕ} (frame - args) 0)
+      omega (
+        arith,
+        length-append xs (arguments ++ rest),
+        length-append arguments rest,
+        length-replicate {A = ℕ} (frame - args) 0,
+      )
 
 -- A body's frame is pushed, the return address put into the caller's last slot, and the arguments copied.
-pub body_pushed : (r : Region) (caller frame from args address : ℕ) → 0 < caller → caller ≤ used_words r → (0 < args → from + args ≤ caller) → args ≤ frame
-    → with_top (region_after_push r frame) (caller + frame) (copied caller from args (set (top (region_after_push r frame) (caller + frame)) (caller - 1) address))
+pub body_pushed : (r : Region) (caller frame from args address : ℕ) → 0 < caller → caller ≤ used_words r
+    → (0 < args → from + args ≤ caller) → args ≤ frame
+    → with_top (region_after_push r frame) (caller + frame)
+    (copied caller from args (set (top (region_after_push r frame) (caller + frame)) (caller - 1) address))
     ≡ record r { words = below r caller ++ called_with from args frame (set (top r caller) (caller - 1) address) }
 body_pushed r caller frame from args address slot within there taken =
     let xs : List ℕ = below r caller in
@@ -65,7 +78,8 @@ body_pushed r caller frame from args address slot within there taken =
     ∙ copied-append caller from args frame slots same there in
     ap (λ p. with_top p n (copied caller from args (set (top p n) (caller - 1) address))) whole
     ∙ ap (with_top q n) written
-    ∙ with_top-same q n result (omega (arith, length-append xs (ys ++ zs))) (length-called_with caller from args frame slots same there taken)
+    ∙ with_top-same q n result (omega (arith, length-append xs (ys ++ zs)))
+    (length-called_with caller from args frame slots same there taken)
     ∙ (λ i. record r { words = below-behind r xs (ys ++ zs) n both i ++ result })
 
 none_from_test : (caller : Option (List ℕ)) → IsTrue (is_none caller) → caller ≡ None
@@ -87,12 +101,14 @@ pub record MayCall (f : Frames) (row : BodyRow) (from : ℕ) : Type 0 where
   pub taken : row.args ≤ row.frame
   pub room : IsTrue (has_room f row.frame)
 
-pub tested : (f : Frames) (row : BodyRow) (from : ℕ) → IsTrue (may_call f) → IsTrue (call_fits f row from) → MayCall f row from
+pub tested : (f : Frames) (row : BodyRow) (from : ℕ) → IsTrue (may_call f) → IsTrue (call_fits f row from)
+    → MayCall f row from
 tested f row from may fits =
     let handler = both_true (is_none f.caller) (not (is_empty f.below) && not (is_empty f.slots)) may in
     let slot = both_true (not (is_empty f.below)) (not (is_empty f.slots)) handler.1 in
     let parts = both_true (arguments_fit f.slots row from) (has_room f row.frame) fits in
-    let there = both_true ((row.args == 0) || nat_le (from + row.args) (length f.slots)) (nat_le row.args row.frame) parts.0 in record {
+    let there = both_true ((row.args == 0) || nat_le (from + row.args) (length f.slots)) (nat_le row.args row.frame)
+    parts.0 in record {
       handler = none_from_test f.caller handler.0;
       slot = some_slot f.slots slot.1;
       there = arguments_from_test row.args from (length f.slots) there.0;
@@ -100,9 +116,14 @@ tested f row from may fits =
       room = parts.1;
     }
 
-pub spells_called : (f : Frames) (c d : Inside) (row : BodyRow) (from args address : ℕ) → Spells f c → MayCall f row from → args ≡ row.args
-    → d.region ≡ record c.region { words = below c.region c.frame ++ called_with from args row.frame (set (top c.region c.frame) (c.frame - 1) address) }
-    → d.entry ≡ c.entry → d.frame ≡ row.frame → d.caller ≡ Some c.frame → d.callers ≡ c.callers → Spells (frames_after_call f row from address) d
+pub spells_called : (f : Frames) (c d : Inside) (row : BodyRow) (from args address : ℕ) → Spells f c
+    → MayCall f row from → args ≡ row.args
+    → d.region ≡ record c.region {
+      words = below c.region c.frame ++ called_with from args row.frame
+          (set (top c.region c.frame) (c.frame - 1) address);
+    }
+    → d.entry ≡ c.entry → d.frame ≡ row.frame → d.caller ≡ Some c.frame → d.callers ≡ c.callers
+    → Spells (frames_after_call f row from address) d
 spells_called f c d row from args address s may args_are region entry frame caller callers =
     let slots : List ℕ = set f.slots (last_slot f.slots) address in
     let long : length slots ≡ length f.slots = length-set f.slots (last_slot f.slots) address in
@@ -110,10 +131,12 @@ spells_called f c d row from args address s may args_are region entry frame call
     let both : length (called_with from row.args row.frame slots) ≡ length f.slots + row.frame =
     length-called_with (length f.slots) from row.args row.frame slots long may.there may.taken in
     let under : below c.region c.frame ≡ words_below f.entry f.below =
-    below_is f c s ∙ ap (λ o. words_below f.entry f.below ++ words_of o) may.handler ∙ append-nil (words_below f.entry f.below) in
+    below_is f c s ∙ ap (λ o. words_below f.entry f.below ++ words_of o) may.handler
+    ∙ append-nil (words_below f.entry f.below) in
     let all : d.region.words ≡ words_below f.entry f.below ++ called_with from row.args row.frame slots =
     ap (λ (r : Region). r.words) region
-    ∙ (λ i. under i ++ called_with from (args_are i) row.frame (set (top_is f c s i) (s.frame i - 1) address)) in record {
+    ∙ (λ i. under i ++ called_with from (args_are i) row.frame (set (top_is f c s i) (s.frame i - 1) address)) in
+    record {
       spelled = all;
       size = ap (λ (r : Region). r.size) region ∙ s.size;
       entry = entry ∙ s.entry;

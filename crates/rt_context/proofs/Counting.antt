@@ -1,9 +1,11 @@
 -- How many words frames take.
-use Rattle.std.proofs.Common.{◌≡◌, ℕ, ◌≤◌, ◌*◌, List, [], ◌∷◌, ◌++◌, length, refl, sym, ap, arith, length-append, sum_by}
+use Rattle.std.proofs.Common.{◌≡◌, ℕ, ◌≤◌, ◌*◌, List, [], ◌∷◌, ◌++◌, length, refl, sym, ap, arith, length-append}
+use Rattle.std.proofs.Common.{sum_by}
 use Rattle.std.proofs.lemmas.List.Sums.{sum_by-cons}
 use Rattle.rt_ids.specs.declared.exception.TheConstants.{BASIC_FRAME_WORDS}
 use Rattle.rt_code.specs.Stack.{words_of}
-use Rattle.rt_context.specs.Frames.{Saved, Frames, exception_frame, words_below, words, saved_words, frames_in_use, depth}
+use Rattle.rt_context.specs.Frames.{Saved, Frames, exception_frame, words_below, words, saved_words, frames_in_use}
+use Rattle.rt_context.specs.Frames.{depth}
 use Rattle.rt_context.proofs.Spelling.{length-exception_frame}
 
 length-words_below : (entry : ℕ) → BASIC_FRAME_WORDS ≤ entry → (below : List Saved)

@@ -1,5 +1,6 @@
 -- What fields spell in the thread, and after exception entry.
-use Rattle.std.proofs.Common.{◌≡◌, ℕ, ◌+◌, ◌-◌, ◌^◌, ◌≤◌, min, IsTrue, [], ◌∷◌, ◌++◌, length, replicate, reverse, None, sym, ap, ◌∙◌, arith, append_assoc, length-append}
+use Rattle.std.proofs.Common.{◌≡◌, ℕ, ◌+◌, ◌-◌, ◌^◌, ◌≤◌, min, IsTrue, [], ◌∷◌, ◌++◌, length, replicate, reverse, None}
+use Rattle.std.proofs.Common.{sym, ap, ◌∙◌, arith, append_assoc, length-append}
 use Rattle.std.proofs.lemmas.List.{length-replicate, reverse-append}
 use Rattle.rt_ids.specs.declared.exception.TheConstants.{BASIC_FRAME_WORDS}
 use Rattle.rt_stack.specs.Region.{Region, Fits, empty, top, region_after_push}
@@ -12,7 +13,8 @@ use Rattle.rt_context.proofs.Spelling.{length-exception_frame}
 use Rattle.rt_context.proofs.Running.{top_is, fits_from_room}
 
 -- exception entry, where the code's sum may stop at the largest number
-pub entry_fits : (f : Frames) (c : Inside) (words n : ℕ) → Spells f c → n ≡ min (c.entry + words) (2 ^ 32 - 1) → IsTrue (has_room f n)
+pub entry_fits : (f : Frames) (c : Inside) (words n : ℕ) → Spells f c → n ≡ min (c.entry + words) (2 ^ 32 - 1)
+    → IsTrue (has_room f n)
     → Fits c.region (c.entry + words)
 entry_fits f c words n s stopped is =
     let fits : Fits c.region n = fits_from_room f c n s is in
@@ -22,7 +24,8 @@ entry_fits f c words n s stopped is =
 
 -- with the architecture's frame pushed, the handler's frame fits
 pub frame_fits : (f : Frames) (c : Inside) (r : Region) (x : Saved) (words : ℕ) → Spells f c
-    → r ≡ record c.region { words = c.region.words ++ exception_frame c.entry x } → Fits c.region (c.entry + words) → Fits r words
+    → r ≡ record c.region { words = c.region.words ++ exception_frame c.entry x } → Fits c.region (c.entry + words)
+    → Fits r words
 frame_fits f c r x words s region fits =
     let basic : BASIC_FRAME_WORDS ≤ c.entry = omega (arith, s.entry, s.basic) in
     let long = ap (λ (r : Region). length r.words) region in
@@ -31,13 +34,19 @@ frame_fits f c r x words s region fits =
     let pushed = length-exception_frame c.entry basic x in omega (arith, long, size, fits, all, pushed)
 
 pub spells_entered : (f : Frames) (c d : Inside) (number address n : ℕ) → Spells f c
-    → d.region ≡ record c.region { words = (c.region.words ++ exception_frame c.entry (record { number = number; address = address; slots = top c.region c.frame; caller = None })) ++ replicate n 0 }
-    → d.entry ≡ c.entry → d.frame ≡ n → d.caller ≡ None → d.callers.items ≡ c.callers.items ++ c.caller ∷ [] → Spells (frames_after_entry f number address n) d
+    → d.region ≡ record c.region {
+      words = (c.region.words ++ exception_frame c.entry
+          (record { number = number; address = address; slots = top c.region c.frame; caller = None }))
+          ++ replicate n 0;
+    }
+    → d.entry ≡ c.entry → d.frame ≡ n → d.caller ≡ None → d.callers.items ≡ c.callers.items ++ c.caller ∷ []
+    → Spells (frames_after_entry f number address n) d
 spells_entered f c d number address n s region entry frame caller callers =
     record {
       spelled =
           ap (λ (r : Region). r.words) region
-          ∙ (λ i. (s.spelled i ++ exception_frame (s.entry i) (record { number = number; address = address; slots = top_is f c s i; caller = None })) ++ replicate n 0)
+          ∙ (λ i. (s.spelled i ++ exception_frame (s.entry i)
+          (record { number = number; address = address; slots = top_is f c s i; caller = None })) ++ replicate n 0)
           ∙ simp append_assoc;
       size = ap (λ (r : Region). r.size) region ∙ s.size;
       entry = entry ∙ s.entry;
@@ -53,7 +62,8 @@ spells_entered f c d number address n s region entry frame caller callers =
 
 -- the thread's frame alone
 pub spells_thread : (size entry n : ℕ) (d : Inside) → size ≤ STACK_WORDS → BASIC_FRAME_WORDS ≤ entry
-    → d.region ≡ region_after_push (empty size) n → d.entry ≡ entry → d.frame ≡ n → d.caller ≡ None → d.callers.items ≡ []
+    → d.region ≡ region_after_push (empty size) n → d.entry ≡ entry → d.frame ≡ n → d.caller ≡ None → d.callers.items
+    ≡ []
     → Spells (thread size entry n) d
 spells_thread size entry n d small basic region entry_is frame caller callers =
     record {

@@ -1,5 +1,7 @@
 -- What fields spell after a return.
-use Rattle.std.proofs.Common.{◌≡◌, ℕ, ◌+◌, ◌-◌, ◌≤◌, List, [], ◌∷◌, ◌++◌, slice_index, length, reverse, Option, Some, None, option_map, refl, sym, ap, subst, ◌∙◌, arith, append_assoc, append-nil, length-append, length-take}
+use Rattle.std.proofs.Common.{◌≡◌, ℕ, ◌+◌, ◌-◌, ◌≤◌, List, [], ◌∷◌, ◌++◌, slice_index, length, reverse, Option, Some}
+use Rattle.std.proofs.Common.{None, option_map, refl, sym, ap, subst, ◌∙◌, arith, append_assoc, append-nil}
+use Rattle.std.proofs.Common.{length-append, length-take}
 use Rattle.std.specs.List.{AllByRecursion}
 use Rattle.std.proofs.lemmas.List.{reverse-append}
 use Rattle.rt_stack.specs.Region.{Region, top, region_after_pop}
@@ -23,21 +25,33 @@ pub leads_kept : (o : Option (Frames × ℕ)) (d : Inside) (address : ℕ) → L
 leads_kept o d address l = kept l.after d l.spells
 
 -- as the contract says it, of the number that the code answers
-pub leads_view : (o : Option (Frames × ℕ)) (d : Inside) (address : ℕ) → Leads o d address → (a : ℕ) → Some address ≡ Some a → o ≡ Some (frames d, a)
+pub leads_view : (o : Option (Frames × ℕ)) (d : Inside) (address : ℕ) → Leads o d address → (a : ℕ) → Some address
+    ≡ Some a → o ≡ Some (frames d, a)
 leads_view o d address l a same =
     let e : address ≡ a = cc in
     l.is ∙ (λ i. Some (sym (spelled l.after d l.spells) i, e i))
 
 -- A body's return.
-back_by : (size entry : ℕ) (slots : List ℕ) (handler : Option (List ℕ)) (saved : List Saved) (c d : Inside) (n address : ℕ)
-    → Spells (record { size = size; entry = entry; slots = slots; caller = handler; below = saved }) c → c.caller ≡ Some n
-    → d.region ≡ region_after_pop c.region c.frame → d.entry ≡ c.entry → d.frame ≡ n → d.caller ≡ None → d.callers ≡ c.callers → address ≡ slice_index (top d.region n) (n - 1)
+back_by : (size entry : ℕ) (slots : List ℕ) (handler : Option (List ℕ)) (saved : List Saved) (c d : Inside)
+    (n address : ℕ)
+    → Spells (record { size = size; entry = entry; slots = slots; caller = handler; below = saved }) c → c.caller
+    ≡ Some n
+    → d.region ≡ region_after_pop c.region c.frame → d.entry ≡ c.entry → d.frame ≡ n → d.caller ≡ None → d.callers
+    ≡ c.callers → address ≡ slice_index (top d.region n) (n - 1)
     → Leads (back (record { size = size; entry = entry; slots = slots; caller = handler; below = saved })) d address
-back_by size entry slots None saved c d n address s calls region entry_is frame caller callers read = let is = s.caller in cc
+back_by size entry slots None saved c d n address s calls region entry_is frame caller callers read = let is =
+    s.caller in cc
 back_by size entry slots (Some own) saved c d n address s calls region entry_is frame caller callers read =
     let is = s.caller in
     let same : n ≡ length own = cc in
-    let under = region ∙ popped_is (record { size = size; entry = entry; slots = slots; caller = Some own; below = saved }) c s in
+    let under = region ∙ popped_is (record {
+      size = size;
+      entry = entry;
+      slots = slots;
+      caller = Some own;
+      below =
+          saved;
+    }) c s in
     let on_top : top d.region n ≡ own =
     (λ i. top (under i) (same i)) ∙ last_of-append (length own) (words_below entry saved) own refl in
     let after : Frames = record { size = size; entry = entry; slots = own; caller = None; below = saved } in
@@ -60,7 +74,8 @@ back_by size entry slots (Some own) saved c d n address s calls region entry_is 
     }
 
 pub back_leads : (f : Frames) (c d : Inside) (n address : ℕ) → Spells f c → c.caller ≡ Some n
-    → d.region ≡ region_after_pop c.region c.frame → d.entry ≡ c.entry → d.frame ≡ n → d.caller ≡ None → d.callers ≡ c.callers → address ≡ slice_index (top d.region n) (n - 1)
+    → d.region ≡ region_after_pop c.region c.frame → d.entry ≡ c.entry → d.frame ≡ n → d.caller ≡ None → d.callers
+    ≡ c.callers → address ≡ slice_index (top d.region n) (n - 1)
     → Leads (back f) d address
 back_leads f = back_by f.size f.entry f.slots f.caller f.below
 
@@ -74,7 +89,8 @@ pub record Finds (f : Frames) (caller : Option ℕ) (callers : List (Option ℕ)
   pub callers_are : callers ≡ sizes_of others
 
 finds_by : (f : Frames) (handler : Option (List ℕ)) (saved : List Saved) (caller : Option ℕ) (callers : List (Option ℕ))
-    → f.caller ≡ handler → f.below ≡ saved → None ≡ caller_size handler → caller ∷ callers ≡ sizes_of saved → Finds f caller callers
+    → f.caller ≡ handler → f.below ≡ saved → None ≡ caller_size handler → caller ∷ callers ≡ sizes_of saved
+    → Finds f caller callers
 finds_by f (Some own) saved caller callers is below none sizes = cc
 finds_by f None [] caller callers is below none sizes = cc
 finds_by f None (last ∷ others) caller callers is below none sizes =
@@ -92,9 +108,11 @@ abbrev after : Frames → Saved → List Saved → Frames
 after f last others = record f { slots = last.slots; caller = last.caller; below = others }
 
 -- An exception return.
-module _ (f : Frames) (c : Inside) (caller : Option ℕ) (callers : List (Option ℕ)) (s : Spells f c) (found : Finds f caller callers) where
+module _ (f : Frames) (c : Inside) (caller : Option ℕ) (callers : List (Option ℕ)) (s : Spells f c)
+    (found : Finds f caller callers) where
   -- below the running frame are the words of the frames to come, and the architecture's frame
-  under_words : words_below f.entry f.below ++ words_of f.caller ≡ words (after f found.last found.others) ++ exception_frame f.entry found.last
+  under_words : words_below f.entry f.below ++ words_of f.caller ≡ words (after f found.last found.others)
+      ++ exception_frame f.entry found.last
   under_words =
       (λ i. words_below f.entry (found.below i) ++ words_of (found.handler i)) ∙ simp (append-nil, append_assoc)
 
@@ -107,8 +125,10 @@ module _ (f : Frames) (c : Inside) (caller : Option ℕ) (callers : List (Option
       omega (arith, count, used_is f c s, s.frame, s.entry, kept, all, pushed)
 
   pub left_leads : (d : Inside) (address : ℕ) → d.region ≡ region_after_pop (region_after_pop c.region c.frame) c.entry
-      → d.entry ≡ c.entry → d.frame ≡ slice_index (top (region_after_pop c.region c.frame) c.entry) LINK → d.caller ≡ caller → reverse d.callers.items ≡ callers
-      → address ≡ slice_index (top (region_after_pop c.region c.frame) c.entry) RETURN_ADDRESS → Leads (frames_after_return f) d address
+      → d.entry ≡ c.entry → d.frame ≡ slice_index (top (region_after_pop c.region c.frame) c.entry) LINK → d.caller
+      ≡ caller → reverse d.callers.items ≡ callers
+      → address ≡ slice_index (top (region_after_pop c.region c.frame) c.entry) RETURN_ADDRESS
+      → Leads (frames_after_return f) d address
   left_leads d address region entry_is frame caller_is callers_are read =
       let pushed : List ℕ = exception_frame f.entry found.last in
       let rest : List ℕ = words (after f found.last found.others) in
@@ -124,7 +144,8 @@ module _ (f : Frames) (c : Inside) (caller : Option ℕ) (callers : List (Option
       let answer : address ≡ found.last.address = read ∙ ap (λ ws. slice_index ws RETURN_ADDRESS) on_top in record {
         after = after f found.last found.others;
         is =
-            (λ i. option_map (frames_after_resuming f) (interrupted_context (found.handler i) (found.below i))) ∙ ap (λ a. Some (after f found.last found.others, a)) (sym answer);
+            (λ i. option_map (frames_after_resuming f) (interrupted_context (found.handler i) (found.below i)))
+            ∙ ap (λ a. Some (after f found.last found.others, a)) (sym answer);
         spells = record {
           spelled = left_words;
           size = ap (λ (r : Region). r.size) region ∙ s.size;

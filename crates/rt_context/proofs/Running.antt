@@ -1,5 +1,6 @@
 -- The running frame of fields that spell frames, and what is below it.
-use Rattle.std.proofs.Common.{◌≡◌, ℕ, ◌+◌, ◌-◌, ◌≤◌, ◌↔◌, Bool, IsTrue, nat_le, List, ◌++◌, length, take, drop, refl, ap, subst, ◌∙◌, arith, append_assoc}
+use Rattle.std.proofs.Common.{◌≡◌, ℕ, ◌+◌, ◌-◌, ◌≤◌, ◌↔◌, Bool, IsTrue, nat_le, List, ◌++◌, length, take, drop, refl}
+use Rattle.std.proofs.Common.{ap, subst, ◌∙◌, arith, append_assoc}
 use Rattle.std.proofs.lemmas.Bool.Decides.{nat_tests}
 use Rattle.rt_stack.specs.Region.{Fits, top, below, region_after_pop}
 use Rattle.rt_stack.specs.Region.{used_words}
@@ -26,23 +27,29 @@ module _ (f : Frames) (c : Inside) (s : Spells f c) where
 
   pub top_is : top c.region c.frame ≡ f.slots
   unfolding rest
-  top_is = (λ i. drop (length (regrouped i) - s.frame i) (regrouped i)) ∙ last_of-append (length f.slots) rest f.slots refl
+  top_is = (λ i. drop (length (regrouped i) - s.frame i) (regrouped i))
+      ∙ last_of-append (length f.slots) rest f.slots refl
 
   pub below_is : below c.region c.frame ≡ words_below f.entry f.below ++ words_of f.caller
   unfolding rest
-  below_is = (λ i. take (length (regrouped i) - s.frame i) (regrouped i)) ∙ without-append (length f.slots) rest f.slots refl
+  below_is = (λ i. take (length (regrouped i) - s.frame i) (regrouped i))
+      ∙ without-append (length f.slots) rest f.slots refl
 
   pub used_is : used_words c.region ≡ frames_in_use f
   used_is = ap length s.spelled ∙ words_are_counted f s.basic
 
-  pub popped_is : region_after_pop c.region c.frame ≡ record { words = words_below f.entry f.below ++ words_of f.caller; size = f.size }
+  pub popped_is : region_after_pop c.region c.frame ≡ record {
+    words = words_below f.entry f.below ++ words_of f.caller;
+    size = f.size;
+  }
   popped_is = λ i. record { words = below_is i; size = s.size i }
 
 room_test : (r : Bool) (m n size : ℕ) → (IsTrue r ↔ (m + n ≤ size)) → r ≡ nat_le (m + n) size
 room_test r m n size is = grind (arith, nat_tests)
 
 -- the region's test is the frames'
-pub has_room_is : (f : Frames) (c : Inside) (n : ℕ) (r : Bool) → Spells f c → (IsTrue r ↔ Fits c.region n) → r ≡ has_room f n
+pub has_room_is : (f : Frames) (c : Inside) (n : ℕ) (r : Bool) → Spells f c → (IsTrue r ↔ Fits c.region n) → r
+    ≡ has_room f n
 has_room_is f c n r s is =
     room_test r (used_words c.region) n c.region.size is ∙ (λ i. nat_le (used_is f c s i + n) (s.size i))
 

@@ -1,12 +1,14 @@
 -- The frames that words spell are those whose words they are.
-use Rattle.std.proofs.Common.{◌≡◌, ℕ, ◌-◌, ◌≤◌, List, [], ◌∷◌, ◌++◌, length, map, take, drop, Option, Some, None, refl, sym, ap, subst, ◌∙◌, arith, append_assoc, length-append}
+use Rattle.std.proofs.Common.{◌≡◌, ℕ, ◌-◌, ◌≤◌, List, [], ◌∷◌, ◌++◌, length, map, take, drop, Option, Some, None, refl}
+use Rattle.std.proofs.Common.{sym, ap, subst, ◌∙◌, arith, append_assoc, length-append}
 use Rattle.std.proofs.lemmas.List.{length-replicate}
 use Rattle.std.proofs.Math.Seq.{take-append_seam, drop-append_seam}
 use Rattle.rt_ids.specs.declared.exception.TheConstants.{BASIC_FRAME_WORDS}
 use Rattle.rt_context.specs.declared.frames.Frames.TheInside.{Inside}
 use Rattle.rt_code.specs.Stack.{words_of}
 use Rattle.rt_context.specs.Frames.{Saved, Frames, exception_frame, words_below, words}
-use Rattle.rt_context.specs.Inside.Parts.{last_of, without, caller_of, below_caller, saved_context, below_saved, contexts_in_words, frames, caller_size, Spells, IsSpelled}
+use Rattle.rt_context.specs.Inside.Parts.{last_of, without, caller_of, below_caller, saved_context, below_saved}
+use Rattle.rt_context.specs.Inside.Parts.{contexts_in_words, frames, caller_size, Spells, IsSpelled}
 
 -- words behind others
 module _ (n : ℕ) (xs ys : List ℕ) (same : length ys ≡ n) where
@@ -20,11 +22,13 @@ module _ (n : ℕ) (xs ys : List ℕ) (same : length ys ≡ n) where
   without-append = ap (λ k. take k (xs ++ ys)) place ∙ take-append_seam xs ys
 
 -- a caller's frame behind other words
-caller_of-append : (caller : Option (List ℕ)) (xs : List ℕ) → caller_of (caller_size caller) (xs ++ words_of caller) ≡ caller
+caller_of-append : (caller : Option (List ℕ)) (xs : List ℕ) → caller_of (caller_size caller) (xs ++ words_of caller)
+    ≡ caller
 caller_of-append None xs = refl
 caller_of-append (Some ws) xs = ap Some (last_of-append (length ws) xs ws refl)
 
-below_caller-append : (caller : Option (List ℕ)) (xs : List ℕ) → below_caller (caller_size caller) (xs ++ words_of caller) ≡ xs
+below_caller-append : (caller : Option (List ℕ)) (xs : List ℕ) → below_caller (caller_size caller)
+    (xs ++ words_of caller) ≡ xs
 below_caller-append None xs = without-append 0 xs [] refl
 below_caller-append (Some ws) xs = without-append (length ws) xs ws refl
 
@@ -35,7 +39,8 @@ length-exception_frame entry basic s = omega (arith, length-replicate {A = ℕ} 
 -- a context behind other words
 module _ (entry : ℕ) where
   abbrev from_entry : Option ℕ → List (Option ℕ) → List ℕ → List ℕ → List Saved
-  from_entry caller callers pushed under = saved_context pushed under caller ∷ contexts_in_words entry (below_saved pushed under caller) callers
+  from_entry caller callers pushed under = saved_context pushed under caller
+      ∷ contexts_in_words entry (below_saved pushed under caller) callers
 
   abbrev from_slots : Saved → List (Option ℕ) → List ℕ → List ℕ → List Saved
   from_slots s callers slots rest =
@@ -44,11 +49,13 @@ module _ (entry : ℕ) where
 
   abbrev from_caller : Saved → List (Option ℕ) → Option (List ℕ) → List ℕ → List Saved
   from_caller s callers caller below =
-      record { number = s.number; address = s.address; slots = s.slots; caller = caller } ∷ contexts_in_words entry below callers
+      record { number = s.number; address = s.address; slots = s.slots; caller = caller }
+      ∷ contexts_in_words entry below callers
 
   module _ (basic : BASIC_FRAME_WORDS ≤ entry) where
     saved_of-append : (s : Saved) (xs : List ℕ) (callers : List (Option ℕ))
-        → contexts_in_words entry (xs ++ (words_of s.caller ++ (s.slots ++ exception_frame entry s))) (caller_size s.caller ∷ callers) ≡ s ∷ contexts_in_words entry xs callers
+        → contexts_in_words entry (xs ++ (words_of s.caller ++ (s.slots ++ exception_frame entry s)))
+        (caller_size s.caller ∷ callers) ≡ s ∷ contexts_in_words entry xs callers
     saved_of-append s xs callers =
         let pushed = exception_frame entry s in
         let long = length-exception_frame entry basic s in
@@ -56,8 +63,10 @@ module _ (entry : ℕ) where
         let under : List ℕ = rest ++ s.slots in
         let regrouped : xs ++ (words_of s.caller ++ (s.slots ++ pushed)) ≡ under ++ pushed = simp append_assoc in
         ap (λ ws. contexts_in_words entry ws (caller_size s.caller ∷ callers)) regrouped
-        ∙ (λ i. from_entry (caller_size s.caller) callers (last_of-append entry under pushed long i) (without-append entry under pushed long i))
-        ∙ (λ i. from_slots s callers (last_of-append (length s.slots) rest s.slots refl i) (without-append (length s.slots) rest s.slots refl i))
+        ∙ (λ i. from_entry (caller_size s.caller) callers (last_of-append entry under pushed long i)
+        (without-append entry under pushed long i))
+        ∙ (λ i. from_slots s callers (last_of-append (length s.slots) rest s.slots refl i)
+        (without-append (length s.slots) rest s.slots refl i))
         ∙ (λ i. from_caller s callers (caller_of-append s.caller xs i) (below_caller-append s.caller xs i))
 
 abbrev pub sizes_of : List Saved → List (Option ℕ)
@@ -74,7 +83,14 @@ saved_of-words_below entry basic (s ∷ below) =
 abbrev by_sizes : ℕ → ℕ → List ℕ → ℕ → Option ℕ → List (Option ℕ) → Frames
 by_sizes size entry ws frame caller callers =
     let under = without frame ws in
-    record { size = size; entry = entry; slots = last_of frame ws; caller = caller_of caller under; below = contexts_in_words entry (below_caller caller under) callers }
+    record {
+      size = size;
+      entry = entry;
+      slots = last_of frame ws;
+      caller = caller_of caller under;
+      below =
+          contexts_in_words entry (below_caller caller under) callers;
+    }
 
 by_sizes-words : (f : Frames) → BASIC_FRAME_WORDS ≤ f.entry
     → by_sizes f.size f.entry (words f) (length f.slots) (caller_size f.caller) (sizes_of f.below) ≡ f
@@ -88,7 +104,8 @@ by_sizes-words f basic =
       entry = f.entry;
       slots = last_of-append (length f.slots) rest f.slots refl i;
       caller = caller_of (caller_size f.caller) (without-append (length f.slots) rest f.slots refl i);
-      below = contexts_in_words f.entry (below_caller (caller_size f.caller) (without-append (length f.slots) rest f.slots refl i)) (sizes_of f.below);
+      below = contexts_in_words f.entry (below_caller (caller_size f.caller)
+          (without-append (length f.slots) rest f.slots refl i)) (sizes_of f.below);
     })
     ∙ (λ i.
     record {
@@ -96,7 +113,8 @@ by_sizes-words f basic =
       entry = f.entry;
       slots = f.slots;
       caller = caller_of-append f.caller (words_below f.entry f.below) i;
-      below = contexts_in_words f.entry (below_caller-append f.caller (words_below f.entry f.below) i) (sizes_of f.below);
+      below = contexts_in_words f.entry (below_caller-append f.caller (words_below f.entry f.below) i)
+          (sizes_of f.below);
     })
     ∙ (λ i. record f { below = saved_of-words_below f.entry basic f.below i })
 

@@ -11,10 +11,12 @@ abbrev pub written : Frames → List ℕ → Frames
 written f ws = record f { slots = ws }
 
 pub spells_written : (f : Frames) (c d : Inside) (ws : List ℕ) → Spells f c → length ws ≡ c.frame
-    → d.region ≡ record c.region { words = below c.region c.frame ++ ws } → d.entry ≡ c.entry → d.frame ≡ c.frame → d.caller ≡ c.caller → d.callers ≡ c.callers → Spells (written f ws) d
+    → d.region ≡ record c.region { words = below c.region c.frame ++ ws } → d.entry ≡ c.entry → d.frame ≡ c.frame
+    → d.caller ≡ c.caller → d.callers ≡ c.callers → Spells (written f ws) d
 spells_written f c d ws s long region entry frame caller callers =
     record {
-      spelled = ap (λ (r : Region). r.words) region ∙ ap (λ rest. rest ++ ws) (below_is f c s) ∙ append_assoc (words_below f.entry f.below) (words_of f.caller) ws;
+      spelled = ap (λ (r : Region). r.words) region ∙ ap (λ rest. rest ++ ws) (below_is f c s)
+          ∙ append_assoc (words_below f.entry f.below) (words_of f.caller) ws;
       size = ap (λ (r : Region). r.size) region ∙ s.size;
       entry = entry ∙ s.entry;
       frame = frame ∙ sym long;

@@ -22,7 +22,10 @@ frames_after_entry f number address n = record f {
 
 -- exception return: what was interrupted runs on, from its address
 abbrev pub frames_after_resuming : Frames → Saved × List Saved → Frames × ℕ
-frames_after_resuming f found = (record f { slots = found.0.slots; caller = found.0.caller; below = found.1 }, found.0.address)
+frames_after_resuming f found = (
+  record f { slots = found.0.slots; caller = found.0.caller; below = found.1 },
+  found.0.address,
+)
 
 -- exception return, where a handler runs that interrupted something
 abbrev pub frames_after_return : Frames → Option (Frames × ℕ)

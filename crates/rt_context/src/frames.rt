@@ -133,7 +133,8 @@ impl Frames {
     /// Exception return: pops the handler's frame and the architecture's, and answers the address that runs on. It
     /// answers None exactly in a called body and in the thread, and changes nothing then.
     pub fn leave(&mut self) -> Option<u32>
-        ensures left { (address : ℕ) → result ≡ Some address → moves.frames_after_return self.old ≡ Some (self.new, address) }
+        ensures left { (address : ℕ) → result ≡ Some address → moves.frames_after_return self.old
+            ≡ Some (self.new, address) }
         ensures none { result ≡ None → (moves.frames_after_return self.old ≡ None) × (self.new ≡ self.old) }
     {
         if self.caller.is_some() {

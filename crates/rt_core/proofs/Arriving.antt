@@ -6,7 +6,8 @@ use Rattle.rt_ids.specs.Arrivals.{pending_with}
 use Rattle.rt_core.specs.Core.{Core}
 use Rattle.rt_core.specs.Trace.{happen, core_after}
 
-pub arrivals_pend : (img : Image) (irqs : List ℕ) (c : Core) → record c { pending = pending_with irqs c.pending } ≡ core_after img c (map Arrive irqs)
+pub arrivals_pend : (img : Image) (irqs : List ℕ) (c : Core) → record c { pending = pending_with irqs c.pending }
+    ≡ core_after img c (map Arrive irqs)
 unfolding core_after happen
 arrivals_pend img [] c = refl
 arrivals_pend img (irq ∷ irqs) c = arrivals_pend img irqs (record c { pending = slice_set c.pending irq true })

@@ -15,7 +15,8 @@ abbrev StaysAtCall : Processor → Effect → Type 0
 StaysAtCall p (Leads q (request.Call row from)) = q ≡ p
 StaysAtCall p e = Unit {0}
 
-tested_stays : (b : Bool) (p : Processor) (t : Trap) (e : Effect) → StaysAtCall p e → StaysAtCall p (if not b then Traps t else e)
+tested_stays : (b : Bool) (p : Processor) (t : Trap) (e : Effect) → StaysAtCall p e
+    → StaysAtCall p (if not b then Traps t else e)
 tested_stays true p t e h = h
 tested_stays false p t e h = tt
 
@@ -28,8 +29,10 @@ done_stays (instr.Unmask s) time p = unmask_stays (nat_le (slot p s) 1) p (recor
 done_stays (instr.Call row from) time p = refl
 done_stays i time p = tt
 
-pub call_stays : (i : Instr) (time : ℕ) (p q : Processor) (row from : ℕ) → effect i time p ≡ Leads q (request.Call row from) → q ≡ p
+pub call_stays : (i : Instr) (time : ℕ) (p q : Processor) (row from : ℕ) → effect i time p
+    ≡ Leads q (request.Call row from) → q ≡ p
 call_stays i time p q row from leads =
     subst (StaysAtCall p) leads
-    (tested_stays (are_there (cells_of i p) p.cells) p trap.Address (if not (are_there (slots_of i) p.slots) then Traps trap.Stack else unchecked_effect i time p)
+    (tested_stays (are_there (cells_of i p) p.cells) p trap.Address
+    (if not (are_there (slots_of i) p.slots) then Traps trap.Stack else unchecked_effect i time p)
     (tested_stays (are_there (slots_of i) p.slots) p trap.Stack (unchecked_effect i time p) (done_stays i time p)))

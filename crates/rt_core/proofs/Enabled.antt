@@ -6,4 +6,5 @@ use Rattle.std.proofs.lemmas.List.{length-replicate, get_or-replicate, get_or_pa
 pub none_enabled : (n irq : ℕ) → slice_index_or (replicate {A = Option ℕ} n None) irq None ≡ None
 none_enabled n irq =
     ⊎_elim (λ l. get_or-replicate n irq None None l)
-    (λ more. get_or_past (replicate {A = Option ℕ} n None) irq None (omega (arith, more, length-replicate {A = Option ℕ} n None))) (cases_lt irq n)
+    (λ more. get_or_past (replicate {A = Option ℕ} n None) irq None
+    (omega (arith, more, length-replicate {A = Option ℕ} n None))) (cases_lt irq n)

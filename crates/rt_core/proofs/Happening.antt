@@ -1,5 +1,6 @@
 -- The equations of a step and of events.
-use Rattle.std.proofs.Common.{◌≡◌, List, [], ◌∷◌, ◌++◌, append_assoc, Bool, false, if◌then◌else◌, Option, Some, None, option_map, slice_get, refl, sym, ap, ◌∙◌}
+use Rattle.std.proofs.Common.{◌≡◌, List, [], ◌∷◌, ◌++◌, append_assoc, Bool, false, if◌then◌else◌, Option, Some, None}
+use Rattle.std.proofs.Common.{option_map, slice_get, refl, sym, ap, ◌∙◌}
 use Rattle.std.proofs.lemmas.Option.{none-some}
 use Rattle.rt_ids.specs.Event.{Event}
 use Rattle.rt_code.specs.Image.{Image}
@@ -37,9 +38,11 @@ steps_by_cause = record {
   stopped = λ img c h. step_is img c ∙ ap (step_by img c) h;
   entry = λ img c row h picked. step_is img c ∙ ap (step_by img c) h ∙ ap (λ o. settle (attempt img c o)) picked;
   line = λ img c line h picked at.
-      step_is img c ∙ ap (step_by img c) h ∙ ap (λ o. settle (attempt img c o)) picked ∙ ap (λ o. settle (run img c o)) at;
+      step_is img c ∙ ap (step_by img c) h ∙ ap (λ o. settle (attempt img c o)) picked
+      ∙ ap (λ o. settle (run img c o)) at;
   none = λ img c h picked at.
-      step_is img c ∙ ap (step_by img c) h ∙ ap (λ o. settle (attempt img c o)) picked ∙ ap (λ o. settle (run img c o)) at;
+      step_is img c ∙ ap (step_by img c) h ∙ ap (λ o. settle (attempt img c o)) picked
+      ∙ ap (λ o. settle (run img c o)) at;
 }
 
 none_picked : (o : Option IrqRow) → option_map (λ row. row.number) o ≡ None → o ≡ None
@@ -51,20 +54,25 @@ pub going_steps : (img : Image) (c : Core) → c.stopped ≡ false → step img 
 going_steps img c h = step_is img c ∙ ap (step_by img c) h
 
 -- the step of a core that goes on with an instruction
-pub instruction_steps : (img : Image) (c : Core) → c.stopped ≡ false → option_map (λ row. row.number) (pick img c) ≡ None
+pub instruction_steps : (img : Image) (c : Core) → c.stopped ≡ false → option_map (λ row. row.number) (pick img c)
+    ≡ None
     → step img c ≡ settle (run img c (slice_get img.code c.processor.address))
-instruction_steps img c h none = step_is img c ∙ ap (step_by img c) h ∙ ap (λ o. settle (attempt img c o)) (none_picked (pick img c) none)
+instruction_steps img c h none = step_is img c ∙ ap (step_by img c) h
+    ∙ ap (λ o. settle (attempt img c o)) (none_picked (pick img c) none)
 
 -- the core after more events
-pub core_after-append : (img : Image) (c : Core) (es fs : List Event) → core_after img c (es ++ fs) ≡ core_after img (core_after img c es) fs
+pub core_after-append : (img : Image) (c : Core) (es fs : List Event) → core_after img c (es ++ fs)
+    ≡ core_after img (core_after img c es) fs
 unfolding core_after
 core_after-append img c [] fs = refl
 core_after-append img c (e ∷ es) fs = core_after-append img (happen img c e).0 es fs
 
 -- the labels of more events
-pub labels-append : (img : Image) (c : Core) (es fs : List Event) → labels img c (es ++ fs) ≡ labels img c es ++ labels img (core_after img c es) fs
+pub labels-append : (img : Image) (c : Core) (es fs : List Event) → labels img c (es ++ fs) ≡ labels img c es
+    ++ labels img (core_after img c es) fs
 unfolding labels core_after
 labels-append img c [] fs = refl
 labels-append img c (e ∷ es) fs =
     ap (λ ls. (happen img c e).1 ++ ls) (labels-append img (happen img c e).0 es fs)
-    ∙ sym (append_assoc (happen img c e).1 (labels img (happen img c e).0 es) (labels img (core_after img (happen img c e).0 es) fs))
+    ∙ sym (append_assoc (happen img c e).1 (labels img (happen img c e).0 es)
+    (labels img (core_after img (happen img c e).0 es) fs))

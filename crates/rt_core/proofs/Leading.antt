@@ -17,16 +17,21 @@ one_there : (slot : ℕ) (slots : List ℕ) → slot < length slots → are_ther
 one_there slot slots h = ap (λ b. b && true) (lt-ltb slot (length slots) h)
 
 -- the instruction that opens a section of a kind, whose slot is in the frame
-pub opening_leads : (value : ℕ) (kind : Kind) (time : ℕ) (p : Processor) → AllByRecursion (λ d. d < length p.slots) (saved_slot kind)
+pub opening_leads : (value : ℕ) (kind : Kind) (time : ℕ) (p : Processor)
+    → AllByRecursion (λ d. d < length p.slots) (saved_slot kind)
     → effect (opening_instr value kind) time p ≡ Leads (processor_after_opening p value kind) request.Nothing
 opening_leads value Marked time p there = refl
-opening_leads value (Raised slot) time p (there, none) = effect_is_done (instr.Raise slot value) time p refl (one_there slot p.slots there)
-opening_leads value (Masked slot) time p (there, none) = effect_is_done (instr.Mask slot) time p refl (one_there slot p.slots there)
+opening_leads value (Raised slot) time p (there, none) = effect_is_done (instr.Raise slot value) time p refl
+    (one_there slot p.slots there)
+opening_leads value (Masked slot) time p (there, none) = effect_is_done (instr.Mask slot) time p refl
+    (one_there slot p.slots there)
 
 -- and the one that closes it
-pub closing_leads : (kind : Kind) (time : ℕ) (p : Processor) → CanPutBack kind p.slots → effect (closing_instr kind) time p ≡ Leads (processor_after_closing p kind) request.Nothing
+pub closing_leads : (kind : Kind) (time : ℕ) (p : Processor) → CanPutBack kind p.slots
+    → effect (closing_instr kind) time p ≡ Leads (processor_after_closing p kind) request.Nothing
 closing_leads Marked time p can = refl
 closing_leads (Raised slot) time p can = effect_is_done (instr.Restore slot) time p refl (one_there slot p.slots can)
 closing_leads (Masked slot) time p (there, two) =
     effect_is_done (instr.Unmask slot) time p refl (one_there slot p.slots there)
-    ∙ ap (λ b. if b then Leads (processor_after_closing p (Masked slot)) request.Nothing else Traps trap.Stack) (le-leb (slice_index p.slots slot) 1 two)
+    ∙ ap (λ b. if b then Leads (processor_after_closing p (Masked slot)) request.Nothing else Traps trap.Stack)
+    (le-leb (slice_index p.slots slot) 1 two)

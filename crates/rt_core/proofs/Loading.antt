@@ -1,5 +1,6 @@
 -- What a step does depends on memory by what it loads alone.
-use Rattle.std.proofs.Common.{◌≡◌, ℕ, ◌+◌, Bool, true, false, nat_le, if◌then◌else◌, List, [], length, Option, Some, None, slice_get, option_map, refl, sym, ap, ◌∙◌}
+use Rattle.std.proofs.Common.{◌≡◌, ℕ, ◌+◌, Bool, true, false, nat_le, if◌then◌else◌, List, [], length, Option, Some}
+use Rattle.std.proofs.Common.{None, slice_get, option_map, refl, sym, ap, ◌∙◌}
 use Rattle.rt_ids.specs.Lists.{then_from}
 use Rattle.rt_code.specs.Access.{Stores}
 use Rattle.rt_code.specs.Effect.{effect}
@@ -47,21 +48,27 @@ module _ (img : Image) (c : Core) where
   abbrev bare : Core
   bare = with_cells c []
 
-  cut-enter : (irq : ℕ) (h : Option Handler) → cut (transfer.exception_entry img c irq h) ≡ transfer.exception_entry img bare irq h
+  cut-enter : (irq : ℕ) (h : Option Handler) → cut (transfer.exception_entry img c irq h)
+      ≡ transfer.exception_entry img bare irq h
   cut-enter irq None = refl
   cut-enter irq (Some h) =
       cut_if (transfer.has_room img c (entry_words img + h.frame))
-      (Done (transfer.core_after_entry c irq h) (Some (what.Take irq (depth img (transfer.core_after_entry c irq h))))) (Trapped c trap.Stack)
-      (Done (transfer.core_after_entry bare irq h) (Some (what.Take irq (depth img (transfer.core_after_entry bare irq h))))) (Trapped bare trap.Stack) refl refl
+      (Done (transfer.core_after_entry c irq h) (Some (what.Take irq (depth img (transfer.core_after_entry c irq h)))))
+      (Trapped c trap.Stack)
+      (Done (transfer.core_after_entry bare irq h)
+      (Some (what.Take irq (depth img (transfer.core_after_entry bare irq h))))) (Trapped bare trap.Stack) refl refl
 
-  cut-resumed : (found : Option (Context × List Context)) → cut (transfer.outcome_of_return c found) ≡ transfer.outcome_of_return bare found
+  cut-resumed : (found : Option (Context × List Context)) → cut (transfer.outcome_of_return c found)
+      ≡ transfer.outcome_of_return bare found
   cut-resumed None = refl
   cut-resumed (Some found) = refl
 
-  cut-call_row : (row : Option BodyRow) (from : ℕ) → cut (transfer.call_row img c row from) ≡ transfer.call_row img bare row from
+  cut-call_row : (row : Option BodyRow) (from : ℕ) → cut (transfer.call_row img c row from)
+      ≡ transfer.call_row img bare row from
   cut-call_row None from = refl
   cut-call_row (Some row) from =
-      cut_if (transfer.call_fits img c row from) (Done (transfer.core_after_call c row from) None) (Trapped c trap.Stack)
+      cut_if (transfer.call_fits img c row from) (Done (transfer.core_after_call c row from) None)
+      (Trapped c trap.Stack)
       (Done (transfer.core_after_call bare row from) None) (Trapped bare trap.Stack) refl refl
 
   cut-back : (caller : Option (List ℕ)) → cut (transfer.back_to c caller) ≡ transfer.back_to bare caller
@@ -87,18 +94,21 @@ module _ (img : Image) (c : Core) where
   cut-answer request.Back = cut-back c.caller
   cut-answer request.Return = cut-resumed (interrupted_context c.caller c.below)
 
-plain-noted : (c : Core) (shown : Option What) → plain (stepping.outcome_of_note c shown) ≡ plain (stepping.outcome_of_note (with_cells c []) shown)
+plain-noted : (c : Core) (shown : Option What) → plain (stepping.outcome_of_note c shown)
+    ≡ plain (stepping.outcome_of_note (with_cells c []) shown)
 plain-noted c None = refl
 plain-noted c (Some w) = refl
 
 plain-note : (img : Image) (c : Core) (n : Note)
-    → plain (stepping.outcome_of_note c (item_of_note img c n)) ≡ plain (stepping.outcome_of_note (with_cells c []) (item_of_note img (with_cells c []) n))
+    → plain (stepping.outcome_of_note c (item_of_note img c n)) ≡ plain
+    (stepping.outcome_of_note (with_cells c []) (item_of_note img (with_cells c []) n))
 plain-note img c (note.Enter s) = refl
 plain-note img c (note.Leave s) = refl
 plain-note img c (note.Placed t) = refl
 plain-note img c (note.Full t) = refl
 plain-note img c (note.Ready t) = refl
-plain-note img c (note.Start t from) = plain-noted c (option_map (what.Start t) (slots_from c from (argument_count img t)))
+plain-note img c (note.Start t from) = plain-noted c (option_map (what.Start t)
+    (slots_from c from (argument_count img t)))
 plain-note img c (note.Free t) = refl
 plain-note img c (note.Arm t s) = plain-noted c (option_map (what.Arm t) (slice_get c.processor.slots s))
 plain-note img c (note.Fire t) = refl
@@ -108,7 +118,8 @@ plain-note img c (note.Move t s a) =
     plain-noted c (then_from (slice_get slots s) (λ handle. option_map (what.Move t handle) (slice_get slots a)))
 plain-note img c (note.End b) = refl
 
-plain-with_note : (img : Image) (n : Option Note) (o : Outcome) → plain (stepping.with_note img n o) ≡ plain (stepping.with_note img n (cut o))
+plain-with_note : (img : Image) (n : Option Note) (o : Outcome) → plain (stepping.with_note img n o)
+    ≡ plain (stepping.with_note img n (cut o))
 plain-with_note img None (Trapped c t) = refl
 plain-with_note img None (Done c shown) = refl
 plain-with_note img (Some n) (Trapped c t) = refl
@@ -138,7 +149,8 @@ module _ (img : Image) (c : Core) (cells : List ℕ) (long : length cells ≡ le
   run_alike None load = refl
   run_alike (Some line) load =
       plain-go_on img other line.1 (effect line.0 c.time (with_memory c.processor cells))
-      ∙ ap (λ e. plain (stepping.go_on img (with_cells c []) line.1 e)) (effect_alike line.0 c.time c.processor cells long load)
+      ∙ ap (λ e. plain (stepping.go_on img (with_cells c []) line.1 e))
+      (effect_alike line.0 c.time c.processor cells long load)
       ∙ sym (plain-go_on img c line.1 (effect line.0 c.time c.processor))
 
   attempt_alike : (taken : Option IrqRow) → HaveLoad (access_by img c taken) cells c.processor.cells
@@ -157,30 +169,36 @@ module _ (img : Image) (c : Core) (cells : List ℕ) (long : length cells ≡ le
   settled_shown (Trapped d t) = refl
   settled_shown (Done d shown) = refl
 
-  core_alike : (stopped : Bool) → HaveLoad (if stopped then None else access_by img c (pick img c)) cells c.processor.cells
+  core_alike : (stopped : Bool) → HaveLoad (if stopped then None else access_by img c (pick img c)) cells
+      c.processor.cells
       → with_cells (step_by img other stopped).0 [] ≡ with_cells (step_by img c stopped).0 []
   core_alike true load = refl
   core_alike false load =
       settled_core (stepping.attempt img other (pick img c)) ∙ ap (λ o. (settle o).0) (attempt_alike (pick img c) load)
       ∙ sym (settled_core (stepping.attempt img c (pick img c)))
 
-  shown_alike : (stopped : Bool) → HaveLoad (if stopped then None else access_by img c (pick img c)) cells c.processor.cells
+  shown_alike : (stopped : Bool) → HaveLoad (if stopped then None else access_by img c (pick img c)) cells
+      c.processor.cells
       → without_value (step_by img other stopped).1 ≡ without_value (step_by img c stopped).1
   shown_alike true load = refl
   shown_alike false load =
       settled_shown (stepping.attempt img other (pick img c)) ∙ ap (λ o. (settle o).1) (attempt_alike (pick img c) load)
       ∙ sym (settled_shown (stepping.attempt img c (pick img c)))
 
-  line_touches_alike : (line : Option (Instr × Option Note)) → HaveLoad (access_by_line c line) cells c.processor.cells → access_by_line other line ≡ access_by_line c line
+  line_touches_alike : (line : Option (Instr × Option Note)) → HaveLoad (access_by_line c line) cells c.processor.cells
+      → access_by_line other line ≡ access_by_line c line
   line_touches_alike None load = refl
   line_touches_alike (Some line) load = access_alike line.0 c.time c.processor cells long load
 
-  attempt_touches_alike : (taken : Option IrqRow) → HaveLoad (access_by img c taken) cells c.processor.cells → access_by img other taken ≡ access_by img c taken
+  attempt_touches_alike : (taken : Option IrqRow) → HaveLoad (access_by img c taken) cells c.processor.cells
+      → access_by img other taken ≡ access_by img c taken
   attempt_touches_alike (Some row) load = refl
   attempt_touches_alike None load = line_touches_alike (slice_get img.code c.processor.address) load
 
-  touches_alike : (stopped : Bool) → HaveLoad (if stopped then None else access_by img c (pick img c)) cells c.processor.cells
-      → (if stopped then None else access_by img other (pick img c)) ≡ (if stopped then None else access_by img c (pick img c))
+  touches_alike : (stopped : Bool) → HaveLoad (if stopped then None else access_by img c (pick img c)) cells
+      c.processor.cells
+      → (if stopped then None else access_by img other (pick img c))
+      ≡ (if stopped then None else access_by img c (pick img c))
   touches_alike true load = refl
   touches_alike false load = attempt_touches_alike (pick img c) load
 
@@ -194,14 +212,17 @@ module _ (img : Image) (c : Core) (cells : List ℕ) (long : length cells ≡ le
   attempt_stores_alike (Some row) k h = absurd (cc)
   attempt_stores_alike None k h = line_stores_alike (slice_get img.code c.processor.address) k h
 
-  step_stores_alike : (stopped : Bool) (k : ℕ) → (if stopped then None else access_by img c (pick img c)) ≡ Some (Stores k)
-      → slice_get (step_by img other stopped).0.processor.cells k ≡ slice_get (step_by img c stopped).0.processor.cells k
+  step_stores_alike : (stopped : Bool) (k : ℕ) → (if stopped then None else access_by img c (pick img c))
+      ≡ Some (Stores k)
+      → slice_get (step_by img other stopped).0.processor.cells k ≡ slice_get (step_by img c stopped).0.processor.cells
+      k
   step_stores_alike true k h = absurd (cc)
   step_stores_alike false k h =
       ap (λ cells. slice_get cells k) (cells_of_step img other) ∙ attempt_stores_alike (pick img c) k h
       ∙ sym (ap (λ cells. slice_get cells k) (cells_of_step img c))
 
-  alike : HaveLoad (if c.stopped then None else access_by img c (pick img c)) cells c.processor.cells → StepsAlike img c cells
+  alike : HaveLoad (if c.stopped then None else access_by img c (pick img c)) cells c.processor.cells
+      → StepsAlike img c cells
   unfolding stepping.step
   alike load = record {
     touched = touches_alike c.stopped load;

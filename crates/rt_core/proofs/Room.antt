@@ -1,5 +1,7 @@
 -- The stack keeps within its region.
-use Rattle.std.proofs.Common.{◌≡◌, ℕ, suc, ◌+◌, ◌/◌, ◌≤◌, ◌-◌, ◌||◌, ◌==◌, Bool, true, false, nat_le, if◌then◌else◌, List, [], ◌∷◌, length, take, drop, replicate, Option, Some, None, slice_get, sum_by, refl, arith, length-append, length-set, length-take}
+use Rattle.std.proofs.Common.{◌≡◌, ℕ, suc, ◌+◌, ◌/◌, ◌≤◌, ◌-◌, ◌||◌, ◌==◌, Bool, true, false, nat_le, if◌then◌else◌}
+use Rattle.std.proofs.Common.{List, [], ◌∷◌, length, take, drop, replicate, Option, Some, None, slice_get, sum_by, refl}
+use Rattle.std.proofs.Common.{arith, length-append, length-set, length-take}
 use Rattle.std.proofs.lemmas.Bool.{leb-true}
 use Rattle.std.proofs.lemmas.List.{length-replicate}
 use Rattle.std.proofs.lemmas.List.Sums.{sum_by-cons}
@@ -60,37 +62,64 @@ module _ (img : Image) where
     enter_fits : (irq : ℕ) (h : Option Handler) → FitsAfter (transfer.exception_entry img c irq h)
     enter_fits irq None = fits
     enter_fits irq (Some h) =
-        let x : Context = record { irq = irq; value = h.value; address = c.processor.address; slots = c.processor.slots; caller = c.caller } in
+        let x : Context = record {
+          irq = irq;
+          value = h.value;
+          address = c.processor.address;
+          slots = c.processor.slots;
+          caller = c.caller;
+        } in
         let after : Core = transfer.core_after_entry c irq h in
         let more = sum_by-cons (context_words (entry_words img)) x c.below in
-        fits_if (transfer.has_room img c (entry_words img + h.frame)) (Done after (Some (what.Take irq (depth img after)))) (Trapped c trap.Stack)
-        (λ room. omega (arith, more, length-replicate {A = ℕ} h.frame 0, leb-true (stack_in_use img c + (entry_words img + h.frame)) (img.stack_bytes / 4) room)) fits
+        fits_if (transfer.has_room img c (entry_words img + h.frame))
+        (Done after (Some (what.Take irq (depth img after)))) (Trapped c trap.Stack)
+        (λ room. omega (
+          arith,
+          more,
+          length-replicate {A = ℕ} h.frame 0,
+          leb-true (stack_in_use img c + (entry_words img + h.frame)) (img.stack_bytes / 4) room,
+        )) fits
 
     resumed_fits : (caller : Option (List ℕ)) (below : List Context)
-        → length (words_of caller) + length c.processor.slots + sum_by (context_words (entry_words img)) below ≤ img.stack_bytes / 4
+        → length (words_of caller) + length c.processor.slots + sum_by (context_words (entry_words img)) below
+        ≤ img.stack_bytes / 4
         → FitsAfter (transfer.outcome_of_return c (interrupted_context caller below))
     resumed_fits None [] h = fits
     resumed_fits None (x ∷ below) h = omega (arith, h, sum_by-cons (context_words (entry_words img)) x below)
     resumed_fits (Some slots) [] h = fits
     resumed_fits (Some slots) (x ∷ below) h = fits
 
-    called_fits : (row : BodyRow) (from : ℕ) → transfer.call_fits img c row from ≡ true → Fits (transfer.core_after_call c row from)
+    called_fits : (row : BodyRow) (from : ℕ) → transfer.call_fits img c row from ≡ true
+        → Fits (transfer.core_after_call c row from)
     called_fits row from test =
         let arguments = and_left (arguments_fit c.processor.slots row from) (transfer.has_room img c row.frame) test in
-        let room = leb-true (stack_in_use img c + row.frame) (img.stack_bytes / 4) (and_right (arguments_fit c.processor.slots row from) (transfer.has_room img c row.frame) test) in
-        let few = leb-true row.args row.frame (and_right ((row.args == 0) || nat_le (from + row.args) (length c.processor.slots)) (nat_le row.args row.frame) arguments) in
+        let room = leb-true (stack_in_use img c + row.frame) (img.stack_bytes / 4)
+        (and_right (arguments_fit c.processor.slots row from) (transfer.has_room img c row.frame) test) in
+        let few = leb-true row.args row.frame
+        (and_right ((row.args == 0) || nat_le (from + row.args) (length c.processor.slots))
+        (nat_le row.args row.frame) arguments) in
         let caller : List ℕ = caller_frame c.processor.slots (suc c.processor.address) in
         let same = length-set c.processor.slots (last_slot c.processor.slots) (suc c.processor.address) in
         let copied : List ℕ = take row.args (drop from caller) in
         let rest : List ℕ = replicate (row.frame - row.args) 0 in
-        omega (arith, room, few, same, length-append copied rest, length-take row.args (drop from caller), length-replicate {A = ℕ} (row.frame - row.args) 0)
+        omega (
+          arith,
+          room,
+          few,
+          same,
+          length-append copied rest,
+          length-take row.args (drop from caller),
+          length-replicate {A = ℕ} (row.frame - row.args) 0,
+        )
 
     call_row_fits : (row : Option BodyRow) (from : ℕ) → FitsAfter (transfer.call_row img c row from)
     call_row_fits None from = fits
     call_row_fits (Some row) from =
-        fits_if (transfer.call_fits img c row from) (Done (transfer.core_after_call c row from) None) (Trapped c trap.Stack) (called_fits row from) fits
+        fits_if (transfer.call_fits img c row from) (Done (transfer.core_after_call c row from) None)
+        (Trapped c trap.Stack) (called_fits row from) fits
 
-    back_fits : (caller : Option (List ℕ)) → length (words_of caller) + length c.processor.slots + sum_by (context_words (entry_words img)) c.below ≤ img.stack_bytes / 4
+    back_fits : (caller : Option (List ℕ)) → length (words_of caller) + length c.processor.slots
+        + sum_by (context_words (entry_words img)) c.below ≤ img.stack_bytes / 4
         → FitsAfter (transfer.back_to c caller)
     back_fits None h = fits
     back_fits (Some slots) h = omega (arith, h)
@@ -101,16 +130,20 @@ module _ (img : Image) where
     answer_fits (request.Post irq) = fits
     answer_fits (request.Clock time) = fits
     answer_fits (request.Alarm instant irq) =
-        fits_if (nat_le instant c.time) (Done (record (transfer.core_after_pend c irq) { alarm = None }) (Some what.Alarm))
-        (Done (record c { alarm = Some (record { instant = instant; irq = irq }) }) (Some what.AlarmSet)) (λ due. fits) fits
+        fits_if (nat_le instant c.time) (Done (record (transfer.core_after_pend c irq) { alarm = None })
+        (Some what.Alarm))
+        (Done (record c { alarm = Some (record { instant = instant; irq = irq }) }) (Some what.AlarmSet)) (λ due. fits)
+        fits
     answer_fits request.NoAlarm = fits
     answer_fits (request.Call number from) =
         let row : Option BodyRow = slice_get img.bodies number in
-        fits_if (transfer.may_call c) (transfer.call_row img c row from) (Trapped c trap.Stack) (λ may. call_row_fits row from) fits
+        fits_if (transfer.may_call c) (transfer.call_row img c row from) (Trapped c trap.Stack)
+        (λ may. call_row_fits row from) fits
     answer_fits request.Back = back_fits c.caller fits
     answer_fits request.Return = resumed_fits c.caller c.below fits
 
-  go_on_fits : (c : Core) (n : Option Note) (e : Effect) → Fits c → length (slots_after e c.processor.slots) ≡ length c.processor.slots → FitsAfter (stepping.go_on img c n e)
+  go_on_fits : (c : Core) (n : Option Note) (e : Effect) → Fits c → length (slots_after e c.processor.slots)
+      ≡ length c.processor.slots → FitsAfter (stepping.go_on img c n e)
   go_on_fits c n (Traps t) fits same = fits
   go_on_fits c n (Leads p asked) fits same =
       let after : Core = record c { processor = p } in
@@ -118,7 +151,8 @@ module _ (img : Image) where
 
   run_fits : (c : Core) (line : Option (Instr × Option Note)) → Fits c → FitsAfter (stepping.run img c line)
   run_fits c None fits = fits
-  run_fits c (Some line) fits = go_on_fits c line.1 (effect line.0 c.time c.processor) fits (slots_sized line.0 c.time c.processor)
+  run_fits c (Some line) fits = go_on_fits c line.1 (effect line.0 c.time c.processor) fits
+      (slots_sized line.0 c.time c.processor)
 
   attempt_fits : (c : Core) (taken : Option IrqRow) → Fits c → FitsAfter (stepping.attempt img c taken)
   attempt_fits c (Some row) fits = enter_fits c fits row.number row.handler
@@ -138,9 +172,11 @@ module _ (img : Image) where
 
   rung_fits : (c : Core) (alarm : Option Alarm) → Fits c → Fits (ring c alarm).0
   rung_fits c None fits = fits
-  rung_fits c (Some alarm) fits = one (nat_le alarm.instant c.time) (record (transfer.core_after_pend c alarm.irq) { alarm = None }) c fits fits
+  rung_fits c (Some alarm) fits = one (nat_le alarm.instant c.time)
+      (record (transfer.core_after_pend c alarm.irq) { alarm = None }) c fits fits
     where
-      one : (due : Bool) (x y : Core) → Fits x → Fits y → Fits (if◌then◌else◌ {A = Core × List Label} due (x, Rang ∷ []) (y, [])).0
+      one : (due : Bool) (x y : Core) → Fits x → Fits y
+          → Fits (if◌then◌else◌ {A = Core × List Label} due (x, Rang ∷ []) (y, [])).0
       one true x y h k = h
       one false x y h k = k
 

@@ -7,7 +7,8 @@ use Rattle.rt_code.specs.declared.instr.Note.{Note}
 use Rattle.rt_trace.specs.declared.item.Item.{Item}
 use Rattle.rt_trace.specs.declared.item.What.{What}
 
--- a declared interrupt that is enabled: its name and number, and of its handler the priority value, the entry and the frame
+-- a declared interrupt that is enabled: its name and number, and of its handler the priority value, the entry and the
+-- frame
 abbrev pub enabled : List ℕ → ℕ → ℕ → ℕ → ℕ → IrqRow
 enabled name number value entry frame =
     record { name = name; number = number; handler = Some (record { value = value; entry = entry; frame = frame }) }

@@ -67,7 +67,8 @@ three = record {
 }
 
 -- a higher priority preempts at once, and the handlers return in the opposite order
-higher_priority_preempts : trace three (core_steps 1 ++ Arrive 0 ∷ core_steps 1 ++ Arrive 1 ∷ core_steps 1 ++ Arrive 2 ∷ core_steps 20)
+higher_priority_preempts : trace three (core_steps 1 ++ Arrive 0 ∷ core_steps 1 ++ Arrive 1 ∷ core_steps 1 ++ Arrive 2
+    ∷ core_steps 20)
     ≡ at 0 (what.End body.Init) ∷ at 1 (what.Pend 0) ∷ at 1 (what.Take 0 40)
     ∷ at 2 (what.Pend 1) ∷ at 2 (what.Take 1 80) ∷ at 3 (what.Pend 2) ∷ at 3 (what.Take 2 120)
     ∷ at 5 (what.Emit 3) ∷ at 6 (what.Ret 2) ∷ at 8 (what.Emit 2) ∷ at 9 (what.Ret 1)

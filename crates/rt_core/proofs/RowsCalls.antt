@@ -74,12 +74,14 @@ alarmed = record {
   cells = [];
   irqs = enabled (codes "A") 0 224 4 2 ∷ [];
   bodies = [];
-  code = plain (instr.Set 0 2) ∷ plain (instr.Alarm 0 0) ∷ noted instr.Serve (note.End body.Init) ∷ plain instr.Wait ∷ plain instr.Ret ∷ [];
+  code = plain (instr.Set 0 2) ∷ plain (instr.Alarm 0 0) ∷ noted instr.Serve (note.End body.Init) ∷ plain instr.Wait
+      ∷ plain instr.Ret ∷ [];
   names = record { irqs = (codes "A", 0) ∷ []; tasks = codes "a" ∷ []; shared = [] };
 }
 
 -- the tick before its instant does not bring it, the one at it does, and the one after it no more
-alarm_comes_at_its_instant : trace alarmed (core_steps 3 ++ Tick ∷ core_steps 1 ++ Tick ∷ core_steps 2 ++ Tick ∷ core_steps 3)
+alarm_comes_at_its_instant : trace alarmed (core_steps 3 ++ Tick ∷ core_steps 1 ++ Tick ∷ core_steps 2 ++ Tick
+    ∷ core_steps 3)
     ≡ at 1 what.AlarmSet ∷ at 2 (what.End body.Init) ∷ at 3 what.Tick ∷ at 4 what.Tick ∷ at 4 what.Alarm
     ∷ at 4 (what.Take 0 44) ∷ at 5 (what.Ret 0) ∷ at 6 what.Tick ∷ []
 unfolding alarmed labels happen step
@@ -87,11 +89,13 @@ alarm_comes_at_its_instant = refl
 
 -- one that is set at its instant, or after it, comes at once
 alarm_set_at_its_instant : trace alarmed (Tick ∷ Tick ∷ core_steps 6)
-    ≡ at 0 what.Tick ∷ at 0 what.Tick ∷ at 1 what.Alarm ∷ at 2 (what.End body.Init) ∷ at 3 (what.Take 0 44) ∷ at 4 (what.Ret 0) ∷ []
+    ≡ at 0 what.Tick ∷ at 0 what.Tick ∷ at 1 what.Alarm ∷ at 2 (what.End body.Init) ∷ at 3 (what.Take 0 44)
+    ∷ at 4 (what.Ret 0) ∷ []
 unfolding alarmed labels happen step
 alarm_set_at_its_instant = refl
 
 alarm_set_after_its_instant : trace alarmed (Tick ∷ Tick ∷ Tick ∷ core_steps 6)
-    ≡ at 0 what.Tick ∷ at 0 what.Tick ∷ at 0 what.Tick ∷ at 1 what.Alarm ∷ at 2 (what.End body.Init) ∷ at 3 (what.Take 0 44) ∷ at 4 (what.Ret 0) ∷ []
+    ≡ at 0 what.Tick ∷ at 0 what.Tick ∷ at 0 what.Tick ∷ at 1 what.Alarm ∷ at 2 (what.End body.Init)
+    ∷ at 3 (what.Take 0 44) ∷ at 4 (what.Ret 0) ∷ []
 unfolding alarmed labels happen step
 alarm_set_after_its_instant = refl

@@ -49,10 +49,16 @@ top = record {
   code = noted instr.Serve (note.End body.Init) ∷ plain instr.Wait
       ∷ noted (instr.Mask 1) (note.Enter (section.Res 0)) ∷ plain (instr.Set 0 1) ∷ plain (instr.Store 0 0)
       ∷ plain (instr.Post 1) ∷ plain (instr.Set 0 2) ∷ plain (instr.Store 0 0)
-      ∷ noted (instr.Unmask 1) (note.Leave (section.Res 0)) ∷ plain (instr.Set 0 9) ∷ plain (instr.Emit 0) ∷ plain instr.Ret
+      ∷ noted (instr.Unmask 1) (note.Leave (section.Res 0)) ∷ plain (instr.Set 0 9) ∷ plain (instr.Emit 0)
+      ∷ plain instr.Ret
       ∷ noted instr.Mark (note.Enter (section.Res 0)) ∷ plain (instr.Load 0 0) ∷ plain (instr.Emit 0)
       ∷ noted instr.Mark (note.Leave (section.Res 0)) ∷ plain instr.Ret ∷ [];
-  names = record { irqs = (codes "LO", 0) ∷ (codes "TOP", 1) ∷ []; tasks = codes "lo" ∷ codes "hi" ∷ []; shared = codes "s" ∷ [] };
+  names = record {
+    irqs = (codes "LO", 0) ∷ (codes "TOP", 1) ∷ [];
+    tasks = codes "lo" ∷ codes "hi" ∷ [];
+    shared =
+        codes "s" ∷ [];
+  };
 }
 
 -- no BASEPRI masks the highest priority, so its ceiling takes PRIMASK: TOP waits for the leave
@@ -65,7 +71,8 @@ ceiling_of_the_highest_priority : trace top (Arrive 0 ∷ core_steps 200)
 unfolding top labels happen step
 ceiling_of_the_highest_priority = refl
 
--- L = 0, M = 1 and H = 2, of three priorities: L locks a, whose ceiling is M's priority, and in it b, whose ceiling is H's
+-- L = 0, M = 1 and H = 2, of three priorities: L locks a, whose ceiling is M's priority, and in it b, whose ceiling is
+-- H's
 nest : Image
 nest = record {
   bits = 4;

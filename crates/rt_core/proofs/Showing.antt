@@ -1,5 +1,6 @@
 -- The trace of events shows just these events.
-use Rattle.std.proofs.Common.{◌≡◌, suc, Bool, true, false, if◌then◌else◌, nat_le, List, [], ◌∷◌, ◌++◌, Option, Some, None, refl, sym, ap, ◌∙◌}
+use Rattle.std.proofs.Common.{◌≡◌, suc, Bool, true, false, if◌then◌else◌, nat_le, List, [], ◌∷◌, ◌++◌, Option, Some}
+use Rattle.std.proofs.Common.{None, refl, sym, ap, ◌∙◌}
 use Rattle.rt_ids.specs.Event.{Event, Arrive, Tick, Step, steps}
 use Rattle.rt_code.specs.Image.{Image}
 use Rattle.rt_trace.specs.Label.{Label, Rang, Stepped, items_of, steps_of}

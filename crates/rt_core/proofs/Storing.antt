@@ -1,5 +1,6 @@
 -- A step changes no cell but the one that it stores.
-use Rattle.std.proofs.Common.{◌≡◌, ◌≢◌, ℕ, Bool, true, false, if◌then◌else◌, Option, Some, None, slice_get, refl, ap, ◌∙◌}
+use Rattle.std.proofs.Common.{◌≡◌, ◌≢◌, ℕ, Bool, true, false, if◌then◌else◌, Option, Some, None, slice_get, refl, ap}
+use Rattle.std.proofs.Common.{◌∙◌}
 use Rattle.rt_code.specs.Access.{Stores}
 use Rattle.rt_code.specs.Image.{Image}
 use Rattle.rt_code.specs.declared.image.IrqRow.{IrqRow}
@@ -24,10 +25,12 @@ attempt_keeps : (img : Image) (c : Core) (taken : Option IrqRow) (k : ℕ) → a
 attempt_keeps img c (Some row) k h = refl
 attempt_keeps img c None k h = line_keeps c (slice_get img.code c.processor.address) k h
 
-step_keeps : (img : Image) (c : Core) (k : ℕ) (stopped : Bool) → (if stopped then None else access_by img c (pick img c)) ≢ Some (Stores k)
+step_keeps : (img : Image) (c : Core) (k : ℕ) (stopped : Bool)
+    → (if stopped then None else access_by img c (pick img c)) ≢ Some (Stores k)
     → slice_get (step_by img c stopped).0.processor.cells k ≡ slice_get c.processor.cells k
 step_keeps img c k true h = refl
-step_keeps img c k false h = ap (λ cells. slice_get cells k) (cells_of_step img c) ∙ attempt_keeps img c (pick img c) k h
+step_keeps img c k false h = ap (λ cells. slice_get cells k) (cells_of_step img c)
+    ∙ attempt_keeps img c (pick img c) k h
 
 pub changes_its_cell_alone : ChangesItsCellAlone
 changes_its_cell_alone img c k h =

@@ -10,8 +10,10 @@ use Rattle.rt_code.specs.Tables.{argument_count}
 pub arguments_few : (img : Image) → IsRunnable img → (task : ℕ) → argument_count img task < 5
 arguments_few img runnable task = one (find (λ row. row.task == task) img.bodies) refl
   where
-    one : (o : Option BodyRow) → find (λ row. row.task == task) img.bodies ≡ o → unwrap_or (option_map (λ row. row.args) o) 0 < 5
+    one : (o : Option BodyRow) → find (λ row. row.task == task) img.bodies ≡ o
+        → unwrap_or (option_map (λ row. row.args) o) 0 < 5
     one None h = omega arith
     one (Some row) h =
-        let few = runnable.rows.arguments (position_or_len (λ row. row.task == task) img.bodies) row (sym (find_at (λ row. row.task == task) img.bodies) ∙ h) in
+        let few = runnable.rows.arguments (position_or_len (λ row. row.task == task) img.bodies) row
+        (sym (find_at (λ row. row.task == task) img.bodies) ∙ h) in
         omega (arith, few)

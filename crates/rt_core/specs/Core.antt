@@ -79,7 +79,8 @@ exception_number (x ∷ below) = 16 + x.irq
 abbrev pub saved_contexts : List Context → List Saved
 saved_contexts [] = []
 saved_contexts (x ∷ below) =
-    record { number = exception_number below; address = x.address; slots = x.slots; caller = x.caller } ∷ saved_contexts below
+    record { number = exception_number below; address = x.address; slots = x.slots; caller = x.caller }
+    ∷ saved_contexts below
 
 -- the frames of a core in its stack region
 abbrev pub frames_of : Image → Core → Frames

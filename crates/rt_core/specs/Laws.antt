@@ -27,7 +27,8 @@ KeepsWithinTheRegion = (img : Image) (events : List Event) → IsRunnable img �
 
 -- Events come one after another: what happens at each, the core after them, and what they show.
 pub record HappensByEvent : Type 0 where
-  pub arrive : (img : Image) (c : Core) (irq : ℕ) → happen img c (Arrive irq) ≡ (core_after_pend c irq, Arrived irq ∷ [])
+  pub arrive : (img : Image) (c : Core) (irq : ℕ) → happen img c (Arrive irq)
+      ≡ (core_after_pend c irq, Arrived irq ∷ [])
   pub tick : (img : Image) (c : Core) → happen img c Tick ≡ ((tick c).0, Ticked ∷ (tick c).1)
   pub step : (img : Image) (c : Core) → happen img c Step ≡ ((step img c).0, Stepped (step img c).1 ∷ [])
   pub core_none : (img : Image) (c : Core) → core_after img c [] ≡ c
@@ -37,8 +38,8 @@ pub record HappensByEvent : Type 0 where
   pub labels_more : (img : Image) (c : Core) (e : Event) (events : List Event)
       → labels img c (e ∷ events) ≡ (happen img c e).1 ++ labels img (happen img c e).0 events
 
--- A step by its cause: a stopped core stays; else exception entry, where an interrupt is to be taken; else the line at the code
--- address is done; else there is none, which traps.
+-- A step by its cause: a stopped core stays; else exception entry, where an interrupt is to be taken; else the line at
+-- the code address is done; else there is none, which traps.
 pub record StepsByCause : Type 0 where
   pub stopped : (img : Image) (c : Core) → c.stopped ≡ true → step img c ≡ (c, None)
   pub entry : (img : Image) (c : Core) (row : IrqRow) → c.stopped ≡ false → pick img c ≡ Some row

@@ -19,7 +19,8 @@ use Rattle.rt_trace.specs.declared.item.What.{What}
 use Rattle.rt_trace.specs.declared.item.What.TheVariants as what
 use Rattle.rt_core.specs.Access.{access}
 use Rattle.rt_core.specs.Core.{Core, Context}
-use Rattle.rt_core.specs.Leading.{IsAt, GoesPlainly, with_processor, at_address, core_serving, in_frame, in_context, item_of}
+use Rattle.rt_core.specs.Leading.{IsAt, GoesPlainly, with_processor, at_address, core_serving, in_frame, in_context}
+use Rattle.rt_core.specs.Leading.{item_of}
 use Rattle.rt_core.specs.Masks.{CanPutBack, processor_after_opening, processor_after_closing}
 use Rattle.rt_core.specs.Note.{left_value}
 use Rattle.rt_core.specs.Outcome.{settle}
@@ -48,7 +49,8 @@ module _ (img : Image) (st : Storage) (thread : ℕ) (who : Runner) (c : Core) (
     -- a move of a place, or none found
     ByNote : (p : Processor) → GoesPlainly s c.processor p → (told : Note)
         → (noted : Noted st img.bodies who told (spot_behind (spot_after_step s) p) later)
-        → Gives (with_processor c p) (Some (item_of st img.bodies who later told (spot_behind (spot_after_step s) p) noted)) → StepsBy
+        → Gives (with_processor c p)
+        (Some (item_of st img.bodies who later told (spot_behind (spot_after_step s) p) noted)) → StepsBy
     ByEmit : (p : Processor) → GoesPlainly s c.processor p → (value : ℕ)
         → Gives (with_processor c p) (Some (what.Emit value)) → ActsBehind p (Emits value) 0 → StepsBy
     ByPost : (p : Processor) → GoesPlainly s c.processor p → (irq : ℕ)
@@ -63,12 +65,14 @@ module _ (img : Image) (st : Storage) (thread : ℕ) (who : Runner) (c : Core) (
         → SetsTheAlarm st img.bodies who None (spot_behind (spot_after_step s) p) later → StepsBy
     -- a section opens: its mask is set, and what it was is saved
     ByEnter : (x : Section) (i : Instr) → (goes : GoesIn st who x i (spot_after_step s) later)
-        → Gives (with_processor c (processor_after_opening c.processor (st.value (st.ceiling x)) goes.kind)) (Some (what.Enter x))
+        → Gives (with_processor c (processor_after_opening c.processor (st.value (st.ceiling x)) goes.kind))
+        (Some (what.Enter x))
         → StepsBy
     -- a section closes: its mask is put back
     ByLeave : (x : Section) (i : Instr) → (comes : ComesOut st who x i (spot_after_step s) later)
         → (CanPutBack comes.kind c.processor.slots
-        → Gives (with_processor c (processor_after_closing c.processor comes.kind)) (Some (what.Leave x (left_value img c x))))
+        → Gives (with_processor c (processor_after_closing c.processor comes.kind))
+        (Some (what.Leave x (left_value img c x))))
         → StepsBy
     -- a handler calls a body, where the body's frame has room
     ByCall : (row from : ℕ) → (calls : Calls st img.code img.bodies thread who row from (spot_after_step s) later)

@@ -36,7 +36,8 @@ abbrev pub exception_entry : Image → Core → ℕ → Option Handler → Outco
 exception_entry img c irq None = Done c None
 exception_entry img c irq (Some h) =
     if has_room img c (entry_words img + h.frame)
-    then Done (core_after_entry c irq h) (Some (what.Take irq (depth img (core_after_entry c irq h)))) else Trapped c trap.Stack
+    then Done (core_after_entry c irq h) (Some (what.Take irq (depth img (core_after_entry c irq h)))) else Trapped c
+    trap.Stack
 
 -- the core behind exception return (section B1.5.8): what was interrupted runs on
 abbrev pub outcome_of_return : Core → Option (Context × List Context) → Outcome

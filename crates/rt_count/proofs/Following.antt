@@ -1,5 +1,6 @@
 -- Runs that are counted on where others ended.
-use Rattle.std.proofs.Common.{◌≡◌, ℕ, ◌+◌, ◌-◌, ◌<◌, ◌≤◌, List, [], ◌∷◌, ◌++◌, length, take, replicate, Option, Some, None}
+use Rattle.std.proofs.Common.{◌≡◌, ℕ, ◌+◌, ◌-◌, ◌<◌, ◌≤◌, List, [], ◌∷◌, ◌++◌, length, take, replicate, Option, Some}
+use Rattle.std.proofs.Common.{None}
 use Rattle.std.proofs.Common.{Bool, true, false, if◌then◌else◌, get_or, refl, ap, sym, subst, ◌∙◌, append_assoc, arith}
 use Rattle.std.proofs.lemmas.List.{append-nil, replicate_more, replicate-append-replicate}
 use Rattle.rt_ids.specs.Event.{Event, Arrive, Tick, Step}
@@ -59,27 +60,33 @@ line_more script i line below is a b c x y z first second =
     (goes_on (events (take i script)) (line_events line) a b c x y z first second)
 
 -- equal events, some more of those that are left
-pub some_more : (count left now : ℕ) (e : Event) (a b c : Machine) (x y z : Summary) → left ≤ count → now ≤ left → Counted (replicate (count - left) e) a b x y
+pub some_more : (count left now : ℕ) (e : Event) (a b c : Machine) (x y z : Summary) → left ≤ count → now ≤ left
+    → Counted (replicate (count - left) e) a b x y
     → Counted (replicate (left - now) e) b c y z → Counted (replicate (count - now) e) a c x z
 some_more count left now e a b c x y z within fewer first second =
     subst (λ es. Counted es a c x z)
     (replicate-append-replicate (count - left) (left - now) e
-    ∙ ap (λ n. replicate n e) (let same : count - left + (left - now) ≡ count - now = omega (arith, within, fewer) in same))
+    ∙ ap (λ n. replicate n e) (let same : count - left + (left - now) ≡ count - now = omega (arith, within, fewer) in
+    same))
     (goes_on (replicate (count - left) e) (replicate (left - now) e) a b c x y z first second)
 
 -- steps that show nothing
-pub steps_silent : (most : ℕ) (a b : Machine) (s : Summary) (shown : Option What) (goes : StepsToItem most a b shown) → shown ≡ None
+pub steps_silent : (most : ℕ) (a b : Machine) (s : Summary) (shown : Option What) (goes : StepsToItem most a b shown)
+    → shown ≡ None
     → Counted (replicate (most - 0) Step) a b s s
 steps_silent most a b s shown goes none =
-    subst (λ n. Counted (replicate n Step) a b s s) (let all : goes.done ≡ most - 0 = omega (arith, goes.all none) in all)
+    subst (λ n. Counted (replicate n Step) a b s s) (let all : goes.done ≡ most - 0 = omega (arith, goes.all none) in
+    all)
     (record {
       leads = reached_leads most a b shown goes;
       counts = λ runs items is.
-          is ∙ ap (summary_of runs) (sym (append-nil items) ∙ ap (λ more. items ++ more) (sym (reached_nothing most a b shown goes none)));
+          is ∙ ap (summary_of runs) (sym (append-nil items) ∙ ap (λ more. items ++ more)
+          (sym (reached_nothing most a b shown goes none)));
     })
 
 -- and others, of which the last shows an item
-pub steps_shown : (most : ℕ) (a b : Machine) (s t : Summary) (shown : Option What) (w : What) (goes : StepsToItem most a b shown) → shown ≡ Some w
+pub steps_shown : (most : ℕ) (a b : Machine) (s t : Summary) (shown : Option What) (w : What)
+    (goes : StepsToItem most a b shown) → shown ≡ Some w
     → t ≡ summary_with_item s w → Counted (replicate goes.done Step) a b s t
 steps_shown most a b s t shown w goes some more = record {
   leads = reached_leads most a b shown goes;

@@ -1,5 +1,6 @@
 -- What items count up to, with more of them behind.
-use Rattle.std.proofs.Common.{◌≡◌, ℕ, ◌+◌, ◌%◌, ◌^◌, max, Bool, true, false, cond, List, [], ◌∷◌, ◌++◌, map, refl, ap, sym}
+use Rattle.std.proofs.Common.{◌≡◌, ℕ, ◌+◌, ◌%◌, ◌^◌, max, Bool, true, false, cond, List, [], ◌∷◌, ◌++◌, map, refl, ap}
+use Rattle.std.proofs.Common.{sym}
 use Rattle.std.proofs.Common.{◌∙◌, arith}
 use Rattle.std.specs.List.{count_by, sum_by}
 use Rattle.std.proofs.Math.Nat.{mod-add-mod, add-mod-mod}

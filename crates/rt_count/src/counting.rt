@@ -15,8 +15,8 @@ use rt_core::Core;
 use rt_ids::Irq;
 use rt_script::{Line, Script};
 
-/// Core steps up to the first that shows an item, at most so many, and what it shows. It answers how many of so many are
-/// left.
+/// Core steps up to the first that shows an item, at most so many, and what it shows. It answers how many of so many
+/// are left.
 #[inline(always)]
 fn count_to_item(core: &mut Core, most: u32, summary: &mut Summary) -> u32
     requires few { core.old.steps + most < 2 ^ 31 }

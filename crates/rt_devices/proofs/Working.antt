@@ -19,7 +19,8 @@ counted-add from m (suc n) =
     ap (saturating_count from) e ∙ ap (λ k. min (k + 1) (2 ^ 64 - 1)) (counted-add from m n)
 
 counted-append : (test : Call → Bool) (from : ℕ) (cs ds : List Call)
-    → saturating_count from (count_by test (cs ++ ds)) ≡ saturating_count (saturating_count from (count_by test cs)) (count_by test ds)
+    → saturating_count from (count_by test (cs ++ ds)) ≡ saturating_count (saturating_count from (count_by test cs))
+    (count_by test ds)
 counted-append test from cs ds =
     ap (saturating_count from) (sum_by-append (λ c. cond (test c) 1 0) cs ds)
     ∙ counted-add from (count_by test cs) (count_by test ds)

@@ -1,6 +1,8 @@
 -- What is made for two cores lets them run, and lets their words be closed when they have ended.
-use Rattle.std.proofs.Common.{◌≡◌, ◌≢◌, ℕ, suc, ◌+◌, ◌*◌, ◌^◌, ◌<◌, ◌≤◌, ◌==◌, Bool, true, false, cond, if◌then◌else◌, List, []}
-use Rattle.std.proofs.Common.{◌∷◌, ◌++◌, map, length, find, option_map, option_and_then, slice_index_or, Option, Some, None}
+use Rattle.std.proofs.Common.{◌≡◌, ◌≢◌, ℕ, suc, ◌+◌, ◌*◌, ◌^◌, ◌<◌, ◌≤◌, ◌==◌, Bool, true, false, cond, if◌then◌else◌}
+use Rattle.std.proofs.Common.{List, []}
+use Rattle.std.proofs.Common.{◌∷◌, ◌++◌, map, length, find, option_map, option_and_then, slice_index_or, Option, Some}
+use Rattle.std.proofs.Common.{None}
 use Rattle.std.proofs.Common.{Contains, bytes_eq, inl, inr, refl, sym, ap, subst, ◌∙◌, arith}
 use Rattle.std.specs.List.{AllByRecursion}
 use Rattle.std.proofs.lemmas.Bool.{cases_lt, ne_eqb}
@@ -63,7 +65,8 @@ declared_of (d ∷ irqs) name n is = by (bytes_eq name d.0) (declared_of irqs na
         (cond b (Some d) (find (λ (e : List ℕ × ℕ). bytes_eq name e.0) irqs)) ≡ Some n
         → Contains (d.1 ∷ map (λ e. e.1) irqs) n
     by true rest same =
-        subst (λ m. Contains (d.1 ∷ map (λ e. e.1) irqs) m) (same_Some _ _ same) (contains_here d.1 (map (λ e. e.1) irqs))
+        subst (λ m. Contains (d.1 ∷ map (λ e. e.1) irqs) m) (same_Some _ _ same)
+        (contains_here d.1 (map (λ e. e.1) irqs))
     by false rest same = contains_there d.1 (map (λ e. e.1) irqs) n (rest same)
 
 -- what is forwarded is declared there
@@ -175,9 +178,11 @@ pub can_write : (script : List Line) (a a' b b' : Machine) (old new : Both) → 
     → AreBefore a.image b.image old → HaveEnded script a a' b b' old new → CanWrite new
 can_write script a a' b b' old new scripted before ended = record {
   one =
-      can_close First a b.image old.one new.one old.left new.left old.right new.right before.one ended.one script scripted
+      can_close First a b.image old.one new.one old.left new.left old.right new.right before.one ended.one script
+      scripted
       a' b b' ended.left ended.right;
   two =
-      can_close Second b a.image old.two new.two old.right new.right old.left new.left before.two ended.two script scripted
+      can_close Second b a.image old.two new.two old.right new.right old.left new.left before.two ended.two script
+      scripted
       b' a a' ended.right ended.left;
 }

@@ -1,6 +1,7 @@
 -- What is written of two cores that have ended is a text that the definitions allow.
 use Rattle.std.proofs.Common.{◌≡◌, ◌≢◌, ℕ, ◌+◌, ◌<◌, List, [], ◌∷◌, ◌++◌, map, filter_map, flat_map, codes, length}
-use Rattle.std.proofs.Common.{slice_index_or, Option, Some, None, option_to_list, refl, sym, ap, subst, ◌∙◌, append_assoc, arith}
+use Rattle.std.proofs.Common.{slice_index_or, Option, Some, None, option_to_list, refl, sym, ap, subst, ◌∙◌}
+use Rattle.std.proofs.Common.{append_assoc, arith}
 use Rattle.std.proofs.Common.{Result, Ok, Err, OnOk, is_err, false}
 use Rattle.std.proofs.lemmas.Bool.{false≢true}
 use Rattle.std.specs.List.{cons_option}
@@ -89,7 +90,8 @@ module _ (other : Image) (es : List Event) (m n : Machine) (fresh : IsFresh m) (
       ∙ ap (forwarded_irqs m.image other.names) (fresh_items m fresh (interleaving (turns es) run.found)))
 
 -- one of the cores, with its side before and behind its run; the other core's side is the far one
-module _ (core_id : CoreId) (other : Image) (es : List Event) (m n : Machine) (half half' : Half) (side side' far far' : Side)
+module _ (core_id : CoreId) (other : Image) (es : List Event) (m n : Machine) (half half' : Half)
+    (side side' far far' : Side)
     (fresh : IsFresh m) (before : IsBefore core_id m.image other half side far) (same : half' ≡ half)
     (run : Ends (turns es) m n side side') (rows : List AccountRow)
     (closed : Settles side'.line.calls far'.bell (irqs_of half'.rows.items) rows) where
@@ -106,7 +108,8 @@ module _ (core_id : CoreId) (other : Image) (es : List Event) (m n : Machine) (h
         closed.core ∙ run.latched
         ∙ ap (λ (l : CoreLine). l.calls ++ flat_map latches run.found) before.made.unused;
     pended =
-        ap (λ k. map interrupt_asked (part closed.history k)) (sym number_is) ∙ ap (map interrupt_asked) closed.other ∙ rings;
+        ap (λ k. map interrupt_asked (part closed.history k)) (sym number_is) ∙ ap (map interrupt_asked) closed.other
+        ∙ rings;
     others = λ number ne other_ne. closed.others number ne (λ e. other_ne (e ∙ number_is));
   }
 
@@ -147,7 +150,8 @@ pair_text script a a' b b' old new bytes fresh_a fresh_b before ended written =
       one = one;
       two = two;
       is_one =
-          is_course First b.image (first_events script) a a' old.one new.one old.left new.left old.right new.right fresh_a
+          is_course First b.image (first_events script) a a' old.one new.one old.left new.left old.right new.right
+          fresh_a
           before.one ended.one ended.left written.one written.one_settled
           (forwarded_irqs b.image a.image.names (course_items b.image (second_events script) two))
           (rang a.image (second_events script) b b' fresh_b old.right new.right old.one.words 2 before.one.made.silent
@@ -155,7 +159,8 @@ pair_text script a a' b b' old new bytes fresh_a fresh_b before ended written =
           (known a.image (second_events script) b b' fresh_b old.right new.right old.one.words 2 before.one.made.silent
           before.two.routes ended.right);
       is_two =
-          is_course Second a.image (second_events script) b b' old.two new.two old.right new.right old.left new.left fresh_b
+          is_course Second a.image (second_events script) b b' old.two new.two old.right new.right old.left new.left
+          fresh_b
           before.two ended.two ended.right written.two written.two_settled
           (forwarded_irqs a.image b.image.names (course_items a.image (first_events script) one))
           (rang b.image (first_events script) a a' fresh_a old.left new.left old.two.words 1 before.two.made.silent
@@ -164,8 +169,10 @@ pair_text script a a' b b' old new bytes fresh_a fresh_b before ended written =
           before.one.routes ended.left);
       written =
           written.written
-          ∙ ap (λ t. t ++ (new.two.front.items ++ (new.right.trace.bytes.items ++ account_text b.image.names written.two)))
-          (core_written First b.image (first_events script) a a' old.one new.one old.left new.left old.right new.right fresh_a
+          ∙ ap (λ t. t ++ (new.two.front.items ++ (new.right.trace.bytes.items
+          ++ account_text b.image.names written.two)))
+          (core_written First b.image (first_events script) a a' old.one new.one old.left new.left old.right new.right
+          fresh_a
           before.one ended.one ended.left written.one written.one_settled)
           ∙ ap (λ t. core_text (codes "core 1\n") a.image (first_events script) one ++ t)
           (core_written Second a.image (second_events script) b b' old.two new.two old.right new.right old.left new.left

@@ -38,7 +38,8 @@ all_done es a b run = record { done = es; rest = []; parts = sym (append-nil es)
 
 -- the events of one look more begin with what it found
 look_more : (ts : List Turn) (found : List (List ℕ)) (last : List ℕ) → length found < looks ts
-    → (behind : List Event) × (interleaving ts (found ++ last ∷ []) ≡ (interleaving ts found ++ look_arrivals last) ++ behind)
+    → (behind : List Event) × (interleaving ts (found ++ last ∷ []) ≡ (interleaving ts found ++ look_arrivals last)
+    ++ behind)
 look_more [] found last few = absurd (omega (arith, few))
 look_more (Happens Tick ∷ ts) found last few =
     let rest = look_more ts found last few in
@@ -106,7 +107,8 @@ begins_before ts us a b begun = record {
   ];
 }
   where
-    all : length begun.found ≡ looks ts → interleaving (ts ++ us) begun.found ≡ interleaving ts begun.found ++ interleaving us []
+    all : length begun.found ≡ looks ts → interleaving (ts ++ us) begun.found ≡ interleaving ts begun.found
+        ++ interleaving us []
     all many =
         ap (interleaving (ts ++ us)) (sym (append-nil begun.found)) ∙ interleaving_on ts us begun.found [] many
 

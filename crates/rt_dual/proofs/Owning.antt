@@ -1,5 +1,6 @@
 -- The turns of a script that are a core's own, line by line.
-use Rattle.std.proofs.Common.{◌≡◌, ℕ, zero, suc, ◌+◌, ◌-◌, ◌<◌, ◌≤◌, Bool, true, false, if◌then◌else◌, List, [], ◌∷◌, ◌++◌}
+use Rattle.std.proofs.Common.{◌≡◌, ℕ, zero, suc, ◌+◌, ◌-◌, ◌<◌, ◌≤◌, Bool, true, false, if◌then◌else◌, List, [], ◌∷◌}
+use Rattle.std.proofs.Common.{◌++◌}
 use Rattle.std.proofs.Common.{map, filter, length, take, drop, replicate, get_or, refl, ap, sym, subst, ◌∙◌}
 use Rattle.std.proofs.Common.{append_assoc, arith}
 use Rattle.std.proofs.lemmas.Grind.{flat_map-append}
@@ -110,7 +111,8 @@ line_turns Second (Device d irq n) =
     ∙ ap (map Happens) (no_requests n irq) ∙ sym (repeated_none n)
 
 -- the turns of lines, and of those behind them
-own-append : (core_id : CoreId) (xs ys : List Line) → own_turns core_id (xs ++ ys) ≡ own_turns core_id xs ++ own_turns core_id ys
+own-append : (core_id : CoreId) (xs ys : List Line) → own_turns core_id (xs ++ ys) ≡ own_turns core_id xs
+    ++ own_turns core_id ys
 own-append First xs ys =
     ap (map Happens) (flat_map-append line_events xs ys) ∙ map-append Happens (events xs) (events ys)
 own-append Second xs ys =
@@ -166,7 +168,8 @@ module _ (core_id : CoreId) (script : List Line) (i : ℕ) (line : Line) (below 
       → Runs (own_turns core_id (take (i + 1) script)) a c s u
   own_line_more a b c s t u first second =
       subst (λ ts. Runs ts a c s u) (sym own_more)
-      (runs_on (own_turns core_id (take i script)) (repeated_turns (count_of line) (turn_of core_id line)) a b c s t u first second)
+      (runs_on (own_turns core_id (take i script)) (repeated_turns (count_of line) (turn_of core_id line)) a b c s t u
+      first second)
 
   pub own_line_begun : (a b c : Machine) (s t : Side) → Runs (own_turns core_id (take i script)) a b s t
       → Begins (repeated_turns (count_of line) (turn_of core_id line)) b c → Begins (own_turns core_id script) a c
@@ -174,10 +177,12 @@ module _ (core_id : CoreId) (script : List Line) (i : ℕ) (line : Line) (below 
       subst (λ ts. Begins ts a c) all
       (begins_before (own_turns core_id (take (i + 1) script)) (own_turns core_id (drop (i + 1) script)) a c
       (subst (λ ts. Begins ts a c) (sym own_more)
-      (begins_behind (own_turns core_id (take i script)) (repeated_turns (count_of line) (turn_of core_id line)) first.found a b c
+      (begins_behind (own_turns core_id (take i script)) (repeated_turns (count_of line) (turn_of core_id line))
+      first.found a b c
       first.many first.sends.leads begun)))
     where
-      all : own_turns core_id (take (i + 1) script) ++ own_turns core_id (drop (i + 1) script) ≡ own_turns core_id script
+      all : own_turns core_id (take (i + 1) script) ++ own_turns core_id (drop (i + 1) script)
+          ≡ own_turns core_id script
       all =
           sym (own-append core_id (take (i + 1) script) (drop (i + 1) script))
           ∙ ap (own_turns core_id) (take-append-drop (i + 1) script)

@@ -1,5 +1,6 @@
 -- What items pend on the other core, and lines that pend it.
-use Rattle.std.proofs.Common.{◌≡◌, ℕ, suc, ◌+◌, ◌≤◌, List, [], ◌∷◌, ◌++◌, map, length, Option, Some, None, Bool, true, false}
+use Rattle.std.proofs.Common.{◌≡◌, ℕ, suc, ◌+◌, ◌≤◌, List, [], ◌∷◌, ◌++◌, map, length, Option, Some, None, Bool, true}
+use Rattle.std.proofs.Common.{false}
 use Rattle.std.proofs.Common.{if◌then◌else◌, nat_le, option_to_list, refl, ap, sym, subst, ◌∙◌, append_assoc, arith}
 use Rattle.std.specs.List.{cons_option}
 use Rattle.std.proofs.lemmas.List.{append-nil, map-append, length-append, length-map}
@@ -95,7 +96,8 @@ step_rings routes m shown is =
 
 -- what events pend, and those behind them
 pub rung_split : (routes : List (Option ℕ)) (es fs : List Event) (a b : Machine) → Leads es a b
-    → irqs_rung routes (shown_items a (es ++ fs)) ≡ irqs_rung routes (shown_items a es) ++ irqs_rung routes (shown_items b fs)
+    → irqs_rung routes (shown_items a (es ++ fs)) ≡ irqs_rung routes (shown_items a es)
+    ++ irqs_rung routes (shown_items b fs)
 rung_split routes es fs a b run =
     ap (irqs_rung routes) (items_split es fs a b run) ∙ rung-append routes (shown_items a es) (shown_items b fs)
 

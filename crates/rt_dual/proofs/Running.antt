@@ -20,7 +20,8 @@ use Rattle.rt_live.specs.Interleaving.{Turn, Happens, Looks, looks, look_arrival
 use Rattle.rt_live.specs.Going.{IsWholeLook, Goes, IsSameLine}
 use Rattle.rt_live.proofs.Owning.{still_able, same_line, same_line_on}
 use Rattle.rt_live.proofs.Turning.{calls_on}
-use Rattle.rt_live.proofs.Woven.{looks-append, interleaving_on, steps_woven, ticks_woven, looks_below, all_latches, look_steps, no_steps}
+use Rattle.rt_live.proofs.Woven.{looks-append, interleaving_on, steps_woven, ticks_woven, looks_below, all_latches}
+use Rattle.rt_live.proofs.Woven.{look_steps, no_steps}
 use Rattle.rt_dual.specs.Inside.Ringing.{Rings, MayRing, IsSameBut, irqs_rung, irq_of_shown}
 use Rattle.rt_dual.specs.Inside.Running.{CanRun, Runs, Begins, Ends}
 use Rattle.rt_dual.specs.declared.kept.Kept.{Kept}
@@ -67,18 +68,21 @@ runs_on ts us a b c s t u first second = record {
       subst (λ is. Rings is s.bell u.bell) (sym rung)
       (rings_on (irqs_rung s.routes (shown_items a (interleaving ts first.found)))
       (irqs_rung s.routes (shown_items b (interleaving us second.found))) s.bell t.bell u.bell first.rings
-      (subst (λ rs. Rings (irqs_rung rs (shown_items b (interleaving us second.found))) t.bell u.bell) first.routes second.rings));
+      (subst (λ rs. Rings (irqs_rung rs (shown_items b (interleaving us second.found))) t.bell u.bell) first.routes
+      second.rings));
   few = omega (arith, first.few, second.few, length-append ts us);
   line = same_line_on s.line t.line u.line first.line second.line;
   core_id = second.core_id ∙ first.core_id;
   routes = second.routes ∙ first.routes;
 }
   where
-    woven : interleaving (ts ++ us) (first.found ++ second.found) ≡ interleaving ts first.found ++ interleaving us second.found
+    woven : interleaving (ts ++ us) (first.found ++ second.found) ≡ interleaving ts first.found
+        ++ interleaving us second.found
     woven = interleaving_on ts us first.found second.found first.many
 
     rung : irqs_rung s.routes (shown_items a (interleaving (ts ++ us) (first.found ++ second.found)))
-        ≡ irqs_rung s.routes (shown_items a (interleaving ts first.found)) ++ irqs_rung s.routes (shown_items b (interleaving us second.found))
+        ≡ irqs_rung s.routes (shown_items a (interleaving ts first.found))
+        ++ irqs_rung s.routes (shown_items b (interleaving us second.found))
     rung =
         ap (λ es. irqs_rung s.routes (shown_items a es)) woven
         ∙ rung_split s.routes (interleaving ts first.found) (interleaving us second.found) a b first.sends.leads
@@ -115,7 +119,8 @@ happened e ts no_look is no_step a b s k sends = record {
   sends = subst (λ es. Sends es a b (Some s.trace.bytes.items) (Some k.bytes.items)) (sym is) sends;
   rings =
       subst (λ is. Rings is s.bell s.bell)
-      (sym (ap (λ es. irqs_rung s.routes (shown_items a es)) is ∙ silent s.routes a.image a.core a.steps (e ∷ []) no_step))
+      (sym (ap (λ es. irqs_rung s.routes (shown_items a es)) is ∙ silent s.routes a.image a.core a.steps (e ∷ [])
+      no_step))
       (rings_none s.bell);
   few = omega arith;
   line = same_line s.line;
@@ -146,7 +151,8 @@ module _ (a b : Machine) (s : Side) (l : Core) (k : Kept)
         whole = whole;
         latched = ap (λ (x : Core). x.calls) rest.line ∙ latched;
         sends =
-            subst (λ (x : Kept). Sends (look_arrivals ws ++ Step ∷ []) a c (Some s.trace.bytes.items) (Some x.bytes.items))
+            subst (λ (x : Kept). Sends (look_arrivals ws ++ Step ∷ []) a c (Some s.trace.bytes.items)
+            (Some x.bytes.items))
             (sym rest.trace)
             (sends_on (look_arrivals ws) (Step ∷ []) a b c (Some s.trace.bytes.items) (Some k.bytes.items)
             (Some m.bytes.items) alone sends);
@@ -159,7 +165,8 @@ module _ (a b : Machine) (s : Side) (l : Core) (k : Kept)
         where
           alone : Sends (look_arrivals ws) a b (Some s.trace.bytes.items) (Some k.bytes.items)
           alone =
-              subst (λ es. Sends es a b (Some s.trace.bytes.items) (Some k.bytes.items)) (append-nil (look_arrivals ws)) came
+              subst (λ es. Sends es a b (Some s.trace.bytes.items) (Some k.bytes.items)) (append-nil (look_arrivals ws))
+              came
 
           rung : irqs_rung s.routes (shown_items a (look_arrivals ws ++ Step ∷ []))
               ≡ option_to_list (irq_of_shown s.routes shown)
@@ -184,7 +191,8 @@ module _ (a b : Machine) (s : Side) (l : Core) (k : Kept)
         done =
             done_behind (look_arrivals ws) (Step ∷ []) a b c
             (let alone : Sends (look_arrivals ws) a b (Some s.trace.bytes.items) (Some k.bytes.items) =
-            subst (λ es. Sends es a b (Some s.trace.bytes.items) (Some k.bytes.items)) (append-nil (look_arrivals ws)) came in
+            subst (λ es. Sends es a b (Some s.trace.bytes.items) (Some k.bytes.items)) (append-nil (look_arrivals ws))
+            came in
             alone.leads) done;
       }
       at (ws ∷ vs ∷ found) many came = absurd (omega (arith, many))
@@ -197,7 +205,13 @@ can_on ts n k a b s t words there run fits can = record {
   bell = ap (λ (l : Line). l.words) run.rings.line ∙ can.bell;
   may = subst (λ rs. MayRing rs there) (sym run.routes) can.may;
   few = omega (arith, run.sends.leads.steps, steps_woven ts run.found, fits, can.few);
-  early = omega (arith, time_led (interleaving ts run.found) a b run.sends.leads, ticks_woven ts run.found, fits, can.early);
+  early = omega (
+    arith,
+    time_led (interleaving ts run.found) a b run.sends.leads,
+    ticks_woven ts run.found,
+    fits,
+    can.early,
+  );
   room =
       omega (
         arith,

@@ -1,7 +1,7 @@
--- Which posts of a core are interrupts of the other core of a pair. As between the cores of a multicore microcontroller,
--- a core may ring the other's doorbell: it posts an interrupt that it does not take itself, and where the other
--- application declares an interrupt of that name, it is pended there. That names tie the two is this project's own. The
--- definitions go over the items of a trace; the code looks each post up in a table of numbers.
+-- Which posts of a core are interrupts of the other core of a pair. As between the cores of a multicore
+-- microcontroller, a core may ring the other's doorbell: it posts an interrupt that it does not take itself, and where
+-- the other application declares an interrupt of that name, it is pended there. That names tie the two is this
+-- project's own. The definitions go over the items of a trace; the code looks each post up in a table of numbers.
 use Rattle.std.specs.Prelude.{ℕ, ◌==◌, ◌&&◌, Bool, if◌then◌else◌, List, filter_map, is_some}
 use Rattle.std.specs.Prelude.{option_and_then, Option, None}
 use Rattle.std.specs.List.{list_any}

@@ -17,7 +17,11 @@ use Rattle.rt_dual.specs.Forwarded.{forwarded_irqs}
 -- the trace of a core, with its total of core steps
 abbrev pub course_text : Image → List Event → Course → List ℕ
 course_text img events course =
-    trace_text img.names (record { items = course_items img events course; total = Some (steps (course_events events course)) })
+    trace_text img.names (record {
+      items = course_items img events course;
+      total =
+          Some (steps (course_events events course));
+    })
 
 -- what was pended on the core by the other one
 abbrev pub account : Image → Course → List ℕ

@@ -34,7 +34,8 @@ impl Sink for Kept {
     fn write(&mut self, piece: &[u8]) -> Result<usize, Failed>
         ensures within { IfOk result (λ n. n ≤ length piece.now) }
         ensures some { IfOk result (λ n. 0 < length piece.now → 0 < n) }
-        ensures took { IfOk result (λ n. Took (Some self.old.bytes.items) (Some self.new.bytes.items) (take n piece.now)) }
+        ensures took { IfOk result (λ n. Took (Some self.old.bytes.items) (Some self.new.bytes.items)
+            (take n piece.now)) }
         ensures err { OnErr result (Some self.new.bytes.items ≡ Some self.old.bytes.items) }
         ensures cause { HasCause self.old.failed self.new.failed result }
         ensures quiet { OnOk result (self.new.failed ≡ self.old.failed) }

@@ -33,10 +33,10 @@ use std::thread::{Threads, join_mut};
 /// Runs two cores to which no event has come beside each other, each in a thread of its own where one can be made. A
 /// post of a core that its image does not enable pends the other application's interrupt of that name, by one fetch_or
 /// of the other core's words behind the step. The first core gets the events of the script, devices' requests at their
-/// places, the second its steps and ticks alone. Each latches all its words before each of its steps and once behind its
-/// last event. When both have ended, the text of each is written: its line, the listing of its image, its trace with the
-/// total of core steps, and the account of the other core's pends. The traces are kept in memory until then, so nothing
-/// has been written where memory is not there.
+/// places, the second its steps and ticks alone. Each latches all its words before each of its steps and once behind
+/// its last event. When both have ended, the text of each is written: its line, the listing of its image, its trace
+/// with the total of core steps, and the account of the other core's pends. The traces are kept in memory until then,
+/// so nothing has been written where memory is not there.
 #[inline(never)]
 pub fn pair<R: Threads + Sync, K: Sink, G: Gate + Sync>(
     rt: &R,
@@ -138,7 +138,8 @@ fn beside<R: Threads + Sync, G: Gate + Sync>(
     requires second_can { CanRun (count script.now + 1) second.old right.old there.now here.now }
     requires first_declared { HasNamesAt left.old.core_id first.old.image.names script.now }
     requires second_declared { HasNamesAt right.old.core_id second.old.image.names script.now }
-    ensures first_ok { OnOk result.0 (Ends (turns (events_at left.old.core_id script.now)) first.old first.new left.old left.new) }
+    ensures first_ok { OnOk result.0 (Ends (turns (events_at left.old.core_id script.now)) first.old first.new left.old
+        left.new) }
     ensures first_err { OnErr result.0 (Begins (turns (events_at left.old.core_id script.now)) first.old first.new) }
     ensures second_ok { OnOk result.1
         (Ends (turns (events_at right.old.core_id script.now)) second.old second.new right.old right.new) }

@@ -26,9 +26,9 @@ pub struct Side {
 }
 
 impl Side {
-    /// Pends on the other core what an item of this core is forwarded to there, by one fetch_or. The gate is told of each
-    /// such pend of a core by its number, from 0, before it is made; no clause says so, since a gate's calls leave nothing
-    /// that a clause could name.
+    /// Pends on the other core what an item of this core is forwarded to there, by one fetch_or. The gate is told of
+    /// each such pend of a core by its number, from 0, before it is made; no clause says so, since a gate's calls leave
+    /// nothing that a clause could name.
     pub(crate) fn ring<G: Gate>(&mut self, there: &Words, shown: &Option<What>, gate: &G)
         requires words { self.old.bell.words ≡ there.now }
         requires may { MayRing self.old.routes there.now }

@@ -7,7 +7,8 @@ ghost use Rattle.rt_run.specs.Writable.{IsWritable};
 ghost use Rattle.rt_live.specs.Interleaving.{Happens, Looks};
 ghost use Rattle.rt_live.specs.Inside.Own.{repeated_turns};
 ghost use Rattle.rt_dual.specs.Course.{turns};
-ghost use Rattle.rt_dual.specs.Inside.Own.{turn_of, request_of, own_turns, events_at, HasNameAt, HasNamesAt, IsDeclaredAt};
+ghost use Rattle.rt_dual.specs.Inside.Own.{turn_of, request_of, own_turns, events_at, HasNameAt, HasNamesAt};
+ghost use Rattle.rt_dual.specs.Inside.Own.{IsDeclaredAt};
 ghost use Rattle.rt_dual.specs.Inside.Running.{CanRun, Runs, Begins, Ends};
 
 use crate::core_id::CoreId;

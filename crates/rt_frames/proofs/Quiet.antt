@@ -1,5 +1,6 @@
 -- In which bodies no `pend` stands.
-use Rattle.std.proofs.Common.{◌≡◌, ℕ, zero, suc, ◌+◌, ◌<◌, Bool, true, false, not, ◌&&◌, ◌||◌, List, [], ◌∷◌, ◌++◌, length, take, get_or, map, Option, Some, None, refl, sym, ap, ◌∙◌, arith}
+use Rattle.std.proofs.Common.{◌≡◌, ℕ, zero, suc, ◌+◌, ◌<◌, Bool, true, false, not, ◌&&◌, ◌||◌, List, [], ◌∷◌, ◌++◌}
+use Rattle.std.proofs.Common.{length, take, get_or, map, Option, Some, None, refl, sym, ap, ◌∙◌, arith}
 use Rattle.std.specs.Prelude.{is_some, is_none}
 use Rattle.std.specs.List.{list_any, list_all}
 use Rattle.std.proofs.lemmas.List.Folds.{list_all-append, list_all-map}
@@ -26,8 +27,10 @@ and_false true = refl
 and_false false = refl
 
 more : (xs : List Stmt) (i : ℕ) (x : Stmt) → i < length xs → x ≡ get_or xs i x
-    → holds_no_pend (block_of (take (i + 1) xs)) ≡ (holds_no_pend (block_of (take i xs)) && statement_holds_no_pend (statement_of x))
-more = block_more holds_no_pend statement_holds_no_pend (λ a b. a && b) (λ s rest. refl) and_assoc (λ s. and_true (statement_holds_no_pend s))
+    → holds_no_pend (block_of (take (i + 1) xs)) ≡ (holds_no_pend (block_of (take i xs))
+    && statement_holds_no_pend (statement_of x))
+more = block_more holds_no_pend statement_holds_no_pend (λ a b. a && b) (λ s rest. refl) and_assoc
+    (λ s. and_true (statement_holds_no_pend s))
 
 -- one statement more
 pub quiet_more : (xs : List Stmt) (i : ℕ) (x : Stmt) (own : Bool) → i < length xs → x ≡ get_or xs i x
@@ -37,12 +40,15 @@ quiet_more xs i x own h e before is here =
     more xs i x h e ∙ ap (λ b. b && statement_holds_no_pend (statement_of x)) before ∙ sym is ∙ here
 
 -- a statement that holds one
-pub loud_at : (xs : List Stmt) (i : ℕ) (x : Stmt) → i < length xs → x ≡ get_or xs i x → statement_holds_no_pend (statement_of x) ≡ false
+pub loud_at : (xs : List Stmt) (i : ℕ) (x : Stmt) → i < length xs → x ≡ get_or xs i x
+    → statement_holds_no_pend (statement_of x) ≡ false
     → holds_no_pend (block_of xs) ≡ false
 loud_at [] i x h e loud = absurd (omega arith)
-loud_at (s ∷ xs) zero x h e loud = ap (λ b. b && holds_no_pend (block_of xs)) (ap (λ y. statement_holds_no_pend (statement_of y)) (sym e) ∙ loud)
+loud_at (s ∷ xs) zero x h e loud = ap (λ b. b && holds_no_pend (block_of xs))
+    (ap (λ y. statement_holds_no_pend (statement_of y)) (sym e) ∙ loud)
 loud_at (s ∷ xs) (suc i) x h e loud =
-    ap (λ b. statement_holds_no_pend (statement_of s) && b) (loud_at xs i x (omega arith) e loud) ∙ and_false (statement_holds_no_pend (statement_of s))
+    ap (λ b. statement_holds_no_pend (statement_of s) && b) (loud_at xs i x (omega arith) e loud)
+    ∙ and_false (statement_holds_no_pend (statement_of s))
 
 abbrev is_quiet : Member → Bool
 is_quiet m = holds_no_pend m.body.block
@@ -51,7 +57,8 @@ of_thread : (id : BodyId) (o : Option Body) → list_all is_quiet (thread_member
 of_thread id None = refl
 of_thread id (Some b) = and_true (holds_no_pend b.block)
 
-of_tasks : (n : ℕ) (ts : List Task) → list_all is_quiet (task_members n ts) ≡ list_all (λ t. holds_no_pend t.body.block) ts
+of_tasks : (n : ℕ) (ts : List Task) → list_all is_quiet (task_members n ts)
+    ≡ list_all (λ t. holds_no_pend t.body.block) ts
 of_tasks n [] = refl
 of_tasks n (t ∷ ts) = ap (λ b. holds_no_pend t.body.block && b) (of_tasks (n + 1) ts)
 
@@ -65,7 +72,8 @@ of_members first second o p ts =
     ∙ ap (λ b. body_holds_no_pend o && b)
     (list_all-append is_quiet (thread_members second p) (task_members 0 (map task_of ts))
     ∙ ap (λ b. b && list_all is_quiet (task_members 0 (map task_of ts))) (of_thread second p)
-    ∙ ap (λ b. body_holds_no_pend p && b) (of_tasks 0 (map task_of ts) ∙ list_all-map (λ t. holds_no_pend t.body.block) task_of ts))
+    ∙ ap (λ b. body_holds_no_pend p && b) (of_tasks 0 (map task_of ts)
+    ∙ list_all-map (λ t. holds_no_pend t.body.block) task_of ts))
     ∙ and_assoc (body_holds_no_pend o) (body_holds_no_pend p) (list_all (λ t. holds_no_pend (task_of t).body.block) ts)
 
 not_any : (ts : List Task) → list_all (λ t. not (is_software t)) ts ≡ not (list_any is_software ts)
@@ -78,15 +86,18 @@ not_any (t ∷ ts) = one (is_software t) (not_any ts)
     one false rest = rest
 
 -- no software task
-pub none_software : (ts : List code.Task) → list_all (λ t. not (is_software (task_of t))) ts ≡ not (list_any is_software (map task_of ts))
+pub none_software : (ts : List code.Task) → list_all (λ t. not (is_software (task_of t))) ts
+    ≡ not (list_any is_software (map task_of ts))
 none_software ts = sym (list_all-map (λ t. not (is_software t)) task_of ts) ∙ not_any (map task_of ts)
 
 -- of a branch by its first block, and by its second where that is quiet
-pub branch_loud : (s : Statement) (e : Expression) (first second : Block) (own : Bool) → s ≡ Branch e first second → own ≡ holds_no_pend first → own ≡ false → own ≡ statement_holds_no_pend s
+pub branch_loud : (s : Statement) (e : Expression) (first second : Block) (own : Bool) → s ≡ Branch e first second → own
+    ≡ holds_no_pend first → own ≡ false → own ≡ statement_holds_no_pend s
 branch_loud s e first second own is of_first loud =
     loud ∙ ap (λ b. b && holds_no_pend second) (sym (sym of_first ∙ loud)) ∙ ap statement_holds_no_pend (sym is)
 
-pub branch_second : (s : Statement) (e : Expression) (first second : Block) (own other : Bool) → s ≡ Branch e first second → own ≡ holds_no_pend first → own ≡ true → other ≡ holds_no_pend second
+pub branch_second : (s : Statement) (e : Expression) (first second : Block) (own other : Bool) → s
+    ≡ Branch e first second → own ≡ holds_no_pend first → own ≡ true → other ≡ holds_no_pend second
     → other ≡ statement_holds_no_pend s
 branch_second s e first second own other is of_first quiet of_second =
     of_second ∙ ap (λ b. b && holds_no_pend second) (sym (sym of_first ∙ quiet)) ∙ ap statement_holds_no_pend (sym is)

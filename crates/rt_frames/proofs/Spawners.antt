@@ -18,7 +18,8 @@ use Rattle.rt_app.specs.Bodies.{members, thread_members, task_members}
 use Rattle.rt_app.specs.Level.{arms, holds, is_armed, armed_capacities, armed_count, is_software, is_of_level}
 use Rattle.rt_app.specs.View.{task_of}
 use Rattle.rt_app.specs.declared.app.Task as code
-use Rattle.rt_frames.specs.Inside.Flags.{flags_with, HasFlags, delayed_targets, level_numbers, thread_spawns, task_spawns}
+use Rattle.rt_frames.specs.Inside.Flags.{flags_with, HasFlags, delayed_targets, level_numbers, thread_spawns}
+use Rattle.rt_frames.specs.Inside.Flags.{task_spawns}
 use Rattle.rt_frames.proofs.Flagging.{flagged_at, armed_both}
 
 any_step : (passes : Bool) (n k : ℕ) (ns : List ℕ) (rest : Bool) → list_any (λ m. m == k) ns ≡ rest
@@ -26,7 +27,8 @@ any_step : (passes : Bool) (n k : ℕ) (ns : List ℕ) (rest : Bool) → list_an
 any_step false n k ns rest e = e
 any_step true n k ns rest e = ap (λ b. (n == k) || b) e
 
-map_if : (b : Bool) (s : Spawn) (ss : List Spawn) → map target (cond b (s ∷ ss) ss) ≡ cond b (target s ∷ map target ss) (map target ss)
+map_if : (b : Bool) (s : Spawn) (ss : List Spawn) → map target (cond b (s ∷ ss) ss)
+    ≡ cond b (target s ∷ map target ss) (map target ss)
 map_if true s ss = refl
 map_if false s ss = refl
 
@@ -36,18 +38,23 @@ any_armed k (s ∷ ss) =
     ap (list_any (λ m. m == k)) (map_if (arms_message s) s (filter arms_message ss))
     ∙ any_step (arms_message s) (target s) k (delayed_targets ss) (list_any (arms k) ss) (any_armed k ss)
 
-any_thread : (test : Spawn → Bool) (id : BodyId) (b : Option Body) → list_any (holds test) (thread_members id b) ≡ list_any test (thread_spawns b)
+any_thread : (test : Spawn → Bool) (id : BodyId) (b : Option Body) → list_any (holds test) (thread_members id b)
+    ≡ list_any test (thread_spawns b)
 any_thread test id None = refl
 any_thread test id (Some b) = or-false (list_any test (spawns b.block))
 
-any_tasks : (test : Spawn → Bool) (n : ℕ) (ts : List Task) → list_any (holds test) (task_members n ts) ≡ list_any test (flat_map task_spawns ts)
+any_tasks : (test : Spawn → Bool) (n : ℕ) (ts : List Task) → list_any (holds test) (task_members n ts)
+    ≡ list_any test (flat_map task_spawns ts)
 any_tasks test n [] = refl
-any_tasks test n (t ∷ ts) = ap (λ b. list_any test (task_spawns t) || b) (any_tasks test (n + 1) ts) ∙ sym (list_any-append test (task_spawns t) (flat_map task_spawns ts))
+any_tasks test n (t ∷ ts) = ap (λ b. list_any test (task_spawns t) || b) (any_tasks test (n + 1) ts)
+    ∙ sym (list_any-append test (task_spawns t) (flat_map task_spawns ts))
 
-any_member : (test : Spawn → Bool) (app : App) → list_any (holds test) (members app) ≡ list_any test (thread_spawns app.init ++ (thread_spawns app.idle ++ flat_map task_spawns app.tasks))
+any_member : (test : Spawn → Bool) (app : App) → list_any (holds test) (members app)
+    ≡ list_any test (thread_spawns app.init ++ (thread_spawns app.idle ++ flat_map task_spawns app.tasks))
 any_member test app =
     rw (
-      list_any-append (holds test) (thread_members body.Init app.init) (thread_members body.Idle app.idle ++ task_members 0 app.tasks),
+      list_any-append (holds test) (thread_members body.Init app.init)
+          (thread_members body.Idle app.idle ++ task_members 0 app.tasks),
       list_any-append (holds test) (thread_members body.Idle app.idle) (task_members 0 app.tasks),
       list_any-append test (thread_spawns app.init) (thread_spawns app.idle ++ flat_map task_spawns app.tasks),
       list_any-append test (thread_spawns app.idle) (flat_map task_spawns app.tasks),
@@ -57,8 +64,11 @@ any_member test app =
     )
     refl
 
-pub armed_are : (app : App) (f0 f1 f2 f3 : List Bool) → HasFlags f0 (λ n. false) → f1 ≡ flags_with (delayed_targets (thread_spawns app.init)) f0 → f2 ≡ flags_with (delayed_targets (thread_spawns app.idle)) f1
-    → f3 ≡ flags_with (delayed_targets (flat_map task_spawns app.tasks)) f2 → length f3 ≡ 256 → HasFlags f3 (is_armed app)
+pub armed_are : (app : App) (f0 f1 f2 f3 : List Bool) → HasFlags f0 (λ n. false) → f1
+    ≡ flags_with (delayed_targets (thread_spawns app.init)) f0 → f2 ≡ flags_with
+    (delayed_targets (thread_spawns app.idle)) f1
+    → f3 ≡ flags_with (delayed_targets (flat_map task_spawns app.tasks)) f2 → length f3 ≡ 256
+    → HasFlags f3 (is_armed app)
 armed_are app f0 f1 f2 f3 none e1 e2 e3 long = record {
   long = long;
   flag = λ n.
@@ -67,12 +77,14 @@ armed_are app f0 f1 f2 f3 none e1 e2 e3 long = record {
       let T = flat_map task_spawns app.tasks in
       let all = armed_both I (D ++ T) f0 f1 f3 e1 (armed_both D T f1 f2 f3 e2 e3) in
       let some : 0 < length (flags_with (delayed_targets (I ++ (D ++ T))) f0) = rw (← all) (omega (arith, long)) in
-      ap (λ f. get_or f n false) all ∙ flagged_at (delayed_targets (I ++ (D ++ T))) f0 n some ∙ ap (λ b. b || list_any (λ m. m == n) (delayed_targets (I ++ (D ++ T)))) (none.flag n)
+      ap (λ f. get_or f n false) all ∙ flagged_at (delayed_targets (I ++ (D ++ T))) f0 n some
+      ∙ ap (λ b. b || list_any (λ m. m == n) (delayed_targets (I ++ (D ++ T)))) (none.flag n)
       ∙ any_armed n (I ++ (D ++ T)) ∙ sym (any_member (arms n) app);
 }
 
 -- of software tasks
-level_if : (b : Bool) (t : Task) (ts : List Task) → map (λ u. u.priority) (cond b (t ∷ ts) ts) ≡ cond b (t.priority ∷ map (λ u. u.priority) ts) (map (λ u. u.priority) ts)
+level_if : (b : Bool) (t : Task) (ts : List Task) → map (λ u. u.priority) (cond b (t ∷ ts) ts)
+    ≡ cond b (t.priority ∷ map (λ u. u.priority) ts) (map (λ u. u.priority) ts)
 level_if true t ts = refl
 level_if false t ts = refl
 
@@ -82,25 +94,32 @@ any_level k (t ∷ ts) =
     ap (list_any (λ m. m == k)) (level_if (is_software t) t (filter is_software ts))
     ∙ any_step (is_software t) t.priority k (level_numbers ts) (list_any (is_of_level k) ts) (any_level k ts)
 
-pub levels_are : (ts : List Task) (f0 f1 : List Bool) → HasFlags f0 (λ n. false) → f1 ≡ flags_with (level_numbers ts) f0 → length f1 ≡ 256 → HasFlags f1 (λ p. list_any (is_of_level p) ts)
+pub levels_are : (ts : List Task) (f0 f1 : List Bool) → HasFlags f0 (λ n. false) → f1 ≡ flags_with (level_numbers ts) f0
+    → length f1 ≡ 256 → HasFlags f1 (λ p. list_any (is_of_level p) ts)
 levels_are ts f0 f1 none e long = record {
   long = long;
   flag = λ n.
       let some : 0 < length (flags_with (level_numbers ts) f0) = rw (← e) (omega (arith, long)) in
-      ap (λ f. get_or f n false) e ∙ flagged_at (level_numbers ts) f0 n some ∙ ap (λ b. b || list_any (λ m. m == n) (level_numbers ts)) (none.flag n) ∙ any_level n ts;
+      ap (λ f. get_or f n false) e ∙ flagged_at (level_numbers ts) f0 n some
+      ∙ ap (λ b. b || list_any (λ m. m == n) (level_numbers ts)) (none.flag n) ∙ any_level n ts;
 }
 
 -- a number that has no flag is that of no task that is armed
-none_armed : (app : App) (flags : List Bool) → HasFlags flags (is_armed app) → (n : ℕ) → 256 ≤ n → is_armed app n ≡ false
+none_armed : (app : App) (flags : List Bool) → HasFlags flags (is_armed app) → (n : ℕ) → 256 ≤ n → is_armed app n
+    ≡ false
 none_armed app flags has n h = sym (has.flag n) ∙ get_or_past flags n false (omega (arith, has.long))
 
-capacities_none : (app : App) (flags : List Bool) → HasFlags flags (is_armed app) → (n : ℕ) (ts : List Task) → 256 ≤ n → armed_capacities app n ts ≡ 0
+capacities_none : (app : App) (flags : List Bool) → HasFlags flags (is_armed app) → (n : ℕ) (ts : List Task) → 256 ≤ n
+    → armed_capacities app n ts ≡ 0
 capacities_none app flags has n [] h = refl
-capacities_none app flags has n (t ∷ ts) h = rw (none_armed app flags has n h) (rw (capacities_none app flags has (n + 1) ts (omega arith)) refl)
+capacities_none app flags has n (t ∷ ts) h = rw (none_armed app flags has n h)
+    (rw (capacities_none app flags has (n + 1) ts (omega arith)) refl)
 
-count_none : (app : App) (flags : List Bool) → HasFlags flags (is_armed app) → (n : ℕ) (ts : List Task) → 256 ≤ n → armed_count app n ts ≡ 0
+count_none : (app : App) (flags : List Bool) → HasFlags flags (is_armed app) → (n : ℕ) (ts : List Task) → 256 ≤ n
+    → armed_count app n ts ≡ 0
 count_none app flags has n [] h = refl
-count_none app flags has n (t ∷ ts) h = rw (none_armed app flags has n h) (rw (count_none app flags has (n + 1) ts (omega arith)) refl)
+count_none app flags has n (t ∷ ts) h = rw (none_armed app flags has n h)
+    (rw (count_none app flags has (n + 1) ts (omega arith)) refl)
 
 module _ (app : App) (flags : List Bool) (has : HasFlags flags (is_armed app)) where
   -- the tasks that are left where none is left that can be armed
@@ -157,7 +176,8 @@ module _ (app : App) (flags : List Bool) (has : HasFlags flags (is_armed app)) w
         capacities_left front n (omega (arith, length-take end ts)),
       )
 
-pub count_left : (app : App) (flags : List Bool) → HasFlags flags (is_armed app) → (ts : List code.Task) (n : ℕ) → min (length ts) 256 ≤ n → armed_count app n (map task_of (drop n ts)) ≡ 0
+pub count_left : (app : App) (flags : List Bool) → HasFlags flags (is_armed app) → (ts : List code.Task) (n : ℕ)
+    → min (length ts) 256 ≤ n → armed_count app n (map task_of (drop n ts)) ≡ 0
 count_left app flags has ts n h = ⊎_elim
     (λ (t : leb 256 n ≡ true × (256 ≤ n)). count_none app flags has n (map task_of (drop n ts)) t.1)
     (λ (t : leb 256 n ≡ false × (n < 256)). ap (λ us. armed_count app n (map task_of us)) (drop_all n ts (omega arith)))
@@ -167,8 +187,12 @@ from_bool_is : (b : Bool) → (if b then 1 else 0) ≡ from_bool b
 from_bool_is true = refl
 from_bool_is false = refl
 
-pub count_more : (app : App) (flags : List Bool) → HasFlags flags (is_armed app) → (ts : List code.Task) (n : ℕ) → n < length ts
-    → armed_count app n (map task_of (drop n ts)) ≡ from_bool (get_or flags n false) + armed_count app (n + 1) (map task_of (drop (n + 1) ts))
+pub count_more : (app : App) (flags : List Bool) → HasFlags flags (is_armed app) → (ts : List code.Task) (n : ℕ)
+    → n < length ts
+    → armed_count app n (map task_of (drop n ts)) ≡ from_bool (get_or flags n false)
+    + armed_count app (n + 1) (map task_of (drop (n + 1) ts))
 count_more app flags has ts n h =
     let d = drop_some ts n h in
-    ap (λ us. armed_count app n (map task_of us)) d.1 ∙ ap (λ b. (if b then 1 else 0) + armed_count app (n + 1) (map task_of (drop (n + 1) ts))) (sym (has.flag n)) ∙ ap (λ k. k + armed_count app (n + 1) (map task_of (drop (n + 1) ts))) (from_bool_is (get_or flags n false))
+    ap (λ us. armed_count app n (map task_of us)) d.1 ∙ ap (λ b. (if b then 1 else 0)
+    + armed_count app (n + 1) (map task_of (drop (n + 1) ts))) (sym (has.flag n))
+    ∙ ap (λ k. k + armed_count app (n + 1) (map task_of (drop (n + 1) ts))) (from_bool_is (get_or flags n false))

@@ -5,9 +5,12 @@ use Rattle.rt_gen_queue.proofs.Vocabulary.{IsSoundLock, Kind, Leaves, Line, List
 use Rattle.rt_gen_queue.proofs.Vocabulary.{Statement, Then, Values, [], accepted_are_sound, act, all_append, all_has}
 use Rattle.rt_gen_queue.proofs.Vocabulary.{all_weaker, ap, arith, block_steps, cap_steps, contains_cases}
 use Rattle.rt_gen_queue.proofs.Vocabulary.{contains_there, cost_measure, false_from_ne_true, guard_of, has_loop, inl}
-use Rattle.rt_gen_queue.proofs.Vocabulary.{inr, kind_of, leave_line, length, length-append, list_any, max, opening_instr}
-use Rattle.rt_gen_queue.proofs.Vocabulary.{or_left, or_right, spot_after_step, refl, run, run_block, saved_slot, saved_slots}
-use Rattle.rt_gen_queue.proofs.Vocabulary.{slots_with_mask, slice_index, spawns, statement_steps, storage, subst, suc, sym}
+use Rattle.rt_gen_queue.proofs.Vocabulary.{inr, kind_of, leave_line, length, length-append, list_any, max}
+use Rattle.rt_gen_queue.proofs.Vocabulary.{opening_instr}
+use Rattle.rt_gen_queue.proofs.Vocabulary.{or_left, or_right, spot_after_step, refl, run, run_block, saved_slot}
+use Rattle.rt_gen_queue.proofs.Vocabulary.{saved_slots}
+use Rattle.rt_gen_queue.proofs.Vocabulary.{slots_with_mask, slice_index, spawns, statement_steps, storage, subst, suc}
+use Rattle.rt_gen_queue.proofs.Vocabulary.{sym}
 use Rattle.rt_gen_queue.proofs.Vocabulary.{variables, variables_in, zero, ℕ, ◌*◌, ◌++◌, ◌+◌, ◌-◌, ◌<◌, ◌==◌, ◌∙◌, ◌∷◌}
 use Rattle.rt_gen_queue.proofs.Vocabulary.{◌≡◌, ◌≤◌}
 use Rattle.std.proofs.Math.Nat.{suc-mul}
@@ -26,7 +29,8 @@ use Rattle.rt_gen_body.proofs.Expressions.{Sets, assigns, binds_time, emits_valu
 use Rattle.rt_gen_body.proofs.Loops.{BlockPerforms, chooses, in_loop, loops}
 use Rattle.rt_gen_body.proofs.Owning.{open_as, resource_cell, spelled_agreed, spelled_inside, spelled_outside}
 use Rattle.rt_gen_body.proofs.Places.{Begins, Body, Fits, Inside, Performs, Scope, block_needs, fewer_visible, front_of}
-use Rattle.rt_gen_body.proofs.Places.{goes_behind, inside_as, threshold_inside, listed_by, named, needs, part_fits, sooner}
+use Rattle.rt_gen_body.proofs.Places.{goes_behind, inside_as, threshold_inside, listed_by, named, needs, part_fits}
+use Rattle.rt_gen_body.proofs.Places.{sooner}
 use Rattle.rt_gen_body.specs.Inside.Blocks.{block_code, guard_at, statement_code}
 use Rattle.rt_gen_body.specs.Inside.Values.{Context, next_slot}
 
@@ -76,13 +80,14 @@ module _ (b : Body) (p : Scope) (r place : ℕ) (inner : Block) (sound : IsSound
         (kind_of g p.threshold p.lock)) (sym guard)
         (kind_fits b.z.app b.z.who h.held (section.Res r) p.threshold p.lock begins.inside.off
         ((accepted_are_sound b.z.app b.facts.accepted).ceilings (section.Res r) sound.is_there));
-    slot = saved_all (λ d. (d < length h.slots) × (¬ Contains (saved_slots h.held) d)) (guard_at b.c r) p.threshold p.lock (
-      omega (arith, begins.known.frame, b.spawns, fits.masks),
-      λ there.
-          let P : ℕ → Type 0 = λ e. (b.top ≤ e) × (e < p.lock) in
-          let found : P p.lock = all_has P (saved_slots h.held) p.lock begins.inside.saved there in
-          omega (arith, found.1),
-    );
+    slot = saved_all (λ d. (d < length h.slots) × (¬ Contains (saved_slots h.held) d)) (guard_at b.c r) p.threshold
+        p.lock (
+          omega (arith, begins.known.frame, b.spawns, fits.masks),
+          λ there.
+              let P : ℕ → Type 0 = λ e. (b.top ≤ e) × (e < p.lock) in
+              let found : P p.lock = all_has P (saved_slots h.held) p.lock begins.inside.saved there in
+              omega (arith, found.1),
+        );
     within = b.facts.enters (section.Res r) sound.within;
     closed = open_as h.held p.locked (section.Res r) begins.inside.are
         ∙ false_from_ne_true (list_any (λ q. q == r) p.locked) (λ is. sound.once (contained_any r p.locked is));
@@ -241,7 +246,8 @@ module _ (b : Body) where
         (part_fits fits (omega arith) (omega arith, omega arith) (omega arith)
         (or_right (has_loop first) (has_loop second)) (in_back (spawns first) (spawns second))) sound.2 placed.2))
     statement_stands (Repeat x first last turn) p fits sound placed =
-        subst (λ (y : ℕ). Performs b p p.visible (λ at. statement_code b.c p.threshold p.lock at (Repeat y first last turn))
+        subst (λ (y : ℕ). Performs b p p.visible (λ at. statement_code b.c p.threshold p.lock at
+        (Repeat y first last turn))
         (statement_steps (cost_measure b.z.app) (Repeat y first last turn)) (run b.z.app (Repeat y first last turn)))
         (sym sound.0)
         (loops first last turn

@@ -4,7 +4,8 @@ use Rattle.rt_gen_queue.proofs.Vocabulary.{Agree, Assign, Bool, Clocks, Contains
 use Rattle.rt_gen_queue.proofs.Vocabulary.{Held, Holder, Instr, IsChangeable, Line, List, Num, Number, Oper, Own, Pend}
 use Rattle.rt_gen_queue.proofs.Vocabulary.{Read, Some, Values, [], ap, arith, does, eqb-true, expression_steps, false}
 use Rattle.rt_gen_queue.proofs.Vocabulary.{get_or-set_other, get_or-set_same, inl, inr, length, length-append}
-use Rattle.rt_gen_queue.proofs.Vocabulary.{length-set, nat_tests, number, operate, or_left, owns, plain, values_with, refl}
+use Rattle.rt_gen_queue.proofs.Vocabulary.{length-set, nat_tests, number, operate, or_left, owns, plain, values_with}
+use Rattle.rt_gen_queue.proofs.Vocabulary.{refl}
 use Rattle.rt_gen_queue.proofs.Vocabulary.{run, slice_get, slice_index, slice_set, storage, subst, suc, sym, true}
 use Rattle.rt_gen_queue.proofs.Vocabulary.{value_in, ℕ, ◌++◌, ◌+◌, ◌<◌, ◌==◌, ◌∙◌, ◌∷◌, ◌≡◌, ◌≢◌, ◌≤◌, ◌⊎◌}
 use Rattle.std.proofs.lemmas.Grind.{get_or-set_at}

@@ -3,7 +3,8 @@
 use Rattle.rt_gen_queue.proofs.Vocabulary.{AllByRecursion, App, Appends, BodyId, Ceilings, IsAccepted, IsPlan}
 use Rattle.rt_gen_queue.proofs.Vocabulary.{KeepsTaskLimits, Line, List, Made, None, Option, Plan, Some, Task, []}
 use Rattle.rt_gen_queue.proofs.Vocabulary.{accepted_are_sound, all_at, ap, app_of, append-nil, append_assoc, arith}
-use Rattle.rt_gen_queue.proofs.Vocabulary.{block_of, ceiling, eqb-true, false, frame_words, get_or, guard_of_ceiling, length}
+use Rattle.rt_gen_queue.proofs.Vocabulary.{block_of, ceiling, eqb-true, false, frame_words, get_or, guard_of_ceiling}
+use Rattle.rt_gen_queue.proofs.Vocabulary.{length}
 use Rattle.rt_gen_queue.proofs.Vocabulary.{length-append, map, mapped_at, member_at, next_address, option_map, plain}
 use Rattle.rt_gen_queue.proofs.Vocabulary.{range_with_len, refl, set-append_seam, slice_get, slice_get_read, slice_set}
 use Rattle.rt_gen_queue.proofs.Vocabulary.{statements_in, subst, suc, sym, task_of, true, zero, ℕ, ◌++◌, ◌+◌, ◌<◌, ◌==◌}

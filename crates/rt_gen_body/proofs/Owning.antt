@@ -1,12 +1,14 @@
 -- How an application keeps resources, each in a cell of its own that spells its value, and what is known of values as
 -- code goes on: a resource that may be read has the value that is in its cell. The sections that are open while a body
 -- runs are those of the resources that it has locked.
-use Rattle.rt_gen_queue.proofs.Vocabulary.{Agree, App, At, AtPriority, Bool, Content, Entry, Guarded, Held, Holder, Home}
+use Rattle.rt_gen_queue.proofs.Vocabulary.{Agree, App, At, AtPriority, Bool, Content, Entry, Guarded, Held, Holder}
+use Rattle.rt_gen_queue.proofs.Vocabulary.{Home}
 use Rattle.rt_gen_queue.proofs.Vocabulary.{LeavesMine, List, MayLoad, MayStore, Number, Own, Runner, Section, Spot}
 use Rattle.rt_gen_queue.proofs.Vocabulary.{Starting, TakesOver, Values, [], ap, arith, eq-eqb, eqb-true, false}
 use Rattle.rt_gen_queue.proofs.Vocabulary.{false_from_ne_true, get_or-set_other, get_or-set_same, if◌then◌else◌, inl}
 use Rattle.rt_gen_queue.proofs.Vocabulary.{inr, is_constant, is_kept, is_open, is_same_holder, is_same_section, length}
-use Rattle.rt_gen_queue.proofs.Vocabulary.{list_any, local_is_home, memory, number, one_section, owns, values_with, reads}
+use Rattle.rt_gen_queue.proofs.Vocabulary.{list_any, local_is_home, memory, number, one_section, owns, values_with}
+use Rattle.rt_gen_queue.proofs.Vocabulary.{reads}
 use Rattle.rt_gen_queue.proofs.Vocabulary.{reads_more, refl, resource_is_home, same_section, slice_index, slice_set}
 use Rattle.rt_gen_queue.proofs.Vocabulary.{storage, subst, sym, true, ℕ, ◌+◌, ◌<◌, ◌||◌, ◌∙◌, ◌∷◌, ◌≡◌, ◌≢◌, ◌⊎◌}
 use Rattle.rt_lemmas.proofs.Membership.{any_one}

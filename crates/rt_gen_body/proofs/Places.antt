@@ -1,6 +1,7 @@
 -- What is known of a body, of what its code is generated with and of a place in it, what a statement asks of the frame
 -- there, and what it means that code does what it is to do.
-use Rattle.rt_gen_queue.proofs.Vocabulary.{AllByRecursion, App, AtPriority, BODY_COST, Block, Bool, Contains, Doing, Entry}
+use Rattle.rt_gen_queue.proofs.Vocabulary.{AllByRecursion, App, AtPriority, BODY_COST, Block, Bool, Contains, Doing}
+use Rattle.rt_gen_queue.proofs.Vocabulary.{Entry}
 use Rattle.rt_gen_queue.proofs.Vocabulary.{Guarded, HasCode, Held, Holder, HoldsOff, IsAccepted, IsChangeable, IsIn}
 use Rattle.rt_gen_queue.proofs.Vocabulary.{IsSoundLock, IsWithin, Line, List, Member, NobodyKeeps, Own, Runner, Section}
 use Rattle.rt_gen_queue.proofs.Vocabulary.{Spawn, Starting, Statement, Values, [], all_weaker, arith, block_steps}

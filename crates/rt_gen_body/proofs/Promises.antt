@@ -7,7 +7,8 @@ use Rattle.rt_gen_queue.proofs.Vocabulary.{append_assoc, arith, block_steps, bod
 use Rattle.rt_gen_queue.proofs.Vocabulary.{cost_measure, false, first_lock_slot, frame_words, get_or-take}
 use Rattle.rt_gen_queue.proofs.Vocabulary.{get_or_append_left, greatest, has_body, has_loop, if◌then◌else◌, is_software}
 use Rattle.rt_gen_queue.proofs.Vocabulary.{length, length-append, length-replicate, length-take-le, map, max, member_at}
-use Rattle.rt_gen_queue.proofs.Vocabulary.{members, memory, none-some, line_with_note, nothing, option_map, or_left, spot_after_step}
+use Rattle.rt_gen_queue.proofs.Vocabulary.{members, memory, none-some, line_with_note, nothing, option_map, or_left}
+use Rattle.rt_gen_queue.proofs.Vocabulary.{spot_after_step}
 use Rattle.rt_gen_queue.proofs.Vocabulary.{plain, range_with_len, refl, replicate, row_for, same_Some, slice_get}
 use Rattle.rt_gen_queue.proofs.Vocabulary.{slice_index, spawn_words, spawns, stands_with_more, storage, subst, suc, sym}
 use Rattle.rt_gen_queue.proofs.Vocabulary.{take, true, variables, zero, ℕ, ◌++◌, ◌+◌, ◌-◌, ◌<◌, ◌^◌, ◌∙◌, ◌∷◌, ◌≡◌, ◌≤◌}
@@ -33,7 +34,8 @@ pub cost_is : (app : App) (b : AppBody) → block_steps (cost_measure app) b.blo
     → body_cost (cost_measure app) b ≡ block_steps (cost_measure app) b.block + 1
 cost_is app b few =
     ap (λ n. capped_cost (n + 1)) (cap_steps.blocks (cost_measure app) b.block)
-    ∙ (let e : capped_cost (capped_cost (block_steps (cost_measure app) b.block) + 1) ≡ block_steps (cost_measure app) b.block
+    ∙ (let e : capped_cost (capped_cost (block_steps (cost_measure app) b.block) + 1)
+    ≡ block_steps (cost_measure app) b.block
     + 1 = omega arith in e)
 
 -- a loop has a slot for its test

@@ -142,7 +142,8 @@ goes_on {b = b} {p = p} {h = h} {vars = vars} {vs = vs} (Soon task args place) r
     let t : Task = sound.sound.0 in
     let one = sound.sound.1 in
     by_law q rest begins on
-    (code_called b (λ a. spawn_code a task p.threshold b.c.spawns h.at) (λ a. true) task t refl one.is_there one.software)
+    (code_called b (λ a. spawn_code a task p.threshold b.c.spawns h.at) (λ a. true) task t refl one.is_there
+    one.software)
     (λ has behind k enough.
     spawn_stands b.z.app task t b.z.code b.z.bodies b.z.thread b.z.who p.threshold b.c.spawns (left q rest begins on) k
     (spot b.z h) (value_in vars vs) args place rest vs b.facts.accepted one.is_there one.software has
@@ -180,7 +181,8 @@ goes_on {b = b} {p = p} {h = h} {vars = vars} {vs = vs} (After word delay task a
     let values = first_value (length args) b.c.spawns (value_in vars vs delay) h.slots (map (value_in vars vs) args)
     (omega (arith, sound.words, begins.known.frame)) come in
     by_law q rest begins on
-    (code_called b (λ a. after_code a task p.threshold b.c.spawns h.at) (λ a. is_some a.mono) task s.0 timed one.is_there
+    (code_called b (λ a. after_code a task p.threshold b.c.spawns h.at) (λ a. is_some a.mono) task s.0 timed
+    one.is_there
     one.software)
     (λ has.
     afters_stand b.z.app task s.0 b.z.code b.z.bodies b.z.thread b.z.who p.threshold b.c.spawns (left q rest begins on)
@@ -196,7 +198,8 @@ goes_on {b = b} {p = p} {h = h} {vars = vars} {vs = vs} (Cancel word task handle
     let values = first_value 0 b.c.spawns (value_in vars vs handle) h.slots []
     (omega (arith, sound.words, begins.known.frame)) come in
     by_law q rest begins on
-    (code_called b (λ a. cancel_code a task p.threshold b.c.spawns h.at) (λ a. is_some a.mono) task s.0 timed one.is_there
+    (code_called b (λ a. cancel_code a task p.threshold b.c.spawns h.at) (λ a. is_some a.mono) task s.0 timed
+    one.is_there
     one.software)
     (λ has.
     cancels_all_stand b.z.app task s.0 b.z.code b.z.bodies b.z.thread b.z.who p.threshold b.c.spawns

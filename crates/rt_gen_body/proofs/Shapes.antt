@@ -9,7 +9,8 @@ use Rattle.rt_gen_queue.proofs.Vocabulary.{accepted_are_sound, ap, arith, block_
 use Rattle.rt_gen_queue.proofs.Vocabulary.{eqb-true, expression_steps, false, first_lock_slot, get_or_from_slice_get}
 use Rattle.rt_gen_queue.proofs.Vocabulary.{has_body, if◌then◌else◌, irq_number, is_software, is_some, is_some_and}
 use Rattle.rt_gen_queue.proofs.Vocabulary.{leave_line, length, length-append, length-map, map, max, member_at, members}
-use Rattle.rt_gen_queue.proofs.Vocabulary.{names_of, none-some, line_with_note, option_map, or_zero, plain, range_with_len, refl}
+use Rattle.rt_gen_queue.proofs.Vocabulary.{names_of, none-some, line_with_note, option_map, or_zero, plain}
+use Rattle.rt_gen_queue.proofs.Vocabulary.{range_with_len, refl}
 use Rattle.rt_gen_queue.proofs.Vocabulary.{same_Some, slice_get, slice_get_within, slice_index, statement_steps, subst}
 use Rattle.rt_gen_queue.proofs.Vocabulary.{sum_by, sym, true, variables, variables_in, ℕ, ◌++◌, ◌+◌, ◌<◌, ◌==◌, ◌∷◌}
 use Rattle.rt_gen_queue.proofs.Vocabulary.{◌≡◌, ◌≤◌}
@@ -114,7 +115,11 @@ module _ {app : App} (m : Member) (accepted : IsAccepted app) where
   goes_fine threshold at (Cancel word task handle place) = (
     HANDLE_COST,
     timed task
-        (λ t irq facts. record { named = cancel_claimed app irq c.spawns threshold task t facts at; few = omega arith }),
+        (λ t irq facts. record {
+          named = cancel_claimed app irq c.spawns threshold task t facts at;
+          few =
+              omega arith;
+        }),
     omega arith,
   )
   goes_fine threshold at (Move word delay task handle place) = (
@@ -216,7 +221,8 @@ module _ {app : App} (m : Member) (accepted : IsAccepted app) where
     block_fine (Then s rest) w threshold lock at placed =
         both (statement_fine s w threshold lock at placed.0)
         (block_fine rest
-        (record w { count = w.count + variables_in s; visible = behind app w.listed w.count w.visible s }) threshold lock
+        (record w { count = w.count + variables_in s; visible = behind app w.listed w.count w.visible s }) threshold
+        lock
         (at + length (statement_code c threshold lock at s)) placed.1)
 
 module _ (app : App) (accepted : IsAccepted app) where

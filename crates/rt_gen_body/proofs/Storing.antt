@@ -1,5 +1,6 @@
 -- What a body of an application may do.
-use Rattle.rt_gen_queue.proofs.Vocabulary.{App, AtPriority, Bool, Contains, Guarded, Held, IsAccepted, IsChangeable, IsIn}
+use Rattle.rt_gen_queue.proofs.Vocabulary.{App, AtPriority, Bool, Contains, Guarded, Held, IsAccepted, IsChangeable}
+use Rattle.rt_gen_queue.proofs.Vocabulary.{IsIn}
 use Rattle.rt_gen_queue.proofs.Vocabulary.{IsSound, List, Member, None, Option, Own, Runner, Some, Starting, []}
 use Rattle.rt_gen_queue.proofs.Vocabulary.{and_both, and_left, any_passes, ap, arith, eq-eqb, eqb-true, false}
 use Rattle.rt_gen_queue.proofs.Vocabulary.{false_from_ne_true, find, flat_map, get_or-map-range_with_len, guard_of}

@@ -37,7 +37,8 @@ impl<'a> Generator<'a> {
         Ok(())
     }
 
-    /// The lines of the spawn of a software task, whose arguments stand in the slots from one on, at a static preemption threshold.
+    /// The lines of the spawn of a software task, whose arguments stand in the slots from one on, at a static
+    /// preemption threshold.
     fn push_spawn(&self, threshold: u8, task: TaskId, code: &mut Lines) -> Result<(), NoMemory>
         requires ready { IsReady self.now }
         requires software { is_some_and is_software (slice_get (context self.now).app.tasks task) ≡ true }
@@ -57,7 +58,8 @@ impl<'a> Generator<'a> {
         Ok(())
     }
 
-    /// The spawn of a task whose arguments are there, at a static preemption threshold; nothing where it is no software task.
+    /// The spawn of a task whose arguments are there, at a static preemption threshold; nothing where it is no software
+    /// task.
     fn message(&self, threshold: u8, number: TaskId, code: &mut Lines) -> Result<(), NoMemory>
         requires { IsReady self.now }
         ensures { OnOk result (Appends code.old code.new
@@ -129,8 +131,8 @@ impl<'a> Generator<'a> {
         self.plan.app.mono.is_some() && is_called(self.plan.app, number)
     }
 
-    /// What goes to the timer queue, whose values are there, at a static preemption threshold; nothing where there is none for the
-    /// task.
+    /// What goes to the timer queue, whose values are there, at a static preemption threshold; nothing where there is
+    /// none for the task.
     fn append_timed(
         &self,
         kind: Timed,

@@ -23,7 +23,15 @@ rows d = rows_for d.entry 0 d.app.tasks
 
 -- its code runs in a frame of its own
 abbrev pub job : Dispatcher → Setting
-job d = record { app = d.app; code = d.code; bodies = rows d; thread = d.thread; who = AtPriority d.level; caller = None }
+job d = record {
+  app = d.app;
+  code = d.code;
+  bodies = rows d;
+  thread = d.thread;
+  who = AtPriority d.level;
+  caller =
+      None;
+}
 
 -- a section, open alone
 abbrev pub alone : Dispatcher → Section → List Held

@@ -4,7 +4,8 @@ use Rattle.rt_gen_queue.proofs.Vocabulary.{Agree, App, AreSpelled, At, AtPriorit
 use Rattle.rt_gen_queue.proofs.Vocabulary.{Holder, Home, List, MayLoad, Number, Own, Section, SpellsReady, Spot}
 use Rattle.rt_gen_queue.proofs.Vocabulary.{TakesOver, Values, [], ap, arith, ceiling, false, home_of, if◌then◌else◌}
 use Rattle.rt_gen_queue.proofs.Vocabulary.{is_open, is_same_holder, kind_at, length, local_is_home, or_right, owns_open}
-use Rattle.rt_gen_queue.proofs.Vocabulary.{owns_reads, values_with, reads, refl, resource_is_home, same_section, slice_index}
+use Rattle.rt_gen_queue.proofs.Vocabulary.{owns_reads, values_with, reads, refl, resource_is_home, same_section}
+use Rattle.rt_gen_queue.proofs.Vocabulary.{slice_index}
 use Rattle.rt_gen_queue.proofs.Vocabulary.{storage, subst, sym, true, ℕ, ◌+◌, ◌^◌, ◌||◌, ◌∙◌, ◌≡◌, ◌≤◌}
 use Rattle.rt_lemmas.proofs.Bools.{or_assoc}
 use Rattle.rt_ids.specs.declared.ids.Section.TheVariants as section
@@ -15,7 +16,8 @@ use Rattle.rt_gen_disp.proofs.{Dispatchers.Dispatcher, Dispatchers.alone, Dispat
 module _ (d : Dispatcher) where
   -- a section that is open alone is open, and what it guards may be read
   pub open_here : (x : Section) → is_open (alone d x) x ≡ true
-  open_here x = is_inside d.app (AtPriority d.level) [] (record { section = x; kind = kind_at d.app x d.level 14 }) x refl
+  open_here x = is_inside d.app (AtPriority d.level) [] (record { section = x; kind = kind_at d.app x d.level 14 }) x
+      refl
 
   pub reads_here : (x : Section) → reads (storage d.app) (AtPriority d.level) (alone d x) (Guarded x) ≡ true
   reads_here x =
@@ -44,7 +46,8 @@ unfolding storage
 for_ready d cells entries content spells = (d.is, spells)
 
 abbrev MayRead : App → ℕ → Holder → Type 0
-MayRead app level h = ((storage app).is_kept (AtPriority level) h || (storage app).is_constant (AtPriority level) h) ≡ true
+MayRead app level h = ((storage app).is_kept (AtPriority level) h || (storage app).is_constant (AtPriority level) h)
+    ≡ true
 
 -- with any sections open it may read the same and more
 reads_kept : (app : App) (level : ℕ) (held : List Held) (h : Holder) → MayRead app level h

@@ -1,12 +1,14 @@
 -- What a dispatcher does once the oldest message is that of one of its tasks: it starts the message, gives its place
 -- back, calls the body and returns.
-use Rattle.rt_gen_queue.proofs.Vocabulary.{AreSpelled, AtPriority, BodyRow, Content, Ends, Enters, Entry, FREE_COST, Frees}
+use Rattle.rt_gen_queue.proofs.Vocabulary.{AreSpelled, AtPriority, BodyRow, Content, Ends, Enters, Entry, FREE_COST}
+use Rattle.rt_gen_queue.proofs.Vocabulary.{Frees}
 use Rattle.rt_gen_queue.proofs.Vocabulary.{Guarded, Holder, Leaves, Line, List, Marked, Message, Messages, None, Number}
 use Rattle.rt_gen_queue.proofs.Vocabulary.{Option, Posts, Rest, Returns, Section, Some, SpellsFree, SpellsReady, Stands}
 use Rattle.rt_gen_queue.proofs.Vocabulary.{Task, Values, [], act, act_all, and_left, and_right, ap, arith, body_cost}
 use Rattle.rt_gen_queue.proofs.Vocabulary.{body_frame, caller_frame, calm, cost_measure, count, dispatcher_number, drop}
 use Rattle.rt_gen_queue.proofs.Vocabulary.{effect as action_effect, eq-eqb, eqb-true, false, free_at, inl, inr}
-use Rattle.rt_gen_queue.proofs.Vocabulary.{is_software, length, map, message_at, messages, nat_tests, none-some, line_with_note}
+use Rattle.rt_gen_queue.proofs.Vocabulary.{is_software, length, map, message_at, messages, nat_tests, none-some}
+use Rattle.rt_gen_queue.proofs.Vocabulary.{line_with_note}
 use Rattle.rt_gen_queue.proofs.Vocabulary.{nothing, number, operate, or_left, queue_at, queued_more, refl, row_for}
 use Rattle.rt_gen_queue.proofs.Vocabulary.{rows_for, same_Some, slice_get, slice_index, start_doing, storage, subst}
 use Rattle.rt_gen_queue.proofs.Vocabulary.{suc, sym, take, take-append-le, true, with_queue, zero, zero-add, ℕ, ◌+◌}
@@ -257,7 +259,8 @@ module _ {d : Dispatcher} (c : Chosen d) where
             let first_off : Values → Content = λ vs. Messages (drop 1 (messages (vs (Guarded ready)))) in
             let was = agree (Guarded ready) (reads_here d ready) ∙ oldest.content in
             let content : us (Guarded ready) ≡ Messages (map (message_at d.app (slice_index m.cells)) es) =
-            put_here d.app (AtPriority d.level) ws ready (first_off ws) ∙ ap (λ c. Messages (drop 1 (messages c))) was in
+            put_here d.app (AtPriority d.level) ws ready (first_off ws)
+            ∙ ap (λ c. Messages (drop 1 (messages c))) was in
             on us later
             (spelled_put ready (first_off ws) tt (spelled_agreed (alone d ready) oldest.spelled agree))
             (subst (λ xs. (storage d.app).Spells (Guarded ready) (slice_index m.cells) xs (us (Guarded ready)))

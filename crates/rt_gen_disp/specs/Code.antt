@@ -55,7 +55,8 @@ module _ (q : ReadyQueue) where
       ∷ leave_line (section.Ready q.level) q.guard q.level MASK
       ∷ enter_line (section.Free c.task) c.guard q.level MASK ∷ plain (instr.Load INDEX c.free)
       ∷ plain (instr.StoreAt (c.free + 1) INDEX PLACE) ∷ plain (instr.Calc op.Add INDEX INDEX ONE)
-      ∷ line_with_note (instr.Store c.free INDEX) (note.Free c.task) ∷ leave_line (section.Free c.task) c.guard q.level MASK
+      ∷ line_with_note (instr.Store c.free INDEX) (note.Free c.task)
+      ∷ leave_line (section.Free c.task) c.guard q.level MASK
       ∷ plain (instr.Call c.row 0) ∷ plain instr.Ret ∷ []
 
   -- from an address on: a message of the task is run, and one of another is left to the code at a further one

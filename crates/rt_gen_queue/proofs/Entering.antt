@@ -6,8 +6,10 @@ use Rattle.rt_gen_queue.proofs.Vocabulary.{Raised, Runner, Section, Some, Starti
 use Rattle.rt_gen_queue.proofs.Vocabulary.{all_behind, all_has, all_weaker, and_both, and_left, and_right, ap, arith}
 use Rattle.rt_gen_queue.proofs.Vocabulary.{ceiling, closing_instr, does, enter, enter_line, false, guard_of, home_of}
 use Rattle.rt_gen_queue.proofs.Vocabulary.{if◌then◌else◌, inl, inr, is_open, kind_at, kind_of, le-leb, leave}
-use Rattle.rt_gen_queue.proofs.Vocabulary.{leave_line, length, length-set, map, map-append, nat_le, line_with_note, opening_instr}
-use Rattle.rt_gen_queue.proofs.Vocabulary.{spot_after_step, values_with, reads, refl, saved_slot, saved_slots, slots_with_mask, slice_index}
+use Rattle.rt_gen_queue.proofs.Vocabulary.{leave_line, length, length-set, map, map-append, nat_le, line_with_note}
+use Rattle.rt_gen_queue.proofs.Vocabulary.{opening_instr}
+use Rattle.rt_gen_queue.proofs.Vocabulary.{spot_after_step, values_with, reads, refl, saved_slot, saved_slots}
+use Rattle.rt_gen_queue.proofs.Vocabulary.{slots_with_mask, slice_index}
 use Rattle.rt_gen_queue.proofs.Vocabulary.{slice_set, storage, subst, suc, sym, true, with_queue, ℕ, ◌++◌, ◌+◌, ◌<◌}
 use Rattle.rt_gen_queue.proofs.Vocabulary.{◌==◌, ◌^◌, ◌∙◌, ◌∷◌, ◌≡◌, ◌≤◌, ◌⊎◌}
 use Rattle.std.proofs.lemmas.List.{set-get_or}
@@ -43,7 +45,8 @@ module _ (x : Section) (g : Guard) (threshold mask : ℕ) where
       ≡ line_with_note (closing_instr (kind (s + mask))) (note.Leave x)) refl refl refl
 
   pub enter_fits : (size free : ℕ) → fits size free (enter_line x g threshold mask).0 ≡ true
-  enter_fits size free = of_kinds g threshold (λ kind. fits size free (opening_instr g.value (kind mask)) ≡ true) refl refl refl
+  enter_fits size free = of_kinds g threshold (λ kind. fits size free (opening_instr g.value (kind mask)) ≡ true) refl
+      refl refl
 
   pub leave_fits : (size free : ℕ) → fits size free (leave_line x g threshold mask).0 ≡ true
   leave_fits size free = of_kinds g threshold (λ kind. fits size free (closing_instr (kind mask)) ≡ true) refl refl refl
@@ -67,7 +70,8 @@ within h o cost cells queues rest = record h {
 module _ {size mask : ℕ} where
   -- what a section saves is in the slot for a mask, and all else is as before
   saves_mask : (f : Frame size mask) (g : Guard) (threshold saved : ℕ) (ws : List ℕ) → mask < length ws
-      → (m : ℕ) × (slots_with_mask (kind_of g threshold (f.slot + mask)) saved (window f ws) ≡ window f (slice_set ws mask m))
+      → (m : ℕ) × (slots_with_mask (kind_of g threshold (f.slot + mask)) saved (window f ws)
+      ≡ window f (slice_set ws mask m))
   saves_mask f g threshold saved ws there =
       of_kinds g threshold
       (λ kind. (m : ℕ) × (slots_with_mask (kind (f.slot + mask)) saved (window f ws) ≡ window f (slice_set ws mask m)))
@@ -93,7 +97,8 @@ module _ {size mask : ℕ} where
   saves_below f held masks =
       all_weaker (λ e. e < f.slot) (λ e. (e < f.slot) ⊎ (e ≡ f.slot + mask)) (λ e less. inl less) _ masks
 
-  pub saves_inside : {z : Setting} {f : Frame size mask} {h : Here} {x : Section} {threshold : ℕ} → MayEnter z f h x threshold
+  pub saves_inside : {z : Setting} {f : Frame size mask} {h : Here} {x : Section} {threshold : ℕ}
+      → MayEnter z f h x threshold
       → Saves f (opened z f x threshold ∷ h.held)
   saves_inside {z = z} {f = f} {h = h} {x = x} {threshold = threshold} may =
       all_append (λ e. (e < f.slot) ⊎ (e ≡ f.slot + mask)) (saved_slot (kind_at z.app x threshold (f.slot + mask)))
@@ -132,7 +137,8 @@ module _ {size mask : ℕ} where
           let kept = saves_mask f (guard_of z.app x) threshold saved ws there in
           let around =
           lasts_less (suc h.done + length lines) (h.done + suc (length lines)) h.deadlines (omega arith) run.time.1 in
-          subst (λ slots. S z (record (within h (opened z f x threshold) cost cells queues (rest vs)) { slots = slots }))
+          subst (λ slots. S z (record (within h (opened z f x threshold) cost cells queues (rest vs))
+          { slots = slots }))
           (sym kept.1)
           ((on kept.0 vs cells queues
           (record {
@@ -201,16 +207,19 @@ module _ (x : Section) (g : Guard) (threshold mask : ℕ) where
       → all_fit size free (section_lines lines) ≡ true
   section_fits size free lines fit =
       rw (enter_fits x g threshold mask size free)
-      (fits_append size free lines (leave_line x g threshold mask ∷ []) fit (rw (leave_fits x g threshold mask size free) refl))
+      (fits_append size free lines (leave_line x g threshold mask ∷ []) fit
+      (rw (leave_fits x g threshold mask size free) refl))
 
 -- the code of a whole section
 pub section_stands : {size mask : ℕ} {z : Setting} {f : Frame size mask} {h : Here} {x : Section}
     {threshold : ℕ} (ws : List ℕ) (lines : List Line) → MayEnter z f h x threshold → length ws ≡ size
-    → all_fit size mask lines ≡ true → InTime (h.done + length (section_lines x (guard_of z.app x) threshold mask lines)) h
+    → all_fit size mask lines ≡ true → InTime
+    (h.done + length (section_lines x (guard_of z.app x) threshold mask lines)) h
     → HasCode z.code h.at (enter z.app x threshold (f.slot + mask)
     ∷ (map (placed f.slot) lines ++ leave z.app x threshold (f.slot + mask) ∷ []))
     → Straight z f (section_lines x (guard_of z.app x) threshold mask lines) h ws → S z (Now f h ws)
-section_stands {size = size} {mask = mask} {z = z} {f = f} {h = h} {x = x} {threshold = threshold} ws lines may long fit time
+section_stands {size = size} {mask = mask} {z = z} {f = f} {h = h} {x = x} {threshold = threshold} ws lines may long fit
+    time
     has run =
     let fits = section_fits x (guard_of z.app x) threshold mask size mask lines fit in
     run.runs
@@ -233,7 +242,9 @@ module _ {size mask : ℕ} {z : Setting} {f : Frame size mask} {h : Here} {x : S
 
   pub agree_left : {us after : Values} (content : Content)
       → Agree (storage z.app) z.who h.held after (values_with us (Guarded x) content)
-      → Agree (storage z.app) z.who (opened z f x threshold ∷ h.held) us ws → Agree (storage z.app) z.who h.held after vs
+      → Agree (storage z.app) z.who (opened z f x threshold ∷ h.held) us ws
+      → Agree (storage z.app) z.who h.held after vs
   agree_left content last inner holder may_read =
-      agree_out z h.held (opened z f x threshold) x content (unread z.app z.who h.held x queue may.closed) last inner holder
+      agree_out z h.held (opened z f x threshold) x content (unread z.app z.who h.held x queue may.closed) last inner
+      holder
       may_read ∙ taken.agree holder may_read

@@ -1,10 +1,12 @@
 -- The code by which a spawn takes a place of its task, or finds none.
 use Rattle.rt_gen_queue.proofs.Vocabulary.{Agree, App, At, Bool, Content, Doing, Entry, FREE_COST, Guarded, HasCode}
-use Rattle.rt_gen_queue.proofs.Vocabulary.{Held, Holder, Leaves, LeavesMine, Line, List, Marked, Number, FindsFull, Rest}
+use Rattle.rt_gen_queue.proofs.Vocabulary.{Held, Holder, Leaves, LeavesMine, Line, List, Marked, Number, FindsFull}
+use Rattle.rt_gen_queue.proofs.Vocabulary.{Rest}
 use Rattle.rt_gen_queue.proofs.Vocabulary.{Section, Some, SpellsFree, Places, TakesOver, Task, Values, [], act_all, ap}
 use Rattle.rt_gen_queue.proofs.Vocabulary.{arith, capacity_of, count, count_more, drop, end_code, false, free_at}
 use Rattle.rt_gen_queue.proofs.Vocabulary.{free_is_home, home_of, if◌then◌else◌, is_open, le-ltb, length, lt-ltb}
-use Rattle.rt_gen_queue.proofs.Vocabulary.{memory, mine, nat_lt, line_with_note, number, one_itself, owns_open, spot_after_step, queued}
+use Rattle.rt_gen_queue.proofs.Vocabulary.{memory, mine, nat_lt, line_with_note, number, one_itself, owns_open}
+use Rattle.rt_gen_queue.proofs.Vocabulary.{spot_after_step, queued}
 use Rattle.rt_gen_queue.proofs.Vocabulary.{queued_more, queues_same, reads_more, refl, slice_index, storage, subst, suc}
 use Rattle.rt_gen_queue.proofs.Vocabulary.{sym, take, take_code, take_place, target_of, true, with_queue, ℕ, ◌+◌, ◌-◌}
 use Rattle.rt_gen_queue.proofs.Vocabulary.{◌<◌, ◌∙◌, ◌∷◌, ◌≡◌, ◌≢◌, ◌≤◌}
@@ -166,7 +168,8 @@ module _ {z : Setting} {f : Frame 9 8} {h : Here} {task threshold full : ℕ} {t
     refused_stands {rest = rest} a s has on =
         let free = (target_of z.app task).guard in
         let g : Here =
-        at_full h (opened z f places threshold) full cells queues (act_all (FindsFull task ∷ Leaves places ∷ []) rest ws) in
+        at_full h (opened z f places threshold) full cells queues
+        (act_all (FindsFull task ∷ Leaves places ∷ []) rest ws) in
         let zeroth : f.slot ≡ f.slot + 0 = omega arith in
         let full_there = has.0 ∙ ap (λ d. Some (line_with_note (instr.Set d 0) (note.Full task))) zeroth in
         let leave_there = has.1.0 ∙ ap Some (sym (leave_placed places free threshold 8 f.slot)) in

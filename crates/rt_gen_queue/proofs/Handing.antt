@@ -1,7 +1,8 @@
 -- The lines of a spawn that carry a note of a place: one that is taken, none left, one that is handed on.
 use Rattle.rt_gen_queue.proofs.Vocabulary.{Agree, Doing, Entry, Guarded, Line, List, Message, Readies, FindsFull, Some}
 use Rattle.rt_gen_queue.proofs.Vocabulary.{Places, Values, [], and_left, and_right, does, effect, is_open, length-set}
-use Rattle.rt_gen_queue.proofs.Vocabulary.{line_with_note, refl, slice_index, slice_set, storage, true, with_queue, ℕ, ◌++◌, ◌+◌}
+use Rattle.rt_gen_queue.proofs.Vocabulary.{line_with_note, refl, slice_index, slice_set, storage, true, with_queue, ℕ}
+use Rattle.rt_gen_queue.proofs.Vocabulary.{◌++◌, ◌+◌}
 use Rattle.rt_gen_queue.proofs.Vocabulary.{◌∷◌, ◌≡◌}
 use Rattle.rt_ids.specs.declared.ids.Section.TheVariants as section
 use Rattle.rt_code.specs.declared.instr.Instr.TheVariants as instr

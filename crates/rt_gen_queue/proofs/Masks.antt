@@ -2,7 +2,8 @@
 use Rattle.rt_gen_queue.proofs.Vocabulary.{AllByRecursion, Bool, IsMask, IsNameable, Kind, List, Marked, Masked, Names}
 use Rattle.rt_gen_queue.proofs.Vocabulary.{Raised, Runner, Section, Storage, arith, closing_instr, enter_line, false}
 use Rattle.rt_gen_queue.proofs.Vocabulary.{get_or-set_other, if◌then◌else◌, kind_of, leave_line, length, length-set}
-use Rattle.rt_gen_queue.proofs.Vocabulary.{nat_le, nat_tests, opening_instr, refl, saved_slot, slots_with_mask, slice_index, slice_set}
+use Rattle.rt_gen_queue.proofs.Vocabulary.{nat_le, nat_tests, opening_instr, refl, saved_slot, slots_with_mask}
+use Rattle.rt_gen_queue.proofs.Vocabulary.{slice_index, slice_set}
 use Rattle.rt_gen_queue.proofs.Vocabulary.{sym, true, ℕ, ◌<◌, ◌==◌, ◌∙◌, ◌≡◌, ◌≢◌}
 use Rattle.rt_code.specs.Listable.{HasInstr, HasSection}
 use Rattle.rt_gen_queue.specs.declared.guard.Guard.{Guard}
@@ -58,7 +59,11 @@ saved_beside g threshold mask saved slots =
 pub enter_named : (names : Names) (x : Section) (g : Guard) (threshold slot : ℕ) → HasSection names x
     → IsNameable names (enter_line x g threshold slot)
 enter_named names x g threshold slot has =
-    record { instr = of_kinds g threshold (λ kind. HasInstr names (opening_instr g.value (kind slot))) tt tt tt; note = has }
+    record {
+      instr = of_kinds g threshold (λ kind. HasInstr names (opening_instr g.value (kind slot))) tt tt tt;
+      note =
+          has;
+    }
 
 pub leave_named : (names : Names) (x : Section) (g : Guard) (threshold slot : ℕ) → HasSection names x
     → IsNameable names (leave_line x g threshold slot)

@@ -1,10 +1,12 @@
 -- What a job owns of the queues: their cells where their section is opens, and nothing of them where it is not.
-use Rattle.rt_gen_queue.proofs.Vocabulary.{Agree, App, At, AtPriority, Bool, Content, Entry, Guarded, Held, Holder, Home}
+use Rattle.rt_gen_queue.proofs.Vocabulary.{Agree, App, At, AtPriority, Bool, Content, Entry, Guarded, Held, Holder}
+use Rattle.rt_gen_queue.proofs.Vocabulary.{Home}
 use Rattle.rt_gen_queue.proofs.Vocabulary.{In, LeavesMine, List, MayLoad, MayStore, NobodyKeeps, Own, Runner, Section}
 use Rattle.rt_gen_queue.proofs.Vocabulary.{SpellsFree, SpellsReady, SpellsTimer, Spot, Starting, Values, ap, count}
 use Rattle.rt_gen_queue.proofs.Vocabulary.{false, home_of, if◌then◌else◌, inl, inr, is_open, is_same_holder}
 use Rattle.rt_gen_queue.proofs.Vocabulary.{is_same_section, length, memory, one_section, or_left, owns_open, owns_reads}
-use Rattle.rt_gen_queue.proofs.Vocabulary.{values_with, reads, reads_more, refl, same_section, slice_get_within, slice_index}
+use Rattle.rt_gen_queue.proofs.Vocabulary.{values_with, reads, reads_more, refl, same_section, slice_get_within}
+use Rattle.rt_gen_queue.proofs.Vocabulary.{slice_index}
 use Rattle.rt_gen_queue.proofs.Vocabulary.{storage, subst, sym, true, with_queue, ℕ, ◌<◌, ◌||◌, ◌∙◌, ◌∷◌, ◌≡◌, ◌≢◌}
 use Rattle.std.proofs.lemmas.Bool.{cases_Bool}
 use Rattle.rt_lemmas.proofs.{Bools.or_neither, Places.at_read}
@@ -144,7 +146,8 @@ module _ (app : App) (who : Runner) where
         | inr differs ↦ differs
       ]
 
-  pub put_here : (vs : Values) (x : Section) (content : Content) → values_with vs (Guarded x) content (Guarded x) ≡ content
+  pub put_here : (vs : Values) (x : Section) (content : Content) → values_with vs (Guarded x) content (Guarded x)
+      ≡ content
   put_here vs x content = ap (λ (b : Bool). if b then content else vs (Guarded x)) (same_section x)
 
   pub queue_here : (queues : Holder → List Entry) (x : Section) (entries : List Entry)
@@ -157,7 +160,8 @@ pub spelled_put : (app : App) (cells : ℕ → ℕ) (entries : List Entry) (cont
     → (storage app).Spells (Guarded x) cells (with_queue queues x entries (Guarded x))
     (values_with us (Guarded x) content (Guarded x))
 spelled_put app cells entries content queues us x spells =
-    subst (λ (es : List Entry). (storage app).Spells (Guarded x) cells es (values_with us (Guarded x) content (Guarded x)))
+    subst (λ (es : List Entry). (storage app).Spells (Guarded x) cells es
+    (values_with us (Guarded x) content (Guarded x)))
     (sym (queue_here app Starting queues x entries))
     (subst (λ (c : Content). (storage app).Spells (Guarded x) cells entries c)
     (sym (put_here app Starting us x content)) spells)

@@ -50,7 +50,8 @@ free_top_is app n (u ∷ ts) (suc i) t there software =
     free_top_is app (n + 1) ts i t there software ∙ ap (λ k. ceiling app (section.Free k)) e
 
 -- the ceiling 0 masks nothing
-pub no_guard : (bits top : ℕ) → 3 ≤ bits → bits ≤ 7 → top ≡ 0 → record { ceiling = top; value = 256 } ≡ guard_of_ceiling bits top
+pub no_guard : (bits top : ℕ) → 3 ≤ bits → bits ≤ 7 → top ≡ 0 → record { ceiling = top; value = 256 }
+    ≡ guard_of_ceiling bits top
 no_guard bits top few many e =
     ap (λ value. record { ceiling = top; value = value })
     (sym (tells_priorities.none bits few many) ∙ ap (hardware bits) (sym e))

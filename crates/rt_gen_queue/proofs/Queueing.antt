@@ -3,7 +3,8 @@ use Rattle.rt_gen_queue.proofs.Vocabulary.{Agree, At, Contains, Content, Entry, 
 use Rattle.rt_gen_queue.proofs.Vocabulary.{LeavesMine, List, Marked, MayLoad, Message, Messages, Posts, Readies, Rest}
 use Rattle.rt_gen_queue.proofs.Vocabulary.{Section, SpellsReady, TakesOver, Values, [], act_all, ap, arith, count}
 use Rattle.rt_gen_queue.proofs.Vocabulary.{count_more, dispatcher_number, drop, home_of, is_open, length, levels}
-use Rattle.rt_gen_queue.proofs.Vocabulary.{memory, message_at, message_word, messages, mine, one_itself, spot_after_step}
+use Rattle.rt_gen_queue.proofs.Vocabulary.{memory, message_at, message_word, messages, mine, one_itself}
+use Rattle.rt_gen_queue.proofs.Vocabulary.{spot_after_step}
 use Rattle.rt_gen_queue.proofs.Vocabulary.{queued_more, reads_more, ready_actions, ready_at, ready_code, ready_is_home}
 use Rattle.rt_gen_queue.proofs.Vocabulary.{ready_room, refl, slice_index, storage, subst, sym, take, true, with_queue}
 use Rattle.rt_gen_queue.proofs.Vocabulary.{ℕ, ◌%◌, ◌++◌, ◌+◌, ◌<◌, ◌∙◌, ◌∷◌, ◌≡◌, ◌≤◌}
@@ -83,7 +84,8 @@ module _ {z : Setting} {f : Frame 9 8} {h : Here} {task p threshold : ℕ} {e : 
         omega (arith, count_more e e others, one_itself e, ap (count e) may.hands.hands) in
         message_alike z.app p (slice_index cells) (slice_index h.cells) e may.hands.place
         (λ c is. taken.same.touched c
-        (subst (λ (home : Home). MayLoad (storage z.app) z.who (spot_after_step (spot z h)) home) (sym (home_as z.app c ∙ is))
+        (subst (λ (home : Home). MayLoad (storage z.app) z.who (spot_after_step (spot z h)) home)
+        (sym (home_as z.app c ∙ is))
         some))
         ∙ may.hands.message
 
@@ -167,7 +169,8 @@ module _ {z : Setting} {f : Frame 9 8} {h : Here} {task p threshold : ℕ} {e : 
       → S z (Now f (record (ahead 12 h) { places = others; cells = left; queues = more; rest = rest us }) (words a r)))
       → S z (Now f h (words a (record s { word = message_word e })))
   ready_stands a s is on =
-      section_stands (words a (record s { word = message_word e })) (take 10 (drop 1 (ready_code z.app task p threshold 0)))
+      section_stands (words a (record s { word = message_word e }))
+      (take 10 (drop 1 (ready_code z.app task p threshold 0)))
       may.enter refl refl may.time may.code
       (enters may.enter (omega arith) is
       (λ mask vs cells queues taken. readied_stands taken a (record s { mask = mask }) on))

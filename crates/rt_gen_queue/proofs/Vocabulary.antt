@@ -33,8 +33,10 @@ pub use Rattle.rt_ids.specs.Action.{Posts, Readies, FindsFull, Returns, SetsAlar
 pub use Rattle.rt_ids.specs.{Choice.IsIn, Doing.Doing, Doing.does, Entry.Entry, Entry.count, Names.Names}
 pub use Rattle.rt_ids.specs.{Operation.number_of, Operation.operate, declared.ids.BodyId.BodyId}
 pub use Rattle.rt_ids.specs.{declared.ids.Section.Section, declared.limits.TheConstants.BODY_COST}
-pub use Rattle.rt_ids.specs.Content.{Armed, Content, Delays, MayArm, Message, Messages, Number, Timed, Values, message_of_handle}
-pub use Rattle.rt_ids.specs.Content.{delays, least, least_instant, messages, number, values_with, timer_content, with_armed}
+pub use Rattle.rt_ids.specs.Content.{Armed, Content, Delays, MayArm, Message, Messages, Number, Timed, Values}
+pub use Rattle.rt_ids.specs.Content.{message_of_handle}
+pub use Rattle.rt_ids.specs.Content.{delays, least, least_instant, messages, number, values_with, timer_content}
+pub use Rattle.rt_ids.specs.Content.{with_armed}
 pub use Rattle.rt_ids.specs.Content.{with_moved, without_handle, without_least}
 pub use Rattle.rt_ids.specs.Holder.{Guarded, Holder, Own, is_same_holder, is_same_section}
 pub use Rattle.rt_ids.specs.Lists.{greatest, is_some_and, or_zero, then_from}
@@ -55,7 +57,8 @@ pub use Rattle.rt_app.specs.{Acceptance.IsSound, Accepted.IsAccepted, Ceiling.Ce
 pub use Rattle.rt_app.specs.{Handled.AreHandled, Handlers.irq_number, Limits.KeepsTaskLimits, Limits.statements_in}
 pub use Rattle.rt_app.specs.{Plan.IsPlan, Sound.IsChangeable, Sound.IsSoundLock}
 -- its memory, its queues, and what is done in them
-pub use Rattle.rt_app.specs.Layout.{Layout, armings_at, free_at, handle_count_at, handles_at, heap_at, home_of, inputs_at}
+pub use Rattle.rt_app.specs.Layout.{Layout, armings_at, free_at, handle_count_at, handles_at, heap_at, home_of}
+pub use Rattle.rt_app.specs.Layout.{inputs_at}
 pub use Rattle.rt_app.specs.Layout.{instants_at, layout, memory, numbers_at, ready_at, ready_room, timer_at}
 pub use Rattle.rt_app.specs.Holding.{SpellsFree, SpellsReady, SpellsTimer, arguments_of, arming_of_entry, armed_place}
 pub use Rattle.rt_app.specs.Holding.{arming_at, handle_at, instant_at, is_constant, is_kept, message_at, message_word}
@@ -77,16 +80,19 @@ pub use Rattle.rt_app.proofs.LaidQueues.{capacity_is, free_is_home, input_is_hom
 -- code, and that it stands
 pub use Rattle.rt_code.specs.{Acting.with_queue, Listable.HasIrq, Processor.Leads, Stack.body_frame, Stack.caller_frame}
 pub use Rattle.rt_code.specs.{declared.image.BodyRow.BodyRow, declared.instr.Instr.Instr, declared.instr.Note.Note}
-pub use Rattle.rt_code.specs.Masking.{IsKindFor, IsMask, IsWithin, NobodyKeeps, TakesOver, closing_instr, opening_instr, slots_with_mask}
+pub use Rattle.rt_code.specs.Masking.{IsKindFor, IsMask, IsWithin, NobodyKeeps, TakesOver, closing_instr, opening_instr}
+pub use Rattle.rt_code.specs.Masking.{slots_with_mask}
 pub use Rattle.rt_code.specs.Owning.{Agree, Held, Kind, LeavesMine, Marked, Masked, MayAccess, MayLoad, MayStore}
 pub use Rattle.rt_code.specs.Owning.{Raised, Spot, is_open, mine, owns, reads, saved_slot, saved_slots}
-pub use Rattle.rt_code.specs.Standing.{Asks, Goes, KeepsSaved, LineFits, Stands, StandsFrom, spot_after_step, processor_of}
+pub use Rattle.rt_code.specs.Standing.{Asks, Goes, KeepsSaved, LineFits, Stands, StandsFrom, spot_after_step}
+pub use Rattle.rt_code.specs.Standing.{processor_of}
 pub use Rattle.rt_code.proofs.Mine.{may_load, one_section, owns_open, owns_reads, queued, queued_more, queues_same}
 pub use Rattle.rt_code.proofs.Mine.{reads_more, same_section}
 pub use Rattle.rt_code.proofs.Standing.{stands_with_more}
 -- lines, guards, queues and spawns, as code has them
 pub use Rattle.rt_gen_queue.specs.Called.{AreSpelled, calm, row_for, rows_for}
-pub use Rattle.rt_gen_queue.specs.Guards.{enter, enter_line, guard_of, guard_of_ceiling, kind_at, kind_of, leave, leave_line}
+pub use Rattle.rt_gen_queue.specs.Guards.{enter, enter_line, guard_of, guard_of_ceiling, kind_at, kind_of, leave}
+pub use Rattle.rt_gen_queue.specs.Guards.{leave_line}
 pub use Rattle.rt_gen_queue.specs.Line.{HasCode, IsNameable, Line, line_with_note, plain}
 pub use Rattle.rt_gen_queue.specs.Making.{Appends, Made, next_address}
 pub use Rattle.rt_gen_queue.specs.{Queue.queue_at, SpawnLines.store_code}

@@ -20,7 +20,8 @@ use Rattle.rt_gen_queue.proofs.Words.{Arguments, Scratch, listed, words}
 use Rattle.rt_gen_queue.specs.Spawning.{SpawnsStand}
 
 pub spawn_stands : SpawnsStand
-spawn_stands app task t code bodies thread who threshold slot n k s value args place rest vs accepted at software has may
+spawn_stands app task t code bodies thread who threshold slot n k s value args place rest vs accepted at software has
+    may
     fuel words_are is on =
     begins {z = z} s k
     (subst (λ (slots : List ℕ). S z (record h { slots = slots })) (sym (framed 9 8 s.slots slot long))

@@ -1,6 +1,6 @@
--- How code goes into a section and comes out of it, by the section's ceiling and by the preemption threshold of what runs
--- already (Baker, Stack-Based Scheduling of Realtime Processes, 1991; the RTIC 1 book, critical sections). What masks
--- is told where the kinds of sections are; here it is chosen, and noted.
+-- How code goes into a section and comes out of it, by the section's ceiling and by the preemption threshold of what
+-- runs already (Baker, Stack-Based Scheduling of Realtime Processes, 1991; the RTIC 1 book, critical sections). What
+-- masks is told where the kinds of sections are; here it is chosen, and noted.
 use Rattle.std.specs.Prelude.{ℕ, ◌==◌, nat_le, if◌then◌else◌}
 use Rattle.rt_ids.specs.Priority.{hardware}
 use Rattle.rt_ids.specs.declared.ids.Section.{Section}

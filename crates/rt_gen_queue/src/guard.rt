@@ -31,8 +31,8 @@ impl Guard {
         Guard { ceiling, value }
     }
 
-    /// The instruction that opens a section, at a preemption threshold that what runs holds off already, with a slot for what the
-    /// mask was.
+    /// The instruction that opens a section, at a preemption threshold that what runs holds off already, with a slot
+    /// for what the mask was.
     pub fn opening_instr(self, threshold: u8, slot: u32) -> Instr
         ensures { result ≡ masking.opening_instr self.value (kind_of self threshold slot) }
     {

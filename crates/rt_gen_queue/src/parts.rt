@@ -9,8 +9,9 @@ use rt_code::{Instr, Line, Note};
 use rt_ids::limits::CAPACITY;
 use rt_ids::{NoMemory, Op, Prio, Section};
 
-/// The lines that take a place of the task, in a body at a preemption threshold, or lead to the address `full` where none is left. The
-/// place comes into the seventh of the slots from one on; the fifth, the eighth and the ninth are used beside.
+/// The lines that take a place of the task, in a body at a preemption threshold, or lead to the address `full` where
+/// none is left. The place comes into the seventh of the slots from one on; the fifth, the eighth and the ninth are
+/// used beside.
 pub fn take(target: &Target, threshold: u8, slot: u32, full: u32) -> [Line; 8]
     requires slots { slot + SPAWN_WORDS < 2 ^ 32 }
     ensures { result ≡ spec.take_lines target.now threshold slot full }

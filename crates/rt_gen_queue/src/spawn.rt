@@ -54,11 +54,11 @@ fn append_spawn(
     Ok(())
 }
 
-/// Appends the code of a spawn of a software task, at a static preemption threshold, whose arguments stand in the slots from one on,
-/// and whose first line will stand at the address `entry`. It takes a place of the task, stores the arguments, puts the
-/// message into the ready queue of the task's level and pends the level's dispatcher; the answer comes into the first
-/// slot: 1, or 0 where no place is left. It writes the 16 slots from there on alone. Its lines name only what the
-/// application declares, and there are at most 128 of them. An error leaves the code as it was.
+/// Appends the code of a spawn of a software task, at a static preemption threshold, whose arguments stand in the slots
+/// from one on, and whose first line will stand at the address `entry`. It takes a place of the task, stores the
+/// arguments, puts the message into the ready queue of the task's level and pends the level's dispatcher; the answer
+/// comes into the first slot: 1, or 0 where no place is left. It writes the 16 slots from there on alone. Its lines
+/// name only what the application declares, and there are at most 128 of them. An error leaves the code as it was.
 pub fn gen_spawn(
     alloc: Global,
     plan: &Plan<'_>,

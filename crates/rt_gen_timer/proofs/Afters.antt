@@ -4,12 +4,15 @@ use Rattle.rt_gen_queue.proofs.Vocabulary.{App, Arms, Content, Entry, Guarded, H
 use Rattle.rt_gen_queue.proofs.Vocabulary.{IsTimedPlace, Leaves, Line, List, Marked, MayLoad, Message, None, FindsFull}
 use Rattle.rt_gen_queue.proofs.Vocabulary.{Rest, SPAWN_AFTER_COST, Section, Some, TakesOver, Timed, Values, [], act}
 use Rattle.rt_gen_queue.proofs.Vocabulary.{act_all, all_weaker, and_both, ap, arguments_of, arith, arm_actions}
-use Rattle.rt_gen_queue.proofs.Vocabulary.{capacities_before, armed_messages, armed_place, capacity_of, count_more, drop}
+use Rattle.rt_gen_queue.proofs.Vocabulary.{capacities_before, armed_messages, armed_place, capacity_of, count_more}
+use Rattle.rt_gen_queue.proofs.Vocabulary.{drop}
 use Rattle.rt_gen_queue.proofs.Vocabulary.{enter, few_before, few_messages, fill_code, guard_of, is_armed, is_software}
 use Rattle.rt_gen_queue.proofs.Vocabulary.{is_some_and, kind_at, leave, leave_timer, length, length-append, length_push}
-use Rattle.rt_gen_queue.proofs.Vocabulary.{message_at, message_word, mine, line_with_note, one_itself, spot_after_step, plain}
+use Rattle.rt_gen_queue.proofs.Vocabulary.{message_at, message_word, mine, line_with_note, one_itself, spot_after_step}
+use Rattle.rt_gen_queue.proofs.Vocabulary.{plain}
 use Rattle.rt_gen_queue.proofs.Vocabulary.{queued_more, reads_more, refl, slice_get, slice_index, storage, subst, suc}
-use Rattle.rt_gen_queue.proofs.Vocabulary.{sym, take, take-append-le, take_code, take_place, timer_content, true, with_armed, ℕ}
+use Rattle.rt_gen_queue.proofs.Vocabulary.{sym, take, take-append-le, take_code, take_place, timer_content, true}
+use Rattle.rt_gen_queue.proofs.Vocabulary.{with_armed, ℕ}
 use Rattle.rt_gen_queue.proofs.Vocabulary.{◌&&◌, ◌*◌, ◌++◌, ◌+◌, ◌<◌, ◌^◌, ◌∙◌, ◌∷◌, ◌≡◌, ◌≤◌}
 use Rattle.rt_ids.specs.declared.ids.Section.TheVariants as section
 use Rattle.rt_app.specs.declared.costs.TheConstants.{MESSAGE_COST}
@@ -108,7 +111,8 @@ module _ {c : Call} {cost delay : ℕ} {args : List ℕ} {h : Here} (k : SendsLa
 
   has_fill : HasCode code (h.at + 8) (filling ++ (arming slot ++ ending))
   has_fill =
-      code_behind code h.at (h.at + 8) (take_code app task threshold (slot + 1) full) (filling ++ (arming slot ++ ending))
+      code_behind code h.at (h.at + 8) (take_code app task threshold (slot + 1) full)
+      (filling ++ (arming slot ++ ending))
       refl has
 
   has_arm : HasCode code (h.at + (12 + args_of)) (arming slot ++ ending)
@@ -305,7 +309,8 @@ module _ {c : Call} {cost delay : ℕ} {args : List ℕ} {h : Here} (k : SendsLa
             (place_of app task t may.facts e taken.of_task taken.place)
             (λ c is.
             took.same.touched c
-            (subst (λ (home : Home). MayLoad (storage app) who (spot_after_step (spot z g)) home) (sym (home_as app c ∙ is))
+            (subst (λ (home : Home). MayLoad (storage app) who (spot_after_step (spot z g)) home)
+            (sym (home_as app c ∙ is))
             some))
             ∙ message_is may.facts taken.of_task (omega arith) filled
             ∙ ap (λ ws. record { task = task; args = ws }) args_stored
@@ -395,7 +400,8 @@ module _ {c : Call} {cost delay : ℕ} {args : List ℕ} {h : Here} (k : SendsLa
               (λ after us2 one agree2.
               let beside : IsBeside q mid after = beside_more risen.beside (beside_one_place q place one) in
               let agrees : AgreeInside i us2 = λ holder read. agree2 holder read ∙ begins.agree holder read in
-              let armed : timer_content (us2 (Guarded section.Timer)) ≡ push.spells.timed = ap timer_content (queue_now now agrees) in
+              let armed : timer_content (us2 (Guarded section.Timer)) ≡ push.spells.timed =
+              ap timer_content (queue_now now agrees) in
               at_address (g.at + 39) (omega arith)
               (settles now (with_armed instant message) (in_loop v s b.hole)
               (record {
@@ -444,7 +450,8 @@ module _ {c : Call} {cost delay : ℕ} {args : List ℕ} {h : Here} (k : SendsLa
             → Straight z (f may) (row_lines q 0 (armed_task app task)) (here done (g.at + 7) inside v.instant vs)
             (words v)
         row_begins {done = done} {vs = vs} v word early agree =
-            let first : capacities_before app e.task ≡ capacities_before app task = ap (capacities_before app) taken.of_task in
+            let first : capacities_before app e.task ≡ capacities_before app task =
+            ap (capacities_before app) taken.of_task in
             let before = few_before app may.facts.accepted task in
             row_stands v (armed_task app task) (columns_now now refl) (counts push) (timed_row app e timed_place)
             (omega (arith, first, before, word, taken.of_task)) (omega (arith, word, word_small))
@@ -519,7 +526,8 @@ module _ {c : Call} {cost delay : ℕ} {args : List ℕ} {h : Here} (k : SendsLa
 
 -- the code of a `spawn_after` stands for its actions
 pub afters_stand : AftersStand
-afters_stand app task t code bodies thread who threshold slot n cost delay s args rest vs accepted mono there software armed
+afters_stand app task t code bodies thread who threshold slot n cost delay s args rest vs accepted mono there software
+    armed
     costs has may places delay_is args_are is =
     let z : Setting = record { app = app; code = code; bodies = bodies; thread = thread; who = who; caller = None } in
     let c : Call = record { z = z; task = task; t = t; threshold = threshold; slot = slot; rest = rest; values = vs } in

@@ -1,6 +1,7 @@
 -- Where only cells of the timer queue are others, the messages of armed places are as they were.
 use Rattle.rt_gen_queue.proofs.Vocabulary.{App, Armed, At, Entry, Guarded, IsSome, IsTimedPlace, List, and_both, ap}
-use Rattle.rt_gen_queue.proofs.Vocabulary.{arith, arming_of_entry, armed_messages, armed_place, arming_at, eq-eqb, handle_at}
+use Rattle.rt_gen_queue.proofs.Vocabulary.{arith, arming_of_entry, armed_messages, armed_place, arming_at, eq-eqb}
+use Rattle.rt_gen_queue.proofs.Vocabulary.{handle_at}
 use Rattle.rt_gen_queue.proofs.Vocabulary.{home_of, instant_at, is_of_level, is_software, is_some_and, message_at, refl}
 use Rattle.rt_gen_queue.proofs.Vocabulary.{slice_index, sym, the_task, timer_at, true, ℕ, ◌*◌, ◌+◌, ◌-◌, ◌<◌, ◌==◌, ◌∙◌}
 use Rattle.rt_gen_queue.proofs.Vocabulary.{◌≡◌, ◌≤◌, ◌⊎◌}

@@ -2,7 +2,8 @@
 -- it stays arranged where a message is armed, leaves, or is put to another instant.
 use Rattle.rt_gen_queue.proofs.Vocabulary.{AllByRecursion, Armed, Entry, IsArranged, IsHeap, List, None, Option, Some}
 use Rattle.rt_gen_queue.proofs.Vocabulary.{[], above, all_append, all_behind, all_front, all_weaker, ap, arith}
-use Rattle.rt_gen_queue.proofs.Vocabulary.{message_of_handle, at, count, get_or-take, key_of, keys, least, least_instant, length}
+use Rattle.rt_gen_queue.proofs.Vocabulary.{message_of_handle, at, count, get_or-take, key_of, keys, least}
+use Rattle.rt_gen_queue.proofs.Vocabulary.{least_instant, length}
 use Rattle.rt_gen_queue.proofs.Vocabulary.{length-append, length-take-le, length_push, map, map-append, one, one_itself}
 use Rattle.rt_gen_queue.proofs.Vocabulary.{refl, slice_set, subst, sum_by-append, sym, take, take_all, without_handle}
 use Rattle.rt_gen_queue.proofs.Vocabulary.{without_least, ℕ, ◌++◌, ◌+◌, ◌<◌, ◌^◌, ◌∙◌, ◌∷◌, ◌≡◌, ◌≢◌, ◌≤◌, ◌⊎◌}

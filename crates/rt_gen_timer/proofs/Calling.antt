@@ -4,8 +4,10 @@ use Rattle.rt_gen_queue.proofs.Vocabulary.{Agree, AllByRecursion, Content, Delay
 use Rattle.rt_gen_queue.proofs.Vocabulary.{Holder, HoldsOff, IsSome, IsWithin, LeavesMine, Line, List, Rest}
 use Rattle.rt_gen_queue.proofs.Vocabulary.{SpellsTimer, Spot, TakesOver, Task, Timed, Values, ap, arith, count_more}
 use Rattle.rt_gen_queue.proofs.Vocabulary.{false, is_open, leave, leave_timer, length, map, may_load, memory, mine}
-use Rattle.rt_gen_queue.proofs.Vocabulary.{owns_open, spot_after_step, values_with, queued, queues_same, refl, saved_slots}
-use Rattle.rt_gen_queue.proofs.Vocabulary.{slice_index, storage, subst, sym, timer_content, with_queue, ℕ, ◌++◌, ◌+◌, ◌-◌, ◌<◌}
+use Rattle.rt_gen_queue.proofs.Vocabulary.{owns_open, spot_after_step, values_with, queued, queues_same, refl}
+use Rattle.rt_gen_queue.proofs.Vocabulary.{saved_slots}
+use Rattle.rt_gen_queue.proofs.Vocabulary.{slice_index, storage, subst, sym, timer_content, with_queue, ℕ, ◌++◌, ◌+◌}
+use Rattle.rt_gen_queue.proofs.Vocabulary.{◌-◌, ◌<◌}
 use Rattle.rt_gen_queue.proofs.Vocabulary.{◌^◌, ◌∙◌, ◌∷◌, ◌≡◌, ◌≤◌}
 use Rattle.rt_ids.specs.declared.ids.Section.TheVariants as section
 use Rattle.rt_app.specs.declared.costs.TheConstants.{TIMER_QUEUE_WORDS}
@@ -28,7 +30,8 @@ pub leaving_code : (z : Setting) (f : Slots) (threshold at : ℕ) (front behind 
     → HasCode z.code at (map (placed f.slot) (front ++ leave z.app section.Timer threshold 9 ∷ behind))
 leaving_code z f threshold at front behind has = leaving_placed z.app threshold z.code f at front behind has
 
--- a call that goes to the timer queue: for a task, at a preemption threshold, with the first of its slots, and what is left behind it
+-- a call that goes to the timer queue: for a task, at a preemption threshold, with the first of its slots, and what is
+-- left behind it
 pub record Call : Type 0 where
   pub z : Setting
   pub task : ℕ
@@ -135,7 +138,8 @@ at_work i done at places cells queues rest =
 pub record IsInside (i : Inside) : Type 0 where
   pub may : MayOpen i.z i.f i.threshold i.h
   pub long : length i.h.cells ≡ length (memory i.z.app)
-  pub taken : TakesOver (storage i.z.app) i.z.who section.Timer (spot_after_step (spot i.z i.h)) i.before i.values i.cells
+  pub taken : TakesOver (storage i.z.app) i.z.who section.Timer (spot_after_step (spot i.z i.h)) i.before i.values
+      i.cells
       i.queues
   pub spells : SpellsTimer i.z.app (slice_index i.cells) (entries i) (i.values (Guarded section.Timer))
 
@@ -180,12 +184,14 @@ module _ {i : Inside} (now : IsInside i) where
       → Straight i.z i.f (alarm_lines (queue_of i.z.app) 0 at ++ leave i.z.app section.Timer i.threshold 9 ∷ lines)
       (at_work i done at places after (with_queue i.queues section.Timer es)
       (leave_timer i.z.app rest
-      (values_with ws (Guarded section.Timer) (Delays (change (timer_content (ws (Guarded section.Timer)))))))) (words v)
+      (values_with ws (Guarded section.Timer) (Delays (change (timer_content (ws (Guarded section.Timer))))))))
+      (words v)
   settles {es = es} {after = after} {ws = ws} change v leaves agree counted on =
       let x = section.Timer in
       let enter = may_enter now.may in
       let content : Content = Delays (change (timer_content (ws (Guarded x)))) in
-      let is : content ≡ Delays (change now.spells.timed) = ap (λ k. Delays (change (timer_content k))) (queue_now agree) in
+      let is : content ≡ Delays (change now.spells.timed) = ap (λ k. Delays (change (timer_content k)))
+      (queue_now agree) in
       closes_timer i.threshold v
       (record {
         accepted = now.may.accepted;

@@ -3,7 +3,8 @@ use Rattle.rt_gen_queue.proofs.Vocabulary.{Agree, Cancels, Content, Enters, Entr
 use Rattle.rt_gen_queue.proofs.Vocabulary.{LeavesMine, Line, List, Marked, None, Number, Rest, Section, [], act}
 use Rattle.rt_gen_queue.proofs.Vocabulary.{act_all, ap, arith, capacities_before, armed_messages, armed_place, at}
 use Rattle.rt_gen_queue.proofs.Vocabulary.{capacity_of, count, count_more, drop, few_messages, free_at}
-use Rattle.rt_gen_queue.proofs.Vocabulary.{handle_section_cost, leave, leave_timer, length, memory, line_with_note, number}
+use Rattle.rt_gen_queue.proofs.Vocabulary.{handle_section_cost, leave, leave_timer, length, memory, line_with_note}
+use Rattle.rt_gen_queue.proofs.Vocabulary.{number}
 use Rattle.rt_gen_queue.proofs.Vocabulary.{operate, queued_more, refl, slice_index, storage, subst, suc, sym, take}
 use Rattle.rt_gen_queue.proofs.Vocabulary.{target_of, with_queue, ℕ, ◌*◌, ◌++◌, ◌+◌, ◌-◌, ◌<◌, ◌∙◌, ◌∷◌, ◌≡◌, ◌≤◌}
 use Rattle.rt_ids.specs.Content.{with_cancelled}
@@ -124,7 +125,8 @@ module _ {c : Call} {handle : ℕ} {h : Here} (k : AsksCancel c handle h) where
     -- It becomes free in a section of its own, and is then the one that is taken next.
     gives_back : S z (Now (f may) holding (words b.words))
     gives_back =
-        section_stands (words b.words) (take 4 (drop 1 (free_lines (queue_of app) 0 threshold (target_of app task)))) enter
+        section_stands (words b.words) (take 4 (drop 1 (free_lines (queue_of app) 0 threshold (target_of app task))))
+        enter
         refl refl (sooner (runs_call seek) (omega (arith, back.in_time))).time (code_part code h.at all 81 6 has)
         (enters enter (omega arith) refl
         (λ mask vs cells queues taken.
@@ -316,7 +318,8 @@ module _ {c : Call} {handle : ℕ} {h : Here} (k : AsksCancel c handle h) where
 
 -- the code of a `cancel` stands for its actions
 pub cancels_all_stand : CancelsStand
-cancels_all_stand app task t code bodies thread who threshold slot n handle s rest vs accepted mono there software has may
+cancels_all_stand app task t code bodies thread who threshold slot n handle s rest vs accepted mono there software has
+    may
     places shown is =
     let z : Setting = record { app = app; code = code; bodies = bodies; thread = thread; who = who; caller = None } in
     let c : Call = record { z = z; task = task; t = t; threshold = threshold; slot = slot; rest = rest; values = vs } in

@@ -4,7 +4,8 @@ use Rattle.rt_gen_queue.proofs.Vocabulary.{Agree, App, Content, Entry, Guarded, 
 use Rattle.rt_gen_queue.proofs.Vocabulary.{List, Rest, SetsAlarm, Some, Values, [], and_both, ap, arith, armed_place}
 use Rattle.rt_gen_queue.proofs.Vocabulary.{delays, does, guard_of, least_instant, leave, leave_timer, length, map}
 use Rattle.rt_gen_queue.proofs.Vocabulary.{map-append, owns_open, owns_reads, reads, reads_more, refl, slice_index}
-use Rattle.rt_gen_queue.proofs.Vocabulary.{storage, subst, suc, sym, timer_content, true, ℕ, ◌++◌, ◌+◌, ◌^◌, ◌∙◌, ◌∷◌, ◌≡◌, ◌≤◌}
+use Rattle.rt_gen_queue.proofs.Vocabulary.{storage, subst, suc, sym, timer_content, true, ℕ, ◌++◌, ◌+◌, ◌^◌, ◌∙◌, ◌∷◌}
+use Rattle.rt_gen_queue.proofs.Vocabulary.{◌≡◌, ◌≤◌}
 use Rattle.rt_ids.specs.declared.ids.Section.TheVariants as section
 use Rattle.rt_gen_queue.proofs.{Numbers.steps_and, Owning.timer_spelled}
 use Rattle.rt_gen_queue.proofs.Entering.{fits_append, leave_fits, leave_placed, leaves, opened}
@@ -47,7 +48,8 @@ pub record MayClose (z : Setting) (h : Here) (w : Words) (values : Values) : Typ
   pub counted : w.count ≡ length (h.queues (Guarded section.Timer))
   pub spelled : (storage z.app).Spells (Guarded section.Timer) (slice_index h.cells)
       (h.queues (Guarded section.Timer)) (values (Guarded section.Timer))
-  pub few : (timer_content (values (Guarded section.Timer))).given + (timer_content (values (Guarded section.Timer))).moved ≤ 2 ^ 32
+  pub few : (timer_content (values (Guarded section.Timer))).given
+      + (timer_content (values (Guarded section.Timer))).moved ≤ 2 ^ 32
 
 -- It closes within 6 steps, with the alarm set; only one slot is written.
 pub closes_timer : {z : Setting} {f : Slots} {lines : List Line} {h : Here} {outer : List Held} {deadline : ℕ}
@@ -111,6 +113,7 @@ module _ (app : App) (threshold : ℕ) where
 
   pub closing_placed : (code : List Line) (f : Slots) (at : ℕ) (lines : List Line)
       → HasCode code at
-      (alarm_lines (queue_of app) f.slot at ++ leave app section.Timer threshold (f.slot + 9) ∷ map (placed f.slot) lines)
+      (alarm_lines (queue_of app) f.slot at ++ leave app section.Timer threshold (f.slot + 9)
+      ∷ map (placed f.slot) lines)
       → HasCode code at (map (placed f.slot) (closing_lines at lines))
   closing_placed code f at lines has = leaving_placed code f at (alarm_lines (queue_of app) 0 at) lines has

@@ -5,7 +5,8 @@ use Rattle.rt_gen_queue.proofs.Vocabulary.{Agree, App, Armed, At, AtPriority, Bo
 use Rattle.rt_gen_queue.proofs.Vocabulary.{Doing, Entry, Fires, Guarded, HasCode, Held, Holder, Home, IsAccepted}
 use Rattle.rt_gen_queue.proofs.Vocabulary.{IsSome, IsTimedPlace, IsWithin, LeavesMine, Line, List, MayLoad, None}
 use Rattle.rt_gen_queue.proofs.Vocabulary.{Number, Option, Own, Rest, Returns, Some, Spot, Values, [], act, act_all}
-use Rattle.rt_gen_queue.proofs.Vocabulary.{and_both, ap, arith, arming_of_entry, armed_place, at, cases_lt, ceiling, delays}
+use Rattle.rt_gen_queue.proofs.Vocabulary.{and_both, ap, arith, arming_of_entry, armed_place, at, cases_lt, ceiling}
+use Rattle.rt_gen_queue.proofs.Vocabulary.{delays}
 use Rattle.rt_gen_queue.proofs.Vocabulary.{does, drop, home_of, if◌then◌else◌, inl, inr, le-leb, le-ltb, leave_timer}
 use Rattle.rt_gen_queue.proofs.Vocabulary.{length, local_is_home, lt-ltb, map, memory, nat_le, nat_lt, nothing}
 use Rattle.rt_gen_queue.proofs.Vocabulary.{number_of, owns_reads, plain, reads, reads_more, ready_actions, refl}
@@ -30,7 +31,8 @@ use Rattle.rt_gen_timer.proofs.Spelled.{few_armings, row_of, spelled_column, spe
 use Rattle.rt_gen_timer.specs.{TimerCode.queue_of, TimerCode.timer_code, TimerLines.due_lines, TimerLines.heap_of}
 
 -- what a priority keeps is spelled
-pub record AreKept (app : App) (threshold : ℕ) (cells : List ℕ) (queues : Holder → List Entry) (vs : Values) : Type 0 where
+pub record AreKept (app : App) (threshold : ℕ) (cells : List ℕ) (queues : Holder → List Entry) (vs : Values) : Type
+    0 where
   pub spells : (h : Holder) → (storage app).is_kept (AtPriority threshold) h ≡ true
       → (storage app).Spells h (slice_index cells) (queues h) (vs h)
 
@@ -39,13 +41,15 @@ pub kept_on : {app : App} {threshold : ℕ} {s : Spot} {after : List ℕ} {later
     → AreKept app threshold s.cells s.queues vs → LeavesMine (storage app) (AtPriority threshold) s after later
     → Agree (storage app) (AtPriority threshold) [] ws vs → AreKept app threshold after later ws
 unfolding storage
-kept_on {app = app} {threshold = threshold} {s = s} {after = after} {later = later} {vs = vs} {ws = ws} kept left agree =
+kept_on {app = app} {threshold = threshold} {s = s} {after = after} {later = later} {vs = vs} {ws = ws} kept left
+    agree =
     record { spells = go }
   where
     readable : (held : List Held) (h : Holder) → (storage app).is_kept (AtPriority threshold) h ≡ true
         → reads (storage app) (AtPriority threshold) held h ≡ true
     readable held h own =
-        owns_reads (storage app) (AtPriority threshold) held h (owns_kept (storage app) (AtPriority threshold) held h own)
+        owns_reads (storage app) (AtPriority threshold) held h
+        (owns_kept (storage app) (AtPriority threshold) held h own)
 
     one : (c : ℕ) (h : Holder) → (storage app).is_kept (AtPriority threshold) h ≡ true → home_of app c ≡ At h
         → vs h ≡ Number (slice_index s.cells c) → ws h ≡ Number (slice_index after c)
@@ -67,8 +71,8 @@ kept_on {app = app} {threshold = threshold} {s = s} {after = after} {later = lat
         let was = kept.spells (Own n) own in
         (was.0, one (length app.shared + n) (Own n) own (local_is_home app n was.0) was.1)
 
--- A timer handler: its code, its threshold, its cost, the address where it begins, the slots behind its window, and what it
--- has where it begins.
+-- A timer handler: its code, its threshold, its cost, the address where it begins, the slots behind its window, and
+-- what it has where it begins.
 pub record Handler : Type 0 where
   pub app : App
   pub code : List Line
@@ -119,7 +123,8 @@ pub record MayHandle (k : Handler) : Type 0 where
   pub kept : AreKept k.app k.threshold k.cells k.queues k.values
   pub long : length k.cells ≡ length (memory k.app)
   pub within : IsWithin (storage k.app) (AtPriority k.threshold) (AtPriority k.threshold) section.Timer
-  pub enters : (e : Entry) → IsTimedPlace k.app e → k.threshold ≤ ceiling k.app (section.Ready (task_priority k.app e.task))
+  pub enters : (e : Entry) → IsTimedPlace k.app e → k.threshold ≤ ceiling k.app
+      (section.Ready (task_priority k.app e.task))
 
 -- so it may enter the section of the timer queue
 pub may_open : {k : Handler} → MayHandle k → MayOpen (setting k) (frame k) k.threshold (begun k)
@@ -175,7 +180,8 @@ in_section k d done at cells rest = at_work (inside k d) done at [] cells d.queu
 -- what is known there: what the queue spells, and that what may be read is as it was then
 pub record Known (k : Handler) (d : Took) : Type 0 where
   pub now : IsInside (inside k d)
-  pub agree : Agree (storage k.app) (AtPriority k.threshold) (opened (setting k) (frame k) section.Timer k.threshold ∷ []) d.us
+  pub agree : Agree (storage k.app) (AtPriority k.threshold) (opened (setting k) (frame k) section.Timer k.threshold
+      ∷ []) d.us
       d.vs
 
 -- the words where a message may be due: the time, the count, the first row and its instant
@@ -203,7 +209,8 @@ module _ {k : Handler} {d : Took} (known : Known k d) where
   abbrev pub foremost_instant : ℕ
   foremost_instant = instant_in k.app d.cells foremost
 
-  armed_are : delays (d.us (Guarded section.Timer)) ≡ map (arming_of_entry k.app (slice_index d.cells)) (entries (inside k d))
+  armed_are : delays (d.us (Guarded section.Timer)) ≡ map (arming_of_entry k.app (slice_index d.cells))
+      (entries (inside k d))
   armed_are = ap delays same_timed ∙ known.now.spells.messages
 
   -- nothing is due where nothing is armed
@@ -226,7 +233,8 @@ module _ {k : Handler} {d : Took} (known : Known k d) where
         ap (λ o. fire_doing k.app o d.us)
         (ap (due k.app time) armed_are
         ∙ ap (λ o. then_from o (λ (a : Armed). if nat_le a.instant time then Some a else None)) is_least.picked.found
-        ∙ ap {B = Option Armed} (λ b. if b then Some (arming_of_entry k.app (slice_index d.cells) foremost) else None) is)
+        ∙ ap {B = Option Armed} (λ b. if b then Some (arming_of_entry k.app (slice_index d.cells) foremost) else None)
+        is)
 
 module _ {k : Handler} (may : MayHandle k) where
   -- No message is due: the section closes with the alarm set, and it returns.
@@ -253,7 +261,8 @@ module _ {k : Handler} (may : MayHandle k) where
         counted = counted ∙ known.now.spells.arranged.long;
         spelled = subst (λ (c : Content). (storage k.app).Spells (Guarded x) (slice_index d.cells)
             (d.queues (Guarded x)) c) (sym same) known.now.taken.spelled;
-        few = subst (λ (c : Content). (timer_content c).given + (timer_content c).moved ≤ 2 ^ 32) (sym (same_timed known))
+        few = subst (λ (c : Content). (timer_content c).given + (timer_content c).moved ≤ 2 ^ 32)
+            (sym (same_timed known))
             (omega (arith, few_armings known.now.spells known.now.taken.few));
       }) refl refl refl
       (λ finished other ws early agree.
@@ -268,7 +277,8 @@ module _ {k : Handler} (may : MayHandle k) where
             (λ holder read.
             agree holder read
             ∙ known.agree holder
-            (reads_more (storage k.app) (AtPriority k.threshold) (opened (setting k) (frame k) x k.threshold) [] holder read)
+            (reads_more (storage k.app) (AtPriority k.threshold) (opened (setting k) (frame k) x k.threshold) [] holder
+            read)
             ∙ known.now.taken.agree holder read)).spells;
       }))
 
@@ -331,7 +341,8 @@ module _ {k : Handler} (may : MayHandle k) where
       let x = section.Timer in
       let front : HasCode k.code k.first (due_lines (queue_of k.app) 0 k.threshold (k.first + 10) (k.first + 18)) =
       code_first k.code 10 k.first (timer_code k.app k.threshold k.first) may.code in
-      run_stands {f = frame k} {k = 10} (begun k) w (due_lines (queue_of k.app) 0 k.threshold (k.first + 10) (k.first + 18))
+      run_stands {f = frame k} {k = 10} (begun k) w (due_lines (queue_of k.app) 0 k.threshold (k.first + 10)
+      (k.first + 18))
       (record { time = (omega arith, (omega arith, tt)); saves = saves_below (frame k) [] tt }) (omega arith)
       (and_both _ _ (enter_fits x (queue_of k.app).guard k.threshold 9 24 9) refl)
       (front.0 ∙ ap Some (sym (enter_placed x (queue_of k.app).guard k.threshold 9 0)), front.1)

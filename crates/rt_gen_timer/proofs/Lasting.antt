@@ -3,7 +3,8 @@
 use Rattle.rt_gen_queue.proofs.Vocabulary.{AllByRecursion, App, AreHandled, Armed, Delays, Entry, IsArranged, IsSome}
 use Rattle.rt_gen_queue.proofs.Vocabulary.{IsTimedPlace, List, SpellsTimer, Timed, [], all_append, all_counted, ap}
 use Rattle.rt_gen_queue.proofs.Vocabulary.{arith, armed_messages, armed_place, armings_at, at, count}
-use Rattle.rt_gen_queue.proofs.Vocabulary.{get_or_from_slice_get, handle_count_at, handles_at, heap_at, inl, inr, instants_at}
+use Rattle.rt_gen_queue.proofs.Vocabulary.{get_or_from_slice_get, handle_count_at, handles_at, heap_at, inl, inr}
+use Rattle.rt_gen_queue.proofs.Vocabulary.{instants_at}
 use Rattle.rt_gen_queue.proofs.Vocabulary.{length, map, map-append, message_at, numbers_at, refl, slice_get_within}
 use Rattle.rt_gen_queue.proofs.Vocabulary.{slice_index, subst, sym, timer_at, ℕ, ◌*◌, ◌++◌, ◌+◌, ◌<◌, ◌∙◌, ◌∷◌, ◌≡◌}
 use Rattle.rt_gen_queue.proofs.Vocabulary.{◌≢◌, ◌≤◌, ◌⊎◌}

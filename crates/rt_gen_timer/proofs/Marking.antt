@@ -1,7 +1,8 @@
 -- The notes of the timer queue's code: a message is armed, goes last for another instant, or comes out of the queue
 -- into the hands, for a cancel or because it fires.
 use Rattle.rt_gen_queue.proofs.Vocabulary.{Agree, Arms, Cancels, Doing, Entry, Fires, Guarded, Line, List, Message}
-use Rattle.rt_gen_queue.proofs.Vocabulary.{Moves, Some, Values, [], does, effect, is_open, line_with_note, refl, slice_get}
+use Rattle.rt_gen_queue.proofs.Vocabulary.{Moves, Some, Values, [], does, effect, is_open, line_with_note, refl}
+use Rattle.rt_gen_queue.proofs.Vocabulary.{slice_get}
 use Rattle.rt_gen_queue.proofs.Vocabulary.{slice_index, slice_set, storage, true, with_queue, ℕ, ◌++◌, ◌+◌, ◌∷◌, ◌≡◌}
 use Rattle.rt_ids.specs.declared.ids.Section.TheVariants as section
 use Rattle.rt_code.specs.declared.instr.Instr.TheVariants as instr

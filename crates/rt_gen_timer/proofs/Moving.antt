@@ -236,7 +236,8 @@ module _ {c : Call} {delay handle : ℕ} {h : Here} (k : AsksMove c delay handle
 
 -- the code of a `reschedule_after` stands for its actions
 pub moves_all_stand : MovesStand
-moves_all_stand app task t code bodies thread who threshold slot n delay handle s rest vs accepted mono there software has
+moves_all_stand app task t code bodies thread who threshold slot n delay handle s rest vs accepted mono there software
+    has
     may late shown is =
     let z : Setting = record { app = app; code = code; bodies = bodies; thread = thread; who = who; caller = None } in
     let c : Call = record { z = z; task = task; t = t; threshold = threshold; slot = slot; rest = rest; values = vs } in

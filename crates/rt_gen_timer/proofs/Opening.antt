@@ -48,7 +48,8 @@ may_enter {z = z} may = record {
 }
 
 -- inside it its cells are the columns
-pub columns_inside : (z : Setting) (f : Slots) (threshold : ℕ) (outer : List Held) → IsSome z.app.mono → {cells : List ℕ}
+pub columns_inside : (z : Setting) (f : Slots) (threshold : ℕ) (outer : List Held) → IsSome z.app.mono
+    → {cells : List ℕ}
     → length cells ≡ length (memory z.app)
     → Columns z (queue_of z.app) (opened z f section.Timer threshold ∷ outer) cells
 columns_inside z f threshold outer timed long = record {

@@ -2,7 +2,8 @@
 -- then. It goes last, with the next number and its handle, and the others are as before.
 use Rattle.rt_gen_queue.proofs.Vocabulary.{AllByRecursion, App, AreHandled, Armed, Content, Delays, Entry, IsArranged}
 use Rattle.rt_gen_queue.proofs.Vocabulary.{IsSome, IsTimedPlace, Line, List, MayArm, SpellsTimer, [], ap, append_assoc}
-use Rattle.rt_gen_queue.proofs.Vocabulary.{arith, message_of_handle, armed_place, at, handle_count_at, heap_at, key_of, length}
+use Rattle.rt_gen_queue.proofs.Vocabulary.{arith, message_of_handle, armed_place, at, handle_count_at, heap_at, key_of}
+use Rattle.rt_gen_queue.proofs.Vocabulary.{length}
 use Rattle.rt_gen_queue.proofs.Vocabulary.{length_push, map, map-append, operate, refl, slice_index, subst, sym}
 use Rattle.rt_gen_queue.proofs.Vocabulary.{timer_at, with_moved, without_handle, ℕ, ◌++◌, ◌+◌, ◌<◌, ◌^◌, ◌∙◌, ◌∷◌, ◌≡◌}
 use Rattle.rt_gen_queue.proofs.Vocabulary.{◌≢◌}

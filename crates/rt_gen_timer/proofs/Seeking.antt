@@ -2,7 +2,8 @@
 -- for in the heap, from its last place down to the first; or none has it, the section closes, and the answer is 1.
 use Rattle.rt_gen_queue.proofs.Vocabulary.{App, Armed, Bool, Doing, Enters, Entry, Guarded, HANDLE_COST, HasCode}
 use Rattle.rt_gen_queue.proofs.Vocabulary.{Holder, Leaves, Line, List, Option, Rest, Some, Values, [], act, ap, arith}
-use Rattle.rt_gen_queue.proofs.Vocabulary.{message_of_handle, arming_of_entry, armed_messages, armed_place, at, cases_eq, false}
+use Rattle.rt_gen_queue.proofs.Vocabulary.{message_of_handle, arming_of_entry, armed_messages, armed_place, at}
+use Rattle.rt_gen_queue.proofs.Vocabulary.{cases_eq, false}
 use Rattle.rt_gen_queue.proofs.Vocabulary.{few_messages, guard_of, handle_at, handle_section_cost, if◌then◌else◌, inl}
 use Rattle.rt_gen_queue.proofs.Vocabulary.{inr, is_armed_as, is_some, leave, length, nat_lt, nat_tests, number_of}
 use Rattle.rt_gen_queue.proofs.Vocabulary.{plain, refl, slice_index, subst, suc, sym, take, true, zero, ℕ, ◌&&◌, ◌*◌}
@@ -258,7 +259,8 @@ module _ {c : Call} {h : Here} {k : Sought} (seek : MaySeek c h k) where
     pub now : IsInside (seen o)
     pub inside : j < length now.spells.heap
     pub of_task : (at now.spells.heap j).task ≡ c.task
-    pub found : IsOfHandle (arming_of_entry c.z.app (slice_index o.cells)) (entries (seen o)) (at now.spells.heap j) c.task
+    pub found : IsOfHandle (arming_of_entry c.z.app (slice_index o.cells)) (entries (seen o)) (at now.spells.heap j)
+        c.task
         k.handle
     pub early : done ≤ h.done + (6 * armed_messages c.z.app + 12)
 
@@ -339,7 +341,8 @@ module _ {c : Call} {h : Here} {k : Sought} (seek : MaySeek c h k) where
       finds_stand {z = c.z} {f = f seek.may} {g = g} {h = here o (steps_and 5 h.done) (h.at + 5) (to_do o)}
       {w = opened_words (w seek.may) o.mask (length s.heap)}
       (record {
-        code = code_part c.z.code h.at (find_lines g.queue c.slot c.threshold g.task k.slot g.missing h.at) 5 12 seek.code;
+        code = code_part c.z.code h.at (find_lines g.queue c.slot c.threshold g.task k.slot g.missing h.at) 5 12
+            seek.code;
         runs = sooner runs_seen (omega (arith, few));
         small = omega (arith, few, few_messages c.z.app seek.may.facts.accepted);
         room = few;

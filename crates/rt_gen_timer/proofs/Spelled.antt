@@ -1,7 +1,8 @@
 -- The timer queue of an application is a heap in cells, as its section finds it: its messages stand in rows of their
 -- own tasks, its first message has the least armed instant, and a handle that none of them has is of no armed message.
 use Rattle.rt_gen_queue.proofs.Vocabulary.{App, Armed, Content, Entry, IsArranged, IsTimedPlace, List, MayArm, None}
-use Rattle.rt_gen_queue.proofs.Vocabulary.{Some, SpellsTimer, Task, [], all_counted, ap, arith, message_of_handle, arming_of_entry}
+use Rattle.rt_gen_queue.proofs.Vocabulary.{Some, SpellsTimer, Task, [], all_counted, ap, arith, message_of_handle}
+use Rattle.rt_gen_queue.proofs.Vocabulary.{arming_of_entry}
 use Rattle.rt_gen_queue.proofs.Vocabulary.{capacities_before, armed_messages, armed_place, at, capacity_of, delays}
 use Rattle.rt_gen_queue.proofs.Vocabulary.{handle_at, if◌then◌else◌, inl, inr, is_armed, is_software, least_instant}
 use Rattle.rt_gen_queue.proofs.Vocabulary.{length, map, option_map, or_zero, refl, slice_get, slice_get-get_or}
@@ -98,7 +99,8 @@ module _ {app : App} {cells : ℕ → ℕ} {entries : List Entry} {content : Con
       × IsOutside task (armed_place app (at s.heap j)))
       → message_of_handle task wanted (delays content) ≡ None
   missing_of task wanted (inl none) =
-      ap (message_of_handle task wanted) armed_is ∙ handle_missing s.arranged (arming_of_entry app cells) task wanted none
+      ap (message_of_handle task wanted) armed_is ∙ handle_missing s.arranged (arming_of_entry app cells) task wanted
+      none
   missing_of task wanted (inr (j, within, is, out)) =
       ap (message_of_handle task wanted) armed_is
       ∙ ap (λ handle. message_of_handle task handle (map (arming_of_entry app cells) entries)) (sym is)

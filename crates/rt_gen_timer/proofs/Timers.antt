@@ -3,12 +3,14 @@
 -- handler stands, at the priority of the monotonic.
 use Rattle.rt_gen_queue.proofs.Vocabulary.{App, AtPriority, Contains, Entry, HasCode, Holder, IsAccepted, IsSome}
 use Rattle.rt_gen_queue.proofs.Vocabulary.{IsTimedPlace, IsWithin, Line, List, Message, Mono, Returns, Some, Task}
-use Rattle.rt_gen_queue.proofs.Vocabulary.{Values, [], act_all, ap, arith, arming_of_entry, armed_place, capacity_of, ceiling}
+use Rattle.rt_gen_queue.proofs.Vocabulary.{Values, [], act_all, ap, arith, arming_of_entry, armed_place, capacity_of}
+use Rattle.rt_gen_queue.proofs.Vocabulary.{ceiling}
 use Rattle.rt_gen_queue.proofs.Vocabulary.{drop, few_before, few_messages, guard_of, if◌then◌else◌, is_software, least}
 use Rattle.rt_gen_queue.proofs.Vocabulary.{length, levels, lt-ltb, memory, message_at, message_word, nat_lt, nothing}
 use Rattle.rt_gen_queue.proofs.Vocabulary.{number_of, or_left, plain, ready_actions, ready_code, ready_room, refl}
 use Rattle.rt_gen_queue.proofs.Vocabulary.{slice_get, slice_get_within, slice_index, storage, subst, sym, task_priority}
-use Rattle.rt_gen_queue.proofs.Vocabulary.{the_task, timer_content, timer_cost, true, with_queue, without_least, ℕ, ◌*◌, ◌++◌}
+use Rattle.rt_gen_queue.proofs.Vocabulary.{the_task, timer_content, timer_cost, true, with_queue, without_least, ℕ, ◌*◌}
+use Rattle.rt_gen_queue.proofs.Vocabulary.{◌++◌}
 use Rattle.rt_gen_queue.proofs.Vocabulary.{◌+◌, ◌-◌, ◌<◌, ◌^◌, ◌∙◌, ◌∷◌, ◌≡◌, ◌≤◌}
 use Rattle.rt_ids.specs.{Content.with_fired, declared.limits.TheConstants.CAPACITY}
 use Rattle.rt_ids.specs.declared.ids.Section.TheVariants as section
@@ -173,7 +175,8 @@ module _ {k : Handler} (u : Due k) where
   timed_place : IsTimedPlace k.app e
   timed_place = place_of u.known.now.spells 0 u.some
 
-  abbrev picked : IsPicked (arming_of_entry k.app (slice_index u.d.cells)) (entries (inside k u.d)) e least without_least
+  abbrev picked : IsPicked (arming_of_entry k.app (slice_index u.d.cells)) (entries (inside k u.d)) e least
+      without_least
   picked = (is_least u.known u.some).picked
 
   abbrev removal : Removal

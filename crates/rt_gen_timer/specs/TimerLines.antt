@@ -131,8 +131,8 @@ module _ (q : TimerQueue) (slot : ℕ) where
       ∷ copy HOLE OTHER
       ∷ plain (instr.Jump at) ∷ [])))))
 
-  -- The position in the heap whose message has the handle in a slot, from the hole down to the first place, and the row of
-  -- that message; or a jump where none has it. A turn has 6 lines.
+  -- The position in the heap whose message has the handle in a slot, from the hole down to the first place, and the row
+  -- of that message; or a jump where none has it. A turn has 6 lines.
   abbrev pub search_lines : ℕ → ℕ → ℕ → List Line
   search_lines handle missing at =
       jump_zero HOLE missing
@@ -251,15 +251,16 @@ module _ (q : TimerQueue) (slot : ℕ) where
     abbrev pub leave_timer : Line
     leave_timer = leave_line section.Timer q.guard threshold (slot + MASK)
 
-    -- The message whose word is in a slot is armed: it gets a number, the next handle and the next position in the heap,
-    -- and goes up from there. From an address on, 46 lines.
+    -- The message whose word is in a slot is armed: it gets a number, the next handle and the next position in the
+    -- heap, and goes up from there. From an address on, 46 lines.
     abbrev pub arm_lines : ArmedTask → ℕ → List Line
     arm_lines a at =
         enter_timer
         ∷ (time_lines (at + 1)
         ++ (row_lines a
         ++ (rise_lines (at + 23)
-        ++ line_with_note (instr.StoreAt (heap_of q) (slot + HOLE) (slot + HAND)) (note.Arm a.target.task (slot + INSTANT))
+        ++ line_with_note (instr.StoreAt (heap_of q) (slot + HOLE) (slot + HAND))
+        (note.Arm a.target.task (slot + INSTANT))
         ∷ (alarm_lines (at + 39) ++ leave_timer ∷ []))))
 
     -- a jump behind the message that is armed, and the answer 0 where no place is left. 3 lines.

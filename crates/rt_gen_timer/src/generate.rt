@@ -1,4 +1,5 @@
-ghost use Rattle.std.specs.Prelude.{◌≡◌, ◌+◌, ◌*◌, ◌<◌, ◌≤◌, ◌^◌, ◌++◌, true, length, drop, slice_get, Some, IsSome, IfOk};
+ghost use Rattle.std.specs.Prelude.{◌≡◌, ◌+◌, ◌*◌, ◌<◌, ◌≤◌, ◌^◌, ◌++◌, true, length, drop, slice_get, Some, IsSome};
+ghost use Rattle.std.specs.Prelude.{IfOk};
 ghost use Rattle.std.specs.Prelude.{OnOk, OnErr};
 ghost use Rattle.std.specs.List.{AllByRecursion};
 ghost use Rattle.rt_ids.specs.Lists.{is_some_and};
@@ -54,8 +55,8 @@ pub(crate) fn emitter_of(
     Ok(Emitter { queue, slot })
 }
 
-/// Appends the code of a call to code, at a static preemption threshold; its first line will stand at the address `entry`. An error
-/// leaves the code as it was.
+/// Appends the code of a call to code, at a static preemption threshold; its first line will stand at the address
+/// `entry`. An error leaves the code as it was.
 fn append_call(
     alloc: Global,
     plan: &Plan<'_>,
@@ -87,11 +88,11 @@ fn append_call(
     Ok(())
 }
 
-/// Appends the code of a `spawn_after` of a software task, at a static preemption threshold, to code; its first line will stand at the
-/// address `entry`. The delay and then the arguments stand in the slots from one on. It takes a place of the task and
-/// arms its message; the answer comes into the first slot: the message's handle, or 0 where no place is left. It
-/// writes the 24 slots from there on alone. Its lines name only what the application declares, and there are at most
-/// 192 of them. An error leaves the code as it was.
+/// Appends the code of a `spawn_after` of a software task, at a static preemption threshold, to code; its first line
+/// will stand at the address `entry`. The delay and then the arguments stand in the slots from one on. It takes a place
+/// of the task and arms its message; the answer comes into the first slot: the message's handle, or 0 where no place is
+/// left. It writes the 24 slots from there on alone. Its lines name only what the application declares, and there are
+/// at most 192 of them. An error leaves the code as it was.
 pub fn gen_after(
     alloc: Global,
     plan: &Plan<'_>,
@@ -118,10 +119,10 @@ pub fn gen_after(
     append_call(alloc, plan, rows, &call, threshold, slot, entry, code)
 }
 
-/// Appends the code of a `cancel` of a message of a software task, at a static preemption threshold, to code; its first line will
-/// stand at the address `entry`. The handle stands in a slot, into which the answer comes: 0 where an armed message of
-/// the task had the handle and was taken back, else 1. It writes the 24 slots from there on alone. Its lines name only
-/// what the application declares, and there are at most 256 of them. An error leaves the code as it was.
+/// Appends the code of a `cancel` of a message of a software task, at a static preemption threshold, to code; its first
+/// line will stand at the address `entry`. The handle stands in a slot, into which the answer comes: 0 where an armed
+/// message of the task had the handle and was taken back, else 1. It writes the 24 slots from there on alone. Its lines
+/// name only what the application declares, and there are at most 256 of them. An error leaves the code as it was.
 pub fn gen_cancel(
     alloc: Global,
     plan: &Plan<'_>,
@@ -148,11 +149,11 @@ pub fn gen_cancel(
     append_call(alloc, plan, rows, &call, threshold, slot, entry, code)
 }
 
-/// Appends the code of a `reschedule_after` of a message of a software task, at a static preemption threshold, to code; its first line
-/// will stand at the address `entry`. The delay and then the handle stand in the slots from one on. The answer comes
-/// into the first: 0 where an armed message of the task had the handle and waits anew, else 1. It writes the 24 slots
-/// from there on alone. Its lines name only what the application declares, and there are at most 256 of them. An error
-/// leaves the code as it was.
+/// Appends the code of a `reschedule_after` of a message of a software task, at a static preemption threshold, to code;
+/// its first line will stand at the address `entry`. The delay and then the handle stand in the slots from one on. The
+/// answer comes into the first: 0 where an armed message of the task had the handle and waits anew, else 1. It writes
+/// the 24 slots from there on alone. Its lines name only what the application declares, and there are at most 256 of
+/// them. An error leaves the code as it was.
 pub fn gen_move(
     alloc: Global,
     plan: &Plan<'_>,

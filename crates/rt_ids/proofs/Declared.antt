@@ -1,5 +1,7 @@
 -- A name more, where it is not yet declared; and names that are looked up in the maps that keep them.
-use Rattle.std.proofs.Common.{◌≡◌, ℕ, zero, suc, ◌<◌, inl, inr, Bool, true, false, cond, ◌||◌, ◌==◌, List, [], ◌∷◌, ◌++◌, length, map, take, find, position, bytes_eq, slice_get, Option, None, Some, is_some, refl, sym, ap, subst, ◌∙◌, arith}
+use Rattle.std.proofs.Common.{◌≡◌, ℕ, zero, suc, ◌<◌, inl, inr, Bool, true, false, cond, ◌||◌, ◌==◌, List, [], ◌∷◌}
+use Rattle.std.proofs.Common.{◌++◌, length, map, take, find, position, bytes_eq, slice_get, Option, None, Some, is_some}
+use Rattle.std.proofs.Common.{refl, sym, ap, subst, ◌∙◌, arith}
 use Rattle.std.specs.List.{list_any}
 use Rattle.std.specs.Prelude.{Vec}
 use Rattle.std.specs.Global.{Global}
@@ -17,10 +19,12 @@ use Rattle.rt_ids.specs.declared.limits.TheConstants.{IRQS, TASKS, SHARED}
 use Rattle.rt_ids.specs.Lists.{AreDifferent}
 use Rattle.rt_ids.specs.Names.{Names, AreNames, irq_of, task_of, resource_of, with_irq, with_task, with_resource}
 use Rattle.rt_ids.specs.Word.{IsName}
-use Rattle.rt_ids.proofs.Lists.{list_any-map, position-map, find_by_position, is_some-position, is_some-find, none_from_is_some, all_push, place_pushed, place_taken}
+use Rattle.rt_ids.proofs.Lists.{list_any-map, position-map, find_by_position, is_some-position, is_some-find}
+use Rattle.rt_ids.proofs.Lists.{none_from_is_some, all_push, place_pushed, place_taken}
 
 -- a name that no test finds stands at no index
-nowhere : (names : List (List ℕ)) (name : List ℕ) → list_any (bytes_eq name) names ≡ false → (i : ℕ) → slice_get names i ≡ Some name → ⊥
+nowhere : (names : List (List ℕ)) (name : List ℕ) → list_any (bytes_eq name) names ≡ false → (i : ℕ) → slice_get names i
+    ≡ Some name → ⊥
 nowhere [] name none i at = none-some name at
 nowhere (x ∷ xs) name none zero at =
     let here : bytes_eq name x ≡ true = (bytes_eq-Decides name x).1 (sym (same_Some x name at)) in
@@ -31,15 +35,18 @@ nowhere (x ∷ xs) name none (suc i) at = nowhere xs name (behind (bytes_eq name
     behind true none = absurd (false≢true (sym none))
     behind false none = none
 
-nowhere_found : (names : List (List ℕ)) (name : List ℕ) → ((i : ℕ) → slice_get names i ≡ Some name → ⊥) → list_any (bytes_eq name) names ≡ false
+nowhere_found : (names : List (List ℕ)) (name : List ℕ) → ((i : ℕ) → slice_get names i ≡ Some name → ⊥)
+    → list_any (bytes_eq name) names ≡ false
 nowhere_found [] name none = refl
 nowhere_found (x ∷ xs) name none = by (nowhere_found xs name (λ i at. none (suc i) at)) (bytes_eq name x) refl
   where
-    by : list_any (bytes_eq name) xs ≡ false → (b : Bool) → bytes_eq name x ≡ b → (b || list_any (bytes_eq name) xs) ≡ false
+    by : list_any (bytes_eq name) xs ≡ false → (b : Bool) → bytes_eq name x ≡ b → (b || list_any (bytes_eq name) xs)
+        ≡ false
     by rest true same = absurd (none 0 (ap Some (sym ((bytes_eq-Decides name x).0 same))))
     by rest false other = rest
 
-differ_pushed : (names : List (List ℕ)) (name : List ℕ) → list_any (bytes_eq name) names ≡ false → AreDifferent names → AreDifferent (names ++ name ∷ [])
+differ_pushed : (names : List (List ℕ)) (name : List ℕ) → list_any (bytes_eq name) names ≡ false → AreDifferent names
+    → AreDifferent (names ++ name ∷ [])
 differ_pushed names name none differ i j x a b =
     elim (place_pushed names name i x a) [
       | inl first ↦ elim (place_pushed names name j x b) [
@@ -53,7 +60,8 @@ differ_pushed names name none differ i j x a b =
     ]
 
 -- one of names that differ is not among those before it
-new_next : (names : List (List ℕ)) (n : ℕ) (name : List ℕ) → AreDifferent names → slice_get names n ≡ Some name → list_any (bytes_eq name) (take n names) ≡ false
+new_next : (names : List (List ℕ)) (n : ℕ) (name : List ℕ) → AreDifferent names → slice_get names n ≡ Some name
+    → list_any (bytes_eq name) (take n names) ≡ false
 new_next names n name differ at =
     nowhere_found (take n names) name (λ i before. let there = place_taken names n i name before in
     let same : i ≡ n = differ i n name there.1 at in let below = there.0 in absurd (omega arith))
@@ -68,7 +76,8 @@ module _ (names : Names) (name : List ℕ) where
   new_resource : resource_of names name ≡ None → list_any (bytes_eq name) names.shared ≡ false
   new_resource none = sym (is_some-position (bytes_eq name) names.shared) ∙ ap is_some none
 
-  pub irq_added : (number : ℕ) → AreNames names → IsName name → irq_of names name ≡ None → length names.irqs < IRQS → AreNames (with_irq names name number)
+  pub irq_added : (number : ℕ) → AreNames names → IsName name → irq_of names name ≡ None → length names.irqs < IRQS
+      → AreNames (with_irq names name number)
   irq_added number are named none room = record {
     irqs = all_push (λ irq. IsName irq.0) names.irqs (name, number) are.irqs named;
     tasks = are.tasks;
@@ -81,7 +90,8 @@ module _ (names : Names) (name : List ℕ) where
     few_shared = are.few_shared;
   }
 
-  pub task_added : AreNames names → IsName name → task_of names name ≡ None → length names.tasks < TASKS → AreNames (with_task names name)
+  pub task_added : AreNames names → IsName name → task_of names name ≡ None → length names.tasks < TASKS
+      → AreNames (with_task names name)
   task_added are named none room = record {
     irqs = are.irqs;
     tasks = all_push IsName names.tasks name are.tasks named;
@@ -94,7 +104,8 @@ module _ (names : Names) (name : List ℕ) where
     few_shared = are.few_shared;
   }
 
-  pub resource_added : AreNames names → IsName name → resource_of names name ≡ None → length names.shared < SHARED → AreNames (with_resource names name)
+  pub resource_added : AreNames names → IsName name → resource_of names name ≡ None → length names.shared < SHARED
+      → AreNames (with_resource names name)
   resource_added are named none room = record {
     irqs = are.irqs;
     tasks = are.tasks;
@@ -109,32 +120,41 @@ module _ (names : Names) (name : List ℕ) where
 
 -- of names that differ the next one is not yet declared, where those before it are
 module _ (names : Names) (n : ℕ) (name : List ℕ) where
-  pub next_irq : (all : List (List ℕ × ℕ)) (number : ℕ) → names.irqs ≡ take n all → AreDifferent (map (λ irq. irq.0) all) → slice_get all n ≡ Some (name, number) → irq_of names name ≡ None
+  pub next_irq : (all : List (List ℕ × ℕ)) (number : ℕ) → names.irqs ≡ take n all
+      → AreDifferent (map (λ irq. irq.0) all) → slice_get all n ≡ Some (name, number) → irq_of names name ≡ None
   next_irq all number are differ at =
       let bare : List ℕ × ℕ → List ℕ = λ irq. irq.0 in
       let before : map bare names.irqs ≡ take n (map bare all) = ap (map bare) are ∙ sym (take-map bare n all) in
       let here : slice_get (map bare all) n ≡ Some name = slice_get-map bare all n ∙ ap (option_map bare) at in
-      none_from_is_some (irq_of names name) (is_some-find (bytes_eq name) names.irqs ∙ ap (list_any (bytes_eq name)) before ∙ new_next (map bare all) n name differ here)
+      none_from_is_some (irq_of names name) (is_some-find (bytes_eq name) names.irqs
+      ∙ ap (list_any (bytes_eq name)) before ∙ new_next (map bare all) n name differ here)
 
-  pub next_task : (all : List (List ℕ)) → names.tasks ≡ take n all → AreDifferent all → slice_get all n ≡ Some name → task_of names name ≡ None
+  pub next_task : (all : List (List ℕ)) → names.tasks ≡ take n all → AreDifferent all → slice_get all n ≡ Some name
+      → task_of names name ≡ None
   next_task all are differ at =
-      none_from_is_some (task_of names name) (is_some-position (bytes_eq name) names.tasks ∙ ap (list_any (bytes_eq name)) are ∙ new_next all n name differ at)
+      none_from_is_some (task_of names name) (is_some-position (bytes_eq name) names.tasks
+      ∙ ap (list_any (bytes_eq name)) are ∙ new_next all n name differ at)
 
-  pub next_resource : (all : List (List ℕ)) → names.shared ≡ take n all → AreDifferent all → slice_get all n ≡ Some name → resource_of names name ≡ None
+  pub next_resource : (all : List (List ℕ)) → names.shared ≡ take n all → AreDifferent all → slice_get all n ≡ Some name
+      → resource_of names name ≡ None
   next_resource all are differ at =
-      none_from_is_some (resource_of names name) (is_some-position (bytes_eq name) names.shared ∙ ap (list_any (bytes_eq name)) are ∙ new_next all n name differ at)
+      none_from_is_some (resource_of names name) (is_some-position (bytes_eq name) names.shared
+      ∙ ap (list_any (bytes_eq name)) are ∙ new_next all n name differ at)
 
 -- what a look-up in a map of kept names finds is what the names say
 pub looked_up : (test : List ℕ → Bool) (irqs : List (Vec ℕ Global × ℕ))
-    → lookup (λ name. test (text name)) irqs ≡ option_map (λ (irq : List ℕ × ℕ). irq.1) (find (λ irq. test irq.0) (map (λ irq. (text irq.0, irq.1)) irqs))
+    → lookup (λ name. test (text name)) irqs ≡ option_map (λ (irq : List ℕ × ℕ). irq.1)
+    (find (λ irq. test irq.0) (map (λ irq. (text irq.0, irq.1)) irqs))
 looked_up test [] = refl
 looked_up test (irq ∷ irqs) = by (looked_up test irqs) (test (text irq.0))
   where
     seen : List (List ℕ × ℕ)
     seen = map (λ irq. (text irq.0, irq.1)) irqs
 
-    by : lookup (λ name. test (text name)) irqs ≡ option_map (λ (irq : List ℕ × ℕ). irq.1) (find (λ irq. test irq.0) seen) → (b : Bool)
-        → cond b (Some irq.1) (lookup (λ name. test (text name)) irqs) ≡ option_map (λ (e : List ℕ × ℕ). e.1) (cond b (Some (text irq.0, irq.1)) (find (λ e. test e.0) seen))
+    by : lookup (λ name. test (text name)) irqs ≡ option_map (λ (irq : List ℕ × ℕ). irq.1)
+        (find (λ irq. test irq.0) seen) → (b : Bool)
+        → cond b (Some irq.1) (lookup (λ name. test (text name)) irqs)
+        ≡ option_map (λ (e : List ℕ × ℕ). e.1) (cond b (Some (text irq.0, irq.1)) (find (λ e. test e.0) seen))
     by rest true = refl
     by rest false = rest
 
@@ -146,28 +166,35 @@ module _ (irqs : List (Vec ℕ Global × ℕ)) (number : ℕ) where
   abbrev numbered : Option (List ℕ × ℕ)
   numbered = find (λ irq. irq.1 == number) (map seen_irq irqs)
 
-  by_place : numbered ≡ option_and_then (slice_get (map seen_irq irqs)) (position (λ n. n == number) (map (λ irq. irq.1) irqs))
+  by_place : numbered ≡ option_and_then (slice_get (map seen_irq irqs))
+      (position (λ n. n == number) (map (λ irq. irq.1) irqs))
   by_place =
       let second : List ℕ × ℕ → ℕ = λ irq. irq.1 in
       let same : map second (map seen_irq irqs) ≡ map (λ irq. irq.1) irqs = map-map second seen_irq irqs in
       find_by_position (λ irq. second irq == number) (map seen_irq irqs)
-      ∙ ap (option_and_then (slice_get (map seen_irq irqs))) (sym (position-map second (λ n. n == number) (map seen_irq irqs)) ∙ ap (position (λ n. n == number)) same)
+      ∙ ap (option_and_then (slice_get (map seen_irq irqs)))
+      (sym (position-map second (λ n. n == number) (map seen_irq irqs)) ∙ ap (position (λ n. n == number)) same)
 
-  pub irq_found : (index : ℕ) (name : Vec ℕ Global) (n : ℕ) → position (λ n. n == number) (map (λ irq. irq.1) irqs) ≡ Some index → slice_get irqs index ≡ Some (name, n)
+  pub irq_found : (index : ℕ) (name : Vec ℕ Global) (n : ℕ) → position (λ n. n == number) (map (λ irq. irq.1) irqs)
+      ≡ Some index → slice_get irqs index ≡ Some (name, n)
       → option_map (λ irq. irq.0) numbered ≡ Some (text name)
   irq_found index name n at there =
       ap (option_map (λ irq. irq.0))
-      (by_place ∙ ap (option_and_then (slice_get (map seen_irq irqs))) at ∙ slice_get-map seen_irq irqs index ∙ ap (option_map seen_irq) there)
+      (by_place ∙ ap (option_and_then (slice_get (map seen_irq irqs))) at ∙ slice_get-map seen_irq irqs index
+      ∙ ap (option_map seen_irq) there)
 
-  pub irq_missing : position (λ n. n == number) (map (λ irq. irq.1) irqs) ≡ None → option_map (λ irq. irq.0) numbered ≡ None
-  irq_missing none = ap (option_map (λ irq. irq.0)) (by_place ∙ ap (option_and_then (slice_get (map seen_irq irqs))) none)
+  pub irq_missing : position (λ n. n == number) (map (λ irq. irq.1) irqs) ≡ None → option_map (λ irq. irq.0) numbered
+      ≡ None
+  irq_missing none = ap (option_map (λ irq. irq.0)) (by_place ∙ ap (option_and_then (slice_get (map seen_irq irqs)))
+      none)
 
 abbrev same_text : Vec ℕ Global → Vec ℕ Global → Bool
 same_text a b = bytes_eq (text a) (text b)
 
 module _ (v : Vec ℕ Global) where
   -- a new name goes last
-  entry_last : (irqs : List (Vec ℕ Global × ℕ)) (number : ℕ) → list_any (bytes_eq (text v)) (map (λ (irq : List ℕ × ℕ). irq.0) (map (λ irq. (text irq.0, irq.1)) irqs)) ≡ false
+  entry_last : (irqs : List (Vec ℕ Global × ℕ)) (number : ℕ) → list_any (bytes_eq (text v))
+      (map (λ (irq : List ℕ × ℕ). irq.0) (map (λ irq. (text irq.0, irq.1)) irqs)) ≡ false
       → insert_entry same_text irqs v number ≡ irqs ++ (v, number) ∷ []
   entry_last [] number none = refl
   entry_last (irq ∷ irqs) number none = by (entry_last irqs number) (bytes_eq (text v) (text irq.0)) none
@@ -175,49 +202,72 @@ module _ (v : Vec ℕ Global) where
       seen : List (List ℕ)
       seen = map (λ (irq : List ℕ × ℕ). irq.0) (map (λ irq. (text irq.0, irq.1)) irqs)
 
-      by : (list_any (bytes_eq (text v)) seen ≡ false → insert_entry same_text irqs v number ≡ irqs ++ (v, number) ∷ []) → (b : Bool) → (b || list_any (bytes_eq (text v)) seen) ≡ false
-          → cond b ((irq.0, number) ∷ irqs) (irq ∷ insert_entry same_text irqs v number) ≡ irq ∷ (irqs ++ (v, number) ∷ [])
+      by : (list_any (bytes_eq (text v)) seen ≡ false → insert_entry same_text irqs v number ≡ irqs ++ (v, number) ∷ [])
+          → (b : Bool) → (b || list_any (bytes_eq (text v)) seen) ≡ false
+          → cond b ((irq.0, number) ∷ irqs) (irq ∷ insert_entry same_text irqs v number) ≡ irq
+          ∷ (irqs ++ (v, number) ∷ [])
       by rest true none = absurd (false≢true (sym none))
       by rest false none = ap (λ es. irq ∷ es) (rest none)
 
-  key_last : (names : List (Vec ℕ Global)) → list_any (bytes_eq (text v)) (map text names) ≡ false → insert_key same_text names v ≡ names ++ v ∷ []
+  key_last : (names : List (Vec ℕ Global)) → list_any (bytes_eq (text v)) (map text names) ≡ false
+      → insert_key same_text names v ≡ names ++ v ∷ []
   key_last names none = rw (sym (list_any-map text (bytes_eq (text v)) names), none) refl
 
-module _ (irqs : List (Vec ℕ Global × ℕ)) (tasks shared : List (Vec ℕ Global)) (self : Names) (view_is : kept_names irqs tasks shared ≡ self) (are : AreNames (kept_names irqs tasks shared))
+module _ (irqs : List (Vec ℕ Global × ℕ)) (tasks shared : List (Vec ℕ Global)) (self : Names)
+    (view_is : kept_names irqs tasks shared ≡ self) (are : AreNames (kept_names irqs tasks shared))
     (v : Vec ℕ Global) (name : List ℕ) (is : v.items ≡ name) (named : IsName name) where
-  pub irq_kept : (number : ℕ) (new : List (Vec ℕ Global × ℕ)) → new ≡ insert_entry same_text irqs v number → irq_of self name ≡ None → length self.irqs < IRQS
+  pub irq_kept : (number : ℕ) (new : List (Vec ℕ Global × ℕ)) → new ≡ insert_entry same_text irqs v number
+      → irq_of self name ≡ None → length self.irqs < IRQS
       → (kept_names new tasks shared ≡ with_irq self name number) × AreNames (kept_names new tasks shared)
   irq_kept number new at none room =
       let view : Vec ℕ Global × ℕ → List ℕ × ℕ = λ irq. (text irq.0, irq.1) in
-      let unknown : irq_of (kept_names irqs tasks shared) (text v) ≡ None = ap (λ names. irq_of names (text v)) view_is ∙ ap (irq_of self) is ∙ none in
-      let fits : length (map view irqs) < IRQS = subst (λ (names : Names). length names.irqs < IRQS) (sym view_is) room in
-      let last : new ≡ irqs ++ (v, number) ∷ [] = at ∙ entry_last v irqs number (new_irq (kept_names irqs tasks shared) (text v) unknown) in
-      let grown : map view new ≡ map view irqs ++ (text v, number) ∷ [] = ap (map view) last ∙ map_push view irqs (v, number) in
-      let whole : kept_names new tasks shared ≡ with_irq (kept_names irqs tasks shared) (text v) number = ap (λ es. record { irqs = es; tasks = map text tasks; shared = map text shared }) grown in (
+      let unknown : irq_of (kept_names irqs tasks shared) (text v) ≡ None =
+      ap (λ names. irq_of names (text v)) view_is ∙ ap (irq_of self) is ∙ none in
+      let fits : length (map view irqs) < IRQS = subst (λ (names : Names). length names.irqs < IRQS) (sym view_is)
+      room in
+      let last : new ≡ irqs ++ (v, number) ∷ [] = at ∙ entry_last v irqs number
+      (new_irq (kept_names irqs tasks shared) (text v) unknown) in
+      let grown : map view new ≡ map view irqs ++ (text v, number) ∷ [] = ap (map view) last
+      ∙ map_push view irqs (v, number) in
+      let whole : kept_names new tasks shared ≡ with_irq (kept_names irqs tasks shared) (text v) number =
+      ap (λ es. record { irqs = es; tasks = map text tasks; shared = map text shared }) grown in (
         whole ∙ ap (λ names. with_irq names (text v) number) view_is ∙ ap (λ n. with_irq self n number) is,
-        subst AreNames (sym whole) (irq_added (kept_names irqs tasks shared) (text v) number are (subst IsName (sym is) named) unknown fits),
+        subst AreNames (sym whole) (irq_added (kept_names irqs tasks shared) (text v) number are
+            (subst IsName (sym is) named) unknown fits),
       )
 
-  pub task_kept : (new : List (Vec ℕ Global)) → new ≡ insert_key same_text tasks v → task_of self name ≡ None → length self.tasks < TASKS
+  pub task_kept : (new : List (Vec ℕ Global)) → new ≡ insert_key same_text tasks v → task_of self name ≡ None
+      → length self.tasks < TASKS
       → (kept_names irqs new shared ≡ with_task self name) × AreNames (kept_names irqs new shared)
   task_kept new at none room =
-      let unknown : task_of (kept_names irqs tasks shared) (text v) ≡ None = ap (λ names. task_of names (text v)) view_is ∙ ap (task_of self) is ∙ none in
-      let fits : length (map text tasks) < TASKS = subst (λ (names : Names). length names.tasks < TASKS) (sym view_is) room in
-      let last : new ≡ tasks ++ v ∷ [] = at ∙ key_last v tasks (new_task (kept_names irqs tasks shared) (text v) unknown) in
+      let unknown : task_of (kept_names irqs tasks shared) (text v) ≡ None =
+      ap (λ names. task_of names (text v)) view_is ∙ ap (task_of self) is ∙ none in
+      let fits : length (map text tasks) < TASKS = subst (λ (names : Names). length names.tasks < TASKS) (sym view_is)
+      room in
+      let last : new ≡ tasks ++ v ∷ [] = at ∙ key_last v tasks
+      (new_task (kept_names irqs tasks shared) (text v) unknown) in
       let grown : map text new ≡ map text tasks ++ text v ∷ [] = ap (map text) last ∙ map_push text tasks v in
-      let whole : kept_names irqs new shared ≡ with_task (kept_names irqs tasks shared) (text v) = ap (λ names. record (kept_names irqs tasks shared) { tasks = names }) grown in (
+      let whole : kept_names irqs new shared ≡ with_task (kept_names irqs tasks shared) (text v) =
+      ap (λ names. record (kept_names irqs tasks shared) { tasks = names }) grown in (
         whole ∙ ap (λ names. with_task names (text v)) view_is ∙ ap (with_task self) is,
-        subst AreNames (sym whole) (task_added (kept_names irqs tasks shared) (text v) are (subst IsName (sym is) named) unknown fits),
+        subst AreNames (sym whole) (task_added (kept_names irqs tasks shared) (text v) are (subst IsName (sym is) named)
+            unknown fits),
       )
 
-  pub resource_kept : (new : List (Vec ℕ Global)) → new ≡ insert_key same_text shared v → resource_of self name ≡ None → length self.shared < SHARED
+  pub resource_kept : (new : List (Vec ℕ Global)) → new ≡ insert_key same_text shared v → resource_of self name ≡ None
+      → length self.shared < SHARED
       → (kept_names irqs tasks new ≡ with_resource self name) × AreNames (kept_names irqs tasks new)
   resource_kept new at none room =
-      let unknown : resource_of (kept_names irqs tasks shared) (text v) ≡ None = ap (λ names. resource_of names (text v)) view_is ∙ ap (resource_of self) is ∙ none in
-      let fits : length (map text shared) < SHARED = subst (λ (names : Names). length names.shared < SHARED) (sym view_is) room in
-      let last : new ≡ shared ++ v ∷ [] = at ∙ key_last v shared (new_resource (kept_names irqs tasks shared) (text v) unknown) in
+      let unknown : resource_of (kept_names irqs tasks shared) (text v) ≡ None =
+      ap (λ names. resource_of names (text v)) view_is ∙ ap (resource_of self) is ∙ none in
+      let fits : length (map text shared) < SHARED = subst (λ (names : Names). length names.shared < SHARED)
+      (sym view_is) room in
+      let last : new ≡ shared ++ v ∷ [] = at ∙ key_last v shared
+      (new_resource (kept_names irqs tasks shared) (text v) unknown) in
       let grown : map text new ≡ map text shared ++ text v ∷ [] = ap (map text) last ∙ map_push text shared v in
-      let whole : kept_names irqs tasks new ≡ with_resource (kept_names irqs tasks shared) (text v) = ap (λ names. record (kept_names irqs tasks shared) { shared = names }) grown in (
+      let whole : kept_names irqs tasks new ≡ with_resource (kept_names irqs tasks shared) (text v) =
+      ap (λ names. record (kept_names irqs tasks shared) { shared = names }) grown in (
         whole ∙ ap (λ names. with_resource names (text v)) view_is ∙ ap (with_resource self) is,
-        subst AreNames (sym whole) (resource_added (kept_names irqs tasks shared) (text v) are (subst IsName (sym is) named) unknown fits),
+        subst AreNames (sym whole) (resource_added (kept_names irqs tasks shared) (text v) are
+            (subst IsName (sym is) named) unknown fits),
       )

@@ -1,5 +1,7 @@
 -- On lists: what stands at an index, and what is found.
-use Rattle.std.proofs.Common.{◌≡◌, ℕ, zero, suc, ◌+◌, ◌<◌, ◌⊎◌, inl, inr, Bool, true, false, cond, not, nat_lt, ◌||◌, List, [], ◌∷◌, ◌++◌, length, map, take, find, position, slice_get, Option, None, Some, is_some, refl, sym, ap, ◌∙◌, arith}
+use Rattle.std.proofs.Common.{◌≡◌, ℕ, zero, suc, ◌+◌, ◌<◌, ◌⊎◌, inl, inr, Bool, true, false, cond, not, nat_lt, ◌||◌}
+use Rattle.std.proofs.Common.{List, [], ◌∷◌, ◌++◌, length, map, take, find, position, slice_get, Option, None, Some}
+use Rattle.std.proofs.Common.{is_some, refl, sym, ap, ◌∙◌, arith}
 use Rattle.std.specs.List.{AllByRecursion, list_any, prefix_len, position_from, position_or_len}
 use Rattle.std.specs.Option.{option_map, option_and_then}
 use Rattle.std.proofs.lemmas.Bool.{false≢true}
@@ -9,15 +11,18 @@ use Rattle.std.proofs.lemmas.Option.{same_Some, none-some, slice_get_within, sli
 use Rattle.std.proofs.lemmas.List.Folds.{find_at}
 use borrow.Author.Tests.{ltb-false}
 
-pub prefix_len-map : {A B : Type 0} (f : A → B) (p : B → Bool) (xs : List A) → prefix_len p (map f xs) ≡ prefix_len (λ x. p (f x)) xs
+pub prefix_len-map : {A B : Type 0} (f : A → B) (p : B → Bool) (xs : List A) → prefix_len p (map f xs)
+    ≡ prefix_len (λ x. p (f x)) xs
 prefix_len-map f p [] = refl
 prefix_len-map f p (x ∷ xs) = ap (λ n. cond (p (f x)) (1 + n) 0) (prefix_len-map f p xs)
 
-pub position-map : {A B : Type 0} (f : A → B) (p : B → Bool) (xs : List A) → position p (map f xs) ≡ position (λ x. p (f x)) xs
+pub position-map : {A B : Type 0} (f : A → B) (p : B → Bool) (xs : List A) → position p (map f xs)
+    ≡ position (λ x. p (f x)) xs
 position-map f p xs =
     rw (prefix_len-map f (λ x. not (p x)) xs, length-map xs f) refl
 
-pub list_any-map : {A B : Type 0} (f : A → B) (p : B → Bool) (xs : List A) → list_any p (map f xs) ≡ list_any (λ x. p (f x)) xs
+pub list_any-map : {A B : Type 0} (f : A → B) (p : B → Bool) (xs : List A) → list_any p (map f xs)
+    ≡ list_any (λ x. p (f x)) xs
 list_any-map f p [] = refl
 list_any-map f p (x ∷ xs) = ap (λ b. p (f x) || b) (list_any-map f p xs)
 
@@ -26,7 +31,8 @@ some_from : {X : Type 0} (test : X → Bool) (n : ℕ) (xs : List X) → is_some
 some_from test n [] = refl
 some_from test n (x ∷ xs) = by (some_from test (n + 1) xs) (test x)
   where
-    by : is_some (position_from test (n + 1) xs) ≡ list_any test xs → (b : Bool) → is_some (cond b (Some n) (position_from test (n + 1) xs)) ≡ (b || list_any test xs)
+    by : is_some (position_from test (n + 1) xs) ≡ list_any test xs → (b : Bool)
+        → is_some (cond b (Some n) (position_from test (n + 1) xs)) ≡ (b || list_any test xs)
     by rest true = refl
     by rest false = rest
 
@@ -39,7 +45,8 @@ is_some-find test [] = refl
 is_some-find test (e ∷ es) = by (is_some-find test es) (test e.0)
   where
     by : is_some (option_map (λ e. e.1) (find (λ e. test e.0) es)) ≡ list_any test (map (λ e. e.0) es) → (b : Bool)
-        → is_some (option_map (λ e. e.1) (cond b (Some e) (find (λ e. test e.0) es))) ≡ (b || list_any test (map (λ e. e.0) es))
+        → is_some (option_map (λ e. e.1) (cond b (Some e) (find (λ e. test e.0) es)))
+        ≡ (b || list_any test (map (λ e. e.0) es))
     by rest true = refl
     by rest false = rest
 
@@ -47,7 +54,8 @@ pub none_from_is_some : {X : Type 0} (o : Option X) → is_some o ≡ false → 
 none_from_is_some None h = refl
 none_from_is_some (Some x) h = absurd (false≢true (sym h))
 
-pub all_push : {A : Type 0} (P : A → Type 0) (xs : List A) (x : A) → AllByRecursion P xs → P x → AllByRecursion P (xs ++ x ∷ [])
+pub all_push : {A : Type 0} (P : A → Type 0) (xs : List A) (x : A) → AllByRecursion P xs → P x
+    → AllByRecursion P (xs ++ x ∷ [])
 all_push P [] x all h = (h, tt)
 all_push P (y ∷ xs) x all h = (all.0, all_push P xs x all.1 h)
 
@@ -57,24 +65,32 @@ pub place_pushed : {X : Type 0} (xs : List X) (y : X) (i : ℕ) (x : X) → slic
 place_pushed [] y zero x at = inr (refl, same_Some y x at)
 place_pushed [] y (suc i) x at = absurd (none-some x at)
 place_pushed (z ∷ xs) y zero x at = inl at
-place_pushed (z ∷ xs) y (suc i) x at = elim (place_pushed xs y i x at) [ inl here ↦ inl here | inr last ↦ inr (ap suc last.0, last.1) ]
+place_pushed (z ∷ xs) y (suc i) x at = elim (place_pushed xs y i x at)
+    [ inl here ↦ inl here | inr last ↦ inr (ap suc last.0, last.1) ]
 
 -- an index among the first ones is the same index
-pub place_taken : {X : Type 0} (xs : List X) (n i : ℕ) (x : X) → slice_get (take n xs) i ≡ Some x → (i < n) × (slice_get xs i ≡ Some x)
+pub place_taken : {X : Type 0} (xs : List X) (n i : ℕ) (x : X) → slice_get (take n xs) i ≡ Some x → (i < n)
+    × (slice_get xs i ≡ Some x)
 place_taken [] zero i x at = absurd (none-some x at)
 place_taken [] (suc n) i x at = absurd (none-some x at)
 place_taken (y ∷ xs) zero i x at = absurd (none-some x at)
 place_taken (y ∷ xs) (suc n) zero x at = (omega arith, at)
-place_taken (y ∷ xs) (suc n) (suc i) x at = let rest = place_taken xs n i x at in let below = rest.0 in (omega arith, rest.1)
+place_taken (y ∷ xs) (suc n) (suc i) x at = let rest = place_taken xs n i x at in let below = rest.0 in
+    (omega arith, rest.1)
 
 -- the first ones and the next one
-pub taken_next : {X : Type 0} (xs : List X) (n : ℕ) (x : X) → slice_get xs n ≡ Some x → take n xs ++ x ∷ [] ≡ take (n + 1) xs
-taken_next xs n x at = ap (λ y. take n xs ++ y ∷ []) (sym (get_or_from_slice_get xs n x x at)) ∙ sym (take_more xs n x (slice_get_within xs n x at))
+pub taken_next : {X : Type 0} (xs : List X) (n : ℕ) (x : X) → slice_get xs n ≡ Some x → take n xs ++ x ∷ []
+    ≡ take (n + 1) xs
+taken_next xs n x at = ap (λ y. take n xs ++ y ∷ []) (sym (get_or_from_slice_get xs n x x at))
+    ∙ sym (take_more xs n x (slice_get_within xs n x at))
 
 -- what is found is what stands at the first index that passes
-pub find_by_position : {X : Type 0} (test : X → Bool) (xs : List X) → find test xs ≡ option_and_then (slice_get xs) (position test xs)
-find_by_position test xs = find_at test xs ∙ by (position_or_len test xs) (nat_lt (position_or_len test xs) (length xs)) refl
+pub find_by_position : {X : Type 0} (test : X → Bool) (xs : List X) → find test xs
+    ≡ option_and_then (slice_get xs) (position test xs)
+find_by_position test xs = find_at test xs ∙ by (position_or_len test xs) (nat_lt (position_or_len test xs) (length xs))
+    refl
   where
-    by : (k : ℕ) (b : Bool) → nat_lt k (length xs) ≡ b → slice_get xs k ≡ option_and_then (slice_get xs) (cond b (Some k) None)
+    by : (k : ℕ) (b : Bool) → nat_lt k (length xs) ≡ b → slice_get xs k
+        ≡ option_and_then (slice_get xs) (cond b (Some k) None)
     by k true within = refl
     by k false past = slice_get_past xs k (ltb-false k (length xs) past)

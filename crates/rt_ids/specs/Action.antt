@@ -6,7 +6,8 @@ use Rattle.rt_ids.specs.declared.ids.BodyId.{BodyId}
 use Rattle.rt_ids.specs.declared.ids.Section.{Section}
 use Rattle.rt_ids.specs.declared.ids.Section.TheVariants as section
 use Rattle.rt_ids.specs.Holder.{Guarded}
-use Rattle.rt_ids.specs.Content.{Message, Number, Messages, Delays, Values, number, messages, timer_content, values_with}
+use Rattle.rt_ids.specs.Content.{Message, Number, Messages, Delays, Values, number, messages, timer_content}
+use Rattle.rt_ids.specs.Content.{values_with}
 use Rattle.rt_ids.specs.Content.{with_armed, with_fired, with_cancelled, with_moved}
 
 -- a visible action of a body, as a label of a transition system; its sections are the critical sections of Baker (1991)
@@ -49,8 +50,10 @@ effect (Readies p m) vs =
     values_with vs (Guarded (section.Ready p)) (Messages (messages (vs (Guarded (section.Ready p))) ++ m ∷ []))
 effect (Starts p m) vs = values_with vs (Guarded (section.Ready p))
     (Messages (drop 1 (messages (vs (Guarded (section.Ready p))))))
-effect (Arms i m) vs = values_with vs (Guarded section.Timer) (Delays (with_armed i m (timer_content (vs (Guarded section.Timer)))))
-effect (Fires m) vs = values_with vs (Guarded section.Timer) (Delays (with_fired (timer_content (vs (Guarded section.Timer)))))
+effect (Arms i m) vs = values_with vs (Guarded section.Timer)
+    (Delays (with_armed i m (timer_content (vs (Guarded section.Timer)))))
+effect (Fires m) vs = values_with vs (Guarded section.Timer)
+    (Delays (with_fired (timer_content (vs (Guarded section.Timer)))))
 effect (Cancels n h) vs =
     values_with vs (Guarded section.Timer) (Delays (with_cancelled n h (timer_content (vs (Guarded section.Timer)))))
 effect (Moves n h i) vs =

@@ -1,6 +1,8 @@
 -- What is kept of those who enter sections, with one more point.
-use Rattle.std.proofs.Common.{◌≡◌, ◌≢◌, ◌⊎◌, ◌↔◌, ◌&&◌, ◌≤◌, ◌<◌, Bool, true, false, not, IsTrue, ℕ, max, min, List, [], ◌∷◌, ◌++◌}
-use Rattle.std.proofs.Common.{map, slice_get, Option, Some, None, if◌then◌else◌, refl, sym, ap, subst, ◌∙◌, inl, inr, ⊎_elim, arith}
+use Rattle.std.proofs.Common.{◌≡◌, ◌≢◌, ◌⊎◌, ◌↔◌, ◌&&◌, ◌≤◌, ◌<◌, Bool, true, false, not, IsTrue, ℕ, max, min, List, []}
+use Rattle.std.proofs.Common.{◌∷◌, ◌++◌}
+use Rattle.std.proofs.Common.{map, slice_get, Option, Some, None, if◌then◌else◌, refl, sym, ap, subst, ◌∙◌, inl, inr}
+use Rattle.std.proofs.Common.{⊎_elim, arith}
 use Rattle.std.specs.List.{AllByRecursion, list_any, Contains}
 use Rattle.std.proofs.lemmas.Bool.{cases_lt}
 use Rattle.std.proofs.lemmas.List.Folds.{list_any-append}
@@ -18,8 +20,10 @@ use Rattle.rt_points.specs.Point.{Point, sections}
 use Rattle.rt_points.specs.declared.point.Owner.TheVariants.{Starting, Thread, Handling}
 use Rattle.rt_points.specs.ExecutionPriority.{owner_value}
 use Rattle.rt_judge.specs.Inside.Kept.{EntersBy, FreeAt}
-use Rattle.rt_judge.specs.Inside.Entering.{Enterer, priority_behind, IsGreatestPriority, IsLeastValue, IsLeastOrNone, IsEntering}
-use Rattle.rt_judge.specs.Inside.Entering.{TellsOfSections, least, with_entering, row_with_entering, rows_with_entering, EntersNone}
+use Rattle.rt_judge.specs.Inside.Entering.{Enterer, priority_behind, IsGreatestPriority, IsLeastValue, IsLeastOrNone}
+use Rattle.rt_judge.specs.Inside.Entering.{IsEntering}
+use Rattle.rt_judge.specs.Inside.Entering.{TellsOfSections, least, with_entering, row_with_entering, rows_with_entering}
+use Rattle.rt_judge.specs.Inside.Entering.{EntersNone}
 use Rattle.rt_judge.specs.Inside.Values.{outside_value}
 use Rattle.rt_judge.specs.declared.entering.Entering.{Entering}
 use Rattle.rt_judge.specs.declared.entering.Sections.{Sections}
@@ -32,7 +36,8 @@ is_not true h = absurd (h refl)
 is_not false h = refl
 
 -- at one point one line stands
-module _ (img : Image) (p : Point) (i j : Instr) (x y : Section) (stands : EntersBy img p i x) (other : EntersBy img p j y) where
+module _ (img : Image) (p : Point) (i j : Instr) (x y : Section) (stands : EntersBy img p i x)
+    (other : EntersBy img p j y) where
   same_line : line_of i x ≡ line_of j y
   same_line =
       let was : slice_get img.code p.address ≡ line_of i x = stands in
@@ -81,7 +86,8 @@ module _ (img : Image) (ps : List Point) (p : Point) (i : Instr) (x : Section) (
   priority_same : (q : Point) (j : Instr) → p ≡ q → i ≡ j → priority_behind img q j x ≡ priority_now
   priority_same q j same one = sym (ap (λ r. priority_behind img r i x) same ∙ ap (λ k. priority_behind img q k x) one)
 
-  greatest : (old : ℕ) → IsGreatestPriority img ps x old → IsGreatestPriority img (ps ++ p ∷ []) x (max old priority_now)
+  greatest : (old : ℕ) → IsGreatestPriority img ps x old → IsGreatestPriority img (ps ++ p ∷ []) x
+      (max old priority_now)
   greatest old g = ⊎_elim
       (λ lower. record {
         all = λ q j e. by_cases x q j e
@@ -111,7 +117,8 @@ module _ (img : Image) (ps : List Point) (p : Point) (i : Instr) (x : Section) (
 
   least_value : (old new : Option ℕ) → IsLeastOrNone img ps x old → IsValueOf img p new
       → IsLeastOrNone img (ps ++ p ∷ []) x (least old new)
-  least_value None None none value = λ q j e. by_cases x q j e (none q j) (λ same _ _. subst (λ (r : Point). r.owner ≡ Starting) same value)
+  least_value None None none value = λ q j e. by_cases x q j e (none q j)
+      (λ same _ _. subst (λ (r : Point). r.owner ≡ Starting) same value)
   least_value None (Some v) none value = record {
     all = λ q j e outside. by_cases x q j e
         (λ before. absurd (outside (none q j before)))
@@ -156,7 +163,8 @@ module _ (img : Image) (ps : List Point) (p : Point) (i : Instr) (x : Section) (
       (cases_lt u v)
 
   -- a row with the next who enters
-  module _ (e : Entering) (of : e.section ≡ x) (priority : e.priority ≡ priority_behind img p i x) (value : IsValueOf img p e.value) where
+  module _ (e : Entering) (of : e.section ≡ x) (priority : e.priority ≡ priority_behind img p i x)
+      (value : IsValueOf img p e.value) where
     first_row : ((q : Point) (j : Instr) → ¬ Enterer img ps x q j) → IsEntering img (ps ++ p ∷ []) x e
     first_row none = record {
       priority = record {
@@ -178,7 +186,8 @@ module _ (img : Image) (ps : List Point) (p : Point) (i : Instr) (x : Section) (
         → IsEntering img (ps ++ p ∷ []) row.section row
     other_row row apart is = record {
       priority = record {
-        all = λ q j enters. by_cases row.section q j enters (is.priority.all q j) (λ _ _ same. absurd (apart (sym same)));
+        all = λ q j enters. by_cases row.section q j enters (is.priority.all q j)
+            (λ _ _ same. absurd (apart (sym same)));
         point = is.priority.point;
         instr = is.priority.instr;
         enterer = seen_before img ps p row.section is.priority.point is.priority.instr is.priority.enterer;
@@ -187,10 +196,13 @@ module _ (img : Image) (ps : List Point) (p : Point) (i : Instr) (x : Section) (
       value = other_value row.value is.value;
     }
       where
-        other_value : (v : Option ℕ) → IsLeastOrNone img ps row.section v → IsLeastOrNone img (ps ++ p ∷ []) row.section v
-        other_value None none = λ q j enters. by_cases row.section q j enters (none q j) (λ _ _ same. absurd (apart (sym same)))
+        other_value : (v : Option ℕ) → IsLeastOrNone img ps row.section v
+            → IsLeastOrNone img (ps ++ p ∷ []) row.section v
+        other_value None none = λ q j enters. by_cases row.section q j enters (none q j)
+            (λ _ _ same. absurd (apart (sym same)))
         other_value (Some v) l = record {
-          all = λ q j enters outside. by_cases row.section q j enters (λ before. l.all q j before outside) (λ _ _ same. absurd (apart (sym same)));
+          all = λ q j enters outside. by_cases row.section q j enters (λ before. l.all q j before outside)
+              (λ _ _ same. absurd (apart (sym same)));
           point = l.point;
           instr = l.instr;
           enterer = seen_before img ps p row.section l.point l.instr l.enterer;
@@ -204,7 +216,8 @@ module _ (img : Image) (ps : List Point) (p : Point) (i : Instr) (x : Section) (
         let old = subst (λ y. IsEntering img ps y row) same is in
         subst (λ y. IsEntering img (ps ++ p ∷ []) y (with_entering e row)) (sym same)
         (record {
-          priority = subst (λ n. IsGreatestPriority img (ps ++ p ∷ []) x (max row.priority n)) (sym (priority ∙ sym now_is))
+          priority = subst (λ n. IsGreatestPriority img (ps ++ p ∷ []) x (max row.priority n))
+              (sym (priority ∙ sym now_is))
               (greatest row.priority old.priority);
           value = least_value row.value e.value old.value value;
         })
@@ -227,7 +240,8 @@ module _ (img : Image) (ps : List Point) (p : Point) (i : Instr) (x : Section) (
         either true = inl refl
         either false = inr refl
 
-        added_here : (row : Entering) → is_same_section row.section e.section ≡ true → row_with_entering e row ≡ with_entering e row
+        added_here : (row : Entering) → is_same_section row.section e.section ≡ true → row_with_entering e row
+            ≡ with_entering e row
         added_here row same = rw same refl
 
         added_apart : (row : Entering) → is_same_section row.section e.section ≡ false → row_with_entering e row ≡ row
@@ -240,7 +254,8 @@ module _ (img : Image) (ps : List Point) (p : Point) (i : Instr) (x : Section) (
           | false ↦ λ apart. rw apart refl
         ] refl
 
-    any_added : (y : Section) (rows : List Entering) → list_any (λ row. is_same_section row.section y) (map (row_with_entering e) rows)
+    any_added : (y : Section) (rows : List Entering) → list_any (λ row. is_same_section row.section y)
+        (map (row_with_entering e) rows)
         ≡ list_any (λ row. is_same_section row.section y) rows
     any_added y [] = refl
     any_added y (row ∷ rows) = rw (section_added row, any_added y rows) refl
@@ -255,7 +270,8 @@ module _ (img : Image) (ps : List Point) (p : Point) (i : Instr) (x : Section) (
         → AllByRecursion (λ row. IsEntering img (ps ++ p ∷ []) row.section row) rows
     rows_apart [] none all = tt
     rows_apart (row ∷ rows) none all =
-        let parts = both_of_none (is_same_section row.section e.section) (list_any (λ r. is_same_section r.section e.section) rows) none in (
+        let parts = both_of_none (is_same_section row.section e.section)
+        (list_any (λ r. is_same_section r.section e.section) rows) none in (
           other_row row (λ same. absurd (let yes : is_same_section row.section e.section ≡ true =
               subst (λ y. is_same_section row.section y ≡ true) (same ∙ sym of) (is_same row.section) in
               let no = parts.0 in cc)) all.0,
@@ -263,7 +279,8 @@ module _ (img : Image) (ps : List Point) (p : Point) (i : Instr) (x : Section) (
         )
 
     -- what the rows have, with the next
-    module _ (s t : Sections) (tells : TellsOfSections img ps s) (free : t.free ≡ (s.free && not (list_any (λ o. is_same_section o.section x) p.inside)))
+    module _ (s t : Sections) (tells : TellsOfSections img ps s)
+        (free : t.free ≡ (s.free && not (list_any (λ o. is_same_section o.section x) p.inside)))
         (rows : t.rows.items ≡ rows_with_entering e s.rows.items) where
       free_here : IsTrue (not (list_any (λ o. is_same_section o.section x) p.inside)) ↔ FreeAt img p
       free_here = (
@@ -276,7 +293,8 @@ module _ (img : Image) (ps : List Point) (p : Point) (i : Instr) (x : Section) (
             (λ yes. open_free i x stands (any_inside x p.inside yes)),
       )
 
-      rows_now : AllByRecursion (λ row. IsEntering img (ps ++ p ∷ []) row.section row) (rows_with_entering e s.rows.items)
+      rows_now : AllByRecursion (λ row. IsEntering img (ps ++ p ∷ []) row.section row)
+          (rows_with_entering e s.rows.items)
       rows_now = elim (list_any (λ row. is_same_section row.section e.section) s.rows.items) as
           (λ b. list_any (λ row. is_same_section row.section e.section) s.rows.items ≡ b
           → AllByRecursion (λ row. IsEntering img (ps ++ p ∷ []) row.section row)
@@ -286,7 +304,8 @@ module _ (img : Image) (ps : List Point) (p : Point) (i : Instr) (x : Section) (
                 (rows_apart s.rows.items none tells.rows) (
                   subst (λ y. IsEntering img (ps ++ p ∷ []) y e) (sym of)
                       (first_row (λ q j before. absurd (let yes = tells.each x q j before in
-                      let no = subst (λ y. list_any (λ row. is_same_section row.section y) s.rows.items ≡ false) of none in cc))),
+                      let no = subst (λ y. list_any (λ row. is_same_section row.section y) s.rows.items ≡ false) of
+                      none in cc))),
                   tt,
                 )
           ] refl
@@ -295,11 +314,14 @@ module _ (img : Image) (ps : List Point) (p : Point) (i : Instr) (x : Section) (
           → list_any (λ row. is_same_section row.section y) (rows_with_entering e s.rows.items) ≡ true
       each_now y q j enters = elim (list_any (λ row. is_same_section row.section e.section) s.rows.items) as
           (λ b. list_any (λ row. is_same_section row.section e.section) s.rows.items ≡ b
-          → list_any (λ row. is_same_section row.section y) (if b then map (row_with_entering e) s.rows.items else s.rows.items ++ e ∷ []) ≡ true) [
+          → list_any (λ row. is_same_section row.section y)
+          (if b then map (row_with_entering e) s.rows.items else s.rows.items ++ e ∷ []) ≡ true) [
             | true ↦ λ there. any_added y s.rows.items ∙ by_cases y q j enters (tells.each y q j)
-                (λ _ _ same. subst (λ z. list_any (λ row. is_same_section row.section z) s.rows.items ≡ true) (of ∙ same) there)
+                (λ _ _ same. subst (λ z. list_any (λ row. is_same_section row.section z) s.rows.items ≡ true)
+                (of ∙ same) there)
             | false ↦ λ none. by_cases y q j enters
-                (λ before. any_left (λ row. is_same_section row.section y) s.rows.items (e ∷ []) (tells.each y q j before))
+                (λ before. any_left (λ row. is_same_section row.section y) s.rows.items (e ∷ [])
+                (tells.each y q j before))
                 (λ _ _ same. any_right (λ row. is_same_section row.section y) s.rows.items (e ∷ [])
                 (or_left (is_same_section e.section y) false
                 (subst (λ z. is_same_section e.section z ≡ true) (of ∙ same) (is_same e.section))))
@@ -308,12 +330,15 @@ module _ (img : Image) (ps : List Point) (p : Point) (i : Instr) (x : Section) (
       pub takes_enter : TellsOfSections img (ps ++ p ∷ []) t
       takes_enter = record {
         free = subst (λ b. IsTrue b ↔ AllByRecursion (FreeAt img) (ps ++ p ∷ [])) (sym free)
-            (tells_more s.free (not (list_any (λ o. is_same_section o.section x) p.inside)) (FreeAt img) ps p tells.free free_here);
+            (tells_more s.free (not (list_any (λ o. is_same_section o.section x) p.inside)) (FreeAt img) ps p tells.free
+            free_here);
         rows = subst (λ r. AllByRecursion (λ row. IsEntering img (ps ++ p ∷ []) row.section row) r) (sym rows) rows_now;
-        each = λ y q j enters. subst (λ r. list_any (λ row. is_same_section row.section y) r ≡ true) (sym rows) (each_now y q j enters);
+        each = λ y q j enters. subst (λ r. list_any (λ row. is_same_section row.section y) r ≡ true) (sym rows)
+            (each_now y q j enters);
       }
 
-pub no_enter : (img : Image) (p : Point) (i : Instr) (told : Option Note) → slice_get img.code p.address ≡ Some (i, told)
+pub no_enter : (img : Image) (p : Point) (i : Instr) (told : Option Note) → slice_get img.code p.address
+    ≡ Some (i, told)
     → EntersNone told → (j : Instr) (y : Section) → ¬ EntersBy img p j y
 no_enter img p i told stands none j y enters =
     let was : slice_get img.code p.address ≡ told_line i told = stands in
@@ -353,7 +378,8 @@ rows_more img ps p before [] all = tt
 rows_more img ps p before (row ∷ rows) all = (row_more img ps p before row all.0, rows_more img ps p before rows all.1)
 
 -- a point at which no section is entered
-pub takes_none : (img : Image) (ps : List Point) (p : Point) (s : Sections) → ((j : Instr) (y : Section) → ¬ EntersBy img p j y)
+pub takes_none : (img : Image) (ps : List Point) (p : Point) (s : Sections)
+    → ((j : Instr) (y : Section) → ¬ EntersBy img p j y)
     → TellsOfSections img ps s → TellsOfSections img (ps ++ p ∷ []) s
 takes_none img ps p s none tells =
     let before : (y : Section) (q : Point) (j : Instr) → Enterer img (ps ++ p ∷ []) y q j → Enterer img ps y q j =

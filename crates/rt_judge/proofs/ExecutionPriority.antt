@@ -1,4 +1,5 @@
--- The execution priority by going over the open sections from the inside: in which order they are counted does not matter.
+-- The execution priority by going over the open sections from the inside: in which order they are counted does not
+-- matter.
 use Rattle.std.proofs.Common.{◌≡◌, ℕ, min, List, [], ◌∷◌, refl, sym, ap, ◌∙◌, arith}
 use Rattle.rt_code.specs.Image.{Image}
 use Rattle.rt_points.specs.ExecutionPriority.{lowered_value, owner_value, execution_priority}

@@ -1,5 +1,6 @@
 -- What was found, with one more point.
-use Rattle.std.proofs.Common.{◌≡◌, ◌↔◌, ◌&&◌, Bool, true, false, IsTrue, ℕ, List, [], ◌∷◌, ◌++◌, length, slice_get, Option}
+use Rattle.std.proofs.Common.{◌≡◌, ◌↔◌, ◌&&◌, Bool, true, false, IsTrue, ℕ, List, [], ◌∷◌, ◌++◌, length, slice_get}
+use Rattle.std.proofs.Common.{Option}
 use Rattle.std.proofs.Common.{Some, None, refl, sym, ap, subst, ◌∙◌, arith, map, Bor, append_assoc}
 use Rattle.std.specs.Map.Iter.{deref_pair}
 use mathlib.Core.List.{map-append}
@@ -21,7 +22,8 @@ use Rattle.rt_judge.proofs.Lines.{instr_in, note_in, told_line, no_line}
 use Rattle.rt_judge.proofs.Seen.{tells_more, all_front, all_last}
 
 -- at one point one line stands
-module _ (img : Image) (p : Point) (i j : Instr) (told other : Option Note) (stands : slice_get img.code p.address ≡ Some (i, told))
+module _ (img : Image) (p : Point) (i j : Instr) (told other : Option Note)
+    (stands : slice_get img.code p.address ≡ Some (i, told))
     (there : slice_get img.code p.address ≡ Some (j, other)) where
   same_line : told_line i told ≡ told_line j other
   same_line =
@@ -39,7 +41,10 @@ module _ (img : Image) (ps : List Point) (p : Point) (i : Instr) (told : Option 
     (stands : slice_get img.code p.address ≡ Some (i, told)) where
   pub has_line : (b : Bool) → TellsOfAll b (HasLine img) ps → TellsOfAll b (HasLine img) (ps ++ p ∷ [])
   has_line b tells = (
-    λ yes. all_append (HasLine img) ps (p ∷ []) (tells.0 yes) (slice_get_within img.code p.address (i, told) stands, tt),
+    λ yes. all_append (HasLine img) ps (p ∷ []) (tells.0 yes) (
+      slice_get_within img.code p.address (i, told) stands,
+      tt,
+    ),
     λ all. tells.1 (all_front (HasLine img) ps p all),
   )
 
@@ -75,7 +80,10 @@ module _ (img : Image) (ps : List Point) (p : Point) (absent : slice_get img.cod
 
   pub operates_nowhere : (b : Bool) → TellsOfAll b (OperatesAt img) ps → TellsOfAll b (OperatesAt img) (ps ++ p ∷ [])
   operates_nowhere b tells = (
-    λ yes. all_append (OperatesAt img) ps (p ∷ []) (tells.0 yes) ((λ i told stands. absurd (nothing i told stands)), tt),
+    λ yes. all_append (OperatesAt img) ps (p ∷ []) (tells.0 yes) (
+      (λ i told stands. absurd (nothing i told stands)),
+      tt,
+    ),
     λ all. tells.1 (all_front (OperatesAt img) ps p all),
   )
 
@@ -86,7 +94,8 @@ module _ (img : Image) (ps : List Point) (p : Point) (absent : slice_get img.cod
   )
 
 -- the points of a table, one more
-pub points_more : (owner : Owner) (ps : List Point) (ys : List (Bor ℕ × Bor (List Opened))) (y : Bor ℕ × Bor (List Opened))
+pub points_more : (owner : Owner) (ps : List Point) (ys : List (Bor ℕ × Bor (List Opened)))
+    (y : Bor ℕ × Bor (List Opened))
     → (ps ++ points_of owner (map deref_pair ys)) ++ point y.0.now owner y.1.now ∷ []
     ≡ ps ++ points_of owner (map deref_pair (ys ++ y ∷ []))
 points_more owner ps ys y =

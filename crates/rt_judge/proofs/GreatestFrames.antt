@@ -1,5 +1,6 @@
 -- The greatest frame of a priority value, row after row.
-use Rattle.std.proofs.Common.{◌≡◌, ◌+◌, ◌*◌, ◌==◌, Bool, true, false, ℕ, max, List, [], ◌∷◌, map, filter, Option, Some, None}
+use Rattle.std.proofs.Common.{◌≡◌, ◌+◌, ◌*◌, ◌==◌, Bool, true, false, ℕ, max, List, [], ◌∷◌, map, filter, Option, Some}
+use Rattle.std.proofs.Common.{None}
 use Rattle.std.proofs.Common.{suc, cond, if◌then◌else◌, refl, sym, ap, ◌∙◌, arith}
 use Rattle.std.specs.List.{cons_option}
 use Rattle.rt_ids.specs.Lists.{greatest}
@@ -39,15 +40,20 @@ more_frames f (g ∷ fs) = refl
 -- a row more, by its handler
 by_handler : (value : ℕ) (o : Option Handler) (rows : List IrqRow)
     → greater (frame_of_value value o) (greatest_or_none (frames value rows))
-    ≡ greatest_or_none (map (λ (h : Handler). h.frame) (filter (λ (h : Handler). h.value == value) (cons_option o (handlers rows))))
+    ≡ greatest_or_none (map (λ (h : Handler). h.frame) (filter (λ (h : Handler). h.value == value)
+    (cons_option o (handlers rows))))
 by_handler value None rows = refl
-by_handler value (Some h) rows = elim (h.value == value) as (λ b. greater (if b then Some h.frame else None) (greatest_or_none (frames value rows))
-    ≡ greatest_or_none (map (λ (h : Handler). h.frame) (cond b (h ∷ filter (λ (h : Handler). h.value == value) (handlers rows)) (filter (λ (h : Handler). h.value == value) (handlers rows))))) [
+by_handler value (Some h) rows = elim (h.value == value) as
+    (λ b. greater (if b then Some h.frame else None) (greatest_or_none (frames value rows))
+    ≡ greatest_or_none (map (λ (h : Handler). h.frame)
+    (cond b (h ∷ filter (λ (h : Handler). h.value == value) (handlers rows))
+    (filter (λ (h : Handler). h.value == value) (handlers rows))))) [
       | true ↦ more_frames h.frame (frames value rows)
       | false ↦ refl
     ]
 
-pub greatest_of_frames : (value : ℕ) (rows : List IrqRow) → greatest_frame value rows ≡ greatest_or_none (frames value rows)
+pub greatest_of_frames : (value : ℕ) (rows : List IrqRow) → greatest_frame value rows
+    ≡ greatest_or_none (frames value rows)
 greatest_of_frames value [] = refl
 greatest_of_frames value (row ∷ rows) =
     ap (greater (frame_at value row)) (greatest_of_frames value rows) ∙ by_handler value row.handler rows
@@ -69,9 +75,11 @@ pub below_none : (img : Image) → bytes_below img 0 ≡ 0
 unfolding bytes_below
 below_none img = refl
 
-below_suc : (img : Image) (v : ℕ) → bytes_below img (suc v) ≡ bytes_below img v + bytes_of (entry_words img) (frames_at img v)
+below_suc : (img : Image) (v : ℕ) → bytes_below img (suc v) ≡ bytes_below img v
+    + bytes_of (entry_words img) (frames_at img v)
 unfolding bytes_below
 below_suc img v = refl
 
-pub below_one_more : (img : Image) (v : ℕ) → bytes_below img (v + 1) ≡ bytes_below img v + bytes_of (entry_words img) (frames_at img v)
+pub below_one_more : (img : Image) (v : ℕ) → bytes_below img (v + 1) ≡ bytes_below img v
+    + bytes_of (entry_words img) (frames_at img v)
 below_one_more img v = let e : v + 1 ≡ suc v = omega arith in ap (bytes_below img) e ∙ below_suc img v

@@ -1,6 +1,8 @@
 -- The points of an owner, from a walk through its code; and those of all owners.
-use Rattle.std.proofs.Common.{◌≡◌, ◌≢◌, ◌⊎◌, ◌≤◌, ◌<◌, ◌+◌, ℕ, suc, List, [], ◌∷◌, ◌++◌, map, length, slice_get, Option, Some, None}
-use Rattle.std.proofs.Common.{refl, sym, ap, subst, ◌∙◌, inl, inr, ⊎_elim, arith, append_assoc, append-nil, Result, Ok, Err, IfOk, Bool, true, false, MatchBool, MatchOption}
+use Rattle.std.proofs.Common.{◌≡◌, ◌≢◌, ◌⊎◌, ◌≤◌, ◌<◌, ◌+◌, ℕ, suc, List, [], ◌∷◌, ◌++◌, map, length, slice_get, Option}
+use Rattle.std.proofs.Common.{Some, None}
+use Rattle.std.proofs.Common.{refl, sym, ap, subst, ◌∙◌, inl, inr, ⊎_elim, arith, append_assoc, append-nil, Result, Ok}
+use Rattle.std.proofs.Common.{Err, IfOk, Bool, true, false, MatchBool, MatchOption}
 use Rattle.std.specs.List.{AllByRecursion, Contains}
 use Rattle.std.specs.BTreeMap.{get, IsOrdered}
 use Rattle.std.specs.Ordering.{nat_cmp, eq_by_cmp, is_eq}
@@ -12,7 +14,8 @@ use Rattle.std.proofs.lemmas.Map.Keys.{IsDistinct-from_sorted}
 use Rattle.std.proofs.lemmas.Map.Lookups.{exact_unsigned}
 use Rattle.std.proofs.lemmas.Map.Views.{Contains-from_lookup, lookup-from_Contains}
 use Rattle.std.proofs.lemmas.Option.{none-some, slice_get_within}
-use Rattle.rt_lemmas.proofs.Membership.{contains_here, contains_there, contains_cases, contains_none, all_append, all_has, all_from_members}
+use Rattle.rt_lemmas.proofs.Membership.{contains_here, contains_there, contains_cases, contains_none, all_append}
+use Rattle.rt_lemmas.proofs.Membership.{all_has, all_from_members}
 use Rattle.rt_ids.specs.Lists.{then_from}
 use Rattle.rt_code.specs.Image.{Image}
 use Rattle.rt_code.specs.declared.image.Handler.{Handler}
@@ -28,7 +31,8 @@ use Rattle.rt_judge.specs.Inside.Points.{point}
 use Rattle.rt_judge.specs.Inside.Visits.{point_of, place_of}
 use Rattle.rt_judge.specs.Inside.Walks.{Table, Has, IsWalked}
 use Rattle.rt_judge.specs.Inside.Finds.{Finds, points_of}
-use Rattle.rt_judge.specs.Inside.Looks.{LooksFrom, LooksBehind, LooksFromEntry, Looks, Looked, LookedBelow, IsThread, IsOf, IsBelow}
+use Rattle.rt_judge.specs.Inside.Looks.{LooksFrom, LooksBehind, LooksFromEntry, Looks, Looked, LookedBelow, IsThread}
+use Rattle.rt_judge.specs.Inside.Looks.{IsOf, IsBelow}
 use Rattle.rt_judge.specs.declared.findings.Findings.{Findings}
 use Rattle.rt_judge.specs.declared.walk.Visit.{Visit}
 
@@ -42,17 +46,20 @@ entries_points owner [] e is = absurd (contains_none e is)
 entries_points owner (d ∷ entries) e is = elim (contains_cases d entries e is) [
   | inl same ↦ subst (λ (f : ℕ × List Opened). Contains (points_of owner (d ∷ entries)) (point f.0 owner f.1)) same
       (contains_here (point d.0 owner d.1) (points_of owner entries))
-  | inr behind ↦ contains_there (point d.0 owner d.1) (points_of owner entries) (point e.0 owner e.1) (entries_points owner entries e behind)
+  | inr behind ↦ contains_there (point d.0 owner d.1) (points_of owner entries) (point e.0 owner e.1)
+      (entries_points owner entries e behind)
 ]
 
-has_points : (owner : Owner) (t : Table) (visit : Visit) → Has t visit → Contains (points_of owner t.entries) (point_of owner visit)
+has_points : (owner : Owner) (t : Table) (visit : Visit) → Has t visit
+    → Contains (points_of owner t.entries) (point_of owner visit)
 has_points owner t visit has =
     entries_points owner t.entries (visit.address, visit.nesting)
     (Contains-from_lookup is_eq_same visit.address visit.nesting t.entries has)
 
 points_have : (img : Image) (owner : Owner) (t : Table) → IsOrdered nat_cmp t
     → ((visit : Visit) → Has t visit → IsPoint img (point_of owner visit)) → (entries : List (ℕ × List Opened))
-    → ((e : ℕ × List Opened) → Contains entries e → Contains t.entries e) → AllByRecursion (IsPoint img) (points_of owner entries)
+    → ((e : ℕ × List Opened) → Contains entries e → Contains t.entries e)
+    → AllByRecursion (IsPoint img) (points_of owner entries)
 points_have img owner t ordered sound [] inside = tt
 points_have img owner t ordered sound (e ∷ entries) inside = (
   sound (record { address = e.0; nesting = e.1 })
@@ -63,14 +70,16 @@ points_have img owner t ordered sound (e ∷ entries) inside = (
 
 -- a walk from where an owner begins has all its points
 module _ (img : Image) (owner : Owner) (starts : List Visit) (old new : Findings) (bs : List Visit)
-    (looked : LooksFrom img owner starts old new bs) (complete : (p : Point) → IsPoint img p → p.owner ≡ owner → Has looked.table (place_of p)) where
+    (looked : LooksFrom img owner starts old new bs) (complete : (p : Point) → IsPoint img p → p.owner ≡ owner
+    → Has looked.table (place_of p)) where
   of_owner : (p : Point) → p.owner ≡ owner → point_of owner (place_of p) ≡ p
   of_owner p same = λ i. record { address = p.address; owner = sym same i; inside = p.inside }
 
   pub looks_of : Looks img (λ o. o ≡ owner) old new
   looks_of = record {
     points = points_of owner looked.table.entries;
-    sound = points_have img owner looked.table looked.walked.ordered looked.walked.table.points looked.table.entries (λ e is. is);
+    sound = points_have img owner looked.table looked.walked.ordered looked.walked.table.points looked.table.entries
+        (λ e is. is);
     all = λ p is mine. subst (Contains (points_of owner looked.table.entries)) (of_owner p mine)
         (has_points owner looked.table (place_of p) (complete p is mine));
     one = λ p q is_p is_q mine same at.
@@ -86,7 +95,8 @@ module _ (img : Image) (owner : Owner) (starts : List Visit) (old new : Findings
       some_of x y e = cc
 
 -- who runs behind an instruction is who ran, or the thread behind `init`
-serves : (i : Instr) (owner : Owner) → (owner_after i owner ≡ owner) ⊎ ((owner ≡ Starting) × (owner_after i owner ≡ Thread))
+serves : (i : Instr) (owner : Owner) → (owner_after i owner ≡ owner)
+    ⊎ ((owner ≡ Starting) × (owner_after i owner ≡ Thread))
 serves instr.Serve Starting = inr (refl, refl)
 serves i owner = inl refl
 
@@ -94,7 +104,8 @@ not_starting : (i : Instr) (owner : Owner) → owner_after i owner ≡ Starting 
 not_starting i owner e = ⊎_elim (λ same. sym same ∙ e) (λ both. both.0) (serves i owner)
 
 -- all points of `init`
-module _ (img : Image) (t : Table) (bs : List Visit) (start : Visit) (begins : start ≡ record { address = 0; nesting = [] })
+module _ (img : Image) (t : Table) (bs : List Visit) (start : Visit)
+    (begins : start ≡ record { address = 0; nesting = [] })
     (walked : IsWalked img Starting (start ∷ []) t bs) where
   pub starting_has : (p : Point) → IsPoint img p → p.owner ≡ Starting → Has t (place_of p)
   starting_has p Begins mine = subst (Has t) begins (walked.began start (contains_here start []))
@@ -108,7 +119,8 @@ module _ (img : Image) (t : Table) (bs : List Visit) (start : Visit) (begins : s
   pub thread_starts : (p q : Point) → IsPoint img p → LeadsTo img p q → p.owner ≡ Starting → q.owner ≡ Thread
       → Contains bs (place_of q)
   thread_starts p q is to was now =
-      walked.left (place_of p) q (starting_has p is was) (subst (λ o. LeadsTo img (point p.address o p.inside) q) was to)
+      walked.left (place_of p) q (starting_has p is was)
+      (subst (λ o. LeadsTo img (point p.address o p.inside) q) was to)
       (λ e. absurd (let both : Thread ≡ Starting = sym now ∙ e in cc))
 
   module _ (u : Table) (cs : List Visit) (behind : IsWalked img Thread bs u cs) where
@@ -124,8 +136,10 @@ module _ (img : Image) (t : Table) (bs : List Visit) (start : Visit) (begins : s
         (serves to.line.0 p.owner)
 
 -- all points of a handler
-module _ (img : Image) (visit : ℕ) (h : Handler) (is : handler_at img visit ≡ Some h) (t : Table) (bs : List Visit) (start : Visit)
-    (begins : start ≡ record { address = h.entry; nesting = [] }) (walked : IsWalked img (Handling visit) (start ∷ []) t bs) where
+module _ (img : Image) (visit : ℕ) (h : Handler) (is : handler_at img visit ≡ Some h) (t : Table) (bs : List Visit)
+    (start : Visit)
+    (begins : start ≡ record { address = h.entry; nesting = [] })
+    (walked : IsWalked img (Handling visit) (start ∷ []) t bs) where
   pub handler_has : (p : Point) → IsPoint img p → p.owner ≡ Handling visit → Has t (place_of p)
   handler_has p Begins mine = absurd (let e : Starting ≡ Handling visit = mine in cc)
   handler_has p (Enters other g there) mine =
@@ -142,7 +156,8 @@ module _ (img : Image) (visit : ℕ) (h : Handler) (is : handler_at img visit �
       (serves to.line.0 p.owner)
 
 -- one after another
-pub looks_then : (img : Image) (M N O : Owner → Type 0) (a b c : Findings) → ((o : Owner) → O o → M o ⊎ N o) → Looks img M a b
+pub looks_then : (img : Image) (M N O : Owner → Type 0) (a b c : Findings) → ((o : Owner) → O o → M o ⊎ N o)
+    → Looks img M a b
     → Looks img N b c → Looks img O a c
 looks_then img M N O a b c split first second = record {
   points = first.points ++ second.points;
@@ -181,7 +196,8 @@ owner_below img s (Leads p q from to) = ⊎_elim
     (λ served. subst (IsBelow (length img.irqs)) (sym (to.owner ∙ served.1)) tt)
     (serves to.line.0 p.owner)
 
-pub looks_weaker : (img : Image) (M O : Owner → Type 0) (a b : Findings) → ((o : Owner) → O o → M o) → Looks img M a b → Looks img O a b
+pub looks_weaker : (img : Image) (M O : Owner → Type 0) (a b : Findings) → ((o : Owner) → O o → M o) → Looks img M a b
+    → Looks img O a b
 looks_weaker img M O a b wider looks = record {
   points = looks.points;
   sound = looks.sound;
@@ -191,11 +207,13 @@ looks_weaker img M O a b wider looks = record {
   finds = looks.finds;
 }
 
-pub looks_thread : (img : Image) (a b c : Findings) (starts bs : List Visit) → starts ≡ record { address = 0; nesting = [] } ∷ []
+pub looks_thread : (img : Image) (a b c : Findings) (starts bs : List Visit) → starts
+    ≡ record { address = 0; nesting = [] } ∷ []
     → LooksFrom img Starting starts a b bs → LooksBehind img bs b c → Looks img IsThread a c
 looks_thread img a b c starts bs begins first behind =
     let start : Visit = record { address = 0; nesting = [] } in
-    let from : LooksFrom img Starting (start ∷ []) a b bs = subst (λ (s : List Visit). LooksFrom img Starting s a b bs) begins first in
+    let from : LooksFrom img Starting (start ∷ []) a b bs = subst (λ (s : List Visit). LooksFrom img Starting s a b bs)
+    begins first in
     looks_then img (λ o. o ≡ Starting) (λ o. o ≡ Thread) IsThread a b c (λ o is. is)
     (looks_of img Starting (start ∷ []) a b bs from (starting_has img from.table bs start refl from.walked))
     (looks_of img Thread bs b c behind.0 behind.1
@@ -229,9 +247,11 @@ looked_none img a b found looks = (a, found, looks_weaker img IsThread (IsBelow 
 one_more : (n : ℕ) (o : Owner) → IsBelow (n + 1) o → IsBelow n o ⊎ IsOf n o
 one_more n Starting is = inl tt
 one_more n Thread is = inl tt
-one_more n (Handling visit) is = ⊎_elim (λ same. inr (ap Handling same)) (λ apart. inl (omega (arith, is, apart))) (cases_eq visit n)
+one_more n (Handling visit) is = ⊎_elim (λ same. inr (ap Handling same)) (λ apart. inl (omega (arith, is, apart)))
+    (cases_eq visit n)
 
-pub looked_more : (img : Image) (n : ℕ) (a b : Findings) → LookedBelow img n a → Looks img (IsOf n) a b → LookedBelow img (n + 1) b
+pub looked_more : (img : Image) (n : ℕ) (a b : Findings) → LookedBelow img n a → Looks img (IsOf n) a b
+    → LookedBelow img (n + 1) b
 looked_more img n a b looked looks =
     (looked.0, looked.1, looks_then img (IsBelow n) (IsOf n) (IsBelow (n + 1)) looked.0 a b (one_more n) looked.2 looks)
 

@@ -1,5 +1,6 @@
 -- Points that were looked at, with one more.
-use Rattle.std.proofs.Common.{◌≡◌, ◌⊎◌, ◌↔◌, ◌&&◌, Bool, true, false, not, IsTrue, ℕ, zero, suc, List, [], ◌∷◌, ◌++◌, map}
+use Rattle.std.proofs.Common.{◌≡◌, ◌⊎◌, ◌↔◌, ◌&&◌, Bool, true, false, not, IsTrue, ℕ, zero, suc, List, [], ◌∷◌, ◌++◌}
+use Rattle.std.proofs.Common.{map}
 use Rattle.std.proofs.Common.{slice_get, Some, refl, sym, ap, subst, ◌∙◌, inl, inr}
 use Rattle.std.specs.List.{AllByRecursion, list_any}
 use Rattle.std.proofs.lemmas.Option.{same_Some, none-some}
@@ -13,7 +14,8 @@ use Rattle.rt_points.specs.declared.point.Opened.{Opened}
 use Rattle.rt_judge.specs.Inside.Kept.{TellsOfAll}
 use Rattle.rt_judge.proofs.SameSections.{same_is, is_same}
 
-pub all_front : {A : Type 0} (P : A → Type 0) (xs : List A) (x : A) → AllByRecursion P (xs ++ x ∷ []) → AllByRecursion P xs
+pub all_front : {A : Type 0} (P : A → Type 0) (xs : List A) (x : A) → AllByRecursion P (xs ++ x ∷ [])
+    → AllByRecursion P xs
 all_front P [] x all = tt
 all_front P (y ∷ xs) x all = (all.0, all_front P xs x all.1)
 
@@ -38,10 +40,11 @@ tells_more b r P ps p tells one = (
 pub any_inside : (x : Section) (inside : List Opened) → list_any (λ o. is_same_section o.section x) inside ≡ true
     → IsIn (sections inside) x
 any_inside x [] is = absurd cc
-any_inside x (o ∷ outer) is = elim (or_cases (is_same_section o.section x) (list_any (λ o. is_same_section o.section x) outer) is) [
-  | inl here ↦ (0, ap Some (same_is o.section x here))
-  | inr there ↦ let rest = any_inside x outer there in (suc rest.0, rest.1)
-]
+any_inside x (o ∷ outer) is = elim (or_cases (is_same_section o.section x)
+    (list_any (λ o. is_same_section o.section x) outer) is) [
+      | inl here ↦ (0, ap Some (same_is o.section x here))
+      | inr there ↦ let rest = any_inside x outer there in (suc rest.0, rest.1)
+    ]
 
 pub inside_any : (x : Section) (inside : List Opened) → IsIn (sections inside) x
     → list_any (λ o. is_same_section o.section x) inside ≡ true
@@ -50,4 +53,5 @@ inside_any x (o ∷ outer) (zero, at) =
     or_left (is_same_section o.section x) (list_any (λ o. is_same_section o.section x) outer)
     (subst (λ y. is_same_section o.section y ≡ true) (same_Some o.section x at) (is_same o.section))
 inside_any x (o ∷ outer) (suc i, at) =
-    or_right (is_same_section o.section x) (list_any (λ o. is_same_section o.section x) outer) (inside_any x outer (i, at))
+    or_right (is_same_section o.section x) (list_any (λ o. is_same_section o.section x) outer)
+    (inside_any x outer (i, at))

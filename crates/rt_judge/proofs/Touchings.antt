@@ -1,6 +1,8 @@
 -- What is kept of those who touch cells, with one more point.
-use Rattle.std.proofs.Common.{◌≡◌, ◌≢◌, ◌⊎◌, ◌≤◌, ◌<◌, ◌||◌, ◌==◌, Bool, true, false, not, cond, ℕ, zero, suc, List, [], ◌∷◌, ◌++◌}
-use Rattle.std.proofs.Common.{map, filter, length, slice_get, slice_set, option_map, Option, Some, None, refl, sym, ap, subst, ◌∙◌}
+use Rattle.std.proofs.Common.{◌≡◌, ◌≢◌, ◌⊎◌, ◌≤◌, ◌<◌, ◌||◌, ◌==◌, Bool, true, false, not, cond, ℕ, zero, suc, List, []}
+use Rattle.std.proofs.Common.{◌∷◌, ◌++◌}
+use Rattle.std.proofs.Common.{map, filter, length, slice_get, slice_set, option_map, Option, Some, None, refl, sym, ap}
+use Rattle.std.proofs.Common.{subst, ◌∙◌}
 use Rattle.std.proofs.Common.{inl, inr, ⊎_elim, arith, eq-eqb}
 use Rattle.std.specs.List.{Contains, list_any}
 use Rattle.std.proofs.lemmas.Bool.{cases_eq, eqb-true}
@@ -18,7 +20,8 @@ use Rattle.rt_points.specs.ExecutionPriority.{owner_value}
 use Rattle.rt_points.specs.Rules.{touched_cell, IsStore}
 use Rattle.rt_points.specs.declared.point.Opened.{Opened}
 use Rattle.rt_points.specs.declared.point.Owner.TheVariants.{Starting}
-use Rattle.rt_judge.specs.Inside.Touching.{Toucher, SomeIfTrue, IsTouching, TellsOfTouching, TellsOfCells, is_stored, is_open}
+use Rattle.rt_judge.specs.Inside.Touching.{Toucher, SomeIfTrue, IsTouching, TellsOfTouching, TellsOfCells, is_stored}
+use Rattle.rt_judge.specs.Inside.Touching.{is_open}
 use Rattle.rt_judge.specs.Inside.Touching.{IsFirst, IsWith, IsNext, IsTouched, IsTouchOf}
 use Rattle.rt_judge.specs.declared.touching.Touching.{Touching}
 use Rattle.rt_judge.specs.declared.touching.Touch.{Touch}
@@ -49,12 +52,14 @@ test_store (Stores cell) is = refl
 -- what a filter leaves
 in_filter : (f : Section → Bool) (xs : List Section) (x : Section) → IsIn (filter f xs) x → IsIn xs x × (f x ≡ true)
 in_filter f [] x (i, at) = absurd (none-some x at)
-in_filter f (y ∷ xs) x is = elim (f y) as (λ b. f y ≡ b → IsIn (cond b (y ∷ filter f xs) (filter f xs)) x → IsIn (y ∷ xs) x × (f x ≡ true)) [
-  | true ↦ λ passes one. first_or (in_filter f xs x) one passes
-  | false ↦ λ passes one. let rest = in_filter f xs x one in ((suc rest.0.0, rest.0.1), rest.1)
-] refl is
+in_filter f (y ∷ xs) x is = elim (f y) as (λ b. f y ≡ b → IsIn (cond b (y ∷ filter f xs) (filter f xs)) x
+    → IsIn (y ∷ xs) x × (f x ≡ true)) [
+      | true ↦ λ passes one. first_or (in_filter f xs x) one passes
+      | false ↦ λ passes one. let rest = in_filter f xs x one in ((suc rest.0.0, rest.0.1), rest.1)
+    ] refl is
   where
-    first_or : (IsIn (filter f xs) x → IsIn xs x × (f x ≡ true)) → IsIn (y ∷ filter f xs) x → f y ≡ true → IsIn (y ∷ xs) x × (f x ≡ true)
+    first_or : (IsIn (filter f xs) x → IsIn xs x × (f x ≡ true)) → IsIn (y ∷ filter f xs) x → f y ≡ true
+        → IsIn (y ∷ xs) x × (f x ≡ true)
     first_or more (zero, at) passes = ((0, at), subst (λ z. f z ≡ true) (same_Some y x at) passes)
     first_or more (suc i, at) passes = let rest = more (i, at) in ((suc rest.0.0, rest.0.1), rest.1)
 
@@ -70,7 +75,8 @@ filter_in f (y ∷ xs) x (suc i, at) passes =
       | false ↦ rest
     ]
 
-get_set : (rows : List (Option Touching)) (n k : ℕ) (v row : Option Touching) → slice_get (slice_set rows n v) k ≡ Some row
+get_set : (rows : List (Option Touching)) (n k : ℕ) (v row : Option Touching) → slice_get (slice_set rows n v) k
+    ≡ Some row
     → ((k ≡ n) × (v ≡ row)) ⊎ ((k ≢ n) × (slice_get rows k ≡ Some row))
 get_set [] n k v row at = absurd (none-some row at)
 get_set (x ∷ xs) zero zero v row at = inl (refl, same_Some v row at)
@@ -98,7 +104,8 @@ module _ (img : Image) (ps : List Point) (p : Point) where
       → (row : Option Touching) → TellsOfTouching img ps k row → TellsOfTouching img (ps ++ p ∷ []) k row
   row_more k before None none = λ q b t. none q b (before q b t)
   row_more k before (Some t) is = record {
-    stored = some_like t.stored (λ q b. Toucher img ps k q b × IsStore b) (λ q b. Toucher img (ps ++ p ∷ []) k q b × IsStore b)
+    stored = some_like t.stored (λ q b. Toucher img ps k q b × IsStore b)
+        (λ q b. Toucher img (ps ++ p ∷ []) k q b × IsStore b)
         (λ q b h. (seen_before k q b h.0, h.1)) (λ q b h. (before q b h.0, h.1)) is.stored;
     first = is.first;
     access = is.access;
@@ -169,14 +176,17 @@ module _ (img : Image) (ps : List Point) (p : Point) (i : Instr) (told : Option 
     same_access : (b : Access) → touched_cell i ≡ Some b → a ≡ b
     same_access b other = same_Some a b (sym by ∙ other)
 
-    apart : (k : ℕ) → k ≢ touch.cell → (q : Point) (b : Access) → Toucher img (ps ++ p ∷ []) k q b → Toucher img ps k q b
+    apart : (k : ℕ) → k ≢ touch.cell → (q : Point) (b : Access) → Toucher img (ps ++ p ∷ []) k q b
+        → Toucher img ps k q b
     apart k other q b t = by_cases k q b t (λ h. h)
         (λ same _ is cell. absurd (other (sym cell ∙ ap cell_of (sym (same_access b is)) ∙ at)))
 
     pub takes_outer_touch : (rows : List (Option Touching)) → length rows ≤ touch.cell
         → TellsOfCells img ps rows → TellsOfCells img (ps ++ p ∷ []) rows
     takes_outer_touch rows past tells k row is =
-        row_more img ps p k (apart k (λ e. absurd (let within = slice_get_within rows k row is in omega (arith, within, e, past)))) row (tells k row is)
+        row_more img ps p k
+        (apart k (λ e. absurd (let within = slice_get_within rows k row is in omega (arith, within, e, past)))) row
+        (tells k row is)
 
     here : Toucher img (ps ++ p ∷ []) touch.cell p a
     here = record {
@@ -195,17 +205,21 @@ module _ (img : Image) (ps : List Point) (p : Point) (i : Instr) (told : Option 
     first : (t : Touching) → IsFirst touch p.inside t → ((q : Point) (b : Access) → ¬ Toucher img ps touch.cell q b)
         → IsTouching img (ps ++ p ∷ []) touch.cell t
     first t is none = record {
-      stored = subst (λ c. SomeIfTrue c (λ q b. Toucher img (ps ++ p ∷ []) touch.cell q b × IsStore b)) (sym (is.stored ∙ sym stores))
+      stored = subst (λ c. SomeIfTrue c (λ q b. Toucher img (ps ++ p ∷ []) touch.cell q b × IsStore b))
+          (sym (is.stored ∙ sym stores))
           (store_or_none (is_stored (Some a)) refl);
       first = p;
       access = a;
       touches = here;
       value = value ∙ sym is.value;
-      differ = subst (λ c. SomeIfTrue c (λ q b. Toucher img (ps ++ p ∷ []) touch.cell q b × (owner_value img q.owner ≢ t.value)))
+      differ = subst (λ c. SomeIfTrue c (λ q b. Toucher img (ps ++ p ∷ []) touch.cell q b
+          × (owner_value img q.owner ≢ t.value)))
           (sym is.differ)
-          (λ q b h. by_cases touch.cell q b h.0 (λ before. none q b before) (λ same _ _ _. h.1 (same_value q same ∙ sym is.value)));
+          (λ q b h. by_cases touch.cell q b h.0 (λ before. none q b before)
+          (λ same _ _ _. h.1 (same_value q same ∙ sym is.value)));
       guards = λ x inside q b h. by_cases touch.cell q b h (λ before. absurd (none q b before))
-          (λ same _ _ _. subst (λ (r : Point). IsIn (sections r.inside) x) same (subst (λ xs. IsIn xs x) is.sections inside));
+          (λ same _ _ _. subst (λ (r : Point). IsIn (sections r.inside) x) same
+          (subst (λ xs. IsIn xs x) is.sections inside));
       guarding = λ x all. subst (λ xs. IsIn xs x) (sym is.sections) (all p a here);
     }
       where
@@ -231,8 +245,10 @@ module _ (img : Image) (ps : List Point) (p : Point) (i : Instr) (told : Option 
       access = was.access;
       touches = seen_before img ps p touch.cell was.first was.access was.touches;
       value = was.value ∙ sym is.value;
-      differ = subst (λ v. SomeIfTrue t.differ (λ q b. Toucher img (ps ++ p ∷ []) touch.cell q b × (owner_value img q.owner ≢ v))) (sym is.value)
-          (subst (λ c. SomeIfTrue c (λ q b. Toucher img (ps ++ p ∷ []) touch.cell q b × (owner_value img q.owner ≢ old.value))) (sym is.differ)
+      differ = subst (λ v. SomeIfTrue t.differ (λ q b. Toucher img (ps ++ p ∷ []) touch.cell q b
+          × (owner_value img q.owner ≢ v))) (sym is.value)
+          (subst (λ c. SomeIfTrue c (λ q b. Toucher img (ps ++ p ∷ []) touch.cell q b
+          × (owner_value img q.owner ≢ old.value))) (sym is.differ)
           (some_or old.differ (not (touch.value == old.value))
           (λ q b. Toucher img ps touch.cell q b × (owner_value img q.owner ≢ old.value))
           (λ q b. Toucher img (ps ++ p ∷ []) touch.cell q b × (owner_value img q.owner ≢ old.value))
@@ -247,7 +263,8 @@ module _ (img : Image) (ps : List Point) (p : Point) (i : Instr) (told : Option 
             ),
           ))
           (λ no q b h. by_cases touch.cell q b h.0 (λ before. (before, h.1))
-          (λ same _ _ _. absurd (h.1 (same_value q same ∙ eqb-true touch.value old.value (not_false (touch.value == old.value) no)))))
+          (λ same _ _ _. absurd (h.1 (same_value q same ∙ eqb-true touch.value old.value
+          (not_false (touch.value == old.value) no)))))
           was.differ));
       guards = λ x inside q b h.
           let both = in_filter (is_open p.inside) old.sections.items x (subst (λ xs. IsIn xs x) is.sections inside) in
@@ -259,7 +276,8 @@ module _ (img : Image) (ps : List Point) (p : Point) (i : Instr) (told : Option 
           (inside_any x p.inside (all p a here)));
     }
 
-    next_row : (row : Option Touching) (t : Touching) → IsNext row touch p.inside t → TellsOfTouching img ps touch.cell row
+    next_row : (row : Option Touching) (t : Touching) → IsNext row touch p.inside t
+        → TellsOfTouching img ps touch.cell row
         → IsTouching img (ps ++ p ∷ []) touch.cell t
     next_row None t is none = first t is none
     next_row (Some old) t is was = again old t is was
@@ -283,7 +301,8 @@ pub record HasAccess (i : Instr) (touch : Touch) : Type 0 where
 pub access_of_touch : (i : Instr) (touch : Touch) → option_map cell_of (touched_cell i) ≡ Some touch.cell
     → is_stored (touched_cell i) ≡ touch.stored → HasAccess i touch
 access_of_touch i touch cell stores = elim (touched_cell i) as
-    (λ (o : Option Access). touched_cell i ≡ o → option_map cell_of o ≡ Some touch.cell → is_stored o ≡ touch.stored → HasAccess i touch) [
+    (λ (o : Option Access). touched_cell i ≡ o → option_map cell_of o ≡ Some touch.cell → is_stored o ≡ touch.stored
+    → HasAccess i touch) [
       | None ↦ λ e at s. absurd (none-some touch.cell at)
       | Some a ↦ λ e at s. record { access = a; by = e; at = same_Some (cell_of a) touch.cell at; stores = s }
     ] refl cell stores

@@ -1,6 +1,8 @@
 -- What the rules say of an image whose points were all looked at.
-use Rattle.std.proofs.Common.{◌≡◌, ◌≢◌, ◌↔◌, ◌≤◌, ◌<◌, ◌&&◌, ◌||◌, ◌==◌, Bool, true, false, not, IsTrue, ℕ, zero, suc, List, [], ◌∷◌}
-use Rattle.std.proofs.Common.{length, slice_get, Option, Some, None, refl, sym, ap, subst, ◌∙◌, inl, inr, ⊎_elim, arith, nat_le}
+use Rattle.std.proofs.Common.{◌≡◌, ◌≢◌, ◌↔◌, ◌≤◌, ◌<◌, ◌&&◌, ◌||◌, ◌==◌, Bool, true, false, not, IsTrue, ℕ, zero, suc}
+use Rattle.std.proofs.Common.{List, [], ◌∷◌}
+use Rattle.std.proofs.Common.{length, slice_get, Option, Some, None, refl, sym, ap, subst, ◌∙◌, inl, inr, ⊎_elim, arith}
+use Rattle.std.proofs.Common.{nat_le}
 use Rattle.std.specs.List.{AllByRecursion, Contains, list_any, list_all}
 use Rattle.std.proofs.lemmas.Bool.{eqb-true}
 use Rattle.std.proofs.lemmas.Option.{none-some, slice_get-get_or, slice_get_within}
@@ -17,13 +19,16 @@ use Rattle.rt_points.specs.Checked.{Keeps, IsChecked, IsLeastBroken, rule_number
 use Rattle.rt_points.specs.Leading.{IsPoint}
 use Rattle.rt_points.specs.ExecutionPriority.{owner_value}
 use Rattle.rt_points.specs.Point.{Point, sections}
-use Rattle.rt_points.specs.Rules.{NestsInOneWay, HasRightNumbers, StaysInCode, OperatesWell, NotesWell, EntersWell, GuardsCells}
-use Rattle.rt_points.specs.Rules.{IsOperable, IsNotedWell, HoldsOff, EntersAt, Touches, IsContended, IsGuardedBy, IsStore, HasItsCell, touched_cell}
+use Rattle.rt_points.specs.Rules.{NestsInOneWay, HasRightNumbers, StaysInCode, OperatesWell, NotesWell, EntersWell}
+use Rattle.rt_points.specs.Rules.{GuardsCells}
+use Rattle.rt_points.specs.Rules.{IsOperable, IsNotedWell, HoldsOff, EntersAt, Touches, IsContended, IsGuardedBy}
+use Rattle.rt_points.specs.Rules.{IsStore, HasItsCell, touched_cell}
 use Rattle.rt_points.specs.declared.point.Owner.TheVariants.{Starting}
 use Rattle.rt_points.specs.declared.rule.Rule.{Rule}
 use Rattle.rt_points.specs.declared.rule.Rule.TheVariants as rule
 use Rattle.rt_judge.specs.Inside.Kept.{TellsOfAll, HasLine, OperatesAt, NotesAt, FreeAt, EntersBy}
-use Rattle.rt_judge.specs.Inside.Entering.{Enterer, IsEntering, IsLeastOrNone, TellsOfSections, holds_off, priority_behind, none_or}
+use Rattle.rt_judge.specs.Inside.Entering.{Enterer, IsEntering, IsLeastOrNone, TellsOfSections, holds_off}
+use Rattle.rt_judge.specs.Inside.Entering.{priority_behind, none_or}
 use Rattle.rt_judge.specs.Inside.Touching.{Toucher, IsTouching, TellsOfTouching, SomeIfTrue, is_guarded, is_row_guarded}
 use Rattle.rt_judge.specs.Inside.Looks.{Looked}
 use Rattle.rt_judge.specs.declared.entering.Entering.{Entering}
@@ -32,8 +37,10 @@ use Rattle.rt_judge.specs.declared.findings.Findings.{Findings}
 use Rattle.rt_judge.proofs.SameSections.{same_is}
 
 -- rules by their numbers
-module _ (img : Image) (n : ℕ) (a : 1 < n → NestsInOneWay img) (b : 2 < n → HasRightNumbers img) (c : 3 < n → StaysInCode img)
-    (d : 4 < n → OperatesWell img) (e : 5 < n → NotesWell img) (f : 6 < n → EntersWell img) (g : 7 < n → GuardsCells img) where
+module _ (img : Image) (n : ℕ) (a : 1 < n → NestsInOneWay img) (b : 2 < n → HasRightNumbers img)
+    (c : 3 < n → StaysInCode img)
+    (d : 4 < n → OperatesWell img) (e : 5 < n → NotesWell img) (f : 6 < n → EntersWell img)
+    (g : 7 < n → GuardsCells img) where
   pub keeps_below : (r : Rule) → rule_number r < n → Keeps img r
   keeps_below rule.Nesting lt = a lt
   keeps_below rule.Numbers lt = b lt
@@ -43,7 +50,8 @@ module _ (img : Image) (n : ℕ) (a : 1 < n → NestsInOneWay img) (b : 2 < n �
   keeps_below rule.Ceilings lt = f lt
   keeps_below rule.Guards lt = g lt
 
-pub checked : (img : Image) → NestsInOneWay img → HasRightNumbers img → StaysInCode img → OperatesWell img → NotesWell img
+pub checked : (img : Image) → NestsInOneWay img → HasRightNumbers img → StaysInCode img → OperatesWell img
+    → NotesWell img
     → EntersWell img → GuardsCells img → IsChecked img
 checked img a b c d e f g rule.Nesting = a
 checked img a b c d e f g rule.Numbers = b
@@ -71,15 +79,18 @@ record FailsAt {X : Type 0} (test : X → Bool) (xs : List X) : Type 0 where
 
 fails_at : {X : Type 0} (test : X → Bool) (xs : List X) → list_all test xs ≡ false → FailsAt test xs
 fails_at test [] fail = absurd cc
-fails_at {X} test (x ∷ xs) fail = elim (test x) as (λ b. test x ≡ b → (b && list_all test xs) ≡ false → FailsAt test (x ∷ xs)) [
-  | true ↦ λ e rest. let later = fails_at test xs rest in
-      record { index = suc later.index; item = later.item; at = later.at; fails = later.fails }
-  | false ↦ λ e rest. record { index = 0; item = x; at = refl; fails = e }
-] refl fail
+fails_at {X} test (x ∷ xs) fail = elim (test x) as (λ b. test x ≡ b → (b && list_all test xs) ≡ false
+    → FailsAt test (x ∷ xs)) [
+      | true ↦ λ e rest. let later = fails_at test xs rest in
+          record { index = suc later.index; item = later.item; at = later.at; fails = later.fails }
+      | false ↦ λ e rest. record { index = 0; item = x; at = refl; fails = e }
+    ] refl fail
 
-holds_at : {X : Type 0} (test : X → Bool) (xs : List X) (i : ℕ) (x : X) → list_all test xs ≡ true → slice_get xs i ≡ Some x → test x ≡ true
+holds_at : {X : Type 0} (test : X → Bool) (xs : List X) (i : ℕ) (x : X) → list_all test xs ≡ true → slice_get xs i
+    ≡ Some x → test x ≡ true
 holds_at test [] i x all at = absurd (none-some x at)
-holds_at test (y ∷ xs) zero x all at = let e : y ≡ x = cc in subst (λ z. test z ≡ true) e (and_left (test y) (list_all test xs) all)
+holds_at test (y ∷ xs) zero x all at = let e : y ≡ x = cc in subst (λ z. test z ≡ true) e
+    (and_left (test y) (list_all test xs) all)
 holds_at test (y ∷ xs) (suc i) x all at = holds_at test xs i x (and_right (test y) (list_all test xs) all) at
 
 module _ (img : Image) (f : Findings) (looked : Looked img f) where
@@ -87,7 +98,8 @@ module _ (img : Image) (f : Findings) (looked : Looked img f) where
   stays pass p is = all_has (HasLine img) looked.points p (looked.finds.addresses.0 pass) (looked.all p is)
 
   pub not_stays : f.addresses ≡ false → ¬ StaysInCode img
-  not_stays fail all = is_false f.addresses fail looked.finds.addresses (all_weaker (IsPoint img) (HasLine img) all looked.points looked.sound)
+  not_stays fail all = is_false f.addresses fail looked.finds.addresses
+      (all_weaker (IsPoint img) (HasLine img) all looked.points looked.sound)
 
   pub operates : f.operands ≡ true → OperatesWell img
   operates pass p i told stands =
@@ -113,12 +125,14 @@ module _ (img : Image) (f : Findings) (looked : Looked img f) where
   enters_at p i x e = (all_has (IsPoint img) looked.points p looked.sound e.seen, e.enters)
 
   -- a row that holds off everyone who enters
-  row_high : (row : Entering) → IsEntering img looked.points row.section row → holds_off row ≡ true → (p q : Point) (i j : Instr)
+  row_high : (row : Entering) → IsEntering img looked.points row.section row → holds_off row ≡ true
+      → (p q : Point) (i j : Instr)
       → Enterer img looked.points row.section p i → Enterer img looked.points row.section q j → q.owner ≢ Starting
       → priority_behind img p i row.section ≤ owner_value img q.owner
   row_high row is pass p q i j enters others outside = by_value row.value is.value pass
     where
-      by_value : (v : Option ℕ) → IsLeastOrNone img looked.points row.section v → none_or (λ value. nat_le row.priority value) v ≡ true
+      by_value : (v : Option ℕ) → IsLeastOrNone img looked.points row.section v
+          → none_or (λ value. nat_le row.priority value) v ≡ true
           → priority_behind img p i row.section ≤ owner_value img q.owner
       by_value None none pass = absurd (outside (none q j others))
       by_value (Some v) l pass =
@@ -132,12 +146,14 @@ module _ (img : Image) (f : Findings) (looked : Looked img f) where
       let free = and_left f.sections.free (list_all holds_off f.sections.rows.items) pass in
       let all = and_right f.sections.free (list_all holds_off f.sections.rows.items) pass in
       record {
-        free = all_has (FreeAt img) looked.points p (looked.finds.sections.free.0 free) (looked.all p stands.0) i x stands.1;
+        free = all_has (FreeAt img) looked.points p (looked.finds.sections.free.0 free) (looked.all p stands.0) i x
+            stands.1;
         others = λ q j outside other.
             let row = any_one (λ (r : Entering). is_same_section r.section x) f.sections.rows.items
             (looked.finds.sections.each x p i (enterer p i x stands)) in
             let same : row.1.section ≡ x = same_is row.1.section x row.3 in
-            let is = all_at (λ (r : Entering). IsEntering img looked.points r.section r) f.sections.rows.items row.0 row.1
+            let is = all_at (λ (r : Entering). IsEntering img looked.points r.section r) f.sections.rows.items row.0
+            row.1
             looked.finds.sections.rows row.2 in
             let high = holds_at holds_off f.sections.rows.items row.0 row.1 all row.2 in
             subst (λ y. priority_behind img p i y ≤ owner_value img q.owner) same
@@ -149,12 +165,14 @@ module _ (img : Image) (f : Findings) (looked : Looked img f) where
   row_low : (row : Entering) → IsEntering img looked.points row.section row → holds_off row ≡ false → ¬ EntersWell img
   row_low row is fail all = by_value row.value is.value fail
     where
-      by_value : (v : Option ℕ) → IsLeastOrNone img looked.points row.section v → none_or (λ value. nat_le row.priority value) v ≡ false → ⊥
+      by_value : (v : Option ℕ) → IsLeastOrNone img looked.points row.section v
+          → none_or (λ value. nat_le row.priority value) v ≡ false → ⊥
       by_value None none fail = absurd cc
       by_value (Some v) l fail =
           let p = is.priority.point in
           let q = l.point in
-          let holds = (all p is.priority.instr row.section (enters_at p is.priority.instr row.section is.priority.enterer)).others q l.instr
+          let holds = (all p is.priority.instr row.section
+          (enters_at p is.priority.instr row.section is.priority.enterer)).others q l.instr
           l.outside (enters_at q l.instr row.section l.enterer) in
           let priority : priority_behind img p is.priority.instr row.section ≡ row.priority = is.priority.is in
           let value : owner_value img q.owner ≡ v = l.is in
@@ -163,14 +181,17 @@ module _ (img : Image) (f : Findings) (looked : Looked img f) where
           absurd (omega (arith, priority, value, above, low))
 
   pub not_enters : (f.sections.free && list_all holds_off f.sections.rows.items) ≡ false → ¬ EntersWell img
-  not_enters fail all = elim f.sections.free as (λ b. f.sections.free ≡ b → (b && list_all holds_off f.sections.rows.items) ≡ false → ⊥) [
-    | true ↦ λ e rest.
-        let row = fails_at holds_off f.sections.rows.items rest in
-        row_low row.item (all_at (λ (r : Entering). IsEntering img looked.points r.section r) f.sections.rows.items row.index row.item
-        looked.finds.sections.rows row.at) row.fails all
-    | false ↦ λ e rest. is_false f.sections.free e looked.finds.sections.free
-        (all_weaker (IsPoint img) (FreeAt img) (λ p is i x at. (all p i x (is, at)).free) looked.points looked.sound)
-  ] refl fail
+  not_enters fail all = elim f.sections.free as (λ b. f.sections.free ≡ b
+      → (b && list_all holds_off f.sections.rows.items) ≡ false → ⊥) [
+        | true ↦ λ e rest.
+            let row = fails_at holds_off f.sections.rows.items rest in
+            row_low row.item (all_at (λ (r : Entering). IsEntering img looked.points r.section r) f.sections.rows.items
+            row.index row.item
+            looked.finds.sections.rows row.at) row.fails all
+        | false ↦ λ e rest. is_false f.sections.free e looked.finds.sections.free
+            (all_weaker (IsPoint img) (FreeAt img) (λ p is i x at. (all p i x (is, at)).free) looked.points
+            looked.sound)
+      ] refl fail
 
   -- cells
   toucher : (cell : ℕ) (p : Point) (t : Touches img cell p) → Toucher img looked.points cell p t.access
@@ -201,12 +222,14 @@ module _ (img : Image) (f : Findings) (looked : Looked img f) where
       subst (λ n. n < length img.cells) t.touches (subst (HasItsCell (length img.cells)) t.by has)
 
   -- a guarded row
-  row_guards : (cell : ℕ) (row : Option Touching) → TellsOfTouching img looked.points cell row → is_row_guarded row ≡ true
+  row_guards : (cell : ℕ) (row : Option Touching) → TellsOfTouching img looked.points cell row → is_row_guarded row
+      ≡ true
       → IsContended img cell → (x : Section) × IsGuardedBy img cell x
   row_guards cell None none pass c = absurd (none c.storer c.stored.access (toucher cell c.storer c.stored))
   row_guards cell (Some t) is pass c = by_stored t.stored is.stored t.differ is.differ pass
     where
-      guarded_by : (xs : List Section) → xs ≡ t.sections.items → not (length xs == 0) ≡ true → (x : Section) × IsGuardedBy img cell x
+      guarded_by : (xs : List Section) → xs ≡ t.sections.items → not (length xs == 0) ≡ true → (x : Section)
+          × IsGuardedBy img cell x
       guarded_by [] e fail = absurd cc
       guarded_by (x ∷ xs) e some =
           (x, λ p h. is.guards x (subst (λ ys. IsIn ys x) e (0, refl)) p h.access (toucher cell p h))
@@ -214,10 +237,14 @@ module _ (img : Image) (f : Findings) (looked : Looked img f) where
       by_stored : (b : Bool) → SomeIfTrue b (λ p a. Toucher img looked.points cell p a × IsStore a) → (d : Bool)
           → SomeIfTrue d (λ p a. Toucher img looked.points cell p a × (owner_value img p.owner ≢ t.value))
           → (not b || (not d || not (length t.sections.items == 0))) ≡ true → (x : Section) × IsGuardedBy img cell x
-      by_stored false none d differ pass = absurd (none c.storer c.stored.access (toucher cell c.storer c.stored, c.is_store))
+      by_stored false none d differ pass = absurd (none c.storer c.stored.access
+          (toucher cell c.storer c.stored, c.is_store))
       by_stored true some false same pass = absurd (same c.one c.one_touches.access (
         toucher cell c.one c.one_touches,
-        λ one. same c.other c.other_touches.access (toucher cell c.other c.other_touches, λ other. c.differ (one ∙ sym other)),
+        λ one. same c.other c.other_touches.access (
+          toucher cell c.other c.other_touches,
+          λ other. c.differ (one ∙ sym other),
+        ),
       ))
       by_stored true some true differ pass = guarded_by t.sections.items refl pass
 
@@ -228,15 +255,18 @@ module _ (img : Image) (f : Findings) (looked : Looked img f) where
       let at = slice_get-get_or f.cells.rows.items cell None within in
       row_guards cell _ (looked.finds.cells cell _ at) (holds_at is_row_guarded f.cells.rows.items cell _ pass at) c
 
-  row_unguarded : (cell : ℕ) (row : Option Touching) → TellsOfTouching img looked.points cell row → is_row_guarded row ≡ false
+  row_unguarded : (cell : ℕ) (row : Option Touching) → TellsOfTouching img looked.points cell row → is_row_guarded row
+      ≡ false
       → ¬ GuardsCells img
   row_unguarded cell None none fail all = absurd cc
   row_unguarded cell (Some t) is fail all = by_stored t.stored is.stored t.differ is.differ fail
     where
-      none_open : (xs : List Section) → xs ≡ t.sections.items → not (length xs == 0) ≡ false → (x : Section) → IsIn t.sections.items x → ⊥
+      none_open : (xs : List Section) → xs ≡ t.sections.items → not (length xs == 0) ≡ false → (x : Section)
+          → IsIn t.sections.items x → ⊥
       none_open [] e fail x inside = let bad : IsIn [] x = subst (λ ys. IsIn ys x) (sym e) inside in none-some x bad.1
       none_open (y ∷ xs) e fail x inside =
-          absurd (let zero : suc (length xs) ≡ 0 = eqb-true (suc (length xs)) 0 (not_false (suc (length xs) == 0) fail) in omega (arith, zero))
+          absurd (let zero : suc (length xs) ≡ 0 = eqb-true (suc (length xs)) 0
+          (not_false (suc (length xs) == 0) fail) in omega (arith, zero))
 
       by_stored : (b : Bool) → SomeIfTrue b (λ p a. Toucher img looked.points cell p a × IsStore a) → (d : Bool)
           → SomeIfTrue d (λ p a. Toucher img looked.points cell p a × (owner_value img p.owner ≢ t.value))

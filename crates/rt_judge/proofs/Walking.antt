@@ -1,6 +1,8 @@
 -- How a walk goes on from one visit to the next.
-use Rattle.std.proofs.Common.{◌≡◌, ◌≢◌, ◌⊎◌, ◌<◌, ◌≤◌, ◌+◌, ◌-◌, ◌*◌, ◌^◌, ◌==◌, ℕ, suc, Bool, true, false, not, List, [], ◌∷◌, ◌++◌}
-use Rattle.std.proofs.Common.{map, length, refl, sym, ap, subst, inl, inr, ⊎_elim, ◌∙◌, arith, Option, Some, None, slice_get, IsSome}
+use Rattle.std.proofs.Common.{◌≡◌, ◌≢◌, ◌⊎◌, ◌<◌, ◌≤◌, ◌+◌, ◌-◌, ◌*◌, ◌^◌, ◌==◌, ℕ, suc, Bool, true, false, not, List}
+use Rattle.std.proofs.Common.{[], ◌∷◌, ◌++◌}
+use Rattle.std.proofs.Common.{map, length, refl, sym, ap, subst, inl, inr, ⊎_elim, ◌∙◌, arith, Option, Some, None}
+use Rattle.std.proofs.Common.{slice_get, IsSome}
 use Rattle.std.specs.List.{AllByRecursion, Contains}
 use Rattle.std.specs.BTreeMap.{get, btree_map_len}
 use Rattle.std.specs.Ordering.{nat_cmp, is_eq}
@@ -49,7 +51,8 @@ leads_next img owner visit q to =
     (sym to.inside) there
 
 -- and what stands in the list is a point
-next_is_point : (img : Image) (owner : Owner) (visit : Visit) (line : Line) → slice_get img.code visit.address ≡ Some line
+next_is_point : (img : Image) (owner : Owner) (visit : Visit) (line : Line) → slice_get img.code visit.address
+    ≡ Some line
     → IsPoint img (point_of owner visit) → (tos : List ℕ) → AllByRecursion (λ to. LeadsOn line.0 visit.address to) tos
     → ArePoints img (owner_after line.0 owner) (map (next line visit.nesting) tos)
 next_is_point img owner visit line stands point [] all = tt
@@ -64,10 +67,12 @@ waits_are_points : (img : Image) (owner : Owner) (visit : Visit) (line : Option 
     → ArePoints img owner (waits_by line owner visit)
 waits_are_points img owner visit None stands point = tt
 waits_are_points img owner visit (Some line) stands point =
-    elim (ends_init line.0 owner) as (λ b. ends_init line.0 owner ≡ b → ArePoints img owner (if_so (not b) (next_visits line visit))) [
+    elim (ends_init line.0 owner) as (λ b. ends_init line.0 owner ≡ b
+    → ArePoints img owner (if_so (not b) (next_visits line visit))) [
       | true ↦ λ e. tt
       | false ↦ λ e. subst (λ o. ArePoints img o (next_visits line visit)) (goes_on line.0 owner e)
-          (next_is_point img owner visit line stands point (targets line.0 visit.address) (listed_leads line.0 visit.address))
+          (next_is_point img owner visit line stands point (targets line.0 visit.address)
+          (listed_leads line.0 visit.address))
     ] refl
 
 thread_behind : (i : Instr) (owner : Owner) → ends_init i owner ≡ true → owner_after i owner ≡ Thread
@@ -78,9 +83,11 @@ behind_are_points : (img : Image) (owner : Owner) (visit : Visit) (line : Option
     → ArePoints img Thread (behind_by line owner visit)
 behind_are_points img owner visit None stands point = tt
 behind_are_points img owner visit (Some line) stands point =
-    elim (ends_init line.0 owner) as (λ b. ends_init line.0 owner ≡ b → ArePoints img Thread (if_so b (next_visits line visit))) [
+    elim (ends_init line.0 owner) as (λ b. ends_init line.0 owner ≡ b
+    → ArePoints img Thread (if_so b (next_visits line visit))) [
       | true ↦ λ e. subst (λ o. ArePoints img o (next_visits line visit)) (thread_behind line.0 owner e)
-          (next_is_point img owner visit line stands point (targets line.0 visit.address) (listed_leads line.0 visit.address))
+          (next_is_point img owner visit line stands point (targets line.0 visit.address)
+          (listed_leads line.0 visit.address))
       | false ↦ λ e. tt
     ] refl
 
@@ -110,11 +117,13 @@ all_last P [] x all = all.0
 all_last P (y ∷ xs) x all = all_last P xs x all.1
 
 -- a key of a table has some value
-short_key : (t : Table) (k : ℕ) → IsSome (get nat_cmp t k) → ((n : List Opened) → get nat_cmp t k ≡ Some n → k < 2 ^ 32) → k < 2 ^ 32
-short_key t k is each = elim (get nat_cmp t k) as (λ o. IsSome o → ((n : List Opened) → o ≡ Some n → k < 2 ^ 32) → k < 2 ^ 32) [
-  | None ↦ λ some all. absurd cc
-  | Some n ↦ λ some all. all n refl
-] is each
+short_key : (t : Table) (k : ℕ) → IsSome (get nat_cmp t k) → ((n : List Opened) → get nat_cmp t k ≡ Some n → k < 2 ^ 32)
+    → k < 2 ^ 32
+short_key t k is each = elim (get nat_cmp t k) as (λ o. IsSome o → ((n : List Opened) → o ≡ Some n → k < 2 ^ 32)
+    → k < 2 ^ 32) [
+      | None ↦ λ some all. absurd cc
+      | Some n ↦ λ some all. all n refl
+    ] is each
 
 is_apart : (k q : ℕ) → (k ≡ q → ⊥) → is_eq (nat_cmp k q) ≡ false
 is_apart k q apart = grind (arith, apart)
@@ -123,7 +132,8 @@ some_of : {X : Type 0} (x y : X) → Some x ≡ Some y → x ≡ y
 some_of x y e = cc
 
 -- what the table has behind a new visit
-module _ (old new : Table) (visit : Visit) (added : IsAdded old new visit) (absent : get nat_cmp old visit.address ≡ None) where
+module _ (old new : Table) (visit : Visit) (added : IsAdded old new visit)
+    (absent : get nat_cmp old visit.address ≡ None) where
   has_new : Has new visit
   has_new = added.updates.1
 
@@ -151,7 +161,8 @@ module _ (img : Image) (owner : Owner) (starts : List Visit) (old new : Table) (
   walks_past has =
       let known : (s : Visit) → IsKnown old (rest ++ visit ∷ []) s → IsKnown old rest s = λ s is. ⊎_elim
       (λ in_table. inl in_table)
-      (λ waits. ⊎_elim (λ front. inr front) (λ same. inl (subst (Has old) same has)) (Contains-push_cases rest visit s waits))
+      (λ waits. ⊎_elim (λ front. inr front) (λ same. inl (subst (Has old) same has))
+      (Contains-push_cases rest visit s waits))
       is in
       record {
         table = before.table;
@@ -187,7 +198,8 @@ module _ (img : Image) (owner : Owner) (starts : List Visit) (old new : Table) (
     short_now = of_each (λ s. s.address < 2 ^ 32) fits before.short
 
     few_now : btree_map_len new ≤ 2 ^ 32
-    few_now = few_keys new (2 ^ 32) added.ordered (λ k is. short_key new k is (λ n has. short_now (record { address = k; nesting = n }) has))
+    few_now = few_keys new (2 ^ 32) added.ordered (λ k is. short_key new k is
+        (λ n has. short_now (record { address = k; nesting = n }) has))
 
     pub walks_in : IsWalking img owner starts new (rest ++ waits img owner visit) (bs ++ goes_behind img owner visit)
     walks_in = record {
@@ -203,13 +215,16 @@ module _ (img : Image) (owner : Owner) (starts : List Visit) (old new : Table) (
       began = λ s is. known s (before.began s is);
       closed = λ s q has to mine. of_each
           (λ t. LeadsTo img (point_of owner t) q → IsKnown new (rest ++ waits img owner visit) (place_of q))
-          (λ leads. inr (Contains-append_right rest (waits img owner visit) (place_of q) (leads_waits img owner visit q leads mine)))
+          (λ leads. inr (Contains-append_right rest (waits img owner visit) (place_of q)
+          (leads_waits img owner visit q leads mine)))
           (λ t in_old leads. known (place_of q) (before.closed t q in_old leads mine))
           s has to;
       left = λ s q has to other. of_each
           (λ t. LeadsTo img (point_of owner t) q → Contains (bs ++ goes_behind img owner visit) (place_of q))
-          (λ leads. Contains-append_right bs (goes_behind img owner visit) (place_of q) (leads_behind img owner visit q leads other))
-          (λ t in_old leads. Contains-append_left bs (goes_behind img owner visit) (place_of q) (before.left t q in_old leads other))
+          (λ leads. Contains-append_right bs (goes_behind img owner visit) (place_of q)
+          (leads_behind img owner visit q leads other))
+          (λ t in_old leads. Contains-append_left bs (goes_behind img owner visit) (place_of q)
+          (before.left t q in_old leads other))
           s has to;
       short = short_now;
       few = few_now;

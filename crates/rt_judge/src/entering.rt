@@ -1,4 +1,5 @@
-ghost use Rattle.std.specs.Prelude.{◌≡◌, ◌++◌, ◌∷◌, [], map, ◌&&◌, ◌↔◌, ℕ, IsTrue, OnOk, MatchOption, List, Some, slice_get};
+ghost use Rattle.std.specs.Prelude.{◌≡◌, ◌++◌, ◌∷◌, [], map, ◌&&◌, ◌↔◌, ℕ, IsTrue, OnOk, MatchOption, List, Some};
+ghost use Rattle.std.specs.Prelude.{slice_get};
 ghost use Rattle.std.specs.List.{list_any, list_all};
 ghost use Rattle.rt_ids.specs.Holder.{is_same_section};
 ghost use Rattle.rt_points.specs.Point.{Point};

@@ -111,7 +111,8 @@ fn look_from_entry(
     }
 }
 
-/// Finds what there is at the points of a handler, where it is enabled. It answers whether the first rule is kept there.
+/// Finds what there is at the points of a handler, where it is enabled. It answers whether the first rule is kept
+/// there.
 fn look_at_handler(
     alloc: Global,
     image: &Image,

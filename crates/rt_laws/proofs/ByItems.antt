@@ -1,5 +1,6 @@
 -- A run is one item by item, and the other way round.
-use Rattle.std.proofs.Common.{◌≡◌, ℕ, zero, suc, ◌+◌, ◌-◌, ◌≤◌, Bool, true, false, if◌then◌else◌, List, [], ◌∷◌, ◌++◌, Some, None, refl, sym, ap, subst, ◌∙◌, le_refl, arith}
+use Rattle.std.proofs.Common.{◌≡◌, ℕ, zero, suc, ◌+◌, ◌-◌, ◌≤◌, Bool, true, false, if◌then◌else◌, List, [], ◌∷◌, ◌++◌}
+use Rattle.std.proofs.Common.{Some, None, refl, sym, ap, subst, ◌∙◌, le_refl, arith}
 use Rattle.std.proofs.lemmas.Option.{same_Some, none-some}
 use Rattle.rt_ids.specs.Content.{Values}
 use Rattle.rt_ids.specs.Action.{SetsAlarm, Returns}
@@ -13,7 +14,8 @@ use Rattle.rt_laws.specs.State.{Role, Init, Idle, Waiting, Serving, Job, State, 
 use Rattle.rt_laws.specs.Giving.{next_instant, is_due, return_item, next_item, item_given}
 use Rattle.rt_laws.specs.Allowed.{May, state_after_silence, after}
 use Rattle.rt_laws.specs.Run.{RunsOn}
-use Rattle.rt_laws.specs.ByItems.{label_of, steps_after, after_all, silent, after_item, RunsByItems, RunsAreByItems, FrontsAreRuns}
+use Rattle.rt_laws.specs.ByItems.{label_of, steps_after, after_all, silent, after_item, RunsByItems, RunsAreByItems}
+use Rattle.rt_laws.specs.ByItems.{FrontsAreRuns}
 
 -- an item that no step gives
 abbrev IsEvent : What → Type 0
@@ -215,7 +217,8 @@ pub front_runs : (app : App) (front behind : List Item) (s : State) (n total : �
     → RunsByItems app s n (front ++ behind) total → (k : ℕ) × RunsByItems app s n front k
 front_runs app [] behind s n total runs = (n, (le_refl n, none_silent app s n))
 front_runs app (item ∷ front) behind s n total runs =
-    let rest = front_runs app front behind (after_item app s n item) (steps_after item.step (label_of s.owing item.what))
+    let rest = front_runs app front behind (after_item app s n item)
+    (steps_after item.step (label_of s.owing item.what))
     total runs.1 in
     (rest.0, (runs.0, rest.1))
 

@@ -1,5 +1,6 @@
 -- The candidate is the best of those that may start.
-use Rattle.std.proofs.Common.{◌≡◌, ℕ, ◌==◌, ◌<◌, ◌≤◌, ◌⊎◌, Bool, true, false, ◌&&◌, ◌||◌, nat_lt, map, inl, inr, ⊎_elim, ◌∙◌, refl, arith}
+use Rattle.std.proofs.Common.{◌≡◌, ℕ, ◌==◌, ◌<◌, ◌≤◌, ◌⊎◌, Bool, true, false, ◌&&◌, ◌||◌, nat_lt, map, inl, inr, ⊎_elim}
+use Rattle.std.proofs.Common.{◌∙◌, refl, arith}
 use Rattle.std.proofs.lemmas.Bool.Decides.{nat_tests}
 use Rattle.rt_ids.specs.Choice.{IsOrder}
 use Rattle.rt_ids.proofs.Best.{best_is_best}

@@ -1,5 +1,7 @@
 -- The places of a task that are out are those that are counted, whatever an action changes that fits the hands.
-use Rattle.std.proofs.Common.{◌≡◌, ℕ, ◌+◌, ◌-◌, ◌==◌, Bool, true, false, not, cond, if◌then◌else◌, count_by, find, List, [], ◌∷◌, ◌++◌, drop, slice_get, Option, Some, None, option_map, refl, sym, ap, subst, ◌∙◌, arith, eq-eqb}
+use Rattle.std.proofs.Common.{◌≡◌, ℕ, ◌+◌, ◌-◌, ◌==◌, Bool, true, false, not, cond, if◌then◌else◌, count_by, find, List}
+use Rattle.std.proofs.Common.{[], ◌∷◌, ◌++◌, drop, slice_get, Option, Some, None, option_map, refl, sym, ap, subst, ◌∙◌}
+use Rattle.std.proofs.Common.{arith, eq-eqb}
 use Rattle.std.specs.List.{AllByRecursion, position_or_len, remove}
 use Rattle.std.proofs.lemmas.Bool.{eqb-true}
 use Rattle.std.proofs.lemmas.Option.{same_Some, none-some}
@@ -8,7 +10,9 @@ use Rattle.rt_lemmas.proofs.Bools.{and_parts}
 use Rattle.rt_lemmas.proofs.Numbers.{one_add}
 use Rattle.rt_ids.specs.Lists.{is_some_and, or_zero}
 use Rattle.rt_ids.specs.Holder.{Guarded}
-use Rattle.rt_ids.specs.Content.{Message, Armed, Values, Number, Messages, number, messages, delays, has_instant, least_instant, least, has_handle, message_of_handle, without_least, without_handle, postponed_message}
+use Rattle.rt_ids.specs.Content.{Message, Armed, Values, Number, Messages, number, messages, delays, has_instant}
+use Rattle.rt_ids.specs.Content.{least_instant, least, has_handle, message_of_handle, without_least, without_handle}
+use Rattle.rt_ids.specs.Content.{postponed_message}
 use Rattle.rt_ids.specs.Action.{Action, Places, Frees, Readies, Starts, Arms, Fires, Cancels, Moves, effect}
 use Rattle.rt_ids.specs.declared.ids.Section.{Section}
 use Rattle.rt_ids.specs.declared.ids.Section.TheVariants as section
@@ -153,14 +157,16 @@ module _ (app : App) (t c : ℕ) (vs : Values) where
   fires : (m : Message) (a : Armed) → least armed ≡ Some a → a.message ≡ m → Equal 0 vs
       → Equal (one_if (m.task == t)) (effect (Fires m) vs)
   fires m a is same =
-      from_armed (out t) (one_if (m.task == t)) c (arming_count t vs) (arming_count t (effect (Fires m) vs)) (ready_of app t vs)
+      from_armed (out t) (one_if (m.task == t)) c (arming_count t vs) (arming_count t (effect (Fires m) vs))
+      (ready_of app t vs)
       (subst (λ (k : Message). armed_in (without_least armed) + one_if (k.task == t) ≡ armed_in armed) same
       (count_found (has_instant (least_instant armed)) (λ b. b.message.task == t) armed a is))
 
   cancels : (n h : ℕ) (a : Armed) → message_of_handle n h armed ≡ Some a → Equal 0 vs
       → Equal (one_if (n == t)) (effect (Cancels n h) vs)
   cancels n h a is =
-      from_armed (out t) (one_if (n == t)) c (arming_count t vs) (arming_count t (effect (Cancels n h) vs)) (ready_of app t vs)
+      from_armed (out t) (one_if (n == t)) c (arming_count t vs) (arming_count t (effect (Cancels n h) vs))
+      (ready_of app t vs)
       (subst (λ (k : ℕ). armed_in (without_handle n h armed) + one_if (k == t) ≡ armed_in armed) of_task
       (count_found (has_handle n h) (λ b. b.message.task == t) armed a is))
     where

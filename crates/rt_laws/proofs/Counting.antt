@@ -92,7 +92,8 @@ module _ (n : ℕ) (s : State) (within : AreWithin n s) where
   -- a silent step changes none
   silent_within : (js : List Job) → AreWithin n (state_after_silence s js)
   silent_within [] = within
-  silent_within (job ∷ others) = same_within n s (record s { jobs = job_after_step job ∷ others }) within.time (λ x queue. refl) within
+  silent_within (job ∷ others) = same_within n s (record s { jobs = job_after_step job ∷ others }) within.time
+      (λ x queue. refl) within
 
 rises : (app : App) → IsAccepted app → (s : State) (v : Observer) → StateWell app s v → (n : ℕ) → AreWithin n s
     → (label : Label) → AreWithin (suc n) (after app s label)

@@ -1,5 +1,6 @@
 -- What serves the interrupt of a dispatcher is the dispatcher, and what serves that of the monotonic its handler.
-use Rattle.std.proofs.Common.{◌≡◌, ℕ, ◌<◌, ◌==◌, Contains, List, [], ◌∷◌, ◌++◌, map, slice_get, flat_map, Option, Some, None, option_map, IsSome, refl, sym, ap, subst, ◌∙◌, inl, inr}
+use Rattle.std.proofs.Common.{◌≡◌, ℕ, ◌<◌, ◌==◌, Contains, List, [], ◌∷◌, ◌++◌, map, slice_get, flat_map, Option, Some}
+use Rattle.std.proofs.Common.{None, option_map, IsSome, refl, sym, ap, subst, ◌∙◌, inl, inr}
 use Rattle.std.proofs.lemmas.Option.{same_Some}
 use Rattle.rt_lemmas.proofs.Lists.{some_at, mapped_at, find_has}
 use Rattle.rt_lemmas.proofs.Membership.{all_at, contains_at, contains_here, contains_cases, contains_none}
@@ -9,7 +10,8 @@ use Rattle.rt_ids.specs.declared.limits.TheConstants.{IRQ_NUMBERS}
 use Rattle.rt_app.specs.declared.app.Mono.{Mono}
 use Rattle.rt_app.specs.Tree.{App}
 use Rattle.rt_app.specs.Level.{levels}
-use Rattle.rt_app.specs.Handlers.{Dispatches, Times, Service, services, irq_number, dispatcher_of, dispatcher_service, task_services, timer_service}
+use Rattle.rt_app.specs.Handlers.{Dispatches, Times, Service, services, irq_number, dispatcher_of, dispatcher_service}
+use Rattle.rt_app.specs.Handlers.{task_services, timer_service}
 use Rattle.rt_app.specs.Sending.{dispatcher_number}
 use Rattle.rt_app.specs.Accepted.{IsAccepted}
 use Rattle.rt_app.specs.Acceptance.{IsSound}

@@ -1,6 +1,8 @@
 -- What is left to do is well formed, whatever the values are on the way: sections nest and are entered within their
 -- ceilings, an entry that may hold a priority off costs no more than the waiting bound, and each end is its job's own.
-use Rattle.std.proofs.Common.{◌≡◌, ℕ, suc, ◌≤◌, ◌<◌, ◌^◌, ◌==◌, Bool, true, false, if◌then◌else◌, List, [], ◌∷◌, ◌++◌, drop, take, slice_get, IfSome, ◌+◌, ◌-◌, Option, Some, None, refl, sym, ap, subst, ◌∙◌, arith}
+use Rattle.std.proofs.Common.{◌≡◌, ℕ, suc, ◌≤◌, ◌<◌, ◌^◌, ◌==◌, Bool, true, false, if◌then◌else◌, List, [], ◌∷◌, ◌++◌}
+use Rattle.std.proofs.Common.{drop, take, slice_get, IfSome, ◌+◌, ◌-◌, Option, Some, None, refl, sym, ap, subst, ◌∙◌}
+use Rattle.std.proofs.Common.{arith}
 use Rattle.std.specs.List.{AllByRecursion, position_or_len}
 use Rattle.std.proofs.lemmas.Bool.{eqb-true}
 use Rattle.rt_lemmas.proofs.Membership.{all_append}
@@ -8,8 +10,12 @@ use Rattle.rt_lemmas.proofs.Lists.{find_has}
 use Rattle.rt_ids.specs.Lists.{is_some_and}
 use Rattle.rt_ids.specs.Choice.{IsIn}
 use Rattle.rt_ids.specs.Holder.{Guarded, is_same_section}
-use Rattle.rt_ids.specs.Content.{Message, Armed, Content, Values, Number, Messages, Delays, number, messages, timer_content, delays, values_with, has_instant, least_instant, least, has_handle, message_of_handle, without_handle, postponed_message, with_armed, with_fired, with_cancelled, with_moved}
-use Rattle.rt_ids.specs.Action.{Action, Enters, Leaves, Places, FindsFull, Frees, Readies, Starts, Arms, Fires, Cancels, Moves, Ends, Returns, effect}
+use Rattle.rt_ids.specs.Content.{Message, Armed, Content, Values, Number, Messages, Delays, number, messages}
+use Rattle.rt_ids.specs.Content.{timer_content, delays, values_with, has_instant, least_instant, least, has_handle}
+use Rattle.rt_ids.specs.Content.{message_of_handle, without_handle, postponed_message, with_armed, with_fired}
+use Rattle.rt_ids.specs.Content.{with_cancelled, with_moved}
+use Rattle.rt_ids.specs.Action.{Action, Enters, Leaves, Places, FindsFull, Frees, Readies, Starts, Arms, Fires, Cancels}
+use Rattle.rt_ids.specs.Action.{Moves, Ends, Returns, effect}
 use Rattle.rt_ids.specs.Doing.{Doing, over, does}
 use Rattle.rt_ids.specs.declared.ids.BodyId.TheVariants as body
 use Rattle.rt_ids.specs.declared.ids.Section.{Section}
@@ -247,7 +253,8 @@ module _ (app : App) (vs : Values) (queued : Queued app vs) where
       let armed : List Armed = delays (vs (Guarded section.Timer)) in
       record {
         ready = queued.ready;
-        timer = all_append (IsTimedOne app) (without_handle n h armed) (postponed_message i (message_of_handle n h armed))
+        timer = all_append (IsTimedOne app) (without_handle n h armed)
+            (postponed_message i (message_of_handle n h armed))
             (without_one (position_or_len (has_handle n h) armed))
             (put_off i (message_of_handle n h armed)
             (λ a is. find_has (IsTimedOne app) (has_handle n h) armed a queued.timer is));

@@ -1,5 +1,7 @@
 -- The bodies of a sound application are well formed in what they do.
-use Rattle.std.proofs.Common.{Bool, option_map, ◌≡◌, ℕ, zero, suc, ◌+◌, ◌≤◌, ◌==◌, max, true, false, if◌then◌else◌, Contains, List, [], ◌∷◌, map, slice_get, slice_set, Option, Some, None, is_some, refl, sym, ap, subst, ◌∙◌, arith, eq-eqb}
+use Rattle.std.proofs.Common.{Bool, option_map, ◌≡◌, ℕ, zero, suc, ◌+◌, ◌≤◌, ◌==◌, max, true, false, if◌then◌else◌}
+use Rattle.std.proofs.Common.{Contains, List, [], ◌∷◌, map, slice_get, slice_set, Option, Some, None, is_some, refl}
+use Rattle.std.proofs.Common.{sym, ap, subst, ◌∙◌, arith, eq-eqb}
 use Rattle.std.specs.List.{AllByRecursion}
 use Rattle.std.proofs.lemmas.Bool.{ltb-true, ltb-false}
 use Rattle.std.proofs.lemmas.Option.{same_Some, none-some}
@@ -9,15 +11,18 @@ use Rattle.rt_lemmas.proofs.Lists.{all_front, all_behind}
 use Rattle.rt_ids.specs.Lists.{is_some_and, or_zero}
 use Rattle.rt_ids.specs.Choice.{IsIn}
 use Rattle.rt_ids.specs.Holder.{Guarded, Own}
-use Rattle.rt_ids.specs.Content.{Content, Values, number, timer_content, delays, message_of_handle, Message, Number, values_with}
-use Rattle.rt_ids.specs.Action.{Enters, Leaves, Emits, Posts, Clocks, Places, FindsFull, Frees, Arms, Cancels, Moves, SetsAlarm}
+use Rattle.rt_ids.specs.Content.{Content, Values, number, timer_content, delays, message_of_handle, Message, Number}
+use Rattle.rt_ids.specs.Content.{values_with}
+use Rattle.rt_ids.specs.Action.{Enters, Leaves, Emits, Posts, Clocks, Places, FindsFull, Frees, Arms, Cancels, Moves}
+use Rattle.rt_ids.specs.Action.{SetsAlarm}
 use Rattle.rt_ids.specs.Doing.{does}
 use Rattle.rt_ids.specs.declared.ids.Section.{Section}
 use Rattle.rt_ids.specs.declared.ids.Section.TheVariants as section
 use Rattle.rt_app.specs.declared.costs.TheConstants.{FREE_COST, READY_COST}
 use Rattle.rt_app.specs.declared.expr.Atom.{Atom}
 use Rattle.rt_app.specs.declared.expr.Atom.TheVariants as atom
-use Rattle.rt_app.specs.Tree.{Expression, Spawn, Soon, After, Cancel, Move, Calc, Now, Call, Statement, Bind, Assign, Branch, Repeat, Locked, Emit, Pend, Spawns, Block, Empty, Then, Task, App}
+use Rattle.rt_app.specs.Tree.{Expression, Spawn, Soon, After, Cancel, Move, Calc, Now, Call, Statement, Bind, Assign}
+use Rattle.rt_app.specs.Tree.{Branch, Repeat, Locked, Emit, Pend, Spawns, Block, Empty, Then, Task, App}
 use Rattle.rt_app.specs.Variables.{variables, variables_in}
 use Rattle.rt_app.specs.Bodies.{Member, task_priority}
 use Rattle.rt_app.specs.Level.{is_software, is_of_level}
@@ -26,12 +31,14 @@ use Rattle.rt_app.specs.Handlers.{irq_number}
 use Rattle.rt_app.specs.Cost.{lock_cost, block_cost}
 use Rattle.rt_app.specs.BodyCost.{cost_measure, timer_section_cost, handle_section_cost}
 use Rattle.rt_app.specs.Waiting.{CriticalSection, statement_sections, block_sections, spawn_sections}
-use Rattle.rt_app.specs.Sending.{act, capacity_of, Rest, act_all, has_place, take_place, ready_actions, instant_after, leave_timer, arm_actions, is_armed_as, cancel_actions, move_actions, spawn_actions}
+use Rattle.rt_app.specs.Sending.{act, capacity_of, Rest, act_all, has_place, take_place, ready_actions, instant_after}
+use Rattle.rt_app.specs.Sending.{leave_timer, arm_actions, is_armed_as, cancel_actions, move_actions, spawn_actions}
 use Rattle.rt_app.specs.Meaning.{Later, value_in, assign, turns_from, run, run_block}
 use Rattle.rt_app.specs.Sound.{IsSoundSpawn, IsSoundStatement, IsSoundBlock}
 use Rattle.rt_laws.specs.State.{Role}
 use Rattle.rt_laws.specs.Preemption.{greatest_ceiling}
-use Rattle.rt_laws.proofs.Fine.{IsQueue, SameQueues, Queued, rebase, first_fine, OfLevel, IsTimed, Within, IsCounted, EntersFine, IsFine, FineRest, act_fine, AllFine, acts_fine}
+use Rattle.rt_laws.proofs.Fine.{IsQueue, SameQueues, Queued, rebase, first_fine, OfLevel, IsTimed, Within, IsCounted}
+use Rattle.rt_laws.proofs.Fine.{EntersFine, IsFine, FineRest, act_fine, AllFine, acts_fine}
 
 -- the sections of locks of these resources
 abbrev pub held_of : List ℕ → List Section
@@ -97,7 +104,8 @@ module _ (app : App) (role : Role) (q : ℕ) (m : Member) (P : CriticalSection �
       go k vs queued false test =
           let full = ltb-false (number (vs (Guarded (section.Free n)))) (capacity_of app n) test in
           let few = queued.out n in
-          first_fine app role q (section.Free n ∷ held) (FindsFull n) (act (Leaves (section.Free n)) refused) tt (0, refl)
+          first_fine app role q (section.Free n ∷ held) (FindsFull n) (act (Leaves (section.Free n)) refused) tt
+          (0, refl)
           (act_fine app role q (section.Free n ∷ held) (Leaves (section.Free n)) refused (held, refl)
           (tt, λ k vs. tt) second) k vs queued
           (omega arith)
@@ -284,7 +292,8 @@ module _ (app : App) (role : Role) (q : ℕ) (m : Member) (P : CriticalSection �
       (record { ready = queued.ready; timer = queued.timer; handles = queued.handles; out = queued.out }))
       (beside r vs (Number n))
     where
-      beside : (r : ℕ) (vs : Values) (content : Content) → SameQueues (values_with vs (Guarded (section.Res r)) content) vs
+      beside : (r : ℕ) (vs : Values) (content : Content) → SameQueues (values_with vs (Guarded (section.Res r)) content)
+          vs
       beside r vs content (section.Res k) queue = absurd queue
       beside r vs content (section.Free k) queue = refl
       beside r vs content (section.Ready k) queue = refl

@@ -1,5 +1,7 @@
 -- `init`, `idle` and every handler of an accepted application are well formed in what they do.
-use Rattle.std.proofs.Common.{◌≡◌, ℕ, zero, suc, ◌+◌, ◌≤◌, ◌<◌, ◌^◌, ◌==◌, nat_lt, nat_le, Bool, true, false, ◌&&◌, if◌then◌else◌, List, [], ◌∷◌, ◌++◌, replicate, slice_get, Option, Some, None, option_map, IfSome, refl, sym, ap, subst, ◌∙◌, arith, eq-eqb}
+use Rattle.std.proofs.Common.{◌≡◌, ℕ, zero, suc, ◌+◌, ◌≤◌, ◌<◌, ◌^◌, ◌==◌, nat_lt, nat_le, Bool, true, false, ◌&&◌}
+use Rattle.std.proofs.Common.{if◌then◌else◌, List, [], ◌∷◌, ◌++◌, replicate, slice_get, Option, Some, None, option_map}
+use Rattle.std.proofs.Common.{IfSome, refl, sym, ap, subst, ◌∙◌, arith, eq-eqb}
 use Rattle.std.specs.List.{AllByRecursion, list_any}
 use Rattle.std.proofs.lemmas.Bool.{eqb-true, leb-true, lt-ltb, le-leb}
 use Rattle.std.proofs.lemmas.Option.{same_Some, none-some}
@@ -23,17 +25,22 @@ use Rattle.rt_app.specs.Bodies.{Member, members, task_priority}
 use Rattle.rt_app.specs.Level.{is_software, is_of_level, is_armed, levels}
 use Rattle.rt_app.specs.Ceiling.{ceiling}
 use Rattle.rt_app.specs.BodyCost.{dispatcher_section_cost, timer_section_cost}
-use Rattle.rt_app.specs.Waiting.{CriticalSection, waiting_bound, holds_off, sections, block_sections, idle_sections, tasks_sections, dispatcher_sections, moved_sections, handler_sections, ready_section, free_section}
-use Rattle.rt_app.specs.Handlers.{Service, services, dispatcher_of, bound_service, task_services, dispatcher_service, timer_service}
+use Rattle.rt_app.specs.Waiting.{CriticalSection, waiting_bound, holds_off, sections, block_sections, idle_sections}
+use Rattle.rt_app.specs.Waiting.{tasks_sections, dispatcher_sections, moved_sections, handler_sections, ready_section}
+use Rattle.rt_app.specs.Waiting.{free_section}
+use Rattle.rt_app.specs.Handlers.{Service, services, dispatcher_of, bound_service, task_services, dispatcher_service}
+use Rattle.rt_app.specs.Handlers.{timer_service}
 use Rattle.rt_app.specs.Sending.{Rest, act, act_all, ready_actions, dispatcher_number}
-use Rattle.rt_app.specs.Doings.{nothing, declared_doing, init_doing, idle_doing, task_doing, start_doing, dispatcher_doing, due, fire_doing, timer_doing, handler_doing}
+use Rattle.rt_app.specs.Doings.{nothing, declared_doing, init_doing, idle_doing, task_doing, start_doing}
+use Rattle.rt_app.specs.Doings.{dispatcher_doing, due, fire_doing, timer_doing, handler_doing}
 use Rattle.rt_app.specs.Accepted.{IsAccepted}
 use Rattle.rt_app.specs.Acceptance.{IsSound}
 use Rattle.rt_app.proofs.Sound.{accepted_are_sound}
 use Rattle.rt_app.proofs.SoundCeilings.{those_all}
 use Rattle.rt_app.proofs.TimerCeilings.{timer_within, mover_within}
 use Rattle.rt_laws.specs.State.{Role, Init, Idle, Serving}
-use Rattle.rt_laws.proofs.Fine.{OfLevel, IsTimedOne, Queued, IsCounted, EntersFine, IsFine, FineRest, AllFine, first_fine, act_fine, acts_fine}
+use Rattle.rt_laws.proofs.Fine.{OfLevel, IsTimedOne, Queued, IsCounted, EntersFine, IsFine, FineRest, AllFine}
+use Rattle.rt_laws.proofs.Fine.{first_fine, act_fine, acts_fine}
 use Rattle.rt_laws.proofs.FineBodies.{priority_is_of, block_fine}
 
 pub all_in : {X : Type 0} (P : X → Type 0) (xs : List X) → ((x : X) → IsIn xs x → P x) → AllByRecursion P xs
@@ -133,9 +140,11 @@ module _ (app : App) where
       (bounded_at n t at))
 
   abbrev moved : ℕ → ℕ → Task → List CriticalSection
-  moved priority n t = if is_software t && is_armed app n then ready_section app priority 0 t.priority READY_COST ∷ [] else []
+  moved priority n t = if is_software t && is_armed app n then ready_section app priority 0 t.priority READY_COST
+      ∷ [] else []
 
-  moved_bounded : (priority n k : ℕ) (ts : List Task) (t : Task) → AllByRecursion Bounded (moved_sections app priority n ts)
+  moved_bounded : (priority n k : ℕ) (ts : List Task) (t : Task) → AllByRecursion Bounded
+      (moved_sections app priority n ts)
       → slice_get ts k ≡ Some t → AllByRecursion Bounded (moved priority (n + k) t)
   moved_bounded priority n k [] t all at = absurd (none-some t at)
   moved_bounded priority n zero (u ∷ ts) t all at =
@@ -150,7 +159,8 @@ module _ (app : App) where
       (all_behind Bounded (moved priority n u) (moved_sections app priority (n + 1) ts) all) at)
 
   -- a counted section that stands in no other counts for the waiting bound at its body's priority
-  count : (role : Role) (q outer c cost : ℕ) → Bounded (record { priority = q; outer = outer; ceiling = c; cost = cost })
+  count : (role : Role) (q outer c cost : ℕ) → Bounded
+      (record { priority = q; outer = outer; ceiling = c; cost = cost })
       → IsCounted app role q outer c cost
   count role q outer c cost bounded p above top below within = bounded p above below within
 
@@ -304,7 +314,8 @@ module _ (app : App) (accepted : IsAccepted app) where
         let p : ℕ = task_priority app n in
         let as_declared : p ≡ found.0.priority = priority_is_of app n found.0 found.1 in
         let of_it : OfLevel app p a.message = ap (is_some_and (is_of_level p)) found.1
-        ∙ and_both (is_software found.0) (found.0.priority == p) found.2 (eq-eqb found.0.priority p (sym as_declared)) in
+        ∙ and_both (is_software found.0) (found.0.priority == p) found.2
+        (eq-eqb found.0.priority p (sym as_declared)) in
         let least : mono.priority ≤ ceiling app (section.Ready p) =
         mover_within app mono is n p of_it timed.0 in
         let bounded : AllByRecursion (Bounded app) (moved app mono.priority n found.0) =

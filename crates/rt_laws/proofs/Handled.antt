@@ -1,10 +1,12 @@
 -- Handles stay those of one armed message each, whatever an action changes in the timer queue.
-use Rattle.std.proofs.Common.{◌≡◌, ℕ, zero, suc, ◌+◌, ◌<◌, ◌≤◌, Bool, true, false, not, cond, List, [], ◌∷◌, ◌++◌, drop, take, find, slice_get, Option, Some, None, refl, sym, ap, subst, ◌∙◌, append-nil, arith}
+use Rattle.std.proofs.Common.{◌≡◌, ℕ, zero, suc, ◌+◌, ◌<◌, ◌≤◌, Bool, true, false, not, cond, List, [], ◌∷◌, ◌++◌, drop}
+use Rattle.std.proofs.Common.{take, find, slice_get, Option, Some, None, refl, sym, ap, subst, ◌∙◌, append-nil, arith}
 use Rattle.std.specs.List.{AllByRecursion, position_or_len, remove}
 use Rattle.std.proofs.lemmas.Option.{same_Some, none-some}
 use Rattle.rt_lemmas.proofs.Membership.{all_append, all_at}
 use Rattle.rt_lemmas.proofs.Lists.{find_has}
-use Rattle.rt_ids.specs.Content.{Message, Armed, Timed, has_handle, message_of_handle, without_handle, postponed_message, with_armed, with_moved}
+use Rattle.rt_ids.specs.Content.{Message, Armed, Timed, has_handle, message_of_handle, without_handle}
+use Rattle.rt_ids.specs.Content.{postponed_message, with_armed, with_moved}
 use Rattle.rt_app.specs.Handled.{AreHandled}
 
 -- of a list of armed messages no two have one handle

@@ -1,25 +1,30 @@
 -- What is left to do of a job fits what it has in its hands: with empty hands it takes, starts, fires or takes back a
 -- message, and ends or returns; with the place of a task it makes a message of that task ready or arms it, or it frees
 -- the place. So do `init`, `idle` and every handler, whatever the values are on the way.
-use Rattle.std.proofs.Common.{◌≡◌, ℕ, zero, suc, ◌==◌, Bool, true, false, if◌then◌else◌, List, [], ◌∷◌, ◌++◌, replicate, slice_get, slice_set, map, Option, Some, None, refl}
+use Rattle.std.proofs.Common.{◌≡◌, ℕ, zero, suc, ◌==◌, Bool, true, false, if◌then◌else◌, List, [], ◌∷◌, ◌++◌, replicate}
+use Rattle.std.proofs.Common.{slice_get, slice_set, map, Option, Some, None, refl}
 use Rattle.rt_ids.specs.Lists.{then_from}
 use Rattle.rt_ids.specs.Holder.{Guarded, Own}
 use Rattle.rt_ids.specs.Content.{Message, Armed, Values, Number, messages, timer_content, delays, values_with}
-use Rattle.rt_ids.specs.Action.{Action, Enters, Leaves, Clocks, Places, FindsFull, Readies, Starts, Frees, Arms, Fires, Cancels, Moves, Ends, Returns}
+use Rattle.rt_ids.specs.Action.{Action, Enters, Leaves, Clocks, Places, FindsFull, Readies, Starts, Frees, Arms, Fires}
+use Rattle.rt_ids.specs.Action.{Cancels, Moves, Ends, Returns}
 use Rattle.rt_ids.specs.Doing.{Doing, over, does}
 use Rattle.rt_ids.specs.declared.ids.BodyId.TheVariants as body
 use Rattle.rt_ids.specs.declared.ids.Section.TheVariants as section
 use Rattle.rt_app.specs.declared.costs.TheConstants.{FREE_COST}
 use Rattle.rt_app.specs.declared.expr.Atom.{Atom}
 use Rattle.rt_app.specs.declared.expr.Atom.TheVariants as atom
-use Rattle.rt_app.specs.Tree.{Expression, Spawn, Soon, After, Cancel, Move, Calc, Now, Call, Statement, Bind, Assign, Branch, Repeat, Locked, Emit, Pend, Spawns, Block, Empty, Then, Body, App}
+use Rattle.rt_app.specs.Tree.{Expression, Spawn, Soon, After, Cancel, Move, Calc, Now, Call, Statement, Bind, Assign}
+use Rattle.rt_app.specs.Tree.{Branch, Repeat, Locked, Emit, Pend, Spawns, Block, Empty, Then, Body, App}
 use Rattle.rt_app.specs.Variables.{variables}
 use Rattle.rt_app.specs.Bodies.{task_priority}
 use Rattle.rt_app.specs.BodyCost.{timer_section_cost}
 use Rattle.rt_app.specs.Handlers.{Handler, Runs, Dispatches, Times}
-use Rattle.rt_app.specs.Sending.{Rest, act, act_all, has_place, take_place, ready_actions, instant_after, leave_timer, arm_actions, is_armed_as, spawn_actions}
+use Rattle.rt_app.specs.Sending.{Rest, act, act_all, has_place, take_place, ready_actions, instant_after, leave_timer}
+use Rattle.rt_app.specs.Sending.{arm_actions, is_armed_as, spawn_actions}
 use Rattle.rt_app.specs.Meaning.{Later, value_in, assign, turns_from, run, run_block}
-use Rattle.rt_app.specs.Doings.{nothing, declared_doing, init_doing, idle_doing, task_doing, start_doing, due, fire_doing, handler_doing}
+use Rattle.rt_app.specs.Doings.{nothing, declared_doing, init_doing, idle_doing, task_doing, start_doing, due}
+use Rattle.rt_app.specs.Doings.{fire_doing, handler_doing}
 use Rattle.rt_laws.specs.Places.{Hand}
 
 -- what is in the hands behind an action

@@ -1,5 +1,6 @@
 -- What comes of each label that is allowed: the stack stays, a job starts, or the running job takes a step.
-use Rattle.std.proofs.Common.{le_refl, suc, option_map, ◌≡◌, ℕ, ◌<◌, ◌^◌, true, false, List, [], ◌∷◌, take, slice_set, Option, Some, None, refl, sym, ap, subst, arith}
+use Rattle.std.proofs.Common.{le_refl, suc, option_map, ◌≡◌, ℕ, ◌<◌, ◌^◌, true, false, List, [], ◌∷◌, take, slice_set}
+use Rattle.std.proofs.Common.{Option, Some, None, refl, sym, ap, subst, arith}
 use Rattle.std.specs.List.{AllByRecursion}
 use Rattle.std.proofs.lemmas.Option.{none-some}
 use Rattle.rt_lemmas.proofs.Lists.{find_has}
@@ -159,7 +160,11 @@ module _ (app : App) (accepted : IsAccepted app) where
         subst (λ q. JobWell app job (outside q)) (sym priority_is_of)
         (begun_well app (Serving irq) x.priority (handler_cost app x.handler) 0 s.values rest fine) in
         ByTake irq depth job refl (record {
-          stack = (begins, (priority_is_of, subst (λ q. system_ceiling app s.jobs < q) priority_is_of over), well.stack);
+          stack = (
+            begins,
+            (priority_is_of, subst (λ q. system_ceiling app s.jobs < q) priority_is_of over),
+            well.stack,
+          );
           pending = ap (λ p. slice_set p irq false) well.pending;
           queued = reached_queued app (Serving irq) x.priority 0 [] rest s.values s.values fine well.queued;
           order = (

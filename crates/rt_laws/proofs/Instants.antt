@@ -1,11 +1,14 @@
 -- An arming and a move put their message last in the timer queue, and of the messages of the least instant the first
 -- there is the least.
-use Rattle.std.proofs.Common.{◌≡◌, ℕ, suc, ◌+◌, ◌<◌, ◌≤◌, ◌==◌, min, Bool, true, false, cond, if◌then◌else◌, find, List, [], ◌∷◌, ◌++◌, Option, Some, None, IfSome, refl, sym, ap, subst, ◌∙◌, le_refl, eq-eqb, arith}
+use Rattle.std.proofs.Common.{◌≡◌, ℕ, suc, ◌+◌, ◌<◌, ◌≤◌, ◌==◌, min, Bool, true, false, cond, if◌then◌else◌, find, List}
+use Rattle.std.proofs.Common.{[], ◌∷◌, ◌++◌, Option, Some, None, IfSome, refl, sym, ap, subst, ◌∙◌, le_refl, eq-eqb}
+use Rattle.std.proofs.Common.{arith}
 use Rattle.std.specs.List.{AllByRecursion}
 use Rattle.std.proofs.lemmas.Bool.{eqb-true}
 use Rattle.std.proofs.lemmas.Option.{same_Some, none-some}
 use Rattle.rt_ids.specs.Holder.{Guarded}
-use Rattle.rt_ids.specs.Content.{Armed, Content, Values, timer_content, delays, lesser, least_instant, has_instant, least, without_handle, postponed_message}
+use Rattle.rt_ids.specs.Content.{Armed, Content, Values, timer_content, delays, lesser, least_instant, has_instant}
+use Rattle.rt_ids.specs.Content.{least, without_handle, postponed_message}
 use Rattle.rt_ids.specs.Action.{Action, Arms, Moves, SetsAlarm, Returns, effect}
 use Rattle.rt_ids.specs.Doing.{Doing, over, does}
 use Rattle.rt_ids.specs.declared.ids.Section.{Section}
@@ -50,7 +53,8 @@ module _ (app : App) (s : State) (queued : Queued app s.values) where
 
     -- the code changes nothing of the timer queue on its way to its next action
     timer_is : (action : Action) (made : Values) (next : ℕ → Values → Doing Values) → Asked (does action made next)
-        → reached_values (next (answer s action) (effect action s.values)) (effect action s.values) (Guarded section.Timer)
+        → reached_values (next (answer s action) (effect action s.values)) (effect action s.values)
+        (Guarded section.Timer)
         ≡ effect action s.values (Guarded section.Timer)
     timer_is action made next asked =
         reached_same app role q (answer s action) (held_after held action) (next (answer s action) vs) vs
@@ -66,7 +70,8 @@ module _ (app : App) (s : State) (queued : Queued app s.values) where
     goes_last over asked w is = absurd (none-some w is)
     goes_last (does (Arms i m) made next) asked w is =
         let same = timer_is (Arms i m) made next asked in
-        subst (GoesLast s (state_after_doing app s job others (does (Arms i m) made next))) (same_Some (what.Arm m.task i) w is)
+        subst (GoesLast s (state_after_doing app s job others (does (Arms i m) made next)))
+        (same_Some (what.Arm m.task i) w is)
         (record {
           message = m;
           of_task = refl;
@@ -78,12 +83,14 @@ module _ (app : App) (s : State) (queued : Queued app s.values) where
         })
     goes_last (does (Moves n h i) made next) asked w is =
         let found = asked.1.1 in
-        subst (GoesLast s (state_after_doing app s job others (does (Moves n h i) made next))) (same_Some (what.Move n h i) w is)
+        subst (GoesLast s (state_after_doing app s job others (does (Moves n h i) made next)))
+        (same_Some (what.Move n h i) w is)
         (record {
           moved = found.0;
           was_armed = found.1;
           last = ap delays (timer_is (Moves n h i) made next asked)
-              ∙ ap (λ o. without_handle n h (delays (s.values (Guarded section.Timer))) ++ postponed_message i o) found.1;
+              ∙ ap (λ o. without_handle n h (delays (s.values (Guarded section.Timer))) ++ postponed_message i o)
+              found.1;
         })
     goes_last (does SetsAlarm made next) asked w is =
         subst (GoesLast s (state_after_doing app s job others (does SetsAlarm made next)))

@@ -15,7 +15,8 @@ use Rattle.rt_laws.specs.Observer.{Seen, Observer, first_sight, sees}
 use Rattle.rt_laws.specs.Waiting.{WaitsWell, ServesWell}
 use Rattle.rt_laws.specs.Properties.{AtEach, AreExclusive, FindsFree, LeavesInnermost}
 use Rattle.rt_laws.specs.ByItems.{after_all}
-use Rattle.rt_laws.specs.Laws.{RunsKeepQueues, RunsKeepHandles, RunsKeepLaws, RunsNestSections, JudgedTracesKeepLaws, IsHighestFirst, TheHighestRuns}
+use Rattle.rt_laws.specs.Laws.{RunsKeepQueues, RunsKeepHandles, RunsKeepLaws, RunsNestSections, JudgedTracesKeepLaws}
+use Rattle.rt_laws.specs.Laws.{IsHighestFirst, TheHighestRuns}
 use Rattle.rt_laws.proofs.Well.{IsAbove, StackWell, StateWell}
 use Rattle.rt_laws.proofs.Happens.{first_well, happens, after_well}
 use Rattle.rt_laws.proofs.Handled.{are_handled}
@@ -33,7 +34,8 @@ module _ (app : App) (accepted : IsAccepted app) where
   at_each : (P : Observer → Label → List Label → Type 0)
       → ((s : State) (v : Observer) (label : Label) (labels : List Label) → StateWell app s v → May app s label
       → RunsOn app (after app s label) labels → P v label labels)
-      → (labels : List Label) (s : State) (v : Observer) → StateWell app s v → RunsOn app s labels → AtEach P app v labels
+      → (labels : List Label) (s : State) (v : Observer) → StateWell app s v → RunsOn app s labels
+      → AtEach P app v labels
   at_each P each [] s v well runs = tt
   at_each P each (label ∷ labels) s v well runs = (
     each s v label labels well runs.0 runs.1,
@@ -72,7 +74,8 @@ runs_nest_sections app accepted labels runs =
 pub judged_traces_keep_laws : JudgedTracesKeepLaws
 judged_traces_keep_laws app trace accepted judged = runs_keep_laws app accepted judged.run.labels judged.run.allowed
 
-below_ceiling : (app : App) (q : ℕ) (js : List Job) → system_ceiling app js < q → AllByRecursion (λ other. other.priority < q) js
+below_ceiling : (app : App) (q : ℕ) (js : List Job) → system_ceiling app js < q
+    → AllByRecursion (λ other. other.priority < q) js
 below_ceiling app q [] less = tt
 below_ceiling app q (job ∷ others) less = let deeper : system_ceiling app others < q = omega arith in
     (omega arith, below_ceiling app q others deeper)

@@ -1,6 +1,7 @@
 -- With each label the queues change by what one action does at most: on its way to its next action code makes the same
 -- of them, and so do handlers and the thread as they begin.
-use Rattle.std.proofs.Common.{◌≡◌, ℕ, suc, ◌≤◌, true, false, if◌then◌else◌, List, [], ◌∷◌, slice_set, Option, Some, None}
+use Rattle.std.proofs.Common.{◌≡◌, ℕ, suc, ◌≤◌, true, false, if◌then◌else◌, List, [], ◌∷◌, slice_set, Option, Some}
+use Rattle.std.proofs.Common.{None}
 use Rattle.std.proofs.Common.{refl, ap, ◌∙◌, arith, le_refl}
 use Rattle.rt_lemmas.proofs.Lists.{find_has}
 use Rattle.rt_ids.specs.Holder.{Guarded}
@@ -48,7 +49,11 @@ module _ (app : App) (accepted : IsAccepted app) where
   module _ (s : State) (queued : Queued app s.values) where
     -- the thread begins `idle`, or waits
     idles : (o : Option Body) (others : List Job) → ByOneAction s
-        (record s { jobs = idle_job app s.values o ∷ others; values = reached_values (idle_job app s.values o).rest s.values })
+        (record s {
+          jobs = idle_job app s.values o ∷ others;
+          values =
+              reached_values (idle_job app s.values o).rest s.values;
+        })
     idles None others = as_before s _ (still s.time) (λ x queue. refl)
     idles (Some b) others = as_before s _ (still s.time)
         (reached_same app Idle 0 0 [] (idle_doing app s.values) s.values (idle_fine app accepted 0 s.values queued))

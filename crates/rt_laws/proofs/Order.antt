@@ -1,5 +1,6 @@
 -- What is asked of the actions of queues stays as others run, since each queue is changed inside its section alone.
-use Rattle.std.proofs.Common.{◌≡◌, ℕ, ◌≤◌, List, [], ◌∷◌, Option, Some, None, IfSome, refl, ◌∙◌, subst, le_refl, inl, inr, arith}
+use Rattle.std.proofs.Common.{◌≡◌, ℕ, ◌≤◌, List, [], ◌∷◌, Option, Some, None, IfSome, refl, ◌∙◌, subst, le_refl, inl}
+use Rattle.std.proofs.Common.{inr, arith}
 use Rattle.rt_ids.specs.Choice.{IsIn}
 use Rattle.rt_ids.specs.Holder.{Guarded}
 use Rattle.rt_ids.specs.Content.{Values}
@@ -92,7 +93,8 @@ module _ (app : App) where
   some_ceiling [] x is = absurd is
   some_ceiling (job ∷ others) x (inl is) = let here : ceiling app x ≤ greatest_ceiling app job.sections =
       within_greatest (ceiling app) job.sections x is in omega arith
-  some_ceiling (job ∷ others) x (inr is) = let deeper : ceiling app x ≤ system_ceiling app others = some_ceiling others x is in
+  some_ceiling (job ∷ others) x (inr is) = let deeper : ceiling app x ≤ system_ceiling app others =
+      some_ceiling others x is in
       omega arith
 
   -- no job below has a section open that the job above may be in

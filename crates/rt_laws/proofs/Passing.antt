@@ -1,6 +1,7 @@
 -- What is true of all that is left to do in a body: a property that each action of a statement hands on, from what
 -- follows the action to the action, and that each spawn hands on, is true of a whole body, from what follows it.
-use Rattle.std.proofs.Common.{ℕ, zero, suc, ◌==◌, Bool, true, false, if◌then◌else◌, List, [], ◌∷◌, ◌++◌, replicate, slice_get, slice_set, Option, Some, None}
+use Rattle.std.proofs.Common.{ℕ, zero, suc, ◌==◌, Bool, true, false, if◌then◌else◌, List, [], ◌∷◌, ◌++◌, replicate}
+use Rattle.std.proofs.Common.{slice_get, slice_set, Option, Some, None}
 use Rattle.rt_ids.specs.Lists.{then_from}
 use Rattle.rt_ids.specs.Holder.{Guarded, Own}
 use Rattle.rt_ids.specs.Content.{Message, Values, Number, values_with}
@@ -11,7 +12,8 @@ use Rattle.rt_ids.specs.declared.ids.Section.{Section}
 use Rattle.rt_ids.specs.declared.ids.Section.TheVariants as section
 use Rattle.rt_app.specs.declared.expr.Atom.{Atom}
 use Rattle.rt_app.specs.declared.expr.Atom.TheVariants as atom
-use Rattle.rt_app.specs.Tree.{Expression, Spawn, Calc, Now, Call, Statement, Bind, Assign, Branch, Repeat, Locked, Emit, Pend, Spawns, Block, Empty, Then, Body, App}
+use Rattle.rt_app.specs.Tree.{Expression, Spawn, Calc, Now, Call, Statement, Bind, Assign, Branch, Repeat, Locked, Emit}
+use Rattle.rt_app.specs.Tree.{Pend, Spawns, Block, Empty, Then, Body, App}
 use Rattle.rt_app.specs.Variables.{variables}
 use Rattle.rt_app.specs.declared.costs.TheConstants.{FREE_COST}
 use Rattle.rt_app.specs.Sending.{Rest, act, act_all, has_place, take_place, spawn_actions}

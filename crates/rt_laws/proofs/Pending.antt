@@ -1,5 +1,7 @@
 -- Which interrupts are pending, and which one is to be taken.
-use Rattle.std.proofs.Common.{if◌then◌else◌, ◌≡◌, ℕ, zero, suc, ◌≤◌, ◌<◌, ◌==◌, nat_lt, Bool, true, false, ◌&&◌, List, [], ◌∷◌, map, slice_get, slice_set, slice_index_or, find, Option, Some, None, option_map, refl, sym, ap, subst, ◌∙◌, arith, ⊎_elim}
+use Rattle.std.proofs.Common.{if◌then◌else◌, ◌≡◌, ℕ, zero, suc, ◌≤◌, ◌<◌, ◌==◌, nat_lt, Bool, true, false, ◌&&◌, List}
+use Rattle.std.proofs.Common.{[], ◌∷◌, map, slice_get, slice_set, slice_index_or, find, Option, Some, None, option_map}
+use Rattle.std.proofs.Common.{refl, sym, ap, subst, ◌∙◌, arith, ⊎_elim}
 use Rattle.std.proofs.lemmas.Bool.{ltb-true, ltb-false, eqb-true}
 use Rattle.std.proofs.lemmas.Option.{same_Some, none-some}
 use Rattle.rt_lemmas.proofs.Bools.{and_parts, and_both}
@@ -81,12 +83,14 @@ module _ (app : App) where
       subst (λ q. q ≤ system_ceiling app s.jobs) (priority_is irq v at) least
 
   -- what is to be taken is above the system ceiling
-  pub starts_above : (s : State) (irq : ℕ) → candidate app s ≡ Some irq → system_ceiling app s.jobs < priority_of app irq
+  pub starts_above : (s : State) (irq : ℕ) → candidate app s ≡ Some irq
+      → system_ceiling app s.jobs < priority_of app irq
   starts_above s irq is =
       let best : IsBest (may_start app s) (IsNoLater app) numbers (Some irq) =
       subst (IsBest (may_start app s) (IsNoLater app) numbers) is (candidate_is_highest app s) in
       ltb-true (system_ceiling app s.jobs) (priority_of app irq)
-      (and_parts (slice_index_or s.pending irq false) (nat_lt (system_ceiling app s.jobs) (priority_of app irq)) best.1).1
+      (and_parts (slice_index_or s.pending irq false) (nat_lt (system_ceiling app s.jobs) (priority_of app irq))
+      best.1).1
 
   -- and of no lower priority than any that is pending
   pub goes_first : (s : State) (irq other : ℕ) (v : Service) → service_at app irq ≡ Some v

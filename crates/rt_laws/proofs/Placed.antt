@@ -1,6 +1,7 @@
 -- In every run of an accepted application the places that are out are those in transit, armed and ready: what the
 -- started jobs have left to do fits what they have in their hands.
-use Rattle.std.proofs.Common.{◌≡◌, ℕ, ◌^◌, true, false, if◌then◌else◌, List, [], ◌∷◌, slice_set, Option, Some, None, option_map, refl, sym, ap, subst, arith}
+use Rattle.std.proofs.Common.{◌≡◌, ℕ, ◌^◌, true, false, if◌then◌else◌, List, [], ◌∷◌, slice_set, Option, Some, None}
+use Rattle.std.proofs.Common.{option_map, refl, sym, ap, subst, arith}
 use Rattle.std.proofs.lemmas.Option.{same_Some, none-some}
 use Rattle.rt_lemmas.proofs.Lists.{find_has}
 use Rattle.rt_ids.specs.Lists.{or_zero}
@@ -54,7 +55,8 @@ module _ (app : App) (accepted : IsAccepted app) (s : State) (queued : Queued ap
 
     -- the state behind the next action, where its item is seen
     abbrev PlacedBy : Doing Values → What → Type 0
-    PlacedBy rest w = Placed app (hands_behind (hand ∷ hands) (Stepped (Some w))) (state_after_doing app s job others rest)
+    PlacedBy rest w = Placed app (hands_behind (hand ∷ hands) (Stepped (Some w)))
+        (state_after_doing app s job others rest)
 
     -- it goes on behind an action
     goes : (action : Action) (made : Values) (next : ℕ → Values → Doing Values) → Asked (does action made next)
@@ -85,7 +87,11 @@ module _ (app : App) (accepted : IsAccepted app) (s : State) (queued : Queued ap
 
     -- the thread begins `idle`, or waits
     idles : hand ≡ None → (o : Option Body) → Placed app (hand ∷ hands)
-        (record s { jobs = idle_job app s.values o ∷ others; values = reached_values (idle_job app s.values o).rest s.values })
+        (record s {
+          jobs = idle_job app s.values o ∷ others;
+          values =
+              reached_values (idle_job app s.values o).rest s.values;
+        })
     idles empty None = record { fits = (tt, below); counted = counted }
     idles empty (Some b) = record {
       fits = (subst (λ h. Fits h (idle_doing app s.values)) (sym empty) (idle_fits app s.values), below);
@@ -105,7 +111,8 @@ module _ (app : App) (accepted : IsAccepted app) (s : State) (queued : Queued ap
         (same_Some (if is_due s.time (next_instant s) then what.Alarm else what.AlarmSet) w is)
         (elim (is_due s.time (next_instant s)) as
         (λ b. Placed app (hands_behind (hand ∷ hands) (Stepped (Some (if b then what.Alarm else what.AlarmSet))))
-        (if b then state_after_pend (timer_number app) (record on { alarm = None }) else record on { alarm = next_instant s })) [
+        (if b then state_after_pend (timer_number app) (record on { alarm = None }) else record on
+        { alarm = next_instant s })) [
           | true ↦ goes SetsAlarm made next asked _ _ refl refl refl
           | false ↦ goes SetsAlarm made next asked _ _ refl refl refl
         ])
@@ -163,7 +170,8 @@ module _ (app : App) (accepted : IsAccepted app) (s : State) (queued : Queued ap
   }
 
 module _ (app : App) (accepted : IsAccepted app) where
-  next_placed : (s : State) (v : Observer) (label : Label) → StateWell app s v → (hands : List Hand) → Placed app hands s
+  next_placed : (s : State) (v : Observer) (label : Label) → StateWell app s v → (hands : List Hand)
+      → Placed app hands s
       → May app s label → Placed app (hands_behind hands label) (after app s label)
   next_placed s v (Arrived irq) well hands placed may = record { fits = placed.fits; counted = placed.counted }
   next_placed s v Ticked well hands placed may = record { fits = placed.fits; counted = placed.counted }

@@ -1,5 +1,6 @@
 -- Every run of an accepted application serves the messages that are ready.
-use Rattle.std.proofs.Common.{◌≡◌, ℕ, ◌≤◌, ◌==◌, ◌^◌, Bool, true, false, Contains, List, [], ◌∷◌, slice_set, length-set, Option, Some, None, option_map, refl, sym, ap, subst, ◌∙◌, inl, inr, arith}
+use Rattle.std.proofs.Common.{◌≡◌, ℕ, ◌≤◌, ◌==◌, ◌^◌, Bool, true, false, Contains, List, [], ◌∷◌, slice_set, length-set}
+use Rattle.std.proofs.Common.{Option, Some, None, option_map, refl, sym, ap, subst, ◌∙◌, inl, inr, arith}
 use Rattle.std.proofs.lemmas.Bool.{eqb-true}
 use Rattle.std.proofs.lemmas.Option.{none-some}
 use Rattle.rt_lemmas.proofs.Lists.{find_has}
@@ -40,7 +41,8 @@ use Rattle.rt_laws.proofs.Happens.{first_well}
 use Rattle.rt_laws.proofs.Keeping.{next_well}
 use Rattle.rt_laws.proofs.Dispatchers.{dispatcher_serves, dispatcher_small}
 use Rattle.rt_laws.proofs.Readying.{init_serves, handler_serves}
-use Rattle.rt_laws.proofs.ReadyServed.{JobServes, IsOutside, IsInside, LevelServed, Open, Nothing, Posted, Stands, Keeps, KeepsState, keeps_level, all_kept, posts_kept}
+use Rattle.rt_laws.proofs.ReadyServed.{JobServes, IsOutside, IsInside, LevelServed, Open, Nothing, Posted, Stands}
+use Rattle.rt_laws.proofs.ReadyServed.{Keeps, KeepsState, keeps_level, all_kept, posts_kept}
 use Rattle.rt_laws.proofs.ReadySteps.{differ, outside, inside_too}
 
 module _ (app : App) (accepted : IsAccepted app) (p : ℕ) (of_level : Contains (levels app) p) where

@@ -1,12 +1,15 @@
 -- A step of the running job keeps the messages of a level served, whichever its action is.
-use Rattle.std.proofs.Common.{◌≡◌, ℕ, zero, suc, ◌<◌, ◌-◌, ◌==◌, arith, map, eq-eqb, length-set, Bool, true, false, if◌then◌else◌, List, [], ◌∷◌, drop, length, slice_set, slice_index_or, Option, Some, None, refl, sym, ap, subst, ◌∙◌, inl, inr}
+use Rattle.std.proofs.Common.{◌≡◌, ℕ, zero, suc, ◌<◌, ◌-◌, ◌==◌, arith, map, eq-eqb, length-set, Bool, true, false}
+use Rattle.std.proofs.Common.{if◌then◌else◌, List, [], ◌∷◌, drop, length, slice_set, slice_index_or, Option, Some, None}
+use Rattle.std.proofs.Common.{refl, sym, ap, subst, ◌∙◌, inl, inr}
 use Rattle.std.proofs.lemmas.Bool.{eqb-true}
 use Rattle.std.proofs.lemmas.Option.{none-some}
 use Rattle.rt_lemmas.proofs.Membership.{all_at}
 use Rattle.rt_ids.specs.Choice.{IsIn}
 use Rattle.rt_ids.specs.Holder.{Guarded}
 use Rattle.rt_ids.specs.Content.{Message, Values, messages}
-use Rattle.rt_ids.specs.Action.{Action, Enters, Leaves, Posts, Clocks, Readies, Starts, SetsAlarm, Ends, Returns, effect}
+use Rattle.rt_ids.specs.Action.{Action, Enters, Leaves, Posts, Clocks, Readies, Starts, SetsAlarm, Ends, Returns}
+use Rattle.rt_ids.specs.Action.{effect}
 use Rattle.rt_ids.specs.Doing.{Doing, over, does}
 use Rattle.rt_ids.specs.declared.ids.BodyId.TheVariants as body
 use Rattle.rt_ids.specs.declared.ids.Section.{Section}
@@ -26,11 +29,14 @@ use Rattle.rt_laws.specs.Observer.{Seen}
 use Rattle.rt_laws.specs.Served.{IsOpen, BeginsWith}
 use Rattle.rt_laws.proofs.Order.{apart_below}
 use Rattle.rt_laws.proofs.Pending.{still_set}
-use Rattle.rt_laws.proofs.Fine.{Within, reached_same, effect_beside, effect_same, Queued, IsFine, held_after, queued_effect}
+use Rattle.rt_laws.proofs.Fine.{Within, reached_same, effect_beside, effect_same, Queued, IsFine, held_after}
+use Rattle.rt_laws.proofs.Fine.{queued_effect}
 use Rattle.rt_laws.proofs.FineHandlers.{idle_fine}
 use Rattle.rt_laws.proofs.Well.{NextKept, IsAbove, JobWell}
 use Rattle.rt_laws.proofs.Readying.{Away, Inside, Serves, idle_serves}
-use Rattle.rt_laws.proofs.ReadyServed.{no_drop, no_more, readied, taken, IsPosted, AllServe, LevelServed, Open, Nothing, Posted, Stands, Keeps, KeepsState, posts_kept, goes_outside, goes_inside, goes_out}
+use Rattle.rt_laws.proofs.ReadyServed.{no_drop, no_more, readied, taken, IsPosted, AllServe, LevelServed, Open, Nothing}
+use Rattle.rt_laws.proofs.ReadyServed.{Posted, Stands, Keeps, KeepsState, posts_kept, goes_outside, goes_inside}
+use Rattle.rt_laws.proofs.ReadyServed.{goes_out}
 
 pub differ : (r p : ℕ) → (r == p) ≡ false → ¬ (r ≡ p)
 differ r p test same = let equal : (r == p) ≡ true = eq-eqb r p same in cc
@@ -92,7 +98,8 @@ module _ (app : App) (accepted : IsAccepted app) (p : ℕ) (s : State) (long : l
         → LevelServed app p s.pending s.values (running (does action made next) ∷ others)
         → Keeps app p s.pending (reached_values rest vs) (after ∷ others)
     away out before after still good served =
-        goes_outside app p s.pending long s.values (reached_values rest vs) (running (does action made next)) after others
+        goes_outside app p s.pending long s.values (reached_values rest vs) (running (does action made next)) after
+        others
         out before still good (untouched out) all served
 
     -- what it knows of the queue is so as it goes on
@@ -106,7 +113,8 @@ module _ (app : App) (accepted : IsAccepted app) (p : ℕ) (s : State) (long : l
         → (IsPosted app p s.pending → IsPosted app p later)
         → Keeps app p later (reached_values rest vs) (after ∷ others)
     inside later still after posted outer is out known good keeps =
-        goes_inside app p s.pending later still s.values (reached_values rest vs) after others posted outer is out known good
+        goes_inside app p s.pending later still s.values (reached_values rest vs) after others posted outer is out known
+        good
         (λ there. (keeps, below there)) all
 
   -- the alarm is set, or comes at once
@@ -122,7 +130,8 @@ module _ (app : App) (accepted : IsAccepted app) (p : ℕ) (s : State) (long : l
   restarts : (o : Option Body) (left_to_do : Doing Values) → ¬ IsIn sections queue
       → ¬ BeginsWith queue (dispatcher_section_cost app p) left_to_do
       → LevelServed app p s.pending s.values (running left_to_do ∷ others)
-      → Keeps app p s.pending (reached_values (idle_job app s.values o).rest s.values) (idle_job app s.values o ∷ others)
+      → Keeps app p s.pending (reached_values (idle_job app s.values o).rest s.values)
+      (idle_job app s.values o ∷ others)
   restarts None left_to_do out before served =
       goes_outside app p s.pending long s.values s.values (running left_to_do) (idle_job app s.values None) others
       out before (λ is. none-some queue is.1) tt refl all served
@@ -147,7 +156,8 @@ module _ (app : App) (accepted : IsAccepted app) (p : ℕ) (s : State) (long : l
         lefts = (cost - 1) ∷ map (λ n. n - 1) lefts;
       }
 
-      go : (b : Bool) → (r == p) ≡ b → Keeps app p s.pending (reached_values (next 0 s.values) s.values) (after ∷ others)
+      go : (b : Bool) → (r == p) ≡ b → Keeps app p s.pending (reached_values (next 0 s.values) s.values)
+          (after ∷ others)
       go true test =
           let same : r ≡ p = eqb-true r p test in
           inside (Enters (section.Ready r) cost) made next well asked s.pending long after false sections
@@ -179,7 +189,8 @@ module _ (app : App) (accepted : IsAccepted app) (p : ℕ) (s : State) (long : l
       (away (Posts irq) made next well asked out (λ no_entry. no_entry) _ out (good 0 s.values) served)
   outside (does SetsAlarm made next) well asked out good served w is =
       let after : Job = record (job_after_step (running (does SetsAlarm made next))) { rest = next 0 s.values } in
-      alarm_kept (record s { jobs = after ∷ others; values = reached_values (next 0 s.values) s.values }) (next_instant s)
+      alarm_kept (record s { jobs = after ∷ others; values = reached_values (next 0 s.values) s.values })
+      (next_instant s)
       (away SetsAlarm made next well asked out (λ no_entry. no_entry) after out (good 0 s.values) served)
   outside (does (Ends body.Init) made next) well asked out good served w is =
       restarts app.idle (does (Ends body.Init) made next) out (λ no_entry. no_entry) served

@@ -1,6 +1,7 @@
 -- Who is in the section of a ready queue leaves it empty, or with the dispatcher of its level pending: each spawn, the
 -- timer handler and the dispatcher itself, whatever the values are on the way.
-use Rattle.std.proofs.Common.{◌≡◌, ℕ, ◌⊎◌, Bool, true, false, if◌then◌else◌, List, [], ◌∷◌, ◌++◌, drop, map, Option, Some, None, refl, sym, ap, subst, inl, inr}
+use Rattle.std.proofs.Common.{◌≡◌, ℕ, ◌⊎◌, Bool, true, false, if◌then◌else◌, List, [], ◌∷◌, ◌++◌, drop, map, Option}
+use Rattle.std.proofs.Common.{Some, None, refl, sym, ap, subst, inl, inr}
 use Rattle.rt_ids.specs.Holder.{Guarded}
 use Rattle.rt_ids.specs.Content.{Message, Armed, Values, messages, timer_content, delays}
 use Rattle.rt_ids.specs.Action.{Enters, Leaves, Posts, Clocks, Readies, Starts, Frees, Cancels, Moves, Ends, Returns}
@@ -10,10 +11,12 @@ use Rattle.rt_ids.specs.declared.ids.Section.TheVariants as section
 use Rattle.rt_app.specs.Tree.{Expression, Spawn, Soon, After, Cancel, Move, App}
 use Rattle.rt_app.specs.Bodies.{task_priority}
 use Rattle.rt_app.specs.Handlers.{Handler, Runs, Dispatches, Times}
-use Rattle.rt_app.specs.Sending.{Rest, act, act_all, ready_actions, instant_after, leave_timer, arm_actions, is_armed_as, spawn_actions, dispatcher_number}
+use Rattle.rt_app.specs.Sending.{Rest, act, act_all, ready_actions, instant_after, leave_timer, arm_actions}
+use Rattle.rt_app.specs.Sending.{is_armed_as, spawn_actions, dispatcher_number}
 use Rattle.rt_app.specs.BodyCost.{timer_section_cost}
 use Rattle.rt_app.specs.declared.costs.TheConstants.{FREE_COST}
-use Rattle.rt_app.specs.Doings.{nothing, init_doing, idle_doing, task_doing, start_doing, dispatcher_doing, due, fire_doing, timer_doing, handler_doing}
+use Rattle.rt_app.specs.Doings.{nothing, init_doing, idle_doing, task_doing, start_doing, dispatcher_doing, due}
+use Rattle.rt_app.specs.Doings.{fire_doing, timer_doing, handler_doing}
 use Rattle.rt_laws.proofs.Passing.{IsPassed, take_holds, declared_holds, task_holds, behind}
 
 -- where a job stands: outside the section of the ready queue, or inside, where the queue holds these messages, and

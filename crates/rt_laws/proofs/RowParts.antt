@@ -60,7 +60,8 @@ software name priority capacity args body = record {
 abbrev pub last : Statement → Block
 last s = Then s Empty
 
--- what the machine is at: its system ceiling, the interrupt that is to be taken, and the item of the running job's next action
+-- what the machine is at: its system ceiling, the interrupt that is to be taken, and the item of the running job's next
+-- action
 pub record Moment : Type 0 where
   pub ceiling : ℕ
   pub candidate : Option ℕ

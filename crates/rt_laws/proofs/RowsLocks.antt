@@ -60,7 +60,12 @@ takes_lo = refl
 unfoldable pub inside : List Label
 inside = ended ++ shows (what.Take 0 40) ∷ shows (what.Enter (section.Res 0)) ∷ Arrived 1 ∷ Arrived 2 ∷ []
 
-holds_both_off : at inside ≡ record { ceiling = 3; candidate = None; gives = Some (what.Leave (section.Res 0) (Some 6)) }
+holds_both_off : at inside ≡ record {
+  ceiling = 3;
+  candidate = None;
+  gives =
+      Some (what.Leave (section.Res 0) (Some 6));
+}
 unfolding locks ended inside
 holds_both_off = refl
 

@@ -1,5 +1,6 @@
 -- From its take to its return no job of lower priority takes a step.
-use Rattle.std.proofs.Common.{◌≡◌, ℕ, ◌≤◌, ◌==◌, ◌⊎◌, Bool, true, false, List, [], ◌∷◌, Option, Some, refl, sym, ap, subst, ◌∙◌, arith, eq-eqb, inl, inr}
+use Rattle.std.proofs.Common.{◌≡◌, ℕ, ◌≤◌, ◌==◌, ◌⊎◌, Bool, true, false, List, [], ◌∷◌, Option, Some, refl, sym, ap}
+use Rattle.std.proofs.Common.{subst, ◌∙◌, arith, eq-eqb, inl, inr}
 use Rattle.rt_lemmas.proofs.Bools.{true_and_false}
 use Rattle.rt_trace.specs.Label.{Label, Stepped}
 use Rattle.rt_trace.specs.declared.item.What.{What}
@@ -13,7 +14,8 @@ use Rattle.rt_laws.specs.Allowed.{May, after}
 use Rattle.rt_laws.specs.Run.{RunsOn}
 use Rattle.rt_laws.specs.Observer.{Seen, Observer, sees}
 use Rattle.rt_laws.specs.Waiting.{stepper, steppers, lower, is_return, ServesWell}
-use Rattle.rt_laws.proofs.Well.{alone_at_bottom, IsAbove, StackWell, StateWell, IsThread, Changes, GoesOn, Restarts, ComesBack}
+use Rattle.rt_laws.proofs.Well.{alone_at_bottom, IsAbove, StackWell, StateWell, IsThread, Changes, GoesOn, Restarts}
+use Rattle.rt_laws.proofs.Well.{ComesBack}
 use Rattle.rt_laws.proofs.Pending.{starts_above}
 use Rattle.rt_laws.proofs.Happens.{Happens, Quietly, ByTake, ByStep, happens, after_well}
 use Rattle.rt_laws.proofs.Waiting.{steppers_on, steppers_ended, not_lower, first_of}

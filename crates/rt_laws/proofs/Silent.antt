@@ -1,5 +1,6 @@
 -- Silent steps are told from the costs at once.
-use Rattle.std.proofs.Common.{◌≡◌, ℕ, zero, suc, ◌-◌, ◌≤◌, ◌<◌, false, List, [], ◌∷◌, map, None, refl, sym, ap, ◌∙◌, arith}
+use Rattle.std.proofs.Common.{◌≡◌, ℕ, zero, suc, ◌-◌, ◌≤◌, ◌<◌, false, List, [], ◌∷◌, map, None, refl, sym, ap, ◌∙◌}
+use Rattle.std.proofs.Common.{arith}
 use Rattle.std.specs.List.{AllByRecursion}
 use Rattle.rt_app.specs.Tree.{App}
 use Rattle.rt_laws.specs.State.{Role, Init, Idle, Waiting, Serving, Job, State}
@@ -100,7 +101,10 @@ module _ (app : App) (s : State) where
       step =
           (one_step job.role job.left k may.0, lefts_one k job.lefts may.1);
     },
-    may_at k (job_after_step job ∷ others) owing none (steps_less job.role job.left k may.0, lefts_less k job.lefts may.1),
+    may_at k (job_after_step job ∷ others) owing none (
+      steps_less job.role job.left k may.0,
+      lefts_less k job.lefts may.1,
+    ),
   )
 
   spend_at : (k : ℕ) (js : List Job) → RunsOn app (with_jobs js) (silent (suc k)) → MaySpend (suc k) js

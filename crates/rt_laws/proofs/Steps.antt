@@ -1,11 +1,13 @@
 -- A step of the running job keeps what holds of the jobs, whichever its action is.
-use Rattle.std.proofs.Common.{arith, le_refl, ◌≡◌, ℕ, Bool, true, false, if◌then◌else◌, List, [], ◌∷◌, length, slice_set, Option, Some, None, refl, sym, ap, subst, ◌∙◌}
+use Rattle.std.proofs.Common.{arith, le_refl, ◌≡◌, ℕ, Bool, true, false, if◌then◌else◌, List, [], ◌∷◌, length}
+use Rattle.std.proofs.Common.{slice_set, Option, Some, None, refl, sym, ap, subst, ◌∙◌}
 use Rattle.std.proofs.lemmas.Option.{same_Some, none-some}
 use Rattle.rt_lemmas.proofs.Membership.{all_at}
 use Rattle.rt_ids.specs.Choice.{IsIn}
 use Rattle.rt_ids.specs.Holder.{Guarded}
 use Rattle.rt_ids.specs.Content.{Values}
-use Rattle.rt_ids.specs.Action.{Action, Enters, Leaves, Emits, Posts, Clocks, Places, FindsFull, Readies, Starts, Frees, Arms, Fires, Cancels, Moves, SetsAlarm, Ends, Returns, effect}
+use Rattle.rt_ids.specs.Action.{Action, Enters, Leaves, Emits, Posts, Clocks, Places, FindsFull, Readies, Starts, Frees}
+use Rattle.rt_ids.specs.Action.{Arms, Fires, Cancels, Moves, SetsAlarm, Ends, Returns, effect}
 use Rattle.rt_ids.specs.Doing.{Doing, over, does}
 use Rattle.rt_ids.specs.declared.ids.BodyId.TheVariants as body
 use Rattle.rt_ids.specs.declared.ids.Section.{Section}
@@ -22,9 +24,12 @@ use Rattle.rt_laws.specs.Acting.{job_after_step, state_after_pend, idle_job, ans
 use Rattle.rt_laws.specs.Allowed.{after}
 use Rattle.rt_laws.specs.Observer.{Seen, Observer, sees, seen_after_enter, seen_after_leave}
 use Rattle.rt_laws.proofs.Order.{answer_now, next_order, all_kept, apart_below}
-use Rattle.rt_laws.proofs.Fine.{IsQueue, Within, reached_queued, reached_same, effect_beside, effect_same, Queued, IsFine, held_after, queued_effect}
+use Rattle.rt_laws.proofs.Fine.{IsQueue, Within, reached_queued, reached_same, effect_beside, effect_same, Queued}
+use Rattle.rt_laws.proofs.Fine.{IsFine, held_after, queued_effect}
 use Rattle.rt_laws.proofs.FineHandlers.{idle_fine}
-use Rattle.rt_laws.proofs.Well.{NextKept, AllKept, alone_at_bottom, WithinAll, JobWell, IsAbove, StackWell, StateWell, IsThread, Changes, GoesOn, Restarts, ComesBack, Nearer, spends_well, spends_nearer, enters_well, enters_nearer, leaves_well, leaves_nearer}
+use Rattle.rt_laws.proofs.Well.{NextKept, AllKept, alone_at_bottom, WithinAll, JobWell, IsAbove, StackWell, StateWell}
+use Rattle.rt_laws.proofs.Well.{IsThread, Changes, GoesOn, Restarts, ComesBack, Nearer, spends_well, spends_nearer}
+use Rattle.rt_laws.proofs.Well.{enters_well, enters_nearer, leaves_well, leaves_nearer}
 
 -- what a step leads to, and how it changes the stack
 pub record Led (app : App) (job : Job) (seen : Seen) (others : List Job) (seens : List Seen) (shown : Option What)
@@ -128,7 +133,8 @@ module _ (app : App) (accepted : IsAccepted app) (s : State) (v : Observer) (pen
         → t.pending ≡ u.pending
         → t.values ≡ reached_values rest vs → t.time ≡ s.time → Led app (running before) seen others seens shown t u
     plain shown t u same jobs views pendings values time =
-        goes shown (record (job_after_step (running before)) { rest = rest }) seen t u jobs views pendings values time refl
+        goes shown (record (job_after_step (running before)) { rest = rest }) seen t u jobs views pendings values time
+        refl
         (sym same)
         (spends_well app (running before) seen well rest (answer s action) vs
         (subst (λ xs. IsFine app role q (answer s action) xs vs rest) same rest_fine))
@@ -151,9 +157,11 @@ module _ (app : App) (accepted : IsAccepted app) (s : State) (v : Observer) (pen
       } in
       subst (goal SetsAlarm made next) is
       (subst (λ b. Led app (running (does SetsAlarm made next)) seen others seens (Some what.Alarm)
-      (if b then state_after_pend (timer_number app) (record on { alarm = None }) else record on { alarm = next_instant s })
+      (if b then state_after_pend (timer_number app) (record on { alarm = None }) else record on
+      { alarm = next_instant s })
       (sees app sight (Stepped (Some what.Alarm)))) (sym due)
-      (plain SetsAlarm made next well asked (Some what.Alarm) (state_after_pend (timer_number app) (record on { alarm = None }))
+      (plain SetsAlarm made next well asked (Some what.Alarm)
+      (state_after_pend (timer_number app) (record on { alarm = None }))
       (sees app sight (Stepped (Some what.Alarm))) refl refl refl
       (ap (λ p. slice_set p (timer_number app) true) (sym pending)) refl refl))
   alarms made next well asked w false due is =
@@ -166,7 +174,8 @@ module _ (app : App) (accepted : IsAccepted app) (s : State) (v : Observer) (pen
       } in
       subst (goal SetsAlarm made next) is
       (subst (λ b. Led app (running (does SetsAlarm made next)) seen others seens (Some what.AlarmSet)
-      (if b then state_after_pend (timer_number app) (record on { alarm = None }) else record on { alarm = next_instant s })
+      (if b then state_after_pend (timer_number app) (record on { alarm = None }) else record on
+      { alarm = next_instant s })
       (sees app sight (Stepped (Some what.AlarmSet)))) (sym due)
       (plain SetsAlarm made next well asked (Some what.AlarmSet) (record on { alarm = next_instant s })
       (sees app sight (Stepped (Some what.AlarmSet))) refl refl refl (sym pending) refl refl))
@@ -176,7 +185,11 @@ module _ (app : App) (accepted : IsAccepted app) (s : State) (v : Observer) (pen
       → JobWell app (running left_to_do) seen → view.priority ≡ 0 → view.inside ≡ seen.inside → view.since ≡ seen.since
       → (o : Option Body) (u : Observer) → u.jobs ≡ view ∷ seens → u.pending ≡ v.pending
       → Led app (running left_to_do) seen others seens shown
-      (record s { jobs = idle_job app s.values o ∷ others; values = reached_values (idle_job app s.values o).rest s.values }) u
+      (record s {
+        jobs = idle_job app s.values o ∷ others;
+        values =
+            reached_values (idle_job app s.values o).rest s.values;
+      }) u
   restarts left_to_do view shown thread closed well low inside since o u views pendings = record {
     well = record {
       stack = subst (λ us. StackWell app (idle_job app s.values o ∷ others) us) (sym views)
@@ -192,7 +205,8 @@ module _ (app : App) (accepted : IsAccepted app) (s : State) (v : Observer) (pen
       outside_all None = refl
       outside_all (Some b) = refl
 
-      at_bottom : (o : Option Body) → IsAbove app (idle_job app s.values o).role (idle_job app s.values o).priority others
+      at_bottom : (o : Option Body) → IsAbove app (idle_job app s.values o).role (idle_job app s.values o).priority
+          others
       at_bottom None = (alone_at_bottom app role q others thread above, refl)
       at_bottom (Some b) = (alone_at_bottom app role q others thread above, refl)
 
@@ -202,7 +216,8 @@ module _ (app : App) (accepted : IsAccepted app) (s : State) (v : Observer) (pen
           (idle_fine app accepted 0 s.values queued) queued
 
       order_anew : (o : Option Body)
-          → AllKept app s.time (reached_values (idle_job app s.values o).rest s.values) (idle_job app s.values o ∷ others)
+          → AllKept app s.time (reached_values (idle_job app s.values o).rest s.values)
+          (idle_job app s.values o ∷ others)
       order_anew None = (tt, order)
       order_anew (Some b) = (
         next_order app Idle 0 0 s.time [] (idle_job app s.values (Some b)).rest s.values s.values (omega arith)

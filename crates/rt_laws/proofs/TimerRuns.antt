@@ -1,5 +1,7 @@
 -- Every run of an accepted application serves the messages that are due.
-use Rattle.std.proofs.Common.{◌≡◌, ℕ, ◌≤◌, ◌<◌, ◌==◌, ◌^◌, Bool, true, false, List, [], ◌∷◌, length, slice_set, slice_index_or, length-set, Option, Some, None, option_map, refl, sym, ap, subst, ◌∙◌, inl, inr, arith}
+use Rattle.std.proofs.Common.{◌≡◌, ℕ, ◌≤◌, ◌<◌, ◌==◌, ◌^◌, Bool, true, false, List, [], ◌∷◌, length, slice_set}
+use Rattle.std.proofs.Common.{slice_index_or, length-set, Option, Some, None, option_map, refl, sym, ap, subst, ◌∙◌}
+use Rattle.std.proofs.Common.{inl, inr, arith}
 use Rattle.std.proofs.lemmas.Bool.{eqb-true}
 use Rattle.std.proofs.lemmas.Option.{none-some}
 use Rattle.rt_lemmas.proofs.Lists.{find_has}
@@ -39,7 +41,8 @@ use Rattle.rt_laws.proofs.Happens.{first_well}
 use Rattle.rt_laws.proofs.Keeping.{next_well}
 use Rattle.rt_laws.proofs.Dispatchers.{timer_serves, timer_small}
 use Rattle.rt_laws.proofs.Timing.{init_serves, handler_serves}
-use Rattle.rt_laws.proofs.TimerServed.{armed, set_kept, JobServes, IsOutside, IsInside, QueueServed, Open, Ready, Stands, Keeps, KeepsState, keeps_due, all_kept, posts_kept, alarm_comes}
+use Rattle.rt_laws.proofs.TimerServed.{armed, set_kept, JobServes, IsOutside, IsInside, QueueServed, Open, Ready}
+use Rattle.rt_laws.proofs.TimerServed.{Stands, Keeps, KeepsState, keeps_due, all_kept, posts_kept, alarm_comes}
 use Rattle.rt_laws.proofs.ReadySteps.{differ, now_set}
 use Rattle.rt_laws.proofs.TimerSteps.{outside, inside_too}
 
@@ -71,13 +74,15 @@ module _ (app : App) (accepted : IsAccepted app) (mono : Mono) (timed : app.mono
   -- the handling of an interrupt has started
   abbrev ServedBehind : State → ℕ → Service → Type 0
   ServedBehind s irq x =
-      QueueServed app (slice_set s.pending irq false) s.alarm (reached_values (handler_doing app x.handler s.values) s.values)
+      QueueServed app (slice_set s.pending irq false) s.alarm
+      (reached_values (handler_doing app x.handler s.values) s.values)
       (new_job (Serving irq) x.priority (handler_cost app x.handler) (handler_doing app x.handler s.values) ∷ s.jobs)
 
   -- an interrupt is taken that is not the monotonic's, where a job is inside
   takes : (s : State) → Queued app s.values → Keeps app s.pending s.alarm s.values s.jobs → (irq : ℕ)
       → candidate app s ≡ Some irq → (x : Service) → service_at app irq ≡ Some x
-      → Keeps app (slice_set s.pending irq false) s.alarm (reached_values (handler_doing app x.handler s.values) s.values)
+      → Keeps app (slice_set s.pending irq false) s.alarm
+      (reached_values (handler_doing app x.handler s.values) s.values)
       (new_job (Serving irq) x.priority (handler_cost app x.handler) (handler_doing app x.handler s.values) ∷ s.jobs)
   takes s queued kept irq is x at = record {
     long = length-set s.pending irq false ∙ kept.long;

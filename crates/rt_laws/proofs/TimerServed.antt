@@ -1,5 +1,6 @@
 -- That the messages that are due are served, as jobs come and go.
-use Rattle.std.proofs.Common.{length-set, ◌≡◌, ℕ, ◌⊎◌, ◌==◌, Bool, true, false, List, [], ◌∷◌, length, slice_set, slice_index_or, Option, refl, sym, ap, subst, ◌∙◌, inl, inr}
+use Rattle.std.proofs.Common.{length-set, ◌≡◌, ℕ, ◌⊎◌, ◌==◌, Bool, true, false, List, [], ◌∷◌, length, slice_set}
+use Rattle.std.proofs.Common.{slice_index_or, Option, refl, sym, ap, subst, ◌∙◌, inl, inr}
 use Rattle.rt_ids.specs.Choice.{IsIn}
 use Rattle.rt_ids.specs.Holder.{Guarded}
 use Rattle.rt_ids.specs.Content.{Values, delays, least_instant}

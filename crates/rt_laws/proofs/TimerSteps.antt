@@ -1,10 +1,12 @@
 -- A step of the running job keeps the messages that are due served, whichever its action is.
-use Rattle.std.proofs.Common.{◌≡◌, ℕ, ◌<◌, arith, length-set, eq-eqb, Bool, true, false, not, if◌then◌else◌, List, [], ◌∷◌, drop, length, slice_set, Option, Some, None, refl, sym, ap, subst, ◌∙◌, inl, inr}
+use Rattle.std.proofs.Common.{◌≡◌, ℕ, ◌<◌, arith, length-set, eq-eqb, Bool, true, false, not, if◌then◌else◌, List, []}
+use Rattle.std.proofs.Common.{◌∷◌, drop, length, slice_set, Option, Some, None, refl, sym, ap, subst, ◌∙◌, inl, inr}
 use Rattle.std.specs.List.{AllByRecursion}
 use Rattle.std.proofs.lemmas.Option.{none-some}
 use Rattle.rt_ids.specs.Choice.{IsIn}
 use Rattle.rt_ids.specs.Content.{Values, delays, least_instant}
-use Rattle.rt_ids.specs.Action.{Action, Enters, Leaves, Posts, Clocks, Arms, Fires, Cancels, Moves, SetsAlarm, Ends, Returns, effect}
+use Rattle.rt_ids.specs.Action.{Action, Enters, Leaves, Posts, Clocks, Arms, Fires, Cancels, Moves, SetsAlarm, Ends}
+use Rattle.rt_ids.specs.Action.{Returns, effect}
 use Rattle.rt_ids.specs.Doing.{Doing, over, does}
 use Rattle.rt_ids.specs.declared.ids.BodyId.TheVariants as body
 use Rattle.rt_ids.specs.declared.ids.Section.{Section}
@@ -22,13 +24,16 @@ use Rattle.rt_laws.specs.Acting.{job_after_step, state_after_pend, idle_job, ans
 use Rattle.rt_laws.specs.Observer.{Seen}
 use Rattle.rt_laws.specs.Served.{IsOpen, BeginsWith}
 use Rattle.rt_laws.proofs.Order.{apart_below}
-use Rattle.rt_laws.proofs.Fine.{Within, reached_same, effect_beside, effect_same, Queued, IsFine, held_after, queued_effect}
+use Rattle.rt_laws.proofs.Fine.{Within, reached_same, effect_beside, effect_same, Queued, IsFine, held_after}
+use Rattle.rt_laws.proofs.Fine.{queued_effect}
 use Rattle.rt_laws.proofs.FineHandlers.{idle_fine}
 use Rattle.rt_laws.proofs.Well.{NextKept, IsAbove, JobWell}
 use Rattle.rt_laws.proofs.Timing.{Away, Inside, Serves, idle_serves}
 use Rattle.rt_laws.proofs.ReadyServed.{no_drop, no_more}
 use Rattle.rt_laws.proofs.ReadySteps.{now_set}
-use Rattle.rt_laws.proofs.TimerServed.{armed, IsSetOr, is_timer, set_kept, set_or_kept, AllServe, QueueServed, Open, Ready, Stands, Keeps, KeepsState, posts_kept, goes_outside, goes_inside, goes_out}
+use Rattle.rt_laws.proofs.TimerServed.{armed, IsSetOr, is_timer, set_kept, set_or_kept, AllServe, QueueServed, Open}
+use Rattle.rt_laws.proofs.TimerServed.{Ready, Stands, Keeps, KeepsState, posts_kept, goes_outside, goes_inside}
+use Rattle.rt_laws.proofs.TimerServed.{goes_out}
 
 never : false ≡ true → ⊥
 never same = cc
@@ -77,7 +82,8 @@ module _ (app : App) (accepted : IsAccepted app) (s : State) (long : length s.pe
         → QueueServed app s.pending s.alarm s.values (running (does action made next) ∷ others)
         → Keeps app s.pending s.alarm (reached_values rest vs) (after ∷ others)
     away out before after still good served =
-        goes_outside app s.pending long s.alarm s.values (reached_values rest vs) (running (does action made next)) after
+        goes_outside app s.pending long s.alarm s.values (reached_values rest vs) (running (does action made next))
+        after
         others out before still good (untouched out) all served
 
     -- no other is inside where it is
@@ -92,14 +98,16 @@ module _ (app : App) (accepted : IsAccepted app) (s : State) (long : length s.pe
         → Serves (is_timer app after.role) (Inside set) after.rest
         → Keeps app later new (reached_values rest vs) (after ∷ others)
     inside later still new after set outer was is out known good =
-        goes_inside app s.pending later still s.alarm new s.values (reached_values rest vs) after others set outer is out
+        goes_inside app s.pending later still s.alarm new s.values (reached_values rest vs) after others set outer is
+        out
         known good (alone outer was) all
 
   -- the thread begins `idle`, or waits
   restarts : (o : Option Body) (left_to_do : Doing Values) → ¬ IsIn sections queue
       → ¬ BeginsWith queue (timer_section_cost app) left_to_do
       → QueueServed app s.pending s.alarm s.values (running left_to_do ∷ others)
-      → Keeps app s.pending s.alarm (reached_values (idle_job app s.values o).rest s.values) (idle_job app s.values o ∷ others)
+      → Keeps app s.pending s.alarm (reached_values (idle_job app s.values o).rest s.values)
+      (idle_job app s.values o ∷ others)
   restarts None left_to_do out before served =
       goes_outside app s.pending long s.alarm s.values s.values (running left_to_do) (idle_job app s.values None) others
       out before (λ is. none-some queue is.1) tt refl all served
@@ -117,7 +125,8 @@ module _ (app : App) (accepted : IsAccepted app) (s : State) (long : length s.pe
   outside over well asked out good served w is = absurd (none-some w is)
   outside (does (Enters section.Timer cost) made next) well asked out good served w is = record {
     owed = owed;
-    keeps = goes_inside app s.pending s.pending long s.alarm s.alarm s.values (reached_values (next 0 s.values) s.values) _
+    keeps = goes_inside app s.pending s.pending long s.alarm s.alarm s.values
+        (reached_values (next 0 s.values) s.values) _
         others (not (is_timer app role)) sections refl out (λ other. known other served) (good 0 s.values)
         (apart_below app role q others queue above well.fine.1.within) all;
   }
@@ -133,7 +142,8 @@ module _ (app : App) (accepted : IsAccepted app) (s : State) (long : length s.pe
       known other (Open (inr there)) =
           absurd (apart_below app role q others queue above well.fine.1.within there)
       known other (Ready set) =
-          inl (set_kept app s.pending s.pending s.alarm s.values (reached_values (next 0 s.values) s.values) (λ yet. yet)
+          inl (set_kept app s.pending s.pending s.alarm s.values (reached_values (next 0 s.values) s.values)
+          (λ yet. yet)
           (reached_is (Enters section.Timer cost) made next well asked) set)
       known other (Stands (inl is)) = absurd (never (sym (ap not (its_own is.0)) ∙ other))
       known other (Stands (inr there)) = inr there
@@ -226,7 +236,8 @@ module _ (app : App) (accepted : IsAccepted app) (s : State) (long : length s.pe
     keeps = inside Clocks made next well asked s.pending long s.alarm _ set outer in_it in_it out
         (λ yet. set_or_kept app others s.pending s.pending s.alarm s.alarm s.values
         (reached_values (next s.time s.values) s.values) (set_kept app s.pending s.pending s.alarm s.values
-        (reached_values (next s.time s.values) s.values) (λ yet. yet) (reached_is Clocks made next well asked)) (known yet))
+        (reached_values (next s.time s.values) s.values) (λ yet. yet) (reached_is Clocks made next well asked))
+        (known yet))
         (good s.time s.values);
   }
   inside_too (does SetsAlarm made next) well asked set outer in_it out known good w is =
@@ -242,7 +253,8 @@ module _ (app : App) (accepted : IsAccepted app) (s : State) (long : length s.pe
       within = omega (arith, small, long)
 
       go : (due : Bool) → is_due s.time (next_instant s) ≡ due → KeepsState app
-          (if due then state_after_pend (timer_number app) (record on { alarm = None }) else record on { alarm = next_instant s })
+          (if due then state_after_pend (timer_number app) (record on { alarm = None }) else record on
+          { alarm = next_instant s })
       go true test = record {
         owed = not_owing;
         keeps = inside SetsAlarm made next well asked (slice_set s.pending (timer_number app) true)

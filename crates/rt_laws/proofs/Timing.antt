@@ -1,7 +1,8 @@
 -- Who is in the section of the timer queue leaves it with the alarm set: each spawn after a delay, each cancel and move
 -- that finds its message, and the timer handler, whatever the values are on the way. A cancel or a move that does not
 -- find it leaves the queue as it was. Nobody sets the alarm outside.
-use Rattle.std.proofs.Common.{◌≡◌, ℕ, Bool, true, false, not, if◌then◌else◌, List, [], ◌∷◌, map, Option, Some, None, refl}
+use Rattle.std.proofs.Common.{◌≡◌, ℕ, Bool, true, false, not, if◌then◌else◌, List, [], ◌∷◌, map, Option, Some, None}
+use Rattle.std.proofs.Common.{refl}
 use Rattle.rt_ids.specs.Holder.{Guarded}
 use Rattle.rt_ids.specs.Content.{Message, Armed, Values, messages, timer_content, delays}
 use Rattle.rt_ids.specs.Action.{Enters, Leaves, Frees, Clocks, SetsAlarm, Arms, Fires, Cancels, Moves, Ends, Returns}
@@ -13,8 +14,10 @@ use Rattle.rt_app.specs.declared.costs.TheConstants.{FREE_COST}
 use Rattle.rt_app.specs.Bodies.{task_priority}
 use Rattle.rt_app.specs.BodyCost.{timer_section_cost}
 use Rattle.rt_app.specs.Handlers.{Handler, Runs, Dispatches, Times}
-use Rattle.rt_app.specs.Sending.{Rest, act, act_all, ready_actions, instant_after, leave_timer, arm_actions, is_armed_as, spawn_actions}
-use Rattle.rt_app.specs.Doings.{nothing, init_doing, idle_doing, task_doing, start_doing, dispatcher_doing, due, fire_doing, timer_doing, handler_doing}
+use Rattle.rt_app.specs.Sending.{Rest, act, act_all, ready_actions, instant_after, leave_timer, arm_actions}
+use Rattle.rt_app.specs.Sending.{is_armed_as, spawn_actions}
+use Rattle.rt_app.specs.Doings.{nothing, init_doing, idle_doing, task_doing, start_doing, dispatcher_doing, due}
+use Rattle.rt_app.specs.Doings.{fire_doing, timer_doing, handler_doing}
 use Rattle.rt_laws.proofs.Passing.{IsPassed, take_holds, declared_holds, task_holds, behind}
 
 -- Where a job stands: outside the section of the timer queue, or inside. There it may owe the alarm, as the timer
@@ -73,7 +76,8 @@ module _ (app : App) where
       take_holds app (Serves false Away) passes n
       (arm_actions app (timer_section_cost app) (value delay) (record { task = n; args = map value args }) rest)
       (rest 0)
-      (λ vs k ws time xs l ys i zs. (refl, λ j us. later (timer_content (ys (Guarded section.Timer))).given us)) (later 0)
+      (λ vs k ws time xs l ys i zs. (refl, λ j us. later (timer_content (ys (Guarded section.Timer))).given us))
+      (later 0)
   spawn_serves value (Cancel word n handle at) rest later = λ vs k ws. go (is_armed_as app n (value handle) ws) ws
     where
       back : Rest

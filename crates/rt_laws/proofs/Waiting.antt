@@ -1,5 +1,7 @@
 -- A job waits for one outermost section of one lower job.
-use Rattle.std.proofs.Common.{◌≡◌, ℕ, ◌-◌, ◌≤◌, ◌<◌, ◌^◌, ◌==◌, nat_lt, Bool, true, false, if◌then◌else◌, List, [], ◌∷◌, ◌++◌, length, take, slice_index_or, Option, Some, None, IfSome, refl, sym, ap, subst, ◌∙◌, arith, eq-eqb}
+use Rattle.std.proofs.Common.{◌≡◌, ℕ, ◌-◌, ◌≤◌, ◌<◌, ◌^◌, ◌==◌, nat_lt, Bool, true, false, if◌then◌else◌, List, [], ◌∷◌}
+use Rattle.std.proofs.Common.{◌++◌, length, take, slice_index_or, Option, Some, None, IfSome, refl, sym, ap, subst, ◌∙◌}
+use Rattle.std.proofs.Common.{arith, eq-eqb}
 use Rattle.std.specs.List.{AllByRecursion}
 use Rattle.std.proofs.lemmas.Bool.{ltb-true, ltb-false, lt-ltb}
 use Rattle.rt_lemmas.proofs.Bools.{true_and_false}
@@ -21,7 +23,8 @@ use Rattle.rt_laws.specs.Run.{RunsOn}
 use Rattle.rt_laws.specs.Observer.{Seen, Observer, sees}
 use Rattle.rt_laws.specs.Waiting.{stepper, steppers, lower, is_take, outermost, LieInOneSection, is_pending}
 use Rattle.rt_laws.proofs.Outermost.{none_outermost, below_outermost, both_outermost, outermost_all, Behind}
-use Rattle.rt_laws.proofs.Well.{alone_at_bottom, JobWell, IsAbove, StackWell, StateWell, IsThread, Changes, GoesOn, Restarts, ComesBack}
+use Rattle.rt_laws.proofs.Well.{alone_at_bottom, JobWell, IsAbove, StackWell, StateWell, IsThread, Changes, GoesOn}
+use Rattle.rt_laws.proofs.Well.{Restarts, ComesBack}
 use Rattle.rt_laws.proofs.Pending.{still_set, still_beside, held_off, goes_first}
 use Rattle.rt_laws.proofs.Happens.{Happens, Quietly, ByTake, ByStep, happens, after_well}
 
@@ -89,7 +92,8 @@ first_of views = take 1 views
 
 module _ (app : App) (p : ℕ) (positive : 0 < p) where
   -- where the system ceiling is below it no section holds it off
-  low_below : (entered left : ℕ) (js : List Job) (vs : List Seen) → system_ceiling app js < p → Low app p entered left js vs
+  low_below : (entered left : ℕ) (js : List Job) (vs : List Seen) → system_ceiling app js < p
+      → Low app p entered left js vs
   low_below entered left [] vs below = tt
   low_below entered left (job ∷ others) [] below = tt
   low_below entered left (job ∷ others) (seen ∷ seens) below =
@@ -134,7 +138,8 @@ module _ (app : App) (p : ℕ) (positive : 0 < p) where
       Lower : seen.priority < p → outermost app p seen.inside seen.since ≡ Some entered → 0 < left
           → Low app p entered (left - 1) jobs views → Took
 
-  ceiling_below : (role : Role) (q : ℕ) (others : List Job) → IsAbove app role q others → q < p → system_ceiling app others < p
+  ceiling_below : (role : Role) (q : ℕ) (others : List Job) → IsAbove app role q others → q < p
+      → system_ceiling app others < p
   ceiling_below Init q others above less = subst (λ js. system_ceiling app js < p) (sym above) positive
   ceiling_below Idle q others above less = subst (λ js. system_ceiling app js < p) (sym above.0) positive
   ceiling_below Waiting q others above less = subst (λ js. system_ceiling app js < p) (sym above.0) positive
@@ -222,7 +227,8 @@ module _ (app : App) (accepted : IsAccepted app) (irq : ℕ) (x : Service) (serv
   p = x.priority
 
   in_range : (1 ≤ p) × (p ≤ 2 ^ app.bits)
-  in_range = let h = find_has (λ (s : Service). (s.irq < length app.irqs) × (1 ≤ s.priority) × (s.priority ≤ 2 ^ app.bits))
+  in_range = let h = find_has (λ (s : Service). (s.irq < length app.irqs) × (1 ≤ s.priority)
+      × (s.priority ≤ 2 ^ app.bits))
       _ (services app) x (accepted_are_sound app accepted).served served in (h.1, h.2)
 
   abbrev waiting : Observer → List Label → List Seen

@@ -1,6 +1,8 @@
 -- What holds of the jobs of every run, and how a step changes the stack: each job has sections within its priority,
--- does what is well formed, and stands above the system ceiling of the jobs below it; and what is seen of a job is what it is.
-use Rattle.std.proofs.Common.{◌≡◌, ℕ, suc, ◌-◌, ◌≤◌, ◌<◌, ◌^◌, List, [], ◌∷◌, length, drop, map, Option, Some, option_map, IfSome, refl, sym, ap, subst, ◌∙◌, arith, length-drop}
+-- does what is well formed, and stands above the system ceiling of the jobs below it; and what is seen of a job is what
+-- it is.
+use Rattle.std.proofs.Common.{◌≡◌, ℕ, suc, ◌-◌, ◌≤◌, ◌<◌, ◌^◌, List, [], ◌∷◌, length, drop, map, Option, Some}
+use Rattle.std.proofs.Common.{option_map, IfSome, refl, sym, ap, subst, ◌∙◌, arith, length-drop}
 use Rattle.std.specs.List.{AllByRecursion}
 use Rattle.std.proofs.lemmas.List.{length-map}
 use Rattle.rt_lemmas.proofs.Options.{if_some_weaker, if_some-map}
@@ -21,7 +23,8 @@ use Rattle.rt_laws.specs.Waiting.{outermost}
 use Rattle.rt_laws.specs.Queues.{InQueue, KeepsOrder}
 use Rattle.rt_laws.proofs.Handled.{all_drop}
 use Rattle.rt_laws.proofs.Fine.{SameOpen, Queued, Within, EntersFine, IsFine}
-use Rattle.rt_laws.proofs.Outermost.{outermost_map, outermost_drop, outermost_more, outermost_kept, outermost_grown, Behind, behind_is}
+use Rattle.rt_laws.proofs.Outermost.{outermost_map, outermost_drop, outermost_more, outermost_kept, outermost_grown}
+use Rattle.rt_laws.proofs.Outermost.{Behind, behind_is}
 
 abbrev pub WithinAll : App → Role → ℕ → List Section → Type 0
 WithinAll app role q xs = AllByRecursion (λ x. Within role q (ceiling app x)) xs
@@ -169,7 +172,12 @@ module _ (app : App) where
     -- it enters a section
     abbrev after_enter : Section → ℕ → Doing Values → Job
     after_enter x cost rest = record
-        (job_after_step job) { rest = rest; sections = x ∷ job.sections; lefts = (cost - 1) ∷ (job_after_step job).lefts }
+        (job_after_step job) {
+          rest = rest;
+          sections = x ∷ job.sections;
+          lefts =
+              (cost - 1) ∷ (job_after_step job).lefts;
+        }
 
     pub enters_well : (x : Section) (cost step : ℕ) (rest : Doing Values) (n : ℕ) (base : Values)
         → EntersFine app job.role job.priority job.sections x cost

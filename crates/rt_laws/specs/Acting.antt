@@ -52,9 +52,16 @@ module _ (app : App) (s : State) (job : Job) (others : List Job) where
             (cost - 1) ∷ (job_after_step job).lefts;
       }) vs
   state_after_action (Leaves x) vs rest =
-      runs_on (record (job_after_step job) { rest = rest; sections = drop 1 job.sections; lefts = drop 1 (job_after_step job).lefts }) vs
-  state_after_action (Posts irq) vs rest = state_after_pend irq (runs_on (record (job_after_step job) { rest = rest }) vs)
-  state_after_action SetsAlarm vs rest = alarm_set app (next_instant s) (runs_on (record (job_after_step job) { rest = rest }) vs)
+      runs_on (record (job_after_step job) {
+        rest = rest;
+        sections = drop 1 job.sections;
+        lefts =
+            drop 1 (job_after_step job).lefts;
+      }) vs
+  state_after_action (Posts irq) vs rest = state_after_pend irq
+      (runs_on (record (job_after_step job) { rest = rest }) vs)
+  state_after_action SetsAlarm vs rest = alarm_set app (next_instant s)
+      (runs_on (record (job_after_step job) { rest = rest }) vs)
   state_after_action (Ends body.Init) vs rest = runs_on (idle_job app vs app.idle) vs
   state_after_action (Ends body.Idle) vs rest = runs_on (idle_job app vs app.idle) vs
   state_after_action Returns vs rest = record s { jobs = others }

@@ -1,6 +1,6 @@
 -- What Baker's machine allows next, and what that changes (Stack-Based Scheduling of Realtime Processes, 1991). A job
--- starts only where its priority is above the system ceiling, and while a job may start none takes a step. A machine does one
--- thing after another, as `Label` has them.
+-- starts only where its priority is above the system ceiling, and while a job may start none takes a step. A machine
+-- does one thing after another, as `Label` has them.
 use Rattle.std.specs.Prelude.{◌≡◌, ℕ, suc, ◌<◌, true, false, List, [], ◌∷◌, slice_set, Option, Some, None}
 use Rattle.std.specs.List.{AllByRecursion}
 use Rattle.rt_trace.specs.Label.{Label, Arrived, Ticked, Rang, Stepped}

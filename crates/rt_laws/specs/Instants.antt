@@ -36,7 +36,8 @@ pub record ArmsLast (before after : State) (task instant : ℕ) : Type 0 where
 pub record MovesLast (before after : State) (task handle instant : ℕ) : Type 0 where
   pub moved : Armed
   pub was_armed : message_of_handle task handle (state_delays before) ≡ Some moved
-  pub last : state_delays after ≡ without_handle task handle (state_delays before) ++ record moved { instant = instant } ∷ []
+  pub last : state_delays after ≡ without_handle task handle (state_delays before) ++ record moved { instant = instant }
+      ∷ []
 
 -- of the armed messages this one fires: those before it are of later instants, and none is of an earlier one
 pub record FiresFirst (all : List Armed) (a : Armed) : Type 0 where

@@ -20,8 +20,8 @@ greatest_ceiling app xs = greatest (map (ceiling app) xs)
 abbrev pub system_ceiling : App → List Job → ℕ
 system_ceiling app jobs = greatest (map (λ job. max job.priority (greatest_ceiling app job.sections)) jobs)
 
--- Baker's preemption test (1991): the interrupt is pending, and its priority is above the system ceiling; one that is not
--- enabled has the priority 0
+-- Baker's preemption test (1991): the interrupt is pending, and its priority is above the system ceiling; one that is
+-- not enabled has the priority 0
 abbrev pub may_start : App → State → ℕ → Bool
 may_start app s irq = slice_index_or s.pending irq false && nat_lt (system_ceiling app s.jobs) (priority_of app irq)
 

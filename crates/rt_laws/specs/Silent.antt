@@ -33,4 +33,5 @@ pub record SilentStepsByCost : Type 0 where
       → RunsOn app s (silent k)
   pub needs : (app : App) (s : State) (k : ℕ) → RunsOn app s (silent (suc k))
       → (s.owing ≡ false) × (candidate app s ≡ None) × MaySpend (suc k) s.jobs
-  pub leads : (app : App) (s : State) (k : ℕ) → after_all app s (silent k) ≡ record s { jobs = jobs_after_steps k s.jobs }
+  pub leads : (app : App) (s : State) (k : ℕ) → after_all app s (silent k)
+      ≡ record s { jobs = jobs_after_steps k s.jobs }

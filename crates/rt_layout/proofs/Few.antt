@@ -29,7 +29,8 @@ few_inputs n t (k ∷ ks) few =
     let here : length (place_cells n t k) ≡ t.args = many _ t.args in
     omega (arith, few_inputs n t ks few, length-append (place_cells n t k) (flat_map (place_cells n t) ks))
 
-few_queues : (n : ℕ) (t : Task) → KeepsTaskLimits t → length (free_cells n t ++ flat_map (place_cells n t) (range_with_len 0 t.capacity)) ≤ 81
+few_queues : (n : ℕ) (t : Task) → KeepsTaskLimits t → length (free_cells n t
+    ++ flat_map (place_cells n t) (range_with_len 0 t.capacity)) ≤ 81
 few_queues n t limits =
     let args = limits.args in
     let most = limits.most_capacity in
@@ -48,7 +49,8 @@ few_tasks n (t ∷ ts) limits = go (is_software t) (few_tasks (n + 1) ts limits.
     queues : List Cell
     queues = free_cells n t ++ flat_map (place_cells n t) (range_with_len 0 t.capacity)
 
-    go : (b : Bool) → length (task_cells (n + 1) ts) ≤ 81 * length ts → length ((if b then queues else []) ++ task_cells (n + 1) ts) ≤ 81 * length (t ∷ ts)
+    go : (b : Bool) → length (task_cells (n + 1) ts) ≤ 81 * length ts
+        → length ((if b then queues else []) ++ task_cells (n + 1) ts) ≤ 81 * length (t ∷ ts)
     go true rest = omega (arith, length-append queues (task_cells (n + 1) ts), few_queues n t limits.0)
     go false rest = omega arith
 
@@ -59,36 +61,48 @@ is_below n t = is_software t && nat_lt t.priority n
 abbrev capacities : (Task → Bool) → List Task → ℕ
 capacities test ts = sum_by (λ t. t.capacity) (filter test ts)
 
-capacities_next : (test : Task → Bool) (t : Task) (ts : List Task) → capacities test (t ∷ ts) ≡ cond (test t) t.capacity 0 + capacities test ts
+capacities_next : (test : Task → Bool) (t : Task) (ts : List Task) → capacities test (t ∷ ts)
+    ≡ cond (test t) t.capacity 0 + capacities test ts
 capacities_next test t ts = go (test t)
   where
-    go : (b : Bool) → sum_by (λ t. t.capacity) (if b then t ∷ filter test ts else filter test ts) ≡ cond b t.capacity 0 + capacities test ts
+    go : (b : Bool) → sum_by (λ t. t.capacity) (if b then t ∷ filter test ts else filter test ts) ≡ cond b t.capacity 0
+        + capacities test ts
     go true = sum_by-cons (λ t. t.capacity) t (filter test ts)
     go false = omega arith
 
 below_step : (software : Bool) (p n c x y z : ℕ) → x + y ≤ z
-    → (cond (software && nat_lt p n) c 0 + x) + (cond (software && (p == n)) c 0 + y) ≤ cond (software && nat_lt p (suc n)) c 0 + z
+    → (cond (software && nat_lt p n) c 0 + x) + (cond (software && (p == n)) c 0 + y) ≤ cond
+    (software && nat_lt p (suc n)) c 0 + z
 below_step false p n c x y z e = omega arith
 below_step true p n c x y z e = grind (arith, nat_tests)
 
-below_next : (n : ℕ) (ts : List Task) → capacities (is_below n) ts + capacities (is_of_level n) ts ≤ capacities (is_below (suc n)) ts
+below_next : (n : ℕ) (ts : List Task) → capacities (is_below n) ts + capacities (is_of_level n) ts ≤ capacities
+    (is_below (suc n)) ts
 below_next n [] = omega arith
 below_next n (t ∷ ts) =
-    rw (capacities_next (is_below n) t ts, capacities_next (is_of_level n) t ts, capacities_next (is_below (suc n)) t ts)
-    (below_step (is_software t) t.priority n t.capacity (capacities (is_below n) ts) (capacities (is_of_level n) ts) (capacities (is_below (suc n)) ts) (below_next n ts))
+    rw (
+      capacities_next (is_below n) t ts,
+      capacities_next (is_of_level n) t ts,
+      capacities_next (is_below (suc n)) t ts,
+    )
+    (below_step (is_software t) t.priority n t.capacity (capacities (is_below n) ts) (capacities (is_of_level n) ts)
+    (capacities (is_below (suc n)) ts) (below_next n ts))
 
-few_capacities : (test : Task → Bool) (ts : List Task) → AllByRecursion KeepsTaskLimits ts → capacities test ts ≤ 16 * length ts
+few_capacities : (test : Task → Bool) (ts : List Task) → AllByRecursion KeepsTaskLimits ts
+    → capacities test ts ≤ 16 * length ts
 few_capacities test [] limits = omega arith
 few_capacities test (t ∷ ts) limits = go (test t) (few_capacities test ts limits.1)
   where
-    go : (b : Bool) → capacities test ts ≤ 16 * length ts → sum_by (λ t. t.capacity) (if b then t ∷ filter test ts else filter test ts) ≤ 16 * length (t ∷ ts)
+    go : (b : Bool) → capacities test ts ≤ 16 * length ts → sum_by (λ t. t.capacity)
+        (if b then t ∷ filter test ts else filter test ts) ≤ 16 * length (t ∷ ts)
     go true rest = let most = limits.0.most_capacity in omega (arith, sum_by-cons (λ t. t.capacity) t (filter test ts))
     go false rest = omega arith
 
 length-ready_cells : (app : App) (p : ℕ) → length (ready_cells app p) ≡ 2 + ready_room app p
 length-ready_cells app p = ap suc (ap suc (many _ (ready_room app p))) ∙ omega arith
 
-few_ready : (app : App) (n : ℕ) → length (flat_map (ready_cells app) (those_below (λ p. list_any (is_of_level p) app.tasks) n)) ≤ 2 * n + capacities (is_below n) app.tasks
+few_ready : (app : App) (n : ℕ) → length (flat_map (ready_cells app)
+    (those_below (λ p. list_any (is_of_level p) app.tasks) n)) ≤ 2 * n + capacities (is_below n) app.tasks
 unfolding those_below
 few_ready app zero = omega arith
 few_ready app (suc n) = go (list_any (is_of_level n) app.tasks) (few_ready app n)
@@ -97,7 +111,8 @@ few_ready app (suc n) = go (list_any (is_of_level n) app.tasks) (few_ready app n
     before = those_below (λ p. list_any (is_of_level p) app.tasks) n
 
     go : (b : Bool) → length (flat_map (ready_cells app) before) ≤ 2 * n + capacities (is_below n) app.tasks
-        → length (flat_map (ready_cells app) (before ++ (if b then n ∷ [] else []))) ≤ 2 * suc n + capacities (is_below (suc n)) app.tasks
+        → length (flat_map (ready_cells app) (before ++ (if b then n ∷ [] else []))) ≤ 2 * suc n
+        + capacities (is_below (suc n)) app.tasks
     go true rest = omega (
       arith,
       ap length (flat_map-append (ready_cells app) before (n ∷ [])),
@@ -106,7 +121,11 @@ few_ready app (suc n) = go (list_any (is_of_level n) app.tasks) (few_ready app n
       length-ready_cells app n,
       below_next n app.tasks,
     )
-    go false rest = omega (arith, ap (λ ps. length (flat_map (ready_cells app) ps)) (append-nil before), below_next n app.tasks)
+    go false rest = omega (
+      arith,
+      ap (λ ps. length (flat_map (ready_cells app) ps)) (append-nil before),
+      below_next n app.tasks,
+    )
 
 few_armed : (app : App) (n : ℕ) (ts : List Task) → AllByRecursion KeepsTaskLimits ts
     → armed_capacities app n ts ≤ 16 * length ts

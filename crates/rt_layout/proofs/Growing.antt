@@ -24,28 +24,35 @@ length-free_rows t = ap suc (length-map (range_with_len 0 t.capacity) _ ∙ leng
 
 -- first the free places, then the arguments
 pub queues_are : (l : Layout) (t : Task) (free inputs : List ℕ) (at behind first_one : ℕ) (front all : List CellRow)
-    → at ≡ length l.cells → free ≡ l.free ++ at ∷ [] → front ≡ l.cells ++ free_rows t → behind ≡ length front → first_one ≡ (if nat_lt 0 t.args then behind else 0) → inputs ≡ l.inputs ++ first_one ∷ []
+    → at ≡ length l.cells → free ≡ l.free ++ at ∷ [] → front ≡ l.cells ++ free_rows t → behind ≡ length front
+    → first_one ≡ (if nat_lt 0 t.args then behind else 0) → inputs ≡ l.inputs ++ first_one ∷ []
     → all ≡ front ++ flat_map (input_rows t) (range_with_len 0 t.capacity)
-    → ◌≡◌ {A = Layout} (record { cells = all; inputs = inputs; free = free; ready = l.ready; timer = l.timer }) (with_queues l t)
+    → ◌≡◌ {A = Layout} (record { cells = all; inputs = inputs; free = free; ready = l.ready; timer = l.timer })
+    (with_queues l t)
 queues_are l t free inputs at behind first_one front all p q r s w u v =
     let on_inputs = flat_map (input_rows t) (range_with_len 0 t.capacity) in
-    let cells : all ≡ l.cells ++ queue_rows t = v ∙ (ap (λ xs. xs ++ on_inputs) r ∙ append_assoc l.cells (free_rows t) on_inputs) in
+    let cells : all ≡ l.cells ++ queue_rows t = v ∙ (ap (λ xs. xs ++ on_inputs) r
+    ∙ append_assoc l.cells (free_rows t) on_inputs) in
     let first : free ≡ l.free ++ length l.cells ∷ [] = q ∙ ap (λ k. l.free ++ k ∷ []) p in
-    let number : behind ≡ length l.cells + 1 + t.capacity = omega (arith, s, ap length r, length-append l.cells (free_rows t), length-free_rows t) in
+    let number : behind ≡ length l.cells + 1 + t.capacity =
+    omega (arith, s, ap length r, length-append l.cells (free_rows t), length-free_rows t) in
     let second : inputs ≡ l.inputs ++ (if nat_lt 0 t.args then length l.cells + 1 + t.capacity else 0) ∷ [] =
     u ∙ ap (λ k. l.inputs ++ k ∷ []) (w ∙ ap (λ k. if nat_lt 0 t.args then k else 0) number) in
     λ i. record { cells = cells i; inputs = second i; free = first i; ready = l.ready; timer = l.timer }
 
 module _ (l : Layout) (t : Task) where
-  cells_task : (b : Bool) → (if b then with_queues l t else without_queues l).cells ≡ l.cells ++ (if b then queue_rows t else [])
+  cells_task : (b : Bool) → (if b then with_queues l t else without_queues l).cells ≡ l.cells
+      ++ (if b then queue_rows t else [])
   cells_task true = refl
   cells_task false = sym (append-nil l.cells)
 
-  free_task : (b : Bool) → (if b then with_queues l t else without_queues l).free ≡ l.free ++ (if b then length l.cells else 0) ∷ []
+  free_task : (b : Bool) → (if b then with_queues l t else without_queues l).free ≡ l.free
+      ++ (if b then length l.cells else 0) ∷ []
   free_task true = refl
   free_task false = refl
 
-  inputs_task : (b : Bool) → (if b then with_queues l t else without_queues l).inputs ≡ l.inputs ++ (if b && nat_lt 0 t.args then length l.cells + 1 + t.capacity else 0) ∷ []
+  inputs_task : (b : Bool) → (if b then with_queues l t else without_queues l).inputs ≡ l.inputs
+      ++ (if b && nat_lt 0 t.args then length l.cells + 1 + t.capacity else 0) ∷ []
   inputs_task true = refl
   inputs_task false = refl
 
@@ -68,7 +75,8 @@ inputs_from at (t ∷ ts) = (if has_inputs t then at + 1 + t.capacity else 0) �
 
 pub tasks_cells : (l : Layout) (ts : List Task) → (fold with_task l ts).cells ≡ l.cells ++ flat_map task_rows ts
 tasks_cells l [] = sym (append-nil l.cells)
-tasks_cells l (t ∷ ts) = grown l.cells (task_rows t) (flat_map task_rows ts) (with_task l t).cells _ _ (cells_task l t (is_software t)) (tasks_cells (with_task l t) ts) refl
+tasks_cells l (t ∷ ts) = grown l.cells (task_rows t) (flat_map task_rows ts) (with_task l t).cells _ _
+    (cells_task l t (is_software t)) (tasks_cells (with_task l t) ts) refl
 
 length_task : (l : Layout) (t : Task) → length (with_task l t).cells ≡ length l.cells + length (task_rows t)
 length_task l t = ap length (cells_task l t (is_software t)) ∙ length-append l.cells (task_rows t)
@@ -76,13 +84,17 @@ length_task l t = ap length (cells_task l t (is_software t)) ∙ length-append l
 pub tasks_free : (l : Layout) (ts : List Task) → (fold with_task l ts).free ≡ l.free ++ free_from (length l.cells) ts
 tasks_free l [] = sym (append-nil l.free)
 tasks_free l (t ∷ ts) =
-    grown l.free ((if is_software t then length l.cells else 0) ∷ []) (free_from (length l.cells + length (task_rows t)) ts) (with_task l t).free _ _ (free_task l t (is_software t))
+    grown l.free ((if is_software t then length l.cells else 0) ∷ [])
+    (free_from (length l.cells + length (task_rows t)) ts) (with_task l t).free _ _ (free_task l t (is_software t))
     (tasks_free (with_task l t) ts ∙ ap (λ k. (with_task l t).free ++ free_from k ts) (length_task l t)) refl
 
-pub tasks_inputs : (l : Layout) (ts : List Task) → (fold with_task l ts).inputs ≡ l.inputs ++ inputs_from (length l.cells) ts
+pub tasks_inputs : (l : Layout) (ts : List Task) → (fold with_task l ts).inputs ≡ l.inputs
+    ++ inputs_from (length l.cells) ts
 tasks_inputs l [] = sym (append-nil l.inputs)
 tasks_inputs l (t ∷ ts) =
-    grown l.inputs ((if has_inputs t then length l.cells + 1 + t.capacity else 0) ∷ []) (inputs_from (length l.cells + length (task_rows t)) ts) (with_task l t).inputs _ _ (inputs_task l t (is_software t))
+    grown l.inputs ((if has_inputs t then length l.cells + 1 + t.capacity else 0) ∷ [])
+    (inputs_from (length l.cells + length (task_rows t)) ts) (with_task l t).inputs _ _
+    (inputs_task l t (is_software t))
     (tasks_inputs (with_task l t) ts ∙ ap (λ k. (with_task l t).inputs ++ inputs_from k ts) (length_task l t)) refl
 
 pub tasks_ready : (l : Layout) (ts : List Task) → (fold with_task l ts).ready ≡ l.ready
@@ -104,13 +116,17 @@ module _ (room : ℕ → ℕ) where
 
   pub levels_cells : (l : Layout) (ps : List ℕ) → (fold level_grown l ps).cells ≡ l.cells ++ rows_of_levels ps
   levels_cells l [] = sym (append-nil l.cells)
-  levels_cells l (p ∷ ps) = grown l.cells (ready_rows p (room p)) (rows_of_levels ps) (level_grown l p).cells _ _ refl (levels_cells (level_grown l p) ps) refl
+  levels_cells l (p ∷ ps) = grown l.cells (ready_rows p (room p)) (rows_of_levels ps) (level_grown l p).cells _ _ refl
+      (levels_cells (level_grown l p) ps) refl
 
-  pub levels_ready : (l : Layout) (ps : List ℕ) → (fold level_grown l ps).ready ≡ l.ready ++ ready_from (length l.cells) ps
+  pub levels_ready : (l : Layout) (ps : List ℕ) → (fold level_grown l ps).ready ≡ l.ready
+      ++ ready_from (length l.cells) ps
   levels_ready l [] = sym (append-nil l.ready)
   levels_ready l (p ∷ ps) =
-      grown l.ready (length l.cells ∷ []) (ready_from (length l.cells + length (ready_rows p (room p))) ps) (level_grown l p).ready _ _ refl
-      (levels_ready (level_grown l p) ps ∙ ap (λ k. (level_grown l p).ready ++ ready_from k ps) (length-append l.cells (ready_rows p (room p)))) refl
+      grown l.ready (length l.cells ∷ []) (ready_from (length l.cells + length (ready_rows p (room p))) ps)
+      (level_grown l p).ready _ _ refl
+      (levels_ready (level_grown l p) ps ∙ ap (λ k. (level_grown l p).ready ++ ready_from k ps)
+      (length-append l.cells (ready_rows p (room p)))) refl
 
   pub levels_inputs : (l : Layout) (ps : List ℕ) → (fold level_grown l ps).inputs ≡ l.inputs
   levels_inputs l ps = fold_leaves level_grown (λ l. l.inputs) (λ l p. refl) l ps
@@ -139,8 +155,10 @@ module _ (room : ℕ) (l : Layout) where
   mono_ready (Some mono) = refl
 
 -- what all tasks leave room for, those so far and the next leave room for
-pub few_with_next : (old l : Layout) (tasks : List declared.Task) (i : ℕ) (t : declared.Task) → i < length tasks → t ≡ get_or tasks i t → l ≡ fold with_task old (map task_of (take i tasks))
-    → length old.cells + length (flat_map task_rows (map task_of tasks)) < 65536 → length l.cells + length (task_rows (task_of t)) < 65536
+pub few_with_next : (old l : Layout) (tasks : List declared.Task) (i : ℕ) (t : declared.Task) → i < length tasks → t
+    ≡ get_or tasks i t → l ≡ fold with_task old (map task_of (take i tasks))
+    → length old.cells + length (flat_map task_rows (map task_of tasks)) < 65536 → length l.cells
+    + length (task_rows (task_of t)) < 65536
 few_with_next old l tasks i t within is so_far few =
     omega (
       arith,

@@ -35,26 +35,34 @@ those_alike a b zero same = those_none a ∙ sym (those_none b)
 those_alike a b (suc n) same =
     those_next a n
     ∙ (ap (λ x. those_below a n ++ (if x then n ∷ [] else [])) (same n (omega arith))
-    ∙ (ap (λ ps. ps ++ (if b n then n ∷ [] else [])) (those_alike a b n (λ p less. same p (omega arith))) ∙ sym (those_next b n)))
+    ∙ (ap (λ ps. ps ++ (if b n then n ∷ [] else [])) (those_alike a b n (λ p less. same p (omega arith)))
+    ∙ sym (those_next b n)))
 
 -- a level has room where it has a task
-has_room : (ts : List Task) (p : ℕ) → AllByRecursion KeepsTaskLimits ts → nat_lt 0 (room_of ts p) ≡ list_any (is_of_level p) ts
+has_room : (ts : List Task) (p : ℕ) → AllByRecursion KeepsTaskLimits ts → nat_lt 0 (room_of ts p)
+    ≡ list_any (is_of_level p) ts
 has_room [] p limits = refl
 has_room (t ∷ ts) p limits = go (is_of_level p t) (has_room ts p limits.1)
   where
     go : (b : Bool) → nat_lt 0 (room_of ts p) ≡ list_any (is_of_level p) ts
-        → nat_lt 0 (sum_by (λ t. t.capacity) (if b then t ∷ filter (is_of_level p) ts else filter (is_of_level p) ts)) ≡ (b || list_any (is_of_level p) ts)
-    go true rest = let least = limits.0.least_capacity in lt-ltb 0 _ (omega (arith, sum_by-cons (λ t. t.capacity) t (filter (is_of_level p) ts)))
+        → nat_lt 0 (sum_by (λ t. t.capacity) (if b then t ∷ filter (is_of_level p) ts else filter (is_of_level p) ts))
+        ≡ (b || list_any (is_of_level p) ts)
+    go true rest = let least = limits.0.least_capacity in lt-ltb 0 _
+        (omega (arith, sum_by-cons (λ t. t.capacity) t (filter (is_of_level p) ts)))
     go false rest = rest
 
-rows_alike : (f g : ℕ → ℕ) (ps : List ℕ) → AllByRecursion (λ p. f p ≡ g p) ps → rows_of_levels f ps ≡ rows_of_levels g ps
+rows_alike : (f g : ℕ → ℕ) (ps : List ℕ) → AllByRecursion (λ p. f p ≡ g p) ps → rows_of_levels f ps
+    ≡ rows_of_levels g ps
 rows_alike f g [] same = refl
-rows_alike f g (p ∷ ps) same = ap (λ n. ready_rows p n ++ rows_of_levels f ps) same.0 ∙ ap (λ rows. ready_rows p (g p) ++ rows) (rows_alike f g ps same.1)
+rows_alike f g (p ∷ ps) same = ap (λ n. ready_rows p n ++ rows_of_levels f ps) same.0
+    ∙ ap (λ rows. ready_rows p (g p) ++ rows) (rows_alike f g ps same.1)
 
-ready_alike : (f g : ℕ → ℕ) (at : ℕ) (ps : List ℕ) → AllByRecursion (λ p. f p ≡ g p) ps → ready_from f at ps ≡ ready_from g at ps
+ready_alike : (f g : ℕ → ℕ) (at : ℕ) (ps : List ℕ) → AllByRecursion (λ p. f p ≡ g p) ps → ready_from f at ps
+    ≡ ready_from g at ps
 ready_alike f g at [] same = refl
 ready_alike f g at (p ∷ ps) same =
-    ap (λ n. at ∷ ready_from f (at + length (ready_rows p n)) ps) same.0 ∙ ap (λ rest. at ∷ rest) (ready_alike f g (at + length (ready_rows p (g p))) ps same.1)
+    ap (λ n. at ∷ ready_from f (at + length (ready_rows p n)) ps) same.0
+    ∙ ap (λ rest. at ∷ rest) (ready_alike f g (at + length (ready_rows p (g p))) ps same.1)
 
 regrouped : (a b c d e : List CellRow) → (((a ++ b) ++ c) ++ d) ++ e ≡ a ++ (b ++ (c ++ (d ++ e)))
 regrouped a b c d e = simp append_assoc
@@ -68,13 +76,19 @@ module _ (app : App) where
 
   length-resources : length resources ≡ length app.shared + length app.locals
   length-resources =
-      omega (arith, length-append (map resource_row app.shared) (map local_row app.locals), length-map app.shared resource_row, length-map app.locals local_row)
+      omega (
+        arith,
+        length-append (map resource_row app.shared) (map local_row app.locals),
+        length-map app.shared resource_row,
+        length-map app.locals local_row,
+      )
 
   -- the rows of the timer queue
   abbrev on_timer : List CellRow
   on_timer = timed_rows (armed_messages app) app.mono
 
-  pub few_rows : KeepsLimits app → length resources + length queues + length (rows_of_levels (ready_room app) (levels app)) < 16384
+  pub few_rows : KeepsLimits app → length resources + length queues + length
+      (rows_of_levels (ready_room app) (levels app)) < 16384
   few_rows limits =
       let on_levels = rows_of_levels (ready_room app) (levels app) in
       omega (
@@ -100,7 +114,8 @@ module _ (app : App) where
     roomy_are = those_alike _ _ 256 (λ p less. ap (nat_lt 0) (has.at p less) ∙ has_room app.tasks p limits.tasks)
 
     rooms_are : AllByRecursion (λ p. room p ≡ ready_room app p) (levels app)
-    rooms_are = all_weaker (λ p. p < 256) (λ p. room p ≡ ready_room app p) has.at (levels app) (those_less (λ p. list_any (is_of_level p) app.tasks) 256)
+    rooms_are = all_weaker (λ p. p < 256) (λ p. room p ≡ ready_room app p) has.at (levels app)
+        (those_less (λ p. list_any (is_of_level p) app.tasks) 256)
 
     pub on_levels_are : rows_of_levels room (roomy rooms 256) ≡ rows_of_levels (ready_room app) (levels app)
     on_levels_are = ap (rows_of_levels room) roomy_are ∙ rows_alike room (ready_room app) (levels app) rooms_are
@@ -140,13 +155,19 @@ module _ (app : App) where
         ∙ (ap (λ k. free_from k app.tasks) length-resources ∙ sym (free_are app))))
 
     length-on_tasks : length on_tasks.cells ≡ length app.shared + length app.locals + length queues
-    length-on_tasks = omega (arith, ap length (tasks_cells (with_resources none app) app.tasks), length-append resources queues, length-resources)
+    length-on_tasks = omega (
+      arith,
+      ap length (tasks_cells (with_resources none app) app.tasks),
+      length-append resources queues,
+      length-resources,
+    )
 
     ready_numbers : whole.ready ≡ (layout app).ready
     ready_numbers =
         mono_ready (armed_messages app) on_all_levels app.mono
         ∙ (levels_ready room on_tasks (roomy rooms 256)
-        ∙ (ap (λ before. before ++ ready_from room (length on_tasks.cells) (roomy rooms 256)) (tasks_ready (with_resources none app) app.tasks)
+        ∙ (ap (λ before. before ++ ready_from room (length on_tasks.cells) (roomy rooms 256))
+        (tasks_ready (with_resources none app) app.tasks)
         ∙ (ap (λ k. ready_from room k (roomy rooms 256)) length-on_tasks
         ∙ (ap (ready_from room (length app.shared + length app.locals + length queues)) roomy_are
         ∙ (ready_alike room (ready_room app) _ (levels app) rooms_are ∙ sym (ready_are app))))))
@@ -175,7 +196,13 @@ module _ (app : App) where
         )
 
     pub laid : whole ≡ layout app
-    laid = λ i. record { cells = cells_are i; inputs = inputs_numbers i; free = free_numbers i; ready = ready_numbers i; timer = timer_number i }
+    laid = λ i. record {
+      cells = cells_are i;
+      inputs = inputs_numbers i;
+      free = free_numbers i;
+      ready = ready_numbers i;
+      timer = timer_number i;
+    }
 
     pub few_after_levels : length on_all_levels.cells < 65536
     few_after_levels = omega (arith, few_rows limits, length-levels)
@@ -197,22 +224,32 @@ module _ (rooms : List ℕ) where
   pub no_levels : (l : Layout) → l ≡ with_levels rooms l 0
   no_levels l = ap (fold next l) (sym (those_none has))
 
-  with_next : (old : Layout) (n : ℕ) (b : Bool) → has n ≡ b → with_levels rooms old (n + 1) ≡ fold next (with_levels rooms old n) (if b then n ∷ [] else [])
+  with_next : (old : Layout) (n : ℕ) (b : Bool) → has n ≡ b → with_levels rooms old (n + 1)
+      ≡ fold next (with_levels rooms old n) (if b then n ∷ [] else [])
   with_next old n b is =
       ap (with_levels rooms old) (add-one n)
       ∙ (ap (fold next old) (those_next has n)
-      ∙ (fold-append next old (roomy rooms n) (if has n then n ∷ [] else []) ∙ ap (λ b. fold next (with_levels rooms old n) (if b then n ∷ [] else [])) is))
+      ∙ (fold-append next old (roomy rooms n) (if has n then n ∷ [] else [])
+      ∙ ap (λ b. fold next (with_levels rooms old n) (if b then n ∷ [] else [])) is))
 
-  pub level_with_room : (old l new : Layout) (n i : ℕ) → i ≡ n → 0 < slice_index rooms i → l ≡ with_levels rooms old n → new ≡ with_level l n (slice_index rooms i) → new ≡ with_levels rooms old (n + 1)
+  pub level_with_room : (old l new : Layout) (n i : ℕ) → i ≡ n → 0 < slice_index rooms i → l ≡ with_levels rooms old n
+      → new ≡ with_level l n (slice_index rooms i) → new ≡ with_levels rooms old (n + 1)
   level_with_room old l new n i at some before is =
       is ∙ (ap (λ i. with_level l n (slice_index rooms i)) at
-      ∙ (ap (λ l. with_level l n (slice_index rooms n)) before ∙ sym (with_next old n true (ap (λ i. nat_lt 0 (slice_index rooms i)) (sym at) ∙ lt-ltb 0 (slice_index rooms i) some))))
+      ∙ (ap (λ l. with_level l n (slice_index rooms n)) before
+      ∙ sym (with_next old n true (ap (λ i. nat_lt 0 (slice_index rooms i)) (sym at)
+      ∙ lt-ltb 0 (slice_index rooms i) some))))
 
-  pub level_without : (old l : Layout) (n i : ℕ) → i ≡ n → slice_index rooms i ≤ 0 → l ≡ with_levels rooms old n → l ≡ with_levels rooms old (n + 1)
-  level_without old l n i at none before = before ∙ sym (with_next old n false (ap (λ i. nat_lt 0 (slice_index rooms i)) (sym at) ∙ le-ltb 0 (slice_index rooms i) none))
+  pub level_without : (old l : Layout) (n i : ℕ) → i ≡ n → slice_index rooms i ≤ 0 → l ≡ with_levels rooms old n → l
+      ≡ with_levels rooms old (n + 1)
+  level_without old l n i at none before = before
+      ∙ sym (with_next old n false (ap (λ i. nat_lt 0 (slice_index rooms i)) (sym at)
+      ∙ le-ltb 0 (slice_index rooms i) none))
 
-  rows_grow : (n k : ℕ) → length (rows_of_levels (slice_index rooms) (roomy rooms n)) ≤ length (rows_of_levels (slice_index rooms) (roomy rooms (n + k)))
-  rows_grow n zero = let e : n + 0 ≡ n = omega arith in omega (arith, ap (λ m. length (rows_of_levels (slice_index rooms) (roomy rooms m))) e)
+  rows_grow : (n k : ℕ) → length (rows_of_levels (slice_index rooms) (roomy rooms n)) ≤ length
+      (rows_of_levels (slice_index rooms) (roomy rooms (n + k)))
+  rows_grow n zero = let e : n + 0 ≡ n = omega arith in
+      omega (arith, ap (λ m. length (rows_of_levels (slice_index rooms) (roomy rooms m))) e)
   rows_grow n (suc k) =
       let e : n + suc k ≡ suc (n + k) = omega arith in
       let more = if has (n + k) then (n + k) ∷ [] else [] in
@@ -222,10 +259,12 @@ module _ (rooms : List ℕ) where
         ap (λ m. length (rows_of_levels (slice_index rooms) (roomy rooms m))) e,
         ap (λ ps. length (rows_of_levels (slice_index rooms) ps)) (those_next has (n + k)),
         ap length (flat_map-append (λ p. ready_rows p (slice_index rooms p)) (roomy rooms (n + k)) more),
-        length-append (rows_of_levels (slice_index rooms) (roomy rooms (n + k))) (rows_of_levels (slice_index rooms) more),
+        length-append (rows_of_levels (slice_index rooms) (roomy rooms (n + k)))
+            (rows_of_levels (slice_index rooms) more),
       )
 
-  pub few_so_far : (old l : Layout) (n : ℕ) → n ≤ 256 → l ≡ with_levels rooms old n → length old.cells + length (rows_of_levels (slice_index rooms) (roomy rooms 256)) < 65536
+  pub few_so_far : (old l : Layout) (n : ℕ) → n ≤ 256 → l ≡ with_levels rooms old n → length old.cells
+      + length (rows_of_levels (slice_index rooms) (roomy rooms 256)) < 65536
       → length l.cells < 65536
   few_so_far old l n less is few =
       let e : n + (256 - n) ≡ 256 = omega arith in
@@ -239,7 +278,9 @@ module _ (rooms : List ℕ) where
       )
 
 -- the code's application, as it is read in parts
-module _ (app : code.App) (start first : Layout) (tasks : List code_task.Task) (starts : start ≡ none) (grows : first ≡ with_resources start (app_of app)) (same : tasks ≡ app.tasks.items) (limits : KeepsLimits (app_of app)) where
+module _ (app : code.App) (start first : Layout) (tasks : List code_task.Task) (starts : start ≡ none)
+    (grows : first ≡ with_resources start (app_of app)) (same : tasks ≡ app.tasks.items)
+    (limits : KeepsLimits (app_of app)) where
   first_is : first ≡ with_resources none (app_of app)
   first_is = grows ∙ ap (λ l. with_resources l (app_of app)) starts
 
@@ -251,10 +292,12 @@ module _ (app : code.App) (start first : Layout) (tasks : List code_task.Task) (
     few_before_tasks (app_of app) limits,
   )
 
-  module _ (second : Layout) (again : List code_task.Task) (rooms : List ℕ) (grows_more : second ≡ fold with_task first (map task_of tasks)) (same_too : again ≡ app.tasks.items)
+  module _ (second : Layout) (again : List code_task.Task) (rooms : List ℕ)
+      (grows_more : second ≡ fold with_task first (map task_of tasks)) (same_too : again ≡ app.tasks.items)
       (has : HasRooms (map task_of again) rooms) where
     second_is : second ≡ on_tasks (app_of app)
-    second_is = grows_more ∙ (ap (λ l. fold with_task l (map task_of tasks)) first_is ∙ ap (λ ts. fold with_task (with_resources none (app_of app)) (map task_of ts)) same)
+    second_is = grows_more ∙ (ap (λ l. fold with_task l (map task_of tasks)) first_is
+        ∙ ap (λ ts. fold with_task (with_resources none (app_of app)) (map task_of ts)) same)
 
     has_rooms : HasRooms (app_of app).tasks rooms
     has_rooms = subst (λ ts. HasRooms (map task_of ts) rooms) same_too has

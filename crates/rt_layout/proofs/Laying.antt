@@ -43,7 +43,8 @@ free_rows_are n t =
     let cell : ℕ → Cell = λ k. record { name = front ++ decimal k; first = k; home = At (Guarded (section.Free n)) } in
     ap (λ rows. row (front ++ codes "count") t.capacity ∷ rows) (map-map row_of cell (range_with_len 0 t.capacity))
 
-place_rows_are : (n : ℕ) (t : Task) (ks : List ℕ) → map row_of (flat_map (place_cells n t) ks) ≡ flat_map (input_rows t) ks
+place_rows_are : (n : ℕ) (t : Task) (ks : List ℕ) → map row_of (flat_map (place_cells n t) ks)
+    ≡ flat_map (input_rows t) ks
 place_rows_are n t [] = refl
 place_rows_are n t (k ∷ ks) =
     map-append row_of (place_cells n t k) (flat_map (place_cells n t) ks)
@@ -54,7 +55,8 @@ task_rows_are : (n : ℕ) (ts : List Task) → map row_of (task_cells n ts) ≡ 
 task_rows_are n [] = refl
 task_rows_are n (t ∷ ts) =
     map-append row_of (if is_software t then queues else []) (task_cells (n + 1) ts)
-    ∙ (ap (λ rows. rows ++ map row_of (task_cells (n + 1) ts)) (one (is_software t)) ∙ ap (λ rows. task_rows t ++ rows) (task_rows_are (n + 1) ts))
+    ∙ (ap (λ rows. rows ++ map row_of (task_cells (n + 1) ts)) (one (is_software t))
+    ∙ ap (λ rows. task_rows t ++ rows) (task_rows_are (n + 1) ts))
   where
     queues : List Cell
     queues = free_cells n t ++ flat_map (place_cells n t) (range_with_len 0 t.capacity)
@@ -62,7 +64,8 @@ task_rows_are n (t ∷ ts) =
     one : (b : Bool) → map row_of (if b then queues else []) ≡ (if b then queue_rows t else [])
     one true =
         map-append row_of (free_cells n t) (flat_map (place_cells n t) (range_with_len 0 t.capacity))
-        ∙ (ap (λ rows. rows ++ map row_of (flat_map (place_cells n t) (range_with_len 0 t.capacity))) (free_rows_are n t)
+        ∙ (ap (λ rows. rows ++ map row_of (flat_map (place_cells n t) (range_with_len 0 t.capacity)))
+        (free_rows_are n t)
         ∙ ap (λ rows. free_rows t ++ rows) (place_rows_are n t (range_with_len 0 t.capacity)))
     one false = refl
 
@@ -71,7 +74,8 @@ module _ (app : App) where
   level_rows_are p =
       ap (λ rows. row (ready_front p ++ codes "head") 0 ∷ row (ready_front p ++ codes "count") 0 ∷ rows)
       (map-map row_of _ (range_with_len 0 (ready_room app p))
-      ∙ map_alike _ _ (λ k. ap (λ name. row name 0) (sym (append_assoc (ready_front p) (codes "at.") (decimal k)))) (range_with_len 0 (ready_room app p)))
+      ∙ map_alike _ _ (λ k. ap (λ name. row name 0) (sym (append_assoc (ready_front p) (codes "at.") (decimal k))))
+      (range_with_len 0 (ready_room app p)))
 
   ready_rows_are : (ps : List ℕ) → map row_of (flat_map (ready_cells app) ps) ≡ rows_of_levels (ready_room app) ps
   ready_rows_are [] = refl
@@ -114,39 +118,48 @@ module _ (app : App) where
       (both_rows _ _ _ _ (ready_rows_are (levels app)) (timer_rows_are app.mono))))
 
 -- numbers of first cells, task by task
-software_free : (at : ℕ → ℕ) (n : ℕ) (ts : List Task) → ((k : ℕ) (t : Task) → slice_get ts k ≡ Some t → at (n + suc k) ≡ at (n + k) + length (task_rows t))
+software_free : (at : ℕ → ℕ) (n : ℕ) (ts : List Task) → ((k : ℕ) (t : Task) → slice_get ts k ≡ Some t → at (n + suc k)
+    ≡ at (n + k) + length (task_rows t))
     → numbers_of is_software at n ts ≡ free_from (at n) ts
 software_free at n [] next = refl
 software_free at n (t ∷ ts) next =
     let here : n + 1 ≡ n + suc 0 = omega arith in
     let there : n + 0 ≡ n = omega arith in
-    let step : at (n + 1) ≡ at n + length (task_rows t) = ap at here ∙ (next 0 t refl ∙ ap (λ k. at k + length (task_rows t)) there) in
+    let step : at (n + 1) ≡ at n + length (task_rows t) = ap at here
+    ∙ (next 0 t refl ∙ ap (λ k. at k + length (task_rows t)) there) in
     ap (λ rest. (if is_software t then at n else 0) ∷ rest)
     (software_free at (n + 1) ts
-    (λ k u is. (let e : n + 1 + suc k ≡ n + suc (suc k) = omega arith in let d : n + suc k ≡ n + 1 + k = omega arith in ap at e ∙ (next (suc k) u is ∙ ap (λ j. at j + length (task_rows u)) d)))
+    (λ k u is. (let e : n + 1 + suc k ≡ n + suc (suc k) = omega arith in let d : n + suc k ≡ n + 1 + k = omega arith in
+    ap at e ∙ (next (suc k) u is ∙ ap (λ j. at j + length (task_rows u)) d)))
     ∙ ap (λ k. free_from k ts) step)
 
 software_inputs : (at inputs : ℕ → ℕ) (n : ℕ) (ts : List Task)
-    → ((k : ℕ) (t : Task) → slice_get ts k ≡ Some t → (at (n + suc k) ≡ at (n + k) + length (task_rows t)) × (inputs (n + k) ≡ at (n + k) + 1 + t.capacity))
+    → ((k : ℕ) (t : Task) → slice_get ts k ≡ Some t → (at (n + suc k) ≡ at (n + k) + length (task_rows t))
+    × (inputs (n + k) ≡ at (n + k) + 1 + t.capacity))
     → numbers_of has_inputs inputs n ts ≡ inputs_from (at n) ts
 software_inputs at inputs n [] next = refl
 software_inputs at inputs n (t ∷ ts) next =
     let here : n + 1 ≡ n + suc 0 = omega arith in
     let there : n + 0 ≡ n = omega arith in
-    let step : at (n + 1) ≡ at n + length (task_rows t) = ap at here ∙ ((next 0 t refl).0 ∙ ap (λ k. at k + length (task_rows t)) there) in
-    let first : inputs n ≡ at n + 1 + t.capacity = ap inputs (sym there) ∙ ((next 0 t refl).1 ∙ ap (λ k. at k + 1 + t.capacity) there) in
+    let step : at (n + 1) ≡ at n + length (task_rows t) = ap at here
+    ∙ ((next 0 t refl).0 ∙ ap (λ k. at k + length (task_rows t)) there) in
+    let first : inputs n ≡ at n + 1 + t.capacity = ap inputs (sym there)
+    ∙ ((next 0 t refl).1 ∙ ap (λ k. at k + 1 + t.capacity) there) in
     ap (λ m. (if has_inputs t then m else 0) ∷ numbers_of has_inputs inputs (n + 1) ts) first
     ∙ ap (λ rest. (if has_inputs t then at n + 1 + t.capacity else 0) ∷ rest)
     (software_inputs at inputs (n + 1) ts
-    (λ k u is. (let e : n + 1 + suc k ≡ n + suc (suc k) = omega arith in let d : n + suc k ≡ n + 1 + k = omega arith in
-    (ap at e ∙ ((next (suc k) u is).0 ∙ ap (λ j. at j + length (task_rows u)) d), ap inputs (sym d) ∙ ((next (suc k) u is).1 ∙ ap (λ j. at j + 1 + u.capacity) d))))
+    (λ k u is. (let e : n + 1 + suc k ≡ n + suc (suc k) = omega arith in let d : n + suc k ≡ n + 1 + k = omega arith in (
+      ap at e ∙ ((next (suc k) u is).0 ∙ ap (λ j. at j + length (task_rows u)) d),
+      ap inputs (sym d) ∙ ((next (suc k) u is).1 ∙ ap (λ j. at j + 1 + u.capacity) d),
+    )))
     ∙ ap (λ k. inputs_from k ts) step)
 
 module _ (app : App) where
   pub length-task_cells : (ts : List Task) → length (task_cells 0 ts) ≡ length (flat_map task_rows ts)
   length-task_cells ts = sym (length-map (task_cells 0 ts) row_of) ∙ ap length (task_rows_are 0 ts)
 
-  free_next : (k : ℕ) (t : Task) → slice_get app.tasks k ≡ Some t → free_at app (suc k) ≡ free_at app k + length (task_rows t)
+  free_next : (k : ℕ) (t : Task) → slice_get app.tasks k ≡ Some t → free_at app (suc k) ≡ free_at app k
+      + length (task_rows t)
   free_next k t is =
       let within = slice_get_within app.tasks k t is in
       let same : t ≡ get_or app.tasks k t = sym (get_or_from_slice_get app.tasks k t t is) in
@@ -160,17 +173,22 @@ module _ (app : App) where
         length-append (flat_map task_rows (take k app.tasks)) (task_rows t),
       )
 
-  pub free_are : numbers_of is_software (free_at app) 0 app.tasks ≡ free_from (length app.shared + length app.locals) app.tasks
+  pub free_are : numbers_of is_software (free_at app) 0 app.tasks ≡ free_from (length app.shared + length app.locals)
+      app.tasks
   free_are =
-      software_free (free_at app) 0 app.tasks (λ k t is. (let e : 0 + suc k ≡ suc k = omega arith in let d : k ≡ 0 + k = omega arith in
+      software_free (free_at app) 0 app.tasks (λ k t is. (let e : 0 + suc k ≡ suc k = omega arith in let d : k ≡ 0 + k =
+      omega arith in
       ap (free_at app) e ∙ (free_next k t is ∙ ap (λ j. free_at app j + length (task_rows t)) d)))
       ∙ ap (λ k. free_from k app.tasks) (omega arith)
 
-  pub inputs_are : numbers_of has_inputs (inputs_at app) 0 app.tasks ≡ inputs_from (length app.shared + length app.locals) app.tasks
+  pub inputs_are : numbers_of has_inputs (inputs_at app) 0 app.tasks
+      ≡ inputs_from (length app.shared + length app.locals) app.tasks
   inputs_are =
-      software_inputs (free_at app) (inputs_at app) 0 app.tasks (λ k t is. (let e : 0 + suc k ≡ suc k = omega arith in let d : k ≡ 0 + k = omega arith in (
+      software_inputs (free_at app) (inputs_at app) 0 app.tasks
+      (λ k t is. (let e : 0 + suc k ≡ suc k = omega arith in let d : k ≡ 0 + k = omega arith in (
         ap (free_at app) e ∙ (free_next k t is ∙ ap (λ j. free_at app j + length (task_rows t)) d),
-        ap (inputs_at app) (sym d) ∙ (ap (λ o. free_at app k + 1 + or_zero (option_map (λ t. t.capacity) o)) is ∙ ap (λ j. free_at app j + 1 + t.capacity) d),
+        ap (inputs_at app) (sym d) ∙ (ap (λ o. free_at app k + 1 + or_zero (option_map (λ t. t.capacity) o)) is
+            ∙ ap (λ j. free_at app j + 1 + t.capacity) d),
       )))
       ∙ ap (λ k. inputs_from k app.tasks) (omega arith)
 
@@ -178,9 +196,11 @@ module _ (app : App) where
 all_pass : (p : ℕ) (ps : List ℕ) → AllByRecursion (λ q. q < p) ps → filter (λ q. nat_lt q p) ps ≡ ps
 all_pass p [] all = refl
 all_pass p (q ∷ ps) all =
-    ap (λ b. if b then q ∷ filter (λ q. nat_lt q p) ps else filter (λ q. nat_lt q p) ps) (lt-ltb q p all.0) ∙ ap (λ rest. q ∷ rest) (all_pass p ps all.1)
+    ap (λ b. if b then q ∷ filter (λ q. nat_lt q p) ps else filter (λ q. nat_lt q p) ps) (lt-ltb q p all.0)
+    ∙ ap (λ rest. q ∷ rest) (all_pass p ps all.1)
 
-pub those_next : (test : ℕ → Bool) (n : ℕ) → those_below test (suc n) ≡ those_below test n ++ (if test n then n ∷ [] else [])
+pub those_next : (test : ℕ → Bool) (n : ℕ) → those_below test (suc n) ≡ those_below test n
+    ++ (if test n then n ∷ [] else [])
 unfolding those_below
 those_next test n = refl
 
@@ -196,7 +216,8 @@ filter_below test zero p less =
     let e : p ≡ 0 = omega arith in
     ap (filter (λ q. nat_lt q p)) (those_none test) ∙ sym (ap (those_below test) e ∙ those_none test)
 filter_below test (suc n) p less = elim (cases_lt n p) [
-  | inl below ↦ (let e : suc n ≡ p = omega arith in subst (λ m. filter (λ q. nat_lt q p) (those_below test m) ≡ those_below test p) (sym e) (all_pass p (those_below test p) (those_less test p)))
+  | inl below ↦ (let e : suc n ≡ p = omega arith in subst (λ m. filter (λ q. nat_lt q p) (those_below test m)
+      ≡ those_below test p) (sym e) (all_pass p (those_below test p) (those_less test p)))
   | inr not_below ↦
       ap (filter (λ q. nat_lt q p)) (those_next test n)
       ∙ (filter-append (λ q. nat_lt q p) (those_below test n) (if test n then n ∷ [] else [])
@@ -208,27 +229,33 @@ filter_below test (suc n) p less = elim (cases_lt n p) [
     last true is = ap (λ b. if b then n ∷ [] else []) is
     last false is = refl
 
-ready_push : (room : ℕ → ℕ) (at p : ℕ) (ps : List ℕ) → ready_from room at (ps ++ p ∷ []) ≡ ready_from room at ps ++ (at + length (rows_of_levels room ps)) ∷ []
+ready_push : (room : ℕ → ℕ) (at p : ℕ) (ps : List ℕ) → ready_from room at (ps ++ p ∷ []) ≡ ready_from room at ps
+    ++ (at + length (rows_of_levels room ps)) ∷ []
 ready_push room at p [] = let e : at ≡ at + 0 = omega arith in ap (λ k. k ∷ []) e
 ready_push room at p (q ∷ ps) =
     let rows = ready_rows q (room q) in
-    let e : at + length rows + length (rows_of_levels room ps) ≡ at + length (rows ++ rows_of_levels room ps) = omega (arith, length-append rows (rows_of_levels room ps)) in
-    ap (λ rest. at ∷ rest) (ready_push room (at + length rows) p ps ∙ ap (λ k. ready_from room (at + length rows) ps ++ k ∷ []) e)
+    let e : at + length rows + length (rows_of_levels room ps) ≡ at + length (rows ++ rows_of_levels room ps) =
+    omega (arith, length-append rows (rows_of_levels room ps)) in
+    ap (λ rest. at ∷ rest) (ready_push room (at + length rows) p ps
+    ∙ ap (λ k. ready_from room (at + length rows) ps ++ k ∷ []) e)
 
-map_ready : (test : ℕ → Bool) (room g : ℕ → ℕ) (at n : ℕ) → ((p : ℕ) → p < n → g p ≡ at + length (rows_of_levels room (those_below test p)))
+map_ready : (test : ℕ → Bool) (room g : ℕ → ℕ) (at n : ℕ)
+    → ((p : ℕ) → p < n → g p ≡ at + length (rows_of_levels room (those_below test p)))
     → map g (those_below test n) ≡ ready_from room at (those_below test n)
 map_ready test room g at zero is = ap (map g) (those_none test) ∙ sym (ap (ready_from room at) (those_none test))
 map_ready test room g at (suc n) is =
     ap (map g) (those_next test n)
     ∙ (map-append g (those_below test n) (if test n then n ∷ [] else [])
-    ∙ (ap (λ rest. rest ++ map g (if test n then n ∷ [] else [])) (map_ready test room g at n (λ p less. is p (omega arith)))
+    ∙ (ap (λ rest. rest ++ map g (if test n then n ∷ [] else []))
+    (map_ready test room g at n (λ p less. is p (omega arith)))
     ∙ (last (test n) (is n (omega arith)) ∙ sym (ap (ready_from room at) (those_next test n)))))
   where
     before : List ℕ
     before = those_below test n
 
     last : (b : Bool) → g n ≡ at + length (rows_of_levels room before)
-        → ready_from room at before ++ map g (if b then n ∷ [] else []) ≡ ready_from room at (before ++ (if b then n ∷ [] else []))
+        → ready_from room at before ++ map g (if b then n ∷ [] else [])
+        ≡ ready_from room at (before ++ (if b then n ∷ [] else []))
     last true same = ap (λ k. ready_from room at before ++ k ∷ []) same ∙ sym (ready_push room at n before)
     last false same = append-nil (ready_from room at before) ∙ ap (ready_from room at) (sym (append-nil before))
 
@@ -240,10 +267,12 @@ module _ (app : App) where
       → length (flat_map (ready_cells app) ps) ≡ length (rows_of_levels (ready_room app) ps)
   length-ready ps = sym (length-map (flat_map (ready_cells app) ps) row_of) ∙ ap length (ready_rows_are app ps)
 
-  pub ready_are : map (ready_at app) (levels app) ≡ ready_from (ready_room app) (length app.shared + length app.locals + length (flat_map task_rows app.tasks)) (levels app)
+  pub ready_are : map (ready_at app) (levels app) ≡ ready_from (ready_room app)
+      (length app.shared + length app.locals + length (flat_map task_rows app.tasks)) (levels app)
   ready_are = map_ready is_level (ready_room app) (ready_at app) _ 256 each
     where
-      each : (p : ℕ) → p < 256 → ready_at app p ≡ length app.shared + length app.locals + length (flat_map task_rows app.tasks) + length (rows_of_levels (ready_room app) (those_below is_level p))
+      each : (p : ℕ) → p < 256 → ready_at app p ≡ length app.shared + length app.locals
+          + length (flat_map task_rows app.tasks) + length (rows_of_levels (ready_room app) (those_below is_level p))
       each p less = omega (
         arith,
         length-task_cells app app.tasks,

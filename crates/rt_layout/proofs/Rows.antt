@@ -15,9 +15,12 @@ range_more a (suc n) k is = ap (λ js. a ∷ js) (range_more (a + 1) n k (omega 
 below_more : (n : ℕ) → range_with_len 0 (n + 1) ≡ range_with_len 0 n ++ n ∷ []
 below_more n = let e : n + 1 ≡ suc n = omega arith in rw e (range_more 0 n n (omega arith))
 
-pub map_more : {X : Type 0} (f : ℕ → X) (n : ℕ) → map f (range_with_len 0 (n + 1)) ≡ map f (range_with_len 0 n) ++ f n ∷ []
+pub map_more : {X : Type 0} (f : ℕ → X) (n : ℕ) → map f (range_with_len 0 (n + 1)) ≡ map f (range_with_len 0 n) ++ f n
+    ∷ []
 map_more f n = ap (map f) (below_more n) ∙ map-append f (range_with_len 0 n) (n ∷ [])
 
-pub flat_map_more : {X : Type 0} (f : ℕ → List X) (n : ℕ) → flat_map f (range_with_len 0 (n + 1)) ≡ flat_map f (range_with_len 0 n) ++ f n
+pub flat_map_more : {X : Type 0} (f : ℕ → List X) (n : ℕ) → flat_map f (range_with_len 0 (n + 1))
+    ≡ flat_map f (range_with_len 0 n) ++ f n
 flat_map_more f n =
-    ap (flat_map f) (below_more n) ∙ (flat_map-append f (range_with_len 0 n) (n ∷ []) ∙ ap (λ xs. flat_map f (range_with_len 0 n) ++ xs) (append-nil (f n)))
+    ap (flat_map f) (below_more n) ∙ (flat_map-append f (range_with_len 0 n) (n ∷ [])
+    ∙ ap (λ xs. flat_map f (range_with_len 0 n) ++ xs) (append-nil (f n)))

@@ -6,7 +6,8 @@ ghost use Rattle.rt_app.specs.Limits.{KeepsLimits};
 ghost use Rattle.rt_app.specs.View.{task_of, app_of};
 ghost use Rattle.rt_app.specs.Layout.{layout};
 ghost use Rattle.rt_layout.specs.Inside.Rows.{queue_rows, task_rows};
-ghost use Rattle.rt_layout.specs.Inside.Growing.{none, with_resources, with_queues, without_queues, with_task, with_level};
+ghost use Rattle.rt_layout.specs.Inside.Growing.{none, with_resources, with_queues, without_queues, with_task};
+ghost use Rattle.rt_layout.specs.Inside.Growing.{with_level};
 ghost use Rattle.rt_layout.specs.Inside.Growing.{with_levels, levels_rows, with_timer, with_mono};
 
 use crate::queues::{push_free, push_inputs, push_ready, push_timer};

@@ -1,5 +1,6 @@
 -- On numbers.
-use Rattle.std.proofs.Common.{◌≡◌, ℕ, suc, ◌+◌, Bool, true, false, refl, subst, arith, ◌<◌, max, ◌||◌, if◌then◌else◌, ⊎_elim}
+use Rattle.std.proofs.Common.{◌≡◌, ℕ, suc, ◌+◌, Bool, true, false, refl, subst, arith, ◌<◌, max, ◌||◌, if◌then◌else◌}
+use Rattle.std.proofs.Common.{⊎_elim}
 use Rattle.std.proofs.lemmas.Bool.{cases_lt}
 
 pub one_add : (n : ℕ) → 1 + n ≡ suc n
@@ -22,4 +23,5 @@ max_if false false n = refl
 
 -- what holds below a count and at it
 pub below_suc : (P : ℕ → Type 0) (count : ℕ) → ((k : ℕ) → k < count → P k) → P count → (k : ℕ) → k < suc count → P k
-below_suc P count before at k l = ⊎_elim (before k) (λ ge. let e : count ≡ k = omega arith in subst P e at) (cases_lt k count)
+below_suc P count before at k l = ⊎_elim (before k) (λ ge. let e : count ≡ k = omega arith in subst P e at)
+    (cases_lt k count)

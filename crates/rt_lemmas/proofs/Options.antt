@@ -1,5 +1,6 @@
 -- On what may not be there.
-use Rattle.std.proofs.Common.{◌≡◌, Bor, Option, Some, None, IfNone, IfSome, Bool, true, false, cond, option_map, refl, if◌then◌else◌}
+use Rattle.std.proofs.Common.{◌≡◌, Bor, Option, Some, None, IfNone, IfSome, Bool, true, false, cond, option_map, refl}
+use Rattle.std.proofs.Common.{if◌then◌else◌}
 use Rattle.std.specs.Option.{option_or, unwrap_or, is_none}
 use Rattle.std.proofs.lemmas.Option.{none-some}
 
@@ -11,11 +12,13 @@ pub if_none_weaker : {A P Q : Type 0} (o : Option A) → (P → Q) → IfNone o 
 if_none_weaker None f p = f p
 if_none_weaker (Some x) f p = p
 
-pub if_some_either : {X : Type 0} (P : X → Type 0) (first second : Option X) → IfSome first P → IfSome second P → IfSome (option_or first second) P
+pub if_some_either : {X : Type 0} (P : X → Type 0) (first second : Option X) → IfSome first P → IfSome second P
+    → IfSome (option_or first second) P
 if_some_either P None second h k = k
 if_some_either P (Some x) second h k = h
 
-pub if_some-map : {X Y : Type 0} (f : X → Y) (P : Y → Type 0) (found : Option X) → IfSome found (λ x. P (f x)) → IfSome (option_map f found) P
+pub if_some-map : {X Y : Type 0} (f : X → Y) (P : Y → Type 0) (found : Option X) → IfSome found (λ x. P (f x))
+    → IfSome (option_map f found) P
 if_some-map f P None h = tt
 if_some-map f P (Some x) h = h
 
@@ -28,7 +31,8 @@ some_of_cond true o x e = e
 some_of_cond false o x e = absurd (none-some x e)
 
 -- what is read behind a reference that may not be there, and else behind another
-pub unwrap_or-now : {X : Type 0} (o : Option (Bor X)) (other : Bor X) → (unwrap_or o other).now ≡ unwrap_or (option_map (λ x. x.now) o) other.now
+pub unwrap_or-now : {X : Type 0} (o : Option (Bor X)) (other : Bor X) → (unwrap_or o other).now
+    ≡ unwrap_or (option_map (λ x. x.now) o) other.now
 unwrap_or-now None other = refl
 unwrap_or-now (Some x) other = refl
 

@@ -1,5 +1,6 @@
 -- On what stands at a place of a list that is one behind another.
-use Rattle.std.proofs.Common.{◌≡◌, ◌⊎◌, ℕ, zero, suc, ◌+◌, ◌<◌, List, [], ◌∷◌, ◌++◌, length, map, get_or, Some, slice_get, refl, ap, inl, inr, arith}
+use Rattle.std.proofs.Common.{◌≡◌, ◌⊎◌, ℕ, zero, suc, ◌+◌, ◌<◌, List, [], ◌∷◌, ◌++◌, length, map, get_or, Some}
+use Rattle.std.proofs.Common.{slice_get, refl, ap, inl, inr, arith}
 use Rattle.std.proofs.lemmas.Option.{same_Some, none-some}
 
 pub at_front : {X : Type 0} (xs ys : List X) (i : ℕ) → i < length xs → slice_get (xs ++ ys) i ≡ slice_get xs i
@@ -23,12 +24,14 @@ at_either (y ∷ xs) ys (suc i) x at = elim (at_either xs ys i x at) [
 ]
 
 -- what is read with a default that differs from it stands there
-pub at_read : {X Y : Type 0} (view : X → Y) (xs : List X) (i : ℕ) (y d : Y) → get_or (map view xs) i d ≡ y → ¬ (d ≡ y) → (x : X) × (slice_get xs i ≡ Some x) × (view x ≡ y)
+pub at_read : {X Y : Type 0} (view : X → Y) (xs : List X) (i : ℕ) (y d : Y) → get_or (map view xs) i d ≡ y → ¬ (d ≡ y)
+    → (x : X) × (slice_get xs i ≡ Some x) × (view x ≡ y)
 at_read view [] i y d is differs = absurd (differs is)
 at_read view (x ∷ xs) zero y d is differs = (x, refl, is)
 at_read view (x ∷ xs) (suc i) y d is differs = at_read view xs i y d is differs
 
-pub read_at : {X Y : Type 0} (view : X → Y) (xs : List X) (i : ℕ) (x : X) (d : Y) → slice_get xs i ≡ Some x → get_or (map view xs) i d ≡ view x
+pub read_at : {X Y : Type 0} (view : X → Y) (xs : List X) (i : ℕ) (x : X) (d : Y) → slice_get xs i ≡ Some x
+    → get_or (map view xs) i d ≡ view x
 read_at view [] i x d at = absurd (none-some x at)
 read_at view (y ∷ xs) zero x d at = ap view (same_Some y x at)
 read_at view (y ∷ xs) (suc i) x d at = read_at view xs i x d at

@@ -8,7 +8,8 @@ use Rattle.rt_grammar.specs.Options.{OfInit, OfIdle}
 use Rattle.rt_grammar.specs.Declaration.{application}
 use Rattle.rt_limits.specs.Law.{TextsKeepLimits}
 use Rattle.rt_limits.proofs.Keeps.{Keeps, AreFew, none_are_few, sound_marks, keeps_gives, keeps_then, keeps_repeat}
-use Rattle.rt_limits.proofs.KeepsDeclaration.{IsBodyKept, keeps_head, keeps_interrupts, keeps_monotonic, keeps_shared, keeps_locals, keeps_thread_body, keeps_tasks}
+use Rattle.rt_limits.proofs.KeepsDeclaration.{IsBodyKept, keeps_head, keeps_interrupts, keeps_monotonic, keeps_shared}
+use Rattle.rt_limits.proofs.KeepsDeclaration.{keeps_locals, keeps_thread_body, keeps_tasks}
 
 init_printable : (init : Option Body) → IfThere (IsBodyKept OfInit) init → IfThere IsPrintableInit init
 init_printable None h = tt
@@ -20,9 +21,13 @@ idle_printable (Some b) h = h.printable
 
 keeps_application : (most : ℕ) → Keeps (application most) IsPrintable
 keeps_application most =
-    keeps_then keeps_head (λ first a. keeps_then keeps_interrupts (λ irqs b. keeps_then keeps_monotonic (λ mono c. keeps_then keeps_shared (λ ss d. keeps_then keeps_locals (λ ls e.
-    keeps_then (keeps_thread_body most OfInit (codes "init")) (λ init f. keeps_then (keeps_thread_body most OfIdle (codes "idle")) (λ idle g.
-    keeps_then (keeps_repeat (AreFew IsPrintableTask _) (keeps_tasks most) [] (none_are_few IsPrintableTask _)) (λ tasks h.
+    keeps_then keeps_head (λ first a. keeps_then keeps_interrupts
+    (λ irqs b. keeps_then keeps_monotonic (λ mono c. keeps_then keeps_shared
+    (λ ss d. keeps_then keeps_locals (λ ls e.
+    keeps_then (keeps_thread_body most OfInit (codes "init"))
+    (λ init f. keeps_then (keeps_thread_body most OfIdle (codes "idle")) (λ idle g.
+    keeps_then (keeps_repeat (AreFew IsPrintableTask _) (keeps_tasks most) [] (none_are_few IsPrintableTask _))
+    (λ tasks h.
     keeps_gives (record {
       name = a.name;
       bits = a.bits;
@@ -41,4 +46,5 @@ keeps_application most =
     })))))))))
 
 pub the_law : TextsKeepLimits
-the_law src app t = (keeps_application t.spelled.0).kept t.marks app t.spelled.1 (sound_marks src t.marks (tokens src) [] t.whole t.within (tokens_longest src))
+the_law src app t = (keeps_application t.spelled.0).kept t.marks app t.spelled.1
+    (sound_marks src t.marks (tokens src) [] t.whole t.within (tokens_longest src))

@@ -1,5 +1,6 @@
 -- The tokens of the grammar and its lists: names are names, numbers are of 32 bits, and no limit is passed.
-use Rattle.std.proofs.Common.{◌≡◌, ℕ, ◌^◌, ◌<◌, ◌≤◌, Bool, true, false, not, ◌&&◌, List, length, Option, Some, None, refl, subst}
+use Rattle.std.proofs.Common.{◌≡◌, ℕ, ◌^◌, ◌<◌, ◌≤◌, Bool, true, false, not, ◌&&◌, List, length, Option, Some, None}
+use Rattle.std.proofs.Common.{refl, subst}
 use Rattle.std.specs.Prelude.{nat_lt, nat_le}
 use Rattle.std.proofs.lemmas.Bool.{ltb-true, ltb-false, leb-true, leb-false}
 use Rattle.rt_lemmas.proofs.Bools.{not_false, and_left, and_right}
@@ -40,10 +41,14 @@ not_above n greatest what e = ltb-false greatest n (not_passed (nat_lt greatest 
 pub still_below : (most n : ℕ) (what : Limit) → limit_if (nat_le most n) what ≡ None → n < most
 still_below most n what e = leb-false most n (not_passed (nat_le most n) what e)
 
-pub between : (least greatest n : ℕ) (what : Limit) → limit_if (not (nat_le least n && nat_le n greatest)) what ≡ None → (least ≤ n) × (n ≤ greatest)
+pub between : (least greatest n : ℕ) (what : Limit) → limit_if (not (nat_le least n && nat_le n greatest)) what ≡ None
+    → (least ≤ n) × (n ≤ greatest)
 between least greatest n what e =
-    let h : (nat_le least n && nat_le n greatest) ≡ true = not_false (nat_le least n && nat_le n greatest) (not_passed (not (nat_le least n && nat_le n greatest)) what e) in
-    (leb-true least n (and_left (nat_le least n) (nat_le n greatest) h), leb-true n greatest (and_right (nat_le least n) (nat_le n greatest) h))
+    let h : (nat_le least n && nat_le n greatest) ≡ true = not_false (nat_le least n && nat_le n greatest)
+    (not_passed (not (nat_le least n && nat_le n greatest)) what e) in (
+      leb-true least n (and_left (nat_le least n) (nat_le n greatest) h),
+      leb-true n greatest (and_right (nat_le least n) (nat_le n greatest) h),
+    )
 
 -- Tokens.
 
@@ -54,7 +59,8 @@ pub record IsTaken {A : Type 0} (meaning : Token → Option A) (limit : A → Op
   pub free : limit x ≡ None
   pub kind : has_kind token.kind token.text ≡ true
 
-pub keeps_token : {A : Type 0} {meaning : Token → Option A} {limit : A → Option Limit} → Keeps (token meaning limit) (IsTaken meaning limit)
+pub keeps_token : {A : Type 0} {meaning : Token → Option A} {limit : A → Option Limit}
+    → Keeps (token meaning limit) (IsTaken meaning limit)
 keeps_token {A} {meaning} {limit} = record { kept = taken }
   where
     taken : (marks : List Mark) (x : A) → token meaning limit marks x → AllSound marks → IsTaken meaning limit x
@@ -76,10 +82,15 @@ pub record IsNameTaken (what : Option Limit) (x : Ident) : Type 0 where
   pub name : IsPrintableName x
   pub free : what ≡ None
 
-name_text : (k : Kind) (text : List ℕ) (at : ℕ) (x : Ident) → ident_at k text at ≡ Some x → has_kind k text ≡ true → (is_identifier x.name ≡ true) × (is_word x.name ≡ false)
+name_text : (k : Kind) (text : List ℕ) (at : ℕ) (x : Ident) → ident_at k text at ≡ Some x → has_kind k text ≡ true
+    → (is_identifier x.name ≡ true) × (is_word x.name ≡ false)
 name_text kind.Name text at x e h =
     let is : text ≡ x.name = cc in
-    subst (λ (s : List ℕ). (is_identifier s ≡ true) × (is_word s ≡ false)) is (and_left (is_identifier text) (not (is_word text)) h, turned (is_word text) (and_right (is_identifier text) (not (is_word text)) h))
+    subst (λ (s : List ℕ). (is_identifier s ≡ true) × (is_word s ≡ false)) is (
+      and_left (is_identifier text) (not (is_word text)) h,
+      turned (is_word text)
+          (and_right (is_identifier text) (not (is_word text)) h),
+    )
   where
     turned : (b : Bool) → not b ≡ true → b ≡ false
     turned true e = absurd cc
@@ -94,7 +105,12 @@ keeps_name {what} = keeps_as keeps_token named
         let own = limit_if (nat_lt NAME_BYTES (length x.name)) limit.Name in
         let text = name_text t.token.kind t.token.text t.token.at x t.means t.kind in
         record {
-          name = record { name = text.0; no_word = text.1; short = not_above (length x.name) NAME_BYTES limit.Name (first_free own what t.free) };
+          name = record {
+            name = text.0;
+            no_word = text.1;
+            short =
+                not_above (length x.name) NAME_BYTES limit.Name (first_free own what t.free);
+          };
           free = second_free own what t.free;
         }
 
@@ -110,13 +126,17 @@ keeps_number {what} = keeps_as keeps_token taken
     taken n t =
         let own = limit_if (not (nat_lt n.value (2 ^ 32))) limit.Number in
         record {
-          number = ltb-true n.value (2 ^ 32) (not_false (nat_lt n.value (2 ^ 32)) (not_passed (not (nat_lt n.value (2 ^ 32))) limit.Number (first_free own (what n.value) t.free)));
+          number = ltb-true n.value (2 ^ 32) (not_false (nat_lt n.value (2 ^ 32))
+              (not_passed (not (nat_lt n.value (2 ^ 32))) limit.Number (first_free own (what n.value) t.free)));
           free = second_free own (what n.value) t.free;
         }
 
 -- Lists.
 
-pub keeps_list : {S : Type 0} (P : S → Type 0) {closing : List ℕ} {item : S → Language S} → ((s : S) → P s → Keeps (item s) P) → (s : S) → P s → Keeps (list closing item s) P
+pub keeps_list : {S : Type 0} (P : S → Type 0) {closing : List ℕ} {item : S → Language S}
+    → ((s : S) → P s → Keeps (item s) P) → (s : S) → P s → Keeps (list closing item s) P
 keeps_list P items s h =
-    keeps_then (keeps_repeat P (λ s h. keeps_then (items s h) (λ x k. keeps_then keeps_sign (λ at free. keeps_gives k))) s h)
-    (λ most h. keeps_then (keeps_or (keeps_gives h) (items most h)) (λ all k. keeps_then keeps_sign (λ at free. keeps_gives k)))
+    keeps_then (keeps_repeat P (λ s h. keeps_then (items s h) (λ x k. keeps_then keeps_sign (λ at free. keeps_gives k)))
+    s h)
+    (λ most h. keeps_then (keeps_or (keeps_gives h) (items most h))
+    (λ all k. keeps_then keeps_sign (λ at free. keeps_gives k)))

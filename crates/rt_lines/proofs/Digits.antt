@@ -33,5 +33,6 @@ nine n (suc i) below most = let small : n < 10 ^ 9 = room_of n (suc i) below mos
 pub digit_is : (b : ℕ) → is_digit b ≡ true → digit_value b + 48 ≡ b
 digit_is b h = digit_value_digit b (leb-true 48 b (and_left _ _ h), leb-true b 57 (and_right _ _ h))
 
-pub digit_at : (digits : List ℕ) (i : ℕ) → i < length digits → list_all is_digit digits ≡ true → digit_value (get_or digits i 0) + 48 ≡ get_or digits i 0
+pub digit_at : (digits : List ℕ) (i : ℕ) → i < length digits → list_all is_digit digits ≡ true
+    → digit_value (get_or digits i 0) + 48 ≡ get_or digits i 0
 digit_at digits i at all = digit_is (get_or digits i 0) (AllPass-from_list_all is_digit digits all i 0 at)

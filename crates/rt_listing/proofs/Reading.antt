@@ -1,5 +1,6 @@
 -- Words and numbers are read back from texts in which they stand.
-use Rattle.std.proofs.Common.{◌≡◌, ℕ, ◌+◌, ◌/◌, ◌%◌, ◌<◌, zero, suc, Bool, true, false, cond, eqb, ◌||◌, List, [], ◌∷◌, ◌++◌, drop, decimal, refl, sym, arith, append_assoc}
+use Rattle.std.proofs.Common.{◌≡◌, ℕ, ◌+◌, ◌/◌, ◌%◌, ◌<◌, zero, suc, Bool, true, false, cond, eqb, ◌||◌, List, [], ◌∷◌}
+use Rattle.std.proofs.Common.{◌++◌, drop, decimal, refl, sym, arith, append_assoc}
 use Rattle.std.specs.List.{AllByRecursion, list_any}
 use Rattle.std.specs.Fmt.{digits, digits_onto, digit_glyph}
 use Rattle.std.specs.Str.Parse.{digits_value}
@@ -41,7 +42,12 @@ blank_cases false b e _ = e
 pub word_has_no_blank : (w : List ℕ) → IsWord w → HasNoBlank w
 word_has_no_blank [] h = tt
 word_has_no_blank (b ∷ w) h = (
-  false_from_ne_true _ (λ e. h.0 (1, omega arith, sym (eqb-true b 10 (blank_cases _ _ e (λ f. h.0 (3, omega arith, sym (eqb-true b 32 f))))))),
+  false_from_ne_true _
+      (λ e. h.0 (
+        1,
+        omega arith,
+        sym (eqb-true b 10 (blank_cases _ _ e (λ f. h.0 (3, omega arith, sym (eqb-true b 32 f))))),
+      )),
   word_has_no_blank w h.1,
 )
 
@@ -50,7 +56,11 @@ literal_before [] w e h = h
 literal_before (b ∷ u) w e h = (left_of_none (is_blank b) _ e, literal_before u w (right_of_none (is_blank b) _ e) h)
 
 glyph_is_no_blank : (d : ℕ) → d < 10 → is_blank (digit_glyph false d) ≡ false
-glyph_is_no_blank d h = rw (lt-ltb d 10 h, ne_eqb (48 + d) 32 (λ e. omega (arith, e)), ne_eqb (48 + d) 10 (λ e. omega (arith, e))) refl
+glyph_is_no_blank d h = rw (
+  lt-ltb d 10 h,
+  ne_eqb (48 + d) 32 (λ e. omega (arith, e)),
+  ne_eqb (48 + d) 10 (λ e. omega (arith, e)),
+) refl
 
 either : (test : Bool) (xs ys : List ℕ) → HasNoBlank xs → HasNoBlank ys → HasNoBlank (cond test xs ys)
 either true xs ys p q = p
@@ -92,13 +102,18 @@ pub one_reads : {A X : Type 0} (read : List ℕ → A) (make : A → X) (a : A) 
     → Shows read a v → is_ended text ≡ true → one read make ((32 ∷ v) ++ text) ≡ (make a, text)
 one_reads read make a v text shown ended = rw (word_reads v text shown.plain ended, shown.reads) refl
 
-pub two_reads : {A B X : Type 0} (first : List ℕ → A) (read : List ℕ → B) (make : A → B → X) (a : A) (b : B) (v w text : List ℕ)
-    → Shows first a v → Shows read b w → is_ended text ≡ true → two first read make (((32 ∷ v) ++ (32 ∷ w)) ++ text) ≡ (make a b, text)
+pub two_reads : {A B X : Type 0} (first : List ℕ → A) (read : List ℕ → B) (make : A → B → X) (a : A) (b : B)
+    (v w text : List ℕ)
+    → Shows first a v → Shows read b w → is_ended text ≡ true → two first read make (((32 ∷ v) ++ (32 ∷ w)) ++ text)
+    ≡ (make a b, text)
 two_reads first read make a b v w text shown more ended =
-    rw (append_assoc v (32 ∷ w) text, word_reads v (32 ∷ (w ++ text)) shown.plain refl, shown.reads) (one_reads read (make a) b w text more ended)
+    rw (append_assoc v (32 ∷ w) text, word_reads v (32 ∷ (w ++ text)) shown.plain refl, shown.reads)
+    (one_reads read (make a) b w text more ended)
 
-pub three_reads : {A B C X : Type 0} (first : List ℕ → A) (second : List ℕ → B) (read : List ℕ → C) (make : A → B → C → X)
-    → (a : A) (b : B) (c : C) (u v w text : List ℕ) → Shows first a u → Shows second b v → Shows read c w → is_ended text ≡ true
+pub three_reads : {A B C X : Type 0} (first : List ℕ → A) (second : List ℕ → B) (read : List ℕ → C)
+    (make : A → B → C → X)
+    → (a : A) (b : B) (c : C) (u v w text : List ℕ) → Shows first a u → Shows second b v → Shows read c w
+    → is_ended text ≡ true
     → three first second read make ((((32 ∷ u) ++ (32 ∷ v)) ++ (32 ∷ w)) ++ text) ≡ (make a b c, text)
 three_reads first second read make a b c u v w text shown more last ended =
     rw (append_assoc u (32 ∷ v) (32 ∷ w), append_assoc u (32 ∷ (v ++ (32 ∷ w))) text)

@@ -49,11 +49,13 @@ irq_line row = codes "irq " ++ row.name ++ spaced_number row.number ++ handler_t
 -- the line of a body that handlers call: its task, its entry, its frame's words and its arguments
 abbrev pub body_line : Names → BodyRow → List ℕ
 body_line names row =
-    codes "body " ++ task_name names row.task ++ spaced_number row.entry ++ spaced_number row.frame ++ spaced_number row.args ++ 10 ∷ []
+    codes "body " ++ task_name names row.task ++ spaced_number row.entry ++ spaced_number row.frame
+    ++ spaced_number row.args ++ 10 ∷ []
 
 -- the line of an instruction: its address, the instruction and its note
 abbrev pub code_line : Names → ℕ → Instr × Option Note → List ℕ
-code_line names n line = codes "code" ++ spaced_number n ++ 32 ∷ instr_text names line.0 ++ note_text names line.1 ++ 10 ∷ []
+code_line names n line = codes "code" ++ spaced_number n ++ 32 ∷ instr_text names line.0 ++ note_text names line.1 ++ 10
+    ∷ []
 
 -- the listing of an image
 abbrev pub listing : Image → List ℕ

@@ -1,5 +1,6 @@
 ghost use Rattle.std.specs.Prelude.{◌≡◌, [], ◌∷◌, ◌++◌, flat_map, All, IfOk, OnOk};
-ghost use Rattle.rt_listing.specs.Listing.{form_text, first_line, sizes_line, lines_with_numbers, cell_line, irq_line, body_line};
+ghost use Rattle.rt_listing.specs.Listing.{form_text, first_line, sizes_line, lines_with_numbers, cell_line, irq_line};
+ghost use Rattle.rt_listing.specs.Listing.{body_line};
 ghost use Rattle.rt_listing.specs.Listing.{code_line};
 ghost use Rattle.rt_listing.specs.Listing as spec;
 ghost use Rattle.rt_listing.specs.Numbers.{AreShort, HasShortNumbers};

@@ -1,6 +1,8 @@
 -- What arrives of a word, bit after bit, and of words, word after word.
-use Rattle.std.proofs.Common.{◌≡◌, ℕ, zero, suc, ◌+◌, ◌*◌, ◌==◌, ◌<◌, Bool, true, false, if◌then◌else◌, List, [], ◌∷◌, ◌++◌}
-use Rattle.std.proofs.Common.{map, filter, length, Option, refl, ap, sym, subst, ◌∙◌, append_assoc, arith, ◌-◌, ◌≢◌, ne_eqb}
+use Rattle.std.proofs.Common.{◌≡◌, ℕ, zero, suc, ◌+◌, ◌*◌, ◌==◌, ◌<◌, Bool, true, false, if◌then◌else◌, List, [], ◌∷◌}
+use Rattle.std.proofs.Common.{◌++◌}
+use Rattle.std.proofs.Common.{map, filter, length, Option, refl, ap, sym, subst, ◌∙◌, append_assoc, arith, ◌-◌, ◌≢◌}
+use Rattle.std.proofs.Common.{ne_eqb}
 use Rattle.std.specs.Int.{bit_at}
 use Rattle.std.proofs.lemmas.List.{append-nil, map-append}
 use Rattle.std.proofs.lemmas.List.Elements.{filter-append}

@@ -1,6 +1,7 @@
 -- What the words tell when they are closed, said of the run that ends.
 use Rattle.std.proofs.Common.{◌≡◌, ◌≢◌, ◌⊎◌, ℕ, suc, ◌+◌, ◌*◌, ◌^◌, ◌<◌, ◌≤◌, ◌==◌, List, [], ◌∷◌, ◌++◌, length, map}
-use Rattle.std.proofs.Common.{get_or, drop, filter, replicate, Bool, true, false, cond, if◌then◌else◌, Some, length-append}
+use Rattle.std.proofs.Common.{get_or, drop, filter, replicate, Bool, true, false, cond, if◌then◌else◌, Some}
+use Rattle.std.proofs.Common.{length-append}
 use Rattle.std.proofs.Common.{Contains, refl, sym, ap, subst, ◌∙◌, arith, ⊎_elim, inl, inr}
 use Rattle.std.specs.List.{AllByRecursion, list_any}
 use Rattle.std.proofs.lemmas.List.{length-map, length-replicate}
@@ -106,7 +107,8 @@ pub gathering_made : (ds : List Device) (line : Core) → (line_after_gathering 
 gathering_made [] line = refl
 gathering_made (d ∷ ds) line = gathering_made ds line
 
-pub gathering_parts : (ds : List Device) (line : Core) → (line_after_gathering ds line).gathered ≡ map part_of ds ++ line.gathered
+pub gathering_parts : (ds : List Device) (line : Core) → (line_after_gathering ds line).gathered ≡ map part_of ds
+    ++ line.gathered
 gathering_parts [] line = refl
 gathering_parts (d ∷ ds) line = ap (λ (ps : List Part). part_of d ∷ ps) (gathering_parts ds line)
 
@@ -153,7 +155,8 @@ module _ (ready : Prepared) (is : IsReady ready) where
   pub all_gathered : (line : Core) → line ≡ line_then → AllGathered line.made line.gathered
   all_gathered line same number made =
       let made_then : Contains ready.line.made number =
-      subst (λ (ns : List ℕ). Contains ns number) (ap (λ (l : Core). l.made) same ∙ gathering_made ready.devices ready.line) made in
+      subst (λ (ns : List ℕ). Contains ns number) (ap (λ (l : Core). l.made) same
+      ∙ gathering_made ready.devices ready.line) made in
       let there = subst (λ (ns : List ℕ). Contains ns number) (sym is.each) ((is.made number).0 made_then) in
       let parts : line.gathered ≡ map part_of ready.devices ++ ready.line.gathered =
       ap (λ (l : Core). l.gathered) same ∙ gathering_parts ready.devices ready.line in

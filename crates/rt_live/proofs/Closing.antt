@@ -26,10 +26,12 @@ pub cut_before : (found : List (List ℕ)) → flat_map latches (found ++ [] ∷
 cut_before found = flat_map-append latches found ([] ∷ []) ∙ append-nil (flat_map latches found)
 
 -- the history is that of the script's devices and of the core's looks, where the lines are theirs
-pub closes_cut : (script : List Line) (found : List (List ℕ)) (last bits : List ℕ) (line : Core) (h : OneHistory line bits)
+pub closes_cut : (script : List Line) (found : List (List ℕ)) (last bits : List ℕ) (line : Core)
+    (h : OneHistory line bits)
     → AllByRecursion HasDeviceInRange script → line.calls ≡ flat_map latches (found ++ last ∷ [])
     → AllGathered line.made line.gathered
-    → ((p : Part) → Contains line.gathered p → map interrupt_asked p.calls ≡ map (λ irq. Some irq) (pends script p.line))
+    → ((p : Part) → Contains line.gathered p → map interrupt_asked p.calls
+    ≡ map (λ irq. Some irq) (pends script p.line))
     → ((number : ℕ) → Contains (devices script) number → Contains line.made number)
     → IsCutHistory script found last bits h.history
 closes_cut script found last bits line h ranges latched gathered asked made = record {

@@ -36,7 +36,8 @@ use Rattle.rt_live.proofs.Outputs.{live_whole, part_total, part_cut, balanced}
 use Rattle.rt_live.proofs.Settling.{latch_at}
 
 -- the run has ended: the lines of its devices were gathered, and it was closed with these rows
-module _ (ready : Prepared) (is : IsReady ready) (gone : ready.devices ≡ []) (ranges : AllByRecursion HasDeviceInRange ready.script)
+module _ (ready : Prepared) (is : IsReady ready) (gone : ready.devices ≡ [])
+    (ranges : AllByRecursion HasDeviceInRange ready.script)
     (rows : List AccountRow) (closed : Closes ready rows) where
   -- each number of the history but the core's is a device's, with its pends
   asked : (number : ℕ) → number ≢ 255
@@ -49,10 +50,12 @@ module _ (ready : Prepared) (is : IsReady ready) (gone : ready.devices ≡ []) (
         ∙ all_has _ ready.line.gathered p.0 is.gathered p.1.0)
     | no out ↦
         let named : numbers ready.line.gathered ≡ devices ready.script =
-        sym (ap (λ (ds : List Device). map (λ (d : Device). d.number) ds ++ numbers ready.line.gathered) gone) ∙ is.each in
+        sym (ap (λ (ds : List Device). map (λ (d : Device). d.number) ds ++ numbers ready.line.gathered) gone)
+        ∙ is.each in
         ap (map interrupt_asked) (closed.others number ne out)
         ∙ ap (map (λ (irq : ℕ). Some irq))
-        (sym (not_asked number ready.script ranges (λ there. out (subst (λ (ns : List ℕ). Contains ns number) (sym named) there))))
+        (sym (not_asked number ready.script ranges
+        (λ there. out (subst (λ (ns : List ℕ). Contains ns number) (sym named) there))))
   ]
 
   cut_history : (found : List (List ℕ)) (last : List ℕ) → ready.line.calls ≡ flat_map latches (found ++ last ∷ [])
@@ -146,7 +149,8 @@ module _ (ready : Prepared) (is : IsReady ready) (gone : ready.devices ≡ []) (
 
     -- a fault came in the line of the total
     pub completed_part : (x y : Option (List ℕ))
-        → Completes (turns ready.script) ready.line old next (λ found. TookPrefix x y (live_text old.image ready.script found))
+        → Completes (turns ready.script) ready.line old next
+        (λ found. TookPrefix x y (live_text old.image ready.script found))
         → TookPart old.image ready.script x y
     completed_part x y all =
         part_total old.image ready.script all.ends.found closed.history all.ends.many all.ends.whole
@@ -155,6 +159,7 @@ module _ (ready : Prepared) (is : IsReady ready) (gone : ready.devices ≡ []) (
     -- what `go` tells of a fault
     pub failed_part : (x y : Option (List ℕ))
         → Halts (turns ready.script) ready.line old next x y
-        ⊎ Completes (turns ready.script) ready.line old next (λ found. TookPrefix x y (live_text old.image ready.script found))
+        ⊎ Completes (turns ready.script) ready.line old next
+        (λ found. TookPrefix x y (live_text old.image ready.script found))
         → TookPart old.image ready.script x y
     failed_part x y failed = ⊎_elim (halted_part x y) (completed_part x y) failed

@@ -29,7 +29,8 @@ use Rattle.rt_live.proofs.Woven.{looks-append, interleaving_on, steps_behind}
 abbrev pub lines_and_total : List Turn → Machine → ℕ → List (List ℕ) → List ℕ
 lines_and_total ts m total found = lines_of m (interleaving ts found) ++ total_text total
 
-module _ (ts : List Turn) (calls calls' : List Call) (a b : Machine) (x y z : Option (List ℕ)) (held : List ℕ) (total : ℕ)
+module _ (ts : List Turn) (calls calls' : List Call) (a b : Machine) (x y z : Option (List ℕ)) (held : List ℕ)
+    (total : ℕ)
     (empty : held ≡ []) (counted : total ≡ b.steps) (run : Goes ts calls calls' a b x y) where
   last_bytes : held ++ total_text total ≡ total_text b.steps
   last_bytes = ap (λ h. h ++ total_text total) empty ∙ ap total_text counted
@@ -98,7 +99,8 @@ text_is m n script found fresh run =
     ∙ ap (λ c. put 0 c ++ total_text (steps es)) fresh.core
     ∙ ap (λ t. put 0 (reset img) ++ t) (sym (append-nil (total_text (steps es))))
 
-module _ (script : List Line) (us : List Turn) (calls calls' calls'' : List Call) (a b c : Machine) (x y : Option (List ℕ))
+module _ (script : List Line) (us : List Turn) (calls calls' calls'' : List Call) (a b c : Machine)
+    (x y : Option (List ℕ))
     (fresh : IsFresh a) (all : own_turns script ++ us ≡ turns script)
     (own : Goes (own_turns script) calls calls' a b x y) where
   abbrev ts : List Turn
@@ -117,7 +119,8 @@ module _ (script : List Line) (us : List Turn) (calls calls' calls'' : List Call
     pub both_lines : lines_of a (interleaving ts own.found) ++ lines_and_total us b c.steps last.found
         ≡ live_text a.image script found
     both_lines =
-        sym (append_assoc (lines_of a (interleaving ts own.found)) (lines_of b (interleaving us last.found)) (total_text c.steps))
+        sym (append_assoc (lines_of a (interleaving ts own.found)) (lines_of b (interleaving us last.found))
+        (total_text c.steps))
         ∙ ap (λ t. t ++ total_text c.steps)
         (sym (lines_split (interleaving ts own.found) (interleaving us last.found) a b own.sends.leads))
         ∙ ap (λ es. lines_of a es ++ total_text c.steps) (sym (interleaving_on ts us own.found last.found own.many))

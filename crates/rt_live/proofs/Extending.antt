@@ -79,7 +79,8 @@ module _ (script : List Line) (found : List (List ℕ)) (last words : List ℕ) 
     extend_look : (n : ℕ) → looks ts ≡ length found + suc n → FinishesLook words last (suc n)
         → Extends script ts found last
     extend_look n count more =
-        let interleavings = interleaving_finished ts found more.begins.others last more.begins.rest (omega (arith, count)) in
+        let interleavings = interleaving_finished ts found more.begins.others last more.begins.rest
+        (omega (arith, count)) in
         record {
           all = found ++ more.finishes.added;
           many = omega (arith, count, more.finishes.many, length-append found more.finishes.added);
@@ -112,7 +113,8 @@ module _ (script : List Line) (found : List (List ℕ)) (last words : List ℕ) 
     long : length words ≡ 16
     long = led_as_many (zeros 16) words history cut.legal
 
-    extend_more : Settles ts found last words → length last < 16 → length found < looks ts → Extends script ts found last
+    extend_more : Settles ts found last words → length last < 16 → length found < looks ts
+        → Extends script ts found last
     extend_more settles short few =
         let n : ℕ = looks ts - suc (length found) in
         extend_look n (omega (arith, few))

@@ -101,7 +101,8 @@ finish words last n long short none =
     let more : Finishes left [] n = looks_more left n (left_long m words long short) none in
     let now : List Call = latches_from m rest in
     let joined : latches last ++ now ≡ latches (last ++ rest) =
-    ap (λ k. latches last ++ latches_from k rest) (let e : m ≡ 0 + m = omega arith in e) ∙ sym (latches_on 0 last rest) in
+    ap (λ k. latches last ++ latches_from k rest) (let e : m ≡ 0 + m = omega arith in e)
+    ∙ sym (latches_on 0 last rest) in
     let all : Finishes words last (suc n) = record {
       added = (last ++ rest) ∷ more.added;
       calls = now ++ more.calls;
@@ -123,7 +124,8 @@ take_zeros (suc m) [] short none = absurd (omega (arith, short))
 take_zeros (suc m) (w ∷ ws) short none =
     let first : w ≡ 0 = none 0 (omega arith) in
     ap (λ (x : ℕ). x ∷ take m ws) first
-    ∙ ap (λ (t : List ℕ). 0 ∷ t) (take_zeros m ws (omega (arith, short)) (λ k below. none (suc k) (omega (arith, below))))
+    ∙ ap (λ (t : List ℕ). 0 ∷ t) (take_zeros m ws (omega (arith, short))
+    (λ k below. none (suc k) (omega (arith, below))))
 
 -- nothing is left where the first words are 0
 pub nothing_left : (m : ℕ) (words : List ℕ) → length words ≡ 16 → m ≤ 16 → ((k : ℕ) → k < m → get_or words k 0 ≡ 0)

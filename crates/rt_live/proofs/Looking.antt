@@ -99,7 +99,8 @@ module _ (calls calls' : List Call) (a b : Machine) (x y : Option (List ℕ)) wh
           short = omega arith;
           latched = all_calls;
           breaks =
-              breaks_before (look_arrivals words ++ []) [] a c x z (breaks_before (look_arrivals words) [] a c x z here);
+              breaks_before (look_arrivals words ++ []) [] a c x z
+              (breaks_before (look_arrivals words) [] a c x z here);
         }
 
 -- a look, and then a core step
@@ -153,7 +154,8 @@ step_look_cut calls calls' a b x y cut = at cut.found cut.last cut.few cut.whole
   where
     at : (found : List (List ℕ)) (last : List ℕ) → IsFew (Looks ∷ []) found last → AllByRecursion IsWholeLook found
         → length last < 16 → calls' ≡ calls ++ flat_map latches (found ++ last ∷ [])
-        → Breaks (interleaving (Looks ∷ []) found ++ look_arrivals last) a b x y → Stops (Happens Step ∷ []) calls calls' a b x y
+        → Breaks (interleaving (Looks ∷ []) found ++ look_arrivals last) a b x y
+        → Stops (Happens Step ∷ []) calls calls' a b x y
     at [] last few whole short latched breaks = record {
       found = [];
       last = last;

@@ -1,6 +1,7 @@
 -- What is made for a run: bits of interrupts, rows, and devices with their lines.
 use Rattle.std.proofs.Common.{◌≡◌, ℕ, zero, suc, ◌+◌, ◌*◌, ◌/◌, ◌%◌, ◌^◌, ◌<◌, ◌==◌, ◌⊎◌, inl, inr, Bool, true, false}
-use Rattle.std.proofs.Common.{if◌then◌else◌, List, [], ◌∷◌, ◌++◌, map, filter, flat_map, replicate, length, take, get_or, set}
+use Rattle.std.proofs.Common.{if◌then◌else◌, List, [], ◌∷◌, ◌++◌, map, filter, flat_map, replicate, length, take}
+use Rattle.std.proofs.Common.{get_or, set}
 use Rattle.std.proofs.Common.{bit_or, Contains, Some, refl, ap, sym, subst, ◌∙◌, arith}
 use Rattle.std.specs.Int.{bit_at}
 use Rattle.std.specs.Prelude.{◌↔◌}

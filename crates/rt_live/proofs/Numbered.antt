@@ -49,7 +49,8 @@ passes_stays test (y ∷ xs) x is passes =
     kept false more = more
 
 -- no line is one of the device
-none_pends : (number : ℕ) (script : List Line) → list_any (is_of_device number) script ≡ false → pends script number ≡ []
+none_pends : (number : ℕ) (script : List Line) → list_any (is_of_device number) script ≡ false → pends script number
+    ≡ []
 none_pends number [] none = refl
 none_pends number (Steps n ∷ script) none = none_pends number script none
 none_pends number (Ticks n ∷ script) none = none_pends number script none
@@ -58,7 +59,8 @@ none_pends number (Device d irq n ∷ script) none = by (λ rest. none_pends num
   where
     by : (list_any (is_of_device number) script ≡ false → pends script number ≡ []) → (b : Bool) → d == number ≡ b
         → pends (Device d irq n ∷ script) number ≡ []
-    by others true is = let no_ : true ≡ false = sym (ap (λ c. c || list_any (is_of_device number) script) is) ∙ none in absurd cc
+    by others true is = let no_ : true ≡ false = sym (ap (λ c. c || list_any (is_of_device number) script) is) ∙ none in
+        absurd cc
     by others false is =
         ap (λ c. cond c (replicate n irq) [] ++ pends script number) is
         ∙ others (sym (ap (λ c. c || list_any (is_of_device number) script) is) ∙ none)

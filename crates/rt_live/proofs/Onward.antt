@@ -12,7 +12,8 @@ use Rattle.rt_words.specs.declared.call.Entry.{Entry}
 use Rattle.rt_live.specs.Interleaving.{latches_from, latches}
 
 -- a history, and one that goes on
-pub leads_on : (a b c : List ℕ) (front behind : List Entry) → Leads a front b → Leads b behind c → Leads a (front ++ behind) c
+pub leads_on : (a b c : List ℕ) (front behind : List Entry) → Leads a front b → Leads b behind c
+    → Leads a (front ++ behind) c
 leads_on a b c [] behind first then = subst (λ (w : List ℕ). Leads w behind c) (sym first) then
 leads_on a b c (e ∷ es) behind first then = (first.0, leads_on (after a e.call) b c es behind first.1 then)
 
@@ -80,13 +81,15 @@ looked_from k done (x ∷ rest) long =
     sym (ap (λ n. set (done ++ x ∷ rest) n 0) long) ∙ set_behind done x rest ∙ sym (append_assoc done (0 ∷ []) rest) in
     let longer : length (done ++ 0 ∷ []) ≡ suc k = omega (arith, long, length-append done (0 ∷ [])) in (
       there,
-      subst (λ (w : List ℕ). Leads w (entries 255 (latches_from (suc k) rest)) (done ++ zeros (length (x ∷ rest)))) (sym left)
+      subst (λ (w : List ℕ). Leads w (entries 255 (latches_from (suc k) rest)) (done ++ zeros (length (x ∷ rest))))
+          (sym left)
           (subst (λ (w : List ℕ). Leads ((done ++ 0 ∷ []) ++ rest) (entries 255 (latches_from (suc k) rest)) w)
           (append_assoc done (0 ∷ []) (zeros (length rest)))
           (looked_from (suc k) (done ++ 0 ∷ []) rest longer)),
     )
 
-pub latches_on : (k : ℕ) (xs ys : List ℕ) → latches_from k (xs ++ ys) ≡ latches_from k xs ++ latches_from (k + length xs) ys
+pub latches_on : (k : ℕ) (xs ys : List ℕ) → latches_from k (xs ++ ys) ≡ latches_from k xs
+    ++ latches_from (k + length xs) ys
 latches_on k [] ys = ap (λ n. latches_from n ys) (let e : k ≡ k + 0 = omega arith in e)
 latches_on k (x ∷ xs) ys =
     ap (λ (t : List Call). Latch k x ∷ t)

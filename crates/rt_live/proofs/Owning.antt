@@ -176,7 +176,8 @@ module _ (script : List Line) (i : ℕ) (line : Line) (below : i < length script
         → Goes (own_turns (take (i + 1) script)) calls calls'' a c x z
     own_line_more first second =
         subst (λ ts. Goes ts calls calls'' a c x z) (sym own_more)
-        (goes_on (own_turns (take i script)) (repeated_turns (count_of line) (own_turn line)) a b c x y z calls calls' calls''
+        (goes_on (own_turns (take i script)) (repeated_turns (count_of line) (own_turn line)) a b c x y z calls calls'
+        calls''
         first second)
 
     pub own_line_cut : Goes (own_turns (take i script)) calls calls' a b x y

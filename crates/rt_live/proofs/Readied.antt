@@ -5,7 +5,8 @@ use Rattle.std.proofs.Common.{find, filter, take, drop, inl, inr, refl, ap, sym,
 use Rattle.std.specs.Prelude.{All, ◌↔◌}
 use Rattle.std.specs.List.{AllByRecursion, list_any}
 use Rattle.std.proofs.lemmas.Bool.{eqb-true, false≢true}
-use Rattle.std.proofs.lemmas.List.{append-nil, take_all, drop_all, map-append, length-append, length-map, length-replicate}
+use Rattle.std.proofs.lemmas.List.{append-nil, take_all, drop_all, map-append, length-append, length-map}
+use Rattle.std.proofs.lemmas.List.{length-replicate}
 use Rattle.std.proofs.lemmas.List.Sums.{sum_by-cons}
 use Rattle.rt_lemmas.proofs.Bools.{true_and_false}
 use Rattle.rt_lemmas.proofs.Lists.{all_map}
@@ -68,7 +69,8 @@ module _ (words : Row) (script : List Line) where
   all_ended (x ∷ old) [] same work waits = absurd (omega (arith, same))
   all_ended (x ∷ old) (y ∷ new) same work waits =
       let first : Works (requests x.script.items) x y = work 0 x (omega arith) in
-      let rest = all_ended old new (omega (arith, same)) (λ i d within. work (suc i) d (omega (arith, within))) waits.1 in (
+      let rest = all_ended old new (omega (arith, same)) (λ i d within. work (suc i) d (omega (arith, within)))
+      waits.1 in (
         (one_ended x y first waits.0, rest.0),
         ap (λ n. n ∷ device_numbers new) first.number ∙ ap (λ ns. x.number ∷ ns) rest.1,
       )
@@ -122,7 +124,8 @@ module _ (ready : Prepared) (is : IsReady ready) (line : Core) (same : IsSameLin
   }
 
   module _ (ended : List Device) (have : AllByRecursion (HasEnded words script) ended)
-      (known : device_numbers ended ≡ device_numbers ready.devices) (next : Core) (gathers : next ≡ line_after_gathering ended line)
+      (known : device_numbers ended ≡ device_numbers ready.devices) (next : Core)
+      (gathers : next ≡ line_after_gathering ended line)
       (rows : List AccountRow) (counted : AllByRecursion (IsCounted next.gathered) rows)
       (irqs : irqs_of rows ≡ irqs_of ready.rows) where
     all_parts : next.gathered ≡ map part_of ended ++ ready.line.gathered
@@ -134,7 +137,8 @@ module _ (ready : Prepared) (is : IsReady ready) (line : Core) (same : IsSameLin
     ready_gathered = record {
       scripted = is.scripted;
       core_words =
-          ap (λ (l : Core). l.words) gathers ∙ same_words ended line ∙ ap (λ (l : Core). l.words) same.1 ∙ is.core_words;
+          ap (λ (l : Core). l.words) gathers ∙ same_words ended line ∙ ap (λ (l : Core). l.words) same.1
+          ∙ is.core_words;
       many = is.many;
       waiting = tt;
       gathered =
@@ -314,7 +318,8 @@ module _ (names : Names) (script : List Line) (named : HasNames names script) (r
         (counted_empty (declared_irqs names) (λ irq there.
         in_bounds irq ((may irq).1 (subst (λ is. Contains is irq) (sym rows_declared) there))))
 
-    pub made_ready : IsScript script → (line : Core) (ds : List Device) → row_count words ≡ 16 → HasMadeLines line (devices script) words
+    pub made_ready : IsScript script → (line : Core) (ds : List Device) → row_count words ≡ 16
+        → HasMadeLines line (devices script) words
         → device_numbers ds ≡ devices script → AllByRecursion (IsWaiting words script) ds
         → IsReady (record { script = script; words = words; line = line; devices = ds; rows = rows })
     made_ready scripted line ds many has known waits = record {
@@ -365,7 +370,8 @@ module _ (script : List Line) (scripted : IsScript script) where
     where
       one_length : (e : Device) → HasEnded words script e → length e.line.calls ≡ length (pends script e.number)
       one_length e is =
-          sym (length-map e.line.calls interrupt_asked) ∙ ap length is.made ∙ length-map (pends script e.number) (λ irq. Some irq)
+          sym (length-map e.line.calls interrupt_asked) ∙ ap length is.made
+          ∙ length-map (pends script e.number) (λ irq. Some irq)
 
 length-filter : {A : Type 0} (p : A → Bool) (xs : List A) → length (filter p xs) ≤ length xs
 length-filter p [] = omega arith

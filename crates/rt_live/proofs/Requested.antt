@@ -1,7 +1,8 @@
--- How often a history that `live` allows raises, merges and latches an interrupt: as often as the script has its devices
--- pend it.
+-- How often a history that `live` allows raises, merges and latches an interrupt: as often as the script has its
+-- devices pend it.
 use Rattle.std.proofs.Common.{◌≡◌, ◌≢◌, ℕ, zero, suc, ◌+◌, ◌/◌, ◌%◌, ◌<◌, ◌≤◌, ◌==◌, Bool, cond, List, [], ◌∷◌, ◌++◌}
-use Rattle.std.proofs.Common.{map, flat_map, replicate, count_by, sum_by, Contains, Some, None, refl, sym, ap, subst, ◌∙◌}
+use Rattle.std.proofs.Common.{map, flat_map, replicate, count_by, sum_by, Contains, Some, None, refl, sym, ap, subst}
+use Rattle.std.proofs.Common.{◌∙◌}
 use Rattle.std.proofs.Common.{arith, eq-eqb, ne_eqb, ⊎_elim}
 use Rattle.std.specs.List.{AllByRecursion}
 use Rattle.std.specs.Int.{bit_at}
@@ -72,7 +73,8 @@ pends_count irq (Pend n Merged ∷ cs) (i ∷ irqs) e =
       sum_by-cons (λ x. one_if (x == irq)) i irqs,
     )
 
-look_counts_none : (irq k : ℕ) (words : List ℕ) (calls : List Call) → raised_count irq calls ≡ 0 → merged_count irq calls ≡ 0
+look_counts_none : (irq k : ℕ) (words : List ℕ) (calls : List Call) → raised_count irq calls ≡ 0
+    → merged_count irq calls ≡ 0
     → (raised_count irq (latches_from k words ++ calls) ≡ 0) × (merged_count irq (latches_from k words ++ calls) ≡ 0)
 look_counts_none irq k [] calls r m = (r, m)
 look_counts_none irq k (w ∷ ws) calls r m =
@@ -117,7 +119,8 @@ below_apart history zero = tt
 below_apart history (suc n) =
     ((λ is. let l = below_all history n n is in omega (arith, l)), below_apart history n)
 
-below_is : (history : List Entry) (n : ℕ) (q : Part) → Contains (parts_below history n) q → part history q.line ≡ q.calls
+below_is : (history : List Entry) (n : ℕ) (q : Part) → Contains (parts_below history n) q → part history q.line
+    ≡ q.calls
 unfolding parts_below
 below_is history zero q is = absurd (in_none q is)
 below_is history (suc n) q is =
@@ -229,7 +232,8 @@ all_asked irq (line ∷ script) ranges =
 module _ (script : List Line) (found : List (List ℕ)) (history : List Entry) (is : IsHistory script found history)
     (ranges : AllByRecursion HasDeviceInRange script) where
   none_above : (number : ℕ) → number ≢ 255 → 16 ≤ number → part history number ≡ []
-  none_above number ne out = empty (part history number) (is.devices number ne ∙ ap (map (λ (irq : ℕ). Some irq)) (none_asked script number out ranges))
+  none_above number ne out = empty (part history number) (is.devices number ne
+      ∙ ap (map (λ (irq : ℕ). Some irq)) (none_asked script number out ranges))
     where
       empty : (calls : List Call) → map interrupt_asked calls ≡ [] → calls ≡ []
       empty [] e = refl
@@ -261,7 +265,8 @@ module _ (script : List Line) (found : List (List ℕ)) (history : List Entry) (
       )
 
   -- raised and merged together are the pends of all devices
-  pub all_counted : (irq : ℕ) → raised_count irq (calls_in history) + merged_count irq (calls_in history) ≡ device_pends irq script
+  pub all_counted : (irq : ℕ) → raised_count irq (calls_in history) + merged_count irq (calls_in history)
+      ≡ device_pends irq script
   all_counted irq =
       let none = looks_count_none irq found in
       omega (

@@ -17,7 +17,8 @@ use Rattle.rt_live.proofs.Woven.{looks-append}
 use Rattle.rt_live.proofs.Numbered.{contains_front, contains_behind}
 
 -- the latch of each word of a look
-latch_of : (n k : ℕ) (words : List ℕ) → k < length words → Contains (latches_from n words) (Latch (n + k) (get_or words k 0))
+latch_of : (n k : ℕ) (words : List ℕ) → k < length words → Contains (latches_from n words)
+    (Latch (n + k) (get_or words k 0))
 latch_of n k [] within = absurd (omega (arith, within))
 latch_of n zero (w ∷ ws) within =
     subst (λ m. Contains (latches_from n (w ∷ ws)) (Latch m w)) (let e : n ≡ n + 0 = omega arith in e)
@@ -72,7 +73,8 @@ latched_look line front words behind whole since k below = (
   get_or words k 0,
   subst (λ (cs : List Call). Contains cs (Latch k (get_or words k 0))) (sym since)
       (contains_behind front (latches words ++ behind) (Latch k (get_or words k 0))
-      (contains_front (latches words) behind (Latch k (get_or words k 0)) (latch_at words k (omega (arith, below, whole))))),
+      (contains_front (latches words) behind (Latch k (get_or words k 0))
+      (latch_at words k (omega (arith, below, whole))))),
 )
 
 -- behind the core's own turns, with the look alone
@@ -86,7 +88,13 @@ latched_added ts us own found last line front many whole since = record {
       (contains_behind front (flat_map latches (found ++ last ∷ [])) call
       (subst (λ (cs : List Call). Contains cs call) (sym (flat_map-append latches found (last ∷ [])))
       (contains_behind (flat_map latches found) (latches last ++ []) call (contains_front (latches last) [] call is))));
-  all = λ done. first found whole since (omega (arith, done, many, looks-append ts (Looks ∷ us), length-append own found));
+  all = λ done. first found whole since (omega (
+    arith,
+    done,
+    many,
+    looks-append ts (Looks ∷ us),
+    length-append own found,
+  ));
 }
   where
     first : (f : List (List ℕ)) → AllByRecursion IsWholeLook f

@@ -150,7 +150,8 @@ made_parts (d ∷ devices) parts =
       made_parts devices parts,
     )
 
-module _ (all rest : List Device) (old new : Core) (left : List Device) (device : Device) (gathers : GathersLast all left old new)
+module _ (all rest : List Device) (old new : Core) (left : List Device) (device : Device)
+    (gathers : GathersLast all left old new)
     (popped : left ≡ rest ++ device ∷ []) where
   whole : all ≡ rest ++ device ∷ gathers.done
   whole =

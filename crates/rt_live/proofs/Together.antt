@@ -17,7 +17,8 @@ use Rattle.rt_live.specs.Written.{live_text}
 use Rattle.rt_live.specs.declared.account.AccountRow.{AccountRow}
 use Rattle.rt_live.proofs.Concluded.{failed_part, live_text_is, account_part}
 
-module _ (ready : Prepared) (is : IsReady ready) (gone : ready.devices ≡ []) (script : List Line) (same : ready.script ≡ script)
+module _ (ready : Prepared) (is : IsReady ready) (gone : ready.devices ≡ []) (script : List Line)
+    (same : ready.script ≡ script)
     (ranges : AllByRecursion HasDeviceInRange ready.script) (rows : List AccountRow) (closed : Closes ready rows)
     (old next : Machine) (fresh : IsFresh old) (x y : Option (List ℕ)) where
   -- the sink failed while the core ran
@@ -30,7 +31,8 @@ module _ (ready : Prepared) (is : IsReady ready) (gone : ready.devices ≡ []) (
       → TookPart old.image s x y) same
       (failed_part ready is gone ranges rows closed old next fresh x y)
 
-  module _ (irqs : irqs_of ready.rows ≡ declared_irqs old.image.names) (names : Names) (named : names ≡ next.image.names) (z : Option (List ℕ)) where
+  module _ (irqs : irqs_of ready.rows ≡ declared_irqs old.image.names) (names : Names)
+      (named : names ≡ next.image.names) (z : Option (List ℕ)) where
     abbrev Whole : List Line → Type 0
     Whole s = Completes (turns s) ready.line old next (λ found. Took x y (live_text old.image s found))
 
@@ -45,8 +47,10 @@ module _ (ready : Prepared) (is : IsReady ready) (gone : ready.devices ≡ []) (
         → (bytes : List ℕ) × IsLiveText old.image s bytes × Took x z bytes) same
         (λ all took. (
           live_text old.image ready.script all.ends.found ++ account_text old.image.names rows,
-          live_text_is ready is gone ranges rows closed old next fresh (λ found. Took x y (live_text old.image ready.script found)) all irqs,
-          took_on x y z (live_text old.image ready.script all.ends.found) (account_text old.image.names rows) all.ends.wrote
+          live_text_is ready is gone ranges rows closed old next fresh
+              (λ found. Took x y (live_text old.image ready.script found)) all irqs,
+          took_on x y z (live_text old.image ready.script all.ends.found) (account_text old.image.names rows)
+              all.ends.wrote
               (subst (λ (n : Names). Took y z (account_text n rows)) (old_names ready.script all) took),
         ))
 
@@ -55,5 +59,6 @@ module _ (ready : Prepared) (is : IsReady ready) (gone : ready.devices ≡ []) (
     wrote_part =
         subst (λ (s : List Line). Whole s → TookPrefix y z (account_text names rows) → TookPart old.image s x z) same
         (λ all part.
-        account_part ready is gone ranges rows closed old next fresh (λ found. Took x y (live_text old.image ready.script found)) all irqs x y z all.ends.wrote
+        account_part ready is gone ranges rows closed old next fresh
+        (λ found. Took x y (live_text old.image ready.script found)) all irqs x y z all.ends.wrote
         (subst (λ (n : Names). TookPrefix y z (account_text n rows)) (old_names ready.script all) part))

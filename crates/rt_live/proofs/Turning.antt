@@ -12,7 +12,8 @@ use Rattle.rt_run.proofs.Sent.{sends_none, sends_on, breaks_behind, breaks_befor
 use Rattle.rt_words.specs.declared.call.Call.{Call}
 use Rattle.rt_live.specs.Interleaving.{Turn, looks, look_arrivals, latches, interleaving}
 use Rattle.rt_live.specs.Going.{IsWholeLook, Goes, Stops}
-use Rattle.rt_live.proofs.Woven.{looks-append, interleaving_on, interleaving_short, steps_woven, ticks_woven, looks_below, all_latches}
+use Rattle.rt_live.proofs.Woven.{looks-append, interleaving_on, interleaving_short, steps_woven, ticks_woven}
+use Rattle.rt_live.proofs.Woven.{looks_below, all_latches}
 
 -- no turn was done
 pub goes_none : (calls : List Call) (m : Machine) (x : Option (List ℕ)) → Goes [] calls calls m m x x
@@ -25,7 +26,8 @@ goes_none calls m x = record {
 }
 
 -- the calls of looks and of those behind them
-pub calls_on : (calls calls' calls'' : List Call) (found more : List (List ℕ)) → calls' ≡ calls ++ flat_map latches found
+pub calls_on : (calls calls' calls'' : List Call) (found more : List (List ℕ)) → calls' ≡ calls
+    ++ flat_map latches found
     → calls'' ≡ calls' ++ flat_map latches more → calls'' ≡ calls ++ flat_map latches (found ++ more)
 calls_on calls calls' calls'' found more first second =
     second ∙ ap (λ cs. cs ++ flat_map latches more) first
@@ -65,7 +67,8 @@ module _ (ts us : List Turn) (a b c : Machine) (x y z : Option (List ℕ)) (call
         ∙ ap (λ fs. calls ++ flat_map latches fs) (sym (append_assoc first.found cut.found (cut.last ∷ [])));
     breaks =
         subst (λ es. Breaks es a c x z) events
-        (breaks_behind (interleaving ts first.found) (interleaving us cut.found ++ look_arrivals cut.last) a b c x y z first.sends
+        (breaks_behind (interleaving ts first.found) (interleaving us cut.found ++ look_arrivals cut.last) a b c x y z
+        first.sends
         cut.breaks);
   }
     where
@@ -112,14 +115,17 @@ module _ (ts us : List Turn) (a b : Machine) (x y : Option (List ℕ)) (calls ca
 
       short : length cut.found < looks ts → Breaks (interleaving (ts ++ us) cut.found ++ look_arrivals cut.last) a b x y
       short less =
-          subst (λ es. Breaks (es ++ look_arrivals cut.last) a b x y) (sym (interleaving_short ts us cut.found less)) cut.breaks
+          subst (λ es. Breaks (es ++ look_arrivals cut.last) a b x y) (sym (interleaving_short ts us cut.found less))
+          cut.breaks
 
       alone : cut.last ≡ [] → Breaks (interleaving ts cut.found) a b x y
       alone none =
           subst (λ es. Breaks es a b x y)
-          (ap (λ ws. interleaving ts cut.found ++ look_arrivals ws) none ∙ append-nil (interleaving ts cut.found)) cut.breaks
+          (ap (λ ws. interleaving ts cut.found ++ look_arrivals ws) none ∙ append-nil (interleaving ts cut.found))
+          cut.breaks
 
-      all : length cut.found ≡ looks ts → interleaving (ts ++ us) cut.found ≡ interleaving ts cut.found ++ interleaving us []
+      all : length cut.found ≡ looks ts → interleaving (ts ++ us) cut.found ≡ interleaving ts cut.found
+          ++ interleaving us []
       all many =
           ap (interleaving (ts ++ us)) (sym (append-nil cut.found)) ∙ interleaving_on ts us cut.found [] many
 

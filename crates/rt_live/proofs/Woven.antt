@@ -6,7 +6,8 @@ use Rattle.std.proofs.lemmas.List.{length-append}
 use Rattle.rt_ids.specs.Event.{Event, Arrive, Tick, Step, steps}
 use Rattle.rt_run.proofs.Advancing.{steps-append}
 use Rattle.rt_run.proofs.Known.{ticks}
-use Rattle.rt_live.specs.Interleaving.{Turn, Happens, Looks, looks, arrivals_from, look_arrivals, latches_from, latches, interleaving}
+use Rattle.rt_live.specs.Interleaving.{Turn, Happens, Looks, looks, arrivals_from, look_arrivals, latches_from, latches}
+use Rattle.rt_live.specs.Interleaving.{interleaving}
 use Rattle.rt_live.specs.Going.{IsWholeLook}
 
 pub looks-append : (ts us : List Turn) → looks (ts ++ us) ≡ looks ts + looks us
@@ -24,7 +25,8 @@ pub interleaving_on : (ts us : List Turn) (found more : List (List ℕ)) → len
 interleaving_on [] us [] more many = refl
 interleaving_on [] us (ws ∷ found) more many = absurd (omega (arith, many))
 interleaving_on (Happens Tick ∷ ts) us found more many = ap (λ es. Tick ∷ es) (interleaving_on ts us found more many)
-interleaving_on (Happens (Arrive irq) ∷ ts) us found more many = ap (λ es. Arrive irq ∷ es) (interleaving_on ts us found more many)
+interleaving_on (Happens (Arrive irq) ∷ ts) us found more many = ap (λ es. Arrive irq ∷ es)
+    (interleaving_on ts us found more many)
 interleaving_on (Happens Step ∷ ts) us [] more many = absurd (omega (arith, many))
 interleaving_on (Happens Step ∷ ts) us (ws ∷ found) more many =
     ap (λ es. look_arrivals ws ++ Step ∷ es) (interleaving_on ts us found more (omega (arith, many)))
@@ -39,7 +41,8 @@ pub interleaving_short : (ts us : List Turn) (found : List (List ℕ)) → lengt
     → interleaving (ts ++ us) found ≡ interleaving ts found
 interleaving_short [] us found few = absurd (omega (arith, few))
 interleaving_short (Happens Tick ∷ ts) us found few = ap (λ es. Tick ∷ es) (interleaving_short ts us found few)
-interleaving_short (Happens (Arrive irq) ∷ ts) us found few = ap (λ es. Arrive irq ∷ es) (interleaving_short ts us found few)
+interleaving_short (Happens (Arrive irq) ∷ ts) us found few = ap (λ es. Arrive irq ∷ es)
+    (interleaving_short ts us found few)
 interleaving_short (Happens Step ∷ ts) us [] few = refl
 interleaving_short (Happens Step ∷ ts) us (ws ∷ found) few =
     ap (λ es. look_arrivals ws ++ Step ∷ es) (interleaving_short ts us found (omega (arith, few)))
@@ -72,7 +75,11 @@ steps_woven (Happens Step ∷ ts) [] = omega arith
 steps_woven (Happens Step ∷ ts) (ws ∷ found) =
     omega (arith, steps_behind (arrivals_from 0 ws) (Step ∷ interleaving ts found), steps_woven ts found)
 steps_woven (Looks ∷ ts) [] = omega arith
-steps_woven (Looks ∷ ts) (ws ∷ found) = omega (arith, steps_behind (arrivals_from 0 ws) (interleaving ts found), steps_woven ts found)
+steps_woven (Looks ∷ ts) (ws ∷ found) = omega (
+  arith,
+  steps_behind (arrivals_from 0 ws) (interleaving ts found),
+  steps_woven ts found,
+)
 
 pub ticks_woven : (ts : List Turn) (found : List (List ℕ)) → ticks (interleaving ts found) ≤ length ts
 ticks_woven [] found = omega arith
@@ -82,7 +89,11 @@ ticks_woven (Happens Step ∷ ts) [] = omega arith
 ticks_woven (Happens Step ∷ ts) (ws ∷ found) =
     omega (arith, no_ticks (arrivals_from 0 ws) (Step ∷ interleaving ts found), ticks_woven ts found)
 ticks_woven (Looks ∷ ts) [] = omega arith
-ticks_woven (Looks ∷ ts) (ws ∷ found) = omega (arith, no_ticks (arrivals_from 0 ws) (interleaving ts found), ticks_woven ts found)
+ticks_woven (Looks ∷ ts) (ws ∷ found) = omega (
+  arith,
+  no_ticks (arrivals_from 0 ws) (interleaving ts found),
+  ticks_woven ts found,
+)
 
 pub looks_below : (ts : List Turn) → looks ts ≤ length ts
 looks_below [] = omega arith

@@ -1,5 +1,5 @@
--- The account of a run under `live`, over the calls of all lines: for each declared interrupt, in order, how often it was
--- raised, merged and latched, and whether it is left pending. The form of its lines is this project's own. The
+-- The account of a run under `live`, over the calls of all lines: for each declared interrupt, in order, how often it
+-- was raised, merged and latched, and whether it is left pending. The form of its lines is this project's own. The
 -- definitions count in a list of calls; the code adds up what each line counted by itself.
 use Rattle.std.specs.Prelude.{ℕ, List, [], ◌∷◌, ◌++◌, map, flat_map, codes, decimal}
 use Rattle.rt_ids.specs.Names.{Names}

@@ -10,8 +10,8 @@ use Rattle.rt_live.specs.Ready.{Prepared, irqs_of}
 use Rattle.rt_live.specs.declared.account.AccountRow.{AccountRow}
 
 -- One thread could have made the calls of all lines, and they left these words. The calls of the number 255 are the
--- core's, those of a gathered line's number are that line's, and no other line made a call. Where the devices' lines had
--- been gathered, each word that was latched behind the last of them is 0. The rows are the account of the calls.
+-- core's, those of a gathered line's number are that line's, and no other line made a call. Where the devices' lines
+-- had been gathered, each word that was latched behind the last of them is 0. The rows are the account of the calls.
 pub record Closes (ready : Prepared) (rows : List AccountRow) : Type 0 where
   pub history : List Entry
   pub left : List ℕ

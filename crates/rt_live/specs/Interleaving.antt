@@ -1,9 +1,9 @@
 -- The order in which things happen to the core under `live`, and the interrupts that device threads pend. It is this
 -- project's own. A look is one latch of every word, from word 0 up; what it found is the list of the words that the
--- latches answered, and the bits of these words arrive at the core, the lowest first. The core's own lines of the script
--- happen in order, each core step behind a look; then comes one look alone, and then as many core steps again, each
--- behind a look, so that what devices pended last is served too. The lists say what happened, wherever the program kept
--- it: it latches word by word and writes each event's lines as it happens.
+-- latches answered, and the bits of these words arrive at the core, the lowest first. The core's own lines of the
+-- script happen in order, each core step behind a look; then comes one look alone, and then as many core steps again,
+-- each behind a look, so that what devices pended last is served too. The lists say what happened, wherever the program
+-- kept it: it latches word by word and writes each event's lines as it happens.
 use Rattle.std.specs.Prelude.{ℕ, zero, suc, List, [], ◌∷◌, ◌++◌, map, replicate}
 use Rattle.rt_ids.specs.Event.{Event, Arrive, Tick, Step, steps}
 use Rattle.rt_ids.specs.Arrivals.{arrivals}

@@ -1,5 +1,5 @@
--- The text that `live` writes of a run: the trace of the image, from reset, under the interleaving of the script's own events
--- with what the looks found, with its total of core steps. It is this project's own.
+-- The text that `live` writes of a run: the trace of the image, from reset, under the interleaving of the script's own
+-- events with what the looks found, with its total of core steps. It is this project's own.
 use Rattle.std.specs.Prelude.{ℕ, List, Some}
 use Rattle.rt_ids.specs.Event.{steps}
 use Rattle.rt_code.specs.Image.{Image}

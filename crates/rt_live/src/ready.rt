@@ -115,8 +115,8 @@ impl<'a> Ready<'a> {
         requires rows { irqs_of self.old.rows ≡ declared_irqs core.old.image.names }
         requires unused { self.old.line.calls ≡ [] }
 
-        // The line's calls are the latches of the looks, block for block, the last of them behind the last line that was
-        // gathered. What was written is the trace of the interleaving with just what these looks found.
+        // The line's calls are the latches of the looks, block for block, the last of them behind the last line that
+        // was gathered. What was written is the trace of the interleaving with just what these looks found.
         ensures ok { OnOk result (Completes (turns self.old.script) self.new.line core.old core.new
             (λ found. Took (K.taken out.old) (K.taken out.new) (live_text core.old.image self.old.script found))) }
 

@@ -29,8 +29,8 @@ pub enum LiveFail {
 }
 
 /// Runs a core to which no event has come beside the devices of a script, in threads of their own. It writes the trace
-/// of the core's image, line by line as it happens, and its total of core steps, and answers the account of the devices'
-/// pends. It takes all its memory before its first write.
+/// of the core's image, line by line as it happens, and its total of core steps, and answers the account of the
+/// devices' pends. It takes all its memory before its first write.
 pub fn live<R: Threads + Sync, K: Sink + Send, G: Gate + Sync>(
     rt: &R,
     alloc: Global,

@@ -192,10 +192,12 @@ fn own_line<K: Sink, G: Gate>(
     requires room { length line.old.calls + 16 * count_of asked.now < 2 ^ 32 - 1 }
     requires declared { HasName core.old.image.names asked.now }
     requires empty { held.old ≡ [] }
-    ensures ok { OnOk result (Goes (repeated_turns (count_of asked.now) (own_turn asked.now)) line.old.calls line.new.calls
+    ensures ok { OnOk result (Goes (repeated_turns (count_of asked.now) (own_turn asked.now)) line.old.calls
+        line.new.calls
         core.old core.new (K.taken out.old) (K.taken out.new)) }
     ensures none_held { OnOk result (held.new ≡ []) }
-    ensures err { OnErr result (Stops (repeated_turns (count_of asked.now) (own_turn asked.now)) line.old.calls line.new.calls
+    ensures err { OnErr result (Stops (repeated_turns (count_of asked.now) (own_turn asked.now)) line.old.calls
+        line.new.calls
         core.old core.new (K.taken out.old) (K.taken out.new)) }
     ensures same { IsSameLine line.old line.new }
     ensures cause { HasCause (K.faults out.old) (K.faults out.new) result }

@@ -1,5 +1,7 @@
 -- Words that stand alone: no space, no line feed and, in code, no semicolon stands in them.
-use Rattle.std.proofs.Common.{◌≡◌, ◌≢◌, ℕ, ◌+◌, ◌/◌, ◌%◌, ◌<◌, zero, suc, Bool, true, false, cond, eqb, ◌||◌, List, [], ◌∷◌, ◌++◌, decimal, codes, refl, ap, sym, ◌∙◌, subst, arith, append_assoc, append-nil, eq-eqb}
+use Rattle.std.proofs.Common.{◌≡◌, ◌≢◌, ℕ, ◌+◌, ◌/◌, ◌%◌, ◌<◌, zero, suc, Bool, true, false, cond, eqb, ◌||◌, List, []}
+use Rattle.std.proofs.Common.{◌∷◌, ◌++◌, decimal, codes, refl, ap, sym, ◌∙◌, subst, arith, append_assoc, append-nil}
+use Rattle.std.proofs.Common.{eq-eqb}
 use Rattle.std.specs.List.{AllByRecursion, list_any, list_all}
 use Rattle.std.specs.Fmt.{digits, digits_onto, digit_glyph}
 use Rattle.std.proofs.lemmas.Bool.{eqb-true, ne_eqb, lt-ltb, false_from_ne_true, false≢true}
@@ -43,12 +45,20 @@ clean_append v w h k = all_append (λ b. is_mark b ≡ false) v w h k
 
 pub clean_from_test : (w : List ℕ) → list_any is_mark w ≡ false → IsClean w
 clean_from_test [] h = tt
-clean_from_test (b ∷ w) h = (left_of_none (is_mark b) (list_any is_mark w) h, clean_from_test w (right_of_none (is_mark b) (list_any is_mark w) h))
+clean_from_test (b ∷ w) h = (
+  left_of_none (is_mark b) (list_any is_mark w) h,
+  clean_from_test w (right_of_none (is_mark b) (list_any is_mark w) h),
+)
 
 -- numbers are clean
 glyph_is_clean : (d : ℕ) → d < 10 → is_mark (digit_glyph false d) ≡ false
 glyph_is_clean d h =
-    rw (lt-ltb d 10 h, ne_eqb (48 + d) 32 (λ e. omega (arith, e)), ne_eqb (48 + d) 10 (λ e. omega (arith, e)), ne_eqb (48 + d) 59 (λ e. omega (arith, e, h))) refl
+    rw (
+      lt-ltb d 10 h,
+      ne_eqb (48 + d) 32 (λ e. omega (arith, e)),
+      ne_eqb (48 + d) 10 (λ e. omega (arith, e)),
+      ne_eqb (48 + d) 59 (λ e. omega (arith, e, h)),
+    ) refl
 
 either : (test : Bool) (xs ys : List ℕ) → IsClean xs → IsClean ys → IsClean (cond test xs ys)
 either true xs ys p q = p
@@ -67,9 +77,12 @@ decimal_clean n = digits_are_clean 64 n [] tt
 -- names are clean
 name_byte_clean : (b : ℕ) → is_name_byte b ≡ true → is_mark b ≡ false
 name_byte_clean b h =
-    let no_space = false_from_ne_true (eqb b 32) (λ e. false≢true (subst (λ n. is_name_byte n ≡ true) (eqb-true b 32 e) h)) in
-    let no_feed = false_from_ne_true (eqb b 10) (λ e. false≢true (subst (λ n. is_name_byte n ≡ true) (eqb-true b 10 e) h)) in
-    let no_end = false_from_ne_true (eqb b 59) (λ e. false≢true (subst (λ n. is_name_byte n ≡ true) (eqb-true b 59 e) h)) in
+    let no_space = false_from_ne_true (eqb b 32)
+    (λ e. false≢true (subst (λ n. is_name_byte n ≡ true) (eqb-true b 32 e) h)) in
+    let no_feed = false_from_ne_true (eqb b 10)
+    (λ e. false≢true (subst (λ n. is_name_byte n ≡ true) (eqb-true b 10 e) h)) in
+    let no_end = false_from_ne_true (eqb b 59)
+    (λ e. false≢true (subst (λ n. is_name_byte n ≡ true) (eqb-true b 59 e) h)) in
     rw (no_space, no_feed, no_end) refl
 
 name_bytes_clean : (bytes : List ℕ) → list_all is_name_byte bytes ≡ true → IsClean bytes
@@ -102,14 +115,22 @@ words_of_spelled text w ws s = ap words s.is ∙ words_spaced w ws (unspaced w s
 
 no_feed_in : (w : List ℕ) → HasNoBlank w → IsLine w
 no_feed_in [] h = tt
-no_feed_in (b ∷ w) h = ((λ e. true_and_false (eqb b 10) (eq-eqb b 10 e) (right_of_none (eqb b 32) (eqb b 10) h.0)), no_feed_in w h.1)
+no_feed_in (b ∷ w) h = (
+  (λ e. true_and_false (eqb b 10) (eq-eqb b 10 e) (right_of_none (eqb b 32) (eqb b 10) h.0)),
+  no_feed_in w h.1,
+)
 
 no_feed_between : (ws : List (List ℕ)) → AllByRecursion HasNoBlank ws → IsLine (spaced_text ws)
 no_feed_between [] all = tt
-no_feed_between (w ∷ ws) all = ((λ e. omega (arith, e)), all_append (λ byte. byte ≢ 10) w (spaced_text ws) (no_feed_in w all.0) (no_feed_between ws all.1))
+no_feed_between (w ∷ ws) all = (
+  (λ e. omega (arith, e)),
+  all_append (λ byte. byte ≢ 10) w (spaced_text ws)
+      (no_feed_in w all.0) (no_feed_between ws all.1),
+)
 
 pub line_of_spelled : (text w : List ℕ) (ws : List (List ℕ)) → IsSpelled text w ws → IsLine text
-line_of_spelled text w ws s = subst IsLine (sym s.is) (all_append (λ byte. byte ≢ 10) w (spaced_text ws) (no_feed_in w s.first) (no_feed_between ws s.others))
+line_of_spelled text w ws s = subst IsLine (sym s.is) (all_append (λ byte. byte ≢ 10) w (spaced_text ws)
+    (no_feed_in w s.first) (no_feed_between ws s.others))
 
 -- texts that end in some parts, which are words behind a space
 pub spaced1 : (u a : List ℕ) → u ++ a ≡ u ++ (a ++ [])

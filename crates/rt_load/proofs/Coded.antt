@@ -1,5 +1,6 @@
 -- The words of an instruction and of a note, and what is read of them over other tables.
-use Rattle.std.proofs.Common.{◌≡◌, ◌^◌, ℕ, false, List, [], ◌∷◌, ◌++◌, map, decimal, codes, Some, Result, Ok, Err, refl, arith}
+use Rattle.std.proofs.Common.{◌≡◌, ◌^◌, ℕ, false, List, [], ◌∷◌, ◌++◌, map, decimal, codes, Some, Result, Ok, Err, refl}
+use Rattle.std.proofs.Common.{arith}
 use Rattle.std.specs.List.{AllByRecursion, list_any}
 use Rattle.rt_ids.specs.Names.{Names}
 use Rattle.rt_ids.specs.Naming.{irq_name, task_name, section_name, body_name}
@@ -170,7 +171,8 @@ instr_reads names more (instr.Set d v) h = rw (number_back d h.0, number_back v 
 instr_reads names more (instr.Copy d s) h = rw (number_back d h.0, number_back s h.1.0) refl
 instr_reads names more (instr.Calc o d a b) h = calc_reads o
   where
-    calc_reads : (o : Op) → instr_at names (op_word o ∷ decimal d ∷ decimal a ∷ decimal b ∷ []) ≡ Ok (instr.Calc o d a b)
+    calc_reads : (o : Op) → instr_at names (op_word o ∷ decimal d ∷ decimal a ∷ decimal b ∷ [])
+        ≡ Ok (instr.Calc o d a b)
     calc_reads op.Add = rw (number_back d h.0, number_back a h.1.0, number_back b h.1.1.0) refl
     calc_reads op.Sub = rw (number_back d h.0, number_back a h.1.0, number_back b h.1.1.0) refl
     calc_reads op.Mul = rw (number_back d h.0, number_back a h.1.0, number_back b h.1.1.0) refl
@@ -225,7 +227,8 @@ note_again names more (note.Move t s a) = and_make (task_at names (task_name mor
 note_again names more (note.End b) = and_make (body_at names (body_name more b)) note.End
 
 -- what is made of an answer in two ways that are one
-made : {A B : Type 0} (r : Result A Wrong) (f : A → Result B Wrong) (g : A → B) → ((x : A) → f x ≡ Ok (g x)) → and_then r f ≡ and_make r g
+made : {A B : Type 0} (r : Result A Wrong) (f : A → Result B Wrong) (g : A → B) → ((x : A) → f x ≡ Ok (g x))
+    → and_then r f ≡ and_make r g
 made (Ok x) f g same = same x
 made (Err w) f g same = refl
 
@@ -236,10 +239,13 @@ note_reads names more (note.Leave s) h = refl
 note_reads names more (note.Placed t) h = made (task_at names (task_name more t)) _ note.Placed (λ k. refl)
 note_reads names more (note.Full t) h = made (task_at names (task_name more t)) _ note.Full (λ k. refl)
 note_reads names more (note.Ready t) h = made (task_at names (task_name more t)) _ note.Ready (λ k. refl)
-note_reads names more (note.Start t s) h = rw (number_back s h) (made (task_at names (task_name more t)) _ (λ k. note.Start k s) (λ k. refl))
+note_reads names more (note.Start t s) h = rw (number_back s h)
+    (made (task_at names (task_name more t)) _ (λ k. note.Start k s) (λ k. refl))
 note_reads names more (note.Free t) h = made (task_at names (task_name more t)) _ note.Free (λ k. refl)
-note_reads names more (note.Arm t s) h = rw (number_back s h) (made (task_at names (task_name more t)) _ (λ k. note.Arm k s) (λ k. refl))
+note_reads names more (note.Arm t s) h = rw (number_back s h)
+    (made (task_at names (task_name more t)) _ (λ k. note.Arm k s) (λ k. refl))
 note_reads names more (note.Fire t) h = made (task_at names (task_name more t)) _ note.Fire (λ k. refl)
-note_reads names more (note.Cancel t s) h = rw (number_back s h) (made (task_at names (task_name more t)) _ (λ k. note.Cancel k s) (λ k. refl))
+note_reads names more (note.Cancel t s) h = rw (number_back s h)
+    (made (task_at names (task_name more t)) _ (λ k. note.Cancel k s) (λ k. refl))
 note_reads names more (note.Move t s a) h = rw (number_back s h.0, number_back a h.1) refl
 note_reads names more (note.End b) h = refl

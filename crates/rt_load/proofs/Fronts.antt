@@ -1,5 +1,6 @@
 -- What a reader has read stands: the image so far is loadable, and its text so far is what was read.
-use Rattle.std.proofs.Common.{◌≡◌, ◌⊎◌, ◌≤◌, ◌+◌, ℕ, zero, suc, Bool, true, false, not, ◌==◌, ◌||◌, List, [], ◌∷◌, ◌++◌, length, flat_map, if◌then◌else◌, refl, ap, sym, ◌∙◌, arith, append_assoc, append-nil}
+use Rattle.std.proofs.Common.{◌≡◌, ◌⊎◌, ◌≤◌, ◌+◌, ℕ, zero, suc, Bool, true, false, not, ◌==◌, ◌||◌, List, [], ◌∷◌, ◌++◌}
+use Rattle.std.proofs.Common.{length, flat_map, if◌then◌else◌, refl, ap, sym, ◌∙◌, arith, append_assoc, append-nil}
 use Rattle.std.specs.List.{Contains}
 use Rattle.std.proofs.lemmas.List.Concat.{flat_map-append}
 use Rattle.rt_lemmas.proofs.Bools.{not_true, left_of_none, right_of_none, true_and_false}
@@ -40,7 +41,8 @@ numbered_push : {A : Type 0} (line : ℕ → A → List ℕ) (n : ℕ) (xs : Lis
 numbered_push line n [] x = let e : n + 0 ≡ n = omega arith in rw e (append-nil (line n x))
 numbered_push line n (y ∷ xs) x =
     let e : suc n + length xs ≡ n + suc (length xs) = omega arith in
-    ap (λ t. line n y ++ t) (numbered_push line (suc n) xs x ∙ ap (λ k. lines_with_numbers line (suc n) xs ++ line k x) e)
+    ap (λ t. line n y ++ t) (numbered_push line (suc n) xs x ∙ ap (λ k. lines_with_numbers line (suc n) xs ++ line k x)
+    e)
     ∙ sym (append_assoc (line n y) (lines_with_numbers line (suc n) xs) (line (n + suc (length xs)) x))
 
 pub numbered_next : {A : Type 0} (line : ℕ → A → List ℕ) (xs : List A) (x : A)
@@ -60,30 +62,37 @@ empty_from (x ∷ xs) h = absurd (cc)
 blank_is : (b : ℕ) → (((b == 9) || (b == 10)) || (b == 13) || (b == 32)) ≡ false → ¬ Contains blanks b
 blank_is b h (zero, within, is) =
     let first = left_of_none (((b == 9) || (b == 10)) || (b == 13)) (b == 32) h in
-    true_and_false (b == 9) (ap (λ n. n == 9) (sym is)) (left_of_none (b == 9) (b == 10) (left_of_none ((b == 9) || (b == 10)) (b == 13) first))
+    true_and_false (b == 9) (ap (λ n. n == 9) (sym is)) (left_of_none (b == 9) (b == 10)
+    (left_of_none ((b == 9) || (b == 10)) (b == 13) first))
 blank_is b h (suc zero, within, is) =
     let first = left_of_none (((b == 9) || (b == 10)) || (b == 13)) (b == 32) h in
-    true_and_false (b == 10) (ap (λ n. n == 10) (sym is)) (right_of_none (b == 9) (b == 10) (left_of_none ((b == 9) || (b == 10)) (b == 13) first))
+    true_and_false (b == 10) (ap (λ n. n == 10) (sym is))
+    (right_of_none (b == 9) (b == 10) (left_of_none ((b == 9) || (b == 10)) (b == 13) first))
 blank_is b h (suc (suc zero), within, is) =
     let first = left_of_none (((b == 9) || (b == 10)) || (b == 13)) (b == 32) h in
     true_and_false (b == 13) (ap (λ n. n == 13) (sym is)) (right_of_none ((b == 9) || (b == 10)) (b == 13) first)
 blank_is b h (suc (suc (suc zero)), within, is) =
-    true_and_false (b == 32) (ap (λ n. n == 32) (sym is)) (right_of_none (((b == 9) || (b == 10)) || (b == 13)) (b == 32) h)
+    true_and_false (b == 32) (ap (λ n. n == 32) (sym is))
+    (right_of_none (((b == 9) || (b == 10)) || (b == 13)) (b == 32) h)
 blank_is b h (suc (suc (suc (suc k))), within, is) = absurd (omega arith)
 
 word_from : (name : List ℕ) → has_blank name ≡ false → IsWord name
 word_from [] h = tt
-word_from (b ∷ name) h =
-    (blank_is b (left_of_none ((((b == 9) || (b == 10)) || (b == 13)) || (b == 32)) (has_blank name) h), word_from name (right_of_none ((((b == 9) || (b == 10)) || (b == 13)) || (b == 32)) (has_blank name) h))
+word_from (b ∷ name) h = (
+  blank_is b (left_of_none ((((b == 9) || (b == 10)) || (b == 13)) || (b == 32)) (has_blank name) h),
+  word_from name (right_of_none ((((b == 9) || (b == 10)) || (b == 13)) || (b == 32)) (has_blank name) h),
+)
 
 -- what a cell may be named
 pub data CellNamed (names : Names) (name : List ℕ) : Type 0 where
   Dotted : (dot : has_dot name ≡ true) → (word : IsWord name) → CellNamed names name
-  Resource : (no_dot : has_dot name ≡ false) → (new : IsNew name (resource_of names name) (length names.shared) SHARED) → CellNamed names name
+  Resource : (no_dot : has_dot name ≡ false) → (new : IsNew name (resource_of names name) (length names.shared) SHARED)
+      → CellNamed names name
 
 pub cell_named : (names : Names) (name : List ℕ) → may_name_cell names name ≡ true → CellNamed names name
 cell_named names name h = by (has_dot name) refl h
   where
-    by : (b : Bool) → has_dot name ≡ b → (if b then not (has_blank name) else is_new_resource names name) ≡ true → CellNamed names name
+    by : (b : Bool) → has_dot name ≡ b → (if b then not (has_blank name) else is_new_resource names name) ≡ true
+        → CellNamed names name
     by true dot h = Dotted dot (word_from name (not_true (has_blank name) h))
     by false dot h = Resource dot (new_from name (resource_of names name) (length names.shared) SHARED h)

@@ -27,19 +27,23 @@ limits_of_points img l =
     let irqs : length img.irqs ≡ length img.names.irqs =
     sym (length-map img.irqs pair) ∙ ap (λ (n : Names). length n.irqs) l.names in
     let bodies : length img.bodies ≡ length img.names.tasks =
-    sym (length-map img.bodies (λ (row : BodyRow). task_name img.names row.task)) ∙ ap (λ (n : Names). length n.tasks) l.names in
+    sym (length-map img.bodies (λ (row : BodyRow). task_name img.names row.task))
+    ∙ ap (λ (n : Names). length n.tasks) l.names in
     record {
       few_bits = lim.least_bits;
       many_bits = lim.most_bits;
       irqs = omega (arith, irqs, few_irqs);
-      numbers = all_weaker IsIrqWithin (λ (row : IrqRow). row.number < IRQ_NUMBERS) (λ row within. within.number) img.irqs lim.irqs;
+      numbers = all_weaker IsIrqWithin (λ (row : IrqRow). row.number < IRQ_NUMBERS) (λ row within. within.number)
+          img.irqs lim.irqs;
       bodies = omega (arith, bodies, few_tasks);
-      arguments = all_weaker IsBodyWithin (λ (row : BodyRow). row.args ≤ ARGUMENTS) (λ row within. within.args) img.bodies lim.bodies;
+      arguments = all_weaker IsBodyWithin (λ (row : BodyRow). row.args ≤ ARGUMENTS) (λ row within. within.args)
+          img.bodies lim.bodies;
       code = lim.few_lines;
       names = names;
     }
 
-pub verdict_of : {E : Type 0} (img : Image) (r : Result Verified E) → (r ≡ Ok verified.Yes → IsChecked img) → ((n : ℕ) → r ≡ Ok (verified.No n) → IsLeastBroken img n)
+pub verdict_of : {E : Type 0} (img : Image) (r : Result Verified E) → (r ≡ Ok verified.Yes → IsChecked img)
+    → ((n : ℕ) → r ≡ Ok (verified.No n) → IsLeastBroken img n)
     → IfOk r (λ verdict. IsVerdict img verdict)
 verdict_of img (Ok verified.Yes) kept broken = let checked = kept refl in (checked, checked_images_are_safe img checked)
 verdict_of img (Ok (verified.No n)) kept broken = broken n refl

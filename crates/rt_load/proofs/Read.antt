@@ -1,5 +1,6 @@
 -- What an answer that is a value comes from, and what a number, a name and a printed line say.
-use Rattle.std.proofs.Common.{◌≡◌, ◌<◌, ◌≤◌, ◌^◌, ℕ, Bool, true, false, List, decimal, bytes_eq, Option, Some, None, Result, Ok, Err, if◌then◌else◌, refl, ap}
+use Rattle.std.proofs.Common.{◌≡◌, ◌<◌, ◌≤◌, ◌^◌, ℕ, Bool, true, false, List, decimal, bytes_eq, Option, Some, None}
+use Rattle.std.proofs.Common.{Result, Ok, Err, if◌then◌else◌, refl, ap}
 use Rattle.std.specs.Option.{ok_or}
 use Rattle.std.proofs.lemmas.Slice.Eq.{bytes_eq-Decides}
 use Rattle.rt_lines.specs.Answers.{and_then, and_make}
@@ -12,11 +13,13 @@ use Rattle.rt_load.specs.Inside.Taking.{if_line}
 use Rattle.rt_load.specs.declared.operand.Wrong.{Wrong}
 use Rattle.rt_load.specs.declared.operand.Wrong.TheVariants as wrong
 
-pub then_ok : {A B : Type 0} (r : Result A Wrong) (f : A → Result B Wrong) (y : B) → and_then r f ≡ Ok y → (x : A) × (r ≡ Ok x) × (f x ≡ Ok y)
+pub then_ok : {A B : Type 0} (r : Result A Wrong) (f : A → Result B Wrong) (y : B) → and_then r f ≡ Ok y → (x : A)
+    × (r ≡ Ok x) × (f x ≡ Ok y)
 then_ok (Ok x) f y e = (x, refl, e)
 then_ok (Err w) f y e = absurd (cc)
 
-pub make_ok : {A B : Type 0} (r : Result A Wrong) (f : A → B) (y : B) → and_make r f ≡ Ok y → (x : A) × (r ≡ Ok x) × (f x ≡ y)
+pub make_ok : {A B : Type 0} (r : Result A Wrong) (f : A → B) (y : B) → and_make r f ≡ Ok y → (x : A) × (r ≡ Ok x)
+    × (f x ≡ y)
 make_ok (Ok x) f y e = (x, refl, cc)
 make_ok (Err w) f y e = absurd (cc)
 
@@ -25,7 +28,8 @@ or_ok (Some y) w x e = let same : y ≡ x = cc in ap Some same
 or_ok None w x e = absurd (cc)
 
 -- a value is given only where the test holds
-pub if_ok : {A : Type 0} (b : Bool) (r : Result A Wrong) (w : Wrong) (x : A) → (if b then r else Err w) ≡ Ok x → (b ≡ true) × (r ≡ Ok x)
+pub if_ok : {A : Type 0} (b : Bool) (r : Result A Wrong) (w : Wrong) (x : A) → (if b then r else Err w) ≡ Ok x
+    → (b ≡ true) × (r ≡ Ok x)
 if_ok true r w x e = (refl, e)
 if_ok false r w x e = absurd (cc)
 
@@ -33,12 +37,14 @@ pub same_ok : {A : Type 0} (r : Result A Wrong) (x y : A) → r ≡ Ok x → r �
 same_ok r x y d e = cc
 
 -- what passes for a line is the line
-pub line_ok : {A : Type 0} (printed line : List ℕ) (x y : A) → if_line printed line x ≡ Ok y → (printed ≡ line_with_feed line) × (x ≡ y)
+pub line_ok : {A : Type 0} (printed line : List ℕ) (x y : A) → if_line printed line x ≡ Ok y
+    → (printed ≡ line_with_feed line) × (x ≡ y)
 line_ok printed line x y e =
     let parts = if_ok (bytes_eq printed (line_with_feed line)) (Ok x) wrong.Form y e in
     ((bytes_eq-Decides printed (line_with_feed line)).0 parts.0, same_ok (Ok x) x y refl parts.1)
 
-pub number_from : (bound n : ℕ) (word : List ℕ) → bound ≤ 2 ^ 32 → number_at bound word ≡ Ok n → (word ≡ decimal n) × (n < bound)
+pub number_from : (bound n : ℕ) (word : List ℕ) → bound ≤ 2 ^ 32 → number_at bound word ≡ Ok n → (word ≡ decimal n)
+    × (n < bound)
 number_from bound n word few e =
     let some : number_below bound word ≡ Some n = or_ok (number_below bound word) wrong.Form n e in
     number_spelling bound n word few (ap (λ (o : Option ℕ). ok_or o trace.Form) some)

@@ -1,7 +1,8 @@
 -- Which bytes are the listing of a loadable image, and which is the first wrong line of bytes that are not: the lines
 -- before it begin some listing, and with it they begin none. The form of listings is this project's own. No line is
 -- read here: whether a line is wrong is said by the listings that there are, and the code decides it by reading.
-use Rattle.std.specs.Prelude.{◌≡◌, ◌≢◌, ℕ, suc, ◌≤◌, ◌<◌, true, List, [], ◌∷◌, ◌++◌, length, map, flat_map, Option, None}
+use Rattle.std.specs.Prelude.{◌≡◌, ◌≢◌, ℕ, suc, ◌≤◌, ◌<◌, true, List, [], ◌∷◌, ◌++◌, length, map, flat_map, Option}
+use Rattle.std.specs.Prelude.{None}
 use Rattle.std.specs.List.{AllByRecursion}
 use Rattle.rt_ids.specs.Lists.{AreDifferent}
 use Rattle.rt_ids.specs.Names.{Names}
@@ -54,8 +55,8 @@ pub record AreMore (names more : Names) : Type 0 where
   pub tasks_differ : AreDifferent more.tasks
   pub shared_differ : AreDifferent more.shared
 
--- All that is wrong with a line behind this front is that a name in it is in no table: an instruction may stand here, and
--- over tables that name more the line would be that of one.
+-- All that is wrong with a line behind this front is that a name in it is in no table: an instruction may stand here,
+-- and over tables that name more the line would be that of one.
 pub record IsOfUnknownName (front line : List ℕ) : Type 0 where
   pub image : Image
   pub loadable : IsLoadable image

@@ -149,7 +149,8 @@ impl Front {
 
     fn next_cell(&self, alloc: Global, line: &[u8], words: Option<&[u8]>) -> Result<CellRow, Wrong>
         ensures read { IfOk result (λ x. spec.next_cell self.now line.now (words_of words.entry) ≡ Ok x) }
-        ensures refused { IfErr result (λ w. w ≢ Wrong.NoMemory → spec.next_cell self.now line.now (words_of words.entry) ≡ Err w) }
+        ensures refused { IfErr result (λ w. w ≢ Wrong.NoMemory → spec.next_cell self.now line.now
+            (words_of words.entry) ≡ Err w) }
     {
         let (name, first) = read_cell(words)?;
         if !self.may_add_cell(name) {
@@ -168,7 +169,8 @@ impl Front {
 
     fn take_cell(&mut self, alloc: Global, line: &[u8], words: Option<&[u8]>) -> Result<(), Wrong>
         ensures taken { OnOk result (spec.take_cell self.old line.now (words_of words.entry) ≡ Ok self.new) }
-        ensures refused { IfErr result (λ w. w ≢ Wrong.NoMemory → spec.take_cell self.old line.now (words_of words.entry) ≡ Err w) }
+        ensures refused { IfErr result (λ w. w ≢ Wrong.NoMemory → spec.take_cell self.old line.now
+            (words_of words.entry) ≡ Err w) }
     {
         let cell = self.next_cell(alloc, line, words)?;
         add_cell(alloc, &mut self.image.cells, &mut self.image.names, cell)?;
@@ -177,7 +179,8 @@ impl Front {
 
     fn next_irq(&self, alloc: Global, line: &[u8], words: Option<&[u8]>) -> Result<IrqRow, Wrong>
         ensures read { IfOk result (λ x. spec.next_irq self.now line.now (words_of words.entry) ≡ Ok x) }
-        ensures refused { IfErr result (λ w. w ≢ Wrong.NoMemory → spec.next_irq self.now line.now (words_of words.entry) ≡ Err w) }
+        ensures refused { IfErr result (λ w. w ≢ Wrong.NoMemory → spec.next_irq self.now line.now (words_of words.entry)
+            ≡ Err w) }
     {
         let (name, number, handler) = match read_irq_row(words) {
             Ok(row) => row,
@@ -200,7 +203,8 @@ impl Front {
 
     fn take_irq(&mut self, alloc: Global, line: &[u8], words: Option<&[u8]>) -> Result<(), Wrong>
         ensures taken { OnOk result (spec.take_irq self.old line.now (words_of words.entry) ≡ Ok self.new) }
-        ensures refused { IfErr result (λ w. w ≢ Wrong.NoMemory → spec.take_irq self.old line.now (words_of words.entry) ≡ Err w) }
+        ensures refused { IfErr result (λ w. w ≢ Wrong.NoMemory → spec.take_irq self.old line.now (words_of words.entry)
+            ≡ Err w) }
     {
         let row = self.next_irq(alloc, line, words)?;
         add_irq(alloc, &mut self.image.irqs, &mut self.image.names, row)?;
@@ -209,7 +213,8 @@ impl Front {
 
     fn take_body(&mut self, alloc: Global, line: &[u8], words: Option<&[u8]>) -> Result<(), Wrong>
         ensures taken { OnOk result (spec.take_body self.old line.now (words_of words.entry) ≡ Ok self.new) }
-        ensures refused { IfErr result (λ w. w ≢ Wrong.NoMemory → spec.take_body self.old line.now (words_of words.entry) ≡ Err w) }
+        ensures refused { IfErr result (λ w. w ≢ Wrong.NoMemory → spec.take_body self.old line.now
+            (words_of words.entry) ≡ Err w) }
     {
         let task = TaskId(self.image.names.task_count() as u8);
         let (name, row) = match read_body_row(task, words) {

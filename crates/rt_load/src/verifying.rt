@@ -7,8 +7,8 @@ use rt_ids::NoMemory;
 use rt_judge::{Verified, judge};
 use std::alloc::Global;
 
-/// Whether an image keeps the seven rules, and with that is safe, or else the least rule that it breaks. It may have been
-/// made by anything.
+/// Whether an image keeps the seven rules, and with that is safe, or else the least rule that it breaks. It may have
+/// been made by anything.
 pub fn verify(alloc: Global, image: &Image) -> Result<Verified, NoMemory>
     requires { IsLoadable image.now }
     ensures { IfOk result (λ verdict. IsVerdict image.now verdict) }

@@ -18,10 +18,17 @@ pub sized : (priorities : List (Option ℕ)) (pending active : List ℕ) (top : 
     → IsSized (shown priorities pending active top)
 sized priorities pending active top is =
     let l = is.active_long in
-    let e = length-drop top active in record { priorities = is.priorities_long; pending = length-flags pending; active = omega arith }
+    let e = length-drop top active in record {
+      priorities = is.priorities_long;
+      pending = length-flags pending;
+      active =
+          omega arith;
+    }
 
 -- where no handler runs
-pub none_runs : (priorities : List (Option ℕ)) (pending active : List ℕ) (top : ℕ) → IsFixed priorities pending active top → top ≡ ACTIVE → THREAD_VALUE ≡ value_of_running (shown priorities pending active top)
+pub none_runs : (priorities : List (Option ℕ)) (pending active : List ℕ) (top : ℕ)
+    → IsFixed priorities pending active top → top ≡ ACTIVE → THREAD_VALUE
+    ≡ value_of_running (shown priorities pending active top)
 none_runs priorities pending active top is e =
     let l = is.active_long in
     let low : length active ≤ top = omega arith in

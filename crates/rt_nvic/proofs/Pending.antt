@@ -1,5 +1,7 @@
 -- Which interrupts are pending after the requests of a word.
-use Rattle.std.proofs.Common.{◌≡◌, ◌≢◌, ℕ, zero, suc, ◌+◌, ◌*◌, ◌/◌, ◌%◌, ◌<◌, ◌≤◌, ◌==◌, ◌&&◌, ◌||◌, nat_lt, Bool, true, false, List, [], ◌∷◌, length, get_or, set, refl, sym, ap, subst, ◌∙◌, arith, add-one, length-set, get_or-set_same, get_or-set_other}
+use Rattle.std.proofs.Common.{◌≡◌, ◌≢◌, ℕ, zero, suc, ◌+◌, ◌*◌, ◌/◌, ◌%◌, ◌<◌, ◌≤◌, ◌==◌, ◌&&◌, ◌||◌, nat_lt, Bool}
+use Rattle.std.proofs.Common.{true, false, List, [], ◌∷◌, length, get_or, set, refl, sym, ap, subst, ◌∙◌, arith}
+use Rattle.std.proofs.Common.{add-one, length-set, get_or-set_same, get_or-set_other}
 use Rattle.std.specs.Int.{bit_at}
 use Rattle.std.proofs.lemmas.Bool.Decides.{nat_tests}
 use Rattle.std.proofs.lemmas.Nat.Bits.{shr_and_one}
@@ -23,7 +25,8 @@ at_bit b k bit irq low h e =
     let one : b (irq % 32) ≡ 1 = ap b index ∙ h in
     grind (arith, nat_tests)
 
-past_bit : (b : ℕ → ℕ) (k bit irq : ℕ) → bit < 32 → irq ≢ 32 * k + bit → holds_below b k (bit + 1) irq ≡ holds_below b k bit irq
+past_bit : (b : ℕ → ℕ) (k bit irq : ℕ) → bit < 32 → irq ≢ 32 * k + bit → holds_below b k (bit + 1) irq
+    ≡ holds_below b k bit irq
 past_bit b k bit irq low ne = grind (arith, nat_tests)
 
 at_clear_bit : (b : ℕ → ℕ) (k bit irq : ℕ) → b bit ≢ 1 → holds_below b k (bit + 1) irq ≡ holds_below b k bit irq
@@ -39,8 +42,10 @@ or_true : (p : Bool) → true ≡ (p || true)
 or_true true = refl
 or_true false = refl
 
-each_at : (k bits bit irq : ℕ) (pending : List Bool) → bit < 32 → irq < length pending → bit_at bits bit ≡ 1 → irq ≡ 32 * k + bit
-    → get_or (pending_with (arrivals_below k bits (bit + 1)) pending) irq false ≡ (get_or pending irq false || holds_below (bit_at bits) k (bit + 1) irq)
+each_at : (k bits bit irq : ℕ) (pending : List Bool) → bit < 32 → irq < length pending → bit_at bits bit ≡ 1 → irq
+    ≡ 32 * k + bit
+    → get_or (pending_with (arrivals_below k bits (bit + 1)) pending) irq false
+    ≡ (get_or pending irq false || holds_below (bit_at bits) k (bit + 1) irq)
 each_at k bits bit irq pending low inside h e =
     let set_at = pended_set k bits bit pending (shr_and_one bits bit ∙ h) in
     let long = length-pended (arrivals_below k bits bit) pending in
@@ -52,8 +57,10 @@ each_at k bits bit irq pending low inside h e =
     ∙ ap (λ (b : Bool). get_or pending irq false || b) (sym (at_bit (bit_at bits) k bit irq low h e))
 
 each_past : (k bits bit irq : ℕ) (pending : List Bool) → bit < 32 → bit_at bits bit ≡ 1 → irq ≢ 32 * k + bit
-    → get_or (pending_with (arrivals_below k bits bit) pending) irq false ≡ (get_or pending irq false || holds_below (bit_at bits) k bit irq)
-    → get_or (pending_with (arrivals_below k bits (bit + 1)) pending) irq false ≡ (get_or pending irq false || holds_below (bit_at bits) k (bit + 1) irq)
+    → get_or (pending_with (arrivals_below k bits bit) pending) irq false
+    ≡ (get_or pending irq false || holds_below (bit_at bits) k bit irq)
+    → get_or (pending_with (arrivals_below k bits (bit + 1)) pending) irq false
+    ≡ (get_or pending irq false || holds_below (bit_at bits) k (bit + 1) irq)
 each_past k bits bit irq pending low h ne before =
     ap (λ (l : List Bool). get_or l irq false) (pended_set k bits bit pending (shr_and_one bits bit ∙ h))
     ∙ get_or-set_other (pending_with (arrivals_below k bits bit) pending) (32 * k + bit) irq true false ne
@@ -61,31 +68,42 @@ each_past k bits bit irq pending low h ne before =
     ∙ ap (λ (b : Bool). get_or pending irq false || b) (sym (past_bit (bit_at bits) k bit irq low ne))
 
 each_clear : (k bits bit irq : ℕ) (pending : List Bool) → bit_at bits bit ≢ 1
-    → get_or (pending_with (arrivals_below k bits bit) pending) irq false ≡ (get_or pending irq false || holds_below (bit_at bits) k bit irq)
-    → get_or (pending_with (arrivals_below k bits (bit + 1)) pending) irq false ≡ (get_or pending irq false || holds_below (bit_at bits) k (bit + 1) irq)
+    → get_or (pending_with (arrivals_below k bits bit) pending) irq false
+    ≡ (get_or pending irq false || holds_below (bit_at bits) k bit irq)
+    → get_or (pending_with (arrivals_below k bits (bit + 1)) pending) irq false
+    ≡ (get_or pending irq false || holds_below (bit_at bits) k (bit + 1) irq)
 each_clear k bits bit irq pending h before =
-    ap (λ (l : List Bool). get_or l irq false) (pended_clear k bits bit pending (λ e. h (sym (shr_and_one bits bit) ∙ e)))
+    ap (λ (l : List Bool). get_or l irq false) (pended_clear k bits bit pending
+    (λ e. h (sym (shr_and_one bits bit) ∙ e)))
     ∙ before
     ∙ ap (λ (b : Bool). get_or pending irq false || b) (sym (at_clear_bit (bit_at bits) k bit irq h))
 
-each_more : (k bits bit irq : ℕ) (pending : List Bool) → bit < 32 → irq < length pending → Dec (bit_at bits bit ≡ 1) → Dec (irq ≡ 32 * k + bit)
-    → get_or (pending_with (arrivals_below k bits bit) pending) irq false ≡ (get_or pending irq false || holds_below (bit_at bits) k bit irq)
-    → get_or (pending_with (arrivals_below k bits (bit + 1)) pending) irq false ≡ (get_or pending irq false || holds_below (bit_at bits) k (bit + 1) irq)
+each_more : (k bits bit irq : ℕ) (pending : List Bool) → bit < 32 → irq < length pending → Dec (bit_at bits bit ≡ 1)
+    → Dec (irq ≡ 32 * k + bit)
+    → get_or (pending_with (arrivals_below k bits bit) pending) irq false
+    ≡ (get_or pending irq false || holds_below (bit_at bits) k bit irq)
+    → get_or (pending_with (arrivals_below k bits (bit + 1)) pending) irq false
+    ≡ (get_or pending irq false || holds_below (bit_at bits) k (bit + 1) irq)
 each_more k bits bit irq pending low inside (yes h) (yes e) before = each_at k bits bit irq pending low inside h e
 each_more k bits bit irq pending low inside (yes h) (no ne) before = each_past k bits bit irq pending low h ne before
 each_more k bits bit irq pending low inside (no h) d before = each_clear k bits bit irq pending h before
 
 each_below : (k bits places irq : ℕ) (pending : List Bool) → places ≤ 32 → irq < length pending
-    → get_or (pending_with (arrivals_below k bits places) pending) irq false ≡ (get_or pending irq false || holds_below (bit_at bits) k places irq)
+    → get_or (pending_with (arrivals_below k bits places) pending) irq false
+    ≡ (get_or pending irq false || holds_below (bit_at bits) k places irq)
 each_below k bits zero irq pending low inside =
     ap (λ (l : List Bool). get_or l irq false) (pended_none k bits pending)
     ∙ with_false (get_or pending irq false)
     ∙ ap (λ (b : Bool). get_or pending irq false || b) (sym (none_below (bit_at bits) k irq))
 each_below k bits (suc bit) irq pending low inside =
-    let P : ℕ → Type 0 = λ places. get_or (pending_with (arrivals_below k bits places) pending) irq false ≡ (get_or pending irq false || holds_below (bit_at bits) k places irq) in
-    subst P (add-one bit) (each_more k bits bit irq pending (omega arith) inside (ℕ_discrete (bit_at bits bit) 1) (ℕ_discrete irq (32 * k + bit)) (each_below k bits bit irq pending (omega arith) inside))
+    let P : ℕ → Type 0 = λ places. get_or (pending_with (arrivals_below k bits places) pending) irq false
+    ≡ (get_or pending irq false || holds_below (bit_at bits) k places irq) in
+    subst P (add-one bit) (each_more k bits bit irq pending (omega arith) inside (ℕ_discrete (bit_at bits bit) 1)
+    (ℕ_discrete irq (32 * k + bit)) (each_below k bits bit irq pending (omega arith) inside))
 
 -- an interrupt is pending after the requests of a word where it was so or the word holds its bit
-pub each : (k bits irq : ℕ) (pending : List Bool) → irq < length pending → get_or (pending_with (arrivals k bits) pending) irq false ≡ (get_or pending irq false || holds k bits irq)
+pub each : (k bits irq : ℕ) (pending : List Bool) → irq < length pending
+    → get_or (pending_with (arrivals k bits) pending) irq false ≡ (get_or pending irq false || holds k bits irq)
 each k bits irq pending inside =
-    each_below k bits 32 irq pending (omega arith) inside ∙ ap (λ (b : Bool). get_or pending irq false || b) (all_below (bit_at bits) k irq)
+    each_below k bits 32 irq pending (omega arith) inside ∙ ap (λ (b : Bool). get_or pending irq false || b)
+    (all_below (bit_at bits) k irq)

@@ -1,5 +1,7 @@
 -- The bits of the ready interrupts, as requests come and go.
-use Rattle.std.proofs.Common.{◌≡◌, ◌≢◌, ℕ, ◌+◌, ◌<◌, ◌≤◌, ◌==◌, ◌&&◌, Bool, true, false, if◌then◌else◌, List, length, length-set, get_or, set, Option, Some, None, is_some, IfSome, refl, sym, ap, subst, ◌∙◌, ⊎_elim, arith, get_or-set_same, get_or-set_other}
+use Rattle.std.proofs.Common.{◌≡◌, ◌≢◌, ℕ, ◌+◌, ◌<◌, ◌≤◌, ◌==◌, ◌&&◌, Bool, true, false, if◌then◌else◌, List, length}
+use Rattle.std.proofs.Common.{length-set, get_or, set, Option, Some, None, is_some, IfSome, refl, sym, ap, subst, ◌∙◌}
+use Rattle.std.proofs.Common.{⊎_elim, arith, get_or-set_same, get_or-set_other}
 use Rattle.std.proofs.lemmas.Bool.{cases_lt, false≢true}
 use Rattle.std.proofs.lemmas.Bool.Decides.{nat_tests}
 use Rattle.std.proofs.lemmas.List.{get_or_past}
@@ -25,17 +27,22 @@ test_of_one : (n : ℕ) → n ≡ 1 → (n == 1) ≡ true
 test_of_one n h = grind (arith, nat_tests)
 
 -- a ready interrupt has its bit
-pub bit_of_ready : (priorities : List (Option ℕ)) (pending : List Bool) (words : List ℕ) (limit j : ℕ) → AreReady priorities pending words → IsReady (controller_of priorities pending) limit j → bit_of words j ≡ 1
+pub bit_of_ready : (priorities : List (Option ℕ)) (pending : List Bool) (words : List ℕ) (limit j : ℕ)
+    → AreReady priorities pending words → IsReady (controller_of priorities pending) limit j → bit_of words j ≡ 1
 bit_of_ready priorities pending words limit j is r =
-    one_from (bit_of words j) (is.each j ∙ and_both (get_or pending j false) (is_some (get_or priorities j None)) r.pending r.enabled)
+    one_from (bit_of words j) (is.each j ∙ and_both (get_or pending j false) (is_some (get_or priorities j None))
+    r.pending r.enabled)
 
 -- and what has a bit is pending
-pub pending_of_bit : (priorities : List (Option ℕ)) (pending : List Bool) (words : List ℕ) (j : ℕ) → AreReady priorities pending words → bit_of words j ≡ 1 → get_or pending j false ≡ true
+pub pending_of_bit : (priorities : List (Option ℕ)) (pending : List Bool) (words : List ℕ) (j : ℕ)
+    → AreReady priorities pending words → bit_of words j ≡ 1 → get_or pending j false ≡ true
 pending_of_bit priorities pending words j is h =
-    and_left (get_or pending j false) (is_some (get_or priorities j None)) (sym (is.each j) ∙ test_of_one (bit_of words j) h)
+    and_left (get_or pending j false) (is_some (get_or priorities j None))
+    (sym (is.each j) ∙ test_of_one (bit_of words j) h)
 
 within : (pending : List Bool) (j : ℕ) → length pending ≡ IRQ_NUMBERS → get_or pending j false ≡ true → j < IRQ_NUMBERS
-within pending j long h = ⊎_elim (λ less. less) (λ more. absurd (false≢true (sym (get_or_past pending j false (omega arith)) ∙ h))) (cases_lt j IRQ_NUMBERS)
+within pending j long h = ⊎_elim (λ less. less)
+    (λ more. absurd (false≢true (sym (get_or_past pending j false (omega arith)) ∙ h))) (cases_lt j IRQ_NUMBERS)
 
 pub numbers : (priorities : List (Option ℕ)) (pending words : List ℕ) → AreReady priorities (flags pending) words
     → AreNumbers words
@@ -43,9 +50,12 @@ numbers priorities pending words is = λ j h.
     within (flags pending) j (length-flags pending) (pending_of_bit priorities (flags pending) words j is h)
 
 -- what changes at one interrupt alone
-changed_by : (priorities after : List (Option ℕ)) (pending later : List Bool) (words left : List ℕ) (irq j : ℕ) → Dec (j ≡ irq) → AreReady priorities pending words
-    → (j ≢ irq → bit_of left j ≡ bit_of words j) → (j ≢ irq → get_or later j false ≡ get_or pending j false) → (j ≢ irq → get_or after j None ≡ get_or priorities j None)
-    → (bit_of left irq == 1) ≡ (get_or later irq false && is_some (get_or after irq None)) → (bit_of left j == 1) ≡ (get_or later j false && is_some (get_or after j None))
+changed_by : (priorities after : List (Option ℕ)) (pending later : List Bool) (words left : List ℕ) (irq j : ℕ)
+    → Dec (j ≡ irq) → AreReady priorities pending words
+    → (j ≢ irq → bit_of left j ≡ bit_of words j) → (j ≢ irq → get_or later j false ≡ get_or pending j false)
+    → (j ≢ irq → get_or after j None ≡ get_or priorities j None)
+    → (bit_of left irq == 1) ≡ (get_or later irq false && is_some (get_or after irq None)) → (bit_of left j == 1)
+    ≡ (get_or later j false && is_some (get_or after j None))
 changed_by priorities after pending later words left irq j (yes e) is b q p here =
     let P : ℕ → Type 0 = λ k. (bit_of left k == 1) ≡ (get_or later k false && is_some (get_or after k None)) in
     subst P (sym e) here
@@ -55,11 +65,17 @@ changed_by priorities after pending later words left irq j (no ne) is b q p here
     ∙ ap (λ (f : Bool). f && is_some (get_or priorities j None)) (sym (q ne))
     ∙ ap (λ (o : Option ℕ). get_or later j false && is_some o) (sym (p ne))
 
-changed : (priorities after : List (Option ℕ)) (pending later : List Bool) (words left : List ℕ) (irq : ℕ) → AreReady priorities pending words
-    → ((j : ℕ) → j ≢ irq → bit_of left j ≡ bit_of words j) → ((j : ℕ) → j ≢ irq → get_or later j false ≡ get_or pending j false) → ((j : ℕ) → j ≢ irq → get_or after j None ≡ get_or priorities j None)
+changed : (priorities after : List (Option ℕ)) (pending later : List Bool) (words left : List ℕ) (irq : ℕ)
+    → AreReady priorities pending words
+    → ((j : ℕ) → j ≢ irq → bit_of left j ≡ bit_of words j)
+    → ((j : ℕ) → j ≢ irq → get_or later j false ≡ get_or pending j false)
+    → ((j : ℕ) → j ≢ irq → get_or after j None ≡ get_or priorities j None)
     → (bit_of left irq == 1) ≡ (get_or later irq false && is_some (get_or after irq None)) → AreReady after later left
 changed priorities after pending later words left irq is b q p here =
-    record { each = λ j. changed_by priorities after pending later words left irq j (ℕ_discrete j irq) is (b j) (q j) (p j) here }
+    record {
+      each = λ j. changed_by priorities after pending later words left irq j (ℕ_discrete j irq) is (b j) (q j)
+          (p j) here;
+    }
 
 post_bit : (b : ℕ) (q s : Bool) → (b == 1) ≡ (q && s) → ((if s then 1 else b) == 1) ≡ (true && s)
 post_bit b q true h = refl
@@ -71,10 +87,13 @@ enable_bit b true s h = refl
 enable_bit b false s h = h
 
 -- an interrupt becomes pending
-pub ready_posted : (priorities : List (Option ℕ)) (pending : List Bool) (words left : List ℕ) (irq : ℕ) → irq < length pending → AreReady priorities pending words
-    → bit_of left irq ≡ (if is_some (get_or priorities irq None) then 1 else bit_of words irq) → ((j : ℕ) → j ≢ irq → bit_of left j ≡ bit_of words j) → AreReady priorities (set pending irq true) left
+pub ready_posted : (priorities : List (Option ℕ)) (pending : List Bool) (words left : List ℕ) (irq : ℕ)
+    → irq < length pending → AreReady priorities pending words
+    → bit_of left irq ≡ (if is_some (get_or priorities irq None) then 1 else bit_of words irq)
+    → ((j : ℕ) → j ≢ irq → bit_of left j ≡ bit_of words j) → AreReady priorities (set pending irq true) left
 ready_posted priorities pending words left irq l is same others =
-    changed priorities priorities pending (set pending irq true) words left irq is others (λ j ne. get_or-set_other pending irq j true false ne) (λ j ne. refl)
+    changed priorities priorities pending (set pending irq true) words left irq is others
+    (λ j ne. get_or-set_other pending irq j true false ne) (λ j ne. refl)
     (
     ap (λ (n : ℕ). n == 1) same
     ∙ post_bit (bit_of words irq) (get_or pending irq false) (is_some (get_or priorities irq None)) (is.each irq)
@@ -82,22 +101,30 @@ ready_posted priorities pending words left irq l is same others =
     )
 
 -- it is enabled
-pub ready_enabled : (priorities : List (Option ℕ)) (pending : List Bool) (words left : List ℕ) (irq value : ℕ) → irq < length priorities → AreReady priorities pending words
-    → bit_of left irq ≡ (if get_or pending irq false then 1 else bit_of words irq) → ((j : ℕ) → j ≢ irq → bit_of left j ≡ bit_of words j) → AreReady (set priorities irq (Some value)) pending left
+pub ready_enabled : (priorities : List (Option ℕ)) (pending : List Bool) (words left : List ℕ) (irq value : ℕ)
+    → irq < length priorities → AreReady priorities pending words
+    → bit_of left irq ≡ (if get_or pending irq false then 1 else bit_of words irq)
+    → ((j : ℕ) → j ≢ irq → bit_of left j ≡ bit_of words j) → AreReady (set priorities irq (Some value)) pending left
 ready_enabled priorities pending words left irq value l is same others =
-    changed priorities (set priorities irq (Some value)) pending pending words left irq is others (λ j ne. refl) (λ j ne. get_or-set_other priorities irq j (Some value) None ne)
+    changed priorities (set priorities irq (Some value)) pending pending words left irq is others (λ j ne. refl)
+    (λ j ne. get_or-set_other priorities irq j (Some value) None ne)
     (
     ap (λ (n : ℕ). n == 1) same
     ∙ enable_bit (bit_of words irq) (get_or pending irq false) (is_some (get_or priorities irq None)) (is.each irq)
-    ∙ ap (λ (o : Option ℕ). get_or pending irq false && is_some o) (sym (get_or-set_same priorities irq (Some value) None l))
+    ∙ ap (λ (o : Option ℕ). get_or pending irq false && is_some o)
+    (sym (get_or-set_same priorities irq (Some value) None l))
     )
 
 -- it is entered
-pub ready_entered : (priorities : List (Option ℕ)) (pending : List Bool) (words left : List ℕ) (irq : ℕ) → irq < length pending → AreReady priorities pending words
-    → bit_of left irq ≡ 0 → ((j : ℕ) → j ≢ irq → bit_of left j ≡ bit_of words j) → AreReady priorities (set pending irq false) left
+pub ready_entered : (priorities : List (Option ℕ)) (pending : List Bool) (words left : List ℕ) (irq : ℕ)
+    → irq < length pending → AreReady priorities pending words
+    → bit_of left irq ≡ 0 → ((j : ℕ) → j ≢ irq → bit_of left j ≡ bit_of words j)
+    → AreReady priorities (set pending irq false) left
 ready_entered priorities pending words left irq l is same others =
-    changed priorities priorities pending (set pending irq false) words left irq is others (λ j ne. get_or-set_other pending irq j false false ne) (λ j ne. refl)
-    (ap (λ (n : ℕ). n == 1) same ∙ ap (λ (f : Bool). f && is_some (get_or priorities irq None)) (sym (get_or-set_same pending irq false false l)))
+    changed priorities priorities pending (set pending irq false) words left irq is others
+    (λ j ne. get_or-set_other pending irq j false false ne) (λ j ne. refl)
+    (ap (λ (n : ℕ). n == 1) same ∙ ap (λ (f : Bool). f && is_some (get_or priorities irq None))
+    (sym (get_or-set_same pending irq false false l)))
 
 -- the scan of bits
 
@@ -112,56 +139,94 @@ others_below : (n : Nvic) (count j : ℕ) → j ≢ count → ReadyBelow n (coun
 others_below n count j ne t = let l = t.0 in (omega arith, t.1)
 
 -- a bit that is set
-pub scanned_set : (priorities : List (Option ℕ)) (words : List ℕ) (count : ℕ) (kept : Best) → bit_of words count ≡ 1 → IfSome (get_or priorities count None) (λ value. value < 256)
-    → IsBestOf priorities words count kept → IsBestOf priorities words (count + 1) (with kept count (get_or priorities count None))
+pub scanned_set : (priorities : List (Option ℕ)) (words : List ℕ) (count : ℕ) (kept : Best) → bit_of words count ≡ 1
+    → IfSome (get_or priorities count None) (λ value. value < 256)
+    → IsBestOf priorities words count kept → IsBestOf priorities words (count + 1)
+    (with kept count (get_or priorities count None))
 scanned_set priorities words count kept h low is = λ pending ready.
     let n = controller_of priorities pending in
-    best_more priorities pending pending count (count + 1) count kept (more_below n count) (others_below n count) (omega arith) (pending_of_bit priorities pending words count ready h)
+    best_more priorities pending pending count (count + 1) count kept (more_below n count) (others_below n count)
+    (omega arith) (pending_of_bit priorities pending words count ready h)
     (low_from (get_or priorities count None) low) (is pending ready)
 
-clear_past : (priorities : List (Option ℕ)) (pending : List Bool) (words : List ℕ) (a b j : ℕ) → AreReady priorities pending words → ((i : ℕ) → a ≤ i → i < b → bit_of words i ≢ 1)
+clear_past : (priorities : List (Option ℕ)) (pending : List Bool) (words : List ℕ) (a b j : ℕ)
+    → AreReady priorities pending words → ((i : ℕ) → a ≤ i → i < b → bit_of words i ≢ 1)
     → IsReady (controller_of priorities pending) NONE_READY j → j < b → j < a
 clear_past priorities pending words a b j ready clear r l =
-    ⊎_elim (λ less. less) (λ more. absurd (clear j more l (bit_of_ready priorities pending words NONE_READY j ready r))) (cases_lt j a)
+    ⊎_elim (λ less. less) (λ more. absurd (clear j more l (bit_of_ready priorities pending words NONE_READY j ready r)))
+    (cases_lt j a)
 
 -- indices of no bits
-pub scanned_past : (priorities : List (Option ℕ)) (words : List ℕ) (a b : ℕ) (kept : Best) → a ≤ b → ((i : ℕ) → a ≤ i → i < b → bit_of words i ≢ 1) → IsBestOf priorities words a kept → IsBestOf priorities words b kept
+pub scanned_past : (priorities : List (Option ℕ)) (words : List ℕ) (a b : ℕ) (kept : Best) → a ≤ b
+    → ((i : ℕ) → a ≤ i → i < b → bit_of words i ≢ 1) → IsBestOf priorities words a kept
+    → IsBestOf priorities words b kept
 scanned_past priorities words a b kept l clear is = λ pending ready.
-    best_alike priorities pending pending a b kept (λ j s. let low = s.0 in (omega arith, s.1)) (λ j t. (clear_past priorities pending words a b j ready clear t.1 t.0, t.1)) (is pending ready)
+    best_alike priorities pending pending a b kept (λ j s. let low = s.0 in (omega arith, s.1))
+    (λ j t. (clear_past priorities pending words a b j ready clear t.1 t.0, t.1)) (is pending ready)
 
 -- all words
-pub scanned_all : (priorities : List (Option ℕ)) (words : List ℕ) (count : ℕ) (kept : Best) → IRQ_NUMBERS ≤ count → AreNumbers words → IsBestOf priorities words count kept → IsBestOf priorities words IRQ_NUMBERS kept
+pub scanned_all : (priorities : List (Option ℕ)) (words : List ℕ) (count : ℕ) (kept : Best) → IRQ_NUMBERS ≤ count
+    → AreNumbers words → IsBestOf priorities words count kept → IsBestOf priorities words IRQ_NUMBERS kept
 scanned_all priorities words count kept l are is = λ pending ready.
-    best_alike priorities pending pending count IRQ_NUMBERS kept (λ j s. (are j (bit_of_ready priorities pending words NONE_READY j ready s.1), s.1))
+    best_alike priorities pending pending count IRQ_NUMBERS kept
+    (λ j s. (are j (bit_of_ready priorities pending words NONE_READY j ready s.1), s.1))
     (λ j t. let low = t.0 in (omega arith, t.1)) (is pending ready)
 
 -- before the scan
-pub scanned_none : (priorities : List (Option ℕ)) (words : List ℕ) → IsBestOf priorities words 0 (record { irq = None; value = NONE_READY })
-scanned_none priorities words = λ pending ready. record { irq = chosen_from (controller_of priorities pending) NONE_READY 0 None (λ irq l r. absurd (omega arith)); value = refl }
+pub scanned_none : (priorities : List (Option ℕ)) (words : List ℕ) → IsBestOf priorities words 0
+    (record { irq = None; value = NONE_READY })
+scanned_none priorities words = λ pending ready. record {
+  irq = chosen_from (controller_of priorities pending)
+      NONE_READY 0 None (λ irq l r. absurd (omega arith));
+  value = refl;
+}
 
 -- with a request
 
-posted_other : (pending : List Bool) (irq j : ℕ) → j ≢ irq → get_or (set pending irq true) j false ≡ get_or pending j false
+posted_other : (pending : List Bool) (irq j : ℕ) → j ≢ irq → get_or (set pending irq true) j false
+    ≡ get_or pending j false
 posted_other pending irq j ne = get_or-set_other pending irq j true false ne
 
-ready_still_by : (priorities : List (Option ℕ)) (pending : List Bool) (irq j : ℕ) → irq < length pending → Dec (j ≡ irq) → IsReady (controller_of priorities pending) NONE_READY j
+ready_still_by : (priorities : List (Option ℕ)) (pending : List Bool) (irq j : ℕ) → irq < length pending → Dec (j ≡ irq)
+    → IsReady (controller_of priorities pending) NONE_READY j
     → IsReady (controller_of priorities (set pending irq true)) NONE_READY j
 ready_still_by priorities pending irq j l (yes e) r =
-    record { pending = ap (λ (k : ℕ). get_or (set pending irq true) k false) e ∙ get_or-set_same pending irq true false l; enabled = r.enabled; higher = r.higher }
-ready_still_by priorities pending irq j l (no ne) r = record { pending = posted_other pending irq j ne ∙ r.pending; enabled = r.enabled; higher = r.higher }
+    record {
+      pending = ap (λ (k : ℕ). get_or (set pending irq true) k false) e
+          ∙ get_or-set_same pending irq true false l;
+      enabled = r.enabled;
+      higher = r.higher;
+    }
+ready_still_by priorities pending irq j l (no ne) r = record {
+  pending = posted_other pending irq j ne ∙ r.pending;
+  enabled = r.enabled;
+  higher = r.higher;
+}
 
-ready_before : (priorities : List (Option ℕ)) (pending : List Bool) (irq j : ℕ) → j ≢ irq → IsReady (controller_of priorities (set pending irq true)) NONE_READY j → IsReady (controller_of priorities pending) NONE_READY j
-ready_before priorities pending irq j ne r = record { pending = sym (posted_other pending irq j ne) ∙ r.pending; enabled = r.enabled; higher = r.higher }
+ready_before : (priorities : List (Option ℕ)) (pending : List Bool) (irq j : ℕ) → j ≢ irq
+    → IsReady (controller_of priorities (set pending irq true)) NONE_READY j
+    → IsReady (controller_of priorities pending) NONE_READY j
+ready_before priorities pending irq j ne r = record {
+  pending = sym (posted_other pending irq j ne) ∙ r.pending;
+  enabled = r.enabled;
+  higher = r.higher;
+}
 
-posted_best : (priorities : List (Option ℕ)) (pending : List Bool) (irq : ℕ) (kept : Best) → irq < length pending → irq < IRQ_NUMBERS → IfSome (get_or priorities irq None) (λ value. value < 256)
-    → IsBestBelow (controller_of priorities pending) IRQ_NUMBERS kept → IsBestBelow (controller_of priorities (set pending irq true)) IRQ_NUMBERS (with kept irq (get_or priorities irq None))
+posted_best : (priorities : List (Option ℕ)) (pending : List Bool) (irq : ℕ) (kept : Best) → irq < length pending
+    → irq < IRQ_NUMBERS → IfSome (get_or priorities irq None) (λ value. value < 256)
+    → IsBestBelow (controller_of priorities pending) IRQ_NUMBERS kept
+    → IsBestBelow (controller_of priorities (set pending irq true)) IRQ_NUMBERS
+    (with kept irq (get_or priorities irq None))
 posted_best priorities pending irq kept inside l low is =
-    best_more priorities pending (set pending irq true) IRQ_NUMBERS IRQ_NUMBERS irq kept (λ j s. (s.0, ready_still_by priorities pending irq j inside (ℕ_discrete j irq) s.1))
-    (λ j ne t. (t.0, ready_before priorities pending irq j ne t.1)) l (get_or-set_same pending irq true false inside) (low_from (get_or priorities irq None) low) is
+    best_more priorities pending (set pending irq true) IRQ_NUMBERS IRQ_NUMBERS irq kept
+    (λ j s. (s.0, ready_still_by priorities pending irq j inside (ℕ_discrete j irq) s.1))
+    (λ j ne t. (t.0, ready_before priorities pending irq j ne t.1)) l (get_or-set_same pending irq true false inside)
+    (low_from (get_or priorities irq None) low) is
 
 -- what the fields keep, after each change
 
-module _ (priorities : List (Option ℕ)) (pending later active : List ℕ) (top : ℕ) (words left : List ℕ) (kept : Best) (irq : ℕ)
+module _ (priorities : List (Option ℕ)) (pending later active : List ℕ) (top : ℕ) (words left : List ℕ) (kept : Best)
+    (irq : ℕ)
     (l : irq < IRQ_NUMBERS) (is : IsKept priorities pending active top words kept)
     (others : (j : ℕ) → j ≢ irq → bit_of left j ≡ bit_of words j) where
   flag_inside : irq < length (flags pending)
@@ -175,7 +240,8 @@ module _ (priorities : List (Option ℕ)) (pending later active : List ℕ) (top
   kept_posted long now same low =
       let fixed = is.fixed in
       let Ready : List Bool → Type 0 = λ flags. AreReady priorities flags left in
-      let First : List Bool → Type 0 = λ flags. IsBest (controller_of priorities flags) (with kept irq (get_or priorities irq None)) in
+      let First : List Bool → Type 0 = λ flags. IsBest (controller_of priorities flags)
+      (with kept irq (get_or priorities irq None)) in
       record {
         fixed = record {
           priorities_long = fixed.priorities_long;
@@ -183,7 +249,8 @@ module _ (priorities : List (Option ℕ)) (pending later active : List ℕ) (top
           active_long = fixed.active_long;
           top_within = fixed.top_within;
         };
-        ready = subst Ready (sym now) (ready_posted priorities (flags pending) words left irq flag_inside is.ready same others);
+        ready = subst Ready (sym now) (ready_posted priorities (flags pending) words left irq flag_inside is.ready same
+            others);
         best = subst First (sym now) (posted_best priorities (flags pending) irq kept flag_inside l low is.best);
       }
 

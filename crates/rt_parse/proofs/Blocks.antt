@@ -15,7 +15,8 @@ block_is [] = refl
 block_is (s ∷ statements) = ap (Then (statement_of s)) (block_is statements)
 
 pub inside_is : (left room : ℕ) (tokens : List Token) →
-    inside_at left room tokens ≡ cond (begins_with (is_this_sign (codes ",")) tokens) (further_at (below_at left) left room tokens) (block_at left room tokens)
+    inside_at left room tokens ≡ cond (begins_with (is_this_sign (codes ",")) tokens)
+    (further_at (below_at left) left room tokens) (block_at left room tokens)
 unfolding block_at below_at
 inside_is zero room tokens = refl
 inside_is (suc left) room tokens = refl

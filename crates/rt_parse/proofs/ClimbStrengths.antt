@@ -1,5 +1,7 @@
--- A climb over the operators of the language: from a strength on, an operator that comes next is read with its right side.
-use Rattle.std.proofs.Common.{◌≡◌, ℕ, ◌<◌, ◌≤◌, ◌-◌, true, false, List, [], ◌∷◌, ◌++◌, length, take, drop, Result, Ok, refl, sym, ap, subst, ◌∙◌, arith}
+-- A climb over the operators of the language: from a strength on, an operator that comes next is read with its right
+-- side.
+use Rattle.std.proofs.Common.{◌≡◌, ℕ, ◌<◌, ◌≤◌, ◌-◌, true, false, List, [], ◌∷◌, ◌++◌, length, take, drop, Result, Ok}
+use Rattle.std.proofs.Common.{refl, sym, ap, subst, ◌∙◌, arith}
 use Rattle.std.proofs.lemmas.List.{take-append-drop, drop-drop}
 use Rattle.rt_ids.specs.declared.op.Op.{Op}
 use Rattle.rt_lex.specs.Token.{Token}
@@ -40,7 +42,8 @@ none_of_atom [] = refl
 none_of_atom (t ∷ tokens) = refl
 
 -- a strength that has an operator is no atom's
-own_first : (s : Strength) (tokens : List Token) → begins_with (is_of (signs_of s)) tokens ≡ true → strengths_from s ≡ signs_of s ∷ stronger_than s
+own_first : (s : Strength) (tokens : List Token) → begins_with (is_of (signs_of s)) tokens ≡ true → strengths_from s
+    ≡ signs_of s ∷ stronger_than s
 own_first strength.Or tokens e = refl
 own_first strength.Xor tokens e = refl
 own_first strength.And tokens e = refl
@@ -49,29 +52,42 @@ own_first strength.Sum tokens e = refl
 own_first strength.Product tokens e = refl
 own_first strength.Atom tokens e = let none = none_of_atom tokens in absurd cc
 
-pub fewer_above : (o : Op) (s : Strength) (tokens : List Token) → IsAhead o s tokens → length (stronger_than s) < length (strengths_from s)
+pub fewer_above : (o : Op) (s : Strength) (tokens : List Token) → IsAhead o s tokens
+    → length (stronger_than s) < length (strengths_from s)
 fewer_above o s tokens ahead = let e = ap length (own_first s tokens ahead.comes) in omega (arith, e)
 
-behind_weaker : (least s : Strength) → length (strengths_from s) ≤ length (strengths_from least) → drop (length (strengths_from least) - length (strengths_from s)) (strengths_from least) ≡ strengths_from s
+behind_weaker : (least s : Strength) → length (strengths_from s) ≤ length (strengths_from least)
+    → drop (length (strengths_from least) - length (strengths_from s)) (strengths_from least) ≡ strengths_from s
 behind_weaker least s most =
     let few = few_strengths_from least in
-    ap (λ (all : List Signs). drop (length (strengths_from least) - length (strengths_from s)) all) (strengths_from_are least)
-    ∙ drop-drop (length (strengths_from least) - length (strengths_from s)) (6 - length (strengths_from least)) strengths
+    ap (λ (all : List Signs). drop (length (strengths_from least) - length (strengths_from s)) all)
+    (strengths_from_are least)
+    ∙ drop-drop (length (strengths_from least) - length (strengths_from s)) (6 - length (strengths_from least))
+    strengths
     ∙ ap (λ (n : ℕ). drop n strengths) (omega (arith, few, most))
     ∙ sym (strengths_from_are s)
 
 -- the strengths from a strength on are weaker ones and those from a stronger one on
-strengths_split : (least s : Strength) → length (strengths_from s) ≤ length (strengths_from least) → strengths_from least ≡ take (length (strengths_from least) - length (strengths_from s)) (strengths_from least) ++ strengths_from s
+strengths_split : (least s : Strength) → length (strengths_from s) ≤ length (strengths_from least)
+    → strengths_from least ≡ take (length (strengths_from least) - length (strengths_from s)) (strengths_from least)
+    ++ strengths_from s
 strengths_split least s most =
     sym (take-append-drop (length (strengths_from least) - length (strengths_from s)) (strengths_from least))
-    ∙ ap (λ (all : List Signs). take (length (strengths_from least) - length (strengths_from s)) (strengths_from least) ++ all) (behind_weaker least s most)
+    ∙ ap (λ (all : List Signs). take (length (strengths_from least) - length (strengths_from s)) (strengths_from least)
+    ++ all) (behind_weaker least s most)
 
-climbs : (least : Strength) (o : Op) (s : Strength) (atom : Reader Measured) (left : Measured) (tokens : List Token) → IsShorter atom → IsAhead o s tokens → length (strengths_from s) ≤ length (strengths_from least)
-    → behind_at (strengths_from least) atom left tokens ≡ (joined_operand_at (signs_of s) (chains_at (stronger_than s) atom) left tokens >>= λ x. behind_at (strengths_from least) atom x.0 x.1)
+climbs : (least : Strength) (o : Op) (s : Strength) (atom : Reader Measured) (left : Measured) (tokens : List Token)
+    → IsShorter atom → IsAhead o s tokens → length (strengths_from s) ≤ length (strengths_from least)
+    → behind_at (strengths_from least) atom left tokens
+    ≡ (joined_operand_at (signs_of s) (chains_at (stronger_than s) atom) left tokens >>= λ x. behind_at
+    (strengths_from least) atom x.0 x.1)
 climbs least o s atom left tokens h ahead most =
     let weaker = take (length (strengths_from least) - length (strengths_from s)) (strengths_from least) in
-    let split : strengths_from least ≡ weaker ++ signs_of s ∷ stronger_than s = strengths_split least s most ∙ ap (λ (all : List Signs). weaker ++ all) (own_first s tokens ahead.comes) in
-    subst (λ (all : List Signs). behind_at all atom left tokens ≡ (joined_operand_at (signs_of s) (chains_at (stronger_than s) atom) left tokens >>= λ x. behind_at all atom x.0 x.1))
+    let split : strengths_from least ≡ weaker ++ signs_of s ∷ stronger_than s =
+    strengths_split least s most ∙ ap (λ (all : List Signs). weaker ++ all) (own_first s tokens ahead.comes) in
+    subst (λ (all : List Signs). behind_at all atom left tokens
+    ≡ (joined_operand_at (signs_of s) (chains_at (stronger_than s) atom) left tokens >>= λ x. behind_at all atom x.0
+    x.1))
     (sym split) (goes_on weaker (signs_of s) (stronger_than s) atom left tokens h ahead.comes ahead.strongest)
 
 -- The steps of the climb.
@@ -83,27 +99,40 @@ stops_first : (why : Stop) (r : Gave) (f : Measured × List Token → Gave) → 
 stops_first stop.Memory r f e = tt
 stops_first (stop.At found) r f e = ap (λ (q : Gave). q >>= f) e
 
-pub begun : (least : Strength) (atom : Reader Measured) (tokens : List Token) (first : Measured) (rest : List Token) → atom tokens ≡ Ok (first, rest)
+pub begun : (least : Strength) (atom : Reader Measured) (tokens : List Token) (first : Measured) (rest : List Token)
+    → atom tokens ≡ Ok (first, rest)
     → behind_at (strengths_from least) atom first rest ≡ chains_at (strengths_from least) atom tokens
 begun least atom tokens first rest e =
-    sym (chains_behind (strengths_from least) atom tokens ∙ ap (λ (r : Gave). r >>= λ x. behind_at (strengths_from least) atom x.0 x.1) e)
+    sym (chains_behind (strengths_from least) atom tokens
+    ∙ ap (λ (r : Gave). r >>= λ x. behind_at (strengths_from least) atom x.0 x.1) e)
 
-pub atom_stops : (why : Stop) (least : Strength) (atom : Reader Measured) (tokens : List Token) → Stops why (atom tokens) → Stops why (chains_at (strengths_from least) atom tokens)
+pub atom_stops : (why : Stop) (least : Strength) (atom : Reader Measured) (tokens : List Token)
+    → Stops why (atom tokens) → Stops why (chains_at (strengths_from least) atom tokens)
 atom_stops why least atom tokens e =
-    subst (Stops why) (sym (chains_behind (strengths_from least) atom tokens)) (stops_first why (atom tokens) (λ x. behind_at (strengths_from least) atom x.0 x.1) e)
+    subst (Stops why) (sym (chains_behind (strengths_from least) atom tokens))
+    (stops_first why (atom tokens) (λ x. behind_at (strengths_from least) atom x.0 x.1) e)
 
-module _ (least : Strength) (o : Op) (s : Strength) (atom : Reader Measured) (left : Measured) (tokens : List Token) (whole : Gave) where
-  pub stepped : IsShorter atom → IsAhead o s tokens → length (strengths_from s) ≤ length (strengths_from least) → (both : Measured) (rest : List Token)
-      → joined_operand_at (signs_of s) (chains_at (stronger_than s) atom) left tokens ≡ Ok (both, rest) → behind_at (strengths_from least) atom left tokens ≡ whole → behind_at (strengths_from least) atom both rest ≡ whole
+module _ (least : Strength) (o : Op) (s : Strength) (atom : Reader Measured) (left : Measured) (tokens : List Token)
+    (whole : Gave) where
+  pub stepped : IsShorter atom → IsAhead o s tokens → length (strengths_from s) ≤ length (strengths_from least)
+      → (both : Measured) (rest : List Token)
+      → joined_operand_at (signs_of s) (chains_at (stronger_than s) atom) left tokens ≡ Ok (both, rest)
+      → behind_at (strengths_from least) atom left tokens ≡ whole → behind_at (strengths_from least) atom both rest
+      ≡ whole
   stepped h ahead most both rest e so =
-      sym (climbs least o s atom left tokens h ahead most ∙ ap (λ (r : Gave). r >>= λ x. behind_at (strengths_from least) atom x.0 x.1) e) ∙ so
+      sym (climbs least o s atom left tokens h ahead most
+      ∙ ap (λ (r : Gave). r >>= λ x. behind_at (strengths_from least) atom x.0 x.1) e) ∙ so
 
-  pub step_stops : (why : Stop) → IsShorter atom → IsAhead o s tokens → length (strengths_from s) ≤ length (strengths_from least)
-      → Stops why (joined_operand_at (signs_of s) (chains_at (stronger_than s) atom) left tokens) → behind_at (strengths_from least) atom left tokens ≡ whole → Stops why whole
+  pub step_stops : (why : Stop) → IsShorter atom → IsAhead o s tokens
+      → length (strengths_from s) ≤ length (strengths_from least)
+      → Stops why (joined_operand_at (signs_of s) (chains_at (stronger_than s) atom) left tokens)
+      → behind_at (strengths_from least) atom left tokens ≡ whole → Stops why whole
   step_stops why h ahead most e so =
       subst (Stops why) (sym (climbs least o s atom left tokens h ahead most) ∙ so)
-      (stops_first why (joined_operand_at (signs_of s) (chains_at (stronger_than s) atom) left tokens) (λ x. behind_at (strengths_from least) atom x.0 x.1) e)
+      (stops_first why (joined_operand_at (signs_of s) (chains_at (stronger_than s) atom) left tokens)
+      (λ x. behind_at (strengths_from least) atom x.0 x.1) e)
 
-pub ended : (least : Strength) (atom : Reader Measured) (left : Measured) (tokens : List Token) (whole : Gave) → begins_with (is_of_some (strengths_from least)) tokens ≡ false
+pub ended : (least : Strength) (atom : Reader Measured) (left : Measured) (tokens : List Token) (whole : Gave)
+    → begins_with (is_of_some (strengths_from least)) tokens ≡ false
     → behind_at (strengths_from least) atom left tokens ≡ whole → whole ≡ Ok (left, tokens)
 ended least atom left tokens whole none so = sym so ∙ closed_behind (strengths_from least) atom left tokens none

@@ -13,17 +13,22 @@ use Rattle.rt_ast.specs.Tree.{Expression, Num, Read}
 use Rattle.rt_ast.specs.declared.ident.Ident.{Ident}
 use Rattle.rt_ast.specs.declared.ident.Number.{Number}
 use Rattle.rt_grammar.specs.Language.{Language, gives, ◌>>=◌, ◌or◌}
-use Rattle.rt_grammar.specs.Tokens.{free, limit_if, name, number, sign, sign_of, ident_of, ident_at, number_of, number_at, name_limit, number_limit}
-use Rattle.rt_grammar.specs.Expression.{Operand, operator, comparisons, strengths, joined_operand, chains, comparison, plain_atom, atom, depth, ends, expression}
+use Rattle.rt_grammar.specs.Tokens.{free, limit_if, name, number, sign, sign_of, ident_of, ident_at, number_of}
+use Rattle.rt_grammar.specs.Tokens.{number_at, name_limit, number_limit}
+use Rattle.rt_grammar.specs.Expression.{Operand, operator, comparisons, strengths, joined_operand, chains, comparison}
+use Rattle.rt_grammar.specs.Expression.{plain_atom, atom, depth, ends, expression}
 use Rattle.rt_grammar.specs.Reach.{is_of, goes_on}
 use Rattle.rt_parse.specs.Inside.Reading as reading
 use Rattle.rt_parse.specs.Inside.Reading.{Reader, begins_with, token_at, sign_at}
 use Rattle.rt_parse.proofs.Exact.{IsInhabited, Avoids, Starts, ReadsAfter, Reads, nothing}
 use Rattle.rt_parse.proofs.ExactToken.{reads_gives}
-use Rattle.rt_parse.proofs.ExactThen.{some_then, reads_seq, reads_then, reads_map, reads_fewer, reads_no_stop, Avoids-smaller}
-use Rattle.rt_parse.proofs.ExactStarts.{starts_token, starts_then, starts_or, starts_wider, avoids_apart, avoids_starts, avoids_gives_then, some_token, some_gives, some_left}
+use Rattle.rt_parse.proofs.ExactThen.{some_then, reads_seq, reads_then, reads_map, reads_fewer, reads_no_stop}
+use Rattle.rt_parse.proofs.ExactThen.{Avoids-smaller}
+use Rattle.rt_parse.proofs.ExactStarts.{starts_token, starts_then, starts_or, starts_wider, avoids_apart, avoids_starts}
+use Rattle.rt_parse.proofs.ExactStarts.{avoids_gives_then, some_token, some_gives, some_left}
 use Rattle.rt_parse.proofs.ExactChoice.{reads_choice, reads_choice'}
-use Rattle.rt_parse.proofs.ExactSigns.{signs_apart, means_number, some_sign, starts_sign, reads_name, reads_number, reads_sign}
+use Rattle.rt_parse.proofs.ExactSigns.{signs_apart, means_number, some_sign, starts_sign, reads_name, reads_number}
+use Rattle.rt_parse.proofs.ExactSigns.{reads_sign}
 use Rattle.rt_parse.proofs.ExactEnds.{reads_ends, ends_avoids}
 use Rattle.rt_parse.proofs.ExactExpression.{of_any, chains_starts, apart_any, apart_signs}
 use Rattle.rt_parse.proofs.ExactComparison.{comparison_at, comparison_some, comparison_reads, goes_on-any}
@@ -59,20 +64,24 @@ plain_no_sign other b e = refl
 abbrev pub plain_at : Reader Operand
 plain_at tokens =
     if begins_with (λ t. is_num t.kind) tokens
-    then (reading.◌>>=◌ (token_at number_of (number_limit (λ n. free)) tokens) (λ n. Ok (record { at = n.0.at; tree = Num n.0.value }, n.1)))
-    else (reading.◌>>=◌ (token_at ident_of (name_limit free) tokens) (λ x. Ok (record { at = x.0.at; tree = Read x.0 }, x.1)))
+    then (reading.◌>>=◌ (token_at number_of (number_limit (λ n. free)) tokens)
+    (λ n. Ok (record { at = n.0.at; tree = Num n.0.value }, n.1)))
+    else (reading.◌>>=◌ (token_at ident_of (name_limit free) tokens)
+    (λ x. Ok (record { at = x.0.at; tree = Read x.0 }, x.1)))
 
 abbrev pub atom_at : ℕ → ℕ → Reader Operand
 atom_at zero opened = plain_at
 atom_at (suc most) opened = λ tokens.
     if begins_with (is_this_sign (codes "(")) tokens
-    then (reading.◌>>=◌ (token_at (sign_of (codes "(")) (λ x. limit_if (nat_le PARENTHESES opened) limit.Parentheses) tokens) (λ at.
+    then (reading.◌>>=◌ (token_at (sign_of (codes "(")) (λ x. limit_if (nat_le PARENTHESES opened) limit.Parentheses)
+    tokens) (λ at.
     reading.◌>>=◌ (comparison_at (atom_at most (suc opened)) (λ e compares tokens. Ok (e, tokens)) at.1) (λ inner.
     reading.◌>>=◌ (sign_at (codes ")") inner.1) (λ end. Ok (record { at = at.0; tree = inner.0.tree }, end.1)))))
     else plain_at tokens
 
 abbrev pub expression_at : ℕ → Reader Expression
-expression_at most = comparison_at (atom_at most 0) (λ e compares tokens. if nat_lt DEPTH (depth e.tree) then Err (record { at = Some e.at; refusal = refusal.Limit limit.Depth }) else Ok (e.tree, tokens))
+expression_at most = comparison_at (atom_at most 0) (λ e compares tokens. if nat_lt DEPTH (depth e.tree) then Err
+    (record { at = Some e.at; refusal = refusal.Limit limit.Depth }) else Ok (e.tree, tokens))
 
 unfoldable pub num_of : Language Operand
 num_of = number >>= λ n. gives (record { at = n.at; tree = Num n.value })
@@ -82,11 +91,13 @@ name_of = name >>= λ x. gives (record { at = x.at; tree = Read x })
 
 pub num_starts : Starts (λ t. is_num t.kind) num_of
 unfolding num_of
-num_starts = starts_then (λ n. gives (record { at = n.at; tree = Num n.value })) (starts_token (number_limit (λ n. free)) (λ t. is_num t.kind) (λ t n e. num_kind t.kind t.text t.at n e))
+num_starts = starts_then (λ n. gives (record { at = n.at; tree = Num n.value }))
+    (starts_token (number_limit (λ n. free)) (λ t. is_num t.kind) (λ t n e. num_kind t.kind t.text t.at n e))
 
 pub name_starts : Starts (λ t. is_name t.kind) name_of
 unfolding name_of
-name_starts = starts_then (λ x. gives (record { at = x.at; tree = Read x })) (starts_token (name_limit free) (λ t. is_name t.kind) (λ t x e. name_kind t.kind t.text t.at x e))
+name_starts = starts_then (λ x. gives (record { at = x.at; tree = Read x }))
+    (starts_token (name_limit free) (λ t. is_name t.kind) (λ t x e. name_kind t.kind t.text t.at x e))
 
 pub plain_starts : Starts is_plain plain_atom
 unfolding num_of name_of
@@ -95,73 +106,102 @@ plain_starts = starts_or
     (starts_wider (λ t. is_name t.kind) is_plain (λ t e. or_right (is_num t.kind) (is_name t.kind) e) name_starts)
 
 pub plain_some : IsInhabited plain_atom
-plain_some = some_left (some_then (some_token means_number) (λ n. some_gives (record { at = n.at; tree = Num n.value })))
+plain_some = some_left (some_then (some_token means_number)
+    (λ n. some_gives (record { at = n.at; tree = Num n.value })))
 
-pub plain_reads : {B : Type 0} {before : Token → Bool} → ReadsAfter B before nothing nothing suc (λ e. e) plain_atom plain_at
+pub plain_reads : {B : Type 0} {before : Token → Bool} → ReadsAfter B before nothing nothing suc (λ e. e) plain_atom
+    plain_at
 unfolding num_of name_of
 plain_reads = reads_choice (λ t. is_num t.kind) num_starts
     (λ K avoids. avoids_apart (λ t. is_name t.kind) (λ t. is_num t.kind) (λ t e. name_no_num t.kind e) name_starts K)
-    (reads_map (λ n. record { at = n.at; tree = Num n.value }) (λ n. record { at = n.at; tree = Num n.value }) (reads_number (λ n. free)) (λ n. refl))
-    (reads_map (λ x. record { at = x.at; tree = Read x }) (λ x. record { at = x.at; tree = Read x }) (reads_name free) (λ x. refl))
+    (reads_map (λ n. record { at = n.at; tree = Num n.value }) (λ n. record { at = n.at; tree = Num n.value })
+    (reads_number (λ n. free)) (λ n. refl))
+    (reads_map (λ x. record { at = x.at; tree = Read x }) (λ x. record { at = x.at; tree = Read x }) (reads_name free)
+    (λ x. refl))
 
 pub atom_some : (most opened : ℕ) → IsInhabited (atom most opened)
 atom_some zero opened = plain_some
 atom_some (suc most) opened = some_left plain_some
 
-pub gives_apart : {B : Type 0} (e : Operand) (compares : Bool) (K : Operand → Language B) → ((x : Operand) → Avoids (goes_on false) (K x)) → Avoids (goes_on compares) (gives e >>= K)
-gives_apart e compares K avoids = avoids_gives_then (goes_on compares) e K (Avoids-smaller (goes_on compares) (goes_on false) (goes_on-any compares) (K e) (avoids e))
+pub gives_apart : {B : Type 0} (e : Operand) (compares : Bool) (K : Operand → Language B)
+    → ((x : Operand) → Avoids (goes_on false) (K x)) → Avoids (goes_on compares) (gives e >>= K)
+gives_apart e compares K avoids = avoids_gives_then (goes_on compares) e K
+    (Avoids-smaller (goes_on compares) (goes_on false) (goes_on-any compares) (K e) (avoids e))
 
 pub closes : (t : Token) → is_this_sign (codes ")") t ≡ true → goes_on false t ≡ false
-closes t e = or_neither (of_any strengths t) (is_of comparisons t) (apart_any ((codes ")", op.Eq) ∷ []) strengths refl t (or_left (is_this_sign (codes ")") t) false e)) (apart_signs ((codes ")", op.Eq) ∷ []) comparisons refl t (or_left (is_this_sign (codes ")") t) false e))
+closes t e = or_neither (of_any strengths t) (is_of comparisons t) (apart_any ((codes ")", op.Eq) ∷ []) strengths refl t
+    (or_left (is_this_sign (codes ")") t) false e)) (apart_signs ((codes ")", op.Eq) ∷ []) comparisons refl t
+    (or_left (is_this_sign (codes ")") t) false e))
 
-pub atom_reads : {B : Type 0} (most opened : ℕ) → Reads B nothing nothing suc (λ e. e) (atom most opened) (atom_at most opened)
+pub atom_reads : {B : Type 0} (most opened : ℕ) → Reads B nothing nothing suc (λ e. e) (atom most opened)
+    (atom_at most opened)
 atom_reads zero opened = plain_reads
 atom_reads (suc most) opened = reads_choice' (is_this_sign (codes "("))
-    (starts_then (λ at. comparison (atom most (suc opened)) (λ e compares. gives e) >>= λ inner. sign (codes ")") >>= λ end. gives (record { at = at; tree = inner.tree })) (starts_sign (codes "(") (limit_if (nat_le PARENTHESES opened) limit.Parentheses)))
+    (starts_then (λ at. comparison (atom most (suc opened)) (λ e compares. gives e) >>= λ inner. sign (codes ")") >>=
+    λ end. gives (record { at = at; tree = inner.tree }))
+    (starts_sign (codes "(") (limit_if (nat_le PARENTHESES opened) limit.Parentheses)))
     (λ K avoids. avoids_apart is_plain (is_this_sign (codes "(")) (λ t e. plain_no_sign t.kind _ e) plain_starts K)
     plain_reads
     (reads_fewer (λ n. omega arith)
-    (reads_then (λ at tokens. reading.◌>>=◌ (comparison_at (atom_at most (suc opened)) (λ e compares tokens. Ok (e, tokens)) tokens) (λ inner.
+    (reads_then (λ at tokens. reading.◌>>=◌ (comparison_at (atom_at most (suc opened))
+    (λ e compares tokens. Ok (e, tokens)) tokens) (λ inner.
     reading.◌>>=◌ (sign_at (codes ")") inner.1) (λ end. Ok (record { at = at; tree = inner.0.tree }, end.1))))
     reads_sign
-    (λ at. reads_seq (λ inner tokens. reading.◌>>=◌ (sign_at (codes ")") tokens) (λ end. Ok (record { at = at; tree = inner.tree }, end.1)))
-    (comparison_reads {goes = λ e. goes_on false} (atom most (suc opened)) (atom_at most (suc opened)) (λ e compares. gives e) (λ e compares tokens. Ok (e, tokens))
-    (atom_some most (suc opened)) (atom_reads most (suc opened)) (λ e compares. some_gives e) gives_apart (λ e compares. reads_no_stop (reads_gives e)))
-    (λ inner. reads_map (λ end. record { at = at; tree = inner.tree }) (λ end. record { at = at; tree = inner.tree }) reads_sign (λ end. refl))
+    (λ at. reads_seq (λ inner tokens. reading.◌>>=◌ (sign_at (codes ")") tokens)
+    (λ end. Ok (record { at = at; tree = inner.tree }, end.1)))
+    (comparison_reads {goes = λ e. goes_on false} (atom most (suc opened)) (atom_at most (suc opened))
+    (λ e compares. gives e) (λ e compares tokens. Ok (e, tokens))
+    (atom_some most (suc opened)) (atom_reads most (suc opened)) (λ e compares. some_gives e) gives_apart
+    (λ e compares. reads_no_stop (reads_gives e)))
+    (λ inner. reads_map (λ end. record { at = at; tree = inner.tree }) (λ end. record { at = at; tree = inner.tree })
+    reads_sign (λ end. refl))
     (λ inner. some_then (some_sign (codes ")") free) (λ end. some_gives (record { at = at; tree = inner.tree })))
     (λ inner K avoids. avoids_starts (is_this_sign (codes ")")) (goes_on false) closes
-    (starts_then K (starts_then (λ end. gives (record { at = at; tree = inner.tree })) (starts_sign (codes ")") free)))))
-    (λ at. some_then (comparison_some (atom most (suc opened)) (λ e compares. gives e) (atom_some most (suc opened)) (λ e compares. some_gives e)) (λ inner. some_then (some_sign (codes ")") free) (λ end. some_gives (record { at = at; tree = inner.tree }))))))
+    (starts_then K (starts_then (λ end. gives (record { at = at; tree = inner.tree })) (starts_sign (codes ")")
+    free)))))
+    (λ at. some_then (comparison_some (atom most (suc opened)) (λ e compares. gives e) (atom_some most (suc opened))
+    (λ e compares. some_gives e)) (λ inner. some_then (some_sign (codes ")") free)
+    (λ end. some_gives (record { at = at; tree = inner.tree }))))))
 
-pub expression_reads : {B : Type 0} (most : ℕ) → Reads B nothing nothing suc (λ e. e) (expression most) (expression_at most)
+pub expression_reads : {B : Type 0} (most : ℕ) → Reads B nothing nothing suc (λ e. e) (expression most)
+    (expression_at most)
 expression_reads most = comparison_reads (atom most 0) (atom_at most 0) (λ e compares. ends (e, compares))
-    (λ e compares tokens. if nat_lt DEPTH (depth e.tree) then Err (record { at = Some e.at; refusal = refusal.Limit limit.Depth }) else Ok (e.tree, tokens))
+    (λ e compares tokens. if nat_lt DEPTH (depth e.tree) then Err
+    (record { at = Some e.at; refusal = refusal.Limit limit.Depth }) else Ok (e.tree, tokens))
     (atom_some most 0) (atom_reads most 0)
     (λ e compares. (_, _, (refl, refl)))
     (λ e compares K avoids. ends_avoids (e, compares) K)
     (λ e compares. reads_ends (e, compares) (nat_lt DEPTH (depth e.tree)) e.at e.tree refl refl refl)
 
 pub expression_some : (most : ℕ) → IsInhabited (expression most)
-expression_some most = comparison_some (atom most 0) (λ e compares. ends (e, compares)) (atom_some most 0) (λ e compares. (_, _, (refl, refl)))
+expression_some most = comparison_some (atom most 0) (λ e compares. ends (e, compares)) (atom_some most 0)
+    (λ e compares. (_, _, (refl, refl)))
 
 -- a token that an expression begins with
 abbrev pub begins_expression : Token → Bool
 begins_expression t = is_plain t || is_this_sign (codes "(") t
 
 pub plain_begins : Starts begins_expression plain_atom
-plain_begins = starts_wider is_plain begins_expression (λ t e. or_left (is_plain t) (is_this_sign (codes "(") t) e) plain_starts
+plain_begins = starts_wider is_plain begins_expression (λ t e. or_left (is_plain t) (is_this_sign (codes "(") t) e)
+    plain_starts
 
 pub atom_starts : (most opened : ℕ) → Starts begins_expression (atom most opened)
 atom_starts zero opened = plain_begins
 atom_starts (suc most) opened = starts_or plain_begins
-    (starts_wider (is_this_sign (codes "(")) begins_expression (λ t e. or_right (is_plain t) (is_this_sign (codes "(") t) e)
-    (starts_then (λ at. comparison (atom most (suc opened)) (λ e compares. gives e) >>= λ inner. sign (codes ")") >>= λ end. gives (record { at = at; tree = inner.tree })) (starts_sign (codes "(") (limit_if (nat_le PARENTHESES opened) limit.Parentheses))))
+    (starts_wider (is_this_sign (codes "(")) begins_expression
+    (λ t e. or_right (is_plain t) (is_this_sign (codes "(") t) e)
+    (starts_then (λ at. comparison (atom most (suc opened)) (λ e compares. gives e) >>= λ inner. sign (codes ")") >>=
+    λ end. gives (record { at = at; tree = inner.tree }))
+    (starts_sign (codes "(") (limit_if (nat_le PARENTHESES opened) limit.Parentheses))))
 
 pub expression_starts : (most : ℕ) → Starts begins_expression (expression most)
-expression_starts most = starts_then (λ left. ends (left, false) or (operator comparisons >>= λ o. chains strengths (atom most 0) >>= λ right. ends (joined_operand o left right, true)))
+expression_starts most = starts_then (λ left. ends (left, false) or
+    (operator comparisons >>= λ o. chains strengths (atom most 0) >>= λ right. ends
+    (joined_operand o left right, true)))
     (chains_starts begins_expression strengths (atom most 0) (atom_starts most 0))
 
-pub expression_no_sign : (text : List ℕ) → bytes_eq (codes "(") text ≡ false → (t : Token) → begins_expression t ≡ true → is_this_sign text t ≡ false
+pub expression_no_sign : (text : List ℕ) → bytes_eq (codes "(") text ≡ false → (t : Token) → begins_expression t ≡ true
+    → is_this_sign text t ≡ false
 expression_no_sign text apart t e = go (is_plain t) refl e
   where
     go : (b : Bool) → is_plain t ≡ b → (b || is_this_sign (codes "(") t) ≡ true → is_this_sign text t ≡ false

@@ -27,7 +27,8 @@ pub op_starts : (signs : Signs) (t : Token) (o : Op) → op_of signs t ≡ Some 
 op_starts [] t o e = absurd cc
 op_starts (x ∷ signs) t o e = go (op_starts signs t o) (is_this_sign x.0 t) e
   where
-    go : (op_of signs t ≡ Some o → is_of signs t ≡ true) → (b : Bool) → (if b then Some x.1 else op_of signs t) ≡ Some o → (b || is_of signs t) ≡ true
+    go : (op_of signs t ≡ Some o → is_of signs t ≡ true) → (b : Bool) → (if b then Some x.1 else op_of signs t) ≡ Some o
+        → (b || is_of signs t) ≡ true
     go next true e = refl
     go next false e = next e
 
@@ -50,25 +51,37 @@ are_apart [] = true
 are_apart ([] ∷ all) = false
 are_apart ((x ∷ signs) ∷ all) = any_apart (x ∷ signs) all && are_apart all
 
-apart_sign : (text : List ℕ) (others : Signs) → apart_from text others ≡ true → (t : Token) → is_this_sign text t ≡ true → is_of others t ≡ false
+apart_sign : (text : List ℕ) (others : Signs) → apart_from text others ≡ true → (t : Token) → is_this_sign text t ≡ true
+    → is_of others t ≡ false
 apart_sign text [] apart t e = refl
 apart_sign text (x ∷ others) apart t e =
-    or_neither (is_this_sign x.0 t) (is_of others t) (signs_apart text x.0 (not_true (bytes_eq text x.0) (and_left _ _ apart)) t e) (apart_sign text others (and_right _ _ apart) t e)
+    or_neither (is_this_sign x.0 t) (is_of others t) (signs_apart text x.0
+    (not_true (bytes_eq text x.0) (and_left _ _ apart)) t e) (apart_sign text others (and_right _ _ apart) t e)
 
-pub apart_signs : (signs others : Signs) → all_apart signs others ≡ true → (t : Token) → is_of signs t ≡ true → is_of others t ≡ false
+pub apart_signs : (signs others : Signs) → all_apart signs others ≡ true → (t : Token) → is_of signs t ≡ true
+    → is_of others t ≡ false
 apart_signs [] others apart t e = absurd cc
-apart_signs (x ∷ signs) others apart t e = go (apart_signs signs others (and_right _ _ apart) t) (is_this_sign x.0 t) refl e
+apart_signs (x ∷ signs) others apart t e = go (apart_signs signs others (and_right _ _ apart) t) (is_this_sign x.0 t)
+    refl e
   where
-    go : (is_of signs t ≡ true → is_of others t ≡ false) → (b : Bool) → is_this_sign x.0 t ≡ b → (b || is_of signs t) ≡ true → is_of others t ≡ false
+    go : (is_of signs t ≡ true → is_of others t ≡ false) → (b : Bool) → is_this_sign x.0 t ≡ b → (b || is_of signs t)
+        ≡ true → is_of others t ≡ false
     go next true f e = apart_sign x.0 others (and_left _ _ apart) t f
     go next false f e = next e
 
-pub apart_any : (signs : Signs) (all : List Signs) → any_apart signs all ≡ true → (t : Token) → is_of signs t ≡ true → of_any all t ≡ false
+pub apart_any : (signs : Signs) (all : List Signs) → any_apart signs all ≡ true → (t : Token) → is_of signs t ≡ true
+    → of_any all t ≡ false
 apart_any signs [] apart t e = refl
-apart_any signs (others ∷ all) apart t e = or_neither (is_of others t) (of_any all t) (apart_signs signs others (and_left _ _ apart) t e) (apart_any signs all (and_right _ _ apart) t e)
+apart_any signs (others ∷ all) apart t e = or_neither (is_of others t) (of_any all t)
+    (apart_signs signs others (and_left _ _ apart) t e) (apart_any signs all (and_right _ _ apart) t e)
 
 pub means_op : (x : List ℕ × Op) (signs : Signs) → (t : Token) × (o : Op) × (op_of (x ∷ signs) t ≡ Some o)
-means_op x signs = let m = means_sign x.0 in (m.0, x.1, ap (λ (b : Bool). if b then Some x.1 else op_of signs m.0) (some_when (is_this_sign x.0 m.0) m.0.at m.1 m.2))
+means_op x signs = let m = means_sign x.0 in (
+  m.0,
+  x.1,
+  ap (λ (b : Bool). if b then Some x.1 else op_of signs m.0)
+      (some_when (is_this_sign x.0 m.0) m.0.at m.1 m.2),
+)
 
 pub means_ops : (signs : Signs) → (signs ≡ [] → ⊥) → (t : Token) × (o : Op) × (op_of signs t ≡ Some o)
 means_ops [] some = absurd (some refl)
@@ -77,10 +90,12 @@ means_ops (x ∷ signs) some = means_op x signs
 -- Chains of operators.
 
 abbrev pub step_at : Signs → Reader Operand → Operand → Reader Operand
-step_at signs operand left tokens = reading.◌>>=◌ (token_at (op_of signs) (λ o. None) tokens) (λ o. reading.◌>>=◌ (operand o.1) (λ right. Ok (joined_operand o.0 left right.0, right.1)))
+step_at signs operand left tokens = reading.◌>>=◌ (token_at (op_of signs) (λ o. None) tokens)
+    (λ o. reading.◌>>=◌ (operand o.1) (λ right. Ok (joined_operand o.0 left right.0, right.1)))
 
 abbrev pub chain_at : Signs → Reader Operand → Reader Operand
-chain_at signs operand tokens = reading.◌>>=◌ (operand tokens) (λ got. repeat_at (is_of signs) (step_at signs operand) (length got.1) got.0 got.1)
+chain_at signs operand tokens = reading.◌>>=◌ (operand tokens)
+    (λ got. repeat_at (is_of signs) (step_at signs operand) (length got.1) got.0 got.1)
 
 abbrev pub chains_at : List Signs → Reader Operand → Reader Operand
 chains_at [] atom = atom
@@ -96,30 +111,40 @@ pub chains_some : (all : List Signs) (atom : Language Operand) → IsInhabited a
 chains_some [] atom some = some
 chains_some (signs ∷ stronger) atom some = chain_some signs (chains stronger atom) (chains_some stronger atom some)
 
-pub chains_starts : (test : Token → Bool) (all : List Signs) (atom : Language Operand) → Starts test atom → Starts test (chains all atom)
+pub chains_starts : (test : Token → Bool) (all : List Signs) (atom : Language Operand) → Starts test atom
+    → Starts test (chains all atom)
 chains_starts test [] atom starts = starts
-chains_starts test (signs ∷ stronger) atom starts = starts_then (repeat (step_of signs (chains stronger atom))) (chains_starts test stronger atom starts)
+chains_starts test (signs ∷ stronger) atom starts = starts_then (repeat (step_of signs (chains stronger atom)))
+    (chains_starts test stronger atom starts)
 
-step_reads : {B : Type 0} {before : Token → Bool} (goes : Token → Bool) (x : List ℕ × Op) (signs : Signs) (operand : Language Operand) (reader : Reader Operand) → IsInhabited operand
+step_reads : {B : Type 0} {before : Token → Bool} (goes : Token → Bool) (x : List ℕ × Op) (signs : Signs)
+    (operand : Language Operand) (reader : Reader Operand) → IsInhabited operand
     → Reads B (λ e. goes) (λ e. goes) suc (λ e. e) operand reader
-    → (left : Operand) → ReadsAfter B before (λ e. goes) (λ e. goes) suc (λ e. e) (step_of (x ∷ signs) operand left) (step_at (x ∷ signs) reader left)
+    → (left : Operand) → ReadsAfter B before (λ e. goes) (λ e. goes) suc (λ e. e) (step_of (x ∷ signs) operand left)
+    (step_at (x ∷ signs) reader left)
 step_reads goes x signs operand reader some reads left =
     reads_fewer (λ n. omega arith)
     (reads_then (λ o tokens. reading.◌>>=◌ (reader tokens) (λ right. Ok (joined_operand o left right.0, right.1)))
-    (reads_token (means_op x signs)) (λ o. reads_map (joined_operand o left) (joined_operand o left) reads (λ right. refl)) (λ o. some_then some (λ right. some_gives (joined_operand o left right))))
+    (reads_token (means_op x signs)) (λ o. reads_map (joined_operand o left) (joined_operand o left) reads
+    (λ right. refl)) (λ o. some_then some (λ right. some_gives (joined_operand o left right))))
 
-pub chains_reads : {B : Type 0} (all : List Signs) (atom : Language Operand) (reader : Reader Operand) → are_apart all ≡ true → IsInhabited atom
-    → Reads B nothing nothing suc (λ e. e) atom reader → Reads B (λ e. of_any all) (λ e. of_any all) suc (λ e. e) (chains all atom) (chains_at all reader)
+pub chains_reads : {B : Type 0} (all : List Signs) (atom : Language Operand) (reader : Reader Operand) → are_apart all
+    ≡ true → IsInhabited atom
+    → Reads B nothing nothing suc (λ e. e) atom reader → Reads B (λ e. of_any all) (λ e. of_any all) suc (λ e. e)
+    (chains all atom) (chains_at all reader)
 chains_reads [] atom reader apart some reads = reads
 chains_reads ([] ∷ stronger) atom reader apart some reads = absurd cc
 chains_reads ((x ∷ signs) ∷ stronger) atom reader apart some reads =
     let operand = chains_reads stronger atom reader (and_right _ _ apart) some reads in
     let any = chains_some stronger atom some in
-    reads_chain (is_of (x ∷ signs)) (step_of (x ∷ signs) (chains stronger atom)) (step_at (x ∷ signs) (chains_at stronger reader))
+    reads_chain (is_of (x ∷ signs)) (step_of (x ∷ signs) (chains stronger atom))
+    (step_at (x ∷ signs) (chains_at stronger reader))
     (λ left. op_first left)
-    (λ left. avoids_starts (is_of (x ∷ signs)) (of_any stronger) (apart_any (x ∷ signs) stronger (and_left _ _ apart)) (op_first left))
+    (λ left. avoids_starts (is_of (x ∷ signs)) (of_any stronger) (apart_any (x ∷ signs) stronger (and_left _ _ apart))
+    (op_first left))
     (step_reads (of_any stronger) x signs (chains stronger atom) (chains_at stronger reader) any operand)
     operand
   where
     op_first : (left : Operand) → Starts (is_of (x ∷ signs)) (step_of (x ∷ signs) (chains stronger atom) left)
-    op_first left = starts_then (λ o. chains stronger atom >>= λ right. gives (joined_operand o left right)) (starts_token (λ o. None) (is_of (x ∷ signs)) (op_starts (x ∷ signs)))
+    op_first left = starts_then (λ o. chains stronger atom >>= λ right. gives (joined_operand o left right))
+        (starts_token (λ o. None) (is_of (x ∷ signs)) (op_starts (x ∷ signs)))

@@ -1,5 +1,6 @@
 -- Exactness under another language, another reader and fewer tokens; the laws of languages and of reading.
-use Rattle.std.proofs.Common.{◌≡◌, ℕ, zero, suc, ◌≤◌, List, [], ◌++◌, Result, Ok, Err, refl, sym, subst, inl, inr, arith}
+use Rattle.std.proofs.Common.{◌≡◌, ℕ, zero, suc, ◌≤◌, List, [], ◌++◌, Result, Ok, Err, refl, sym, subst, inl, inr}
+use Rattle.std.proofs.Common.{arith}
 use Rattle.std.proofs.lemmas.List.{append-nil, append_assoc}
 use Rattle.rt_lex.specs.Token.{Token}
 use Rattle.rt_grammar.specs.Mark.{Mark}
@@ -16,25 +17,47 @@ IsWithinLanguage {B} K M = (marks : List Mark) (y : B) → K marks y → M marks
 blocked_never : {B : Type 0} (tokens : List Token) → IsBlocked (never {A = B}) tokens
 blocked_never tokens = record { out = λ m marks y front rest l fits. l; some = λ y l e. l }
 
-pub same_outcome : {B : Type 0} (K M : Language B) (tokens : List Token) (read : Result B Found) → IsWithinLanguage K M → IsWithinLanguage M K → Outcome K tokens read → Outcome M tokens read
-same_outcome K M tokens read into out = outcome_wider K M never tokens into (λ marks y m. inl (out marks y m)) (blocked_never tokens) read
+pub same_outcome : {B : Type 0} (K M : Language B) (tokens : List Token) (read : Result B Found) → IsWithinLanguage K M
+    → IsWithinLanguage M K → Outcome K tokens read → Outcome M tokens read
+same_outcome K M tokens read into out = outcome_wider K M never tokens into (λ marks y m. inl (out marks y m))
+    (blocked_never tokens) read
 
-pub same_language : {B : Type 0} (K M : Language B) (read : List Token → Result B Found) (n : ℕ) → IsWithinLanguage K M → IsWithinLanguage M K → IsExact K read n → IsExact M read n
+pub same_language : {B : Type 0} (K M : Language B) (read : List Token → Result B Found) (n : ℕ) → IsWithinLanguage K M
+    → IsWithinLanguage M K → IsExact K read n → IsExact M read n
 same_language K M read n into out exact tokens most = same_outcome K M tokens (read tokens) into out (exact tokens most)
 
-pub same_reader : {B : Type 0} (K : Language B) (read read' : List Token → Result B Found) (n : ℕ) → ((tokens : List Token) → read tokens ≡ read' tokens) → IsExact K read n → IsExact K read' n
-same_reader {B} K read read' n same exact tokens most = subst (λ (r : Result B Found). Outcome K tokens r) (same tokens) (exact tokens most)
+pub same_reader : {B : Type 0} (K : Language B) (read read' : List Token → Result B Found) (n : ℕ)
+    → ((tokens : List Token) → read tokens ≡ read' tokens) → IsExact K read n → IsExact K read' n
+same_reader {B} K read read' n same exact tokens most = subst (λ (r : Result B Found). Outcome K tokens r) (same tokens)
+    (exact tokens most)
 
-pub fewer : {B : Type 0} (K : Language B) (read : List Token → Result B Found) (m n : ℕ) → m ≤ n → IsExact K read n → IsExact K read m
+pub fewer : {B : Type 0} (K : Language B) (read : List Token → Result B Found) (m n : ℕ) → m ≤ n → IsExact K read n
+    → IsExact K read m
 fewer K read m n le exact tokens most = exact tokens (omega arith)
 
 -- Laws of languages, each in both directions.
 
-pub then_then : {A B C : Type 0} (L : Language A) (M : A → Language B) (N : B → Language C) → IsWithinLanguage (L >>= (λ x. M x >>= N)) (L >>= M >>= N)
-then_then L M N marks z (x, front, back, l, (y, middle, end, m, n, e'), e) = (y, front ++ middle, end, (x, front, middle, l, m, refl), n, (let f : (front ++ middle) ++ end ≡ front ++ (middle ++ end) = append_assoc front middle end in cc))
+pub then_then : {A B C : Type 0} (L : Language A) (M : A → Language B) (N : B → Language C)
+    → IsWithinLanguage (L >>= (λ x. M x >>= N)) (L >>= M >>= N)
+then_then L M N marks z (x, front, back, l, (y, middle, end, m, n, e'), e) = (
+  y,
+  front ++ middle,
+  end,
+  (x, front, middle, l, m, refl),
+  n,
+  (let f : (front ++ middle) ++ end ≡ front ++ (middle ++ end) = append_assoc front middle end in cc),
+)
 
-pub then_then' : {A B C : Type 0} (L : Language A) (M : A → Language B) (N : B → Language C) → IsWithinLanguage (L >>= M >>= N) (L >>= (λ x. M x >>= N))
-then_then' L M N marks z (y, both, end, (x, front, middle, l, m, e'), n, e) = (x, front, middle ++ end, l, (y, middle, end, m, n, refl), (let f : (front ++ middle) ++ end ≡ front ++ (middle ++ end) = append_assoc front middle end in cc))
+pub then_then' : {A B C : Type 0} (L : Language A) (M : A → Language B) (N : B → Language C)
+    → IsWithinLanguage (L >>= M >>= N) (L >>= (λ x. M x >>= N))
+then_then' L M N marks z (y, both, end, (x, front, middle, l, m, e'), n, e) = (
+  x,
+  front,
+  middle ++ end,
+  l,
+  (y, middle, end, m, n, refl),
+  (let f : (front ++ middle) ++ end ≡ front ++ (middle ++ end) = append_assoc front middle end in cc),
+)
 
 pub gives_then : {A B : Type 0} (x : A) (K : A → Language B) → IsWithinLanguage (K x) (gives x >>= K)
 gives_then x K marks y k = (x, [], marks, (refl, refl), k, refl)
@@ -53,17 +76,21 @@ then_gives' L marks y (x, front, back, l, (eb, ey), e) =
     let f : front ≡ marks = cc in
     subst (λ (ms : List Mark). L ms y) f (subst (λ (z : _). L front z) (sym ey) l)
 
-pub then_same : {A B : Type 0} (L : Language A) (M N : A → Language B) → ((x : A) → IsWithinLanguage (M x) (N x)) → IsWithinLanguage (L >>= M) (L >>= N)
+pub then_same : {A B : Type 0} (L : Language A) (M N : A → Language B) → ((x : A) → IsWithinLanguage (M x) (N x))
+    → IsWithinLanguage (L >>= M) (L >>= N)
 then_same L M N into marks y (x, front, back, l, m, e) = (x, front, back, l, into x back y m, e)
 
-pub same_then : {A B : Type 0} (L M : Language A) (N : A → Language B) → IsWithinLanguage L M → IsWithinLanguage (L >>= N) (M >>= N)
+pub same_then : {A B : Type 0} (L M : Language A) (N : A → Language B) → IsWithinLanguage L M
+    → IsWithinLanguage (L >>= N) (M >>= N)
 same_then L M N into marks y (x, front, back, l, n, e) = (x, front, back, into front x l, n, e)
 
-pub or_then : {A B : Type 0} (L M : Language A) (K : A → Language B) → IsWithinLanguage ((L >>= K) or (M >>= K)) ((L or M) >>= K)
+pub or_then : {A B : Type 0} (L M : Language A) (K : A → Language B)
+    → IsWithinLanguage ((L >>= K) or (M >>= K)) ((L or M) >>= K)
 or_then L M K marks y (inl (x, front, back, l, k, e)) = (x, front, back, inl l, k, e)
 or_then L M K marks y (inr (x, front, back, m, k, e)) = (x, front, back, inr m, k, e)
 
-pub or_then' : {A B : Type 0} (L M : Language A) (K : A → Language B) → IsWithinLanguage ((L or M) >>= K) ((L >>= K) or (M >>= K))
+pub or_then' : {A B : Type 0} (L M : Language A) (K : A → Language B)
+    → IsWithinLanguage ((L or M) >>= K) ((L >>= K) or (M >>= K))
 or_then' L M K marks y (x, front, back, inl l, k, e) = inl (x, front, back, l, k, e)
 or_then' L M K marks y (x, front, back, inr m, k, e) = inr (x, front, back, m, k, e)
 
@@ -80,12 +107,27 @@ read_then (Err e) f g = refl
 
 -- A repetition is nothing, or a step and the repetition behind it.
 
-pub repeat_then : {S B : Type 0} (step : S → Language S) (s : S) (K : S → Language B) → IsWithinLanguage (K s or (step s >>= λ x. repeat step x >>= K)) (repeat step s >>= K)
+pub repeat_then : {S B : Type 0} (step : S → Language S) (s : S) (K : S → Language B)
+    → IsWithinLanguage (K s or (step s >>= λ x. repeat step x >>= K)) (repeat step s >>= K)
 repeat_then step s K marks y (inl k) = (s, [], marks, (zero, (refl, refl)), k, refl)
-repeat_then step s K marks y (inr (x, front, back, l, (z, middle, end, (n, t), k, e'), e)) =
-    (z, front ++ middle, end, (suc n, (x, front, middle, l, t, refl)), k, (let f : (front ++ middle) ++ end ≡ front ++ (middle ++ end) = append_assoc front middle end in cc))
+repeat_then step s K marks y (inr (x, front, back, l, (z, middle, end, (n, t), k, e'), e)) = (
+  z,
+  front ++ middle,
+  end,
+  (suc n, (x, front, middle, l, t, refl)),
+  k,
+  (let f : (front ++ middle) ++ end ≡ front ++ (middle ++ end) = append_assoc front middle end in cc),
+)
 
-pub repeat_then' : {S B : Type 0} (step : S → Language S) (s : S) (K : S → Language B) → IsWithinLanguage (repeat step s >>= K) (K s or (step s >>= λ x. repeat step x >>= K))
+pub repeat_then' : {S B : Type 0} (step : S → Language S) (s : S) (K : S → Language B)
+    → IsWithinLanguage (repeat step s >>= K) (K s or (step s >>= λ x. repeat step x >>= K))
 repeat_then' step s K marks y (z, both, end, (zero, t), k, e) = inl (gives_then' s K marks y (z, both, end, t, k, e))
 repeat_then' step s K marks y (z, both, end, (suc n, (x, front, middle, l, t, e')), k, e) =
-    inr (x, front, middle ++ end, l, (z, middle, end, (n, t), k, refl), (let f : (front ++ middle) ++ end ≡ front ++ (middle ++ end) = append_assoc front middle end in cc))
+    inr (
+      x,
+      front,
+      middle ++ end,
+      l,
+      (z, middle, end, (n, t), k, refl),
+      (let f : (front ++ middle) ++ end ≡ front ++ (middle ++ end) = append_assoc front middle end in cc),
+    )

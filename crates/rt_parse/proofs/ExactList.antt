@@ -4,24 +4,35 @@ use Rattle.std.specs.Prelude.{◌⊎◌, codes}
 use Rattle.std.proofs.lemmas.List.{append-nil, append_assoc}
 use Rattle.rt_grammar.specs.Language.{Language, gives, ◌>>=◌, ◌or◌, repeat}
 use Rattle.rt_grammar.specs.Tokens.{sign, list}
-use Rattle.rt_parse.proofs.ExactLaws.{IsWithinLanguage, then_then, then_then', gives_then, gives_then', or_then, or_then', repeat_then, repeat_then'}
+use Rattle.rt_parse.proofs.ExactLaws.{IsWithinLanguage, then_then, then_then', gives_then, gives_then', or_then}
+use Rattle.rt_parse.proofs.ExactLaws.{or_then', repeat_then, repeat_then'}
 
 -- a form, and another behind it that adds no meaning
-through : {A X B : Type 0} (L : Language A) (S : Language X) (M : A → Language B) → IsWithinLanguage (L >>= λ x. S >>= λ z. M x) ((L >>= λ x. S >>= λ z. gives x) >>= M)
-through L S M marks y (x, front, back, l, (z, f, b, s, m, e'), e) =
-    (x, front ++ f, b, (x, front, f, l, (z, f, [], s, (refl, refl), sym (append-nil f)), refl), m, (let h : (front ++ f) ++ b ≡ front ++ (f ++ b) = append_assoc front f b in cc))
+through : {A X B : Type 0} (L : Language A) (S : Language X) (M : A → Language B)
+    → IsWithinLanguage (L >>= λ x. S >>= λ z. M x) ((L >>= λ x. S >>= λ z. gives x) >>= M)
+through L S M marks y (x, front, back, l, (z, f, b, s, m, e'), e) = (
+  x,
+  front ++ f,
+  b,
+  (x, front, f, l, (z, f, [], s, (refl, refl), sym (append-nil f)), refl),
+  m,
+  (let h : (front ++ f) ++ b ≡ front ++ (f ++ b) = append_assoc front f b in cc),
+)
 
-through' : {A X B : Type 0} (L : Language A) (S : Language X) (M : A → Language B) → IsWithinLanguage ((L >>= λ x. S >>= λ z. gives x) >>= M) (L >>= λ x. S >>= λ z. M x)
+through' : {A X B : Type 0} (L : Language A) (S : Language X) (M : A → Language B)
+    → IsWithinLanguage ((L >>= λ x. S >>= λ z. gives x) >>= M) (L >>= λ x. S >>= λ z. M x)
 through' {A} L S M marks y (w, front, back, (x, f1, b1, l, (z, f2, b2, s, (eb, ew), e2), e1), m, e) = (
   x,
   f1,
   f2 ++ back,
   l,
   (z, f2, back, s, subst (λ (v : A). M v back y) ew m, refl),
-  (let h : (f1 ++ f2) ++ back ≡ f1 ++ (f2 ++ back) = append_assoc f1 f2 back in let n : f2 ++ [] ≡ f2 = append-nil f2 in cc),
+  (let h : (f1 ++ f2) ++ back ≡ f1 ++ (f2 ++ back) = append_assoc f1 f2 back in let n : f2 ++ [] ≡ f2 = append-nil f2 in
+      cc),
 )
 
-then_or : {A B : Type 0} (L : Language A) (M N : A → Language B) → IsWithinLanguage (L >>= λ x. M x or N x) ((L >>= M) or (L >>= N))
+then_or : {A B : Type 0} (L : Language A) (M N : A → Language B) → IsWithinLanguage (L >>= λ x. M x or N x)
+    ((L >>= M) or (L >>= N))
 then_or L M N marks y (x, front, back, l, inl m, e) = inl (x, front, back, l, m, e)
 then_or L M N marks y (x, front, back, l, inr n, e) = inr (x, front, back, l, n, e)
 
@@ -58,13 +69,16 @@ module _ {S B : Type 0} (closing : List ℕ) (item : S → Language S) (behind :
   list_rest s = then_then' (repeat step_of s) (λ m. (gives m or item m) >>= λ x. sign closing >>= λ z. gives x) behind
 
   end_last : (s : S) → IsWithinLanguage (end_of s) (last_of s)
-  end_last s marks y l = through (gives s or item s) (sign closing) behind marks y (or_then (gives s) (item s) end_of marks y (inl (gives_then s end_of marks y l)))
+  end_last s marks y l = through (gives s or item s) (sign closing) behind marks y
+      (or_then (gives s) (item s) end_of marks y (inl (gives_then s end_of marks y l)))
 
   item_last : (s : S) → IsWithinLanguage (item s >>= end_of) (last_of s)
-  item_last s marks y l = through (gives s or item s) (sign closing) behind marks y (or_then (gives s) (item s) end_of marks y (inr l))
+  item_last s marks y l = through (gives s or item s) (sign closing) behind marks y
+      (or_then (gives s) (item s) end_of marks y (inr l))
 
   last_either : (s : S) → IsWithinLanguage (last_of s) (end_of s or (item s >>= end_of))
-  last_either s marks y l = go (or_then' (gives s) (item s) end_of marks y (through' (gives s or item s) (sign closing) behind marks y l))
+  last_either s marks y l = go (or_then' (gives s) (item s) end_of marks y
+      (through' (gives s or item s) (sign closing) behind marks y l))
     where
       go : (gives s >>= end_of) marks y ⊎ (item s >>= end_of) marks y → end_of s marks y ⊎ (item s >>= end_of) marks y
       go (inl g) = inl (gives_then' s end_of marks y g)
@@ -89,4 +103,5 @@ module _ {S B : Type 0} (closing : List ℕ) (item : S → Language S) (behind :
 
       go : last_of s marks y ⊎ (step_of s >>= rest_of) marks y → end_of s marks y ⊎ (item s >>= next_of) marks y
       go (inl l) = of_last (last_either s marks y l)
-      go (inr m) = inr (then_right (item s) end_of more_of marks y (through' (item s) (sign (codes ",")) rest_of marks y m))
+      go (inr m) = inr (then_right (item s) end_of more_of marks y
+          (through' (item s) (sign (codes ",")) rest_of marks y m))

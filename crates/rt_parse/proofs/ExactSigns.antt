@@ -53,18 +53,24 @@ some_this_name text = some_token (means_this_name text)
 
 -- Different ones are apart.
 
-signs_apart_at : (k : Kind) (text a b : List ℕ) → bytes_eq a b ≡ false → if_sign k (bytes_eq text a) ≡ true → if_sign k (bytes_eq text b) ≡ false
-signs_apart_at kind.Sign text a b apart e = subst (λ (s : List ℕ). bytes_eq s b ≡ false) (sym ((bytes_eq-Decides text a).0 e)) apart
+signs_apart_at : (k : Kind) (text a b : List ℕ) → bytes_eq a b ≡ false → if_sign k (bytes_eq text a) ≡ true
+    → if_sign k (bytes_eq text b) ≡ false
+signs_apart_at kind.Sign text a b apart e = subst (λ (s : List ℕ). bytes_eq s b ≡ false)
+    (sym ((bytes_eq-Decides text a).0 e)) apart
 signs_apart_at other text a b apart e = refl
 
-pub signs_apart : (a b : List ℕ) → bytes_eq a b ≡ false → (t : Token) → is_this_sign a t ≡ true → is_this_sign b t ≡ false
+pub signs_apart : (a b : List ℕ) → bytes_eq a b ≡ false → (t : Token) → is_this_sign a t ≡ true → is_this_sign b t
+    ≡ false
 signs_apart a b apart t e = signs_apart_at t.kind t.text a b apart e
 
-words_apart_at : (k : Kind) (text a b : List ℕ) → bytes_eq a b ≡ false → if_word k (bytes_eq text a) ≡ true → if_word k (bytes_eq text b) ≡ false
-words_apart_at kind.Word text a b apart e = subst (λ (s : List ℕ). bytes_eq s b ≡ false) (sym ((bytes_eq-Decides text a).0 e)) apart
+words_apart_at : (k : Kind) (text a b : List ℕ) → bytes_eq a b ≡ false → if_word k (bytes_eq text a) ≡ true
+    → if_word k (bytes_eq text b) ≡ false
+words_apart_at kind.Word text a b apart e = subst (λ (s : List ℕ). bytes_eq s b ≡ false)
+    (sym ((bytes_eq-Decides text a).0 e)) apart
 words_apart_at other text a b apart e = refl
 
-pub words_apart : (a b : List ℕ) → bytes_eq a b ≡ false → (t : Token) → is_this_word a t ≡ true → is_this_word b t ≡ false
+pub words_apart : (a b : List ℕ) → bytes_eq a b ≡ false → (t : Token) → is_this_word a t ≡ true → is_this_word b t
+    ≡ false
 words_apart a b apart t e = words_apart_at t.kind t.text a b apart e
 
 word_no_sign_at : (k : Kind) (a b : Bool) → if_word k a ≡ true → if_sign k b ≡ false
@@ -102,18 +108,22 @@ starts_this_name text = starts_token (λ x. free) (is_this_name text)
 
 -- Their readers.
 
-pub reads_word : {B : Type 0} {before : Token → Bool} {text : List ℕ} {what : Option Limit} → ReadsAfter B before nothing nothing suc (λ x. x) (limited_word text what) (token_at (word_of text) (λ _. what))
+pub reads_word : {B : Type 0} {before : Token → Bool} {text : List ℕ} {what : Option Limit}
+    → ReadsAfter B before nothing nothing suc (λ x. x) (limited_word text what) (token_at (word_of text) (λ _. what))
 reads_word {text = text} = reads_token (means_word text)
 
-pub reads_sign : {B : Type 0} {before : Token → Bool} {text : List ℕ} {what : Option Limit} → ReadsAfter B before nothing nothing suc (λ x. x) (limited_sign text what) (token_at (sign_of text) (λ _. what))
+pub reads_sign : {B : Type 0} {before : Token → Bool} {text : List ℕ} {what : Option Limit}
+    → ReadsAfter B before nothing nothing suc (λ x. x) (limited_sign text what) (token_at (sign_of text) (λ _. what))
 reads_sign {text = text} = reads_token (means_sign text)
 
 pub reads_this_name : {B : Type 0} {before : Token → Bool} {text : List ℕ}
     → ReadsAfter B before nothing nothing suc (λ x. x) (this_name text) (token_at (name_of text) (λ _. free))
 reads_this_name {text = text} = reads_token (means_this_name text)
 
-pub reads_name : {B : Type 0} {before : Token → Bool} (what : Option Limit) → ReadsAfter B before nothing nothing suc (λ x. x) (limited_name what) (token_at ident_of (name_limit what))
+pub reads_name : {B : Type 0} {before : Token → Bool} (what : Option Limit)
+    → ReadsAfter B before nothing nothing suc (λ x. x) (limited_name what) (token_at ident_of (name_limit what))
 reads_name what = reads_token means_name
 
-pub reads_number : {B : Type 0} {before : Token → Bool} (what : ℕ → Option Limit) → ReadsAfter B before nothing nothing suc (λ x. x) (limited_number what) (token_at number_of (number_limit what))
+pub reads_number : {B : Type 0} {before : Token → Bool} (what : ℕ → Option Limit)
+    → ReadsAfter B before nothing nothing suc (λ x. x) (limited_number what) (token_at number_of (number_limit what))
 reads_number what = reads_token means_number

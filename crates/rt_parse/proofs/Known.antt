@@ -1,5 +1,6 @@
 -- The tokens of the grammar's texts are words, signs, names and numbers: none is a byte that no token begins with.
-use Rattle.std.proofs.Common.{◌≡◌, ◌≢◌, ℕ, zero, suc, Bool, true, false, List, [], ◌∷◌, ◌++◌, Option, Some, refl, sym, subst, inl, inr}
+use Rattle.std.proofs.Common.{◌≡◌, ◌≢◌, ℕ, zero, suc, Bool, true, false, List, [], ◌∷◌, ◌++◌, Option, Some, refl, sym}
+use Rattle.std.proofs.Common.{subst, inl, inr}
 use Rattle.std.specs.Prelude.{if◌then◌else◌}
 use Rattle.std.specs.List.{AllByRecursion}
 use Rattle.rt_lemmas.proofs.Options.{some_when}
@@ -15,7 +16,8 @@ use Rattle.rt_grammar.specs.Language.{Language, gives, ◌>>=◌, ◌or◌, or_e
 use Rattle.rt_grammar.specs.Tokens.{free, limited_word, limited_sign, limited_name, this_name, limited_number, word_of}
 use Rattle.rt_grammar.specs.Tokens.{sign_of, name_of, ident_of, ident_at, number_of, number_at, name_limit}
 use Rattle.rt_grammar.specs.Tokens.{number_limit, list, adds}
-use Rattle.rt_grammar.specs.Expression.{Operand, Signs, op_of, operator, comparisons, strengths, chains, comparison, plain_atom, atom, ends, expression}
+use Rattle.rt_grammar.specs.Expression.{Operand, Signs, op_of, operator, comparisons, strengths, chains, comparison}
+use Rattle.rt_grammar.specs.Expression.{plain_atom, atom, ends, expression}
 
 -- the mark takes no such byte
 abbrev pub IsToken : Mark → Type 0
@@ -35,8 +37,12 @@ all_of e all = subst (AllByRecursion IsToken) (sym e) all
 pub known_gives : {A : Type 0} (x : A) → Known (gives x)
 known_gives x = record { known = λ marks y l. all_of l.0 tt }
 
-pub known_then : {A B : Type 0} {L : Language A} {M : A → Language B} → Known L → ((x : A) → Known (M x)) → Known (L >>= M)
-known_then first second = record { known = λ marks y l. all_of l.5 (all_both l.1 l.2 (first.known l.1 l.0 l.3) ((second l.0).known l.2 y l.4)) }
+pub known_then : {A B : Type 0} {L : Language A} {M : A → Language B} → Known L → ((x : A) → Known (M x))
+    → Known (L >>= M)
+known_then first second = record {
+  known = λ marks y l. all_of l.5
+      (all_both l.1 l.2 (first.known l.1 l.0 l.3) ((second l.0).known l.2 y l.4));
+}
 
 pub known_or : {A : Type 0} {L M : Language A} → Known L → Known M → Known (L or M)
 known_or {A} {L} {M} one other = record { known = go }
@@ -54,7 +60,8 @@ known_only_if holds known = record { known = λ marks x l. known.known marks x l
 pub known_never : {A : Type 0} → Known (never {A = A})
 known_never = record { known = λ marks x l. absurd l }
 
-known_times : {S : Type 0} (n : ℕ) {step : S → Language S} → ((s : S) → Known (step s)) → (s : S) → Known (times n step s)
+known_times : {S : Type 0} (n : ℕ) {step : S → Language S} → ((s : S) → Known (step s)) → (s : S)
+    → Known (times n step s)
 known_times zero known s = known_gives s
 known_times (suc n) known s = known_then (known s) (known_times n known)
 
@@ -63,7 +70,8 @@ known_repeat known s = record { known = λ marks x l. (known_times l.0 known s).
 
 -- Tokens.
 
-known_token : {A : Type 0} (meaning : Token → Option A) (limit : A → Option Limit) → ((t : Token) (x : A) → meaning t ≡ Some x → t.kind ≢ kind.Foreign) → Known (token meaning limit)
+known_token : {A : Type 0} (meaning : Token → Option A) (limit : A → Option Limit)
+    → ((t : Token) (x : A) → meaning t ≡ Some x → t.kind ≢ kind.Foreign) → Known (token meaning limit)
 known_token meaning limit means = record { known = λ marks x l. all_of l.2 (means l.0 x l.1, tt) }
 
 word_kind : (k : Kind) (same : Bool) → if_word k same ≡ true → k ≢ kind.Foreign
@@ -87,10 +95,12 @@ number_kind kind.Foreign text at x e = absurd cc
 number_kind other text at x e = λ f. absurd cc
 
 pub known_word : {text : List ℕ} {what : Option Limit} → Known (limited_word text what)
-known_word {text = text} {what = what} = known_token (word_of text) (λ _. what) (λ t x e. word_kind t.kind _ (some_when _ t.at x e))
+known_word {text = text} {what = what} = known_token (word_of text) (λ _. what)
+    (λ t x e. word_kind t.kind _ (some_when _ t.at x e))
 
 pub known_sign : {text : List ℕ} {what : Option Limit} → Known (limited_sign text what)
-known_sign {text = text} {what = what} = known_token (sign_of text) (λ _. what) (λ t x e. sign_kind t.kind _ (some_when _ t.at x e))
+known_sign {text = text} {what = what} = known_token (sign_of text) (λ _. what)
+    (λ t x e. sign_kind t.kind _ (some_when _ t.at x e))
 
 pub known_this_name : {text : List ℕ} → Known (this_name text)
 known_this_name {text = text} =
@@ -102,11 +112,15 @@ known_name what = known_token ident_of (name_limit what) (λ t x e. name_kind t.
 pub known_number : (what : ℕ → Option Limit) → Known (limited_number what)
 known_number what = known_token number_of (number_limit what) (λ t x e. number_kind t.kind t.text t.at x e)
 
-pub known_list : {S : Type 0} (closing : List ℕ) {item : S → Language S} → ((s : S) → Known (item s)) → (s : S) → Known (list closing item s)
+pub known_list : {S : Type 0} (closing : List ℕ) {item : S → Language S} → ((s : S) → Known (item s)) → (s : S)
+    → Known (list closing item s)
 known_list closing known s =
-    known_then (known_repeat (λ s. known_then (known s) (λ x. known_then known_sign (λ at. known_gives x))) s) (λ most. known_then (known_or (known_gives most) (known most)) (λ all. known_then known_sign (λ at. known_gives all)))
+    known_then (known_repeat (λ s. known_then (known s) (λ x. known_then known_sign (λ at. known_gives x))) s)
+    (λ most. known_then (known_or (known_gives most) (known most))
+    (λ all. known_then known_sign (λ at. known_gives all)))
 
-pub known_adds : {A : Type 0} {item : ℕ → Language A} → ((n : ℕ) → Known (item n)) → (xs : List A) → Known (adds item xs)
+pub known_adds : {A : Type 0} {item : ℕ → Language A} → ((n : ℕ) → Known (item n)) → (xs : List A)
+    → Known (adds item xs)
 known_adds known xs = known_then (known _) (λ x. known_gives (xs ++ x ∷ []))
 
 -- Expressions.
@@ -115,7 +129,8 @@ op_kind : (signs : Signs) (t : Token) (o : Op) → op_of signs t ≡ Some o → 
 op_kind [] t o e = absurd cc
 op_kind (x ∷ signs) t o e = go (op_kind signs t o) (is_this_sign x.0 t) refl e
   where
-    go : (op_of signs t ≡ Some o → t.kind ≢ kind.Foreign) → (b : Bool) → is_this_sign x.0 t ≡ b → (if b then Some x.1 else op_of signs t) ≡ Some o → t.kind ≢ kind.Foreign
+    go : (op_of signs t ≡ Some o → t.kind ≢ kind.Foreign) → (b : Bool) → is_this_sign x.0 t ≡ b
+        → (if b then Some x.1 else op_of signs t) ≡ Some o → t.kind ≢ kind.Foreign
     go next true f e = sign_kind t.kind _ f
     go next false f e = next e
 
@@ -124,18 +139,25 @@ known_operator signs = known_token (op_of signs) (λ _. free) (op_kind signs)
 
 known_chains : (all : List Signs) {atom : Language Operand} → Known atom → Known (chains all atom)
 known_chains [] known = known
-known_chains (signs ∷ stronger) known = known_then (known_chains stronger known) (known_repeat (λ left. known_then (known_operator signs) (λ o. known_then (known_chains stronger known) (λ right. known_gives _))))
+known_chains (signs ∷ stronger) known = known_then (known_chains stronger known)
+    (known_repeat (λ left. known_then (known_operator signs)
+    (λ o. known_then (known_chains stronger known) (λ right. known_gives _))))
 
-known_comparison : {A : Type 0} {atom : Language Operand} {ended : Operand → Bool → Language A} → Known atom → ((e : Operand) (compares : Bool) → Known (ended e compares)) → Known (comparison atom ended)
-known_comparison known ended = known_then (known_chains strengths known) (λ left. known_or (ended left false) (known_then (known_operator comparisons) (λ o. known_then (known_chains strengths known) (λ right. ended _ true))))
+known_comparison : {A : Type 0} {atom : Language Operand} {ended : Operand → Bool → Language A} → Known atom
+    → ((e : Operand) (compares : Bool) → Known (ended e compares)) → Known (comparison atom ended)
+known_comparison known ended = known_then (known_chains strengths known)
+    (λ left. known_or (ended left false) (known_then (known_operator comparisons)
+    (λ o. known_then (known_chains strengths known) (λ right. ended _ true))))
 
 known_plain : Known plain_atom
-known_plain = known_or (known_then (known_number (λ n. free)) (λ n. known_gives _)) (known_then (known_name free) (λ x. known_gives _))
+known_plain = known_or (known_then (known_number (λ n. free)) (λ n. known_gives _))
+    (known_then (known_name free) (λ x. known_gives _))
 
 known_atom : (most opened : ℕ) → Known (atom most opened)
 known_atom zero opened = known_plain
 known_atom (suc most) opened = known_or known_plain
-    (known_then known_sign (λ at. known_then (known_comparison (known_atom most (suc opened)) (λ e compares. known_gives e)) (λ inner. known_then known_sign (λ end. known_gives _))))
+    (known_then known_sign (λ at. known_then (known_comparison (known_atom most (suc opened))
+    (λ e compares. known_gives e)) (λ inner. known_then known_sign (λ end. known_gives _))))
 
 known_ends : (e : Operand × Bool) → Known (ends e)
 known_ends e = record { known = λ marks x l. all_of l.0 (tt, tt) }

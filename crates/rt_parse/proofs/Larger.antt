@@ -14,12 +14,17 @@ grows_same K = record { into = λ marks y k. k }
 pub grows_never : {B : Type 0} (M : Language B) → Grows (never {A = B}) M
 grows_never M = record { into = λ marks y k. absurd k }
 
-pub grows_then : {A B : Type 0} {L M : Language A} {N O : A → Language B} → Grows L M → ((x : A) → Grows (N x) (O x)) → Grows (L >>= N) (M >>= O)
+pub grows_then : {A B : Type 0} {L M : Language A} {N O : A → Language B} → Grows L M → ((x : A) → Grows (N x) (O x))
+    → Grows (L >>= N) (M >>= O)
 grows_then {L = L} {M = M} {N = N} {O = O} first next =
-    record { into = λ marks y both. then_same M N O (λ x. (next x).into) marks y (same_then L M N first.into marks y both) }
+    record {
+      into = λ marks y both. then_same M N O (λ x. (next x).into) marks y
+          (same_then L M N first.into marks y both);
+    }
 
 -- behind a form that stays the same
-pub grows_behind : {A B : Type 0} (L : Language A) {N O : A → Language B} → ((x : A) → Grows (N x) (O x)) → Grows (L >>= N) (L >>= O)
+pub grows_behind : {A B : Type 0} (L : Language A) {N O : A → Language B} → ((x : A) → Grows (N x) (O x))
+    → Grows (L >>= N) (L >>= O)
 grows_behind L {N = N} {O = O} next = record { into = then_same L N O (λ x. (next x).into) }
 
 -- before a form that stays the same
@@ -36,20 +41,25 @@ grows_or {B} {K} {L} {M} {N} one other = record { into = go }
 pub grows_or_else : {B : Type 0} (x : B) {K M : Language B} → Grows K M → Grows (or_else x K) (or_else x M)
 grows_or_else x grows = grows_or (grows_same (gives x)) grows
 
-pub grows_only_if : {B : Type 0} (holds : Bool) {K M : Language B} → Grows K M → Grows (only_if holds K) (only_if holds M)
+pub grows_only_if : {B : Type 0} (holds : Bool) {K M : Language B} → Grows K M
+    → Grows (only_if holds K) (only_if holds M)
 grows_only_if holds grows = record { into = λ marks y k. (k.0, grows.into marks y k.1) }
 
-pub grows_times : {S : Type 0} (n : ℕ) {step more : S → Language S} → ((s : S) → Grows (step s) (more s)) → (s : S) → Grows (times n step s) (times n more s)
+pub grows_times : {S : Type 0} (n : ℕ) {step more : S → Language S} → ((s : S) → Grows (step s) (more s)) → (s : S)
+    → Grows (times n step s) (times n more s)
 grows_times zero grows s = grows_same (gives s)
 grows_times (suc n) grows s = grows_then (grows s) (grows_times n grows)
 
-pub grows_repeat : {S : Type 0} {step more : S → Language S} → ((s : S) → Grows (step s) (more s)) → (s : S) → Grows (repeat step s) (repeat more s)
+pub grows_repeat : {S : Type 0} {step more : S → Language S} → ((s : S) → Grows (step s) (more s)) → (s : S)
+    → Grows (repeat step s) (repeat more s)
 grows_repeat grows s = record { into = λ marks y k. (k.0, (grows_times k.0 grows s).into marks y k.1) }
 
-pub grows_list : {S : Type 0} (closing : List ℕ) {item more : S → Language S} → ((s : S) → Grows (item s) (more s)) → (start : S) → Grows (list closing item start) (list closing more start)
+pub grows_list : {S : Type 0} (closing : List ℕ) {item more : S → Language S} → ((s : S) → Grows (item s) (more s))
+    → (start : S) → Grows (list closing item start) (list closing more start)
 grows_list closing grows start =
     grows_then (grows_repeat (λ s. grows_before (λ x. sign _ >> gives x) (grows s)) start)
     (λ most. grows_before (λ all. sign closing >> gives all) (grows_or (grows_same (gives most)) (grows most)))
 
-pub grows_adds : {A : Type 0} {item more : ℕ → Language A} → ((n : ℕ) → Grows (item n) (more n)) → (xs : List A) → Grows (adds item xs) (adds more xs)
+pub grows_adds : {A : Type 0} {item more : ℕ → Language A} → ((n : ℕ) → Grows (item n) (more n)) → (xs : List A)
+    → Grows (adds item xs) (adds more xs)
 grows_adds grows xs = grows_before _ (grows (length xs))

@@ -12,10 +12,12 @@ use Rattle.rt_grammar.specs.Resources.{interrupts, monotonic, shared_resources, 
 use Rattle.rt_grammar.specs.Options.{Owner, OfInit, OfIdle, OfTask, options}
 use Rattle.rt_grammar.specs.Bodies.{arguments, body_of, thread_body, task}
 use Rattle.rt_grammar.specs.Declaration.{head, application}
-use Rattle.rt_parse.proofs.Larger.{Grows, grows_behind, grows_before, grows_then, grows_or_else, grows_repeat, grows_adds}
+use Rattle.rt_parse.proofs.Larger.{Grows, grows_behind, grows_before, grows_then, grows_or_else, grows_repeat}
+use Rattle.rt_parse.proofs.Larger.{grows_adds}
 use Rattle.rt_parse.proofs.LargerStatement.{larger_block}
 
-pub larger_thread_body : (m n : ℕ) → m ≤ n → (owner : Owner) (text : List ℕ) → Grows (thread_body m owner text) (thread_body n owner text)
+pub larger_thread_body : (m n : ℕ) → m ≤ n → (owner : Owner) (text : List ℕ)
+    → Grows (thread_body m owner text) (thread_body n owner text)
 larger_thread_body m n most owner text =
     grows_or_else None (grows_behind (word text) (λ at.
     grows_behind (options owner) (λ o.
@@ -27,7 +29,15 @@ larger_task m n most before =
     grows_behind name (λ x.
     grows_behind (options OfTask) (λ o.
     grows_behind arguments (λ args.
-    grows_before (λ b. gives (record { name = x; binds = o.binds; priority = o.priority; capacity = o.capacity; args = args; body = body_of o b.0 x.at })) (larger_block m n most m n most 1 0)))))
+    grows_before (λ b. gives (record {
+      name = x;
+      binds = o.binds;
+      priority = o.priority;
+      capacity = o.capacity;
+      args =
+          args;
+      body = body_of o b.0 x.at;
+    })) (larger_block m n most m n most 1 0)))))
 
 pub larger_application : (m n : ℕ) → m ≤ n → Grows (application m) (application n)
 larger_application m n most =

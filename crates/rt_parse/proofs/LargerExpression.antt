@@ -5,22 +5,28 @@ use Rattle.rt_ids.specs.declared.limit.Limit.TheVariants as limit
 use Rattle.rt_ids.specs.declared.limits.TheConstants.{PARENTHESES}
 use Rattle.rt_grammar.specs.Language.{Language, gives, ◌>>◌}
 use Rattle.rt_grammar.specs.Tokens.{limit_if, sign, limited_sign}
-use Rattle.rt_grammar.specs.Expression.{Operand, Signs, operator, strengths, comparisons, joined_operand, chain, chains, comparison, plain_atom, atom, ends, expression}
+use Rattle.rt_grammar.specs.Expression.{Operand, Signs, operator, strengths, comparisons, joined_operand, chain, chains}
+use Rattle.rt_grammar.specs.Expression.{comparison, plain_atom, atom, ends, expression}
 use Rattle.rt_parse.proofs.Larger.{Grows, grows_same, grows_then, grows_behind, grows_before, grows_or, grows_repeat}
 
-pub grows_chain : (signs : Signs) {operand more : Language Operand} → Grows operand more → Grows (chain signs operand) (chain signs more)
+pub grows_chain : (signs : Signs) {operand more : Language Operand} → Grows operand more
+    → Grows (chain signs operand) (chain signs more)
 grows_chain signs grows =
-    grows_then grows (grows_repeat (λ left. grows_behind (operator signs) (λ o. grows_before (λ right. gives (joined_operand o left right)) grows)))
+    grows_then grows (grows_repeat (λ left. grows_behind (operator signs)
+    (λ o. grows_before (λ right. gives (joined_operand o left right)) grows)))
 
-pub grows_chains : (all : List Signs) {operand more : Language Operand} → Grows operand more → Grows (chains all operand) (chains all more)
+pub grows_chains : (all : List Signs) {operand more : Language Operand} → Grows operand more
+    → Grows (chains all operand) (chains all more)
 grows_chains [] grows = grows
 grows_chains (signs ∷ stronger) grows = grows_chain signs (grows_chains stronger grows)
 
-pub grows_comparison : {A : Type 0} {operand more : Language Operand} {ended wider : Operand → Bool → Language A} → Grows operand more → ((e : Operand) (compares : Bool) → Grows (ended e compares) (wider e compares))
+pub grows_comparison : {A : Type 0} {operand more : Language Operand} {ended wider : Operand → Bool → Language A}
+    → Grows operand more → ((e : Operand) (compares : Bool) → Grows (ended e compares) (wider e compares))
     → Grows (comparison operand ended) (comparison more wider)
 grows_comparison grows ends =
     grows_then (grows_chains strengths grows) (λ left. grows_or (ends left false)
-    (grows_behind (operator comparisons) (λ o. grows_then (grows_chains strengths grows) (λ right. ends (joined_operand o left right) true))))
+    (grows_behind (operator comparisons) (λ o. grows_then (grows_chains strengths grows)
+    (λ right. ends (joined_operand o left right) true))))
 
 larger_plain : (n opened : ℕ) → Grows plain_atom (atom n opened)
 larger_plain zero opened = grows_same plain_atom

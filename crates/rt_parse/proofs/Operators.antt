@@ -1,5 +1,6 @@
 -- Which operator a token is, and which operator comes next.
-use Rattle.std.proofs.Common.{◌≡◌, ℕ, Bool, true, false, List, [], ◌∷◌, length, Option, Some, None, refl, sym, ap, subst, ◌∙◌, drop, cond, arith}
+use Rattle.std.proofs.Common.{◌≡◌, ℕ, Bool, true, false, List, [], ◌∷◌, length, Option, Some, None, refl, sym, ap}
+use Rattle.std.proofs.Common.{subst, ◌∙◌, drop, cond, arith}
 use Rattle.std.specs.Prelude.{is_some, ◌||◌, ◌&&◌, ◌≢◌, nat_eq, bytes_eq, slice_index, MatchOption}
 use Rattle.std.proofs.Math.Bool.{and-true, and-false}
 use Rattle.rt_ids.specs.declared.op.Op.{Op}
@@ -31,7 +32,8 @@ many_bytes [] b e = refl
 many_bytes (x ∷ []) b e = absurd (e refl)
 many_bytes (x ∷ y ∷ text) b e = and-false (nat_eq x b)
 
-pub two_bytes : (text : List ℕ) (a b : ℕ) → length text ≡ 2 → bytes_eq text (a ∷ b ∷ []) ≡ nat_eq (slice_index text 0) a && nat_eq (slice_index text 1) b
+pub two_bytes : (text : List ℕ) (a b : ℕ) → length text ≡ 2 → bytes_eq text (a ∷ b ∷ []) ≡ nat_eq (slice_index text 0) a
+    && nat_eq (slice_index text 1) b
 two_bytes [] a b e = absurd cc
 two_bytes (x ∷ []) a b e = absurd (omega (arith, e))
 two_bytes (x ∷ y ∷ []) a b e = ap (λ (c : Bool). nat_eq x a && c) (and-true (nat_eq y b))
@@ -41,21 +43,32 @@ pub not_two_bytes : (text : List ℕ) (a b : ℕ) → length text ≢ 2 → byte
 not_two_bytes [] a b e = refl
 not_two_bytes (x ∷ []) a b e = and-false (nat_eq x a)
 not_two_bytes (x ∷ y ∷ []) a b e = absurd (e refl)
-not_two_bytes (x ∷ y ∷ z ∷ text) a b e = ap (λ (c : Bool). nat_eq x a && c) (and-false (nat_eq y b)) ∙ and-false (nat_eq x a)
+not_two_bytes (x ∷ y ∷ z ∷ text) a b e = ap (λ (c : Bool). nat_eq x a && c) (and-false (nat_eq y b))
+    ∙ and-false (nat_eq x a)
 
 -- What comes next, by the token that is ahead.
 
 pub ahead : (o : Op) (s : Strength) (t : Token) (rest : List Token) → IsOperator o s t → IsAhead o s (t ∷ rest)
 unfolding operator_at token_at
-ahead o s t rest op = record { read = rw op.means refl; comes = sym (is_some_op (signs_of s) t) ∙ ap is_some op.means; strongest = op.strongest }
+ahead o s t rest op = record {
+  read = rw op.means refl;
+  comes = sym (is_some_op (signs_of s) t) ∙ ap is_some op.means;
+  strongest = op.strongest;
+}
 
 compares : (found : Option Op) (t : Token) (rest : List Token) → op_of comparisons t ≡ found
     → MatchOption found (begins_with (is_of comparisons) (t ∷ rest) ≡ false) (λ o. IsCompared o (t ∷ rest))
 unfolding operator_at token_at
-compares (Some o) t rest means = record { read = rw means refl; comes = sym (is_some_op comparisons t) ∙ ap is_some means }
+compares (Some o) t rest means = record {
+  read = rw means refl;
+  comes = sym (is_some_op comparisons t)
+      ∙ ap is_some means;
+}
 compares None t rest means = sym (is_some_op comparisons t) ∙ ap is_some means
 
-pub compares_next : (found : Option Op) (t : Token) (tokens : List Token) → tokens ≡ t ∷ drop 1 tokens → found ≡ op_of comparisons t
+pub compares_next : (found : Option Op) (t : Token) (tokens : List Token) → tokens ≡ t ∷ drop 1 tokens → found
+    ≡ op_of comparisons t
     → MatchOption found (begins_with (is_of comparisons) tokens ≡ false) (λ o. IsCompared o tokens)
 compares_next found t tokens next means =
-    subst (λ (ts : List Token). MatchOption found (begins_with (is_of comparisons) ts ≡ false) (λ o. IsCompared o ts)) (sym next) (compares found t (drop 1 tokens) (sym means))
+    subst (λ (ts : List Token). MatchOption found (begins_with (is_of comparisons) ts ≡ false) (λ o. IsCompared o ts))
+    (sym next) (compares found t (drop 1 tokens) (sym means))

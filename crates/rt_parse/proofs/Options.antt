@@ -11,10 +11,12 @@ pub is_none_items : {A Z : Type 0} (o : Option (Vec A Z)) → is_none (items_of 
 is_none_items None = refl
 is_none_items (Some xs) = refl
 
-bind_bind : {A B C E : Type 0} (r : Result A E) (f : A → Result B E) (g : B → Result C E) → (r >>= λ x. f x >>= g) ≡ ((r >>= f) >>= g)
+bind_bind : {A B C E : Type 0} (r : Result A E) (f : A → Result B E) (g : B → Result C E) → (r >>= λ x. f x >>= g)
+    ≡ ((r >>= f) >>= g)
 bind_bind (Ok x) f g = refl
 bind_bind (Err e) f g = refl
 
-pub argument_is : (xs : List Ident) (tokens : List Token) → argument_at xs tokens ≡ (one_argument_at (length xs) tokens >>= λ x. Ok (xs ++ x.0 ∷ [], x.1))
+pub argument_is : (xs : List Ident) (tokens : List Token) → argument_at xs tokens
+    ≡ (one_argument_at (length xs) tokens >>= λ x. Ok (xs ++ x.0 ∷ [], x.1))
 unfolding argument_at one_argument_at
 argument_is xs tokens = bind_bind (sign_at (codes ",") tokens) _ (λ x. Ok (xs ++ x.0 ∷ [], x.1))

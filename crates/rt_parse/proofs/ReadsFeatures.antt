@@ -1,6 +1,6 @@
--- The reader of the first declaration. The dispatchers and the floating-point extension both begin with a comma, and each
--- may be left out. So they have the texts of one form that may be left out: it begins with a comma, behind which the next
--- token tells whether the extension stands alone.
+-- The reader of the first declaration. The dispatchers and the floating-point extension both begin with a comma, and
+-- each may be left out. So they have the texts of one form that may be left out: it begins with a comma, behind which
+-- the next token tells whether the extension stands alone.
 use Rattle.std.proofs.Common.{ℕ, suc, Bool, true, false, List, [], refl, inl, inr, arith}
 use Rattle.std.specs.Prelude.{codes}
 use Rattle.rt_ids.specs.declared.limit.Limit.TheVariants as limit
@@ -12,7 +12,8 @@ use Rattle.rt_grammar.specs.Tokens.{free, word, sign, this_name, names}
 use Rattle.rt_grammar.specs.Limits.{within}
 use Rattle.rt_grammar.specs.Declaration.{dispatchers, fpu, Head, head}
 use Rattle.rt_parse.specs.Inside.ReadingDeclaration.{dispatchers_at, extension_at, fpu_at, Features, behind_comma_at}
-use Rattle.rt_parse.specs.Inside.ReadingDeclaration.{alone_at, dispatcher_features_at, features_at, head_rest_at, head_at}
+use Rattle.rt_parse.specs.Inside.ReadingDeclaration.{alone_at, dispatcher_features_at, features_at, head_rest_at}
+use Rattle.rt_parse.specs.Inside.ReadingDeclaration.{head_at}
 use Rattle.rt_parse.proofs.Exact.{Starts, nothing}
 use Rattle.rt_parse.proofs.ExactLaws.{IsWithinLanguage, then_then, then_then', gives_then, gives_then', then_same}
 use Rattle.rt_parse.proofs.ExactLaws.{same_then, or_then, or_then'}
@@ -136,7 +137,8 @@ module _ {B : Type 0} {before : Token → Bool} where
   fpu_form : Form B before comma nothing (λ n. n) (λ x. x) fpu fpu_at
   unfolding fpu_at
   fpu_form = form_optional (is_this_sign (codes ",")) false (starts_then _ (starts_sign (codes ",") free)) (λ t e. e)
-      (λ n. omega arith) (form_goes {goes = nothing} (λ x t e. absurd cc) (form_then _ form_sign (λ at. extension_form)))
+      (λ n. omega arith) (form_goes {goes = nothing} (λ x t e. absurd cc)
+      (form_then _ form_sign (λ at. extension_form)))
 
 module _ {B : Type 0} {before : Token → Bool} where
   dispatched_form : Form B before comma nothing suc (λ x. x) dispatched dispatcher_features_at

@@ -15,12 +15,19 @@ deeper_right : (a b : ℕ) → nat_lt DEPTH b ≡ true → nat_lt DEPTH (1 + max
 deeper_right a b e = grind arith
 
 kept_join : (o : Op) (a b : Kept) (left right : Bool) → nat_lt DEPTH a.depth ≡ left → nat_lt DEPTH b.depth ≡ right
-    → tree_unless_deep (nat_lt DEPTH (1 + max a.depth b.depth)) (record { tree = Oper o a.tree b.tree; depth = 1 + max a.depth b.depth }) ≡ joined_tree o (tree_unless_deep left a) (tree_unless_deep right b)
-kept_join o a b true right e f = ap (λ (deep : Bool). tree_unless_deep deep (record { tree = Oper o a.tree b.tree; depth = 1 + max a.depth b.depth })) (deeper_left a.depth b.depth e)
-kept_join o a b false true e f = ap (λ (deep : Bool). tree_unless_deep deep (record { tree = Oper o a.tree b.tree; depth = 1 + max a.depth b.depth })) (deeper_right a.depth b.depth f)
+    → tree_unless_deep (nat_lt DEPTH (1 + max a.depth b.depth))
+    (record { tree = Oper o a.tree b.tree; depth = 1 + max a.depth b.depth })
+    ≡ joined_tree o (tree_unless_deep left a) (tree_unless_deep right b)
+kept_join o a b true right e f = ap (λ (deep : Bool). tree_unless_deep deep
+    (record { tree = Oper o a.tree b.tree; depth = 1 + max a.depth b.depth })) (deeper_left a.depth b.depth e)
+kept_join o a b false true e f = ap (λ (deep : Bool). tree_unless_deep deep
+    (record { tree = Oper o a.tree b.tree; depth = 1 + max a.depth b.depth })) (deeper_right a.depth b.depth f)
 kept_join o a b false false e f = refl
 
-pub measure_joined : (o : Op) (left right : Operand) → joined_measure o (measure left) (measure right) ≡ measure (joined_operand o left right)
+pub measure_joined : (o : Op) (left right : Operand) → joined_measure o (measure left) (measure right)
+    ≡ measure (joined_operand o left right)
 measure_joined o left right =
     ap (λ (kept : Option Kept). record { at = left.at; kept = kept })
-    (sym (kept_join o (record { tree = left.tree; depth = depth left.tree }) (record { tree = right.tree; depth = depth right.tree }) (nat_lt DEPTH (depth left.tree)) (nat_lt DEPTH (depth right.tree)) refl refl))
+    (sym (kept_join o (record { tree = left.tree; depth = depth left.tree })
+    (record { tree = right.tree; depth = depth right.tree }) (nat_lt DEPTH (depth left.tree))
+    (nat_lt DEPTH (depth right.tree)) refl refl))

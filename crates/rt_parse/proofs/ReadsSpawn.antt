@@ -1,5 +1,5 @@
--- The readers of values and of the statements with no blocks. They are told how many statements may come, where the grammar
--- tells how many stand before.
+-- The readers of values and of the statements with no blocks. They are told how many statements may come, where the
+-- grammar tells how many stand before.
 use Rattle.std.proofs.Common.{◌≡◌, ℕ, suc, ◌-◌, ◌≤◌, Bool, List, [], ◌∷◌, Option, Err, refl, ap, arith}
 use Rattle.std.specs.Prelude.{nat_le, nat_eq, codes}
 use Rattle.rt_ids.specs.declared.limit.Limit.{Limit}
@@ -15,8 +15,10 @@ use Rattle.rt_grammar.specs.Limits.{statement_limit}
 use Rattle.rt_grammar.specs.Spawn.{arguments, handle, soon, after, cancel, move, spawn}
 use Rattle.rt_grammar.specs.Simple.{Counted}
 use Rattle.rt_parse.specs.Inside.Reading.{fault_found_at, token_at, limited_word_at, limited_name_at}
-use Rattle.rt_parse.specs.Inside.ReadingExpression.{expression_at, comparison_at, chains_at, chain_at, atom_or_at, nested_expression_at, parenthesized_expression_at}
-use Rattle.rt_parse.specs.Inside.ReadingSpawn.{arguments_at, enclosed_expression_at, delayed_task_at, soon_at, after_at, cancel_at}
+use Rattle.rt_parse.specs.Inside.ReadingExpression.{expression_at, comparison_at, chains_at, chain_at, atom_or_at}
+use Rattle.rt_parse.specs.Inside.ReadingExpression.{nested_expression_at, parenthesized_expression_at}
+use Rattle.rt_parse.specs.Inside.ReadingSpawn.{arguments_at, enclosed_expression_at, delayed_task_at, soon_at, after_at}
+use Rattle.rt_parse.specs.Inside.ReadingSpawn.{cancel_at}
 use Rattle.rt_parse.specs.Inside.ReadingSpawn.{move_at, spawn_at}
 use Rattle.rt_parse.specs.Inside.ReadingSimple.{counted_limit}
 use Rattle.rt_parse.proofs.Exact.{IsInhabited, Starts, ReadsAfter, nothing}
@@ -42,11 +44,18 @@ counted_is before = ap (λ (b : Bool). limit_if b limit.Statements) (lemma befor
     lemma : (before : ℕ) → nat_le STATEMENTS before ≡ nat_eq (STATEMENTS - before) 0
     lemma before = grind arith
 
-pub reads_counted_word : {B : Type 0} {before : Token → Bool} {text : List ℕ} (n : ℕ) → ReadsAfter B before nothing nothing suc (λ x. x) (limited_word text (statement_limit n)) (limited_word_at text (counted_limit (STATEMENTS - n)))
-reads_counted_word {text = text} n = reads_same (λ marks y l. l) (λ marks y l. l) (λ tokens. ap (λ (what : Option Limit). limited_word_at text what tokens) (counted_is n)) reads_word
+pub reads_counted_word : {B : Type 0} {before : Token → Bool} {text : List ℕ} (n : ℕ)
+    → ReadsAfter B before nothing nothing suc (λ x. x) (limited_word text (statement_limit n))
+    (limited_word_at text (counted_limit (STATEMENTS - n)))
+reads_counted_word {text = text} n = reads_same (λ marks y l. l) (λ marks y l. l)
+    (λ tokens. ap (λ (what : Option Limit). limited_word_at text what tokens) (counted_is n)) reads_word
 
-pub reads_counted_name : {B : Type 0} {before : Token → Bool} (n : ℕ) → ReadsAfter B before nothing nothing suc (λ x. x) (limited_name (statement_limit n)) (limited_name_at (counted_limit (STATEMENTS - n)))
-reads_counted_name n = reads_same (λ marks y l. l) (λ marks y l. l) (λ tokens. ap (λ (what : Option Limit). limited_name_at what tokens) (counted_is n)) (reads_name (statement_limit n))
+pub reads_counted_name : {B : Type 0} {before : Token → Bool} (n : ℕ)
+    → ReadsAfter B before nothing nothing suc (λ x. x) (limited_name (statement_limit n))
+    (limited_name_at (counted_limit (STATEMENTS - n)))
+reads_counted_name n = reads_same (λ marks y l. l) (λ marks y l. l)
+    (λ tokens. ap (λ (what : Option Limit). limited_name_at what tokens) (counted_is n))
+    (reads_name (statement_limit n))
 
 pub name_some : (what : Option Limit) → IsInhabited (limited_name what)
 name_some what = some_token means_name
@@ -56,7 +65,8 @@ pub sign_gives_some : {A : Type 0} (text : List ℕ) (x : A) → IsInhabited (si
 sign_gives_some text x = some_then (some_sign text free) (λ end. some_gives x)
 
 expression_none : expression_at [] ≡ Err (fault_found_at [])
-unfolding expression_at comparison_at chains_at chain_at atom_or_at nested_expression_at parenthesized_expression_at token_at
+unfolding expression_at comparison_at chains_at chain_at atom_or_at nested_expression_at parenthesized_expression_at
+    token_at
 expression_none = refl
 
 -- What they begin with; each list begins with the word of its name.

@@ -1,40 +1,48 @@
 -- Readers that take a token at least, or none.
-use Rattle.std.proofs.Common.{◌≡◌, ℕ, zero, suc, ◌<◌, ◌≤◌, Bool, true, false, cond, List, [], ◌∷◌, length, Option, Some, None, Result, Ok, Err, refl, ap, arith}
+use Rattle.std.proofs.Common.{◌≡◌, ℕ, zero, suc, ◌<◌, ◌≤◌, Bool, true, false, cond, List, [], ◌∷◌, length, Option, Some}
+use Rattle.std.proofs.Common.{None, Result, Ok, Err, refl, ap, arith}
 use Rattle.rt_lex.specs.Token.{Token}
 use Rattle.rt_ids.specs.declared.limit.Limit.{Limit}
 use Rattle.std.specs.Prelude.{IfOk}
-use Rattle.rt_parse.specs.Inside.Reading.{Reader, Gives, ◌>>=◌, token_at, take_meaning, unless_limited, repeat_at, begins_with}
+use Rattle.rt_parse.specs.Inside.Reading.{Reader, Gives, ◌>>=◌, token_at, take_meaning, unless_limited, repeat_at}
+use Rattle.rt_parse.specs.Inside.Reading.{begins_with}
 use Rattle.rt_parse.specs.declared.stop.Stop.{Stop}
 use Rattle.rt_parse.specs.declared.stop.Found.{Found}
 
 abbrev pub IsShorter : {A : Type 0} → Reader A → Type 0
-IsShorter {A} reader = (tokens : List Token) (x : A) (rest : List Token) → reader tokens ≡ Ok (x, rest) → length rest < length tokens
+IsShorter {A} reader = (tokens : List Token) (x : A) (rest : List Token) → reader tokens ≡ Ok (x, rest)
+    → length rest < length tokens
 
 abbrev pub IsNoLonger : {A : Type 0} → Reader A → Type 0
-IsNoLonger {A} reader = (tokens : List Token) (x : A) (rest : List Token) → reader tokens ≡ Ok (x, rest) → length rest ≤ length tokens
+IsNoLonger {A} reader = (tokens : List Token) (x : A) (rest : List Token) → reader tokens ≡ Ok (x, rest)
+    → length rest ≤ length tokens
 
-pub bind_ok : {A B E : Type 0} (r : Result A E) (f : A → Result B E) (y : B) → (r >>= f) ≡ Ok y → (x : A) × (r ≡ Ok x) × (f x ≡ Ok y)
+pub bind_ok : {A B E : Type 0} (r : Result A E) (f : A → Result B E) (y : B) → (r >>= f) ≡ Ok y → (x : A) × (r ≡ Ok x)
+    × (f x ≡ Ok y)
 bind_ok (Ok x) f y e = (x, refl, e)
 bind_ok (Err e') f y e = absurd cc
 
 pub shorter_no_longer : {A : Type 0} {reader : Reader A} → IsShorter reader → IsNoLonger reader
 shorter_no_longer h tokens x rest e = let k = h tokens x rest e in omega arith
 
-pub shorter_then : {A B : Type 0} {reader : Reader A} {next : A → Reader B} → IsShorter reader → ((x : A) → IsNoLonger (next x)) → IsShorter (λ tokens. reader tokens >>= λ got. next got.0 got.1)
+pub shorter_then : {A B : Type 0} {reader : Reader A} {next : A → Reader B} → IsShorter reader
+    → ((x : A) → IsNoLonger (next x)) → IsShorter (λ tokens. reader tokens >>= λ got. next got.0 got.1)
 shorter_then {reader = reader} {next = next} h k tokens y rest e =
     let p = bind_ok (reader tokens) (λ got. next got.0 got.1) (y, rest) e in
     let a = h tokens p.0.0 p.0.1 p.1 in
     let b = k p.0.0 p.0.1 y rest p.2 in
     omega arith
 
-pub then_shorter : {A B : Type 0} {reader : Reader A} {next : A → Reader B} → IsNoLonger reader → ((x : A) → IsShorter (next x)) → IsShorter (λ tokens. reader tokens >>= λ got. next got.0 got.1)
+pub then_shorter : {A B : Type 0} {reader : Reader A} {next : A → Reader B} → IsNoLonger reader
+    → ((x : A) → IsShorter (next x)) → IsShorter (λ tokens. reader tokens >>= λ got. next got.0 got.1)
 then_shorter {reader = reader} {next = next} h k tokens y rest e =
     let p = bind_ok (reader tokens) (λ got. next got.0 got.1) (y, rest) e in
     let a = h tokens p.0.0 p.0.1 p.1 in
     let b = k p.0.0 p.0.1 y rest p.2 in
     omega arith
 
-pub no_longer_then : {A B : Type 0} {reader : Reader A} {next : A → Reader B} → IsNoLonger reader → ((x : A) → IsNoLonger (next x)) → IsNoLonger (λ tokens. reader tokens >>= λ got. next got.0 got.1)
+pub no_longer_then : {A B : Type 0} {reader : Reader A} {next : A → Reader B} → IsNoLonger reader
+    → ((x : A) → IsNoLonger (next x)) → IsNoLonger (λ tokens. reader tokens >>= λ got. next got.0 got.1)
 no_longer_then {reader = reader} {next = next} h k tokens y rest e =
     let p = bind_ok (reader tokens) (λ got. next got.0 got.1) (y, rest) e in
     let a = h tokens p.0.0 p.0.1 p.1 in
@@ -72,26 +80,30 @@ errs A why tokens = Err (why tokens)
 pub shorter_err : (A : Type 0) (why : List Token → Found) → IsShorter (errs A why)
 shorter_err A why tokens x rest e = absurd cc
 
-pub shorter_if : {A : Type 0} (test : List Token → Bool) (one other : Reader A) → IsShorter one → IsShorter other → IsShorter (λ tokens. cond (test tokens) (one tokens) (other tokens))
+pub shorter_if : {A : Type 0} (test : List Token → Bool) (one other : Reader A) → IsShorter one → IsShorter other
+    → IsShorter (λ tokens. cond (test tokens) (one tokens) (other tokens))
 shorter_if test one other h k tokens x rest e = by_test (test tokens) e
   where
     by_test : (b : Bool) → cond b (one tokens) (other tokens) ≡ Ok (x, rest) → length rest < length tokens
     by_test true e = h tokens x rest e
     by_test false e = k tokens x rest e
 
-pub no_longer_if : {A : Type 0} (test : List Token → Bool) (one other : Reader A) → IsNoLonger one → IsNoLonger other → IsNoLonger (λ tokens. cond (test tokens) (one tokens) (other tokens))
+pub no_longer_if : {A : Type 0} (test : List Token → Bool) (one other : Reader A) → IsNoLonger one → IsNoLonger other
+    → IsNoLonger (λ tokens. cond (test tokens) (one tokens) (other tokens))
 no_longer_if test one other h k tokens x rest e = by_test (test tokens) e
   where
     by_test : (b : Bool) → cond b (one tokens) (other tokens) ≡ Ok (x, rest) → length rest ≤ length tokens
     by_test true e = h tokens x rest e
     by_test false e = k tokens x rest e
 
-pub shorter_token : {A : Type 0} (meaning : Token → Option A) (limit : A → Option Limit) → IsShorter (token_at meaning limit)
+pub shorter_token : {A : Type 0} (meaning : Token → Option A) (limit : A → Option Limit)
+    → IsShorter (token_at meaning limit)
 unfolding token_at
 shorter_token meaning limit [] x rest e = absurd cc
 shorter_token {A} meaning limit (t ∷ tokens) x rest e = of_meaning (meaning t) e
   where
-    of_limit : (what : Option Limit) (y : A) → unless_limited t.at what y tokens ≡ Ok (x, rest) → length rest < length (t ∷ tokens)
+    of_limit : (what : Option Limit) (y : A) → unless_limited t.at what y tokens ≡ Ok (x, rest)
+        → length rest < length (t ∷ tokens)
     of_limit None y e = let same = same_rest y x tokens rest e in omega (arith, ap length same)
     of_limit (Some what) y e = absurd cc
 
@@ -99,12 +111,16 @@ shorter_token {A} meaning limit (t ∷ tokens) x rest e = of_meaning (meaning t)
     of_meaning None e = absurd cc
     of_meaning (Some y) e = of_limit (limit y) y e
 
-pub no_longer_repeat : {S : Type 0} (starts : Token → Bool) (step : S → Reader S) → ((s : S) → IsNoLonger (step s)) → (n : ℕ) (s : S) → IsNoLonger (repeat_at starts step n s)
+pub no_longer_repeat : {S : Type 0} (starts : Token → Bool) (step : S → Reader S) → ((s : S) → IsNoLonger (step s))
+    → (n : ℕ) (s : S) → IsNoLonger (repeat_at starts step n s)
 unfolding repeat_at
 no_longer_repeat starts step h zero s = no_longer_ok s
-no_longer_repeat starts step h (suc n) s = no_longer_if (begins_with starts) _ _ (no_longer_then (h s) (λ x. no_longer_repeat starts step h n x)) (no_longer_ok s)
+no_longer_repeat starts step h (suc n) s = no_longer_if (begins_with starts) _ _
+    (no_longer_then (h s) (λ x. no_longer_repeat starts step h n x)) (no_longer_ok s)
 
 -- what a reader of the code gave is behind a token at least
-pub given_shorter : {A : Type 0} {reader : Reader A} → IsShorter reader → (tokens : List Token) (result : Result (A × List Token) Stop) → Gives (λ x. x) result (reader tokens) → IfOk result (λ x. length x.1 < length tokens)
+pub given_shorter : {A : Type 0} {reader : Reader A} → IsShorter reader
+    → (tokens : List Token) (result : Result (A × List Token) Stop) → Gives (λ x. x) result (reader tokens)
+    → IfOk result (λ x. length x.1 < length tokens)
 given_shorter h tokens (Ok x) given = h tokens x.0 x.1 given
 given_shorter h tokens (Err e) given = tt

@@ -25,16 +25,21 @@ bound m = max (suc PARENTHESES) m
 pub bounded : (m : ℕ) (marks : List Mark) (app : App) → application m marks app → application (bound m) marks app
 bounded m = larger m (bound m) (omega arith)
 
-pub outcome : (m : ℕ) (ts : List Token) (read : Result App Found) → text_at ts ≡ read → Outcome (application (bound m)) ts read
-outcome m ts read e = subst (Outcome (application (bound m)) ts) e (text_exact (bound m) (omega arith) (length ts) ts (omega arith))
+pub outcome : (m : ℕ) (ts : List Token) (read : Result App Found) → text_at ts ≡ read
+    → Outcome (application (bound m)) ts read
+outcome m ts read e = subst (Outcome (application (bound m)) ts) e
+    (text_exact (bound m) (omega arith) (length ts) ts (omega arith))
 
 -- where a language is reached, the grammar is
-pub of_bound : (m : ℕ) (ts : List Token) (marks : List Mark) (rest : List Token) → Reaches (application m) ts marks rest → Reaches text ts marks rest
+pub of_bound : (m : ℕ) (ts : List Token) (marks : List Mark) (rest : List Token) → Reaches (application m) ts marks rest
+    → Reaches text ts marks rest
 of_bound m ts marks rest r = record { begins = (r.begins.0, r.begins.1, (m, r.begins.2)); fits = r.fits }
 
 -- where the grammar is reached, it is so with a bound
-pub to_bound : (ts : List Token) (marks : List Mark) (rest : List Token) → Reaches text ts marks rest → (m : ℕ) × Reaches (application (bound m)) ts marks rest
-to_bound ts marks rest r = (r.begins.2.0, record { begins = (r.begins.0, r.begins.1, bounded r.begins.2.0 _ _ r.begins.2.1); fits = r.fits })
+pub to_bound : (ts : List Token) (marks : List Mark) (rest : List Token) → Reaches text ts marks rest → (m : ℕ)
+    × Reaches (application (bound m)) ts marks rest
+to_bound ts marks rest r =
+    (r.begins.2.0, record { begins = (r.begins.0, r.begins.1, bounded r.begins.2.0 _ _ r.begins.2.1); fits = r.fits })
 
 -- What is found.
 

@@ -8,7 +8,8 @@ ghost use Rattle.rt_grammar.specs.Reach.{is_of};
 ghost use Rattle.rt_parse.specs.Inside.Reading.{Gives, Leaves, begins_with};
 ghost use Rattle.rt_parse.specs.Inside.ReadingDepth.{joined_measure, atomic};
 ghost use Rattle.rt_parse.specs.Inside.ReadingExpression.{joined_operand_at, chains_at, comparison_at, number_atom_at};
-ghost use Rattle.rt_parse.specs.Inside.ReadingExpression.{name_atom_at, parenthesized_expression_at, refused_parenthesis_at, nested_expression_at};
+ghost use Rattle.rt_parse.specs.Inside.ReadingExpression.{name_atom_at, parenthesized_expression_at};
+ghost use Rattle.rt_parse.specs.Inside.ReadingExpression.{refused_parenthesis_at, nested_expression_at};
 ghost use Rattle.rt_parse.specs.Inside.ReadingExpression.{atom_at, expression_at};
 ghost use Rattle.rt_parse.specs.Inside.ExpressionView.{signs_of, strengths_from, stronger_than, is_of_some, IsOperator};
 ghost use Rattle.rt_parse.specs.Inside.ExpressionView.{IsAhead, IsCompared, measured_view};
@@ -149,7 +150,8 @@ fn comparison_of(token: &Token<'_>) -> Option<Op>
 fn operator_ahead(tokens: &Tokens<'_>, least: Strength) -> Option<Operator>
     ensures none { result ≡ None → begins_with (is_of_some (strengths_from least)) tokens.now ≡ false }
     ensures ahead { (o : Operator) → result ≡ Some o → IsAhead o.op o.strength tokens.now }
-    ensures least { (o : Operator) → result ≡ Some o → length (strengths_from o.strength) ≤ length (strengths_from least) }
+    ensures least { (o : Operator) → result ≡ Some o → length (strengths_from o.strength) ≤ length
+        (strengths_from least) }
 {
     match tokens.peek() {
         Some(token) => match operator_of(&token) {
@@ -232,7 +234,8 @@ fn parenthesized_expression(
     tokens: &mut Tokens<'_>,
     more: u32,
 ) -> Result<Measured, Stop>
-    ensures { Leaves measured_view result tokens.new (parenthesized_expression_at (comparison_at (atom_at more)) tokens.old) }
+    ensures { Leaves measured_view result tokens.new (parenthesized_expression_at (comparison_at (atom_at more))
+        tokens.old) }
 {
     let at = take_sign(tokens, b"(", None)?;
     let inner = comparison(alloc, tokens, more)?;

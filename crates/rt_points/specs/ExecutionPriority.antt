@@ -1,6 +1,6 @@
 -- The execution priority of a point: the one that its owner and its open sections hold a processor to (ARMv7-M
--- Architecture Reference Manual, section B1.5.4; Baker, Stack-Based Scheduling of Realtime Processes, 1991, calls it the
--- current ceiling). A smaller value is a higher priority. It is told from the code; the core's is in its registers.
+-- Architecture Reference Manual, section B1.5.4; Baker, Stack-Based Scheduling of Realtime Processes, 1991, calls it
+-- the current ceiling). A smaller value is a higher priority. It is told from the code; the core's is in its registers.
 use Rattle.std.specs.Prelude.{ℕ, min, List, [], ◌∷◌, option_map, unwrap_or}
 use Rattle.rt_ids.specs.declared.limits.TheConstants.{THREAD_VALUE}
 use Rattle.rt_code.specs.Image.{Image}

@@ -1,5 +1,5 @@
--- Where code can be: at an address, for someone who runs it, with some sections open. It is what can be told of a moment
--- without the data: an abstract state of a data flow analysis (Kildall, A Unified Approach to Global Program
+-- Where code can be: at an address, for someone who runs it, with some sections open. It is what can be told of a
+-- moment without the data: an abstract state of a data flow analysis (Kildall, A Unified Approach to Global Program
 -- Optimization, 1973), as the Java verifier has one (The Java Virtual Machine Specification, section 4.10.2).
 use Rattle.std.specs.Prelude.{ℕ, List, map}
 use Rattle.rt_ids.specs.declared.ids.Section.{Section}

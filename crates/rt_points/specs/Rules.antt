@@ -21,14 +21,16 @@ use Rattle.rt_points.specs.ExecutionPriority.{owner_value, frame_of, execution_p
 use Rattle.rt_points.specs.Stack.{stack_need}
 use Rattle.rt_points.specs.declared.rule.TheConstants.{MOST_OPEN, STACK_BYTES}
 
--- First rule: whichever way an owner's code comes to an address, the same sections are open there, and nowhere too many.
--- It is said of addresses without an instruction too.
+-- First rule: whichever way an owner's code comes to an address, the same sections are open there, and nowhere too
+-- many. It is said of addresses without an instruction too.
 pub record NestsInOneWay (img : Image) : Type 0 where
-  pub one : (p q : Point) → IsPoint img p → IsPoint img q → p.owner ≡ q.owner → p.address ≡ q.address → p.inside ≡ q.inside
+  pub one : (p q : Point) → IsPoint img p → IsPoint img q → p.owner ≡ q.owner → p.address ≡ q.address → p.inside
+      ≡ q.inside
   pub few : (p : Point) → IsPoint img p → length p.inside ≤ MOST_OPEN
 
--- Second rule: interrupts have numbers of their own, enabled or not; priority values have implemented bits alone (ARMv7-M
--- Architecture Reference Manual, section B1.5.4); and the stack is whole pairs of words, not too large, and enough.
+-- Second rule: interrupts have numbers of their own, enabled or not; priority values have implemented bits alone
+-- (ARMv7-M Architecture Reference Manual, section B1.5.4); and the stack is whole pairs of words, not too large, and
+-- enough.
 pub record HasRightNumbers (img : Image) : Type 0 where
   pub numbers : HaveNumbersApart img.irqs
   pub values : HaveImplementedValues img.bits img.irqs
@@ -75,8 +77,8 @@ pub record IsOperable (img : Image) (p : Point) (i : Instr) : Type 0 where
   pub cell : HasItsCell (length img.cells) (touched_cell i)
   pub ends : MayEnd p.owner p.inside i
 
--- Fourth rule: each instruction that is come to is one of those that may be used, has its slots in its owner's frame and
--- its cell in memory, and ends a job where it may.
+-- Fourth rule: each instruction that is come to is one of those that may be used, has its slots in its owner's frame
+-- and its cell in memory, and ends a job where it may.
 abbrev pub OperatesWell : Image → Type 0
 OperatesWell img = (p : Point) (i : Instr) (told : Option Note) → StandsAt img p i told → IsOperable img p i
 
@@ -183,7 +185,8 @@ NotesWell img = (p : Point) (i : Instr) (told : Option Note) → StandsAt img p 
 abbrev pub EntersAt : Image → Point → Instr → Section → Type 0
 EntersAt img p i x = StandsAt img p i (Some (note.Enter x))
 
--- Sixth rule: a section is entered by who is not inside it, and holds off everyone who enters it anywhere, `init` aside.
+-- Sixth rule: a section is entered by who is not inside it, and holds off everyone who enters it anywhere, `init`
+-- aside.
 pub record HoldsOff (img : Image) (p : Point) (i : Instr) (x : Section) : Type 0 where
   pub free : ¬ IsIn (sections p.inside) x
   pub others : (q : Point) (j : Instr) → q.owner ≢ Starting → EntersAt img q j x
@@ -208,8 +211,8 @@ abbrev pub IsStore : Access → Type 0
 IsStore (Loads cell) = ⊥
 IsStore (Stores cell) = Unit {0}
 
--- A cell for which owners contend: one outside `init` stores it, and those outside `init` that touch it have not all one
--- priority value.
+-- A cell for which owners contend: one outside `init` stores it, and those outside `init` that touch it have not all
+-- one priority value.
 pub record IsContended (img : Image) (cell : ℕ) : Type 0 where
   pub storer : Point
   pub stored : Touches img cell storer

@@ -1,5 +1,5 @@
--- How many bytes a stack needs. Handlers of one priority value never stand on each other, so each value counts once, with
--- what exception entry pushes and the greatest frame of its handlers (Baker, Stack-Based Scheduling of Realtime
+-- How many bytes a stack needs. Handlers of one priority value never stand on each other, so each value counts once,
+-- with what exception entry pushes and the greatest frame of its handlers (Baker, Stack-Based Scheduling of Realtime
 -- Processes, 1991, on sharing a stack).
 use Rattle.std.specs.Prelude.{ℕ, zero, suc, ◌+◌, ◌*◌, ◌==◌, List, [], ◌∷◌, map, filter}
 use Rattle.std.specs.List.{filter_map}

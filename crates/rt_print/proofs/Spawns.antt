@@ -1,5 +1,6 @@
 -- The texts of spawns and of bound values are read as them.
-use Rattle.std.proofs.Common.{◌≡◌, ℕ, ◌≤◌, List, ◌∷◌, ◌++◌, map, length, Option, None, refl, ap, ◌∙◌, arith, append_assoc}
+use Rattle.std.proofs.Common.{◌≡◌, ℕ, ◌≤◌, List, ◌∷◌, ◌++◌, map, length, Option, None, refl, ap, ◌∙◌, arith}
+use Rattle.std.proofs.Common.{append_assoc}
 use Rattle.std.specs.Prelude.{codes}
 use Rattle.std.specs.List.{AllByRecursion}
 use Rattle.rt_ids.specs.declared.limit.Limit.{Limit}
@@ -27,43 +28,57 @@ closing_ends Y = record { stops = refl; plain = plain_closing Y }
 abbrev AreTrees : List Expression → List Expression → Type 0
 AreTrees args all = map bare_expression all ≡ map bare_expression args
 
-argument_items : (most count : ℕ) → 16 ≤ most → Items (λ before. expression most) expression_text bare_expression IsPrintableExpression count
-argument_items most count m = record { read = λ e before Y h fits ends. expression_reads e most Y h m ends.stops ends.plain }
+argument_items : (most count : ℕ) → 16 ≤ most → Items (λ before. expression most) expression_text bare_expression
+    IsPrintableExpression count
+argument_items most count m = record {
+  read = λ e before Y h fits ends. expression_reads e most Y h m ends.stops
+      ends.plain;
+}
 
-arguments_read : (args : List Expression) (most : ℕ) (Y : List ℕ) → AllByRecursion IsPrintableExpression args → 16 ≤ most
+arguments_read : (args : List Expression) (most : ℕ) (Y : List ℕ) → AllByRecursion IsPrintableExpression args
+    → 16 ≤ most
     → Reads (arguments most) (AreTrees args) (40 ∷ (separated_list expression_text args ++ 41 ∷ Y)) Y
 arguments_read args most Y h m =
-    read_then (sign (codes "(")) _ Any (AreTrees args) (40 ∷ (separated_list expression_text args ++ 41 ∷ Y)) (separated_list expression_text args ++ 41 ∷ Y) Y
+    read_then (sign (codes "(")) _ Any (AreTrees args) (40 ∷ (separated_list expression_text args ++ 41 ∷ Y))
+    (separated_list expression_text args ++ 41 ∷ Y) Y
     (read_sign (codes "(") free (separated_list expression_text args ++ 41 ∷ Y) refl refl) (λ c u.
-    list_reads (codes ")") (λ before. expression most) expression_text bare_expression IsPrintableExpression (length args) args (41 ∷ Y) Y (argument_items most (length args) m) h (omega arith)
+    list_reads (codes ")") (λ before. expression most) expression_text bare_expression IsPrintableExpression
+    (length args) args (41 ∷ Y) Y (argument_items most (length args) m) h (omega arith)
     (closing_ends Y) (read_sign (codes ")") free Y refl refl))
 
 abbrev pub IsSpawn : Spawn → Spawn → Type 0
 IsSpawn s t = bare_spawn t ≡ bare_spawn s
 
-call_append : (task : Ident) (args : List Expression) (Y : List ℕ) → call_text task args ++ Y ≡ task.name ++ 40 ∷ (separated_list expression_text args ++ 41 ∷ Y)
+call_append : (task : Ident) (args : List Expression) (Y : List ℕ) → call_text task args ++ Y ≡ task.name ++ 40
+    ∷ (separated_list expression_text args ++ 41 ∷ Y)
 call_append task args Y = simp append_assoc refl
 
-same_soon : (task task' : Ident) (args args' : List Expression) → IsNamed task task' → AreTrees args args' → IsSpawn (Soon task args) (Soon task' args')
+same_soon : (task task' : Ident) (args args' : List Expression) → IsNamed task task' → AreTrees args args'
+    → IsSpawn (Soon task args) (Soon task' args')
 same_soon task task' args args' e f = rw (e, f) refl
 
-same_after : (at at' : ℕ) (delay delay' : Expression) (task task' : Ident) (args args' : List Expression) → IsTree delay delay' → IsNamed task task' → AreTrees args args'
+same_after : (at at' : ℕ) (delay delay' : Expression) (task task' : Ident) (args args' : List Expression)
+    → IsTree delay delay' → IsNamed task task' → AreTrees args args'
     → IsSpawn (After at delay task args) (After at' delay' task' args')
 same_after at at' delay delay' task task' args args' d e f = rw (d, e, f) refl
 
-soon_reads : (task : Ident) (args : List Expression) (most : ℕ) (what : Option Limit) (Y : List ℕ) → IsPrintableSpawn (Soon task args) → 16 ≤ most → what ≡ None
+soon_reads : (task : Ident) (args : List Expression) (most : ℕ) (what : Option Limit) (Y : List ℕ)
+    → IsPrintableSpawn (Soon task args) → 16 ≤ most → what ≡ None
     → Reads (soon most what) (IsSpawn (Soon task args)) (codes "spawn " ++ call_text task args ++ Y) Y
 soon_reads task args most what Y h m w =
     let P = IsSpawn (Soon task args) in
     let Z = 40 ∷ (separated_list expression_text args ++ 41 ∷ Y) in
-    read_same (soon most what) P (codes "spawn " ++ (task.name ++ Z)) _ Y (ap (λ (t : List ℕ). codes "spawn " ++ t) (call_append task args Y))
-    (read_then (limited_word (codes "spawn") what) _ Any P (codes "spawn " ++ (task.name ++ Z)) (32 ∷ (task.name ++ Z)) Y (read_word (codes "spawn") what (32 ∷ (task.name ++ Z)) w refl) (λ c u.
+    read_same (soon most what) P (codes "spawn " ++ (task.name ++ Z)) _ Y
+    (ap (λ (t : List ℕ). codes "spawn " ++ t) (call_append task args Y))
+    (read_then (limited_word (codes "spawn") what) _ Any P (codes "spawn " ++ (task.name ++ Z)) (32 ∷ (task.name ++ Z))
+    Y (read_word (codes "spawn") what (32 ∷ (task.name ++ Z)) w refl) (λ c u.
     read_space _ P (task.name ++ Z) Y
     (read_then name _ (IsNamed task) P (task.name ++ Z) Z Y (read_name task free Z h.0 refl refl) (λ task' e.
     read_then (arguments most) _ (AreTrees args) P Z Y Y (arguments_read args most Y h.1 m) (λ args' f.
     read_gives P (Soon task' args') Y (same_soon task task' args args' e f))))))
 
-after_reads : (at : ℕ) (delay : Expression) (task : Ident) (args : List Expression) (most : ℕ) (what : Option Limit) (Y : List ℕ) → IsPrintableSpawn (After at delay task args) → 16 ≤ most → what ≡ None
+after_reads : (at : ℕ) (delay : Expression) (task : Ident) (args : List Expression) (most : ℕ) (what : Option Limit)
+    (Y : List ℕ) → IsPrintableSpawn (After at delay task args) → 16 ≤ most → what ≡ None
     → Reads (after most what) (IsSpawn (After at delay task args)) (spawn_text (After at delay task args) ++ Y) Y
 after_reads at delay task args most what Y h m w =
     let P = IsSpawn (After at delay task args) in
@@ -71,13 +86,18 @@ after_reads at delay task args most what Y h m w =
     let D = expression_text delay ++ (41 ∷ 32 ∷ (task.name ++ Z)) in
     let e : spawn_text (After at delay task args) ++ Y ≡ codes "spawn_after(" ++ D =
     ap (λ (t : List ℕ). codes "spawn_after(" ++ t)
-    (append_assoc (expression_text delay ++ codes ") ") (call_text task args) Y ∙ append_assoc (expression_text delay) (codes ") ") (call_text task args ++ Y)
+    (append_assoc (expression_text delay ++ codes ") ") (call_text task args) Y
+    ∙ append_assoc (expression_text delay) (codes ") ") (call_text task args ++ Y)
     ∙ ap (λ (t : List ℕ). expression_text delay ++ 41 ∷ 32 ∷ t) (call_append task args Y)) in
     read_same (after most what) P (codes "spawn_after(" ++ D) _ Y e
-    (read_then (limited_word (codes "spawn_after") what) _ Any P (codes "spawn_after(" ++ D) (40 ∷ D) Y (read_word (codes "spawn_after") what (40 ∷ D) w refl) (λ at' u.
+    (read_then (limited_word (codes "spawn_after") what) _ Any P
+    (codes "spawn_after(" ++ D) (40 ∷ D) Y (read_word (codes "spawn_after") what (40 ∷ D) w refl) (λ at' u.
     read_then (sign (codes "(")) _ Any P (40 ∷ D) D Y (read_sign (codes "(") free D refl refl) (λ b v.
-    read_then (expression most) _ (IsTree delay) P D (41 ∷ 32 ∷ (task.name ++ Z)) Y (expression_reads delay most (41 ∷ 32 ∷ (task.name ++ Z)) h.0 m refl (plain_closing (32 ∷ (task.name ++ Z)))) (λ delay' d.
-    read_then (sign (codes ")")) _ Any P (41 ∷ 32 ∷ (task.name ++ Z)) (32 ∷ (task.name ++ Z)) Y (read_sign (codes ")") free (32 ∷ (task.name ++ Z)) refl refl) (λ c x.
+    read_then (expression most) _ (IsTree delay) P D (41 ∷ 32 ∷ (task.name ++ Z)) Y
+    (expression_reads delay most (41 ∷ 32 ∷ (task.name ++ Z)) h.0 m refl (plain_closing (32 ∷ (task.name ++ Z))))
+    (λ delay' d.
+    read_then (sign (codes ")")) _ Any P (41 ∷ 32 ∷ (task.name ++ Z)) (32 ∷ (task.name ++ Z)) Y (read_sign (codes ")")
+    free (32 ∷ (task.name ++ Z)) refl refl) (λ c x.
     read_space _ P (task.name ++ Z) Y
     (read_then name _ (IsNamed task) P (task.name ++ Z) Z Y (read_name task free Z h.1 refl refl) (λ task' n.
     read_then (arguments most) _ (AreTrees args) P Z Y Y (arguments_read args most Y h.2 m) (λ args' f.
@@ -147,7 +167,8 @@ move_reads at delay task e most what Y h m w =
     read_then (handle most) _ (IsTree e) P Z Y Y (handle_reads e most Y h.2 m) (λ e' t.
     read_gives P (Move at' delay' task' e') Y (same_move at at' delay delay' task task' e e' d n t)))))))))
 
-pub spawn_reads : (s : Spawn) (most : ℕ) (what : Option Limit) (Y : List ℕ) → IsPrintableSpawn s → 16 ≤ most → what ≡ None → Reads (spawn most what) (IsSpawn s) (spawn_text s ++ Y) Y
+pub spawn_reads : (s : Spawn) (most : ℕ) (what : Option Limit) (Y : List ℕ) → IsPrintableSpawn s → 16 ≤ most → what
+    ≡ None → Reads (spawn most what) (IsSpawn s) (spawn_text s ++ Y) Y
 spawn_reads (Soon task args) most what Y h m w =
     read_left (soon most what) (after most what or cancel most what or move most what) _ _ Y
     (soon_reads task args most what Y h m w)
@@ -165,13 +186,18 @@ abbrev pub IsValue : Value → Value → Type 0
 IsValue v u = bare_value u ≡ bare_value v
 
 -- a bound value, and the semicolon behind it
-pub value_reads : (v : Value) (most : ℕ) (Y : List ℕ) → IsPrintableValue v → 16 ≤ most → Reads (value most) (IsValue v) (value_text v ++ 59 ∷ Y) (59 ∷ Y)
+pub value_reads : (v : Value) (most : ℕ) (Y : List ℕ) → IsPrintableValue v → 16 ≤ most
+    → Reads (value most) (IsValue v) (value_text v ++ 59 ∷ Y) (59 ∷ Y)
 value_reads (Calc e) most Y h m =
     read_right _ _ (IsValue (Calc e)) _ (59 ∷ Y) (read_right _ _ (IsValue (Calc e)) _ (59 ∷ Y)
-    (read_then (expression most) _ (IsTree e) (IsValue (Calc e)) _ (59 ∷ Y) (59 ∷ Y) (expression_reads e most (59 ∷ Y) h m refl (plain_semicolon Y)) (λ t p. read_gives _ (Calc t) (59 ∷ Y) (ap Calc p))))
+    (read_then (expression most) _ (IsTree e) (IsValue (Calc e)) _ (59 ∷ Y) (59 ∷ Y)
+    (expression_reads e most (59 ∷ Y) h m refl (plain_semicolon Y))
+    (λ t p. read_gives _ (Calc t) (59 ∷ Y) (ap Calc p))))
 value_reads (Now at) most Y h m =
     read_left _ _ (IsValue (Now at)) _ (59 ∷ Y)
-    (read_then (word (codes "now")) _ Any (IsValue (Now at)) _ (59 ∷ Y) (59 ∷ Y) (read_word (codes "now") free (59 ∷ Y) refl refl) (λ at' u. read_gives _ (Now at') (59 ∷ Y) refl))
+    (read_then (word (codes "now")) _ Any (IsValue (Now at)) _ (59 ∷ Y) (59 ∷ Y)
+    (read_word (codes "now") free (59 ∷ Y) refl refl) (λ at' u. read_gives _ (Now at') (59 ∷ Y) refl))
 value_reads (Call s) most Y h m =
     read_right _ _ (IsValue (Call s)) _ (59 ∷ Y) (read_left _ _ (IsValue (Call s)) _ (59 ∷ Y)
-    (read_then (spawn most free) _ (IsSpawn s) (IsValue (Call s)) _ (59 ∷ Y) (59 ∷ Y) (spawn_reads s most free (59 ∷ Y) h m refl) (λ t p. read_gives _ (Call t) (59 ∷ Y) (ap Call p))))
+    (read_then (spawn most free) _ (IsSpawn s) (IsValue (Call s)) _ (59 ∷ Y) (59 ∷ Y)
+    (spawn_reads s most free (59 ∷ Y) h m refl) (λ t p. read_gives _ (Call t) (59 ∷ Y) (ap Call p))))

@@ -62,7 +62,8 @@ pub(crate) fn push_separated<T: Item>(out: &mut Vec<u8>, items: &[T]) -> Result<
 
 /// Appends expressions with a comma between each two.
 pub(crate) fn push_expressions(out: &mut Vec<u8>, exprs: &[Expr]) -> Result<(), NoMemory>
-    ensures { OnOk result (out.new.items ≡ out.old.items ++ separated_list expression_text (map expression_of exprs.now)) }
+    ensures { OnOk result (out.new.items ≡ out.old.items ++ separated_list expression_text
+        (map expression_of exprs.now)) }
 {
     push_separated(out, exprs)
 }

@@ -1,7 +1,8 @@
 -- From priority to priority up to the highest: the stack takes the whole bound there.
 use Rattle.std.proofs.Common.{◌≡◌, ℕ, zero, suc, ◌+◌, ◌*◌, ◌^◌, ◌<◌, ◌≤◌, ◌⊎◌, inl, inr, Bool, true, false}
 use Rattle.std.proofs.Common.{if◌then◌else◌, List, [], ◌∷◌, ◌++◌, length, map, take}
-use Rattle.std.proofs.Common.{Option, Some, None, option_map, refl, ap, sym, subst, ◌∙◌, arith, append_assoc, length-append, length-set}
+use Rattle.std.proofs.Common.{Option, Some, None, option_map, refl, ap, sym, subst, ◌∙◌, arith, append_assoc}
+use Rattle.std.proofs.Common.{length-append, length-set}
 use Rattle.std.specs.List.{AllByRecursion}
 use Rattle.std.specs.Option.{unwrap_or}
 use Rattle.std.proofs.lemmas.List.{length-replicate, length-map}
@@ -37,7 +38,8 @@ use Rattle.rt_reach.specs.Inside.Soon.{TakesWithin}
 use Rattle.rt_reach.specs.Priorities.{deepest_irq, deepest_irqs}
 use Rattle.rt_reach.specs.Reached.{ReachesTheBound}
 use Rattle.rt_reach.specs.Spelled.{script_text}
-use Rattle.rt_reach.proofs.Deepening.{events_one, events_next, declared_append, steps_declared, state_at, core_at, Rests, IsServed, deepest_served, Enters, enters, taken}
+use Rattle.rt_reach.proofs.Deepening.{events_one, events_next, declared_append, steps_declared, state_at, core_at}
+use Rattle.rt_reach.proofs.Deepening.{Rests, IsServed, deepest_served, Enters, enters, taken}
 use Rattle.rt_reach.proofs.Jobs.{requested}
 use Rattle.rt_reach.proofs.Pended.{PendsOnly}
 use Rattle.rt_reach.proofs.Reading.{is_script_text}
@@ -130,7 +132,13 @@ module _ (app : App) (img : Image) (accepted : IsAccepted app) (is_image : IsIma
     few = up.few;
     first_take = up.first_take;
     rests =
-        record { low = omega (arith, up.rests.low); owing = up.rests.owing; none = up.rests.none; long = up.rests.long };
+        record {
+          low = omega (arith, up.rests.low);
+          owing = up.rests.owing;
+          none = up.rests.none;
+          long =
+              up.rests.long;
+        };
     bytes = omega (arith, up.bytes, bytes_more app p, no_handler p none);
     declared = up.declared;
     long = omega (arith, up.long);
@@ -180,7 +188,8 @@ module _ (app : App) (img : Image) (accepted : IsAccepted app) (is_image : IsIma
       subst (λ (s : State). PendsOnly s.pending irq) (sym state_is)
       (requested app (accepted_are_sound app accepted) p (state_at app img accepted is_image form before) irq up.rests
       is.low) in
-      let over : system_ceiling app t.jobs < p = subst (λ (s : State). system_ceiling app s.jobs < p) (sym state_is) up.rests.low in
+      let over : system_ceiling app t.jobs < p = subst (λ (s : State). system_ceiling app s.jobs < p) (sym state_is)
+      up.rests.low in
       let owing : t.owing ≡ false = ap (λ (s : State). s.owing) state_is ∙ up.rests.owing in
       let pending_long : length t.pending ≡ IRQ_NUMBERS =
       ap (λ (s : State). length s.pending) state_is
@@ -229,7 +238,8 @@ module _ (app : App) (img : Image) (accepted : IsAccepted app) (is_image : IsIma
   -- the first exception entry comes soon
   pub soon : (irq : ℕ) (more : List ℕ) → deepest_irqs app ≡ irq ∷ more → TakesWithin 900001 img irq
   soon irq more is = elim climbed [
-    | inl flat ↦ absurd (let none : irq ∷ more ≡ [] = sym is ∙ flat.none in let long = ap length none in omega (arith, long))
+    | inl flat ↦ absurd (let none : irq ∷ more ≡ [] = sym is ∙ flat.none in let long = ap length none in
+        omega (arith, long))
     | inr up ↦
         let same : up.irq ∷ up.more ≡ irq ∷ more = sym up.are ∙ is in
         let head : up.irq ≡ irq = cc in
@@ -264,7 +274,8 @@ module _ (app : App) (img : Image) (accepted : IsAccepted app) (is_image : IsIma
       flat_bytes : 4 * thread_words app ≡ stack_bytes app
       flat_bytes = elim climbed [
         | inl flat ↦ omega (arith, flat.bytes)
-        | inr up ↦ absurd (let some : up.irq ∷ up.more ≡ [] = sym up.are ∙ none in let long = ap length some in omega (arith, long))
+        | inr up ↦ absurd (let some : up.irq ∷ up.more ≡ [] = sym up.are ∙ none in let long = ap length some in
+            omega (arith, long))
       ]
 
   pub up_reaches : Good app img → (irq : ℕ) (more : List ℕ) → deepest_irqs app ≡ irq ∷ more → (steps : ℕ)
@@ -272,7 +283,8 @@ module _ (app : App) (img : Image) (accepted : IsAccepted app) (is_image : IsIma
   up_reaches good irq more is steps first_take = by climbed
     where
       by : Climbed PRIORITIES → ReachesTheBound app (script_text (names_of app) steps (irq ∷ more))
-      by (inl flat) = absurd (let none : irq ∷ more ≡ [] = sym is ∙ flat.none in let long = ap length none in omega (arith, long))
+      by (inl flat) = absurd (let none : irq ∷ more ≡ [] = sym is ∙ flat.none in let long = ap length none in
+          omega (arith, long))
       by (inr up) =
           let same : up.irq ∷ up.more ≡ irq ∷ more = sym up.are ∙ is in
           let head : up.irq ≡ irq = cc in

@@ -2,7 +2,8 @@
 -- handler's frame stands on the thread's. Behind any events, one that is requested above the priority is taken at once.
 use Rattle.std.proofs.Common.{◌≡◌, ℕ, zero, suc, ◌+◌, ◌-◌, ◌==◌, ◌^◌, ◌<◌, ◌≤◌, inl, inr, true, false}
 use Rattle.std.proofs.Common.{List, [], ◌∷◌, ◌++◌, length, flat_map, replicate}
-use Rattle.std.proofs.Common.{Option, Some, IsSome, refl, ap, sym, subst, ◌∙◌, arith, append_assoc, append-nil, length-set, eq-eqb}
+use Rattle.std.proofs.Common.{Option, Some, IsSome, refl, ap, sym, subst, ◌∙◌, arith, append_assoc, append-nil}
+use Rattle.std.proofs.Common.{length-set, eq-eqb}
 use Rattle.std.proofs.lemmas.Bool.{leb-true}
 use Rattle.std.proofs.lemmas.List.{length-replicate}
 use Rattle.std.proofs.lemmas.List.Concat.{flat_map-append}
@@ -41,12 +42,14 @@ use Rattle.rt_reach.proofs.Jobs.{InInit, BehindInit, RestsBelow, init_steps, is_
 use Rattle.rt_reach.proofs.Pended.{PendsOnly}
 use Rattle.rt_reach.proofs.Quiet.{init_quiet}
 use Rattle.rt_reach.proofs.Rising.{IsOfForm, form_of}
-use Rattle.rt_reach.proofs.Running.{core_behind, state_behind, reached_by, shown_next, step_allowed, state_step, core_step, state_request, state_first}
+use Rattle.rt_reach.proofs.Running.{core_behind, state_behind, reached_by, shown_next, step_allowed, state_step}
+use Rattle.rt_reach.proofs.Running.{core_step, state_request, state_first}
 use Rattle.rt_reach.proofs.Served.{IsDeepestAt, is_hardware, is_untimed}
 use Rattle.rt_reach.proofs.Takes.{starts, starts_more}
 use borrow.Author.Count.{below_more}
 
-pub declared_append : (app : App) (es fs : List Event) → AreDeclared app es → AreDeclared app fs → AreDeclared app (es ++ fs)
+pub declared_append : (app : App) (es fs : List Event) → AreDeclared app es → AreDeclared app fs
+    → AreDeclared app (es ++ fs)
 declared_append app [] fs front back = back
 declared_append app (Arrive irq ∷ es) fs front back = (front.0, declared_append app es fs front.1 back)
 declared_append app (Tick ∷ es) fs front back = declared_append app es fs front back
@@ -65,7 +68,8 @@ pub events_next : (steps irq next : ℕ) (more : List ℕ)
     ≡ events (script_of steps (irq ∷ more)) ++ Arrive next ∷ Step ∷ []
 events_next steps irq next more =
     ap (λ ls. events (priority_lines steps irq ++ ls)) (flat_map-append (priority_lines 1) more (next ∷ []))
-    ∙ ap events (sym (append_assoc (priority_lines steps irq) (flat_map (priority_lines 1) more) (priority_lines 1 next)))
+    ∙ ap events (sym (append_assoc (priority_lines steps irq) (flat_map (priority_lines 1) more)
+    (priority_lines 1 next)))
     ∙ flat_map-append line_events (script_of steps (irq ∷ more)) (priority_lines 1 next)
 
 module _ (app : App) (img : Image) (accepted : IsAccepted app) (is_image : IsImageOf app img)
@@ -99,8 +103,10 @@ module _ (app : App) (img : Image) (accepted : IsAccepted app) (is_image : IsIma
 
   pub deepest_served : (p irq : ℕ) → IsDeepestAt app p irq → IsServed p irq
   deepest_served p irq at =
-      let least : (at.service.irq < length app.irqs) × (1 ≤ at.service.priority) × (at.service.priority ≤ 2 ^ app.bits) =
-      find_has (λ (s : Service). (s.irq < length app.irqs) × (1 ≤ s.priority) × (s.priority ≤ 2 ^ app.bits)) _ (services app)
+      let least : (at.service.irq < length app.irqs) × (1 ≤ at.service.priority)
+      × (at.service.priority ≤ 2 ^ app.bits) =
+      find_has (λ (s : Service). (s.irq < length app.irqs) × (1 ≤ s.priority) × (s.priority ≤ 2 ^ app.bits)) _
+      (services app)
       at.service sound.served at.served in
       let number : at.decl.number < IRQ_NUMBERS =
       all_at (λ (d : IrqDecl). d.number < IRQ_NUMBERS) app.irqs at.index at.decl sound.numbers at.declared in
@@ -124,10 +130,12 @@ module _ (app : App) (img : Image) (accepted : IsAccepted app) (is_image : IsIma
     whole_declared : AreDeclared app (es ++ Step ∷ [])
     whole_declared = declared_append app es (Step ∷ []) known tt
 
-    pub taken : (p irq : ℕ) (is : IsServed p irq) → PendsOnly (state_at es).pending irq → system_ceiling app (state_at es).jobs < p
+    pub taken : (p irq : ℕ) (is : IsServed p irq) → PendsOnly (state_at es).pending irq
+        → system_ceiling app (state_at es).jobs < p
         → (state_at es).owing ≡ false → length (state_at es).pending ≡ IRQ_NUMBERS
         → IsTake (next_at es) × Rests (suc p) (es ++ Step ∷ [])
-        × (stack_in_use img (core_at (es ++ Step ∷ [])) ≡ stack_in_use img (core_at es) + (entry_words img + need app p))
+        × (stack_in_use img (core_at (es ++ Step ∷ [])) ≡ stack_in_use img (core_at es)
+        + (entry_words img + need app p))
     taken p irq is pends above owing long =
         let v : Service = is.service in
         let over : system_ceiling app (state_at es).jobs < v.priority = omega (arith, above, is.at_priority) in
@@ -174,9 +182,11 @@ module _ (app : App) (img : Image) (accepted : IsAccepted app) (is_image : IsIma
     at_end n few none behind pends long =
         let room : length (starts irq n) + 1 < 2 ^ 31 = omega (arith, few, starts_long irq n) in
         let known = starts_declared irq n is.declared in
-        let done = taken (starts irq n) room known p irq is pends (omega (arith, behind.low, is.some)) behind.owing long in
+        let done = taken (starts irq n) room known p irq is pends (omega (arith, behind.low, is.some)) behind.owing
+        long in
         let agrees = (reached_by app img accepted is_image (starts irq n) (omega (arith, room)) known).agrees in
-        let alone = alone_words app img accepted is_image (core_at (starts irq n)) (here n) agrees behind.job behind.jobs in
+        let alone = alone_words app img accepted is_image (core_at (starts irq n)) (here n) agrees behind.job
+        behind.jobs in
         record {
           steps = n + 1;
           few = omega (arith, few);
@@ -198,7 +208,8 @@ module _ (app : App) (img : Image) (accepted : IsAccepted app) (is_image : IsIma
         (step_allowed app img accepted is_image (starts irq n) (omega (arith, few, starts_long irq n))
         (declared_append app (starts irq n) (Step ∷ []) (starts_declared irq n is.declared) tt)) in
         let next = one_more n (omega (arith, few)) in
-        let pending_is : (here (n + 1)).pending ≡ (here n).pending = ap (λ (s : State). s.pending) next ∙ stays.pending in
+        let pending_is : (here (n + 1)).pending ≡ (here n).pending = ap (λ (s : State). s.pending) next
+        ∙ stays.pending in
         let none_more : NoneBefore (n + 1) =
         below_more (λ k. ¬ IsTake (item_behind img irq k)) n none stays.no_take in
         let pends_more : PendsOnly (here (n + 1)).pending irq =

@@ -1,5 +1,6 @@
 -- The text that is made reaches the bound.
-use Rattle.std.proofs.Common.{◌≡◌, ℕ, ◌-◌, ◌<◌, ◌≤◌, true, List, [], ◌∷◌, ◌++◌, length, flat_map, take, drop, get_or, refl, ap, sym, subst, ◌∙◌, arith}
+use Rattle.std.proofs.Common.{◌≡◌, ℕ, ◌-◌, ◌<◌, ◌≤◌, true, List, [], ◌∷◌, ◌++◌, length, flat_map, take, drop, get_or}
+use Rattle.std.proofs.Common.{refl, ap, sym, subst, ◌∙◌, arith}
 use Rattle.rt_ids.specs.Names.{Names}
 use Rattle.rt_app.specs.Tree.{App}
 use Rattle.rt_app.specs.Accepted.{IsAccepted}

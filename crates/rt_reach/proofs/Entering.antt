@@ -63,7 +63,8 @@ module _ (app : App) (img : Image) (accepted : IsAccepted app) (is_image : IsIma
       → service_at app irq ≡ Some v → candidate app s ≡ Some irq → IsTake (step img c).1
       → stack_in_use img (step img c).0 ≡ stack_in_use img c + (entry_words img + handler_words app v.handler)
   takes_words c s agrees irq v serves next takes =
-      subst (λ d. stack_in_use img (step img d).0 ≡ stack_in_use img d + (entry_words img + handler_words app v.handler))
+      subst (λ d. stack_in_use img (step img d).0 ≡ stack_in_use img d
+      + (entry_words img + handler_words app v.handler))
       (sym agrees.core)
       (by (pick img c_m) refl both.0 both.1 (subst (λ d. IsTake (step img d).1) agrees.core takes))
     where
@@ -73,8 +74,10 @@ module _ (app : App) (img : Image) (accepted : IsAccepted app) (is_image : IsIma
       c_m : Core
       c_m = core_of app.bits m
 
-      both : (option_map (λ r. r.number) (pick img c_m) ≡ candidate app (state_of m)) × IfServed app at accepted.limits.least_bits accepted.limits.most_bits sound c_m (state_of m) refl
-          (execution_is app img at.idle accepted.limits.least_bits accepted.limits.most_bits m agrees.fits) (pick img c_m)
+      both : (option_map (λ r. r.number) (pick img c_m) ≡ candidate app (state_of m))
+          × IfServed app at accepted.limits.least_bits accepted.limits.most_bits sound c_m (state_of m) refl
+          (execution_is app img at.idle accepted.limits.least_bits accepted.limits.most_bits m agrees.fits)
+          (pick img c_m)
       both = picks app at accepted.limits.least_bits accepted.limits.most_bits sound c_m
           (state_of m) refl
           (execution_is app img at.idle accepted.limits.least_bits accepted.limits.most_bits m agrees.fits) img
@@ -86,7 +89,8 @@ module _ (app : App) (img : Image) (accepted : IsAccepted app) (is_image : IsIma
       in_room : (h : row.Handler) (room : Bool)
           → step img c_m ≡ settle (if room then Done (core_after_entry c_m irq h)
           (Some (what.Take irq (depth img (core_after_entry c_m irq h)))) else Trapped c_m trap.Stack)
-          → IsTake (step img c_m).1 → stack_in_use img (step img c_m).0 ≡ stack_in_use img c_m + (entry_words img + h.frame)
+          → IsTake (step img c_m).1 → stack_in_use img (step img c_m).0 ≡ stack_in_use img c_m
+          + (entry_words img + h.frame)
       in_room h true is taken = ap (λ r. stack_in_use img r.0) is ∙ entered_words img c_m irq h
       in_room h false is taken = absurd (subst (λ (r : Core × Option What). IsTake r.1) is taken)
 

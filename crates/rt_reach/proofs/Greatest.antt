@@ -1,6 +1,7 @@
 -- The greatest of those in a list that pass, and the first that has it.
 use Rattle.std.proofs.Common.{◌≡◌, ℕ, zero, suc, ◌+◌, ◌<◌, ◌⊎◌, inl, inr, max, Bool, true, false}
-use Rattle.std.proofs.Common.{if◌then◌else◌, List, [], ◌∷◌, ◌++◌, length, map, filter, find, take, drop, get_or, slice_get}
+use Rattle.std.proofs.Common.{if◌then◌else◌, List, [], ◌∷◌, ◌++◌, length, map, filter, find, take, drop, get_or}
+use Rattle.std.proofs.Common.{slice_get}
 use Rattle.std.proofs.Common.{Some, None, refl, ap, sym, ◌∙◌, arith}
 use Rattle.std.proofs.lemmas.Bool.{cases_lt}
 use Rattle.std.proofs.lemmas.List.{length-map, map-append, take-append-drop}
@@ -131,7 +132,8 @@ frames_long frames a b ts are =
     ap length are ∙ omega (arith, length-map (map task_of ts) words, length-map ts task_of)
 
 -- the greatest of the tasks so far, with the next one
-pub most_next : (test : Task → Bool) (frames : List ℕ) (a b : ℕ) (ts : List code.Task) (n : ℕ) (t : code.Task) (most : ℕ)
+pub most_next : (test : Task → Bool) (frames : List ℕ) (a b : ℕ) (ts : List code.Task) (n : ℕ) (t : code.Task)
+    (most : ℕ)
     → frames ≡ a ∷ b ∷ map words (map task_of ts) → n < length ts → t ≡ get_or ts n t
     → most ≡ most_of words test (map task_of (take n ts)) → (passes : Bool) → passes ≡ test (task_of t)
     → (if passes then max most (get_or frames (2 + n) 0) else most)

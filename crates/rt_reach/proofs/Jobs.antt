@@ -82,7 +82,8 @@ module _ (app : App) (sound : IsSound app) where
     idles (Some b) vs = refl
 
     acts : (rest : Doing Values) → IsQuiet rest → (w : What) → next_item alone job.role rest ≡ Some w
-        → Leads (state_after_doing app alone job [] rest) × ((state_after_doing app alone job [] rest).pending ≡ s.pending)
+        → Leads (state_after_doing app alone job [] rest)
+        × ((state_after_doing app alone job [] rest).pending ≡ s.pending)
     acts over quiet w is = absurd (none-some w is)
     acts (does (Emits v) made next) quiet w is = (
       inl (record {
@@ -173,7 +174,8 @@ module _ (app : App) (sound : IsSound app) where
 
   started_rests : (s : State) (irq : ℕ) (v : Service) → PendsOnly s.pending irq → system_ceiling app s.jobs < v.priority
       → s.owing ≡ false → length s.pending ≡ IRQ_NUMBERS
-      → RestsBelow (suc v.priority) (state_after_start app (record s { pending = slice_set s.pending irq false }) irq (Some v))
+      → RestsBelow (suc v.priority) (state_after_start app (record s { pending = slice_set s.pending irq false }) irq
+      (Some v))
   started_rests s irq v pends above owing long = record {
     low = omega (arith, above);
     owing = owing;
@@ -183,7 +185,8 @@ module _ (app : App) (sound : IsSound app) where
 
   -- So it is taken in the next step, and behind that the priority is its own.
   pub takes : (s : State) (irq : ℕ) (v : Service) → service_at app irq ≡ Some v → PendsOnly s.pending irq
-      → system_ceiling app s.jobs < v.priority → s.owing ≡ false → length s.pending ≡ IRQ_NUMBERS → (shown : Option What)
+      → system_ceiling app s.jobs < v.priority → s.owing ≡ false → length s.pending ≡ IRQ_NUMBERS
+      → (shown : Option What)
       → May app s (Stepped shown)
       → (depth : ℕ) × (shown ≡ Some (what.Take irq depth)) × RestsBelow (suc v.priority) (after app s (Stepped shown))
   takes s irq v at pends above owing long shown may =
@@ -204,4 +207,5 @@ module _ (app : App) (sound : IsSound app) where
   -- at reset, where an interrupt is requested
   pub first_requested : (irq : ℕ) → irq < IRQ_NUMBERS → PendsOnly (state_after_pend irq (first app)).pending irq
   first_requested irq low =
-      one_pends (first app).pending irq (none_first IRQ_NUMBERS) (omega (arith, low, length-replicate IRQ_NUMBERS false))
+      one_pends (first app).pending irq (none_first IRQ_NUMBERS)
+      (omega (arith, low, length-replicate IRQ_NUMBERS false))

@@ -108,5 +108,6 @@ module _ (app : App) (sound : IsSound app)
       by (Some b) is holds =
           let m : Member = record { id = body.Init; priority = 0; args = 0; body = b } in
           block_quiet app m refl hardware untimed b.block 0 [] [] (λ vars. act (Ends body.Init) nothing)
-          (sound.bodies body.Init m (ap (λ o. option_map (λ (c : Body). record { id = body.Init; priority = 0; args = 0; body = c }) o) is))
+          (sound.bodies body.Init m
+          (ap (λ o. option_map (λ (c : Body). record { id = body.Init; priority = 0; args = 0; body = c }) o) is))
           holds (λ vars ws. end_quiet ws) ([] ++ replicate (variables b.block) 0) vs

@@ -25,7 +25,8 @@ use Rattle.rt_trace.specs.Lined.{IsDeclared}
 use Rattle.rt_trace.proofs.Tables.{irq_known}
 use Rattle.rt_reach.specs.Deepest.{priority_lines, script_of}
 use Rattle.rt_reach.specs.Spelled.{pend_line, step_line, line_with_feed, priority_text, script_text}
-use Rattle.rt_reach.proofs.Words.{IsPlain, plain_without, name_plain, decimal_plain, decimal_length, decimal_read, ends_otherwise, two_words, first_part}
+use Rattle.rt_reach.proofs.Words.{IsPlain, plain_without, name_plain, decimal_plain, decimal_length, decimal_read}
+use Rattle.rt_reach.proofs.Words.{ends_otherwise, two_words, first_part}
 
 -- a word of name bytes that is not empty
 pub record IsWordy (w : List ℕ) : Type 0 where
@@ -109,7 +110,8 @@ module _ (names : Names) where
         ap lines (append_assoc (line_with_feed (pend_line names irq)) (line_with_feed (step_line steps)) rest
         ∙ append_assoc (pend_line names irq) (10 ∷ []) (line_with_feed (step_line steps) ++ rest)
         ∙ ap (λ t. pend_line names irq ++ 10 ∷ t) (append_assoc (step_line steps) (10 ∷ []) rest))
-        ∙ first_line (codes "pend") (irq_name names irq) (step_line steps ++ 10 ∷ rest) (refl, (refl, (refl, (refl, tt)))) word
+        ∙ first_line (codes "pend") (irq_name names irq) (step_line steps ++ 10 ∷ rest)
+        (refl, (refl, (refl, (refl, tt)))) word
         ∙ ap (λ ls. pend_line names irq ∷ ls)
         (first_line (codes "step") (decimal steps) rest (refl, (refl, (refl, (refl, tt)))) number) in
         ap (map (line_of names)) split
@@ -127,14 +129,16 @@ module _ (names : Names) where
         → Say (lines (flat_map (priority_text names 1) irqs)) (flat_map (priority_lines 1) irqs)
     others_say [] declared = refl
     others_say (irq ∷ irqs) declared =
-        priority_says 1 irq (flat_map (priority_text names 1) irqs) (flat_map (priority_lines 1) irqs) (omega arith) declared.0
+        priority_says 1 irq (flat_map (priority_text names 1) irqs) (flat_map (priority_lines 1) irqs) (omega arith)
+        declared.0
         (others_say irqs declared.1)
 
     script_says : (steps : ℕ) (irqs : List ℕ) → steps < 10 ^ 9 → AreDeclaredHere irqs
         → Say (lines (script_text names steps irqs)) (script_of steps irqs)
     script_says steps [] few declared = refl
     script_says steps (irq ∷ irqs) few declared =
-        priority_says steps irq (flat_map (priority_text names 1) irqs) (flat_map (priority_lines 1) irqs) few declared.0
+        priority_says steps irq (flat_map (priority_text names 1) irqs) (flat_map (priority_lines 1) irqs) few
+        declared.0
         (others_say irqs declared.1)
 
     -- how many events they are

@@ -1,6 +1,8 @@
 -- The priorities that have a handler, and the interrupt that goes deepest at each.
-use Rattle.std.proofs.Common.{◌≡◌, ℕ, zero, suc, ◌+◌, ◌==◌, ◌≤◌, ◌&&◌, not, Bool, true, false, if◌then◌else◌, List, [], ◌∷◌, ◌++◌}
-use Rattle.std.proofs.Common.{length, map, find, Option, Some, None, refl, ap, sym, ◌∙◌, arith, append-nil, length-append}
+use Rattle.std.proofs.Common.{◌≡◌, ℕ, zero, suc, ◌+◌, ◌==◌, ◌≤◌, ◌&&◌, not, Bool, true, false, if◌then◌else◌, List, []}
+use Rattle.std.proofs.Common.{◌∷◌, ◌++◌}
+use Rattle.std.proofs.Common.{length, map, find, Option, Some, None, refl, ap, sym, ◌∙◌, arith, append-nil}
+use Rattle.std.proofs.Common.{length-append}
 use Rattle.std.specs.List.{list_any}
 use Rattle.std.proofs.lemmas.List.{map-append}
 use Rattle.std.proofs.lemmas.Option.{none-some}
@@ -29,7 +31,8 @@ pub record IsOfForm (app : App) : Type 0 where
 
 pub form_of : (app : App) → has_deepest_script app ≡ true → IsOfForm app
 form_of app is =
-    let parts = and_parts (has_no_software app && has_no_monotonic app) (body_holds_no_pend app.init && is_brief app) is in
+    let parts = and_parts (has_no_software app && has_no_monotonic app) (body_holds_no_pend app.init && is_brief app)
+    is in
     let alone = and_parts (has_no_software app) (has_no_monotonic app) parts.0 in
     let start = and_parts (body_holds_no_pend app.init) (is_brief app) parts.1 in
     record { hardware = alone.0; untimed = alone.1; quiet = start.0; brief = start.1 }

@@ -1,5 +1,6 @@
 -- A good image on lists of events: what the core shows is allowed, and the two machines agree behind it.
-use Rattle.std.proofs.Common.{◌≡◌, ℕ, ◌+◌, ◌^◌, ◌<◌, List, [], ◌∷◌, ◌++◌, length, Option, ap, subst, ◌∙◌, arith, length-append}
+use Rattle.std.proofs.Common.{◌≡◌, ℕ, ◌+◌, ◌^◌, ◌<◌, List, [], ◌∷◌, ◌++◌, length, Option, ap, subst, ◌∙◌, arith}
+use Rattle.std.proofs.Common.{length-append}
 use Rattle.rt_ids.specs.Event.{Event, Arrive, Step}
 use Rattle.rt_trace.specs.Label.{Label, Arrived, Stepped}
 use Rattle.rt_trace.specs.declared.item.What.{What}
@@ -114,7 +115,8 @@ module _ (app : App) (img : Image) (accepted : IsAccepted app) (is_image : IsIma
       ∙ ap (λ ls. Arrived irq ∷ ls) (happens_by_event.labels_none img (core_after_pend c irq))))
       ∙ after_append app (labels img (reset img) events) (Arrived irq ∷ []) (first app)
 
-  pub core_request : (events : List Event) (irq : ℕ) → core_behind (events ++ Arrive irq ∷ []) ≡ core_after_pend (core_behind events) irq
+  pub core_request : (events : List Event) (irq : ℕ) → core_behind (events ++ Arrive irq ∷ [])
+      ≡ core_after_pend (core_behind events) irq
   core_request events irq =
       let c : Core = core_behind events in
       core_after-append img (reset img) events (Arrive irq ∷ [])

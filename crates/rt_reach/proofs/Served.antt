@@ -73,7 +73,8 @@ module _ (app : App) (accepted : IsAccepted app) (sound : IsSound app) (hardware
   none_soft = not_true (list_any is_software app.tasks) hardware
 
   pub is_hardware : (n : ℕ) (t : Task) → slice_get app.tasks n ≡ Some t → is_software t ≡ true → ⊥
-  is_hardware n t at is = true_and_false (list_any is_software app.tasks) (any_passes is_software app.tasks n t at is) none_soft
+  is_hardware n t at is = true_and_false (list_any is_software app.tasks) (any_passes is_software app.tasks n t at is)
+      none_soft
 
   no_mono : app.mono ≡ None
   no_mono = by app.mono untimed
@@ -155,12 +156,14 @@ module _ (app : App) (accepted : IsAccepted app) (sound : IsSound app) (hardware
           (record { irq = bound.0; handler = Runs j; priority = t.priority })) same
           (task_served 0 index.0 bound.0 app.tasks t index.1 bound.1))) in
           let within : bound.0 < length app.irqs =
-          (all_at (λ (v : Service). (v.irq < length app.irqs) × (1 ≤ v.priority) × (v.priority ≤ 2 ^ app.bits)) (services app)
+          (all_at (λ (v : Service). (v.irq < length app.irqs) × (1 ≤ v.priority) × (v.priority ≤ 2 ^ app.bits))
+          (services app)
           in_services.0 s sound.served in_services.1).0 in
           let row = there_is app.irqs bound.0 within in
           let number_is : irq_number app bound.0 ≡ Some row.0.number =
           ap (option_map (λ (d : IrqDecl). d.number)) row.1 in
-          let service = found (λ (v : Service). is_some_and (λ n. n == row.0.number) (irq_number app v.irq)) (services app)
+          let service = found (λ (v : Service). is_some_and (λ n. n == row.0.number) (irq_number app v.irq))
+          (services app)
           in_services.0 s in_services.1
           (ap (is_some_and (λ n. n == row.0.number)) number_is ∙ eq-eqb row.0.number row.0.number refl) in
           let only : service.0 ≡ s =
@@ -168,7 +171,8 @@ module _ (app : App) (accepted : IsAccepted app) (sound : IsSound app) (hardware
             row.0.number,
             record {
               is =
-                  ap (λ o. then_from o (bound_number app)) is ∙ ap (λ o. then_from o (irq_number app)) bound.1 ∙ number_is;
+                  ap (λ o. then_from o (bound_number app)) is ∙ ap (λ o. then_from o (irq_number app)) bound.1
+                  ∙ number_is;
               number = index.0;
               task = t;
               there = index.1;

@@ -1,6 +1,6 @@
--- Which interrupts go deepest: one of each priority, of the task with the greatest frame there. Jobs of one priority never
--- stand on each other (Baker, Stack-Based Scheduling of Realtime Processes, 1991, on sharing a stack), so no other
--- nesting takes more. The code keeps the greatest frame of a pass over the tasks.
+-- Which interrupts go deepest: one of each priority, of the task with the greatest frame there. Jobs of one priority
+-- never stand on each other (Baker, Stack-Based Scheduling of Realtime Processes, 1991, on sharing a stack), so no
+-- other nesting takes more. The code keeps the greatest frame of a pass over the tasks.
 use Rattle.std.specs.Prelude.{ℕ, ◌==◌, ◌&&◌, List, map, find, Option}
 use Rattle.rt_ids.specs.Lists.{or_zero, then_from}
 use Rattle.rt_app.specs.Tree.{Task, App}

@@ -39,8 +39,8 @@ fn greatest_frame(app: &App, frames: &[u32], priority: u8) -> u32
     most
 }
 
-/// The interrupt that the first hardware task of a priority binds whose frame has so many words, by its index in the order
-/// of declaration.
+/// The interrupt that the first hardware task of a priority binds whose frame has so many words, by its index in the
+/// order of declaration.
 fn place_bound(app: &App, frames: &[u32], priority: u8, words: u32) -> Option<u8>
     requires { frames.now ≡ plan.frames (app_of app.now) }
     ensures { result ≡ then_from
@@ -64,8 +64,8 @@ fn number_at(app: &App, index: u8) -> Option<Irq>
         .map(|declared| declared.number)
 }
 
-/// The number of the interrupt that the hardware task of greatest frame of a priority binds, the first declared of equal
-/// ones.
+/// The number of the interrupt that the hardware task of greatest frame of a priority binds, the first declared of
+/// equal ones.
 fn deepest_irq(app: &App, frames: &[u32], priority: u8) -> Option<Irq>
     requires accepted { IsAccepted (app_of app.now) }
     requires form { has_deepest_script (app_of app.now) ≡ true }

@@ -37,10 +37,10 @@ fn script_text(alloc: Global, app: &App, mut core: Core) -> Result<Vec<u8>, NoMe
 
 /// A script on which the stack of an accepted application reaches the bound that `check` prints, and None where the
 /// application is not of the form that it is written for: hardware tasks alone, no monotonic, no `pend` in `init`, and
-/// at most 900,000 core steps of `init`. For each priority that has a handler, rising, it has a line `pend I` and a line
-/// `step N`: I is bound by the task of the priority with the greatest frame, the first declared of equal ones. The first
-/// N is the number of core steps up to the first exception entry, that one included, and each other N is 1. Where no
-/// priority has a handler the text is empty.
+/// at most 900,000 core steps of `init`. For each priority that has a handler, rising, it has a line `pend I` and a
+/// line `step N`: I is bound by the task of the priority with the greatest frame, the first declared of equal ones. The
+/// first N is the number of core steps up to the first exception entry, that one included, and each other N is 1. Where
+/// no priority has a handler the text is empty.
 pub fn deepest(alloc: Global, app: &App) -> Result<Option<Vec<u8>>, NoMemory>
     requires accepted { IsAccepted (app_of app.now) }
     ensures form { IfOk result (λ answer. is_some answer ≡ has_deepest_script (app_of app.now)) }

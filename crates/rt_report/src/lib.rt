@@ -16,8 +16,8 @@ use rt_ids::NoMemory;
 use std::alloc::Global;
 
 /// The report on an application with these ceilings and these bounds, a line each: `ceiling NAME PRIORITY` for what
-/// sections guard, `frame BODY WORDS` and `cost BODY STEPS` for each body, `wait PRIORITY STEPS` for each priority that has a handler, and
-/// `stack BYTES`.
+/// sections guard, `frame BODY WORDS` and `cost BODY STEPS` for each body, `wait PRIORITY STEPS` for each priority that
+/// has a handler, and `stack BYTES`.
 pub fn report(
     alloc: Global,
     app: &App,

@@ -8,10 +8,12 @@ use Rattle.rt_ast.specs.declared.app.IrqTree.{IrqTree}
 use Rattle.rt_ast.specs.declared.app.SharedTree.{SharedTree}
 use Rattle.rt_ast.specs.declared.app.LocalTree.{LocalTree}
 use Rattle.rt_ast.specs.Tree.{Body, Task, App}
-use Rattle.rt_ast.specs.Printable.{IfThere, IsPrintableBody, IsPrintableInit, IsPrintableCapacity, IsPrintableTask, IsPrintableIrq, IsPrintableResource, IsPrintableLocal, IsPrintable}
+use Rattle.rt_ast.specs.Printable.{IfThere, IsPrintableBody, IsPrintableInit, IsPrintableCapacity, IsPrintableTask}
+use Rattle.rt_ast.specs.Printable.{IsPrintableIrq, IsPrintableResource, IsPrintableLocal, IsPrintable}
 use Rattle.rt_app.specs.Limits.{KeepsBodyLimits, KeepsThreadLimits, KeepsTaskLimits, KeepsLimits}
 use Rattle.rt_resolve.specs.Scope.{inside}
-use Rattle.rt_resolve.specs.Resolved.{irq, resolved_shared, local, with_arguments, body_names, body, capacity_or_one, task, resolved_app}
+use Rattle.rt_resolve.specs.Resolved.{irq, resolved_shared, local, with_arguments, body_names, body, capacity_or_one}
+use Rattle.rt_resolve.specs.Resolved.{task, resolved_app}
 use Rattle.rt_resolve.proofs.KeptBody.{statements_are, blocks_are, block_shallow}
 use Rattle.rt_resolve.proofs.KeptNumbers.{block_fits}
 
@@ -42,21 +44,31 @@ most None p = omega arith
 most (Some n) p = p.1
 
 task_kept : (app : App) (t : Task) → IsPrintableTask t → KeepsTaskLimits (task app t)
-task_kept app t p = record { args = p.few_args; least_capacity = least t.capacity p.capacity; most_capacity = most t.capacity p.capacity; body = body_kept app t.args t.body p.body }
+task_kept app t p = record {
+  args = p.few_args;
+  least_capacity = least t.capacity p.capacity;
+  most_capacity =
+      most t.capacity p.capacity;
+  body = body_kept app t.args t.body p.body;
+}
 
-tasks_kept : (app : App) (ts : List Task) → AllByRecursion IsPrintableTask ts → AllByRecursion KeepsTaskLimits (map (task app) ts)
+tasks_kept : (app : App) (ts : List Task) → AllByRecursion IsPrintableTask ts
+    → AllByRecursion KeepsTaskLimits (map (task app) ts)
 tasks_kept app [] p = tt
 tasks_kept app (t ∷ ts) p = (task_kept app t p.0, tasks_kept app ts p.1)
 
-irqs_kept : (irqs : List IrqTree) → AllByRecursion IsPrintableIrq irqs → AllByRecursion (λ d. d.number < IRQ_NUMBERS) (map irq irqs)
+irqs_kept : (irqs : List IrqTree) → AllByRecursion IsPrintableIrq irqs
+    → AllByRecursion (λ d. d.number < IRQ_NUMBERS) (map irq irqs)
 irqs_kept [] p = tt
 irqs_kept (d ∷ irqs) p = (p.0.1, irqs_kept irqs p.1)
 
-shared_kept : (rs : List SharedTree) → AllByRecursion IsPrintableResource rs → AllByRecursion (λ r. r.first < 2 ^ 32) (map resolved_shared rs)
+shared_kept : (rs : List SharedTree) → AllByRecursion IsPrintableResource rs
+    → AllByRecursion (λ r. r.first < 2 ^ 32) (map resolved_shared rs)
 shared_kept [] p = tt
 shared_kept (r ∷ rs) p = (p.0.1, shared_kept rs p.1)
 
-locals_kept : (rs : List LocalTree) → AllByRecursion IsPrintableLocal rs → AllByRecursion (λ r. r.first < 2 ^ 32) (map local rs)
+locals_kept : (rs : List LocalTree) → AllByRecursion IsPrintableLocal rs
+    → AllByRecursion (λ r. r.first < 2 ^ 32) (map local rs)
 locals_kept [] p = tt
 locals_kept (r ∷ rs) p = (p.0.1, locals_kept rs p.1)
 

@@ -1,5 +1,6 @@
 -- Tests of lists that are given in another way, and the faults of names that are declared twice.
-use Rattle.std.proofs.Common.{◌≡◌, ℕ, ◌+◌, ◌<◌, Bool, ◌++◌, List, [], ◌∷◌, map, reverse, take, drop, get_or, length, ap, sym, ◌∙◌, Bor, append_assoc}
+use Rattle.std.proofs.Common.{◌≡◌, ℕ, ◌+◌, ◌<◌, Bool, ◌++◌, List, [], ◌∷◌, map, reverse, take, drop, get_or, length, ap}
+use Rattle.std.proofs.Common.{sym, ◌∙◌, Bor, append_assoc}
 use Rattle.std.specs.List.{list_any}
 use Rattle.std.proofs.lemmas.List.{take_more, drop_more, map-append, reverse-append}
 use Rattle.rt_lemmas.proofs.Lists.{list_any-reverse}
@@ -13,13 +14,17 @@ use Rattle.rt_resolve.specs.NameRules.{declared_twice}
 abbrev pub idents : List (Bor Ident) → List Ident
 idents xs = map (λ x. x.now) xs
 
-idents_more : (all : List (Bor Ident)) (i : ℕ) (d : Bor Ident) → i < length all → d ≡ get_or all i d → reverse (idents (take (i + 1) all)) ≡ d.now ∷ reverse (idents (take i all))
+idents_more : (all : List (Bor Ident)) (i : ℕ) (d : Bor Ident) → i < length all → d ≡ get_or all i d
+    → reverse (idents (take (i + 1) all)) ≡ d.now ∷ reverse (idents (take i all))
 idents_more all i d h is =
-    ap (λ xs. reverse (idents xs)) (take_more all i d h) ∙ ap reverse (map-append (λ (x : Bor Ident). x.now) (take i all) (get_or all i d ∷ []))
-    ∙ reverse-append (idents (take i all)) ((get_or all i d).now ∷ []) ∙ ap (λ (x : Bor Ident). x.now ∷ reverse (idents (take i all))) (sym is)
+    ap (λ xs. reverse (idents xs)) (take_more all i d h) ∙ ap reverse
+    (map-append (λ (x : Bor Ident). x.now) (take i all) (get_or all i d ∷ []))
+    ∙ reverse-append (idents (take i all)) ((get_or all i d).now ∷ [])
+    ∙ ap (λ (x : Bor Ident). x.now ∷ reverse (idents (take i all))) (sym is)
 
 -- the faults of one name more
-pub declared_more : (all : List (Bor Ident)) (i : ℕ) (d : Bor Ident) (old new whole : List Violation) (b : Bool) → i < length all → d ≡ get_or all i d
+pub declared_more : (all : List (Bor Ident)) (i : ℕ) (d : Bor Ident) (old new whole : List Violation) (b : Bool)
+    → i < length all → d ≡ get_or all i d
     → b ≡ list_any (is_named d.now.name) (idents (take i all)) → new ≡ old ++ when b rule.DeclaredTwice d.now.at
     → old ++ declared_twice (reverse (idents (take i all))) (idents (drop i all)) ≡ whole
     → new ++ declared_twice (reverse (idents (take (i + 1) all))) (idents (drop (i + 1) all)) ≡ whole

@@ -7,7 +7,8 @@ use Rattle.rt_ast.specs.Tree.{Expression, Num, Read, Oper, Spawn, Soon, After, C
 use Rattle.rt_ast.specs.Tree.{Statement, Bind, Assign, Branch, Repeat, Locked, Emit, Pend, Spawns, Block, Empty, Then}
 use Rattle.rt_app.specs.declared.violation.Violation.{Violation}
 use Rattle.rt_app.specs.Violation.{when}
-use Rattle.rt_resolve.specs.Scope.{Names, irq_named, task_named, shared_resource_named, local_named, is_variable, inside}
+use Rattle.rt_resolve.specs.Scope.{Names, irq_named, task_named, shared_resource_named, local_named, is_variable}
+use Rattle.rt_resolve.specs.Scope.{inside}
 use Rattle.rt_resolve.specs.Scope.{meaning}
 use Rattle.rt_resolve.specs.Resolving.{binders, binders_in, behind, in_loop}
 

@@ -8,7 +8,8 @@ use Rattle.rt_ast.specs.Tree.{Body, Task, App}
 use Rattle.rt_app.specs.declared.violation.Violation.{Violation}
 use Rattle.rt_app.specs.Violation.{when}
 use Rattle.rt_app.specs.Declarations.{Used}
-use Rattle.rt_resolve.specs.Scope.{Names, is_named, irq_named, shared_resource_named, local_named, inside, with_variable}
+use Rattle.rt_resolve.specs.Scope.{Names, is_named, irq_named, shared_resource_named, local_named, inside}
+use Rattle.rt_resolve.specs.Scope.{with_variable}
 use Rattle.rt_resolve.specs.Resolved.{with_arguments, body_names}
 use Rattle.rt_resolve.specs.Misnamed.{if_unknown, if_taken, block_faults}
 use Rattle.std.specs.Prelude.{length}

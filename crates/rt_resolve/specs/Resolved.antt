@@ -16,7 +16,8 @@ use Rattle.rt_app.specs.declared.app.Mono.{Mono}
 use Rattle.rt_app.specs.declared.app.Shared.{Shared}
 use Rattle.rt_app.specs.declared.app.Local.{Local}
 use Rattle.rt_app.specs.Tree as tree
-use Rattle.rt_resolve.specs.Scope.{Names, irq_named, shared_resource_named, local_named, or_unknown, inside, with_variable}
+use Rattle.rt_resolve.specs.Scope.{Names, irq_named, shared_resource_named, local_named, or_unknown, inside}
+use Rattle.rt_resolve.specs.Scope.{with_variable}
 use Rattle.rt_resolve.specs.Resolving.{block}
 
 -- a declared interrupt, with its offsets
@@ -50,7 +51,12 @@ local r = record { name = r.name.name; first = r.first }
 
 -- a listing of a shared resource, with the number of the resource
 abbrev pub resolved_listing : App → ListedTree → Listed
-resolved_listing app l = record { resource = or_unknown (shared_resource_named app l.name.name); by_ref = l.by_ref; at = l.at }
+resolved_listing app l = record {
+  resource = or_unknown (shared_resource_named app l.name.name);
+  by_ref = l.by_ref;
+  at =
+      l.at;
+}
 
 -- a listing of a local resource, with the number of the resource
 abbrev pub resolved_local : App → Ident → Owned

@@ -5,7 +5,8 @@ use Rattle.rt_ast.specs.declared.ident.Ident.{Ident}
 use Rattle.rt_ast.specs.Tree as written
 use Rattle.rt_ast.specs.Tree.{Statement, Bind, Assign, Branch, Repeat, Locked, Emit, Pend, Spawns, Block, Empty, Then}
 use Rattle.rt_app.specs.Tree as tree
-use Rattle.rt_resolve.specs.Scope.{Names, irq_named, task_named, shared_resource_named, or_unknown, inside, with_variable}
+use Rattle.rt_resolve.specs.Scope.{Names, irq_named, task_named, shared_resource_named, or_unknown, inside}
+use Rattle.rt_resolve.specs.Scope.{with_variable}
 use Rattle.rt_resolve.specs.Scope.{atom_named}
 
 -- an expression with what its names stand for

@@ -72,7 +72,12 @@ inside names = record { app = names.app; local = names.local; scope = scope_in_b
 
 -- the names with a variable more, of this number
 abbrev pub with_variable : Names → Ident → ℕ → Names
-with_variable names x n = record { app = names.app; local = names.local; scope = scope_with_variable names.scope x.name n }
+with_variable names x n = record {
+  app = names.app;
+  local = names.local;
+  scope =
+      scope_with_variable names.scope x.name n;
+}
 
 -- the variable in scope that a name means: the one declared last
 abbrev pub variable_named : Names → List ℕ → Option Atom

@@ -1,6 +1,8 @@
--- The core steps that are owed to a priority: what its started jobs and the higher ones have left, and the whole handling
--- of each of their interrupts that is pending.
-use Rattle.std.proofs.Common.{◌≡◌, ℕ, zero, suc, ◌+◌, ◌*◌, ◌≤◌, ◌<◌, ◌==◌, ◌≢◌, ◌⊎◌, inl, inr, Bool, true, false, nat_le, if◌then◌else◌, List, [], ◌∷◌, get_or, slice_get, slice_set, slice_index_or, Option, Some, None, refl, sym, ap, subst, ◌∙◌, arith, eq-eqb}
+-- The core steps that are owed to a priority: what its started jobs and the higher ones have left, and the whole
+-- handling of each of their interrupts that is pending.
+use Rattle.std.proofs.Common.{◌≡◌, ℕ, zero, suc, ◌+◌, ◌*◌, ◌≤◌, ◌<◌, ◌==◌, ◌≢◌, ◌⊎◌, inl, inr, Bool, true, false}
+use Rattle.std.proofs.Common.{nat_le, if◌then◌else◌, List, [], ◌∷◌, get_or, slice_get, slice_set, slice_index_or}
+use Rattle.std.proofs.Common.{Option, Some, None, refl, sym, ap, subst, ◌∙◌, arith, eq-eqb}
 use Rattle.std.specs.Prelude.{sum_by}
 use Rattle.std.proofs.lemmas.Bool.{eqb-true, leb-true, leb-false, le-leb}
 use Rattle.std.proofs.lemmas.Bool.Decides.{eqb_tells}
@@ -52,7 +54,8 @@ cleared [] i = refl
 cleared (x ∷ xs) zero = refl
 cleared (x ∷ xs) (suc i) = cleared xs i
 
-other_set : (xs : List Bool) (i j : ℕ) (b : Bool) → ¬ (j ≡ i) → slice_index_or (slice_set xs i b) j false ≡ slice_index_or xs j false
+other_set : (xs : List Bool) (i j : ℕ) (b : Bool) → ¬ (j ≡ i) → slice_index_or (slice_set xs i b) j false
+    ≡ slice_index_or xs j false
 other_set [] i j b differs = refl
 other_set (x ∷ xs) zero zero b differs = absurd (differs refl)
 other_set (x ∷ xs) zero (suc j) b differs = refl
@@ -94,11 +97,13 @@ asked_cleared pending irq (Some n) steps = by (n == irq) refl
     by : (b : Bool) → (n == irq) ≡ b → asked (slice_set pending irq false) (Some n) steps ≤ asked pending (Some n) steps
     by true test =
         let none : asked (slice_set pending irq false) (Some n) steps ≡ 0 =
-        ap (λ b. if b then steps else 0) (ap (λ i. slice_index_or (slice_set pending irq false) i false) (eqb-true n irq test) ∙ cleared pending irq) in
+        ap (λ b. if b then steps else 0) (ap (λ i. slice_index_or (slice_set pending irq false) i false)
+        (eqb-true n irq test) ∙ cleared pending irq) in
         omega (arith, none)
     by false test =
         let same : asked (slice_set pending irq false) (Some n) steps ≡ asked pending (Some n) steps =
-        ap (λ b. if b then steps else 0) (other_set pending irq n false (λ e. true_and_false (n == irq) (eq-eqb n irq e) test)) in
+        ap (λ b. if b then steps else 0) (other_set pending irq n false
+        (λ e. true_and_false (n == irq) (eq-eqb n irq e) test)) in
         omega (arith, same)
 
 both_less : (test : Bool) (a b c d : ℕ) → a + b ≤ c + d
@@ -145,7 +150,8 @@ module _ (app : App) (p : ℕ) where
       let rest = request_raises pending counts irq ts in
       let here : owed_to (slice_set pending irq true) t + raised_by counts t
       ≤ owed_to pending t + raised_by (one_more irq counts) t =
-      both_less (nat_le p t.priority) _ _ _ _ (asked_raised pending counts irq (number_of app t) (handling_steps app t)) in
+      both_less (nat_le p t.priority) _ _ _ _ (asked_raised pending counts irq (number_of app t) (handling_steps app t))
+      in
       omega (arith, rest, here)
 
   pub take_lowers : (pending : List Bool) (irq : ℕ) (ts : List Task)
@@ -214,20 +220,43 @@ module _ (app : App) (p : ℕ) where
       deeper : (0 < owed_pending pending ts → IsAsked pending ts) → owed_to pending t ≡ 0 → IsAsked pending (t ∷ ts)
       deeper next none =
           let one = next (omega (arith, some, none)) in
-          record { index = suc one.index; task = one.task; at = one.at; over = one.over; irq = one.irq; number = one.number; set = one.set }
+          record {
+            index = suc one.index;
+            task = one.task;
+            at = one.at;
+            over = one.over;
+            irq = one.irq;
+            number =
+                one.number;
+            set = one.set;
+          }
 
-      set_or_not : (0 < owed_pending pending ts → IsAsked pending ts) → p ≤ t.priority → (n : ℕ) → number_of app t ≡ Some n → (b : Bool) → slice_index_or pending n false ≡ b → IsAsked pending (t ∷ ts)
-      set_or_not next over n number true set = record { index = 0; task = t; at = refl; over = over; irq = n; number = number; set = set }
+      set_or_not : (0 < owed_pending pending ts → IsAsked pending ts) → p ≤ t.priority → (n : ℕ) → number_of app t
+          ≡ Some n → (b : Bool) → slice_index_or pending n false ≡ b → IsAsked pending (t ∷ ts)
+      set_or_not next over n number true set = record {
+        index = 0;
+        task = t;
+        at = refl;
+        over = over;
+        irq = n;
+        number =
+            number;
+        set = set;
+      }
       set_or_not next over n number false clear = deeper next (owes_none pending n t over number clear)
 
-      numbered : (0 < owed_pending pending ts → IsAsked pending ts) → p ≤ t.priority → (o : Option ℕ) → number_of app t ≡ o → IsAsked pending (t ∷ ts)
+      numbered : (0 < owed_pending pending ts → IsAsked pending ts) → p ≤ t.priority → (o : Option ℕ) → number_of app t
+          ≡ o → IsAsked pending (t ∷ ts)
       numbered next over (Some n) number = set_or_not next over n number (slice_index_or pending n false) refl
       numbered next over None number =
-          deeper next (at_priority_is p t.priority (asked pending (number_of app t) (handling_steps app t)) over ∙ ap (λ o. asked pending o (handling_steps app t)) number)
+          deeper next (at_priority_is p t.priority (asked pending (number_of app t) (handling_steps app t)) over
+          ∙ ap (λ o. asked pending o (handling_steps app t)) number)
 
-      level_of : (0 < owed_pending pending ts → IsAsked pending ts) → (b : Bool) → nat_le p t.priority ≡ b → (o : Option ℕ) → number_of app t ≡ o → IsAsked pending (t ∷ ts)
+      level_of : (0 < owed_pending pending ts → IsAsked pending ts) → (b : Bool) → nat_le p t.priority ≡ b
+          → (o : Option ℕ) → number_of app t ≡ o → IsAsked pending (t ∷ ts)
       level_of next true test o number = numbered next (leb-true p t.priority test) o number
-      level_of next false test o number = deeper next (ap (λ b. if b then asked pending (number_of app t) (handling_steps app t) else 0) test)
+      level_of next false test o number = deeper next
+          (ap (λ b. if b then asked pending (number_of app t) (handling_steps app t) else 0) test)
 
   -- no more requests than may begin in so many steps ask for no more than they do
   pub raised_within : (limits : List Limit) (counts : Counts) (steps : ℕ)
@@ -240,7 +269,8 @@ module _ (app : App) (p : ℕ) where
       one_less (nat_le p t.priority) _ _ (of (number_of app t)) in
       omega (arith, rest, here, sum_by-cons (task_demand app limits p steps) t ts)
     where
-      of : (o : Option ℕ) → counted counts o * handling_steps app t ≤ requests (then_from o (every_of limits)) steps * handling_steps app t
+      of : (o : Option ℕ) → counted counts o * handling_steps app t ≤ requests (then_from o (every_of limits)) steps
+          * handling_steps app t
       of None = omega arith
       of (Some n) = mul-le-mul_right (handling_steps app t) (few n)
 
@@ -249,7 +279,8 @@ module _ (app : App) (p : ℕ) where
   jobs_reach [] some = absurd (omega arith)
   jobs_reach (job ∷ others) some = by (λ more. jobs_reach others more) (nat_le p job.priority) refl
     where
-      by : (0 < owed_jobs others → p ≤ system_ceiling app others) → (b : Bool) → nat_le p job.priority ≡ b → p ≤ system_ceiling app (job ∷ others)
+      by : (0 < owed_jobs others → p ≤ system_ceiling app others) → (b : Bool) → nat_le p job.priority ≡ b
+          → p ≤ system_ceiling app (job ∷ others)
       by next true test = (let over = leb-true p job.priority test in omega arith)
       by next false test =
           let none : at_priority p job.priority job.left ≡ 0 = ap (λ b. if b then job.left else 0) test in

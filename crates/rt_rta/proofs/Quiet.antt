@@ -1,6 +1,8 @@
 -- Code that makes no interrupt pending: where there are hardware tasks alone and no `pend`, no action of any body posts
 -- an interrupt or sets the alarm.
-use Rattle.std.proofs.Common.{◌≡◌, ℕ, zero, suc, ◌+◌, ◌==◌, Bool, true, false, ◌&&◌, if◌then◌else◌, List, [], ◌∷◌, ◌++◌, replicate, slice_get, slice_set, option_map, Option, Some, None, refl, sym, ap, subst, ◌∙◌}
+use Rattle.std.proofs.Common.{◌≡◌, ℕ, zero, suc, ◌+◌, ◌==◌, Bool, true, false, ◌&&◌, if◌then◌else◌, List, [], ◌∷◌, ◌++◌}
+use Rattle.std.proofs.Common.{replicate, slice_get, slice_set, option_map, Option, Some, None, refl, sym, ap, subst}
+use Rattle.std.proofs.Common.{◌∙◌}
 use Rattle.std.specs.Prelude.{is_none}
 use Rattle.std.specs.List.{AllByRecursion, list_any, list_all}
 use Rattle.rt_lemmas.proofs.Bools.{and_left, and_right, and_parts, not_true, true_and_false}
@@ -14,7 +16,8 @@ use Rattle.rt_ids.specs.declared.ids.BodyId.{BodyId}
 use Rattle.rt_ids.specs.declared.ids.BodyId.TheVariants as body
 use Rattle.rt_app.specs.declared.expr.Atom.{Atom}
 use Rattle.rt_app.specs.declared.expr.Atom.TheVariants as atom
-use Rattle.rt_app.specs.Tree.{Spawn, Soon, After, Cancel, Move, Calc, Now, Call, Statement, Bind, Assign, Branch, Repeat, Locked, Emit, Pend, Spawns, Block, Empty, Then, Body, Task, App}
+use Rattle.rt_app.specs.Tree.{Spawn, Soon, After, Cancel, Move, Calc, Now, Call, Statement, Bind, Assign, Branch}
+use Rattle.rt_app.specs.Tree.{Repeat, Locked, Emit, Pend, Spawns, Block, Empty, Then, Body, Task, App}
 use Rattle.rt_app.specs.Variables.{variables, variables_in}
 use Rattle.rt_app.specs.Bodies.{Member, members, member_at}
 use Rattle.rt_app.specs.Level.{is_software}
@@ -115,7 +118,8 @@ module _ (app : App) (hardware : list_any is_software app.tasks ≡ false) (m : 
 module _ (app : App) (accepted : IsAccepted app) (form : has_response_times app ≡ true) where
   forms : (has_no_software app ≡ true) × (has_no_monotonic app ≡ true)
   forms = and_parts (has_no_software app) (has_no_monotonic app)
-      (and_left (has_no_software app && has_no_monotonic app) (list_all (λ m. holds_no_pend m.body.block) (members app)) form)
+      (and_left (has_no_software app && has_no_monotonic app) (list_all (λ m. holds_no_pend m.body.block) (members app))
+      form)
 
   pub hardware : list_any is_software app.tasks ≡ false
   hardware = not_true (list_any is_software app.tasks) forms.0
@@ -131,12 +135,15 @@ module _ (app : App) (accepted : IsAccepted app) (form : has_response_times app 
   each_quiet m is =
       all_at (λ m. holds_no_pend m.body.block ≡ true) (members app) is.0 m
       (all_pass (λ m. holds_no_pend m.body.block) (members app)
-      (and_right (has_no_software app && has_no_monotonic app) (list_all (λ m. holds_no_pend m.body.block) (members app)) form))
+      (and_right (has_no_software app && has_no_monotonic app)
+      (list_all (λ m. holds_no_pend m.body.block) (members app)) form))
       is.1
     where
-      all_pass : {X : Type 0} (test : X → Bool) (xs : List X) → list_all test xs ≡ true → AllByRecursion (λ x. test x ≡ true) xs
+      all_pass : {X : Type 0} (test : X → Bool) (xs : List X) → list_all test xs ≡ true
+          → AllByRecursion (λ x. test x ≡ true) xs
       all_pass test [] all = tt
-      all_pass test (x ∷ xs) all = let parts = and_parts (test x) (list_all test xs) all in (parts.0, all_pass test xs parts.1)
+      all_pass test (x ∷ xs) all = let parts = and_parts (test x) (list_all test xs) all in
+          (parts.0, all_pass test xs parts.1)
 
   -- a declared body and what follows it
   member_quiet : (id : BodyId) (m : Member) → member_at app id ≡ Some m → (args : List ℕ) (rest : Rest) → QuietRest rest
@@ -156,7 +163,8 @@ module _ (app : App) (accepted : IsAccepted app) (form : has_response_times app 
     where
       go : (o : Option Body) → app.init ≡ o → QuietRest (declared_doing app o [] (act (Ends body.Init) nothing))
       go None is = ends_quiet (Ends body.Init) tt
-      go (Some b) is = member_quiet body.Init (thread_member body.Init b) (ap (option_map (thread_member body.Init)) is) []
+      go (Some b) is = member_quiet body.Init (thread_member body.Init b) (ap (option_map (thread_member body.Init)) is)
+          []
           (act (Ends body.Init) nothing) (ends_quiet (Ends body.Init) tt)
 
   pub idle_quiet : QuietRest (idle_doing app)
@@ -164,7 +172,8 @@ module _ (app : App) (accepted : IsAccepted app) (form : has_response_times app 
     where
       go : (o : Option Body) → app.idle ≡ o → QuietRest (declared_doing app o [] (act (Ends body.Idle) nothing))
       go None is = ends_quiet (Ends body.Idle) tt
-      go (Some b) is = member_quiet body.Idle (thread_member body.Idle b) (ap (option_map (thread_member body.Idle)) is) []
+      go (Some b) is = member_quiet body.Idle (thread_member body.Idle b) (ap (option_map (thread_member body.Idle)) is)
+          []
           (act (Ends body.Idle) nothing) (ends_quiet (Ends body.Idle) tt)
 
   -- the handler of a hardware task
@@ -172,5 +181,6 @@ module _ (app : App) (accepted : IsAccepted app) (form : has_response_times app 
   task_quiet n t at =
       subst (λ o. QuietRest (declared_doing app (then_from o (λ t. Some t.body)) [] (act Returns nothing))) (sym at)
       (member_quiet (body.Task n) (record { id = body.Task n; priority = t.priority; args = t.args; body = t.body })
-      (ap (option_map (λ (t : Task). record { id = body.Task n; priority = t.priority; args = t.args; body = t.body })) at) []
+      (ap (option_map (λ (t : Task). record { id = body.Task n; priority = t.priority; args = t.args; body = t.body }))
+      at) []
       (act Returns nothing) (ends_quiet Returns tt))

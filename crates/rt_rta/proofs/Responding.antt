@@ -1,5 +1,7 @@
 -- Each request is served within the response time of its priority.
-use Rattle.std.proofs.Common.{◌≡◌, ℕ, zero, suc, ◌+◌, ◌-◌, ◌≤◌, ◌<◌, ◌^◌, ◌==◌, ◌⊎◌, inl, inr, Bool, true, false, if◌then◌else◌, List, [], ◌∷◌, ◌++◌, Contains, length, map, replicate, slice_index_or, take, find, Option, Some, None, refl, sym, ap, subst, ◌∙◌, arith, eq-eqb}
+use Rattle.std.proofs.Common.{◌≡◌, ℕ, zero, suc, ◌+◌, ◌-◌, ◌≤◌, ◌<◌, ◌^◌, ◌==◌, ◌⊎◌, inl, inr, Bool, true, false}
+use Rattle.std.proofs.Common.{if◌then◌else◌, List, [], ◌∷◌, ◌++◌, Contains, length, map, replicate, slice_index_or}
+use Rattle.std.proofs.Common.{take, find, Option, Some, None, refl, sym, ap, subst, ◌∙◌, arith, eq-eqb}
 use Rattle.std.specs.List.{AllByRecursion}
 use Rattle.std.proofs.lemmas.Bool.{eqb-true}
 use Rattle.std.proofs.lemmas.Option.{same_Some, none-some}
@@ -42,7 +44,8 @@ use Rattle.rt_rta.specs.Laws.{RunsRespond}
 use Rattle.rt_rta.proofs.Spacing.{Waits, requested, a_step_on, Spaced, all_spaced}
 use Rattle.rt_rta.proofs.Quiet.{IsQuiet, init_quiet}
 use Rattle.rt_rta.proofs.Tasks.{RunsTask, served_runs, served_number}
-use Rattle.rt_rta.proofs.Owing.{at_priority, at_priority_is, not_at_priority, owed_jobs, owed_pending, owed, pending_owes, IsAsked, owes_pending}
+use Rattle.rt_rta.proofs.Owing.{at_priority, at_priority_is, not_at_priority, owed_jobs, owed_pending, owed}
+use Rattle.rt_rta.proofs.Owing.{pending_owes, IsAsked, owes_pending}
 use Rattle.rt_rta.proofs.Spending.{Spends, SpendsOne, BeginsAnew, LeavesStack, Spent, step_spends}
 use Rattle.rt_rta.proofs.Stepping.{StaysQuiet, Lowers, zero_or_some, lowers, pending_taken}
 use Rattle.rt_rta.proofs.Walk.{Short, Stretch, fresh, on_request, on_step, any_step}
@@ -78,7 +81,8 @@ module _ (irq : ℕ) where
     behind = returns.behind;
     parts = ap (λ xs. label ∷ xs) returns.parts;
     first_return = (other, returns.first_return);
-    in_time = let time = returns.in_time in let count = steps_more label returns.serving in omega (arith, time, count, sum);
+    in_time = let time = returns.in_time in let count = steps_more label returns.serving in
+        omega (arith, time, count, sum);
   }
 
   one_served : (steps total : ℕ) (label : Label) (labels : List Label) → is_take irq label ≡ false
@@ -91,7 +95,8 @@ module _ (irq : ℕ) where
     parts = ap (λ xs. label ∷ xs) served.parts;
     first_take = (other, served.first_take);
     first_return = served.first_return;
-    in_time = let time = served.in_time in let count = steps_more label served.waiting in omega (arith, time, count, sum);
+    in_time = let time = served.in_time in let count = steps_more label served.waiting in
+        omega (arith, time, count, sum);
   }
 
 -- how many interrupts there are stays
@@ -124,10 +129,12 @@ abbrev Late : List Label → Type 0
 Late labels = (front behind : List Label) (i : ℕ) → labels ≡ front ++ Arrived i ∷ behind
     → Contains front (Stepped (Some (what.End body.Init)))
 
-late_on : (label : Label) (labels : List Label) → ¬ (label ≡ Stepped (Some (what.End body.Init))) → Late (label ∷ labels)
+late_on : (label : Label) (labels : List Label) → ¬ (label ≡ Stepped (Some (what.End body.Init)))
+    → Late (label ∷ labels)
     → Late labels
 late_on label labels other late front behind i e =
-    elim (contains_cases label front (Stepped (Some (what.End body.Init))) (late (label ∷ front) behind i (ap (λ xs. label ∷ xs) e))) [
+    elim (contains_cases label front (Stepped (Some (what.End body.Init)))
+    (late (label ∷ front) behind i (ap (λ xs. label ∷ xs) e))) [
       | inl same ↦ absurd (other same)
       | inr there ↦ there
     ]
@@ -137,7 +144,8 @@ none_set zero k = refl
 none_set (suc n) zero = refl
 none_set (suc n) (suc k) = none_set n k
 
-pub positive_row : (limits : List Limit) → {app : App} → AreLimits app limits → (i every : ℕ) → every_of limits i ≡ Some every → 1 ≤ every
+pub positive_row : (limits : List Limit) → {app : App} → AreLimits app limits → (i every : ℕ) → every_of limits i
+    ≡ Some every → 1 ≤ every
 positive_row limits fine i every row =
     let one = made_number (λ (l : Limit). l.every) (find (λ l. l.irq == i) limits) every row in
     subst (λ n. 1 ≤ n) one.2 (find_has (λ l. 1 ≤ l.every) (λ l. l.irq == i) limits one.0 fine.positive one.1)
@@ -147,7 +155,8 @@ is_within : (app : App) → IsAccepted app → (irq : ℕ) (v : Observer) → is
     → length v.pending ≡ IRQ_NUMBERS → irq < length v.pending
 is_within app accepted irq v declared long =
     let one = any_one (λ d. d.number == irq) app.irqs declared in
-    let small = all_at (λ d. d.number < IRQ_NUMBERS) app.irqs one.0 one.1 (accepted_are_sound app accepted).numbers one.2 in
+    let small = all_at (λ d. d.number < IRQ_NUMBERS) app.irqs one.0 one.1 (accepted_are_sound app accepted).numbers
+    one.2 in
     let same : one.1.number ≡ irq = eqb-true one.1.number irq one.3 in
     omega arith
 
@@ -158,7 +167,8 @@ module _ (app : App) (accepted : IsAccepted app) (form : has_response_times app 
   p = x.priority
 
   in_range : (1 ≤ p) × (p ≤ 2 ^ app.bits)
-  in_range = let h = find_has (λ (s : Service). (s.irq < length app.irqs) × (1 ≤ s.priority) × (s.priority ≤ 2 ^ app.bits))
+  in_range = let h = find_has (λ (s : Service). (s.irq < length app.irqs) × (1 ≤ s.priority)
+      × (s.priority ≤ 2 ^ app.bits))
       _ (services app) x (accepted_are_sound app accepted).served served in (h.1, h.2)
 
   positive : 0 < p
@@ -263,10 +273,12 @@ module _ (app : App) (accepted : IsAccepted app) (form : has_response_times app 
       now.spaced.1 now.spaced.2 stretch
 
   in_step : (s : State) (v : Observer) (waits : Waits) (shown : Option What) (steps : ℕ) (labels : List Label)
-      → Moment s v waits (Stepped shown ∷ labels) → In s v waits steps → 0 < owes s → 0 < owes (after app s (Stepped shown))
+      → Moment s v waits (Stepped shown ∷ labels) → In s v waits steps → 0 < owes s
+      → 0 < owes (after app s (Stepped shown))
       → In (after app s (Stepped shown)) (sees app v (Stepped shown)) (a_step_on waits) (steps + 1)
   in_step s v waits shown steps labels now stretch some more =
-      on_step app accepted form limits p positive in_range.1 least suffices s v waits steps (after app s (Stepped shown))
+      on_step app accepted form limits p positive in_range.1 least suffices s v waits steps
+      (after app s (Stepped shown))
       (sees app v (Stepped shown)) (lowers_at s v waits shown labels now) stretch some more
 
   no_ring : (s : State) (v : Observer) (waits : Waits) (labels : List Label) → Moment s v waits (Rang ∷ labels) → ⊥
@@ -279,7 +291,8 @@ module _ (app : App) (accepted : IsAccepted app) (form : has_response_times app 
   level_is : q ≡ p
   level_is = priority_is app irq x served
 
-  up_owes : (js : List Job) (vs : List Seen) → StackWell app js vs → Up irq q js → AreUnspent js → 0 < owed_jobs app p js
+  up_owes : (js : List Job) (vs : List Seen) → StackWell app js vs → Up irq q js → AreUnspent js
+      → 0 < owed_jobs app p js
   up_owes [] vs stack up unspent = absurd up
   up_owes (job ∷ others) [] stack up unspent = absurd stack
   up_owes (job ∷ others) (seen ∷ seens) stack (inl is) unspent =
@@ -321,18 +334,21 @@ module _ (app : App) (accepted : IsAccepted app) (form : has_response_times app 
   returns_in (Arrived i ∷ labels) s v waits steps k now stretch up unspent sum enough =
       one_returns irq k k (Arrived i) labels refl (omega arith)
       (returns_in labels (after app s (Arrived i)) (sees app v (Arrived i)) (requested i now.spaced.0 waits) steps k
-      (on_arrival s v waits i labels now) (in_arrival s v waits i steps labels now stretch) up (λ n. unspent (suc n)) sum enough)
+      (on_arrival s v waits i labels now) (in_arrival s v waits i steps labels now stretch) up (λ n. unspent (suc n))
+      sum enough)
   returns_in (Stepped shown ∷ labels) s v waits steps zero now stretch up unspent sum enough =
       let room = stretch.short_of in absurd (omega arith)
   returns_in (Stepped shown ∷ labels) s v waits steps (suc k) now stretch up unspent sum enough =
       by (is_return irq (Stepped shown)) refl
-      (λ up_then more. returns_in labels (after app s (Stepped shown)) (sees app v (Stepped shown)) (a_step_on waits) (steps + 1) k
+      (λ up_then more. returns_in labels (after app s (Stepped shown)) (sees app v (Stepped shown)) (a_step_on waits)
+      (steps + 1) k
       (on_core_step s v waits shown labels now)
       (in_step s v waits shown steps labels now stretch (up_in s v now.well up (unspent 0)) more)
       up_then (λ n. unspent (suc n)) (omega arith) (omega arith))
     where
       by : (b : Bool) → is_return irq (Stepped shown) ≡ b
-          → (Up irq q (after app s (Stepped shown)).jobs → 0 < owes (after app s (Stepped shown)) → ReturnsIn irq k labels)
+          → (Up irq q (after app s (Stepped shown)).jobs → 0 < owes (after app s (Stepped shown))
+          → ReturnsIn irq k labels)
           → ReturnsIn irq (suc k) (Stepped shown ∷ labels)
       by true own next = record {
         serving = [];
@@ -367,7 +383,8 @@ module _ (app : App) (accepted : IsAccepted app) (form : has_response_times app 
       one_served irq k k Ticked labels refl (omega arith)
       (served_in labels (after app s Ticked) (sees app v Ticked) waits steps k (on_tick s v waits labels now)
       (in_tick s v waits steps stretch) pending (λ n. unspent (suc n)) sum enough)
-  served_in (Rang ∷ labels) s v waits steps k now stretch pending unspent sum enough = absurd (no_ring s v waits labels now)
+  served_in (Rang ∷ labels) s v waits steps k now stretch pending unspent sum enough =
+      absurd (no_ring s v waits labels now)
   served_in (Arrived i ∷ labels) s v waits steps k now stretch pending unspent sum enough =
       one_served irq k k (Arrived i) labels refl (omega arith)
       (served_in labels (after app s (Arrived i)) (sees app v (Arrived i)) (requested i now.spaced.0 waits) steps k
@@ -377,22 +394,28 @@ module _ (app : App) (accepted : IsAccepted app) (form : has_response_times app 
       let room = stretch.short_of in absurd (omega arith)
   served_in (Stepped shown ∷ labels) s v waits steps (suc k) now stretch pending unspent sum enough =
       by (is_take irq (Stepped shown)) refl
-      (λ still. served_in labels (after app s (Stepped shown)) (sees app v (Stepped shown)) (a_step_on waits) (steps + 1) k
+      (λ still. served_in labels (after app s (Stepped shown)) (sees app v (Stepped shown)) (a_step_on waits)
+      (steps + 1) k
       (on_core_step s v waits shown labels now)
       (in_step s v waits shown steps labels now stretch (pending_in s v now.well pending)
-      (pending_in (after app s (Stepped shown)) (sees app v (Stepped shown)) (next_well s v (Stepped shown) now.well now.runs.0) still))
+      (pending_in (after app s (Stepped shown)) (sees app v (Stepped shown))
+      (next_well s v (Stepped shown) now.well now.runs.0) still))
       still (λ n. unspent (suc n)) (omega arith) (omega arith))
     where
       t_well : StateWell app (after app s (Stepped shown)) (sees app v (Stepped shown))
       t_well = next_well s v (Stepped shown) now.well now.runs.0
 
-      taken : is_take irq (Stepped shown) ≡ true → Happens app s v (Stepped shown) (after app s (Stepped shown)) (sees app v (Stepped shown))
+      taken : is_take irq (Stepped shown) ≡ true → Happens app s v (Stepped shown) (after app s (Stepped shown))
+          (sees app v (Stepped shown))
           → ServedIn irq (suc k) (Stepped shown ∷ labels)
-      taken own (Quietly good jobs views none no_take no_return) = absurd (true_and_false (is_take irq (Stepped shown)) own (no_take irq))
-      taken own (ByStep given step who no_take return) = absurd (true_and_false (is_take irq (Stepped shown)) own (no_take irq))
+      taken own (Quietly good jobs views none no_take no_return) =
+          absurd (true_and_false (is_take irq (Stepped shown)) own (no_take irq))
+      taken own (ByStep given step who no_take return) =
+          absurd (true_and_false (is_take irq (Stepped shown)) own (no_take irq))
       taken own (ByTake j d job is good jobs views role priority best) =
           let same : j ≡ irq = eqb-true j irq (sym (ap (is_take irq) is) ∙ own) in
-          let up : Up irq q (after app s (Stepped shown)).jobs = subst (Up irq q) (sym jobs) (inl (role ∙ ap Serving same)) in
+          let up : Up irq q (after app s (Stepped shown)).jobs = subst (Up irq q) (sym jobs)
+          (inl (role ∙ ap Serving same)) in
           let rest : ReturnsIn irq k labels =
           returns_in labels (after app s (Stepped shown)) (sees app v (Stepped shown)) (a_step_on waits) (steps + 1) k
           (on_core_step s v waits shown labels now)
@@ -418,7 +441,8 @@ module _ (app : App) (accepted : IsAccepted app) (form : has_response_times app 
       by false other next =
           one_served irq k (suc k) (Stepped shown) labels other (omega arith)
           (next (pending_stays app irq v (Stepped shown)
-          (λ j d e same. true_and_false (is_take irq (Stepped shown)) (ap (is_take irq) e ∙ eq-eqb j irq same) other) pending))
+          (λ j d e same. true_and_false (is_take irq (Stepped shown)) (ap (is_take irq) e ∙ eq-eqb j irq same) other)
+          pending))
 
   later : (k : ℕ) (labels : List Label) → k ≤ least → ServedIn irq k labels → ServedIn irq least labels
   later k labels less one = record {
@@ -466,7 +490,8 @@ module _ (app : App) (accepted : IsAccepted app) (form : has_response_times app 
       t = after app s (Stepped shown)
 
       spent : Spent s job [] shown t
-      spent = step_spends app accepted form s job [] jobs (subst (AllByRecursion (λ job. IsQuiet job.rest)) jobs now.quiet.rests).0
+      spent = step_spends app accepted form s job [] jobs
+          (subst (AllByRecursion (λ job. IsQuiet job.rest)) jobs now.quiet.rests).0
           shown now.runs.0 (no_takes s shown now.runs.0 none)
 
       none_then : (k : ℕ) → slice_index_or t.pending k false ≡ false
@@ -486,7 +511,8 @@ module _ (app : App) (accepted : IsAccepted app) (form : has_response_times app 
           shown_same : Stepped shown ≡ Stepped (Some (what.End body.Init)) → shown ≡ Some (what.End body.Init)
           shown_same e = cc
       by (BeginsAnew j js priority rest) =
-          calm (ap (owed_jobs app p) js ∙ last (not_at_priority p j.priority j.left (subst (λ q. q < p) (sym priority) positive)))
+          calm (ap (owed_jobs app p) js ∙ last (not_at_priority p j.priority j.left
+          (subst (λ q. q < p) (sym priority) positive)))
         where
           last : at_priority p j.priority j.left ≡ 0 → at_priority p j.priority j.left + 0 ≡ 0
           last none = omega arith
@@ -506,7 +532,8 @@ module _ (app : App) (accepted : IsAccepted app) (form : has_response_times app 
       later (least - steps) behind (omega arith)
       (served_in behind (after app s (Arrived irq)) (sees app v (Arrived irq)) (requested irq now.spaced.0 waits) steps
       (least - steps) (on_arrival s v waits irq behind now) (in_arrival s v waits irq steps behind now stretch)
-      (get_or-set_same v.pending irq true false (is_within app accepted irq v now.runs.0.1 now.long)) (λ n. unspent (suc n))
+      (get_or-set_same v.pending irq true false (is_within app accepted irq v now.runs.0.1 now.long))
+      (λ n. unspent (suc n))
       (omega arith) (omega arith))
   walk (Ticked ∷ front) behind s v waits now (Early job jobs none late) unspent enough =
       walk front behind (after app s Ticked) (sees app v Ticked) waits (on_tick s v waits (Then front behind) now)
@@ -534,13 +561,19 @@ module _ (app : App) (accepted : IsAccepted app) (form : has_response_times app 
       (Within on.0 on.1) (λ n. unspent (suc n)) enough
 
   -- from reset on
-  from_reset : (front behind : List Label) → RunsOn app (first app) (Then front behind) → Kept limits (Then front behind)
+  from_reset : (front behind : List Label) → RunsOn app (first app) (Then front behind)
+      → Kept limits (Then front behind)
       → NoneIsSpent app (Then front behind) → least ≤ steps_of behind → ServedIn irq least behind
   from_reset front behind runs kept unspent enough =
       walk front behind (first app) (first_sight app) (λ i. 0)
       (record {
         well = first_well app accepted;
-        quiet = record { rests = (init_quiet app accepted form (first_values app), tt); alarm = refl; not_owing = refl };
+        quiet = record {
+          rests = (init_quiet app accepted form (first_values app), tt);
+          alarm = refl;
+          not_owing =
+              refl;
+        };
         runs = runs;
         short = λ i every row. (omega arith, positive_row limits fine i every row);
         spaced = all_spaced limits (Then front behind) kept;

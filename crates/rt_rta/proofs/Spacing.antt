@@ -1,6 +1,7 @@
 -- The distances between requests, as one meets them from a moment on: each interrupt has some core steps to wait until
 -- it may be requested again.
-use Rattle.std.proofs.Common.{◌≡◌, ℕ, suc, ◌-◌, ◌≤◌, ◌==◌, Bool, true, false, if◌then◌else◌, List, [], ◌∷◌, ◌++◌, Option, Some, None, refl, sym, ap, subst, ◌∙◌, arith}
+use Rattle.std.proofs.Common.{◌≡◌, ℕ, suc, ◌-◌, ◌≤◌, ◌==◌, Bool, true, false, if◌then◌else◌, List, [], ◌∷◌, ◌++◌}
+use Rattle.std.proofs.Common.{Option, Some, None, refl, sym, ap, subst, ◌∙◌, arith}
 use Rattle.std.specs.Prelude.{IsSome}
 use Rattle.std.proofs.lemmas.Bool.{eqb-true}
 use Rattle.rt_trace.specs.Label.{Label, Arrived, Ticked, Rang, Stepped, steps_of}
@@ -83,11 +84,17 @@ module _ (limits : List Limit) where
       spaced labels waits (next waits waits Rang labels kept (λ between irq h. h))
   spaced (Stepped shown ∷ labels) waits kept =
       spaced labels (a_step_on waits)
-      (next waits (a_step_on waits) (Stepped shown) labels kept (λ between irq h. one_less (waits irq) (steps_of between) h))
+      (next waits (a_step_on waits) (Stepped shown) labels kept
+      (λ between irq h. one_less (waits irq) (steps_of between) h))
   spaced (Arrived i ∷ labels) waits kept =
       let row = is_there (every_of limits i) (kept.limited [] labels i refl) in
-      let now : waits i ≤ 0 = kept.near [] labels i refl in
-      (row.0, row.1, omega arith, spaced labels (requested i row.0 waits) (behind_request waits i row.0 labels kept row.1))
+      let now : waits i ≤ 0 = kept.near [] labels i refl in (
+        row.0,
+        row.1,
+        omega arith,
+        spaced labels (requested i row.0 waits)
+            (behind_request waits i row.0 labels kept row.1),
+      )
 
 -- at reset nothing has been requested yet
 pub all_spaced : (limits : List Limit) (labels : List Label) → Kept limits labels → Spaced limits (λ irq. 0) labels

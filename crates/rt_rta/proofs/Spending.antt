@@ -3,7 +3,8 @@ use Rattle.std.proofs.Common.{◌≡◌, ℕ, ◌-◌, true, List, [], ◌∷◌
 use Rattle.std.specs.List.{AllByRecursion}
 use Rattle.std.proofs.lemmas.Option.{none-some}
 use Rattle.rt_ids.specs.Content.{Values}
-use Rattle.rt_ids.specs.Action.{Action, Enters, Leaves, Emits, Posts, Clocks, Places, FindsFull, Readies, Starts, Frees, Arms, Fires, Cancels, Moves, SetsAlarm, Ends, Returns, effect}
+use Rattle.rt_ids.specs.Action.{Action, Enters, Leaves, Emits, Posts, Clocks, Places, FindsFull, Readies, Starts, Frees}
+use Rattle.rt_ids.specs.Action.{Arms, Fires, Cancels, Moves, SetsAlarm, Ends, Returns, effect}
 use Rattle.rt_ids.specs.Doing.{Doing, over, does}
 use Rattle.rt_ids.specs.declared.ids.BodyId.TheVariants as body
 use Rattle.rt_trace.specs.Label.{Stepped}
@@ -35,7 +36,8 @@ pub record Spent (s : State) (job : Job) (others : List Job) (shown : Option Wha
   pub alarm : t.alarm ≡ s.alarm
   pub owing : t.owing ≡ s.owing
 
-module _ (app : App) (accepted : IsAccepted app) (form : has_response_times app ≡ true) (s : State) (job : Job) (others : List Job) where
+module _ (app : App) (accepted : IsAccepted app) (form : has_response_times app ≡ true) (s : State) (job : Job)
+    (others : List Job) where
   idling_low : (vs : Values) (o : Option Body) → (idle_job app vs o).priority ≡ 0
   idling_low vs None = refl
   idling_low vs (Some b) = refl
@@ -47,23 +49,96 @@ module _ (app : App) (accepted : IsAccepted app) (form : has_response_times app 
   abbrev SpentBy : What → State → Type 0
   SpentBy w t = Spent s job others (Some w) t
 
-  acts : (action : Action) (made : Values) (next : ℕ → Values → Doing Values) → IsQuiet (does action made next) → (w : What)
+  acts : (action : Action) (made : Values) (next : ℕ → Values → Doing Values) → IsQuiet (does action made next)
+      → (w : What)
       → item_of s job.role action ≡ Some w
-      → SpentBy w (state_after_action app s job others action (effect action s.values) (next (answer s action) (effect action s.values)))
-  acts (Enters x cost) made next quiet w is = record { spends = SpendsOne _ refl refl refl (quiet.1 0 _) (λ e. cc); pending = refl; alarm = refl; owing = refl }
-  acts (Leaves x) made next quiet w is = record { spends = SpendsOne _ refl refl refl (quiet.1 0 _) (λ e. cc); pending = refl; alarm = refl; owing = refl }
-  acts (Emits v) made next quiet w is = record { spends = SpendsOne _ refl refl refl (quiet.1 0 _) (λ e. cc); pending = refl; alarm = refl; owing = refl }
+      → SpentBy w (state_after_action app s job others action (effect action s.values)
+      (next (answer s action) (effect action s.values)))
+  acts (Enters x cost) made next quiet w is = record {
+    spends = SpendsOne _ refl refl refl (quiet.1 0 _) (λ e. cc);
+    pending = refl;
+    alarm = refl;
+    owing = refl;
+  }
+  acts (Leaves x) made next quiet w is = record {
+    spends = SpendsOne _ refl refl refl (quiet.1 0 _) (λ e. cc);
+    pending =
+        refl;
+    alarm = refl;
+    owing = refl;
+  }
+  acts (Emits v) made next quiet w is = record {
+    spends = SpendsOne _ refl refl refl (quiet.1 0 _) (λ e. cc);
+    pending =
+        refl;
+    alarm = refl;
+    owing = refl;
+  }
   acts (Posts irq) made next quiet w is = absurd quiet.0
-  acts Clocks made next quiet w is = record { spends = SpendsOne _ refl refl refl (quiet.1 s.time _) (λ e. cc); pending = refl; alarm = refl; owing = refl }
-  acts (Places n) made next quiet w is = record { spends = SpendsOne _ refl refl refl (quiet.1 0 _) (λ e. cc); pending = refl; alarm = refl; owing = refl }
-  acts (FindsFull n) made next quiet w is = record { spends = SpendsOne _ refl refl refl (quiet.1 0 _) (λ e. cc); pending = refl; alarm = refl; owing = refl }
-  acts (Readies p m) made next quiet w is = record { spends = SpendsOne _ refl refl refl (quiet.1 0 _) (λ e. cc); pending = refl; alarm = refl; owing = refl }
-  acts (Starts p m) made next quiet w is = record { spends = SpendsOne _ refl refl refl (quiet.1 0 _) (λ e. cc); pending = refl; alarm = refl; owing = refl }
-  acts (Frees n) made next quiet w is = record { spends = SpendsOne _ refl refl refl (quiet.1 0 _) (λ e. cc); pending = refl; alarm = refl; owing = refl }
-  acts (Arms i m) made next quiet w is = record { spends = SpendsOne _ refl refl refl (quiet.1 0 _) (λ e. cc); pending = refl; alarm = refl; owing = refl }
-  acts (Fires m) made next quiet w is = record { spends = SpendsOne _ refl refl refl (quiet.1 0 _) (λ e. cc); pending = refl; alarm = refl; owing = refl }
-  acts (Cancels n h) made next quiet w is = record { spends = SpendsOne _ refl refl refl (quiet.1 0 _) (λ e. cc); pending = refl; alarm = refl; owing = refl }
-  acts (Moves n h i) made next quiet w is = record { spends = SpendsOne _ refl refl refl (quiet.1 0 _) (λ e. cc); pending = refl; alarm = refl; owing = refl }
+  acts Clocks made next quiet w is = record {
+    spends = SpendsOne _ refl refl refl (quiet.1 s.time _) (λ e. cc);
+    pending = refl;
+    alarm = refl;
+    owing = refl;
+  }
+  acts (Places n) made next quiet w is = record {
+    spends = SpendsOne _ refl refl refl (quiet.1 0 _) (λ e. cc);
+    pending =
+        refl;
+    alarm = refl;
+    owing = refl;
+  }
+  acts (FindsFull n) made next quiet w is = record {
+    spends = SpendsOne _ refl refl refl (quiet.1 0 _) (λ e. cc);
+    pending = refl;
+    alarm = refl;
+    owing = refl;
+  }
+  acts (Readies p m) made next quiet w is = record {
+    spends = SpendsOne _ refl refl refl (quiet.1 0 _) (λ e. cc);
+    pending = refl;
+    alarm = refl;
+    owing = refl;
+  }
+  acts (Starts p m) made next quiet w is = record {
+    spends = SpendsOne _ refl refl refl (quiet.1 0 _) (λ e. cc);
+    pending = refl;
+    alarm = refl;
+    owing = refl;
+  }
+  acts (Frees n) made next quiet w is = record {
+    spends = SpendsOne _ refl refl refl (quiet.1 0 _) (λ e. cc);
+    pending =
+        refl;
+    alarm = refl;
+    owing = refl;
+  }
+  acts (Arms i m) made next quiet w is = record {
+    spends = SpendsOne _ refl refl refl (quiet.1 0 _) (λ e. cc);
+    pending =
+        refl;
+    alarm = refl;
+    owing = refl;
+  }
+  acts (Fires m) made next quiet w is = record {
+    spends = SpendsOne _ refl refl refl (quiet.1 0 _) (λ e. cc);
+    pending =
+        refl;
+    alarm = refl;
+    owing = refl;
+  }
+  acts (Cancels n h) made next quiet w is = record {
+    spends = SpendsOne _ refl refl refl (quiet.1 0 _) (λ e. cc);
+    pending = refl;
+    alarm = refl;
+    owing = refl;
+  }
+  acts (Moves n h i) made next quiet w is = record {
+    spends = SpendsOne _ refl refl refl (quiet.1 0 _) (λ e. cc);
+    pending = refl;
+    alarm = refl;
+    owing = refl;
+  }
   acts SetsAlarm made next quiet w is = absurd quiet.0
   acts (Ends body.Init) made next quiet w is = record {
     spends = BeginsAnew _ refl (idling_low s.values app.idle) (idling_quiet s.values app.idle);
@@ -77,7 +152,12 @@ module _ (app : App) (accepted : IsAccepted app) (form : has_response_times app 
     alarm = refl;
     owing = refl;
   }
-  acts (Ends (body.Task n)) made next quiet w is = record { spends = SpendsOne _ refl refl refl (quiet.1 0 _) (λ e. cc); pending = refl; alarm = refl; owing = refl }
+  acts (Ends (body.Task n)) made next quiet w is = record {
+    spends = SpendsOne _ refl refl refl (quiet.1 0 _) (λ e. cc);
+    pending = refl;
+    alarm = refl;
+    owing = refl;
+  }
   acts Returns made next quiet w is = record { spends = LeavesStack refl; pending = refl; alarm = refl; owing = refl }
 
   rest_acts : (rest : Doing Values) → IsQuiet rest → (w : What) → next_item s job.role rest ≡ Some w
@@ -86,7 +166,8 @@ module _ (app : App) (accepted : IsAccepted app) (form : has_response_times app 
   rest_acts (does action made next) quiet w is = acts action made next quiet w is
 
 -- a step of the running job
-module _ (app : App) (accepted : IsAccepted app) (form : has_response_times app ≡ true) (s : State) (job : Job) (others : List Job)
+module _ (app : App) (accepted : IsAccepted app) (form : has_response_times app ≡ true) (s : State) (job : Job)
+    (others : List Job)
     (jobs_are : s.jobs ≡ job ∷ others) (quiet : IsQuiet job.rest) where
   step_acts : (w : What) → item_given s s.jobs ≡ Some w → Spent s job others (Some w) (state_after_item app s s.jobs)
   step_acts w is =
@@ -94,9 +175,15 @@ module _ (app : App) (accepted : IsAccepted app) (form : has_response_times app 
       (rest_acts app accepted form s job others job.rest quiet w (subst (λ js. item_given s js ≡ Some w) jobs_are is))
 
   pub step_spends : (shown : Option What) → May app s (Stepped shown)
-      → ((irq depth : ℕ) → ¬ (shown ≡ Some (what.Take irq depth))) → Spent s job others shown (after app s (Stepped shown))
+      → ((irq depth : ℕ) → ¬ (shown ≡ Some (what.Take irq depth))) → Spent s job others shown
+      (after app s (Stepped shown))
   step_spends None may no_take =
       subst (λ js. Spent s job others None (state_after_silence s js)) (sym jobs_are)
-      (record { spends = SpendsOne (job_after_step job) refl refl refl quiet (λ e. none-some _ e); pending = refl; alarm = refl; owing = refl })
+      (record {
+        spends = SpendsOne (job_after_step job) refl refl refl quiet (λ e. none-some _ e);
+        pending = refl;
+        alarm = refl;
+        owing = refl;
+      })
   step_spends (Some (what.Take irq depth)) may no_take = absurd (no_take irq depth refl)
   step_spends (Some w) may no_take = step_acts w may.1

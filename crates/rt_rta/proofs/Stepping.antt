@@ -1,6 +1,8 @@
--- One label of a run, as it changes what is owed to a priority: each core step that passes while something is owed lowers
--- it, or takes a step of the one lower section that may hold the priority off; a request alone raises it.
-use Rattle.std.proofs.Common.{◌≡◌, ℕ, zero, suc, ◌+◌, ◌-◌, ◌≤◌, ◌<◌, ◌^◌, ◌==◌, ◌⊎◌, inl, inr, Bool, true, false, nat_le, List, [], ◌∷◌, map, slice_set, slice_index_or, Option, Some, None, option_map, refl, sym, ap, subst, ◌∙◌, arith}
+-- One label of a run, as it changes what is owed to a priority: each core step that passes while something is owed
+-- lowers it, or takes a step of the one lower section that may hold the priority off; a request alone raises it.
+use Rattle.std.proofs.Common.{◌≡◌, ℕ, zero, suc, ◌+◌, ◌-◌, ◌≤◌, ◌<◌, ◌^◌, ◌==◌, ◌⊎◌, inl, inr, Bool, true, false}
+use Rattle.std.proofs.Common.{nat_le, List, [], ◌∷◌, map, slice_set, slice_index_or, Option, Some, None, option_map}
+use Rattle.std.proofs.Common.{refl, sym, ap, subst, ◌∙◌, arith}
 use Rattle.std.specs.List.{AllByRecursion}
 use Rattle.std.proofs.lemmas.Bool.{leb-true, leb-false}
 use Rattle.std.proofs.lemmas.Option.{none-some}
@@ -30,7 +32,8 @@ use Rattle.rt_rta.specs.Limits.{number_of}
 use Rattle.rt_rta.specs.Response.{handling_steps}
 use Rattle.rt_rta.proofs.Quiet.{IsQuiet, task_quiet}
 use Rattle.rt_rta.proofs.Tasks.{RunsTask, served_runs, served_number, Serves, task_serves}
-use Rattle.rt_rta.proofs.Owing.{at_priority, at_priority_is, not_at_priority, owed_pending, owed_jobs, owed, take_lowers, take_clears, IsAsked, owes_pending, jobs_reach}
+use Rattle.rt_rta.proofs.Owing.{at_priority, at_priority_is, not_at_priority, owed_pending, owed_jobs, owed}
+use Rattle.rt_rta.proofs.Owing.{take_lowers, take_clears, IsAsked, owes_pending, jobs_reach}
 use Rattle.rt_rta.proofs.Spending.{Spends, SpendsOne, BeginsAnew, LeavesStack, Spent, step_spends}
 
 -- nothing will be made pending by code
@@ -54,7 +57,8 @@ module _ (app : App) (accepted : IsAccepted app) (form : has_response_times app 
       waits : IsAsked app p s.pending app.tasks → p ≤ system_ceiling app s.jobs
       waits one =
           let serves = task_serves app accepted form one.index one.task one.irq one.at one.number in
-          let held : serves.service.priority ≤ system_ceiling app s.jobs = held_off app s one.irq serves.service serves.at one.set none in
+          let held : serves.service.priority ≤ system_ceiling app s.jobs =
+          held_off app s one.irq serves.service serves.at one.set none in
           let over = one.over in
           let same = serves.priority in
           omega arith
@@ -70,7 +74,8 @@ module _ (app : App) (accepted : IsAccepted app) (form : has_response_times app 
       waits : IsAsked app p s.pending app.tasks → p ≤ priority_of app irq
       waits one =
           let serves = task_serves app accepted form one.index one.task one.irq one.at one.number in
-          let first : serves.service.priority ≤ priority_of app irq = goes_first app s one.irq irq serves.service serves.at one.set taken in
+          let first : serves.service.priority ≤ priority_of app irq =
+          goes_first app s one.irq irq serves.service serves.at one.set taken in
           let over = one.over in
           let same = serves.priority in
           omega arith
@@ -208,18 +213,21 @@ module _ (app : App) (accepted : IsAccepted app) (form : has_response_times app 
       -- a job of the priority or higher has a step less left
       less_over : p ≤ step.job.priority → Spends step.job step.others shown t.jobs → owes t + 1 ≤ owes s
       less_over over (SpendsOne j js priority left rest no_end) =
-          let some : 0 < step.job.left = left_some step.job.role step.job.priority step.job.left step.others step.above has (omega arith) in
+          let some : 0 < step.job.left = left_some step.job.role step.job.priority step.job.left step.others step.above
+          has (omega arith) in
           let old = at_priority_is p step.job.priority step.job.left over in
           let new : at_priority p j.priority j.left ≡ step.job.left - 1 =
           at_priority_is p j.priority j.left (subst (λ q. p ≤ q) (sym priority) over) ∙ left in
           omega (arith, before, after_jobs (j ∷ step.others) js, old, new, some)
       less_over over (BeginsAnew j js priority rest) =
-          let some : 0 < step.job.left = left_some step.job.role step.job.priority step.job.left step.others step.above has (omega arith) in
+          let some : 0 < step.job.left = left_some step.job.role step.job.priority step.job.left step.others step.above
+          has (omega arith) in
           let old = at_priority_is p step.job.priority step.job.left over in
           let new = not_at_priority p j.priority j.left (subst (λ q. q < p) (sym priority) positive) in
           omega (arith, before, after_jobs (j ∷ step.others) js, old, new, some)
       less_over over (LeavesStack js) =
-          let some : 0 < step.job.left = left_some step.job.role step.job.priority step.job.left step.others step.above has (omega arith) in
+          let some : 0 < step.job.left = left_some step.job.role step.job.priority step.job.left step.others step.above
+          has (omega arith) in
           let old = at_priority_is p step.job.priority step.job.left over in
           omega (arith, before, after_jobs step.others js, old, some)
 
@@ -270,7 +278,12 @@ module _ (app : App) (accepted : IsAccepted app) (form : has_response_times app 
           by true test =
               let over : p ≤ step.job.priority = leb-true p step.job.priority test in
               let less = less_over over spent.spends in
-              record { quiet = stays_quiet; no_more = omega arith; spends = λ entered left some low. over_spends over entered left low }
+              record {
+                quiet = stays_quiet;
+                no_more = omega arith;
+                spends =
+                    λ entered left some low. over_spends over entered left low;
+              }
           by false test =
               let under : step.job.priority < p = leb-false p step.job.priority test in
               record {
@@ -295,7 +308,8 @@ module _ (app : App) (accepted : IsAccepted app) (form : has_response_times app 
         → Lowers s v (after app s (Stepped shown)) (sees app v (Stepped shown))
     lowers None may =
         of_step None None _ _
-        (turn_silent app accepted s v s.jobs v.jobs refl refl well.stack well.pending well.queued well.order may.step may.quiet)
+        (turn_silent app accepted s v s.jobs v.jobs refl refl well.stack well.pending well.queued well.order may.step
+        may.quiet)
         may may.step (λ irq depth e. none-some _ e) refl
     lowers (Some (what.Take irq depth)) may =
         let x = is_served s irq may.1 in

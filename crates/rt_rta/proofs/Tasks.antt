@@ -1,5 +1,6 @@
 -- Where there are hardware tasks alone, each interrupt that is served is bound by a task, and the other way round.
-use Rattle.std.proofs.Common.{◌≡◌, ℕ, zero, suc, ◌+◌, arith, eq-eqb, ◌==◌, Bool, true, false, List, [], ◌∷◌, ◌++◌, flat_map, slice_get, option_map, Option, Some, None, refl, sym, ap, subst, ◌∙◌}
+use Rattle.std.proofs.Common.{◌≡◌, ℕ, zero, suc, ◌+◌, arith, eq-eqb, ◌==◌, Bool, true, false, List, [], ◌∷◌, ◌++◌}
+use Rattle.std.proofs.Common.{flat_map, slice_get, option_map, Option, Some, None, refl, sym, ap, subst, ◌∙◌}
 use Rattle.std.specs.List.{AllByRecursion, list_any}
 use Rattle.std.proofs.lemmas.Option.{same_Some, none-some}
 use Rattle.rt_lemmas.proofs.Bools.{and_left, true_and_false}
@@ -11,7 +12,8 @@ use Rattle.rt_app.proofs.SoundCeilings.{those_all}
 use Rattle.rt_app.specs.declared.app.Mono.{Mono}
 use Rattle.rt_app.specs.Tree.{Task, App}
 use Rattle.rt_app.specs.Level.{is_software, is_of_level, levels}
-use Rattle.rt_app.specs.Handlers.{Runs, Service, dispatcher_of, bound_service, task_services, dispatcher_service, timer_service, services, irq_number}
+use Rattle.rt_app.specs.Handlers.{Runs, Service, dispatcher_of, bound_service, task_services, dispatcher_service}
+use Rattle.rt_app.specs.Handlers.{timer_service, services, irq_number}
 use Rattle.rt_app.specs.Accepted.{IsAccepted}
 use Rattle.rt_app.proofs.Members.{in_front, in_back}
 use Rattle.rt_app.specs.Forms.{has_response_times}
@@ -67,7 +69,8 @@ module _ (app : App) (accepted : IsAccepted app) (form : has_response_times app 
       all_append RunsTask (task_services 0 app.tasks) _ (tasks_run 0 app.tasks (all_from app.tasks))
       (all_append RunsTask _ (timer_service app.mono)
       (all_flat_map RunsTask (λ p. dispatcher_service p (dispatcher_of app p)) (levels app)
-      (those_all (λ p. AllByRecursion RunsTask (dispatcher_service p (dispatcher_of app p))) (λ p. list_any (is_of_level p) app.tasks) _
+      (those_all (λ p. AllByRecursion RunsTask (dispatcher_service p (dispatcher_of app p)))
+      (λ p. list_any (is_of_level p) app.tasks) _
       (λ p below some. absurd (no_handler p some))))
       (no_timer app.mono refl))
 
@@ -79,7 +82,8 @@ module _ (app : App) (accepted : IsAccepted app) (form : has_response_times app 
       → number_of app (served_runs irq v at).row ≡ Some irq
   served_number irq v at =
       let runs = served_runs irq v at in
-      let passes = found_passes (λ (s : Service). is_some_and (λ n. n == irq) (irq_number app s.irq)) (services app) v at in
+      let passes = found_passes (λ (s : Service). is_some_and (λ n. n == irq) (irq_number app s.irq)) (services app) v
+      at in
       ap (λ o. then_from o (irq_number app)) runs.binds ∙ some_number (irq_number app v.irq) irq passes
 
   -- a task serves the interrupt that it binds
@@ -87,17 +91,23 @@ module _ (app : App) (accepted : IsAccepted app) (form : has_response_times app 
       → IsIn (task_services n ts) (record { irq = irq; handler = Runs (n + k); priority = t.priority })
   services_have n [] k t irq at binds = absurd (none-some t at)
   services_have n (u ∷ ts) zero t irq at binds =
-      in_front (bound_service n u u.binds) (task_services (n + 1) ts) (record { irq = irq; handler = Runs (n + 0); priority = t.priority })
-      (subst (λ (o : Option ℕ). IsIn (bound_service n u o) (record { irq = irq; handler = Runs (n + 0); priority = t.priority }))
+      in_front (bound_service n u u.binds) (task_services (n + 1) ts)
+      (record { irq = irq; handler = Runs (n + 0); priority = t.priority })
+      (subst (λ (o : Option ℕ). IsIn (bound_service n u o)
+      (record { irq = irq; handler = Runs (n + 0); priority = t.priority }))
       (sym (ap (λ (t : Task). t.binds) (same_Some u t at) ∙ binds)) (
         0,
-        ap (λ (v : Service). Some v) (ap (λ (k : ℕ). record { irq = irq; handler = Runs k; priority = u.priority }) (omega arith)
-            ∙ ap (λ (q : ℕ). record { irq = irq; handler = Runs (n + 0); priority = q }) (ap (λ (t : Task). t.priority) (same_Some u t at))),
+        ap (λ (v : Service). Some v) (ap (λ (k : ℕ). record { irq = irq; handler = Runs k; priority = u.priority })
+            (omega arith)
+            ∙ ap (λ (q : ℕ). record { irq = irq; handler = Runs (n + 0); priority = q })
+            (ap (λ (t : Task). t.priority) (same_Some u t at))),
       ))
   services_have n (u ∷ ts) (suc k) t irq at binds =
       let e : n + 1 + k ≡ n + suc k = omega arith in
-      in_back (bound_service n u u.binds) (task_services (n + 1) ts) (record { irq = irq; handler = Runs (n + suc k); priority = t.priority })
-      (subst (λ (k : ℕ). IsIn (task_services (n + 1) ts) (record { irq = irq; handler = Runs k; priority = t.priority })) e
+      in_back (bound_service n u u.binds) (task_services (n + 1) ts)
+      (record { irq = irq; handler = Runs (n + suc k); priority = t.priority })
+      (subst (λ (k : ℕ). IsIn (task_services (n + 1) ts)
+      (record { irq = irq; handler = Runs k; priority = t.priority })) e
       (services_have (n + 1) ts k t irq at binds))
 
   pub record Serves (t : Task) (number : ℕ) : Type 0 where
@@ -115,7 +125,8 @@ module _ (app : App) (accepted : IsAccepted app) (form : has_response_times app 
           let w : Service = record { irq = irq; handler = Runs (0 + k); priority = t.priority } in
           let there : IsIn (services app) w =
           in_front (task_services 0 app.tasks) _ w (services_have 0 app.tasks k t irq at binds) in
-          let one = found (λ (s : Service). is_some_and (λ n. n == number) (irq_number app s.irq)) (services app) there.0 w
+          let one = found (λ (s : Service). is_some_and (λ n. n == number) (irq_number app s.irq)) (services app)
+          there.0 w
           there.1 (ap (is_some_and (λ n. n == number)) is ∙ eq-eqb number number refl) in
           let same : one.0 ≡ w = only_service app accepted number one.0 w there is one.1 in
           record { service = one.0; at = one.1; priority = ap (λ (v : Service). v.priority) same }

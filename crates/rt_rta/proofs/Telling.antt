@@ -1,5 +1,8 @@
 -- One line more of a limits text, and what its limits are then.
-use Rattle.std.proofs.Common.{◌≡◌, ℕ, suc, ◌+◌, ◌≤◌, ◌<◌, ◌==◌, ◌⊎◌, inl, inr, Bool, true, false, ◌&&◌, ◌||◌, nat_le, cond, if◌then◌else◌, List, [], ◌∷◌, ◌++◌, map, find, length, Contains, bytes_eq, codes, Option, Some, None, option_map, option_to_list, Result, Ok, Err, IfOk, IfSome, refl, sym, ap, subst, ◌∙◌, arith, eq-eqb, append_assoc, append-nil, length-append}
+use Rattle.std.proofs.Common.{◌≡◌, ℕ, suc, ◌+◌, ◌≤◌, ◌<◌, ◌==◌, ◌⊎◌, inl, inr, Bool, true, false, ◌&&◌, ◌||◌, nat_le}
+use Rattle.std.proofs.Common.{cond, if◌then◌else◌, List, [], ◌∷◌, ◌++◌, map, find, length, Contains, bytes_eq, codes}
+use Rattle.std.proofs.Common.{Option, Some, None, option_map, option_to_list, Result, Ok, Err, IfOk, IfSome, refl, sym}
+use Rattle.std.proofs.Common.{ap, subst, ◌∙◌, arith, eq-eqb, append_assoc, append-nil, length-append}
 use Rattle.std.specs.Prelude.{is_some}
 use Rattle.std.specs.List.{AllByRecursion, list_any}
 use Rattle.std.specs.Str.Lines.{lines}
@@ -22,25 +25,33 @@ use Rattle.rt_rta.specs.declared.line.Wrong.TheVariants as wrong
 use Rattle.rt_rta.specs.declared.refusal.LimitsRefused.{LimitsRefused}
 use Rattle.rt_rta.specs.declared.refusal.LimitsRefused.TheVariants as refused
 use Rattle.rt_rta.specs.Limits.{is_bound, every_of, AreLimits}
-use Rattle.rt_rta.specs.Wording.{irq_of, if_bound, bound_irq, if_some, distance_of, limit_for, limit_of, words_tell, line_of}
+use Rattle.rt_rta.specs.Wording.{irq_of, if_bound, bound_irq, if_some, distance_of, limit_for, limit_of, words_tell}
+use Rattle.rt_rta.specs.Wording.{line_of}
 use Rattle.rt_rta.specs.Text.{Tell, IsFirstWrong, IsRefused}
 use Rattle.rt_rta.specs.Inside.Telling.{Takes, IsRefusedLine, Progress}
 
-tells_more : (app : App) (ls : List (List ℕ)) (line : List ℕ) (first rows after : List Limit) → Tell app ls first rows → Takes app rows line after → Tell app (ls ++ line ∷ []) first after
-tells_more app [] line first rows after tells takes =
-    (takes.told, ap (λ r. line_of app r line) (sym tells) ∙ takes.reads, takes.adds ∙ ap (λ (r : List Limit). r ++ option_to_list takes.told) tells)
+tells_more : (app : App) (ls : List (List ℕ)) (line : List ℕ) (first rows after : List Limit) → Tell app ls first rows
+    → Takes app rows line after → Tell app (ls ++ line ∷ []) first after
+tells_more app [] line first rows after tells takes = (
+  takes.told,
+  ap (λ r. line_of app r line) (sym tells) ∙ takes.reads,
+  takes.adds
+      ∙ ap (λ (r : List Limit). r ++ option_to_list takes.told) tells,
+)
 tells_more app (l ∷ ls) line first rows after tells takes =
     (tells.0, tells.1, tells_more app ls line (first ++ option_to_list tells.0) rows after tells.2 takes)
 
 pub progress_more : (app : App) (text rest behind line : List ℕ) (number : ℕ) (limits after : List Limit)
-    → Progress app text rest number limits → lines rest ≡ line ∷ lines behind → length behind < length rest → Takes app limits line after
+    → Progress app text rest number limits → lines rest ≡ line ∷ lines behind → length behind < length rest
+    → Takes app limits line after
     → Progress app text behind (number + 1) after
 progress_more app text rest behind line number limits after at cut shorter takes =
     let count : number ≡ length at.before = at.number_is in
     let room : number + length rest ≤ length text = at.room in
     record {
       before = at.before ++ line ∷ [];
-      parts = at.parts ∙ (ap (λ (ls : List (List ℕ)). at.before ++ ls) cut ∙ sym (append_assoc at.before (line ∷ []) (lines behind)));
+      parts = at.parts ∙ (ap (λ (ls : List (List ℕ)). at.before ++ ls) cut
+          ∙ sym (append_assoc at.before (line ∷ []) (lines behind)));
       number_is = simp length-append (omega (arith, count));
       tells = tells_more app at.before line [] limits after at.tells takes;
       room = omega (arith, room, shorter);
@@ -85,7 +96,8 @@ module _ (app : App) (limits : List Limit) where
     positive : 1 ≤ l.every
     fresh : is_some (every_of limits l.irq) ≡ false
 
-  bound_if : (n : ℕ) (b : Bool) → is_bound app n ≡ b → IfSome (if b then Some n else None) (λ irq. is_bound app irq ≡ true)
+  bound_if : (n : ℕ) (b : Bool) → is_bound app n ≡ b → IfSome (if b then Some n else None)
+      (λ irq. is_bound app irq ≡ true)
   bound_if n true is = is
   bound_if n false is = tt
 
@@ -106,7 +118,8 @@ module _ (app : App) (limits : List Limit) where
   fresh_if irq every bound some true is = tt
   fresh_if irq every bound some false is = record { bound = bound; positive = some; fresh = is }
 
-  for_new : (every : ℕ) (o : Option ℕ) → 1 ≤ every → IfSome o (λ irq. is_bound app irq ≡ true) → IfOk (limit_for limits every o) IsNew
+  for_new : (every : ℕ) (o : Option ℕ) → 1 ≤ every → IfSome o (λ irq. is_bound app irq ≡ true)
+      → IfOk (limit_for limits every o) IsNew
   for_new every None some bound = tt
   for_new every (Some irq) some bound = fresh_if irq every bound some (is_some (every_of limits irq)) refl
 
@@ -120,7 +133,8 @@ module _ (app : App) (limits : List Limit) where
   words_new (verb ∷ []) = tt
   words_new (verb ∷ name ∷ []) = tt
   words_new (verb ∷ name ∷ count ∷ []) =
-      either (λ r. IfOk r IsNew) (bytes_eq verb (codes "every") && is_identifier name) (limit_of app limits name count) (Err wrong.Form)
+      either (λ r. IfOk r IsNew) (bytes_eq verb (codes "every") && is_identifier name) (limit_of app limits name count)
+      (Err wrong.Form)
       (of_new name (distance_of (short_number count)) (distance_some (short_number count))) tt
   words_new (verb ∷ name ∷ count ∷ more ∷ words) = tt
 
@@ -132,15 +146,18 @@ module _ (app : App) (limits : List Limit) where
   line_new line =
       either (λ r. IfOk r (λ o. IfSome o IsNew)) (is_blank line || is_comment line) (Ok None)
       (if is_loose line then Err wrong.Form else and_make (words_tell app limits (spaced_words line)) Some) tt
-      (either (λ r. IfOk r (λ o. IfSome o IsNew)) (is_loose line) (Err wrong.Form) (and_make (words_tell app limits (spaced_words line)) Some) tt
+      (either (λ r. IfOk r (λ o. IfSome o IsNew)) (is_loose line) (Err wrong.Form)
+      (and_make (words_tell app limits (spaced_words line)) Some) tt
       (made_new (words_tell app limits (spaced_words line)) (words_new (spaced_words line))))
 
 -- an interrupt that stands among the limits has one
-has_limit : (limits : List Limit) (irq : ℕ) → Contains (map (λ l. l.irq) limits) irq → is_some (every_of limits irq) ≡ true
+has_limit : (limits : List Limit) (irq : ℕ) → Contains (map (λ l. l.irq) limits) irq → is_some (every_of limits irq)
+    ≡ true
 has_limit [] irq is = absurd (contains_none irq is)
 has_limit (l ∷ limits) irq is = by (l.irq == irq) refl (λ there. has_limit limits irq there)
   where
-    by : (b : Bool) → (l.irq == irq) ≡ b → (Contains (map (λ l. l.irq) limits) irq → is_some (every_of limits irq) ≡ true)
+    by : (b : Bool) → (l.irq == irq) ≡ b → (Contains (map (λ l. l.irq) limits) irq → is_some (every_of limits irq)
+        ≡ true)
         → is_some (option_map (λ (l : Limit). l.every) (if b then Some l else find (λ l. l.irq == irq) limits)) ≡ true
     by true test deeper = refl
     by false test deeper = elim (contains_cases l.irq (map (λ l. l.irq) limits) irq is) [
@@ -148,7 +165,8 @@ has_limit (l ∷ limits) irq is = by (l.irq == irq) refl (λ there. has_limit li
       | inr there ↦ deeper there
     ]
 
-one_more : (app : App) (limits : List Limit) (l : Limit) → AreLimits app limits → IsNew app limits l → AreLimits app (limits ++ l ∷ [])
+one_more : (app : App) (limits : List Limit) (l : Limit) → AreLimits app limits → IsNew app limits l
+    → AreLimits app (limits ++ l ∷ [])
 one_more app limits l fine new = record {
   bound = all_append (λ (limit : Limit). is_bound app limit.irq ≡ true) limits (l ∷ []) fine.bound (new.bound, tt);
   once =
@@ -156,7 +174,8 @@ one_more app limits l fine new = record {
       (different_append (map (λ (limit : Limit). limit.irq) limits) (l.irq ∷ []) fine.once
       (different_cons l.irq [] (contains_none l.irq) different_none)
       (λ irq there here. elim (contains_cases l.irq [] irq here) [
-        | inl same ↦ true_and_false (is_some (every_of limits irq)) (has_limit limits irq there) (subst (λ i. is_some (every_of limits i) ≡ false) same new.fresh)
+        | inl same ↦ true_and_false (is_some (every_of limits irq)) (has_limit limits irq there)
+            (subst (λ i. is_some (every_of limits i) ≡ false) same new.fresh)
         | inr none ↦ contains_none irq none
       ]));
   positive = all_append (λ (limit : Limit). 1 ≤ limit.every) limits (l ∷ []) fine.positive (new.positive, tt);
@@ -167,12 +186,14 @@ joined : (app : App) (limits : List Limit) (told : Option Limit) → AreLimits a
 joined app limits None fine new = subst (AreLimits app) (sym (append-nil limits)) fine
 joined app limits (Some l) fine new = one_more app limits l fine new
 
-all_fine : (app : App) (ls : List (List ℕ)) (first all : List Limit) → Tell app ls first all → AreLimits app first → AreLimits app all
+all_fine : (app : App) (ls : List (List ℕ)) (first all : List Limit) → Tell app ls first all → AreLimits app first
+    → AreLimits app all
 all_fine app [] first all tells fine = subst (AreLimits app) (sym tells) fine
 all_fine app (line ∷ ls) first all tells fine =
     all_fine app ls (first ++ option_to_list tells.0) all tells.2
     (joined app first tells.0 fine
-    (subst (λ (r : Result (Option Limit) Wrong). IfOk r (λ o. IfSome o (IsNew app first))) tells.1 (line_new app first line)))
+    (subst (λ (r : Result (Option Limit) Wrong). IfOk r (λ o. IfSome o (IsNew app first))) tells.1
+    (line_new app first line)))
 
 -- what a text tells are limits
 pub tells_fine : (app : App) (ls : List (List ℕ)) (all : List Limit) → Tell app ls [] all → AreLimits app all

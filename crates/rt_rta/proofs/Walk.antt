@@ -1,5 +1,6 @@
 -- A stretch of a run in which something is owed to a priority: it is over before the response time has passed.
-use Rattle.std.proofs.Common.{◌≡◌, ℕ, zero, suc, ◌+◌, ◌-◌, ◌*◌, ◌/◌, ◌≤◌, ◌<◌, ◌^◌, ◌==◌, ◌⊎◌, inl, inr, Bool, true, false, if◌then◌else◌, List, [], ◌∷◌, Option, Some, None, refl, sym, ap, subst, ◌∙◌, arith}
+use Rattle.std.proofs.Common.{◌≡◌, ℕ, zero, suc, ◌+◌, ◌-◌, ◌*◌, ◌/◌, ◌≤◌, ◌<◌, ◌^◌, ◌==◌, ◌⊎◌, inl, inr, Bool, true}
+use Rattle.std.proofs.Common.{false, if◌then◌else◌, List, [], ◌∷◌, Option, Some, None, refl, sym, ap, subst, ◌∙◌, arith}
 use Rattle.std.proofs.lemmas.Bool.{eqb-true}
 use Rattle.std.proofs.lemmas.Nat.{le-div}
 use Rattle.rt_trace.specs.Label.{Label, Arrived, Ticked, Rang, Stepped}
@@ -25,13 +26,15 @@ abbrev pub Fits : Option ℕ → ℕ → ℕ → ℕ → Type 0
 Fits None count steps waits = count ≡ 0
 Fits (Some every) count steps waits = (count * every ≤ steps + waits) × (waits ≤ every) × (1 ≤ every)
 
-fits_start : (o : Option ℕ) (waits : ℕ) → ((every : ℕ) → o ≡ Some every → (waits ≤ every) × (1 ≤ every)) → Fits o 0 0 waits
+fits_start : (o : Option ℕ) (waits : ℕ) → ((every : ℕ) → o ≡ Some every → (waits ≤ every) × (1 ≤ every))
+    → Fits o 0 0 waits
 fits_start None waits short = refl
 fits_start (Some every) waits short = let few = short every refl in (omega arith, few.0, few.1)
 
 fits_step : (o : Option ℕ) (count steps waits : ℕ) → Fits o count steps waits → Fits o count (steps + 1) (waits - 1)
 fits_step None count steps waits fits = fits
-fits_step (Some every) count steps waits fits = let few = fits.0 in let short = fits.1 in (omega arith, omega arith, fits.2)
+fits_step (Some every) count steps waits fits = let few = fits.0 in let short = fits.1 in
+    (omega arith, omega arith, fits.2)
 
 -- right behind a step no more requests can have been made than may begin
 fits_begun : (o : Option ℕ) (count steps waits : ℕ) → Fits o count steps waits → count ≤ requests o (steps + 1)
@@ -42,7 +45,8 @@ fits_begun (Some every) count steps waits fits =
     let some = fits.2 in
     le-div count (steps + 1 + (every - 1)) every some (omega arith)
 
-module _ (app : App) (accepted : IsAccepted app) (form : has_response_times app ≡ true) (limits : List Limit) (p : ℕ) (positive : 0 < p)
+module _ (app : App) (accepted : IsAccepted app) (form : has_response_times app ≡ true) (limits : List Limit) (p : ℕ)
+    (positive : 0 < p)
     (top : p ≤ 2 ^ app.bits) (least : ℕ) (suffices : Suffices app limits p least) where
   abbrev owes : State → ℕ
   owes s = owed app p s
@@ -65,7 +69,8 @@ module _ (app : App) (accepted : IsAccepted app) (form : has_response_times app 
     pub fits : (irq : ℕ) → Fits (every_of limits irq) (counts irq) steps (waits irq)
 
   -- it begins where nothing is owed
-  pub fresh : (s : State) (v : Observer) (waits : Waits) → StateWell app s v → Short waits → owes s ≡ 0 → Stretch s v waits 0
+  pub fresh : (s : State) (v : Observer) (waits : Waits) → StateWell app s v → Short waits → owes s ≡ 0
+      → Stretch s v waits 0
   fresh s v waits well short none =
       let start = low_start app p positive s.jobs v.jobs well.stack top in
       let some = suffices.some in
@@ -104,7 +109,8 @@ module _ (app : App) (accepted : IsAccepted app) (form : has_response_times app 
           (let few = (subst (λ q. Fits q count steps 0) is fits).0 in (omega arith, omega arith, some))
 
       by : (k : ℕ) (b : Bool) → (k == irq) ≡ b
-          → Fits (every_of limits k) (if b then suc (stretch.counts k) else stretch.counts k) steps (if b then every else waits k)
+          → Fits (every_of limits k) (if b then suc (stretch.counts k) else stretch.counts k) steps
+          (if b then every else waits k)
       by k true test =
           let same : k ≡ irq = eqb-true k irq test in
           of_row (every_of limits k) (stretch.counts k) (ap (every_of limits) same ∙ row)
@@ -135,7 +141,8 @@ module _ (app : App) (accepted : IsAccepted app) (form : has_response_times app 
       few = raised_within app p limits stretch.counts (steps + 1)
           (λ irq. fits_begun (every_of limits irq) (stretch.counts irq) steps (waits irq) (stretch.fits irq)) app.tasks
 
-      still : (rest : ℕ) → owes t + (steps + 1) + rest ≤ wait + raised app p stretch.counts app.tasks → steps + 1 < least
+      still : (rest : ℕ) → owes t + (steps + 1) + rest ≤ wait + raised app p stretch.counts app.tasks → steps
+          + 1 < least
       still rest within = by (zero_or_some (least - (steps + 1)))
         where
           by : (least - (steps + 1) ≡ 0) ⊎ (0 < least - (steps + 1)) → steps + 1 < least
@@ -149,7 +156,8 @@ module _ (app : App) (accepted : IsAccepted app) (form : has_response_times app 
               absurd (omega arith)
 
   -- a step, wherever it is
-  pub any_step : (s : State) (v : Observer) (waits : Waits) (steps : ℕ) (t : State) (u : Observer) → StateWell app t u → Short waits
+  pub any_step : (s : State) (v : Observer) (waits : Waits) (steps : ℕ) (t : State) (u : Observer) → StateWell app t u
+      → Short waits
       → Lowers app accepted form p positive s v t u → Stretch s v waits steps
       → (n : ℕ) × Stretch t u (a_step_on waits) n
   any_step s v waits steps t u well short lowers stretch = by (zero_or_some (owes t))

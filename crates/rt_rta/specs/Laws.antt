@@ -14,6 +14,7 @@ use Rattle.rt_rta.specs.declared.limits.Limit.{Limit}
 
 -- Response times are met, where requests keep the limits and no job's cost is spent before it ends.
 abbrev pub RunsRespond : Type 0
-RunsRespond = (app : App) → IsAccepted app → has_response_times app ≡ true → (limits : List Limit) → AreLimits app limits
+RunsRespond = (app : App) → IsAccepted app → has_response_times app ≡ true → (limits : List Limit)
+    → AreLimits app limits
     → (labels : List Label) → RunsOn app (first app) labels → Kept limits labels → NoneIsSpent app labels
     → Responds app limits labels

@@ -1,5 +1,5 @@
--- How response times are printed: a line for each priority, with its core steps, or `-` where there is no number up to the
--- greatest one.
+-- How response times are printed: a line for each priority, with its core steps, or `-` where there is no number up to
+-- the greatest one.
 use Rattle.std.specs.Prelude.{ℕ, List, ◌++◌, codes, decimal, flat_map, Option, Some, None}
 use Rattle.rt_rta.specs.declared.response.ResponseTime.{ResponseTime}
 

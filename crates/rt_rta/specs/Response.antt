@@ -1,10 +1,10 @@
--- The response time of a priority: how many core steps pass at most from a request of one of its interrupts to the return
--- of the handler. It is the least solution of the equation of response-time analysis (Joseph and Pandya, Finding
+-- The response time of a priority: how many core steps pass at most from a request of one of its interrupts to the
+-- return of the handler. It is the least solution of the equation of response-time analysis (Joseph and Pandya, Finding
 -- Response Times in a Real-Time System, 1986; Audsley, Burns, Richardson, Tindell and Wellings, 1993), with Baker's
 -- bound on blocking (Stack-Based Scheduling of Realtime Processes, 1991). What is this project's own: a step of the
 -- core takes the interrupt, so each handling counts one more than its cost; tasks of the priority itself count in full,
--- since of one priority the order of requests is not told; and blocking counts to the end. The code goes from 1 upwards by
--- the right side of the equation; a least number is told of here.
+-- since of one priority the order of requests is not told; and blocking counts to the end. The code goes from 1 upwards
+-- by the right side of the equation; a least number is told of here.
 use Rattle.std.specs.Prelude.{ℕ, ◌+◌, ◌-◌, ◌*◌, ◌/◌, ◌≤◌, nat_le, List, map, sum_by, Option, Some, None}
 use Rattle.std.specs.Prelude.{if◌then◌else◌, ◌≡◌}
 use Rattle.std.specs.List.{AllByRecursion}
@@ -36,7 +36,8 @@ module _ (app : App) (limits : List Limit) (p : ℕ) where
   -- what a task of this priority or a higher one asks for in so many core steps
   abbrev pub task_demand : ℕ → Task → ℕ
   task_demand steps t =
-      if nat_le p t.priority then requests (then_from (number_of app t) (every_of limits)) steps * handling_steps app t else 0
+      if nat_le p t.priority then requests (then_from (number_of app t) (every_of limits)) steps * handling_steps app t
+      else 0
 
   -- what all tasks of this priority and higher ones ask for
   abbrev pub demand : ℕ → ℕ

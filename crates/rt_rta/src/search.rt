@@ -57,8 +57,8 @@ fn saturated_steps(steps: u64) -> u32
     u32::try_from(steps).unwrap_or(u32::MAX)
 }
 
-/// The least number of core steps up to a million in which there is room for the wait of a priority and for what the tasks
-/// of this priority and higher ones ask for.
+/// The least number of core steps up to a million in which there is room for the wait of a priority and for what the
+/// tasks of this priority and higher ones ask for.
 fn response(all: &[Load], wait: &Wait) -> Option<u32>
     requires small { AllByRecursion IsSmall all.now }
     requires few { length all.now ≤ TASKS }

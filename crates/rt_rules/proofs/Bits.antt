@@ -22,6 +22,8 @@ is_within bits m p small e =
           ap (leb p) (omega arith))
     ]
 
-pub tested : (bits m p q : ℕ) → p < 256 → 1 ≤ p → q ≡ p → m ≡ min bits 8 → leb q (1 * 2 ^ m % 65536) ≡ is_priority bits p
+pub tested : (bits m p q : ℕ) → p < 256 → 1 ≤ p → q ≡ p → m ≡ min bits 8 → leb q (1 * 2 ^ m % 65536)
+    ≡ is_priority bits p
 tested bits m p q small least same e =
-    ap (λ n. leb n (1 * 2 ^ m % 65536)) same ∙ is_within bits m p small e ∙ sym (ap (λ b. b && leb p (2 ^ bits)) (le-leb 1 p least))
+    ap (λ n. leb n (1 * 2 ^ m % 65536)) same ∙ is_within bits m p small e
+    ∙ sym (ap (λ b. b && leb p (2 ^ bits)) (le-leb 1 p least))

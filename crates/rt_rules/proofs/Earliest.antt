@@ -1,5 +1,6 @@
 -- What is found as a list is read is its first violation.
-use Rattle.std.proofs.Common.{◌≡◌, ℕ, zero, suc, ◌<◌, ◌≤◌, ◌⊎◌, inl, inr, Bool, true, false, List, [], ◌∷◌, ◌++◌, length, get_or, Some, None, if◌then◌else◌, refl, sym, ◌∙◌, subst, arith}
+use Rattle.std.proofs.Common.{◌≡◌, ℕ, zero, suc, ◌<◌, ◌≤◌, ◌⊎◌, inl, inr, Bool, true, false, List, [], ◌∷◌, ◌++◌}
+use Rattle.std.proofs.Common.{length, get_or, Some, None, if◌then◌else◌, refl, sym, ◌∙◌, subst, arith}
 use Rattle.std.proofs.lemmas.Bool.Decides.{nat_tests}
 use Rattle.std.specs.List.{Contains}
 use Rattle.rt_app.specs.declared.violation.Violation.{Violation}
@@ -31,23 +32,35 @@ contains_first v xs = (zero, omega arith, refl)
 contains_rest : (x v : Violation) (xs : List Violation) → Contains xs v → Contains (x ∷ xs) v
 contains_rest x v xs h = (suc h.0, omega (arith, h.1), h.2)
 
-place_in : (y v : Violation) (xs : List Violation) (k : ℕ) → k < length (y ∷ xs) → get_or (y ∷ xs) k v ≡ v → (y ≡ v) ⊎ Contains xs v
+place_in : (y v : Violation) (xs : List Violation) (k : ℕ) → k < length (y ∷ xs) → get_or (y ∷ xs) k v ≡ v → (y ≡ v)
+    ⊎ Contains xs v
 place_in y v xs zero h e = inl e
 place_in y v xs (suc k) h e = inr (k, omega arith, e)
 
 -- the one that is kept of two, with the rest
-kept : (w x v : Violation) (xs : List Violation) (b : Bool) → is_before x w ≡ b → IsFirst ((if b then x else w) ∷ xs) v → IsFirst (w ∷ x ∷ xs) v
+kept : (w x v : Violation) (xs : List Violation) (b : Bool) → is_before x w ≡ b → IsFirst ((if b then x else w) ∷ xs) v
+    → IsFirst (w ∷ x ∷ xs) v
 kept w x v xs true e first = record {
-  is_one = elim (place_in x v xs first.is_one.0 first.is_one.1 first.is_one.2) [ inl same ↦ contains_rest w v (x ∷ xs) (subst (λ y. Contains (y ∷ xs) v) (sym same) (contains_first v xs)) | inr rest ↦ contains_rest w v (x ∷ xs) (contains_rest x v xs rest) ];
+  is_one = elim (place_in x v xs first.is_one.0 first.is_one.1 first.is_one.2) [
+    | inl same ↦ contains_rest w v (x ∷ xs) (subst (λ y. Contains (y ∷ xs) v) (sym same) (contains_first v xs))
+    | inr
+        rest ↦ contains_rest w v (x ∷ xs) (contains_rest x v xs rest)
+  ];
   first = (in_turn v x w first.first.0 (no_later x w e), first.first);
 }
 kept w x v xs false e first = record {
-  is_one = elim (place_in w v xs first.is_one.0 first.is_one.1 first.is_one.2) [ inl same ↦ subst (λ y. Contains (y ∷ x ∷ xs) v) (sym same) (contains_first v (x ∷ xs)) | inr rest ↦ contains_rest w v (x ∷ xs) (contains_rest x v xs rest) ];
+  is_one = elim (place_in w v xs first.is_one.0 first.is_one.1 first.is_one.2) [
+    | inl same ↦ subst (λ y. Contains (y ∷ x ∷ xs) v) (sym same) (contains_first v (x ∷ xs))
+    | inr rest ↦
+        contains_rest w v (x ∷ xs) (contains_rest x v xs rest)
+  ];
   first = (first.first.0, (in_turn v w x first.first.0 (no_earlier x w e), first.first.1));
 }
 
-found_behind : (w : Violation) (xs : List Violation) (v : Violation) → first_of (Some w) xs ≡ Some v → IsFirst (w ∷ xs) v
-found_behind w [] v h = let same : w ≡ v = cc in subst (IsFirst (w ∷ [])) same (record { is_one = contains_first w []; first = (itself w, tt) })
+found_behind : (w : Violation) (xs : List Violation) (v : Violation) → first_of (Some w) xs ≡ Some v
+    → IsFirst (w ∷ xs) v
+found_behind w [] v h = let same : w ≡ v = cc in subst (IsFirst (w ∷ [])) same
+    (record { is_one = contains_first w []; first = (itself w, tt) })
 found_behind w (x ∷ xs) v h = kept w x v xs (is_before x w) refl (found_behind (if is_before x w then x else w) xs v h)
 
 stays : (w : Violation) (xs : List Violation) → first_of (Some w) xs ≡ None → ⊥

@@ -83,7 +83,8 @@ impl<'a> Judge<'a> {
 
     /// Whether it is a shared resource that the body, one other than `init`, does not reach where these are locked.
     pub(crate) fn is_outside(&self, locked: &Locked<'_>, atom: &Atom) -> bool
-        ensures { result ≡ is_outside (app_of self.now.app.now) (member_of self.now.member) (locked_resources locked.now)
+        ensures { result ≡ is_outside (app_of self.now.app.now) (member_of self.now.member)
+            (locked_resources locked.now)
             atom.now }
     {
         match atom {

@@ -2,7 +2,8 @@
 
 ghost use Rattle.std.specs.Prelude.{◌≡◌, [], ◌∷◌, ◌++◌, flat_map, map, is_none, OnOk};
 ghost use Rattle.rt_app.specs.View.{app_of, expression_of, spawn_of, value_of, statement_of, block_of};
-ghost use Rattle.rt_app.specs.Use.{Reads, Writes, Locks, MakesSpawn, AsksTime, use_with_locks, reads, spawn_uses, value_uses};
+ghost use Rattle.rt_app.specs.Use.{Reads, Writes, Locks, MakesSpawn, AsksTime, use_with_locks, reads, spawn_uses};
+ghost use Rattle.rt_app.specs.Use.{value_uses};
 ghost use Rattle.rt_app.specs.Use.{statement_uses, uses};
 ghost use Rattle.rt_app.specs.Bodies.{members};
 ghost use Rattle.rt_app.specs.Statements.{is_bad_spawn, is_bad_message, use_breaks, breaks};

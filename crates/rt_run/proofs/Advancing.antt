@@ -49,7 +49,8 @@ items-append n (Stepped (Some w) ∷ ls) ms =
 -- an alarm is no step
 ring_steps : (c : Core) (alarm : Option Alarm) (rest : List Label) → steps_of ((ring c alarm).1 ++ rest) ≡ steps_of rest
 ring_steps c None rest = refl
-ring_steps c (Some alarm) rest = one (nat_le alarm.instant c.time) (record (core_after_pend c alarm.irq) { alarm = None }) c
+ring_steps c (Some alarm) rest = one (nat_le alarm.instant c.time)
+    (record (core_after_pend c alarm.irq) { alarm = None }) c
   where
     one : (due : Bool) (x y : Core)
         → steps_of ((if◌then◌else◌ {A = Core × List Label} due (x, Rang ∷ []) (y, [])).1 ++ rest) ≡ steps_of rest
@@ -184,18 +185,22 @@ more_cut n count e a b c x y z held mid within first cut =
     (cut_behind (replicate n e) (e ∷ []) a b c x y z held mid first cut)))
 
 -- equal events, some more of those that are left
-pub some_more : (count left now : ℕ) (e : Event) (a b c : Machine) (x y z : Option (List ℕ)) (held mid kept : List ℕ) → left ≤ count → now ≤ left
+pub some_more : (count left now : ℕ) (e : Event) (a b c : Machine) (x y z : Option (List ℕ)) (held mid kept : List ℕ)
+    → left ≤ count → now ≤ left
     → Writes (replicate (count - left) e) a b x y held mid → Writes (replicate (left - now) e) b c y z mid kept
     → Writes (replicate (count - now) e) a c x z held kept
 some_more count left now e a b c x y z held mid kept within fewer first second =
     subst (λ es. Writes es a c x z held kept)
     (replicate-append-replicate (count - left) (left - now) e
-    ∙ ap (λ n. replicate n e) (let same : count - left + (left - now) ≡ count - now = omega (arith, within, fewer) in same))
+    ∙ ap (λ n. replicate n e) (let same : count - left + (left - now) ≡ count - now = omega (arith, within, fewer) in
+    same))
     (goes_on (replicate (count - left) e) (replicate (left - now) e) a b c x y z held mid kept first second)
 
 -- and a fault among those that are left
-pub left_cut : (count left : ℕ) (e : Event) (a b c : Machine) (x y z : Option (List ℕ)) (held mid : List ℕ) → left ≤ count
-    → Writes (replicate (count - left) e) a b x y held mid → Cut (replicate left e) b c y z mid → Cut (replicate count e) a c x z held
+pub left_cut : (count left : ℕ) (e : Event) (a b c : Machine) (x y z : Option (List ℕ)) (held mid : List ℕ)
+    → left ≤ count
+    → Writes (replicate (count - left) e) a b x y held mid → Cut (replicate left e) b c y z mid
+    → Cut (replicate count e) a c x z held
 left_cut count left e a b c x y z held mid within first cut =
     subst (λ es. Cut es a c x z held)
     (replicate-append-replicate (count - left) left e
@@ -203,11 +208,13 @@ left_cut count left e a b c x y z held mid within first cut =
     (cut_behind (replicate (count - left) e) (replicate left e) a b c x y z held mid first cut)
 
 -- a fault among the first of equal events
-pub cut_more : (n count : ℕ) (e : Event) (a b : Machine) (x y : Option (List ℕ)) (held : List ℕ) → n ≤ count → Cut (replicate n e) a b x y held
+pub cut_more : (n count : ℕ) (e : Event) (a b : Machine) (x y : Option (List ℕ)) (held : List ℕ) → n ≤ count
+    → Cut (replicate n e) a b x y held
     → Cut (replicate count e) a b x y held
 cut_more n count e a b x y held within cut =
     subst (λ es. Cut es a b x y held)
-    (replicate-append-replicate n (count - n) e ∙ ap (λ k. replicate k e) (let same : n + (count - n) ≡ count = omega (arith, within) in same))
+    (replicate-append-replicate n (count - n) e ∙ ap (λ k. replicate k e)
+    (let same : n + (count - n) ≡ count = omega (arith, within) in same))
     (cut_before (replicate n e) (replicate (count - n) e) a b x y held cut)
 
 -- events that came, with these lines

@@ -1,5 +1,6 @@
 -- What can be written on stays so, whatever happens, and how the time rises.
-use Rattle.std.proofs.Common.{◌≡◌, ℕ, zero, suc, ◌+◌, ◌-◌, ◌<◌, ◌≤◌, ◌^◌, List, [], ◌∷◌, length, replicate, Option, Some}
+use Rattle.std.proofs.Common.{◌≡◌, ℕ, zero, suc, ◌+◌, ◌-◌, ◌<◌, ◌≤◌, ◌^◌, List, [], ◌∷◌, length, replicate, Option}
+use Rattle.std.proofs.Common.{Some}
 use Rattle.std.proofs.Common.{None, Bool, true, false, if◌then◌else◌, nat_le, ap, sym, subst, ◌∙◌, arith}
 use Rattle.std.proofs.lemmas.List.{length-map, length-replicate}
 use Rattle.rt_ids.specs.Event.{Event, Arrive, Tick, Step, steps}
@@ -41,7 +42,8 @@ ring_known img c None h = h
 ring_known img c (Some alarm) h = one (nat_le alarm.instant c.time)
   where
     one : (due : Bool) → IsKnown img
-        (if◌then◌else◌ {A = Core × List Label} due (record (core_after_pend c alarm.irq) { alarm = None }, Rang ∷ []) (c, [])).0
+        (if◌then◌else◌ {A = Core × List Label} due (record (core_after_pend c alarm.irq) { alarm = None }, Rang ∷ [])
+        (c, [])).0
     one true = record { cells = h.cells; below = h.below }
     one false = h
 
@@ -85,7 +87,8 @@ few_after n count e a b run within few =
     omega (arith, run.steps, steps_below (replicate n e), length-replicate n e, within, few)
 
 -- with those that are left the steps stay few
-pub room_for_left : (count left : ℕ) (e : Event) (a b : Machine) → Leads (replicate (count - left) e) a b → left ≤ count → a.steps + count < 2 ^ 31
+pub room_for_left : (count left : ℕ) (e : Event) (a b : Machine) → Leads (replicate (count - left) e) a b → left ≤ count
+    → a.steps + count < 2 ^ 31
     → b.steps + left < 2 ^ 31
 room_for_left count left e a b run within few =
     omega (arith, run.steps, steps_below (replicate (count - left) e), length-replicate (count - left) e, within, few)

@@ -1,5 +1,6 @@
 -- Core steps up to the first that shows an item: where they lead, and what they show.
-use Rattle.std.proofs.Common.{◌≡◌, ℕ, zero, suc, ◌+◌, ◌-◌, List, [], ◌∷◌, ◌++◌, flat_map, replicate, Option, Some, None, refl, ap, sym}
+use Rattle.std.proofs.Common.{◌≡◌, ℕ, zero, suc, ◌+◌, ◌-◌, List, [], ◌∷◌, ◌++◌, flat_map, replicate, Option, Some, None}
+use Rattle.std.proofs.Common.{refl, ap, sym}
 use Rattle.std.proofs.Common.{subst, ◌∙◌, arith}
 use Rattle.std.specs.List.{AllByRecursion}
 use Rattle.std.proofs.lemmas.List.{append-nil}
@@ -32,7 +33,8 @@ steps_are : (n : ℕ) → steps (replicate n Step) ≡ n
 steps_are zero = refl
 steps_are (suc n) = ap suc (steps_are n)
 
-pub reached_leads : (most : ℕ) (a b : Machine) (shown : Option What) (goes : StepsToItem most a b shown) → Leads (replicate goes.done Step) a b
+pub reached_leads : (most : ℕ) (a b : Machine) (shown : Option What) (goes : StepsToItem most a b shown)
+    → Leads (replicate goes.done Step) a b
 reached_leads most a b shown goes = record {
   image = goes.image;
   core = goes.reaches.core;
@@ -42,17 +44,20 @@ reached_leads most a b shown goes = record {
 -- silent steps show nothing
 silent_items : (n s : ℕ) (ls : List Label) → items_of n (replicate s (Stepped None) ++ ls) ≡ items_of (n + s) ls
 silent_items n zero ls = ap (λ k. items_of k ls) (let e : n ≡ n + 0 = omega arith in e)
-silent_items n (suc s) ls = silent_items (suc n) s ls ∙ ap (λ k. items_of k ls) (let e : suc n + s ≡ n + suc s = omega arith in e)
+silent_items n (suc s) ls = silent_items (suc n) s ls ∙ ap (λ k. items_of k ls)
+    (let e : suc n + s ≡ n + suc s = omega arith in e)
 
 -- where no step shows an item
-pub reached_nothing : (most : ℕ) (a b : Machine) (shown : Option What) (goes : StepsToItem most a b shown) → shown ≡ None
+pub reached_nothing : (most : ℕ) (a b : Machine) (shown : Option What) (goes : StepsToItem most a b shown) → shown
+    ≡ None
     → shown_items a (replicate goes.done Step) ≡ []
 reached_nothing most a b shown goes none =
     ap (items_of a.steps) goes.reaches.shows ∙ silent_items a.steps goes.reaches.silent (label_of_item shown)
     ∙ ap (λ w. items_of (a.steps + goes.reaches.silent) (label_of_item w)) none
 
 -- where the last step shows one
-pub reached_item : (most : ℕ) (a b : Machine) (shown : Option What) (w : What) (goes : StepsToItem most a b shown) → shown ≡ Some w
+pub reached_item : (most : ℕ) (a b : Machine) (shown : Option What) (w : What) (goes : StepsToItem most a b shown)
+    → shown ≡ Some w
     → shown_items a (replicate goes.done Step) ≡ numbered (b.steps - 1) w ∷ []
 reached_item most a b shown w goes some =
     ap (items_of a.steps) goes.reaches.shows ∙ silent_items a.steps goes.reaches.silent (label_of_item shown)
@@ -74,31 +79,38 @@ labels_known img c (suc n) lines known =
     let next = step_known img lines c known in
     (next.1, labels_known img (step img c).0 n lines next.0)
 
-last_known : (names : Names) (s : ℕ) (w : What) → AllByRecursion (HasLabelWords names) (replicate s (Stepped None) ++ Stepped (Some w) ∷ [])
+last_known : (names : Names) (s : ℕ) (w : What) → AllByRecursion (HasLabelWords names)
+    (replicate s (Stepped None) ++ Stepped (Some w) ∷ [])
     → HasWords names w
 last_known names zero w h = h.0
 last_known names (suc s) w h = last_known names s w h.1
 
 -- the names of the item that was reached
-pub reached_words : (most : ℕ) (a b : Machine) (shown : Option What) (w : What) (goes : StepsToItem most a b shown) → shown ≡ Some w
+pub reached_words : (most : ℕ) (a b : Machine) (shown : Option What) (w : What) (goes : StepsToItem most a b shown)
+    → shown ≡ Some w
     → HasLines a.image → IsKnown a.image a.core → HasWords a.image.names w
 reached_words most a b shown w goes some lines known =
     last_known a.image.names goes.reaches.silent w
-    (subst (λ o. AllByRecursion (HasLabelWords a.image.names) (replicate goes.reaches.silent (Stepped None) ++ label_of_item o)) some
-    (subst (AllByRecursion (HasLabelWords a.image.names)) goes.reaches.shows (labels_known a.image a.core goes.done lines known)))
+    (subst (λ o. AllByRecursion (HasLabelWords a.image.names) (replicate goes.reaches.silent (Stepped None)
+    ++ label_of_item o)) some
+    (subst (AllByRecursion (HasLabelWords a.image.names)) goes.reaches.shows
+    (labels_known a.image a.core goes.done lines known)))
 
 -- what is written where no step shows an item
-pub none_written : (most : ℕ) (a b : Machine) (shown : Option What) (x : Option (List ℕ)) (held : List ℕ) (goes : StepsToItem most a b shown)
+pub none_written : (most : ℕ) (a b : Machine) (shown : Option What) (x : Option (List ℕ)) (held : List ℕ)
+    (goes : StepsToItem most a b shown)
     → shown ≡ None → Writes (replicate (most - 0) Step) a b x x held held
 none_written most a b shown x held goes none =
     let nothing = reached_nothing most a b shown goes none in
     let all : goes.done ≡ most - 0 = omega (arith, goes.all none) in
     subst (λ n. Writes (replicate n Step) a b x x held held) all
     (written (replicate goes.done Step) a b x x held held [] (reached_leads most a b shown goes)
-    (subst (AllByRecursion (HasLine a.image.names)) (sym nothing) tt) (ap (flat_map (text a.image.names)) nothing) (wrote_none x held))
+    (subst (AllByRecursion (HasLine a.image.names)) (sym nothing) tt) (ap (flat_map (text a.image.names)) nothing)
+    (wrote_none x held))
 
 -- the line of the item that was reached
-module _ (most : ℕ) (a b : Machine) (shown : Option What) (w : What) (goes : StepsToItem most a b shown) (some : shown ≡ Some w)
+module _ (most : ℕ) (a b : Machine) (shown : Option What) (w : What) (goes : StepsToItem most a b shown)
+    (some : shown ≡ Some w)
     (names : Names) (k : ℕ) (named : names ≡ a.image.names) (counted : k ≡ b.steps) where
   pub item_lines : lines_of a (replicate goes.done Step) ≡ text names (numbered (k - 1) w)
   item_lines =
@@ -107,8 +119,10 @@ module _ (most : ℕ) (a b : Machine) (shown : Option What) (w : What) (goes : S
       ∙ ap (λ (n : Names). text n (numbered (b.steps - 1) w)) (sym named)
       ∙ ap (λ n. text names (numbered (n - 1) w)) (sym counted)
 
-  pub item_lined : HasLine names (numbered (k - 1) w) → AllByRecursion (HasLine a.image.names) (shown_items a (replicate goes.done Step))
+  pub item_lined : HasLine names (numbered (k - 1) w) → AllByRecursion (HasLine a.image.names)
+      (shown_items a (replicate goes.done Step))
   item_lined line =
       let here : HasLine a.image.names (numbered (b.steps - 1) w) =
-      subst (λ n. HasLine a.image.names (numbered (n - 1) w)) counted (subst (λ (n : Names). HasLine n (numbered (k - 1) w)) named line) in
+      subst (λ n. HasLine a.image.names (numbered (n - 1) w)) counted
+      (subst (λ (n : Names). HasLine n (numbered (k - 1) w)) named line) in
       subst (AllByRecursion (HasLine a.image.names)) (sym (reached_item most a b shown w goes some)) (here, tt)

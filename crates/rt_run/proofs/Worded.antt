@@ -107,7 +107,8 @@ AsksWords names (request.Post irq) = HasIrq names irq
 AsksWords names asked = Unit {0}
 
 module _ (img : Image) (c : Core) (known : IsKnown img c) where
-  enter_known : (irq : ℕ) (h : Option Handler) → HasIrq img.names irq → IsKnownAfter img (transfer.exception_entry img c irq h)
+  enter_known : (irq : ℕ) (h : Option Handler) → HasIrq img.names irq
+      → IsKnownAfter img (transfer.exception_entry img c irq h)
   enter_known irq None is = (known, tt)
   enter_known irq (Some h) is =
       let after : Core = transfer.core_after_entry c irq h in
@@ -125,7 +126,8 @@ module _ (img : Image) (c : Core) (known : IsKnown img c) where
   call_row_known : (row : Option BodyRow) (from : ℕ) → IsKnownAfter img (transfer.call_row img c row from)
   call_row_known None from = known
   call_row_known (Some row) from =
-      if_known img (transfer.call_fits img c row from) (Done (transfer.core_after_call c row from) None) (Trapped c trap.Stack)
+      if_known img (transfer.call_fits img c row from) (Done (transfer.core_after_call c row from) None)
+      (Trapped c trap.Stack)
       (record { cells = known.cells; below = known.below }, tt) known
 
   back_known : (caller : Option (List ℕ)) → IsKnownAfter img (transfer.back_to c caller)
@@ -134,7 +136,8 @@ module _ (img : Image) (c : Core) (known : IsKnown img c) where
 
   alarm_known : (instant irq : ℕ) → IsKnownAfter img (transfer.set_alarm c instant irq)
   alarm_known instant irq =
-      if_known img (nat_le instant c.time) (Done (record (transfer.core_after_pend c irq) { alarm = None }) (Some what.Alarm))
+      if_known img (nat_le instant c.time) (Done (record (transfer.core_after_pend c irq) { alarm = None })
+      (Some what.Alarm))
       (Done (record c { alarm = Some (record { instant = instant; irq = irq }) }) (Some what.AlarmSet))
       (record { cells = known.cells; below = known.below }, tt)
       (record { cells = known.cells; below = known.below }, tt)
@@ -228,7 +231,8 @@ unmask_asks : (names : Names) (b : Bool) (p : Processor)
 unmask_asks names true p = tt
 unmask_asks names false p = tt
 
-done_asks : (names : Names) (i : Instr) (time : ℕ) (p : Processor) → HasInstr names i → EffectAsks names (unchecked_effect i time p)
+done_asks : (names : Names) (i : Instr) (time : ℕ) (p : Processor) → HasInstr names i
+    → EffectAsks names (unchecked_effect i time p)
 done_asks names (instr.Post irq) time p h = h
 done_asks names (instr.Unmask s) time p h =
     unmask_asks names (nat_le (slot p s) 1) (record (next p) { primask = slot p s == 1 })

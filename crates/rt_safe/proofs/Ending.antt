@@ -82,7 +82,8 @@ module _ (img : Image) (checked : IsChecked img) (c : Core) (p : Point) (qs : Li
       core = core_serving c (suc c.processor.address);
       shown = Some (what.End body.Init);
       is = line_steps img checked c p qs fits line picked
-          ∙ ap (λ (l : Instr × Option Note). settle (go_on img c l.1 (unchecked_effect l.0 c.time c.processor))) same_serve;
+          ∙ ap (λ (l : Instr × Option Note). settle (go_on img c l.1 (unchecked_effect l.0 c.time c.processor)))
+          same_serve;
       point = thread;
       below = qs;
       fits = fits_thread;
@@ -105,7 +106,8 @@ module _ (img : Image) (checked : IsChecked img) (c : Core) (p : Point) (qs : Li
         → step img c ≡ (in_context c x below, Some (what.Ret x.irq))
     step_is x below others =
         line_steps img checked c p qs fits line picked
-        ∙ ap (λ (l : Instr × Option Note). settle (go_on img c l.1 (unchecked_effect l.0 c.time c.processor))) same_return
+        ∙ ap (λ (l : Instr × Option Note). settle (go_on img c l.1 (unchecked_effect l.0 c.time c.processor)))
+        same_return
         ∙ ap (λ o. settle (with_note img None (outcome_of_return c o)))
         (ap (λ k. interrupted_context k c.below) fits.caller ∙ ap (interrupted_context None) others)
 

@@ -46,7 +46,8 @@ module _ (img : Image) (checked : IsChecked img) where
       let clear : mask_inside q.inside (is_starting q.owner) ≡ false =
       unmasked img q.owner q.inside (omega (arith, on.above)) in
       let start : held_off on.handler.value (base_under (q ∷ qs)) false ≡ on.handler.value =
-      begins_on img (running_value below) on.handler.value (base_under (q ∷ qs)) (execution_priority img q.owner q.inside)
+      begins_on img (running_value below) on.handler.value (base_under (q ∷ qs))
+      (execution_priority img q.owner q.inside)
       (mask_inside q.inside (is_starting q.owner))
       (masks_are q qs below on.interrupted.point stacked.1) on.above clear in
       let begins : held_off x.value (base_under (q ∷ qs)) (is_starting p.owner) ≡ owner_value img p.owner =

@@ -20,7 +20,8 @@ use Rattle.rt_points.specs.Leading.{IsPoint, Begins, Enters, Leads, StandsAt, ow
 use Rattle.rt_points.specs.ExecutionPriority.{owner_value, execution_priority}
 use Rattle.rt_points.specs.Point.{Point, sections}
 use Rattle.rt_points.specs.Rules.{leaving_instr, EntersAt}
-use Rattle.rt_safe.specs.Inside.Lines.{entering_instr, is_simple, IsLine, Simply, Anew, Opens, Closes, EndsInit, Returns}
+use Rattle.rt_safe.specs.Inside.Lines.{entering_instr, is_simple, IsLine, Simply, Anew, Opens, Closes, EndsInit}
+use Rattle.rt_safe.specs.Inside.Lines.{Returns}
 use Rattle.rt_safe.proofs.PointPriorities.{IsRaisedWell, AreRaisedWell, lowered_falls}
 use Rattle.rt_safe.proofs.Lines.{line_told}
 
@@ -120,7 +121,8 @@ module _ (img : Image) (checked : IsChecked img) where
           → HoldOff p.owner (record { section = x; kind = kind } ∷ p.inside)
       more p x kind enters before = (
         λ q j outside others.
-            subst (λ k. execution_priority img p.owner (record { section = x; kind = k } ∷ p.inside) ≤ owner_value img q.owner)
+            subst (λ k. execution_priority img p.owner (record { section = x; kind = k } ∷ p.inside) ≤ owner_value img
+            q.owner)
             (kind_of_opening kind) ((checked rule.Ceilings p (entering_instr kind) x enters).others q j outside others),
         before,
       )

@@ -44,7 +44,8 @@ module _ (img : Image) where
   AreRaisedWell owner [] = Unit {0}
   AreRaisedWell owner (o ∷ outer) = IsRaisedWell o.kind (execution_priority img owner outer) × AreRaisedWell owner outer
 
-  one_inside : (v base priority : ℕ) (mask : Bool) (kind : Kind) → IsRaisedWell kind priority → held_off v base mask ≡ priority
+  one_inside : (v base priority : ℕ) (mask : Bool) (kind : Kind) → IsRaisedWell kind priority → held_off v base mask
+      ≡ priority
       → held_off v (base_by kind base) (mask_by kind mask) ≡ lowered_value kind priority
   unfolding held_off
   one_inside v base priority mask Mark well is = is
@@ -69,7 +70,8 @@ module _ (img : Image) where
   lowered_falls (Mask slot) priority = omega arith
 
   -- so it is at most the owner's
-  pub priority_within : (owner : Owner) (inside : List Opened) → execution_priority img owner inside ≤ owner_value img owner
+  pub priority_within : (owner : Owner) (inside : List Opened) → execution_priority img owner inside ≤ owner_value img
+      owner
   priority_within owner [] = omega arith
   priority_within owner (o ∷ outer) =
       let before = priority_within owner outer in

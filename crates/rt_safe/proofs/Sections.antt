@@ -94,7 +94,8 @@ record IsOpened (p : Processor) (kind : Kind) (inside : List Opened) (base : ℕ
 
 is_opened : (p : Processor) (kind : Kind) (inside : List Opened) (base : ℕ) (mask : Bool) (n : ℕ)
     → p.basepri ≡ base_inside inside base → p.primask ≡ mask_inside inside mask → length p.slots ≡ n
-    → AllByRecursion (λ d. d < n) (slots_of (entering_instr kind)) → rules.IsUnsaved inside (rules.written_slot (entering_instr kind))
+    → AllByRecursion (λ d. d < n) (slots_of (entering_instr kind)) → rules.IsUnsaved inside
+    (rules.written_slot (entering_instr kind))
     → Saves p.slots inside base mask → IsOpened p kind inside base mask
 unfolding opened
 is_opened p Mark inside base mask n basepri primask long there free saves = record {
@@ -211,7 +212,8 @@ module _ (img : Image) (checked : IsChecked img) (c : Core) (p : Point) (qs : Li
       core = with_processor c (opened c.processor kind);
       shown = Some (what.Enter x);
       is = line_steps img checked c p qs fits line picked
-          ∙ ap (λ (l : Instr × Option Note). settle (go_on img c l.1 (unchecked_effect l.0 c.time c.processor))) same_line
+          ∙ ap (λ (l : Instr × Option Note). settle (go_on img c l.1 (unchecked_effect l.0 c.time c.processor)))
+          same_line
           ∙ ap (λ e. settle (go_on img c (Some (note.Enter x)) e)) (opening_leads kind c.time c.processor);
       point = inner;
       below = qs;
@@ -275,7 +277,8 @@ module _ (img : Image) (checked : IsChecked img) (c : Core) (p : Point) (qs : Li
       core = with_processor c (closed c.processor kind);
       shown = Some (what.Leave x (left_value img (with_processor c (closed c.processor kind)) x));
       is = line_steps img checked c p qs fits line picked
-          ∙ ap (λ (l : Instr × Option Note). settle (go_on img c l.1 (unchecked_effect l.0 c.time c.processor))) same_closing
+          ∙ ap (λ (l : Instr × Option Note). settle (go_on img c l.1 (unchecked_effect l.0 c.time c.processor)))
+          same_closing
           ∙ ap (λ e. settle (go_on img c (Some (note.Leave x)) e))
           (closing_leads kind c.time c.processor _ _ saved.0);
       point = outside;

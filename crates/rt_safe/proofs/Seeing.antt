@@ -31,7 +31,8 @@ entering_seen : (x : Section) (n : ℕ) (jobs : List Seen)
 entering_seen x n [] = refl
 entering_seen x n (job ∷ others) = refl
 
-leaving_seen : (jobs : List Seen) → seen_insides (on_running seen_after_leave jobs) ≡ on_first (drop 1) (seen_insides jobs)
+leaving_seen : (jobs : List Seen) → seen_insides (on_running seen_after_leave jobs)
+    ≡ on_first (drop 1) (seen_insides jobs)
 leaving_seen [] = refl
 leaving_seen (job ∷ others) = refl
 

@@ -36,7 +36,8 @@ module _ (img : Image) (checked : IsChecked img) (c : Core) (p : Point) (qs : Li
       let same : ◌≡◌ {A = Instr × Option Note} (line.instr, line.told) (instr.Jump to, Some (note.End body.Idle)) =
       λ k. (is k, tells k) in
       advances img checked c p qs fits line picked
-      (subst (λ (l : Instr × Option Note). Advances img c p.inside l.0 l.1 (unchecked_effect l.0 c.time c.processor)) (sym same)
+      (subst (λ (l : Instr × Option Note). Advances img c p.inside l.0 l.1 (unchecked_effect l.0 c.time c.processor))
+      (sym same)
       (anew img c p.inside to))
       (ap (λ i. owner_after i p.owner) is) (ap (λ n. inside_after line.instr n p.inside) tells)
   by_line line picked (Opens x kind is tells) =

@@ -1,5 +1,7 @@
 -- The lines of a script's text request declared interrupts.
-use Rattle.std.proofs.Common.{◌≡◌, ◌==◌, ℕ, Bool, true, false, List, [], ◌∷◌, ◌++◌, cond, find, map, flat_map, bytes_eq, codes, Option, Some, None, Result, Ok, Err, IfOk, IfSome, IsSome, if◌then◌else◌, ◌||◌, nat_lt, option_map, option_to_list, refl, sym, subst}
+use Rattle.std.proofs.Common.{◌≡◌, ◌==◌, ℕ, Bool, true, false, List, [], ◌∷◌, ◌++◌, cond, find, map, flat_map, bytes_eq}
+use Rattle.std.proofs.Common.{codes, Option, Some, None, Result, Ok, Err, IfOk, IfSome, IsSome, if◌then◌else◌, ◌||◌}
+use Rattle.std.proofs.Common.{nat_lt, option_map, option_to_list, refl, sym, subst}
 use Rattle.std.specs.Option.{ok_or}
 use Rattle.std.proofs.lemmas.Bool.{eq-eqb}
 use Rattle.rt_ids.specs.Names.{Names, irq_of}
@@ -11,7 +13,8 @@ use Rattle.rt_lines.specs.Numbers.{short_number}
 use Rattle.rt_lines.specs.Parts.{spaced_words}
 use Rattle.rt_script.specs.Script.{HasName, HasNames}
 use Rattle.rt_script.specs.Text.{Says}
-use Rattle.rt_script.specs.Wording.{is_blank, is_comment, is_loose, only_count, count_or_one, irq_at, pends_of, in_range, device_of, words_ask, line_of}
+use Rattle.rt_script.specs.Wording.{is_blank, is_comment, is_loose, only_count, count_or_one, irq_at, pends_of}
+use Rattle.rt_script.specs.Wording.{in_range, device_of, words_ask, line_of}
 use Rattle.rt_script.specs.declared.line.Line.{Line}
 use Rattle.rt_script.specs.declared.line.Line.TheVariants.{Steps, Ticks, Pends, Device}
 use Rattle.rt_script.specs.declared.words.Wrong.{Wrong}
@@ -23,12 +26,14 @@ either P true x y px py = px
 either P false x y px py = py
 
 -- what is made of a value, or follows it, where there is one
-made : {A B E : Type 0} (P : A → Type 0) (Q : B → Type 0) (f : A → B) → ((x : A) → P x → Q (f x)) → (r : Result A E) → IfOk r P
+made : {A B E : Type 0} (P : A → Type 0) (Q : B → Type 0) (f : A → B) → ((x : A) → P x → Q (f x)) → (r : Result A E)
+    → IfOk r P
     → IfOk (and_make r f) Q
 made P Q f means (Ok x) p = means x p
 made P Q f means (Err e) p = tt
 
-follows : {A B E : Type 0} (P : A → Type 0) (Q : B → Type 0) (f : A → Result B E) → ((x : A) → P x → IfOk (f x) Q) → (r : Result A E)
+follows : {A B E : Type 0} (P : A → Type 0) (Q : B → Type 0) (f : A → Result B E) → ((x : A) → P x → IfOk (f x) Q)
+    → (r : Result A E)
     → IfOk r P → IfOk (and_then r f) Q
 follows P Q f means (Ok x) p = means x p
 follows P Q f means (Err e) p = tt
@@ -48,7 +53,8 @@ there_behind : (x : List ℕ × ℕ) (rest : Option (List ℕ × ℕ)) (b : Bool
 there_behind x rest true some = refl
 there_behind x rest false some = some
 
-number_there : (test : List ℕ × ℕ → Bool) (irqs : List (List ℕ × ℕ)) → IfSome (option_map (λ irq. irq.1) (find test irqs)) (is_there irqs)
+number_there : (test : List ℕ × ℕ → Bool) (irqs : List (List ℕ × ℕ))
+    → IfSome (option_map (λ irq. irq.1) (find test irqs)) (is_there irqs)
 number_there test [] = tt
 number_there test (x ∷ irqs) = one (test x) (number_there test irqs)
   where
@@ -99,12 +105,15 @@ module _ (names : Names) where
       (and_then (ok_or (short_number d) wrong.Form) (λ device. and_then (pends_of names words) (in_range device)))
       (Err wrong.Form)
       (follows (λ _. Unit {0}) (HasName names) (λ device. and_then (pends_of names words) (in_range device))
-      (λ device _. follows HasDeclared (HasName names) (in_range device) (in_range_named device) (pends_of names words) (pends_declared words))
+      (λ device _. follows HasDeclared (HasName names) (in_range device) (in_range_named device) (pends_of names words)
+      (pends_declared words))
       (ok_or (short_number d) wrong.Form) (any_result (ok_or (short_number d) wrong.Form)))
       tt
 
-  counted : (f : ℕ → Line) → ((n : ℕ) → HasName names (f n)) → (words : List (List ℕ)) → NamesIt (and_make (only_count words) f)
-  counted f is words = made (λ _. Unit {0}) (HasName names) f (λ n _. is n) (only_count words) (any_result (only_count words))
+  counted : (f : ℕ → Line) → ((n : ℕ) → HasName names (f n)) → (words : List (List ℕ))
+      → NamesIt (and_make (only_count words) f)
+  counted f is words = made (λ _. Unit {0}) (HasName names) f (λ n _. is n) (only_count words)
+      (any_result (only_count words))
 
   -- the ways to go on behind each verb that is not the word
   abbrev otherwise : List ℕ → List (List ℕ) → Result Line Wrong
@@ -117,16 +126,20 @@ module _ (names : Names) where
   not_counted verb words = if bytes_eq verb (codes "pend") then pends words else otherwise verb words
 
   abbrev not_step : List ℕ → List (List ℕ) → Result Line Wrong
-  not_step verb words = if bytes_eq verb (codes "tick") then and_make (only_count words) Ticks else not_counted verb words
+  not_step verb words = if bytes_eq verb (codes "tick") then and_make (only_count words) Ticks else not_counted verb
+      words
 
   words_named : (words : List (List ℕ)) → NamesIt (words_ask names words)
   words_named [] = tt
   words_named (verb ∷ words) =
-      either NamesIt (bytes_eq verb (codes "step")) (and_make (only_count words) Steps) (not_step verb words) (counted Steps (λ n. tt) words)
-      (either NamesIt (bytes_eq verb (codes "tick")) (and_make (only_count words) Ticks) (not_counted verb words) (counted Ticks (λ n. tt) words)
+      either NamesIt (bytes_eq verb (codes "step")) (and_make (only_count words) Steps) (not_step verb words)
+      (counted Steps (λ n. tt) words)
+      (either NamesIt (bytes_eq verb (codes "tick")) (and_make (only_count words) Ticks) (not_counted verb words)
+      (counted Ticks (λ n. tt) words)
       (either NamesIt (bytes_eq verb (codes "pend")) (pends words) (otherwise verb words)
       (made HasDeclared (HasName names) (λ p. Pends p.0 p.1) (λ p is. is) (pends_of names words) (pends_declared words))
-      (either NamesIt (bytes_eq verb (codes "device")) (device_of names words) (Err wrong.Form) (device_named words) tt)))
+      (either NamesIt (bytes_eq verb (codes "device")) (device_of names words) (Err wrong.Form) (device_named words)
+      tt)))
 
   abbrev NamesIfAsked : Option Line → Type 0
   NamesIfAsked asked = IfSome asked (HasName names)
@@ -135,24 +148,30 @@ module _ (names : Names) where
   line_named line =
       either (λ r. IfOk r NamesIfAsked) (is_blank line || is_comment line) (Ok None)
       (if is_loose line then Err wrong.Form else and_make (words_ask names (spaced_words line)) Some) tt
-      (either (λ r. IfOk r NamesIfAsked) (is_loose line) (Err wrong.Form) (and_make (words_ask names (spaced_words line)) Some) tt
-      (made (HasName names) NamesIfAsked Some (λ asked is. is) (words_ask names (spaced_words line)) (words_named (spaced_words line))))
+      (either (λ r. IfOk r NamesIfAsked) (is_loose line) (Err wrong.Form)
+      (and_make (words_ask names (spaced_words line)) Some) tt
+      (made (HasName names) NamesIfAsked Some (λ asked is. is) (words_ask names (spaced_words line))
+      (words_named (spaced_words line))))
 
-  same_first : (a : Option Line) (r : Result (Option Line) Wrong) (rs : List (Result (Option Line) Wrong)) (all : List (Option Line))
+  same_first : (a : Option Line) (r : Result (Option Line) Wrong) (rs : List (Result (Option Line) Wrong))
+      (all : List (Option Line))
       → r ∷ rs ≡ map Ok (a ∷ all) → (r ≡ Ok a) × (rs ≡ map Ok all)
   same_first a r rs all e = (cc, cc)
 
-  joined : (asked : Option Line) (script : List Line) → NamesIfAsked asked → HasNames names script → HasNames names (option_to_list asked ++ script)
+  joined : (asked : Option Line) (script : List Line) → NamesIfAsked asked → HasNames names script
+      → HasNames names (option_to_list asked ++ script)
   joined (Some line) script is all = (is, all)
   joined None script is all = all
 
-  all_named : (ls : List (List ℕ)) (asked : List (Option Line)) → map (line_of names) ls ≡ map Ok asked → HasNames names (flat_map option_to_list asked)
+  all_named : (ls : List (List ℕ)) (asked : List (Option Line)) → map (line_of names) ls ≡ map Ok asked
+      → HasNames names (flat_map option_to_list asked)
   all_named [] [] each = tt
   all_named [] (a ∷ asked) each = absurd (cc)
   all_named (l ∷ ls) [] each = absurd (cc)
   all_named (l ∷ ls) (a ∷ asked) each =
       let both = same_first a (line_of names l) (map (line_of names) ls) asked each in
-      joined a (flat_map option_to_list asked) (subst (λ (r : Result (Option Line) Wrong). IfOk r NamesIfAsked) both.0 (line_named l))
+      joined a (flat_map option_to_list asked) (subst (λ (r : Result (Option Line) Wrong). IfOk r NamesIfAsked) both.0
+      (line_named l))
       (all_named ls asked both.1)
 
   -- the lines that are right request declared interrupts

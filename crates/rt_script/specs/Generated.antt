@@ -1,7 +1,7 @@
--- The script of a number and a stream: for each of the first 200 words of a pseudorandom generator a line. The generator
--- is O'Neill's PCG XSH RR 64/32 (PCG: A Family of Simple Fast Space-Efficient Statistically Good Algorithms for Random
--- Number Generation, 2014), started at the number as its state, with the stream as its sequence. What a word asks for is
--- this project's own.
+-- The script of a number and a stream: for each of the first 200 words of a pseudorandom generator a line. The
+-- generator is O'Neill's PCG XSH RR 64/32 (PCG: A Family of Simple Fast Space-Efficient Statistically Good Algorithms
+-- for Random Number Generation, 2014), started at the number as its state, with the stream as its sequence. What a word
+-- asks for is this project's own.
 use Rattle.std.specs.Prelude.{ℕ, zero, suc, ◌+◌, ◌/◌, ◌%◌, ◌==◌, nat_lt, if◌then◌else◌, List, [], ◌∷◌, length, map}
 use Rattle.std.specs.Prelude.{slice_index}
 use Rattle.rand_pcg.specs.Lcg.{Lcg, started, increment_of}

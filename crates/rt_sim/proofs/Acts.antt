@@ -123,7 +123,8 @@ module _ (app : App) (img : Image) (thread : ℕ) (m : Moment) (fits : Fits app 
       → GoesPlainly (spot_of m.cells m.queues m.running) (core_of app.bits m).processor q
       → ChangesItsOwn app img thread m.running m.cells q.cells
       → (acts : Acts (storage app) m.running.rows (who m.running) action answer
-      (record (spot_behind (spot_after_step (spot_of m.cells m.queues m.running)) q) { places = places; queues = queues })
+      (record (spot_behind (spot_after_step (spot_of m.cells m.queues m.running)) q)
+      { places = places; queues = queues })
       (λ t. Stands (storage app) img.code m.running.rows thread (who m.running) n t))
       → ValuesItsOwn app img thread m.running m.values (effect action m.values)
       → QueuesItsOwn app img thread m.running m.queues queues
@@ -156,7 +157,8 @@ module _ (app : App) (img : Image) (thread : ℕ) (m : Moment) (fits : Fits app 
       → ((held : List Section) → sections_after app (who m.running) (handles m.running.role) held action ≡ held)
       → IsEntered app action (effect action m.values)
       → Fits app img thread (moment_behind app img thread m q n (acts.follows answer (effect action m.values))
-      (reached_values (acts.follows answer (effect action m.values)) (effect action m.values)) m.running.places m.queues)
+      (reached_values (acts.follows answer (effect action m.values)) (effect action m.values)) m.running.places
+      m.queues)
   acts_plainly q n action answer plain changes acts same closed entered =
       acts_fit q n action answer m.running.places m.queues plain changes acts
       (λ h away. ap (λ (vs : Values). vs h) (same m.values)) (λ h away. refl) fits.once closed entered
@@ -244,7 +246,8 @@ module _ (app : App) (img : Image) (thread : ℕ) (m : Moment) (fits : Fits app 
     }
 
     pub posts : (irq : ℕ) → step img (core_of app.bits m) ≡
-        (core_after_pend (with_processor (core_of app.bits m) q) irq, Some (what.Post irq)) → ActsBy (Posts irq) 0 → Both
+        (core_after_pend (with_processor (core_of app.bits m) q) irq, Some (what.Post irq)) → ActsBy (Posts irq) 0
+        → Both
     posts irq is acts = record {
       core = core_after_pend (with_processor (core_of app.bits m) q) irq;
       shown = Some (what.Post irq);

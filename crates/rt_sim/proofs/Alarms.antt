@@ -221,12 +221,14 @@ module _ (app : App) (img : Image) (thread : ℕ) where
         moment = record m { alarm = None; time = suc m.time; pending = slice_set m.pending a.irq true };
         shown = Rang ∷ [];
         is = ap (λ b. if b then (
-          record (core_after_pend (core_of app.bits (record (with_alarm m a) { time = suc m.time })) a.irq) { alarm = None },
+          record (core_after_pend (core_of app.bits (record (with_alarm m a) { time = suc m.time })) a.irq)
+              { alarm = None },
           Rang ∷ [],
         )
             else (core_of app.bits (record (with_alarm m a) { time = suc m.time }), [])) due;
         runs = (due, tt);
-        state = ap (λ k. baker.state_after_pend k (state_of (record m { alarm = None; time = suc m.time }))) (sym fits.alarmed);
+        state = ap (λ k. baker.state_after_pend k (state_of (record m { alarm = None; time = suc m.time })))
+            (sym fits.alarmed);
         fits = pending_fits app img thread (record m { alarm = None; time = suc m.time })
             (slice_set m.pending a.irq true) (length-set m.pending a.irq true)
             (time_fits (record m { alarm = None }) (suc m.time) (alarmed_fits (with_alarm m a) None tt fits));
@@ -238,7 +240,8 @@ module _ (app : App) (img : Image) (thread : ℕ) where
         moment = record (with_alarm m a) { time = suc m.time };
         shown = [];
         is = ap (λ b. if b then (
-          record (core_after_pend (core_of app.bits (record (with_alarm m a) { time = suc m.time })) a.irq) { alarm = None },
+          record (core_after_pend (core_of app.bits (record (with_alarm m a) { time = suc m.time })) a.irq)
+              { alarm = None },
           Rang ∷ [],
         )
             else (core_of app.bits (record (with_alarm m a) { time = suc m.time }), [])) later;

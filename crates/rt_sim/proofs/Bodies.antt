@@ -183,7 +183,8 @@ module _ (app : App) (accepted : IsAccepted app) (sound : IsSound app) where
     fire_sparing (Some a) known =
         let p : ℕ = task_priority app a.message.task in
         let behind : Rest = act_all (ready_actions app p a.message) (act Returns nothing) in
-        then_sparing app (AtPriority mono.priority) true (section.Timer ∷ []) (Fires a.message) (leave_timer app behind) tt
+        then_sparing app (AtPriority mono.priority) true (section.Timer ∷ []) (Fires a.message) (leave_timer app behind)
+        tt
         (leave_sparing app (AtPriority mono.priority) true [] behind
         (ready_sparing app (AtPriority mono.priority) true [] p a.message (act Returns nothing)
         (level_of a.message.task known) (end_sparing app (AtPriority mono.priority) true Returns refl)))

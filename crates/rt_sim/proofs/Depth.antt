@@ -1,5 +1,5 @@
--- The stack in use is within the bound: each priority counts once, with what exception entry pushes and the greatest frame
--- of its handlers.
+-- The stack in use is within the bound: each priority counts once, with what exception entry pushes and the greatest
+-- frame of its handlers.
 use Rattle.std.proofs.Common.{◌≡◌, ℕ, zero, suc, ◌+◌, ◌*◌, ◌/◌, ◌^◌, nat_le, ◌<◌, ◌≤◌, ◌⊎◌, inl, inr, true}
 use Rattle.std.proofs.Common.{if◌then◌else◌, List}
 use Rattle.std.proofs.Common.{[], ◌∷◌, length, sum_by, refl, ap, subst, ◌∙◌, arith}

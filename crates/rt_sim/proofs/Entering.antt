@@ -62,7 +62,8 @@ module _ (app : App) (img : Image) (thread : ℕ) where
       by false same is later = let e = later is in omega (arith, e)
 
   -- below a job of a priority that there is no job is `init`
-  pub at_threshold : (p : Part) (ps : List Part) (top : ℕ) → top ≤ 2 ^ app.bits → system_ceiling app (jobs_of p ps) < top
+  pub at_threshold : (p : Part) (ps : List Part) (top : ℕ) → top ≤ 2 ^ app.bits
+      → system_ceiling app (jobs_of p ps) < top
       → IsStacked app img thread p ps → who p ≡ AtPriority p.priority
   at_threshold p [] top most above is = elim is.role [
     | inl init ↦ absurd (let e : p.priority ≡ 2 ^ app.bits = is.greatest init in omega (arith, e, above, most))
@@ -84,7 +85,8 @@ module _ (app : App) (img : Image) (thread : ℕ) where
       (ap (λ w. (storage app).is_kept w (Guarded x)) runner ∙ (nobody o.priority).0))
       (ap (λ w. (storage app).is_constant w (Guarded x)) runner ∙ (nobody o.priority).1)
 
-  free_all : (p : Part) (ps : List Part) (x : Section) (top : ℕ) → top ≤ 2 ^ app.bits → system_ceiling app (jobs_of p ps) < top
+  free_all : (p : Part) (ps : List Part) (x : Section) (top : ℕ) → top ≤ 2 ^ app.bits
+      → system_ceiling app (jobs_of p ps) < top
       → IsStacked app img thread p ps
       → top ≤ ceiling app x → NobodyKeeps (storage app) (AtPriority top) (AtPriority top) x
       → AllByRecursion (λ o. Reads app img thread o (Guarded x) ≡ false) (p ∷ ps)

@@ -123,7 +123,8 @@ entered_well app m (section.Ready p) cost spells =
     (m.queues (Guarded (section.Ready p))) spells.1.places)
 
 -- where the timer queue opens one more message may be armed
-may_arm_into : (content : Content) → (timer_content content).given + (timer_content content).moved < 2 ^ 31 → MayArm content
+may_arm_into : (content : Content) → (timer_content content).given + (timer_content content).moved < 2 ^ 31
+    → MayArm content
 may_arm_into (Number n) few = tt
 may_arm_into (Messages ms) few = tt
 may_arm_into (Delays t) few = few
@@ -310,7 +311,8 @@ module _ (app : App) (img : Image) (thread : ℕ) where
       alarmed = fits.alarmed;
     }
 
-    core_inside : (kind : Kind) → with_processor (core_of app.bits m) (processor_after_opening (core_of app.bits m).processor
+    core_inside : (kind : Kind) → with_processor (core_of app.bits m)
+        (processor_after_opening (core_of app.bits m).processor
         ((storage app).value ((storage app).ceiling x)) kind)
         ≡ core_of app.bits (record m {
           running = with_section m.running x kind (mask_of (core_of app.bits m).processor kind) goes.cost n
@@ -333,7 +335,8 @@ module _ (app : App) (img : Image) (thread : ℕ) where
         → StepsBoth app img thread (core_of app.bits m) (state_of m)
     enters is = record {
       core = with_processor (core_of app.bits m)
-          (processor_after_opening (core_of app.bits m).processor ((storage app).value ((storage app).ceiling x)) goes.kind);
+          (processor_after_opening (core_of app.bits m).processor ((storage app).value ((storage app).ceiling x))
+          goes.kind);
       shown = Some (what.Enter x);
       is = is;
       may = (

@@ -119,7 +119,8 @@ module _ (app : App) (img : Image) (thread : ℕ) (few : 3 ≤ app.bits) (many :
 
   -- of the thread
   of_init : (p : Part) → p.role ≡ Init → p.priority ≡ 2 ^ app.bits
-      → held_off THREAD_VALUE (base_of app p []) (mask_of app p []) ≡ hardware app.bits (system_ceiling app (jobs_of p []))
+      → held_off THREAD_VALUE (base_of app p []) (mask_of app p []) ≡ hardware app.bits
+      (system_ceiling app (jobs_of p []))
   unfolding held_off
   of_init p role top =
       let set : mask_of app p [] ≡ true = ap (λ r. mask_inside app p.held (is_init r)) role ∙ masked p.held in
@@ -133,20 +134,23 @@ module _ (app : App) (img : Image) (thread : ℕ) (few : 3 ≤ app.bits) (many :
 
   of_low : (p : Part) → who p ≡ AtPriority 0 → is_init p.role ≡ false → p.priority ≡ 0
       → AreOfKind app img thread (who p) p.held
-      → held_off THREAD_VALUE (base_of app p []) (mask_of app p []) ≡ hardware app.bits (system_ceiling app (jobs_of p []))
+      → held_off THREAD_VALUE (base_of app p []) (mask_of app p []) ≡ hardware app.bits
+      (system_ceiling app (jobs_of p []))
   of_low p runner role low kinds =
       let none : hardware app.bits 0 ≡ THREAD_VALUE = hardware_of_none app.bits few many in
       let start : held_off (hardware app.bits 0) 0 false ≡ hardware app.bits 0 = at_thread in
       let in_all : held_off (hardware app.bits 0) (base_inside app p.held 0)
       (mask_inside app p.held false) ≡ hardware app.bits (max 0 (greatest_ceiling app (sections_of p.held)))
       = inside 0 0 false p.held (subst (λ w. AreOfKind app img thread w p.held) runner kinds) start in
-      let one : max 0 (greatest_ceiling app (sections_of p.held)) ≡ system_ceiling app (jobs_of p []) = omega (arith, low) in
+      let one : max 0 (greatest_ceiling app (sections_of p.held)) ≡ system_ceiling app (jobs_of p []) =
+      omega (arith, low) in
       ap (λ v. held_off v (base_of app p []) (mask_of app p [])) (sym none)
       ∙ ap (λ b. held_off (hardware app.bits 0) (base_of app p []) (mask_inside app p.held b)) role ∙ in_all
       ∙ ap (hardware app.bits) one
 
   of_thread : (p : Part) → IsThread app img thread p → AreOfKind app img thread (who p) p.held
-      → held_off THREAD_VALUE (base_of app p []) (mask_of app p []) ≡ hardware app.bits (system_ceiling app (jobs_of p []))
+      → held_off THREAD_VALUE (base_of app p []) (mask_of app p []) ≡ hardware app.bits
+      (system_ceiling app (jobs_of p []))
   of_thread p is kinds = elim is.role [
     | inl init ↦ of_init p init (is.greatest init)
     | inr low ↦ elim low.0 [
@@ -166,7 +170,8 @@ module _ (app : App) (img : Image) (thread : ℕ) (few : 3 ≤ app.bits) (many :
       let on : IsOn app img thread p q ps = stack.0 in
       let start : held_off (hardware app.bits p.priority) (base_of app q ps)
       (mask_of app q ps) ≡ hardware app.bits p.priority
-      = begins (running_value (contexts_of app.bits q ps)) (base_of app q ps) p.priority (system_ceiling app (jobs_of q ps))
+      = begins (running_value (contexts_of app.bits q ps)) (base_of app q ps) p.priority
+      (system_ceiling app (jobs_of q ps))
       (mask_of app q ps) (masks_are q ps stack.1 kinds.1) on.above on.most in
       let same : max p.priority (greatest_ceiling app (sections_of p.held)) ≡ system_ceiling app (jobs_of p (q ∷ ps)) =
       omega (arith, on.above) in

@@ -54,7 +54,14 @@ module _ (app : App) (accepted : IsAccepted app) (sound : IsSound app) where
       let one = any_one (λ m. not (is_init m.id) && ((m.priority == p) && test m)) (members app) is in
       let parts = and_parts (not (is_init one.1.id)) ((one.1.priority == p) && test one.1) one.3 in
       let more = and_parts (one.1.priority == p) (test one.1) parts.1 in
-      record { index = one.0; member = one.1; there = one.2; priority = eqb-true one.1.priority p more.0; passes = more.1 }
+      record {
+        index = one.0;
+        member = one.1;
+        there = one.2;
+        priority = eqb-true one.1.priority p more.0;
+        passes =
+            more.1;
+      }
 
   -- a listing of a resource by a body of a priority
   pub record IsListedAt (r p : ℕ) : Type 0 where

@@ -271,7 +271,8 @@ module _ (app : App) (img : Image) (thread : ℕ) where
           alarmed = fits.alarmed;
         }
 
-    core_outside : (kind : Kind) → with_processor (core_of app.bits m) (processor_after_closing (core_of app.bits m).processor kind)
+    core_outside : (kind : Kind) → with_processor (core_of app.bits m)
+        (processor_after_closing (core_of app.bits m).processor kind)
         ≡ core_of app.bits (record m {
           running = without_section m.running outer n (follows 0 m.values);
           basepri = (with_saved (core_of app.bits m).processor kind).basepri;

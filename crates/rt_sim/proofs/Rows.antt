@@ -13,7 +13,8 @@ use Rattle.rt_sim.specs.Guarded.{IsGuarded}
 
 -- a task at 3 on one at 2, which is inside the resource
 store_outside : (app : App) (img : Image) (r cell : ℕ) → resource_cell img r ≡ Some cell → is_lock_free app r ≡ false
-    → IsGuarded app img (outside 3 ∷ seen_after_enter (section.Res r) 7 (outside 2) ∷ outside 0 ∷ []) (Some (Stores cell)) → ⊥
+    → IsGuarded app img (outside 3 ∷ seen_after_enter (section.Res r) 7 (outside 2) ∷ outside 0 ∷ [])
+    (Some (Stores cell)) → ⊥
 store_outside app img r cell named locked is = elim (is r named) [
   | inl inside ↦ none-some (section.Res r) inside.1
   | inr other ↦ elim other [

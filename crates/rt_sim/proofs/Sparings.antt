@@ -213,7 +213,8 @@ module _ (app : App) (who : Runner) (handles : Bool) where
         ap (λ o. or_zero (option_map (λ (u : Task). u.priority) o)) sound.1.is_there in
         take_sparing held n _ (rest 0) (ap (is_some_and is_software) sound.1.is_there ∙ sound.1.software)
         (ready_sparing held (task_priority app n) (record { task = n; args = map value args }) (rest 1)
-        (subst (λ p. Contains (levels app) p) (sym as_declared) (level_is n t sound.1.is_there sound.1.software)) (fine 1))
+        (subst (λ p. Contains (levels app) p) (sym as_declared) (level_is n t sound.1.is_there sound.1.software))
+        (fine 1))
         (fine 0)
     spawn_sparing held locked value (After word delay n args at) rest sound fine =
         take_sparing held n _ (rest 0) (ap (is_some_and is_software) sound.1.is_there ∙ sound.1.software)

@@ -102,10 +102,13 @@ module _ (app : App) (img : Image) (thread : ℕ) where
 
   module _ (apart : (p q : ℕ) → ¬ (p ≡ q) → (h : Holder) → is_kept app (AtPriority p) h ≡ true → Keeps q h → ⊥) where
     -- a new job owns nothing that one of another priority reads, and the other way round
-    apart_new : (p q : ℕ) → ¬ (p ≡ q) → (held : List Held) → AllByRecursion (IsOpenWell app img thread (AtPriority q)) held
-        → ((h : Holder) → owns (storage app) (AtPriority p) [] h ≡ true → reads (storage app) (AtPriority q) held h ≡ true
+    apart_new : (p q : ℕ) → ¬ (p ≡ q) → (held : List Held) → AllByRecursion (IsOpenWell app img thread (AtPriority q))
+        held
+        → ((h : Holder) → owns (storage app) (AtPriority p) [] h ≡ true → reads (storage app) (AtPriority q) held h
+        ≡ true
         → ⊥)
-        × ((h : Holder) → owns (storage app) (AtPriority q) held h ≡ true → reads (storage app) (AtPriority p) [] h ≡ true
+        × ((h : Holder) → owns (storage app) (AtPriority q) held h ≡ true → reads (storage app) (AtPriority p) [] h
+        ≡ true
         → ⊥)
     unfolding storage
     apart_new p q differ held all = (
@@ -114,15 +117,17 @@ module _ (app : App) (img : Image) (thread : ℕ) where
         | inr keeps ↦ apart p q differ h (kept_of p h mine) keeps
       ],
       λ h theirs mine. elim (reads_so q held h all (or_left _ (is_constant app (AtPriority q) h) theirs)) [
-        | inl none ↦ elim (or_cases (is_kept app (AtPriority p) h) (is_constant app (AtPriority p) h) (read_of p h mine)) [
-          | inl keeps ↦ true_and_false _ keeps (none p).0
-          | inr reads ↦ true_and_false _ reads (none p).1
-        ]
+        | inl none ↦ elim (or_cases (is_kept app (AtPriority p) h) (is_constant app (AtPriority p) h)
+            (read_of p h mine)) [
+              | inl keeps ↦ true_and_false _ keeps (none p).0
+              | inr reads ↦ true_and_false _ reads (none p).1
+            ]
         | inr keeps ↦ owned_so h theirs mine
       ],
     )
       where
-        kept_of : (p : ℕ) (h : Holder) → owns (storage app) (AtPriority p) [] h ≡ true → is_kept app (AtPriority p) h ≡ true
+        kept_of : (p : ℕ) (h : Holder) → owns (storage app) (AtPriority p) [] h ≡ true → is_kept app (AtPriority p) h
+            ≡ true
         kept_of p (Guarded x) is = is
         kept_of p (Own n) is = is
 
@@ -273,7 +278,8 @@ module _ (app : App) (img : Image) (thread : ℕ) (at : Entries) (few : 3 ≤ ap
       parts = (
         record {
           stands = stands;
-          agrees = agrees_reached app img thread (AtPriority v.priority) [] (handler_doing app v.handler m.values) m.values;
+          agrees = agrees_reached app img thread (AtPriority v.priority) [] (handler_doing app v.handler m.values)
+              m.values;
           counted = refl;
           sparing = (has.sparing m.values).1;
           opened = tt;
@@ -318,7 +324,8 @@ module _ (app : App) (img : Image) (thread : ℕ) (at : Entries) (few : 3 ≤ ap
       agrees = record {
         moment = taken;
         core = refl;
-        state = ap (λ o. state_after_start app (record (state_of m) { pending = slice_set m.pending irq false }) irq o) serves;
+        state = ap (λ o. state_after_start app (record (state_of m) { pending = slice_set m.pending irq false }) irq o)
+            serves;
         fits = fits_taken;
       };
     }

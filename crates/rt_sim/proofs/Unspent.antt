@@ -1,6 +1,7 @@
 -- In the traces of images no job's cost is spent: code that stands has a step of its cost left, whichever label one
 -- stops at.
-use Rattle.std.proofs.Common.{◌≡◌, ℕ, zero, suc, ◌+◌, ◌^◌, ◌<◌, ◌≤◌, ◌⊎◌, inl, inr, Bool, true, false, nat_le, if◌then◌else◌, List, [], ◌∷◌, ◌++◌}
+use Rattle.std.proofs.Common.{◌≡◌, ℕ, zero, suc, ◌+◌, ◌^◌, ◌<◌, ◌≤◌, ◌⊎◌, inl, inr, Bool, true, false, nat_le}
+use Rattle.std.proofs.Common.{if◌then◌else◌, List, [], ◌∷◌, ◌++◌}
 use Rattle.std.proofs.Common.{length, map, take, append_assoc, Option, Some, None, refl, sym, ap, subst, ◌∙◌, arith}
 use Rattle.std.specs.List.{AllByRecursion}
 use Rattle.rt_lemmas.proofs.Lists.{all_behind}
@@ -34,10 +35,14 @@ use Rattle.rt_sim.proofs.Good.{front_short, front_declared, reached_by}
 -- what a tick shows behind it
 rings : (c : Core) (o : Option Alarm) → ((ring c o).1 ≡ []) ⊎ ((ring c o).1 ≡ Rang ∷ [])
 rings c None = inl refl
-rings c (Some alarm) = either (nat_le alarm.instant c.time) (record (core_after_pend c alarm.irq) { alarm = None }, Rang ∷ []) (c, []) refl refl
+rings c (Some alarm) = either (nat_le alarm.instant c.time) (
+  record (core_after_pend c alarm.irq) { alarm = None },
+  Rang ∷ [],
+) (c, []) refl refl
   where
     either : (b : Bool) (x y : Core × List Label) → x.1 ≡ Rang ∷ [] → y.1 ≡ []
-        → ((if◌then◌else◌ {A = Core × List Label} b x y).1 ≡ []) ⊎ ((if◌then◌else◌ {A = Core × List Label} b x y).1 ≡ Rang ∷ [])
+        → ((if◌then◌else◌ {A = Core × List Label} b x y).1 ≡ [])
+        ⊎ ((if◌then◌else◌ {A = Core × List Label} b x y).1 ≡ Rang ∷ [])
     either true x y rang none = inr rang
     either false x y rang none = inl none
 
@@ -118,7 +123,8 @@ module _ (app : App) (img : Image) (thread : ℕ) where
   pub agreed_unspent : (c : Core) (s : State) → Agrees app img thread c s → AreUnspent s.jobs
   agreed_unspent c s agrees =
       subst (λ (t : State). AreUnspent t.jobs) (sym agrees.state)
-      (parts_unspent agrees.moment.cells agrees.moment.queues agrees.moment.values (agrees.moment.running ∷ agrees.moment.below) agrees.fits.parts)
+      (parts_unspent agrees.moment.cells agrees.moment.queues agrees.moment.values
+      (agrees.moment.running ∷ agrees.moment.below) agrees.fits.parts)
 
 module _ (app : App) (img : Image) (accepted : IsAccepted app) (is_image : IsImageOf app img) where
   pub leaves_steps : (events : List Event) → length events < 2 ^ 31 → AreDeclared app events
@@ -127,7 +133,8 @@ module _ (app : App) (img : Image) (accepted : IsAccepted app) (is_image : IsIma
     where
       there : (k : ℕ) → AreUnspent (after_all app (first app) (labels img (reset img) (take k events))).jobs
       there k =
-          let whole = reached_by app img accepted is_image (take k events) (omega (arith, few, front_short events k)) (front_declared app events k declared) in
+          let whole = reached_by app img accepted is_image (take k events) (omega (arith, few, front_short events k))
+          (front_declared app events k declared) in
           agreed_unspent app img is_image.at.idle _ _ whole.agrees
 
       by : Front img (reset img) events (take n (labels img (reset img) events))
@@ -139,4 +146,5 @@ module _ (app : App) (img : Image) (accepted : IsAccepted app) (is_image : IsIma
           (sym (after_append app (labels img (reset img) (take k events)) (Ticked ∷ []) (first app))) (there k))
 
 pub images_leave_steps : ImagesLeaveSteps
-images_leave_steps app img accepted is_image events few declared = leaves_steps app img accepted is_image events few declared
+images_leave_steps app img accepted is_image events few declared =
+    leaves_steps app img accepted is_image events few declared

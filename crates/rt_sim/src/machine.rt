@@ -13,8 +13,8 @@ use rt_core::Core;
 use rt_ids::NoMemory;
 use std::alloc::Global;
 
-/// A core after reset with a good image of an accepted application. No event has come, and the lines of its traces can be
-/// written.
+/// A core after reset with a good image of an accepted application. No event has come, and the lines of its traces can
+/// be written.
 pub fn prepare(alloc: Global, app: &App) -> Result<Core, NoMemory>
     requires accepted { IsAccepted (app_of app.now) }
     ensures image { IfOk result (λ core. IsImageOf (app_of app.now) core.image) }

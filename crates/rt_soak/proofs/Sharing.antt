@@ -1,5 +1,6 @@
 -- Runs from one number up to another, one by one and worker by worker.
-use Rattle.std.proofs.Common.{◌≡◌, ℕ, suc, ◌+◌, ◌*◌, ◌/◌, ◌<◌, ◌≤◌, List, [], ◌∷◌, ◌++◌, length, map, flat_map, slice_index_or}
+use Rattle.std.proofs.Common.{◌≡◌, ℕ, suc, ◌+◌, ◌*◌, ◌/◌, ◌<◌, ◌≤◌, List, [], ◌∷◌, ◌++◌, length, map, flat_map}
+use Rattle.std.proofs.Common.{slice_index_or}
 use Rattle.std.proofs.Common.{Ok, Err, add-one, ap, sym, subst, ◌∙◌, append_assoc, arith}
 use Rattle.std.specs.List.{AllByRecursion}
 use Rattle.std.proofs.Math.Nat.{mul-div_cancel_left, div-le_of_le-mul, div-mul-le_self, mul-le-mul_right, add-mul}
@@ -98,7 +99,8 @@ module _ (image : Image) (irqs : List ℕ) (number count workers : ℕ) where
   all_runs parts some as_many each there =
       ap (λ n. map (run_of image irqs number) (numbers_below n) ++ flat_map runs_in parts)
       (sym (first_first count workers))
-      ∙ gathered parts 0 (λ w d within. subst (λ n. IsShare image irqs number count workers n (slice_index_or parts w d))
+      ∙ gathered parts 0 (λ w d within. subst (λ n. IsShare image irqs number count workers n
+      (slice_index_or parts w d))
       (let e : w ≡ 0 + w = omega arith in e) (each w d (omega (arith, within, as_many)))) there
       ∙ ap (λ n. map (run_of image irqs number) (numbers_below (first_of count workers n)))
       (let e : 0 + length parts ≡ workers = omega (arith, as_many) in e)

@@ -24,7 +24,8 @@ items_of_run image irqs number run = trace image (events (generated irqs number 
 
 -- what so many runs of an image show, one after another, counted
 abbrev pub soak_summary : Image → List ℕ → ℕ → ℕ → Summary
-soak_summary image irqs number count = summary_of count (flat_map (items_of_run image irqs number) (numbers_below count))
+soak_summary image irqs number count = summary_of count (flat_map (items_of_run image irqs number)
+    (numbers_below count))
 
 -- There is a good image of the application, the same for all runs, whose runs count up to this.
 pub record IsSoak (app : App) (number count : ℕ) (s : Summary) : Type 0 where

@@ -1,5 +1,6 @@
 -- Frames at the end of a region: what was pushed is on top, and a loan of the top leaves what is below.
-use Rattle.std.proofs.Common.{◌≡◌, ℕ, ◌-◌, ◌≤◌, List, ◌++◌, length, take, drop, replicate, ap, ◌∙◌, arith, length-append, length-take, length-drop}
+use Rattle.std.proofs.Common.{◌≡◌, ℕ, ◌-◌, ◌≤◌, List, ◌++◌, length, take, drop, replicate, ap, ◌∙◌, arith}
+use Rattle.std.proofs.Common.{length-append, length-take, length-drop}
 use Rattle.std.proofs.Math.Seq.{take-append_seam, drop-append_seam}
 use Rattle.std.proofs.lemmas.List.{length-replicate}
 use Rattle.std.specs.List.{refill}
@@ -33,7 +34,8 @@ top-pushed r n = top-behind r r.words (replicate n 0) n (length-replicate n 0)
 
 pub popped-pushed : (r : Region) (n : ℕ) → region_after_pop (region_after_push r n) n ≡ r
 popped-pushed r n =
-    let words : below (region_after_push r n) n ≡ r.words = below-behind r r.words (replicate n 0) n (length-replicate n 0) in
+    let words : below (region_after_push r n) n ≡ r.words = below-behind r r.words (replicate n 0) n
+    (length-replicate n 0) in
     λ i. record r { words = words i }
 
 module _ (r : Region) (n : ℕ) (ws : List ℕ) (within : n ≤ used_words r) (same : length ws ≡ n) where

@@ -1,5 +1,6 @@
 -- The last elements of a list are lent, and others are written there. The list has m elements, and n of them are lent.
-use Rattle.std.proofs.Common.{◌≡◌, ℕ, ◌+◌, ◌-◌, ◌≤◌, List, ◌++◌, length, take, drop, ap, ◌∙◌, arith, append-nil, length-append, length-take, length-drop, drop_of_length-le, take_all, slice_range}
+use Rattle.std.proofs.Common.{◌≡◌, ℕ, ◌+◌, ◌-◌, ◌≤◌, List, ◌++◌, length, take, drop, ap, ◌∙◌, arith, append-nil}
+use Rattle.std.proofs.Common.{length-append, length-take, length-drop, drop_of_length-le, take_all, slice_range}
 use Rattle.std.proofs.Math.Seq.{take-append-add}
 use Rattle.std.proofs.lemmas.List.{take-append-le}
 use Rattle.std.specs.List.{refill}
@@ -19,7 +20,14 @@ refill-from m n k xs ws long parts =
     let all : List ℕ = take k xs ++ rest in
     let front : m ≡ length (take k xs) + n = omega (arith, length-take k xs) in
     let enough : m ≤ length all =
-    omega (arith, front, length-append (take k xs) rest, length-append ws (drop (length ws) (drop k xs)), length-drop (length ws) (drop k xs), length-drop k xs) in
+    omega (
+      arith,
+      front,
+      length-append (take k xs) rest,
+      length-append ws (drop (length ws) (drop k xs)),
+      length-drop (length ws) (drop k xs),
+      length-drop k xs,
+    ) in
     take-append-le m all (drop (length all) xs) enough
     ∙ ap (λ i. take i all) front ∙ take-append-add (take k xs) rest n
 

@@ -26,15 +26,19 @@ use Rattle.rt_top.proofs.Giving.{gives_as, replies_as}
 -- a verdict is answered by its line
 module _ (app : App) (shown : Trace) where
   pub yes_replies : IsVerdict app shown judged.Yes → (n : ℕ) → n ≡ length shown.items → (r : Reply)
-      → Tells status.Done (λ bytes. bytes ≡ codes "yes " ++ decimal n ++ codes "\n") r → Replies (AnswersVerdict app shown) r
+      → Tells status.Done (λ bytes. bytes ≡ codes "yes " ++ decimal n ++ codes "\n") r
+      → Replies (AnswersVerdict app shown) r
   yes_replies is n same r tells =
-      replies_as (λ ended bytes. (ended ≡ status.Done) × (bytes ≡ codes "yes " ++ decimal n ++ codes "\n")) (AnswersVerdict app shown)
+      replies_as (λ ended bytes. (ended ≡ status.Done) × (bytes ≡ codes "yes " ++ decimal n ++ codes "\n"))
+      (AnswersVerdict app shown)
       (λ ended bytes p. (judged.Yes, is, (p.0, p.1 ∙ ap (λ k. codes "yes " ++ decimal k ++ codes "\n") same))) r tells
 
   pub no_replies : (n : ℕ) → IsVerdict app shown (judged.No n) → (r : Reply)
-      → Tells status.No (λ bytes. bytes ≡ codes "no " ++ decimal n ++ codes "\n") r → Replies (AnswersVerdict app shown) r
+      → Tells status.No (λ bytes. bytes ≡ codes "no " ++ decimal n ++ codes "\n") r
+      → Replies (AnswersVerdict app shown) r
   no_replies n is r tells =
-      replies_as (λ ended bytes. (ended ≡ status.No) × (bytes ≡ codes "no " ++ decimal n ++ codes "\n")) (AnswersVerdict app shown)
+      replies_as (λ ended bytes. (ended ≡ status.No) × (bytes ≡ codes "no " ++ decimal n ++ codes "\n"))
+      (AnswersVerdict app shown)
       (λ ended bytes p. (judged.No n, is, (p.0, p.1))) r tells
 
 -- what `audit` answers to a trace's text
@@ -91,7 +95,8 @@ whole_told app before after text F all r answered =
 pub long_told : (app : App) (before after : Option (List ℕ)) (F : Type 0) → GaveCount before after (TRACE_BYTES + 1)
     → (r : Reply) → Tells status.Text (SaysTrace in_trace.TooLong) r → Gives (AnswersTrace app before) (Stops F) r
 long_told app before after F gave r tells =
-    gives_as (λ ended line. (ended ≡ status.Text) × SaysTrace in_trace.TooLong line) (AnswersTrace app before) WantsMemory
+    gives_as (λ ended line. (ended ≡ status.Text) × SaysTrace in_trace.TooLong line) (AnswersTrace app before)
+    WantsMemory
     (Stops F) answers (λ ended is. inl is) r tells
   where
     answers : (ended : Status) (line : List ℕ) → (ended ≡ status.Text) × SaysTrace in_trace.TooLong line

@@ -1,5 +1,6 @@
 -- How an auditor goes on by a line, and how it ends.
-use Rattle.std.proofs.Common.{◌≡◌, ℕ, suc, ◌+◌, ◌<◌, ◌≤◌, ◌^◌, ◌==◌, Bool, true, false, if◌then◌else◌, List, [], ◌∷◌, ◌++◌, length, Option, Some, None, inr, sym, ap}
+use Rattle.std.proofs.Common.{◌≡◌, ℕ, suc, ◌+◌, ◌<◌, ◌≤◌, ◌^◌, ◌==◌, Bool, true, false, if◌then◌else◌, List, [], ◌∷◌}
+use Rattle.std.proofs.Common.{◌++◌, length, Option, Some, None, inr, sym, ap}
 use Rattle.std.proofs.Common.{subst, ◌∙◌, arith, append_assoc, append-nil, length-append}
 use Rattle.rt_ids.specs.Names.{Names}
 use Rattle.rt_ids.specs.declared.limits.TheConstants.{TRACE_BYTES}
@@ -34,7 +35,8 @@ module _ (app : App) (names : Names) (ls : List (List ℕ)) (line : List ℕ) (o
     items = g.items;
     few = omega (arith, g.few, length-append ls (line ∷ []));
     read =
-        subst (λ (is : List Item). HasRead names (ls ++ line ∷ []) is new) (append-nil g.items) (reads ls g.items g.read);
+        subst (λ (is : List Item). HasRead names (ls ++ line ∷ []) is new) (append-nil g.items)
+        (reads ls g.items g.read);
     judged = g.judged;
   }
 
@@ -132,7 +134,8 @@ module _ (chosen : Option App) (names : Names) (machine : Machine) (reader : Tra
   pub end_wrong : (refusal : TraceRefused) → refusing ≡ Some refusal → IsRefused (names_of app) text refusal
   end_wrong refusal wrong =
       let stands : Refuses names (lines text) refusal =
-      subst (λ (r : Option TraceRefused). Stands (app_of machine.code.now.app.now) names (lines text) reader judge r) wrong
+      subst (λ (r : Option TraceRefused). Stands (app_of machine.code.now.app.now) names (lines text) reader judge r)
+      wrong
       h.stands in
       subst (λ (n : Names). IsRefused n text refusal) same_names
       (line_refused names text stands.number refusal short
@@ -141,7 +144,8 @@ module _ (chosen : Option App) (names : Names) (machine : Machine) (reader : Tra
 
   goes : refusing ≡ None → Goes (app_of machine.code.now.app.now) names (lines text) reader judge
   goes none =
-      subst (λ (r : Option TraceRefused). Stands (app_of machine.code.now.app.now) names (lines text) reader judge r) none
+      subst (λ (r : Option TraceRefused). Stands (app_of machine.code.now.app.now) names (lines text) reader judge r)
+      none
       h.stands
 
   pub end_unended : refusing ≡ None → (count : ℕ) (refusal : TraceRefused) → length (lines text) ≡ count

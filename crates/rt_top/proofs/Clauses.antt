@@ -5,7 +5,8 @@ use Rattle.rt_ids.specs.declared.status.Status.TheVariants as status
 use Rattle.rt_outside.specs.Faults.{Rose}
 use Rattle.rt_outside.specs.Bytes.{Took}
 use Rattle.rt_top.specs.Words.{Command, Names, IsCommand, reads}
-use Rattle.rt_top.specs.Defined.{Inputs, IsDue, IsAnswer, IsFirstRefused, IsApplicationRefused, AreTold, AreReadTold, SkipsFirst, SkipsSecond, SkipsThird, WroteAll, WrotePart}
+use Rattle.rt_top.specs.Defined.{Inputs, IsDue, IsAnswer, IsFirstRefused, IsApplicationRefused, AreTold, AreReadTold}
+use Rattle.rt_top.specs.Defined.{SkipsFirst, SkipsSecond, SkipsThird, WroteAll, WrotePart}
 use Rattle.rt_top.specs.Inside.Decides.{HasFailed, Concludes}
 use Rattle.rt_top.specs.Inside.Meant.{command_word}
 use Rattle.rt_top.specs.declared.command.Command as code
@@ -24,7 +25,8 @@ module _ (words : List (List ℕ)) (c : code.Command) (named : Names words (comm
   pub first_unread : (kept : Type 0) → (reads (command_word c) ≡ 0 → kept) → SkipsFirst words → kept
   first_unread kept keeps skips = keeps (skips (command_word c) named)
 
-  module _ (t : Inputs) (rose kept kept_third rose_second rose_third : Type 0) (before after : Option (List ℕ)) (fb fa : ℕ)
+  module _ (t : Inputs) (rose kept kept_third rose_second rose_third : Type 0) (before after : Option (List ℕ))
+      (fb fa : ℕ)
       (result : Status)
       (k : Concludes (command_word c) t (rose × kept × kept_third)
       ((rose_second × kept_third) ⊎ ((3 ≤ reads (command_word c)) × rose_third)) before after fb fa result) where
@@ -57,7 +59,8 @@ module _ (words : List (List ℕ)) (c : code.Command) (named : Names words (comm
     no_usage usage _ = ending.no_usage (command_word c) t FirstFailed OtherFailed before after fb fa result k usage
 
     pub read : result ≡ status.Read → (e : Command) × Names words e
-        × (((1 ≤ reads e) × rose × kept × kept_third) ⊎ ((2 ≤ reads e) × rose_second × kept_third) ⊎ ((3 ≤ reads e) × rose_third))
+        × (((1 ≤ reads e) × rose × kept × kept_third) ⊎ ((2 ≤ reads e) × rose_second × kept_third)
+        ⊎ ((3 ≤ reads e) × rose_third))
     read is = (
       command_word c,
       named,
@@ -65,7 +68,8 @@ module _ (words : List (List ℕ)) (c : code.Command) (named : Names words (comm
     )
       where
         flat : HasFailed (command_word c) FirstFailed OtherFailed
-            → ((1 ≤ reads (command_word c)) × rose × kept × kept_third) ⊎ ((2 ≤ reads (command_word c)) × rose_second × kept_third)
+            → ((1 ≤ reads (command_word c)) × rose × kept × kept_third)
+            ⊎ ((2 ≤ reads (command_word c)) × rose_second × kept_third)
             ⊎ ((3 ≤ reads (command_word c)) × rose_third)
         flat (inl (some, all)) = inl (some, all.0, all.1, all.2)
         flat (inr (two, inl both)) = inr (inl (two, both.0, both.1))
@@ -83,10 +87,12 @@ module _ (words : List (List ℕ)) (c : code.Command) (named : Names words (comm
         any (λ x. AreTold x t ⊎ IsApplicationRefused x t → WrotePart x t before after)
         (ending.part (command_word c) t FirstFailed OtherFailed before after fb fa result k failed) e named_so
 
-    pub second_unread : ((reads (command_word c) ≤ 1) ⊎ IsFirstRefused (command_word c) t → kept) → SkipsSecond words t → kept
+    pub second_unread : ((reads (command_word c) ≤ 1) ⊎ IsFirstRefused (command_word c) t → kept) → SkipsSecond words t
+        → kept
     second_unread keeps skips = keeps (skips (command_word c) named)
 
-    pub third_unread : ((reads (command_word c) ≤ 2) ⊎ IsApplicationRefused (command_word c) t → kept_third) → SkipsThird words t → kept_third
+    pub third_unread : ((reads (command_word c) ≤ 2) ⊎ IsApplicationRefused (command_word c) t → kept_third)
+        → SkipsThird words t → kept_third
     third_unread keeps skips = keeps (skips (command_word c) named)
 
 -- words that name a command

@@ -1,13 +1,16 @@
 -- The words of a command.
-use Rattle.std.proofs.Common.{◌≡◌, ◌<◌, ◌≤◌, ℕ, Bool, IsTrue, true, false, ◌↔◌, List, [], ◌∷◌, length, get_or, codes, bytes_eq, refl, ap, sym, ◌∙◌, arith, Option, Some, None, IfNone}
+use Rattle.std.proofs.Common.{◌≡◌, ◌<◌, ◌≤◌, ℕ, Bool, IsTrue, true, false, ◌↔◌, List, [], ◌∷◌, length, get_or, codes}
+use Rattle.std.proofs.Common.{bytes_eq, refl, ap, sym, ◌∙◌, arith, Option, Some, None, IfNone}
 use Rattle.std.proofs.lemmas.Slice.Eq.{bytes_eq-Decides}
 use Rattle.std.specs.Str.Parse.{digits_value}
 use Rattle.std.specs.Borrow.{Bor}
-use Rattle.rt_top.specs.Words.{Command, Run, Check, Fmt, Build, Audit, Live, Soak, Demo, Deepest, Times, Verify, Pair, texts, Names, IsCommand}
+use Rattle.rt_top.specs.Words.{Command, Run, Check, Fmt, Build, Audit, Live, Soak, Demo, Deepest, Times, Verify, Pair}
+use Rattle.rt_top.specs.Words.{texts, Names, IsCommand}
 use Rattle.rt_top.specs.Inside.Meant.{IsInRange}
 
 -- three words are the first, and two more
-pub three : (words : List (Bor (List ℕ))) (d : Bor (List ℕ)) → 3 ≤ length words → length words < 4 → (a : List ℕ) × (b : List ℕ) × (texts words ≡ (get_or words 0 d).now ∷ a ∷ b ∷ [])
+pub three : (words : List (Bor (List ℕ))) (d : Bor (List ℕ)) → 3 ≤ length words → length words < 4 → (a : List ℕ)
+    × (b : List ℕ) × (texts words ≡ (get_or words 0 d).now ∷ a ∷ b ∷ [])
 three [] d least most = absurd (omega arith)
 three (x ∷ []) d least most = absurd (omega arith)
 three (x ∷ y ∷ []) d least most = absurd (omega arith)
@@ -19,7 +22,8 @@ head_of : {a b c x y z : List ℕ} → a ∷ b ∷ c ∷ [] ≡ x ∷ y ∷ z �
 head_of e = cc
 
 -- the test of the first of three words
-module _ (verb : List ℕ) (words : List (Bor (List ℕ))) (d : Bor (List ℕ)) (b : Bool) (least : 3 ≤ length words) (most : length words < 4) where
+module _ (verb : List ℕ) (words : List (Bor (List ℕ))) (d : Bor (List ℕ)) (b : Bool) (least : 3 ≤ length words)
+    (most : length words < 4) where
   abbrev IsLongVerb : Type 0
   IsLongVerb = (app more : List ℕ) × (texts words ≡ verb ∷ app ∷ more ∷ [])
 
@@ -32,7 +36,8 @@ module _ (verb : List ℕ) (words : List (Bor (List ℕ))) (d : Bor (List ℕ)) 
       )
 
 -- two words are the first, and one more
-pub two : (words : List (Bor (List ℕ))) (d : Bor (List ℕ)) → 2 ≤ length words → length words < 3 → (a : List ℕ) × (texts words ≡ (get_or words 0 d).now ∷ a ∷ [])
+pub two : (words : List (Bor (List ℕ))) (d : Bor (List ℕ)) → 2 ≤ length words → length words < 3 → (a : List ℕ)
+    × (texts words ≡ (get_or words 0 d).now ∷ a ∷ [])
 two [] d least most = absurd (omega arith)
 two (x ∷ []) d least most = absurd (omega arith)
 two (x ∷ y ∷ []) d least most = (y.now, refl)
@@ -42,7 +47,8 @@ head_of_two : {a b x y : List ℕ} → a ∷ b ∷ [] ≡ x ∷ y ∷ [] → a �
 head_of_two e = cc
 
 -- the test of the first of two words
-module _ (verb : List ℕ) (words : List (Bor (List ℕ))) (d : Bor (List ℕ)) (b : Bool) (least : 2 ≤ length words) (most : length words < 3) where
+module _ (verb : List ℕ) (words : List (Bor (List ℕ))) (d : Bor (List ℕ)) (b : Bool) (least : 2 ≤ length words)
+    (most : length words < 3) where
   abbrev IsVerb : Type 0
   IsVerb = (app : List ℕ) × (texts words ≡ verb ∷ app ∷ [])
 
@@ -68,11 +74,13 @@ head_of_four : {a b c d w x y z : List ℕ} → a ∷ b ∷ c ∷ d ∷ [] ≡ w
 head_of_four e = cc
 
 -- the test of the first of four words
-module _ (verb : List ℕ) (words : List (Bor (List ℕ))) (d : Bor (List ℕ)) (b : Bool) (least : 4 ≤ length words) (most : length words < 5) where
+module _ (verb : List ℕ) (words : List (Bor (List ℕ))) (d : Bor (List ℕ)) (b : Bool) (least : 4 ≤ length words)
+    (most : length words < 5) where
   abbrev IsVerbOfFour : Type 0
   IsVerbOfFour = (first second script : List ℕ) × (texts words ≡ verb ∷ first ∷ second ∷ script ∷ [])
 
-  pub is_verb_of_four_by : b ≡ bytes_eq (get_or words 0 d).now verb → (IsTrue b → IsVerbOfFour) × (IsVerbOfFour → IsTrue b)
+  pub is_verb_of_four_by : b ≡ bytes_eq (get_or words 0 d).now verb → (IsTrue b → IsVerbOfFour)
+      × (IsVerbOfFour → IsTrue b)
   is_verb_of_four_by test =
       let t = four words d least most in
       let decides = bytes_eq-Decides (get_or words 0 d).now verb in (
@@ -90,7 +98,8 @@ pair_of (x ∷ y ∷ z ∷ words) d least most = absurd (omega arith)
 
 -- and five
 pub five_of : (words : List (Bor (List ℕ))) (d : Bor (List ℕ)) → 5 ≤ length words → length words < 6
-    → texts words ≡ (get_or words 0 d).now ∷ (get_or words 1 d).now ∷ (get_or words 2 d).now ∷ (get_or words 3 d).now ∷ (get_or words 4 d).now ∷ []
+    → texts words ≡ (get_or words 0 d).now ∷ (get_or words 1 d).now ∷ (get_or words 2 d).now ∷ (get_or words 3 d).now
+    ∷ (get_or words 4 d).now ∷ []
 five_of [] d least most = absurd (omega arith)
 five_of (x ∷ []) d least most = absurd (omega arith)
 five_of (x ∷ y ∷ []) d least most = absurd (omega arith)
@@ -114,11 +123,15 @@ refuted b both is_false p = let is_true : b ≡ true = both.1 p in cc
 -- words that are none of these are no command
 module _ (words : List (List ℕ)) (run check fmt build audit live deepest times verify pair : Bool)
     (is_run : IsTrue run ↔ Names words Run) (is_check : IsTrue check ↔ Names words Check)
-    (is_fmt : IsTrue fmt ↔ Names words Fmt) (is_build : IsTrue build ↔ Names words Build) (is_audit : IsTrue audit ↔ Names words Audit)
-    (is_live : IsTrue live ↔ Names words Live) (is_deepest : IsTrue deepest ↔ Names words Deepest) (is_times : IsTrue times ↔ Names words Times)
+    (is_fmt : IsTrue fmt ↔ Names words Fmt) (is_build : IsTrue build ↔ Names words Build)
+    (is_audit : IsTrue audit ↔ Names words Audit)
+    (is_live : IsTrue live ↔ Names words Live) (is_deepest : IsTrue deepest ↔ Names words Deepest)
+    (is_times : IsTrue times ↔ Names words Times)
     (is_verify : IsTrue verify ↔ Names words Verify) (is_pair : IsTrue pair ↔ Names words Pair)
-    (no_run : run ≡ false) (no_check : check ≡ false) (no_fmt : fmt ≡ false) (no_build : build ≡ false) (no_audit : audit ≡ false)
-    (no_live : live ≡ false) (no_deepest : deepest ≡ false) (no_times : times ≡ false) (no_verify : verify ≡ false) (no_pair : pair ≡ false) (no_demo : (n : ℕ) → Names words (Demo n) → ⊥)
+    (no_run : run ≡ false) (no_check : check ≡ false) (no_fmt : fmt ≡ false) (no_build : build ≡ false)
+    (no_audit : audit ≡ false)
+    (no_live : live ≡ false) (no_deepest : deepest ≡ false) (no_times : times ≡ false) (no_verify : verify ≡ false)
+    (no_pair : pair ≡ false) (no_demo : (n : ℕ) → Names words (Demo n) → ⊥)
     (no_soak : (number count workers : ℕ) → Names words (Soak number count workers) → ⊥) where
   none : (c : Command) → Names words c → ⊥
   none Run named = refuted run is_run no_run named
@@ -138,8 +151,10 @@ module _ (words : List (List ℕ)) (run check fmt build audit live deepest times
   no_command (c, named) = none c named
 
 -- the last test of words gives a command, or they are none
-pub none_left : {A : Type 0} (words : List (List ℕ)) (last : Option A) → (((number count workers : ℕ) → Names words (Soak number count workers) → ⊥) → IsCommand words → ⊥)
-    → IfNone last ((number count workers : ℕ) → Names words (Soak number count workers) → ⊥) → IfNone last (IsCommand words → ⊥)
+pub none_left : {A : Type 0} (words : List (List ℕ)) (last : Option A)
+    → (((number count workers : ℕ) → Names words (Soak number count workers) → ⊥) → IsCommand words → ⊥)
+    → IfNone last ((number count workers : ℕ) → Names words (Soak number count workers) → ⊥)
+    → IfNone last (IsCommand words → ⊥)
 none_left words (Some c) means h = tt
 none_left words None means h = means h
 
@@ -151,14 +166,16 @@ when false c other = other
 -- of two words, by the first
 abbrev of_two : List ℕ → List ℕ → Option Command
 of_two verb word =
-    when (bytes_eq verb (codes "check")) Check (when (bytes_eq verb (codes "fmt")) Fmt (when (bytes_eq verb (codes "build")) Build
+    when (bytes_eq verb (codes "check")) Check (when (bytes_eq verb (codes "fmt")) Fmt
+    (when (bytes_eq verb (codes "build")) Build
     (when (bytes_eq verb (codes "deepest")) Deepest (when (bytes_eq verb (codes "verify")) Verify
     (when (bytes_eq verb (codes "demo")) (Demo (digits_value 10 word)) None)))))
 
 -- of three
 abbrev of_three : List ℕ → Option Command
 of_three verb =
-    when (bytes_eq verb (codes "run")) Run (when (bytes_eq verb (codes "audit")) Audit (when (bytes_eq verb (codes "live")) Live
+    when (bytes_eq verb (codes "run")) Run (when (bytes_eq verb (codes "audit")) Audit
+    (when (bytes_eq verb (codes "live")) Live
     (when (bytes_eq verb (codes "times")) Times None)))
 
 -- the one command that words can name
@@ -166,7 +183,8 @@ abbrev pub command_named : List (List ℕ) → Option Command
 command_named (verb ∷ word ∷ []) = of_two verb word
 command_named (verb ∷ word ∷ more ∷ []) = of_three verb
 command_named (verb ∷ first ∷ second ∷ script ∷ []) = when (bytes_eq verb (codes "pair")) Pair None
-command_named (verb ∷ app ∷ number ∷ count ∷ workers ∷ []) = Some (Soak (digits_value 10 number) (digits_value 10 count) (digits_value 10 workers))
+command_named (verb ∷ app ∷ number ∷ count ∷ workers ∷ []) =
+    Some (Soak (digits_value 10 number) (digits_value 10 count) (digits_value 10 workers))
 command_named other = None
 
 pub names_it : (words : List (List ℕ)) (c : Command) → Names words c → command_named words ≡ Some c

@@ -1,5 +1,6 @@
 -- From what a command does to what it is to reply.
-use Rattle.std.proofs.Common.{◌≡◌, ◌∙◌, ℕ, ◌<◌, ◌≤◌, ◌⊎◌, true, List, ◌++◌, length, Option, Some, None, inl, inr, refl, sym, ap, subst, arith}
+use Rattle.std.proofs.Common.{◌≡◌, ◌∙◌, ℕ, ◌<◌, ◌≤◌, ◌⊎◌, true, List, ◌++◌, length, Option, Some, None, inl, inr, refl}
+use Rattle.std.proofs.Common.{sym, ap, subst, arith}
 use Rattle.rt_ids.specs.declared.limits.TheConstants.{SCRIPT_BYTES}
 use Rattle.rt_ids.specs.declared.status.Status.{Status}
 use Rattle.rt_ids.specs.declared.status.Status.TheVariants as status
@@ -24,12 +25,14 @@ use Rattle.rt_top.specs.Refusal.{RefusesApplication}
 use Rattle.rt_top.specs.SecondRefusal.{SaysScript, RefusesScript, SaysLimits}
 use Rattle.rt_top.specs.Outputs.{check_report, TellsSoak, TellsDeepest, TellsTimes}
 use Rattle.rt_top.specs.Outputs as outputs
-use Rattle.rt_top.specs.Defined.{Inputs, inputs, RefusesFirst, RefusesSecond, Defined, refused, faulty, output, IsTold, IsFirstRefused, IsSecondRefused, AreTold, AreReadTold}
+use Rattle.rt_top.specs.Defined.{Inputs, inputs, RefusesFirst, RefusesSecond, Defined, refused, faulty, output, IsTold}
+use Rattle.rt_top.specs.Defined.{IsFirstRefused, IsSecondRefused, AreTold, AreReadTold}
 use Rattle.rt_top.specs.Inside.Replies.{Replies, AnswersAudit, AnswersTimes, run_text}
 use Rattle.rt_top.specs.Inside.Started.{HasScript, IsStarted, AnswersRefusal, ShowsLive}
 use Rattle.rt_top.specs.Inside.Meant.{command_word}
 use Rattle.rt_top.specs.Inside.Replies as replies
-use Rattle.rt_top.specs.Inside.Decides.{Tells, Stops, Halts, Lists, IsPast, is_done, is_text, is_no, AnswersTrace, IsDecided, HasFailed, Decides}
+use Rattle.rt_top.specs.Inside.Decides.{Tells, Stops, Halts, Lists, IsPast, is_done, is_text, is_no, AnswersTrace}
+use Rattle.rt_top.specs.Inside.Decides.{IsDecided, HasFailed, Decides}
 use Rattle.rt_top.specs.Inside.Decides.{Concludes}
 use Rattle.rt_demo.specs.Demo.{demo}
 use Rattle.rt_top.specs.declared.command.Command as code
@@ -44,8 +47,10 @@ told_text (Some text) told = (text, refl)
 told_text None told = absurd told
 
 -- a refusal of the first text is decided so
-module _ (c : Command) (t : Inputs) (some : 1 ≤ reads c) (Refuses : List ℕ → List ℕ → Type 0) (means : (text line : List ℕ) → Refuses text line → RefusesFirst c text line) where
-  refused_decided : (ended : Status) (bytes : List ℕ) → ended ≡ status.App → ((text : List ℕ) → t.first ≡ Some text → Refuses text bytes) → IsDecided c t ended bytes
+module _ (c : Command) (t : Inputs) (some : 1 ≤ reads c) (Refuses : List ℕ → List ℕ → Type 0)
+    (means : (text line : List ℕ) → Refuses text line → RefusesFirst c text line) where
+  refused_decided : (ended : Status) (bytes : List ℕ) → ended ≡ status.App
+      → ((text : List ℕ) → t.first ≡ Some text → Refuses text bytes) → IsDecided c t ended bytes
   refused_decided ended bytes is refuses = record {
     which = inl is;
     defined = λ told. defined (subst (AreReadTold c t) is told);
@@ -54,19 +59,26 @@ module _ (c : Command) (t : Inputs) (some : 1 ≤ reads c) (Refuses : List ℕ �
       defined : AreReadTold c t status.App → Defined c t ended bytes
       defined told =
           let text = told_text t.first (told.0 some) in
-          subst (λ s. Defined c t s bytes) (sym is) (refused text.0 bytes text.1 (means text.0 bytes (refuses text.0 text.1)))
+          subst (λ s. Defined c t s bytes) (sym is) (refused text.0 bytes text.1
+          (means text.0 bytes (refuses text.0 text.1)))
 
-  pub halts_decides : (failed first second : Type 0) → (failed → first) → (r : Reply) → Halts t.first Refuses failed r → Decides c t first second r
-  halts_decides failed first second more (reply.Write ended text) (is, refuses) = refused_decided ended text.items is refuses
+  pub halts_decides : (failed first second : Type 0) → (failed → first) → (r : Reply) → Halts t.first Refuses failed r
+      → Decides c t first second r
+  halts_decides failed first second more (reply.Write ended text) (is, refuses) =
+      refused_decided ended text.items is refuses
   halts_decides failed first second more (reply.Stop ended) (inl is) = inl is
   halts_decides failed first second more (reply.Stop ended) (inr (is, f)) = inr (is, inl (some, more f))
 
 -- a reply that replies what is decided
-pub replies_decides : (c : Command) (t : Inputs) (first second : Type 0) (P : Status → List ℕ → Type 0) → ((ended : Status) (bytes : List ℕ) → P ended bytes → IsDecided c t ended bytes) → (r : Reply) → Replies P r → Decides c t first second r
+pub replies_decides : (c : Command) (t : Inputs) (first second : Type 0) (P : Status → List ℕ → Type 0)
+    → ((ended : Status) (bytes : List ℕ) → P ended bytes → IsDecided c t ended bytes) → (r : Reply) → Replies P r
+    → Decides c t first second r
 replies_decides c t first second P means (reply.Write ended text) p = means ended text.items p
 replies_decides c t first second P means (reply.Stop ended) is = inl is
 
-pub tells_decides : (c : Command) (t : Inputs) (first second : Type 0) (wanted : Status) (P : List ℕ → Type 0) → ((bytes : List ℕ) → P bytes → IsDecided c t wanted bytes) → (r : Reply) → Tells wanted P r → Decides c t first second r
+pub tells_decides : (c : Command) (t : Inputs) (first second : Type 0) (wanted : Status) (P : List ℕ → Type 0)
+    → ((bytes : List ℕ) → P bytes → IsDecided c t wanted bytes) → (r : Reply) → Tells wanted P r
+    → Decides c t first second r
 tells_decides c t first second wanted P means r tells =
     replies_decides c t first second (λ ended bytes. (ended ≡ wanted) × P bytes)
     (λ ended bytes p. subst (λ s. IsDecided c t s bytes) (sym p.0) (means bytes p.1)) r tells
@@ -78,14 +90,16 @@ stops_decides c first second two ended (inl is) = inl is
 stops_decides c first second two ended (inr (is, f)) = inr (is, inr (two, f))
 
 -- a reply of a command that reads one source, where another source is as it was
-pub only_first : (c : Command) (t : Inputs) (one : reads c ≤ 1) (failed first second : Type 0) → (failed → first) → (r : Reply) → Decides c t failed ⊥ r → Decides c t first second r
+pub only_first : (c : Command) (t : Inputs) (one : reads c ≤ 1) (failed first second : Type 0) → (failed → first)
+    → (r : Reply) → Decides c t failed ⊥ r → Decides c t first second r
 only_first c t one failed first second more (reply.Write ended text) d = d
 only_first c t one failed first second more (reply.Stop ended) (inl is) = inl is
 only_first c t one failed first second more (reply.Stop ended) (inr (is, inl f)) = inr (is, inl (f.0, more f.1))
 only_first c t one failed first second more (reply.Stop ended) (inr (is, inr f)) = absurd f.1
 
 -- a canonical text
-module _ (first second third : Option (List ℕ)) (a : tree.App) (spelled : (text : List ℕ) → first ≡ Some text → IsText text a) where
+module _ (first second third : Option (List ℕ)) (a : tree.App) (spelled : (text : List ℕ) → first ≡ Some text
+    → IsText text a) where
   abbrev t : Inputs
   t = inputs first second third
 
@@ -98,14 +112,16 @@ module _ (first second third : Option (List ℕ)) (a : tree.App) (spelled : (tex
   }
 
 -- what a command does behind a first text that is not refused, where it reads a second one
-module _ (c : Command) (t : Inputs) (passes : IsFirstRefused c t → ⊥) (none : IsSecondRefused c t → ⊥) (two : 2 ≤ reads c) where
+module _ (c : Command) (t : Inputs) (passes : IsFirstRefused c t → ⊥) (none : IsSecondRefused c t → ⊥)
+    (two : 2 ≤ reads c) where
   both_told : (ended : Status) → IsPast ended → AreReadTold c t ended → AreTold c t
   both_told ended is_done told = told
   both_told ended is_text told = told
   both_told ended is_no told = told
 
   past_decided : (ended : Status) (bytes : List ℕ) → IsPast ended
-      → ((text more : List ℕ) → t.first ≡ Some text → t.second ≡ Some more → Defined c t ended bytes) → IsDecided c t ended bytes
+      → ((text more : List ℕ) → t.first ≡ Some text → t.second ≡ Some more → Defined c t ended bytes)
+      → IsDecided c t ended bytes
   past_decided ended bytes past defined = record {
     which = inr (past, passes, none);
     defined = λ told.
@@ -126,17 +142,20 @@ script_alone Run has t r = r.5
 script_alone Live has t r = r.5
 script_alone other has t r = absurd has
 
-pub refuses_first : (c : Command) → HasScript c → (text line : List ℕ) → RefusesApplication text line → RefusesFirst c text line
+pub refuses_first : (c : Command) → HasScript c → (text line : List ℕ) → RefusesApplication text line
+    → RefusesFirst c text line
 refuses_first Run has text line r = r
 refuses_first Live has text line r = r
 refuses_first other has text line r = absurd has
 
-first_refuses : (c : Command) → HasScript c → (text line : List ℕ) → RefusesFirst c text line → RefusesApplication text line
+first_refuses : (c : Command) → HasScript c → (text line : List ℕ) → RefusesFirst c text line
+    → RefusesApplication text line
 first_refuses Run has text line r = r
 first_refuses Live has text line r = r
 first_refuses other has text line r = absurd has
 
-refuses_second : (c : Command) → HasScript c → (text more line : List ℕ) → RefusesScript text more line → RefusesSecond c text more line
+refuses_second : (c : Command) → HasScript c → (text more line : List ℕ) → RefusesScript text more line
+    → RefusesSecond c text more line
 refuses_second Run has text more line r = r
 refuses_second Live has text more line r = r
 refuses_second other has text more line r = absurd has
@@ -145,7 +164,8 @@ pub script_reads_first : (c : Command) → HasScript c → 1 ≤ reads c
 script_reads_first c has = let two = script_reads c has in omega (arith, two)
 
 -- the application of the first text
-module _ (first second third : Option (List ℕ)) (app : App) (accepted : (text : List ℕ) → first ≡ Some text → IsApplication text app) where
+module _ (first second third : Option (List ℕ)) (app : App) (accepted : (text : List ℕ) → first ≡ Some text
+    → IsApplication text app) where
   abbrev u : Inputs
   u = inputs first second third
 
@@ -206,7 +226,8 @@ module _ (first second third : Option (List ℕ)) (app : App) (accepted : (text 
   }
 
   -- a script to the stack bound
-  pub deepened_decided : (ended : Status) (bytes : List ℕ) → TellsDeepest app ended bytes → IsDecided Deepest u ended bytes
+  pub deepened_decided : (ended : Status) (bytes : List ℕ) → TellsDeepest app ended bytes
+      → IsDecided Deepest u ended bytes
   deepened_decided ended bytes tells = record {
     which = inr (past tells, λ r. application_passes r.0 r.1 app (accepted r.0 r.2) r.3, λ r. r.5);
     defined = λ told.
@@ -231,7 +252,13 @@ module _ (first second third : Option (List ℕ)) (app : App) (accepted : (text 
       → SaysLimits refusal line → IsDecided Times u status.Text line
   limits_decided refusal line met says =
       past_decided Times u times_passes (λ r. r.5) (omega arith) status.Text line is_text (λ text more e f.
-      faulty text more line e f (record { app = app; of_text = accepted text e; refusal = refusal; refused = met more f; says = says }))
+      faulty text more line e f (record {
+        app = app;
+        of_text = accepted text e;
+        refusal = refusal;
+        refused = met more f;
+        says = says;
+      }))
 
   pub long_limits_decided : ((more : List ℕ) → second ≡ Some more → SCRIPT_BYTES < length more) → (line : List ℕ)
       → SaysLimits in_limits.TooLong line → IsDecided Times u status.Text line
@@ -294,15 +321,18 @@ module _ (first second third : Option (List ℕ)) (app : App) (accepted : (text 
       → ((more : List ℕ) → second ≡ Some more → script.IsRefused (names_of app) more refusal)
       → SaysScript refusal line → IsDecided c u status.Text line
   script_decided c has refusal line met says =
-      past_decided c u (script_passes c has) (script_alone c has u) (script_reads c has) status.Text line is_text (λ text more e f.
+      past_decided c u (script_passes c has) (script_alone c has u) (script_reads c has) status.Text line is_text
+      (λ text more e f.
       faulty text more line e f (refuses_second c has text more line
       (record { app = app; of_text = accepted text e; refusal = refusal; refused = met more f; says = says })))
 
-  pub long_script_decided : (c : Command) → HasScript c → ((more : List ℕ) → second ≡ Some more → SCRIPT_BYTES < length more)
+  pub long_script_decided : (c : Command) → HasScript c → ((more : List ℕ) → second ≡ Some more
+      → SCRIPT_BYTES < length more)
       → (line : List ℕ) → SaysScript in_script.TooLong line → IsDecided c u status.Text line
   long_script_decided c has long line says = script_decided c has in_script.TooLong line long says
 
-  pub refusal_decided : (c : Command) → HasScript c → (own : List ℕ) → ((more : List ℕ) → second ≡ Some more → own ≡ more)
+  pub refusal_decided : (c : Command) → HasScript c → (own : List ℕ)
+      → ((more : List ℕ) → second ≡ Some more → own ≡ more)
       → (ended : Status) (line : List ℕ) → AnswersRefusal app own ended line → IsDecided c u ended line
   refusal_decided c has own same ended line a =
       subst (λ s. IsDecided c u s line) (sym a.text)
@@ -310,12 +340,14 @@ module _ (first second third : Option (List ℕ)) (app : App) (accepted : (text 
       (λ more f. subst (λ m. script.IsRefused (names_of app) m a.refusal) (same more f) a.refused) a.says)
 
 -- what a run writes
-module _ (first second third : Option (List ℕ)) (image : Image) (asked : List Line) (s : IsStarted first second image asked) where
+module _ (first second third : Option (List ℕ)) (image : Image) (asked : List Line)
+    (s : IsStarted first second image asked) where
   pub run_decided : (ended : Status) (bytes : List ℕ) → (ended ≡ status.Done) × (bytes ≡ run_text image asked)
       → IsDecided Run (inputs first second third) ended bytes
   run_decided ended bytes (is, written) =
       subst (λ e. IsDecided Run (inputs first second third) e bytes) (sym is)
-      (past_decided Run (inputs first second third) (script_passes first second third s.app s.of_text Run tt) (λ r. r.5) (omega arith) status.Done bytes is_done
+      (past_decided Run (inputs first second third) (script_passes first second third s.app s.of_text Run tt) (λ r. r.5)
+      (omega arith) status.Done bytes is_done
       (λ text more e f. output status.Done bytes (
         refl,
         text,
@@ -342,7 +374,8 @@ module _ (first second third : Option (List ℕ)) (image : Image) (asked : List 
       → IsDecided Live (inputs first second third) ended bytes
   live_decided ended bytes (is, shown, live, written) =
       subst (λ e. IsDecided Live (inputs first second third) e bytes) (sym is)
-      (past_decided Live (inputs first second third) (script_passes first second third s.app s.of_text Live tt) (λ r. r.5) (omega arith) status.Done bytes is_done
+      (past_decided Live (inputs first second third) (script_passes first second third s.app s.of_text Live tt)
+      (λ r. r.5) (omega arith) status.Done bytes is_done
       (λ text more e f. output status.Done bytes (
         refl,
         text,
@@ -367,7 +400,8 @@ module _ (first second third : Option (List ℕ)) (image : Image) (asked : List 
       )))
 
 -- a command that reads two sources
-pub two_kept : (c : Command) (t : Inputs) (kept : Type 0) → 2 ≤ reads c → (IsFirstRefused c t → kept) → (reads c ≤ 1) ⊎ IsFirstRefused c t → kept
+pub two_kept : (c : Command) (t : Inputs) (kept : Type 0) → 2 ≤ reads c → (IsFirstRefused c t → kept) → (reads c ≤ 1)
+    ⊎ IsFirstRefused c t → kept
 two_kept c t kept two keeps (inl few) = absurd (omega (arith, two, few))
 two_kept c t kept two keeps (inr r) = keeps r
 
@@ -378,15 +412,20 @@ pub concludes_as : (c k : code.Command) → c ≡ k → (t : Inputs) (first seco
 concludes_as c k same t first second before after fb fa result d =
     subst (λ x. Concludes (command_word x) t first second before after fb fa result) (sym same) d
 
-pub kept_as : (c k : code.Command) → c ≡ k → (t : Inputs) (kept : Type 0) → ((reads (command_word k) ≤ 1) ⊎ IsFirstRefused (command_word k) t → kept) → (reads (command_word c) ≤ 1) ⊎ IsFirstRefused (command_word c) t → kept
-kept_as c k same t kept keeps = subst (λ x. (reads (command_word x) ≤ 1) ⊎ IsFirstRefused (command_word x) t → kept) (sym same) keeps
+pub kept_as : (c k : code.Command) → c ≡ k → (t : Inputs) (kept : Type 0)
+    → ((reads (command_word k) ≤ 1) ⊎ IsFirstRefused (command_word k) t → kept) → (reads (command_word c) ≤ 1)
+    ⊎ IsFirstRefused (command_word c) t → kept
+kept_as c k same t kept keeps = subst (λ x. (reads (command_word x) ≤ 1) ⊎ IsFirstRefused (command_word x) t → kept)
+    (sym same) keeps
 
 -- a command that reads a source
 pub some_read : {P : Type 0} (c k : code.Command) → c ≡ k → 1 ≤ reads (command_word k) → reads (command_word c) ≡ 0 → P
-some_read c k same some none = let e = ap (λ (x : code.Command). reads (command_word x)) same in absurd (omega (arith, some, none, e))
+some_read c k same some none = let e = ap (λ (x : code.Command). reads (command_word x)) same in
+    absurd (omega (arith, some, none, e))
 
 -- the commands that read one source, of those that read two at most
-pub reads_one : (c : code.Command) → reads (command_word c) ≤ 2 → (c ≡ command.Run → ⊥) → (c ≡ command.Live → ⊥) → (c ≡ command.Audit → ⊥)
+pub reads_one : (c : code.Command) → reads (command_word c) ≤ 2 → (c ≡ command.Run → ⊥) → (c ≡ command.Live → ⊥)
+    → (c ≡ command.Audit → ⊥)
     → (c ≡ command.Times → ⊥) → ((n : ℕ) → c ≡ command.Demo n → ⊥) → reads (command_word c) ≡ 1
 reads_one command.Run few run live audit times demo = absurd (run refl)
 reads_one command.Live few run live audit times demo = absurd (live refl)
@@ -425,7 +464,8 @@ demo_decided t n bytes says = record {
   defined = λ told. output status.Done bytes (refl, says);
 }
 
-pub demo_decides : (t : Inputs) (first second : Type 0) (n : ℕ) (r : Reply) → Tells status.Done (λ bytes. bytes ≡ demo n) r
+pub demo_decides : (t : Inputs) (first second : Type 0) (n : ℕ) (r : Reply)
+    → Tells status.Done (λ bytes. bytes ≡ demo n) r
     → Decides (Demo n) t first second r
 demo_decides t first second n r tells =
     tells_decides (Demo n) t first second status.Done (λ bytes. bytes ≡ demo n) (demo_decided t n) r tells

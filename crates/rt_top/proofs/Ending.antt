@@ -5,7 +5,8 @@ use Rattle.rt_ids.specs.declared.status.Status.TheVariants as status
 use Rattle.rt_outside.specs.Faults.{Rose}
 use Rattle.rt_outside.specs.Bytes.{Took}
 use Rattle.rt_top.specs.Words.{Command}
-use Rattle.rt_top.specs.Defined.{Inputs, Defined, IsDue, IsAnswer, IsFirstRefused, IsSecondRefused, IsApplicationRefused, AreTold, AreReadTold, WroteAll, WrotePart}
+use Rattle.rt_top.specs.Defined.{Inputs, Defined, IsDue, IsAnswer, IsFirstRefused, IsSecondRefused}
+use Rattle.rt_top.specs.Defined.{IsApplicationRefused, AreTold, AreReadTold, WroteAll, WrotePart}
 use Rattle.rt_top.specs.Inside.Decides.{IsPast, is_done, is_text, is_no, IsDecided, HasFailed, Concludes}
 use Rattle.rt_top.proofs.Excluding.{one_due, told_of_due, is_told}
 
@@ -21,7 +22,8 @@ read_told c t ended is_no told = told
 
 first_told : (c : Command) (t : Inputs) → IsApplicationRefused c t ⊎ AreTold c t → AreReadTold c t status.App
 first_told c t (inl (inl (text, line, e, r))) = (λ _. is_told t.first text e, λ _. inl (text, line, e, r))
-first_told c t (inl (inr (text, more, line, e, f, r))) = (λ _. is_told t.first text e, λ _. inr (is_told t.second more f))
+first_told c t (inl (inr (text, more, line, e, f, r))) =
+    (λ _. is_told t.first text e, λ _. inr (is_told t.second more f))
 first_told c t (inr told) = (told.0, λ three. inr (told.1 (omega (arith, three))))
 
 module _ (c : Command) (t : Inputs) (ended : Status) (bytes : List ℕ) (d : IsDecided c t ended bytes) where
@@ -29,13 +31,15 @@ module _ (c : Command) (t : Inputs) (ended : Status) (bytes : List ℕ) (d : IsD
   defined_by : IsApplicationRefused c t ⊎ AreTold c t → Defined c t ended bytes
   defined_by told = at d.which
     where
-      other : IsPast ended → (IsFirstRefused c t → ⊥) → (IsSecondRefused c t → ⊥) → IsApplicationRefused c t ⊎ AreTold c t
+      other : IsPast ended → (IsFirstRefused c t → ⊥) → (IsSecondRefused c t → ⊥) → IsApplicationRefused c t
+          ⊎ AreTold c t
           → Defined c t ended bytes
       other past passed none (inl (inl r)) = absurd (passed r)
       other past passed none (inl (inr r)) = absurd (none r)
       other past passed none (inr all) = d.defined (read_told c t ended past all)
 
-      at : (ended ≡ status.App) ⊎ (IsPast ended × (IsFirstRefused c t → ⊥) × (IsSecondRefused c t → ⊥)) → Defined c t ended bytes
+      at : (ended ≡ status.App) ⊎ (IsPast ended × (IsFirstRefused c t → ⊥) × (IsSecondRefused c t → ⊥))
+          → Defined c t ended bytes
       at (inl is) = d.defined (subst (AreReadTold c t) (sym is) (first_told c t told))
       at (inr (past, passed, none)) = other past passed none told
 
@@ -71,7 +75,8 @@ past_no_write s is_done e = absurd cc
 past_no_write s is_text e = absurd cc
 past_no_write s is_no e = absurd cc
 
-module _ (c : Command) (t : Inputs) (first second : Type 0) (before after : Option (List ℕ)) (fb fa : ℕ) (result : Status) where
+module _ (c : Command) (t : Inputs) (first second : Type 0) (before after : Option (List ℕ)) (fb fa : ℕ)
+    (result : Status) where
   pub answered : Concludes c t first second before after fb fa result → IsAnswer result → AreReadTold c t result
       → WroteAll c t result before after
   answered (inl (ended, bytes, d, inl (is, took))) answer told =
@@ -84,7 +89,8 @@ module _ (c : Command) (t : Inputs) (first second : Type 0) (before after : Opti
       → Concludes c t first second before after fb fa result → (result ≡ due) ⊎ (result ≡ status.Memory)
   complete due is_due_so no_first no_second no_third (inl (ended, bytes, d, inl (is, took))) =
       inl (is ∙ is_due c t ended bytes d due is_due_so)
-  complete due is_due_so no_first no_second no_third (inl (ended, bytes, d, inr (is, rose, part))) = absurd (no_third rose)
+  complete due is_due_so no_first no_second no_third (inl (ended, bytes, d, inr (is, rose, part))) =
+      absurd (no_third rose)
   complete due is_due_so no_first no_second no_third (inr (inl is, none)) = inr is
   complete due is_due_so no_first no_second no_third (inr (inr (is, inl f), none)) = absurd (no_first f.1)
   complete due is_due_so no_first no_second no_third (inr (inr (is, inr f), none)) = absurd (no_second f.1)

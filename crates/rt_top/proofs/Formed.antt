@@ -26,7 +26,8 @@ module _ (P : Status → List ℕ → Type 0) (other : P status.No no_line) wher
       replies_as (λ ended bytes. (ended ≡ status.No) × (bytes ≡ no_line)) P
       (λ ended bytes p. subst (λ s. P s bytes) (sym p.0) (subst (λ b. P status.No b) (sym p.1) other)) r tells
 
-pub deepest_other : (app : App) → has_deepest_script app ≡ false → (r : Reply) → Tells status.No (λ bytes. bytes ≡ no_line) r
+pub deepest_other : (app : App) → has_deepest_script app ≡ false → (r : Reply)
+    → Tells status.No (λ bytes. bytes ≡ no_line) r
     → Replies (TellsDeepest app) r
 deepest_other app form r tells = other_replies (TellsDeepest app) (outputs.no_script form) r tells
 
@@ -36,7 +37,8 @@ module _ (app : App) (more : List ℕ) where
       → Tells status.Text (SaysLimits refusal) r → Replies (AnswersTimes app more) r
   limits_refused refusal met r tells =
       replies_as (λ ended line. (ended ≡ status.Text) × SaysLimits refusal line) (AnswersTimes app more)
-      (λ ended line p. subst (λ s. AnswersTimes app more s line) (sym p.0) (answered.refused_limits refusal line met p.1)) r tells
+      (λ ended line p. subst (λ s. AnswersTimes app more s line) (sym p.0)
+      (answered.refused_limits refusal line met p.1)) r tells
 
   module _ (ls : List Limit) (read : limits.IsLimitsText app more ls) where
     pub times_other : has_response_times app ≡ false → (r : Reply) → Tells status.No (λ bytes. bytes ≡ no_line) r
@@ -46,10 +48,12 @@ module _ (app : App) (more : List ℕ) where
 
     pub times_made : {E : Type 0} → has_response_times app ≡ true → (made : Result (Vec ℕ Global) E)
         → IfOk made (λ text. (rows : List ResponseTime) × AreResponseTimes app ls rows × (text.items ≡ report rows))
-        → (r : Reply) → Tells status.Done (λ bytes. (rows : List ResponseTime) × AreResponseTimes app ls rows × (bytes ≡ report rows)) r
+        → (r : Reply) → Tells status.Done (λ bytes. (rows : List ResponseTime) × AreResponseTimes app ls rows
+        × (bytes ≡ report rows)) r
         → Replies (AnswersTimes app more) r
     times_made form made is r tells =
-        replies_as (λ ended bytes. (ended ≡ status.Done) × ((rows : List ResponseTime) × AreResponseTimes app ls rows × (bytes ≡ report rows)))
+        replies_as (λ ended bytes. (ended ≡ status.Done)
+        × ((rows : List ResponseTime) × AreResponseTimes app ls rows × (bytes ≡ report rows)))
         (AnswersTimes app more)
         (λ ended bytes p. subst (λ s. AnswersTimes app more s bytes) (sym p.0)
         (answered.told ls status.Done bytes read

@@ -61,12 +61,14 @@ made_tells wanted P (Ok text) p r is none = subst (Tells wanted P) (sym is) (ref
 made_tells wanted P (Err e) p r none is = subst (Tells wanted P) (sym is) refl
 
 -- what ends from a sink that was as it is ends from it
-pub ends_from : (P : Status → List ℕ → Type 0) (S : Status → Type 0) (before between after : Option (List ℕ)) (fb fm fa : ℕ) (result : Status)
+pub ends_from : (P : Status → List ℕ → Type 0) (S : Status → Type 0) (before between after : Option (List ℕ))
+    (fb fm fa : ℕ) (result : Status)
     → between ≡ before → fm ≡ fb → EndsAs P S between after fm fa result → EndsAs P S before after fb fa result
 ends_from P S before between after fb fm fa result same still ends =
     subst (λ f. EndsAs P S before after f fa result) still (subst (λ b. EndsAs P S b after fm fa result) same ends)
 
 -- what is heard of a status is heard of the error that it is
-pub heard_err : {T : Type 0} (P : Type 0) {wanted : Status} (ended : Status) → P ⊎ (ended ≡ wanted) → P ⊎ IsErrOf {T = T} (Err ended) wanted
+pub heard_err : {T : Type 0} (P : Type 0) {wanted : Status} (ended : Status) → P ⊎ (ended ≡ wanted) → P
+    ⊎ IsErrOf {T = T} (Err ended) wanted
 heard_err P ended (inl still) = inl still
 heard_err P ended (inr is) = inr (ap Err is)

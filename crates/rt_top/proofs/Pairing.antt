@@ -1,5 +1,6 @@
 -- What `pair` is to reply, and how it ends.
-use Rattle.std.proofs.Common.{◌≡◌, ℕ, ◌<◌, ◌≤◌, ◌⊎◌, List, ◌++◌, length, codes, Option, Some, Result, IfOk, OnErr, Vec, Global}
+use Rattle.std.proofs.Common.{◌≡◌, ℕ, ◌<◌, ◌≤◌, ◌⊎◌, List, ◌++◌, length, codes, Option, Some, Result, IfOk, OnErr, Vec}
+use Rattle.std.proofs.Common.{Global}
 use Rattle.std.proofs.Common.{inl, inr, refl, sym, subst, arith}
 use Rattle.rt_ids.specs.declared.limits.TheConstants.{SCRIPT_BYTES}
 use Rattle.rt_ids.specs.declared.status.Status.{Status}
@@ -19,8 +20,10 @@ use Rattle.rt_top.specs.Words.{Command, Pair, reads}
 use Rattle.rt_top.specs.Refusal.{RefusesApplication}
 use Rattle.rt_top.specs.SecondRefusal.{SaysScript}
 use Rattle.rt_top.specs.Outputs.{IsGoodImage}
-use Rattle.rt_top.specs.Defined.{Inputs, inputs, Defined, second_refused, third_faulty, output, IsTold, IsFirstRefused, IsSecondRefused, IsApplicationRefused, AreTold, AreReadTold}
-use Rattle.rt_top.specs.Inside.Decides.{Tells, Stops, Halts, IsPast, is_done, is_text, is_no, IsDecided, HasFailed, Decides, EndsAs, Concludes}
+use Rattle.rt_top.specs.Defined.{Inputs, inputs, Defined, second_refused, third_faulty, output, IsTold, IsFirstRefused}
+use Rattle.rt_top.specs.Defined.{IsSecondRefused, IsApplicationRefused, AreTold, AreReadTold}
+use Rattle.rt_top.specs.Inside.Decides.{Tells, Stops, Halts, IsPast, is_done, is_text, is_no, IsDecided, HasFailed}
+use Rattle.rt_top.specs.Inside.Decides.{Decides, EndsAs, Concludes}
 use Rattle.rt_top.specs.Inside.Replies.{WantsMemory}
 use Rattle.rt_top.specs.Inside.Started.{IsGoodOf}
 use Rattle.rt_top.specs.Inside.Pairing.{IsOfSecond, ShowsPair, AnswersPair}
@@ -36,14 +39,16 @@ use Rattle.rt_top.proofs.Giving.{made_tells}
 
 -- the line of a second application
 pub second_tells : {E : Type 0} (ended : Status) (own line : List ℕ) → own ≡ line → (made : Result (Vec ℕ Global) E)
-    → IfOk made (λ text. text.items ≡ codes "second " ++ own) → (r : Reply) → IfOk made (λ text. r ≡ reply.Write ended text)
+    → IfOk made (λ text. text.items ≡ codes "second " ++ own) → (r : Reply)
+    → IfOk made (λ text. r ≡ reply.Write ended text)
     → OnErr made (r ≡ reply.Stop status.Memory) → Tells ended (λ bytes. bytes ≡ codes "second " ++ line) r
 second_tells ended own line same made says r is none =
     subst (λ l. Tells ended (λ bytes. bytes ≡ codes "second " ++ l) r) same
     (made_tells ended (λ bytes. bytes ≡ codes "second " ++ own) made says r is none)
 
 -- an image that was prepared is good for the text of its application
-good_image : (text : List ℕ) (app : App) (image : Image) → IsApplication text app → IsGoodOf app image → IsGoodImage text app image
+good_image : (text : List ℕ) (app : App) (image : Image) → IsApplication text app → IsGoodOf app image
+    → IsGoodImage text app image
 good_image text app image of_text good = record {
   of_text = of_text;
   of_application = good.of_application;
@@ -51,7 +56,8 @@ good_image text app image of_text good = record {
   good = good.good;
 }
 
-module _ (first second third : Option (List ℕ)) (one : App) (is_one : (text : List ℕ) → first ≡ Some text → IsApplication text one) where
+module _ (first second third : Option (List ℕ)) (one : App) (is_one : (text : List ℕ) → first ≡ Some text
+    → IsApplication text one) where
   abbrev t : Inputs
   t = inputs first second third
 
@@ -81,7 +87,8 @@ module _ (first second third : Option (List ℕ)) (one : App) (is_one : (text : 
           subst (λ s. Defined Pair t s bytes) (sym is) (at text.0 text.1 (told.1 (omega arith)))
 
   -- what is replied of it
-  pub other_decides : (failed before later : Type 0) → (failed → later) → (r q : Reply) → Halts second RefusesApplication failed r
+  pub other_decides : (failed before later : Type 0) → (failed → later) → (r q : Reply)
+      → Halts second RefusesApplication failed r
       → IsOfSecond r q → Decides Pair t before later q
   other_decides failed before later more (reply.Write ended text) (reply.Write status line) (is, refuses) (same, says) =
       subst (λ s. IsDecided Pair t s line.items) (sym same) (other_decided ended text.items line.items is refuses says)
@@ -108,7 +115,8 @@ module _ (first second third : Option (List ℕ)) (one : App) (is_one : (text : 
 
     -- behind both
     past_decided : (ended : Status) (bytes : List ℕ) → IsPast ended
-        → ((text more last : List ℕ) → first ≡ Some text → second ≡ Some more → third ≡ Some last → Defined Pair t ended bytes)
+        → ((text more last : List ℕ) → first ≡ Some text → second ≡ Some more → third ≡ Some last
+        → Defined Pair t ended bytes)
         → IsDecided Pair t ended bytes
     past_decided ended bytes past defined = record {
       which = inr (past, no_first, no_second);
@@ -135,11 +143,13 @@ module _ (first second third : Option (List ℕ)) (one : App) (is_one : (text : 
         → SaysScript in_script.TooLong line → IsDecided Pair t status.Text line
     long_pair_decided long line says = script_decided in_script.TooLong line long says
 
-    pub pair_decided : (own : List ℕ) → ((last : List ℕ) → third ≡ Some last → own ≡ last) → (ended : Status) (bytes : List ℕ)
+    pub pair_decided : (own : List ℕ) → ((last : List ℕ) → third ≡ Some last → own ≡ last)
+        → (ended : Status) (bytes : List ℕ)
         → AnswersPair one other own ended bytes → IsDecided Pair t ended bytes
     pair_decided own same ended bytes (pairing.refused_script e line a) =
         subst (λ s. IsDecided Pair t s line) (sym a.text)
-        (script_decided a.refusal line (λ last g. subst (λ m. script.IsRefused (names_of one) m a.refusal) (same last g) a.refused) a.says)
+        (script_decided a.refusal line (λ last g. subst (λ m. script.IsRefused (names_of one) m a.refusal) (same last g)
+        a.refused) a.says)
     pair_decided own same ended bytes (pairing.shown image asked e text good read shows) =
         subst (λ s. IsDecided Pair t s text) (sym shows.done)
         (past_decided status.Done text is_done (λ u more last e f g. output status.Done text (
@@ -164,7 +174,8 @@ module _ (first second third : Option (List ℕ)) (one : App) (is_one : (text : 
         )))
 
 -- A run of two cores was written, or the sink failed.
-module _ (image second : Image) (other : App) (asked : List Line) (good : IsGoodOf other second) (before after : Option (List ℕ)) (fb fa : ℕ) where
+module _ (image second : Image) (other : App) (asked : List Line) (good : IsGoodOf other second)
+    (before after : Option (List ℕ)) (fb fa : ℕ) where
   shows : (bytes : List ℕ) → IsPairText image second asked bytes → ShowsPair image other asked status.Done bytes
   shows bytes is = record { done = refl; second = second; good = good; is = is }
 
@@ -183,7 +194,8 @@ third_stops before later failed ended (inl is) = inl is
 third_stops before later failed ended (inr (is, f)) = inr (is, inr (omega arith, inr f))
 
 -- a command that did not come to the third source leaves it as it was
-pub third_left : (c : Command) (t : Inputs) (rose kept later left failed : Type 0) → left → (before after : Option (List ℕ))
+pub third_left : (c : Command) (t : Inputs) (rose kept later left failed : Type 0) → left
+    → (before after : Option (List ℕ))
     (fb fa : ℕ) (result : Status) → Concludes c t (rose × kept) later before after fb fa result
     → Concludes c t (rose × kept × left) ((later × left) ⊎ failed) before after fb fa result
 third_left c t rose kept later left failed as_was before after fb fa result (inl said) = inl said
@@ -199,7 +211,8 @@ module _ (c : code.Command) (same : c ≡ command.Pair) (t : Inputs) where
       → Concludes Pair t rose (later ⊎ failed) before after fb fa result
       → Concludes (command_word c) t rose (later ⊎ ((3 ≤ reads (command_word c)) × failed)) before after fb fa result
   pair_concludes rose later failed before after fb fa result d =
-      subst (λ x. Concludes (command_word x) t rose (later ⊎ ((3 ≤ reads (command_word x)) × failed)) before after fb fa result) (sym same) (by d)
+      subst (λ x. Concludes (command_word x) t rose (later ⊎ ((3 ≤ reads (command_word x)) × failed)) before after fb fa
+      result) (sym same) (by d)
     where
       by : Concludes Pair t rose (later ⊎ failed) before after fb fa result
           → Concludes Pair t rose (later ⊎ ((3 ≤ reads Pair) × failed)) before after fb fa result
@@ -209,7 +222,8 @@ module _ (c : code.Command) (same : c ≡ command.Pair) (t : Inputs) where
       by (inr (inr (is, inr (two, inl f)), none)) = inr (inr (is, inr (two, inl f)), none)
       by (inr (inr (is, inr (two, inr f)), none)) = inr (inr (is, inr (two, inr (omega arith, f))), none)
 
-  pub pair_second_kept : (kept : Type 0) → (IsFirstRefused Pair t → kept) → (reads (command_word c) ≤ 1) ⊎ IsFirstRefused (command_word c) t → kept
+  pub pair_second_kept : (kept : Type 0) → (IsFirstRefused Pair t → kept) → (reads (command_word c) ≤ 1)
+      ⊎ IsFirstRefused (command_word c) t → kept
   pair_second_kept kept keeps =
       subst (λ x. (reads (command_word x) ≤ 1) ⊎ IsFirstRefused (command_word x) t → kept) (sym same) by
     where
@@ -217,7 +231,8 @@ module _ (c : code.Command) (same : c ≡ command.Pair) (t : Inputs) where
       by (inl few) = absurd (omega (arith, few))
       by (inr r) = keeps r
 
-  pub pair_third_kept : (kept : Type 0) → (IsApplicationRefused Pair t → kept) → (reads (command_word c) ≤ 2) ⊎ IsApplicationRefused (command_word c) t → kept
+  pub pair_third_kept : (kept : Type 0) → (IsApplicationRefused Pair t → kept) → (reads (command_word c) ≤ 2)
+      ⊎ IsApplicationRefused (command_word c) t → kept
   pair_third_kept kept keeps =
       subst (λ x. (reads (command_word x) ≤ 2) ⊎ IsApplicationRefused (command_word x) t → kept) (sym same) by
     where

@@ -40,7 +40,8 @@ module _ (image : Image) (asked : List Line) (bytes : List ℕ) (same : bytes �
   part_ends rose part = inl (status.Done, bytes, (refl, same), inr (refl, rose, part))
 
 -- the refusal of a script's text
-pub refused_replies : (app : App) (more : List ℕ) (refusal : ScriptRefused) → script.IsRefused (names_of app) more refusal → (r : Reply)
+pub refused_replies : (app : App) (more : List ℕ) (refusal : ScriptRefused)
+    → script.IsRefused (names_of app) more refusal → (r : Reply)
     → Tells status.Text (SaysScript refusal) r → Replies (AnswersRefusal app more) r
 refused_replies app more refusal met r tells =
     replies_as (λ ended line. (ended ≡ status.Text) × SaysScript refusal line) (AnswersRefusal app more)
@@ -49,8 +50,10 @@ refused_replies app more refusal met r tells =
 -- Both texts were read, and made a core and a script.
 pub started_by : {C S E : Type 0} (first second : Option (List ℕ)) (app : App)
     → ((text : List ℕ) → first ≡ Some text → IsApplication text app) → (own : List ℕ)
-    → ((more : List ℕ) → second ≡ Some more → own ≡ more) → (r : Result (C × S) E) (image : C → Image) (asked : S → List Line)
-    → IfOk r (λ both. IsGoodOf app (image both.0)) → IfOk r (λ both. script.IsScriptText (names_of app) own (asked both.1))
+    → ((more : List ℕ) → second ≡ Some more → own ≡ more) → (r : Result (C × S) E) (image : C → Image)
+    (asked : S → List Line)
+    → IfOk r (λ both. IsGoodOf app (image both.0)) → IfOk r
+    (λ both. script.IsScriptText (names_of app) own (asked both.1))
     → IfOk r (λ both. IsStarted first second (image both.0) (asked both.1))
 started_by first second app of_text own same (Ok both) image asked good read = record {
   app = app;
@@ -70,6 +73,7 @@ module _ (image : Image) (asked : List Line) (front : List ℕ) (is : front ≡ 
       → EndsAs (ShowsLive image asked) WantsMemory before after fb fa status.Done
   live_ends (shown, live, took) = inl (status.Done, front ++ shown, shows shown live, inl (refl, took))
 
-  pub live_stops : Rose fb fa → (shown : List ℕ) × IsLiveText image asked shown × TookPrefix before after (front ++ shown)
+  pub live_stops : Rose fb fa → (shown : List ℕ) × IsLiveText image asked shown
+      × TookPrefix before after (front ++ shown)
       → EndsAs (ShowsLive image asked) WantsMemory before after fb fa status.Write
   live_stops rose (shown, live, part) = inl (status.Done, front ++ shown, shows shown live, inr (refl, rose, part))

@@ -20,15 +20,18 @@ use Rattle.rt_top.proofs.Deciding.{told_text}
 pub yes_told : (image : Image) → IsChecked image → IsSafe image → (ended : Status) (bytes : List ℕ)
     → (ended ≡ status.Done) × (bytes ≡ codes "yes\n") → TellsImage image ended bytes
 yes_told image checked safe ended bytes (is, says) =
-    subst (λ s. TellsImage image s bytes) (sym is) (subst (TellsImage image status.Done) (sym says) (verified.is_safe checked safe))
+    subst (λ s. TellsImage image s bytes) (sym is) (subst (TellsImage image status.Done) (sym says)
+    (verified.is_safe checked safe))
 
 pub no_told : (image : Image) (rule : ℕ) → IsLeastBroken image rule → (ended : Status) (bytes : List ℕ)
     → (ended ≡ status.No) × (bytes ≡ codes "no " ++ decimal rule ++ codes "\n") → TellsImage image ended bytes
 no_told image rule least ended bytes (is, says) =
-    subst (λ s. TellsImage image s bytes) (sym is) (subst (TellsImage image status.No) (sym says) (verified.breaks rule least))
+    subst (λ s. TellsImage image s bytes) (sym is) (subst (TellsImage image status.No) (sym says)
+    (verified.breaks rule least))
 
 -- the refusal of a text
-pub refused_told : (text : List ℕ) (refusal : LoadRefused) → loading.IsRefused text refusal → (ended : Status) (line : List ℕ)
+pub refused_told : (text : List ℕ) (refusal : LoadRefused) → loading.IsRefused text refusal
+    → (ended : Status) (line : List ℕ)
     → (ended ≡ status.Text) × SaysImage refusal line → IsVerified text ended line
 refused_told text refusal met ended line (is, says) =
     subst (λ s. IsVerified text s line) (sym is) (verified.no_listing refusal line met says)
@@ -51,7 +54,8 @@ module _ (first second third : Option (List ℕ)) where
   abbrev t : Inputs
   t = inputs first second third
 
-  pub verified_decided : (own : List ℕ) → ((text : List ℕ) → first ≡ Some text → own ≡ text) → (ended : Status) (bytes : List ℕ)
+  pub verified_decided : (own : List ℕ) → ((text : List ℕ) → first ≡ Some text → own ≡ text)
+      → (ended : Status) (bytes : List ℕ)
       → IsVerified own ended bytes → IsDecided Verify t ended bytes
   verified_decided own same ended bytes is = record {
     which = inr (past is, λ r. r.3, λ r. r.5);

@@ -5,10 +5,12 @@ use Rattle.rt_ids.specs.declared.status.Status.{Status}
 use Rattle.rt_ids.specs.declared.status.Status.TheVariants as status
 use Rattle.rt_demo.specs.Demo.{demo}
 use Rattle.rt_outside.specs.Bytes.{Took, TookPrefix}
-use Rattle.rt_top.specs.Words.{Command, Run, Check, Fmt, Build, Audit, Live, Soak, Demo, Deepest, Times, Verify, Pair, Names, reads}
+use Rattle.rt_top.specs.Words.{Command, Run, Check, Fmt, Build, Audit, Live, Soak, Demo, Deepest, Times, Verify, Pair}
+use Rattle.rt_top.specs.Words.{Names, reads}
 use Rattle.rt_top.specs.Refusal.{RefusesText, RefusesApplication}
 use Rattle.rt_top.specs.SecondRefusal.{RefusesScript, RefusesTrace, RefusesLimits}
-use Rattle.rt_top.specs.Outputs.{IsFormatted, IsChecked, IsListed, IsRun, IsAudited, IsLive, IsSoaked, IsDeepened, IsTimed}
+use Rattle.rt_top.specs.Outputs.{IsFormatted, IsChecked, IsListed, IsRun, IsAudited, IsLive, IsSoaked, IsDeepened}
+use Rattle.rt_top.specs.Outputs.{IsTimed}
 use Rattle.rt_top.specs.Verified.{IsVerified}
 use Rattle.rt_top.specs.Paired.{RefusesOther, RefusesPairScript, IsPaired}
 

@@ -116,7 +116,8 @@ no_line = codes "no\n"
 
 -- the status and the bytes of `deepest` for an application, by its form
 pub data TellsDeepest (app : App) : Status → List ℕ → Type 0 where
-  reaches_bound : (bytes : List ℕ) → has_deepest_script app ≡ true → ReachesTheBound app bytes → TellsDeepest app status.Done bytes
+  reaches_bound : (bytes : List ℕ) → has_deepest_script app ≡ true → ReachesTheBound app bytes
+      → TellsDeepest app status.Done bytes
   no_script : has_deepest_script app ≡ false → TellsDeepest app status.No no_line
 
 -- `deepest`: a script on which the stack reaches its bound

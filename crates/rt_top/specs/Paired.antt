@@ -1,5 +1,5 @@
--- What `pair` writes: the refusal of its second application or of its script, or what two cores show that run beside each
--- other. It is this project's own.
+-- What `pair` writes: the refusal of its second application or of its script, or what two cores show that run beside
+-- each other. It is this project's own.
 use Rattle.std.specs.Prelude.{◌≡◌, ℕ, List, ◌++◌, codes}
 use Rattle.rt_app.specs.Names.{names_of}
 use Rattle.rt_app.specs.Tree.{App}

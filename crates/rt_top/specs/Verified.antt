@@ -1,5 +1,5 @@
--- What `verify` writes of a text: that it is no listing, that its image is safe, or the rule that its image breaks. It is
--- this project's own; a listing is judged whatever made it, and no application stands beside it.
+-- What `verify` writes of a text: that it is no listing, that its image is safe, or the rule that its image breaks. It
+-- is this project's own; a listing is judged whatever made it, and no application stands beside it.
 use Rattle.std.specs.Prelude.{◌≡◌, ℕ, List, ◌++◌, codes, decimal}
 use Rattle.rt_ids.specs.declared.status.Status.{Status}
 use Rattle.rt_ids.specs.declared.status.Status.TheVariants as status
@@ -26,7 +26,8 @@ pub data TellsImage (image : Image) : Status → List ℕ → Type 0 where
   -- it keeps each rule, and is safe for every list of events
   is_safe : IsChecked image → IsSafe image → TellsImage image status.Done (codes "yes\n")
   -- the least of the rules that it breaks
-  breaks : (rule : ℕ) → IsLeastBroken image rule → TellsImage image status.No (codes "no " ++ decimal rule ++ codes "\n")
+  breaks : (rule : ℕ) → IsLeastBroken image rule → TellsImage image status.No
+      (codes "no " ++ decimal rule ++ codes "\n")
 
 -- `verify`: the status and the line for a text
 pub data IsVerified (text : List ℕ) : Status → List ℕ → Type 0 where

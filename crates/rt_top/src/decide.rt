@@ -40,7 +40,8 @@ pub(crate) fn decide<
     gate: &G,
 ) -> Status
     requires { IsInRange (command_word command) }
-    ensures concludes { Concludes (command_word command) (inputs (A.left app.old) (B.left second.old) (C.left third.old))
+    ensures concludes { Concludes (command_word command)
+        (inputs (A.left app.old) (B.left second.old) (C.left third.old))
         (Rose (A.faults app.old) (A.faults app.new) × IsKept B.left B.faults second.old second.new
         × IsKept C.left C.faults third.old third.new)
         ((Rose (B.faults second.old) (B.faults second.new) × IsKept C.left C.faults third.old third.new)

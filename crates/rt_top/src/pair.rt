@@ -27,8 +27,8 @@ use rt_sim::prepare;
 use std::alloc::Global;
 use std::thread::Threads;
 
-/// `pair APP1 APP2 SCRIPT`: two cores beside each other, each with the image of its application: of each the listing, the
-/// trace, and an account of the other core's requests.
+/// `pair APP1 APP2 SCRIPT`: two cores beside each other, each with the image of its application: of each the listing,
+/// the trace, and an account of the other core's requests.
 #[inline(never)]
 pub(crate) fn pair<R: Threads + Sync, A: Source, B: Source, C: Source, K: Sink, G: Gate + Sync>(
     rt: &R,
@@ -47,7 +47,8 @@ pub(crate) fn pair<R: Threads + Sync, A: Source, B: Source, C: Source, K: Sink, 
         (K.taken out.old) (K.taken out.new) (K.faults out.old) (K.faults out.new) result }
     ensures second_kept { IsFirstRefused word.Pair (inputs (A.left app.old) (B.left second.old) (C.left third.old)) →
         IsKept B.left B.faults second.old second.new }
-    ensures third_kept { IsApplicationRefused word.Pair (inputs (A.left app.old) (B.left second.old) (C.left third.old)) →
+    ensures third_kept { IsApplicationRefused word.Pair (inputs (A.left app.old) (B.left second.old) (C.left third.old))
+        →
         IsKept C.left C.faults third.old third.new }
     ensures first_heard { (A.faults app.new ≡ A.faults app.old) ⊎ (result ≡ Status.Read) }
     ensures second_heard { (B.faults second.new ≡ B.faults second.old) ⊎ (result ≡ Status.Read) }

@@ -27,7 +27,8 @@ pub(crate) fn single<R: Threads + Sync, A: Source>(
 ) -> Reply
     requires one { reads (command_word command) ≡ 1 }
     requires range { IsInRange (command_word command) }
-    ensures decides { (second third : Option (List ℕ)) → Decides (command_word command) (inputs (A.left app.old) second third)
+    ensures decides { (second third : Option (List ℕ)) → Decides (command_word command)
+        (inputs (A.left app.old) second third)
         (Rose (A.faults app.old) (A.faults app.new)) ⊥ result }
     ensures heard { IsHeard (A.faults app.old) (A.faults app.new) result }
 {

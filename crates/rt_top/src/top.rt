@@ -21,9 +21,9 @@ const USAGE: &[u8] =
 | soak APP NUMBER COUNT WORKERS | demo N | deepest APP | verify IMAGE | times APP LIMITS \
 | pair APP1 APP2 SCRIPT\n";
 
-/// Runs the command that the words name, and answers its status. `app` is the source of the application, of `verify` that
-/// of the listing; `second` is that of the script, the trace or the limits. `pair` has its second application in `second`
-/// and its script in `third`, which no other command reads. All that is written goes to `out`.
+/// Runs the command that the words name, and answers its status. `app` is the source of the application, of `verify`
+/// that of the listing; `second` is that of the script, the trace or the limits. `pair` has its second application in
+/// `second` and its script in `third`, which no other command reads. All that is written goes to `out`.
 pub fn rtic<R: Threads + Sync, A: Source, B: Source, C: Source, K: Sink + Send, G: Gate + Sync>(
     rt: &R,
     alloc: Global,
@@ -46,19 +46,19 @@ pub fn rtic<R: Threads + Sync, A: Source, B: Source, C: Source, K: Sink + Send, 
     // trace, of N items, is a run of Baker's machine on the application with each depth within the stack bound, so
     // sections were exclusive, no lock was found taken, and waiting kept within its bound. Also every spawn was full
     // exactly where the capacity was out, messages started first in, first out, fired in order and not before their
-    // instant, and ready and due messages were served; of `run` and `build` likewise for every list of events. With
-    // `no N` and `No` it is none, and N is the number of the first item that is wrong, from 1, or one more than there
-    // are items where only the total is.
+    // instant, and ready and due messages were served; of `run` and `build` likewise for every list of events. With `no
+    // N` and `No` it is none, and N is the number of the first item that is wrong, from 1, or one more than there are
+    // items where only the total is.
     //
-    // `verify` takes the listing of any image, whatever made it, and no application. With `yes` and `Done` the image keeps
-    // the seven rules, and it is safe: for every list of events that a core may be given, nothing traps, the stack stays
-    // in the image's region, sections are exclusive, no lock is found taken, and each cell for which contexts contend is
-    // touched inside its one section alone. With `no K` and `No`, K is the least of the rules that the image breaks. A
-    // text that is no listing is refused at its first wrong line with `Text`.
+    // `verify` takes the listing of any image, whatever made it, and no application. With `yes` and `Done` the image
+    // keeps the seven rules, and it is safe: for every list of events that a core may be given, nothing traps, the
+    // stack stays in the image's region, sections are exclusive, no lock is found taken, and each cell for which
+    // contexts contend is touched inside its one section alone. With `no K` and `No`, K is the least of the rules that
+    // the image breaks. A text that is no listing is refused at its first wrong line with `Text`.
     //
     // `pair` takes two applications and a script over the names of the first. At `Done` it has written, for each of two
-    // cores, the listing of an image of its application, and that image's trace beside the other core, with an account of
-    // the other core's requests; of each image all holds that `run` promises of its own.
+    // cores, the listing of an image of its application, and that image's trace beside the other core, with an account
+    // of the other core's requests; of each image all holds that `run` promises of its own.
     ensures answered { (c : Command) → Names (texts words.now) c → IsAnswer result →
         let t = inputs (A.left app.old) (B.left second.old) (C.left third.old) in
         AreReadTold c t result → WroteAll c t result (K.taken out.old) (K.taken out.new) }

@@ -1,5 +1,6 @@
 -- How many digits a number has.
-use Rattle.std.proofs.Common.{◌≡◌, ◌<◌, ◌≤◌, ◌^◌, ◌+◌, ◌/◌, ◌%◌, ℕ, zero, suc, [], ◌∷◌, length, decimal, ap, arith, length-append}
+use Rattle.std.proofs.Common.{◌≡◌, ◌<◌, ◌≤◌, ◌^◌, ◌+◌, ◌/◌, ◌%◌, ℕ, zero, suc, [], ◌∷◌, length, decimal, ap, arith}
+use Rattle.std.proofs.Common.{length-append}
 use Rattle.std.proofs.Math.Nat.{pow-succ', one-le-pow}
 use Rattle.std.proofs.lemmas.Fmt.{decimal_digit, decimal_step}
 

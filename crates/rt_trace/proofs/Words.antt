@@ -1,5 +1,6 @@
 -- The words of a line that is made of words.
-use Rattle.std.proofs.Common.{◌≡◌, ◌==◌, ◌<◌, ◌^◌, ℕ, true, false, List, [], ◌∷◌, ◌++◌, decimal, refl, ap, ◌∙◌, subst, arith, append-nil}
+use Rattle.std.proofs.Common.{◌≡◌, ◌==◌, ◌<◌, ◌^◌, ℕ, true, false, List, [], ◌∷◌, ◌++◌, decimal, refl, ap, ◌∙◌, subst}
+use Rattle.std.proofs.Common.{arith, append-nil}
 use Rattle.std.specs.List.{AllByRecursion, list_all, list_any}
 use Rattle.std.specs.Str.Parse.{AllDigits}
 use Rattle.std.proofs.lemmas.Bool.{ne_eqb, eqb-true, false_from_ne_true, false≢true}
@@ -26,19 +27,23 @@ first_word : (w rest : List ℕ) → IsUnspaced w → words (w ++ 32 ∷ rest) �
 first_word [] rest h = refl
 first_word (b ∷ w) rest h = rw (h.0, first_word w rest h.1) refl
 
-pub words_spaced : (w : List ℕ) (ws : List (List ℕ)) → IsUnspaced w → AllByRecursion IsUnspaced ws → words (w ++ spaced_text ws) ≡ w ∷ ws
+pub words_spaced : (w : List ℕ) (ws : List (List ℕ)) → IsUnspaced w → AllByRecursion IsUnspaced ws
+    → words (w ++ spaced_text ws) ≡ w ∷ ws
 words_spaced w [] h all = ap words (append-nil w) ∙ one_word w h
-words_spaced w (v ∷ ws) h all = first_word w (v ++ spaced_text ws) h ∙ ap (λ (vs : List (List ℕ)). w ∷ vs) (words_spaced v ws all.0 all.1)
+words_spaced w (v ∷ ws) h all = first_word w (v ++ spaced_text ws) h
+    ∙ ap (λ (vs : List (List ℕ)). w ∷ vs) (words_spaced v ws all.0 all.1)
 
 digits_unspaced : (ds : List ℕ) → AllDigits 10 ds → IsUnspaced ds
 digits_unspaced [] h = tt
-digits_unspaced (c ∷ ds) h = let digit = digit_from_value c h.0 in (ne_eqb c 32 (λ e. omega (arith, digit, e)), digits_unspaced ds h.1)
+digits_unspaced (c ∷ ds) h = let digit = digit_from_value c h.0 in
+    (ne_eqb c 32 (λ e. omega (arith, digit, e)), digits_unspaced ds h.1)
 
 pub decimal_unspaced : (n : ℕ) → n < 2 ^ 64 → IsUnspaced (decimal n)
 decimal_unspaced n short = let numeral = decimal_is_IsNumeral n short in digits_unspaced (decimal n) numeral.0.1
 
 name_byte_unspaced : (b : ℕ) → is_name_byte b ≡ true → (b == 32) ≡ false
-name_byte_unspaced b h = false_from_ne_true (b == 32) (λ e. false≢true (subst (λ n. is_name_byte n ≡ true) (eqb-true b 32 e) h))
+name_byte_unspaced b h = false_from_ne_true (b == 32)
+    (λ e. false≢true (subst (λ n. is_name_byte n ≡ true) (eqb-true b 32 e) h))
 
 name_bytes_unspaced : (bytes : List ℕ) → list_all is_name_byte bytes ≡ true → IsUnspaced bytes
 name_bytes_unspaced [] h = tt
@@ -49,7 +54,10 @@ letter_later b h = rw h refl
 
 pub name_unspaced : (text : List ℕ) → is_identifier text ≡ true → IsUnspaced text
 name_unspaced [] h = tt
-name_unspaced (b ∷ text) h = (name_byte_unspaced b (letter_later b (and_left _ _ h)), name_bytes_unspaced text (and_right _ _ h))
+name_unspaced (b ∷ text) h = (
+  name_byte_unspaced b (letter_later b (and_left _ _ h)),
+  name_bytes_unspaced text (and_right _ _ h),
+)
 
 pub unspaced_from_test : (text : List ℕ) → list_any (λ b. b == 32) text ≡ false → IsUnspaced text
 unspaced_from_test [] h = tt

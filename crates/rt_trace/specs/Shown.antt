@@ -16,7 +16,8 @@ event_of w = []
 -- numbers, an arrival for each pend and a tick for each tick.
 abbrev pub shown_events : ℕ → List Item → ℕ → List Event
 shown_events n [] total = replicate (total - n) Step
-shown_events n (item ∷ items) total = replicate (item.step - n) Step ++ (event_of item.what ++ shown_events item.step items total)
+shown_events n (item ∷ items) total = replicate (item.step - n) Step
+    ++ (event_of item.what ++ shown_events item.step items total)
 
 -- the events that labels come from
 abbrev pub events_of : List Label → List Event

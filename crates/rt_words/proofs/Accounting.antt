@@ -1,5 +1,6 @@
 -- In a legal history each interrupt is raised as often as it is latched or left.
-use Rattle.std.proofs.Common.{◌≡◌, ℕ, ◌+◌, ◌/◌, ◌%◌, ◌<◌, ◌==◌, ◌&&◌, Bool, List, [], ◌∷◌, length, get_or, set, count_by, sym, ap, ◌∙◌, subst, arith, eq-eqb, ne_eqb, length-set}
+use Rattle.std.proofs.Common.{◌≡◌, ℕ, ◌+◌, ◌/◌, ◌%◌, ◌<◌, ◌==◌, ◌&&◌, Bool, List, [], ◌∷◌, length, get_or, set}
+use Rattle.std.proofs.Common.{count_by, sym, ap, ◌∙◌, subst, arith, eq-eqb, ne_eqb, length-set}
 use Rattle.std.specs.Int.{bit_at}
 use Rattle.std.proofs.lemmas.List.Sums.{sum_by-cons}
 use Rattle.std.proofs.lemmas.Nat.Bits.{bit_at-lt, bit_at-zero}
@@ -20,43 +21,58 @@ count_first p c cs = sum_by-cons (λ x. one_if (p x)) c cs
 
 -- what one call adds to both sides
 abbrev Balances : List ℕ → Call → ℕ → Type 0
-Balances words c irq = pending_bit words irq + one_if (raises irq c) ≡ one_if (latches irq c) + pending_bit (after words c) irq
+Balances words c irq = pending_bit words irq + one_if (raises irq c) ≡ one_if (latches irq c)
+    + pending_bit (after words c) irq
 
-raise_balances : (words : List ℕ) (n irq : ℕ) → pending_bit words n ≡ 0 → irq / 32 < length words → Dec (n ≡ irq) → Balances words (Pend n Raised) irq
+raise_balances : (words : List ℕ) (n irq : ℕ) → pending_bit words n ≡ 0 → irq / 32 < length words → Dec (n ≡ irq)
+    → Balances words (Pend n Raised) irq
 raise_balances words n irq stood l (yes e) =
     let one : one_if (n == irq) ≡ 1 = ap one_if (eq-eqb n irq e) in
     let was : pending_bit words irq ≡ 0 = sym (ap (pending_bit words) e) ∙ stood in
     let here : n / 32 < length words = subst (λ (m : ℕ). m / 32 < length words) (sym e) l in
-    let is : pending_bit (after words (Pend n Raised)) irq ≡ 1 = sym (ap (pending_bit (after words (Pend n Raised))) e) ∙ pend_same words n here in
+    let is : pending_bit (after words (Pend n Raised)) irq ≡ 1 = sym (ap (pending_bit (after words (Pend n Raised))) e)
+    ∙ pend_same words n here in
     omega arith
 raise_balances words n irq stood l (no ne) =
     let none_ : one_if (n == irq) ≡ 0 = ap one_if (ne_eqb n irq ne) in
-    let same : pending_bit (after words (Pend n Raised)) irq ≡ pending_bit words irq = pend_other words n irq (λ e. subst (λ (m : ℕ). m < length words) e l) (λ e. ne (sym e)) in
+    let same : pending_bit (after words (Pend n Raised)) irq ≡ pending_bit words irq =
+    pend_other words n irq (λ e. subst (λ (m : ℕ). m < length words) e l) (λ e. ne (sym e)) in
     omega arith
 
-merge_balances : (words : List ℕ) (n irq : ℕ) → pending_bit words n ≡ 1 → irq / 32 < length words → Dec (n ≡ irq) → Balances words (Pend n Merged) irq
+merge_balances : (words : List ℕ) (n irq : ℕ) → pending_bit words n ≡ 1 → irq / 32 < length words → Dec (n ≡ irq)
+    → Balances words (Pend n Merged) irq
 merge_balances words n irq stood l (yes e) =
     let was : pending_bit words irq ≡ 1 = sym (ap (pending_bit words) e) ∙ stood in
     let here : n / 32 < length words = subst (λ (m : ℕ). m / 32 < length words) (sym e) l in
-    let is : pending_bit (after words (Pend n Merged)) irq ≡ 1 = sym (ap (pending_bit (after words (Pend n Merged))) e) ∙ pend_same words n here in
+    let is : pending_bit (after words (Pend n Merged)) irq ≡ 1 = sym (ap (pending_bit (after words (Pend n Merged))) e)
+    ∙ pend_same words n here in
     omega arith
 merge_balances words n irq stood l (no ne) =
-    let same : pending_bit (after words (Pend n Merged)) irq ≡ pending_bit words irq = pend_other words n irq (λ e. subst (λ (m : ℕ). m < length words) e l) (λ e. ne (sym e)) in
+    let same : pending_bit (after words (Pend n Merged)) irq ≡ pending_bit words irq =
+    pend_other words n irq (λ e. subst (λ (m : ℕ). m < length words) e l) (λ e. ne (sym e)) in
     omega arith
 
 bit_counted : (n : ℕ) → n < 2 → one_if (n == 1) ≡ n
-bit_counted n l = dite (ℕ_discrete n 1) (λ e. ap one_if (eq-eqb n 1 e) ∙ sym e) (λ ne. let z : n ≡ 0 = omega arith in ap one_if (ne_eqb n 1 ne) ∙ sym z)
+bit_counted n l = dite (ℕ_discrete n 1) (λ e. ap one_if (eq-eqb n 1 e) ∙ sym e)
+    (λ ne. let z : n ≡ 0 = omega arith in ap one_if (ne_eqb n 1 ne) ∙ sym z)
 
-latch_balances : (words : List ℕ) (k word irq : ℕ) → word ≡ get_or words k 0 → Dec (k ≡ irq / 32) → Balances words (Latch k word) irq
+latch_balances : (words : List ℕ) (k word irq : ℕ) → word ≡ get_or words k 0 → Dec (k ≡ irq / 32)
+    → Balances words (Latch k word) irq
 latch_balances words k word irq stood (yes e) =
     let bit : ℕ = bit_at word (irq % 32) in
-    let counted : one_if ((k == irq / 32) && (bit == 1)) ≡ bit = ap (λ b. one_if (b && (bit == 1))) (eq-eqb k (irq / 32) e) ∙ bit_counted bit (bit_at-lt word (irq % 32)) in
-    let was : pending_bit words irq ≡ bit = sym (ap (λ (i : ℕ). bit_at (get_or words i 0) (irq % 32)) e) ∙ sym (ap (λ (w : ℕ). bit_at w (irq % 32)) stood) in
-    let is : pending_bit (after words (Latch k word)) irq ≡ 0 = sym (ap (λ (i : ℕ). bit_at (get_or (set words k 0) i 0) (irq % 32)) e) ∙ ap (λ (w : ℕ). bit_at w (irq % 32)) (zero_here words k) ∙ bit_at-zero (irq % 32) in
+    let counted : one_if ((k == irq / 32) && (bit == 1)) ≡ bit = ap (λ b. one_if (b && (bit == 1)))
+    (eq-eqb k (irq / 32) e) ∙ bit_counted bit (bit_at-lt word (irq % 32)) in
+    let was : pending_bit words irq ≡ bit = sym (ap (λ (i : ℕ). bit_at (get_or words i 0) (irq % 32)) e)
+    ∙ sym (ap (λ (w : ℕ). bit_at w (irq % 32)) stood) in
+    let is : pending_bit (after words (Latch k word)) irq ≡ 0 =
+    sym (ap (λ (i : ℕ). bit_at (get_or (set words k 0) i 0) (irq % 32)) e)
+    ∙ ap (λ (w : ℕ). bit_at w (irq % 32)) (zero_here words k) ∙ bit_at-zero (irq % 32) in
     omega arith
 latch_balances words k word irq stood (no ne) =
-    let counted : one_if ((k == irq / 32) && (bit_at word (irq % 32) == 1)) ≡ 0 = ap (λ b. one_if (b && (bit_at word (irq % 32) == 1))) (ne_eqb k (irq / 32) ne) in
-    let same : pending_bit (after words (Latch k word)) irq ≡ pending_bit words irq = bit_elsewhere words k 0 irq (λ e. ne (sym e)) in
+    let counted : one_if ((k == irq / 32) && (bit_at word (irq % 32) == 1)) ≡ 0 =
+    ap (λ b. one_if (b && (bit_at word (irq % 32) == 1))) (ne_eqb k (irq / 32) ne) in
+    let same : pending_bit (after words (Latch k word)) irq ≡ pending_bit words irq =
+    bit_elsewhere words k 0 irq (λ e. ne (sym e)) in
     omega arith
 
 balances : (words : List ℕ) (c : Call) (irq : ℕ) → IsAnswered words c → irq / 32 < length words → Balances words c irq
@@ -68,9 +84,12 @@ as_long : (words : List ℕ) (c : Call) → length (after words c) ≡ length wo
 as_long words (Pend n a) = length-set words _ _
 as_long words (Latch k word) = length-set words _ _
 
-accounts_from : (words last : List ℕ) (history : List Entry) (irq : ℕ) → Leads words history last → irq / 32 < length words
-    → pending_bit words irq + raised_count irq (calls_in history) ≡ latched_count irq (calls_in history) + pending_bit last irq
-accounts_from words last [] irq h l = let e : pending_bit words irq ≡ pending_bit last irq = ap (λ (w : List ℕ). pending_bit w irq) h in omega (arith, e)
+accounts_from : (words last : List ℕ) (history : List Entry) (irq : ℕ) → Leads words history last
+    → irq / 32 < length words
+    → pending_bit words irq + raised_count irq (calls_in history) ≡ latched_count irq (calls_in history)
+    + pending_bit last irq
+accounts_from words last [] irq h l = let e : pending_bit words irq ≡ pending_bit last irq =
+    ap (λ (w : List ℕ). pending_bit w irq) h in omega (arith, e)
 accounts_from words last (e ∷ es) irq h l =
     let long = as_long words e.call in
     let rest = accounts_from (after words e.call) last es irq h.1 (omega arith) in
@@ -80,9 +99,11 @@ accounts_from words last (e ∷ es) irq h l =
     omega (arith, rest, one, r, s)
 
 -- raised is latched and left
-pub accounts : (last : List ℕ) (history : List Entry) (irq : ℕ) → IsLegal history last → irq < 512 → raised_count irq (calls_in history) ≡ latched_count irq (calls_in history) + pending_bit last irq
+pub accounts : (last : List ℕ) (history : List Entry) (irq : ℕ) → IsLegal history last → irq < 512
+    → raised_count irq (calls_in history) ≡ latched_count irq (calls_in history) + pending_bit last irq
 accounts last history irq h l =
     let long = blank_long 16 in
-    let start : pending_bit (blank 16) irq ≡ 0 = ap (λ (w : ℕ). bit_at w (irq % 32)) (zeros 16 (irq / 32)) ∙ bit_at-zero (irq % 32) in
+    let start : pending_bit (blank 16) irq ≡ 0 = ap (λ (w : ℕ). bit_at w (irq % 32)) (zeros 16 (irq / 32))
+    ∙ bit_at-zero (irq % 32) in
     let e = accounts_from (blank 16) last history irq h (omega arith) in
     omega (arith, e, start)

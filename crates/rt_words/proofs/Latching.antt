@@ -1,5 +1,6 @@
 -- A latch keeps the rule.
-use Rattle.std.proofs.Common.{◌≡◌, ℕ, ◌+◌, ◌-◌, ◌*◌, ◌≤◌, List, [], ◌∷◌, ◌++◌, length, get_or, set, drop, Contains, bit_and, refl, sym, ap, ◌∙◌, subst, ⊎_elim, arith, length-append, length-set}
+use Rattle.std.proofs.Common.{◌≡◌, ℕ, ◌+◌, ◌-◌, ◌*◌, ◌≤◌, List, [], ◌∷◌, ◌++◌, length, get_or, set, drop, Contains}
+use Rattle.std.proofs.Common.{bit_and, refl, sym, ap, ◌∙◌, subst, ⊎_elim, arith, length-append, length-set}
 use Rattle.std.specs.Int.Bits.{and_zero_r}
 use mathlib.Core.Option.{none, some, some-injective}
 use lib.ListN.{get_elem?}
@@ -20,8 +21,10 @@ use Rattle.rt_words.proofs.Seeing.{prefix_self, seen_more, extends}
 use Rattle.rt_words.proofs.Seats.{know_set, core_knows, seated_latch}
 
 -- the view of the first seat is the core's
-pub core_is : (may words : List ℕ) (views : List View) (history : List Entry) (core v : View) → Standing may words views history core → get_elem? views 0 ≡ some v → Standing may words views history v
-core_is may words views history core v st at = subst (λ (x : View). Standing may words views history x) (some-injective core v (sym st.seated.first ∙ at)) st
+pub core_is : (may words : List ℕ) (views : List View) (history : List Entry) (core v : View)
+    → Standing may words views history core → get_elem? views 0 ≡ some v → Standing may words views history v
+core_is may words views history core v st at = subst (λ (x : View). Standing may words views history x)
+    (some-injective core v (sym st.seated.first ∙ at)) st
 
 abbrev word_of : Call → ℕ
 word_of (Latch k n) = k
@@ -37,19 +40,22 @@ zero_row may words k is = record {
 
 -- the words padded again after a word was set to 0
 zero_padded : (words : List ℕ) (k : ℕ) → set (padded_words words) k 0 ≡ padded_words (set words k 0)
-zero_padded words k = zero_padding words (16 - length words) k ∙ ap (λ (n : ℕ). set words k 0 ++ blank (16 - n)) (sym (length-set words k 0))
+zero_padded words k = zero_padding words (16 - length words) k ∙ ap (λ (n : ℕ). set words k 0 ++ blank (16 - n))
+    (sym (length-set words k 0))
 
 zero_quiet : (words : List ℕ) (core : View) (k n : ℕ) → core.since ≤ length core.calls
     → LatchedAreZero (drop core.since core.calls) words
     → LatchedAreZero (drop core.since (core.calls ++ Latch k n ∷ [])) (set words k 0)
 zero_quiet words core k n behind is j word h =
-    let h' = subst (λ (t : List Call). Contains t (Latch j word)) (drop_push core.since core.calls (Latch k n) behind) h in
+    let h' = subst (λ (t : List Call). Contains t (Latch j word)) (drop_push core.since core.calls (Latch k n) behind)
+    h in
     ⊎_elim
     (λ old. let z = is j word old in let b = zero_below words k j in omega arith)
     (λ e. ap (λ (i : ℕ). get_or (set words k 0) i 0) (sym (ap word_of e)) ∙ zero_here words k)
     (in_push (drop core.since core.calls) (Latch k n) (Latch j word) h')
 
-latched_standing : (may words : List ℕ) (views : List View) (history : List Entry) (core : View) (k : ℕ) → Standing may words views history core
+latched_standing : (may words : List ℕ) (views : List View) (history : List Entry) (core : View) (k : ℕ)
+    → Standing may words views history core
     → (
     let c : Call = Latch k (get_or words k 0) in
     let more : List Entry = history ++ entry 255 c ∷ [] in
@@ -62,7 +68,9 @@ latched_standing may words views history core k st =
     let b = st.behind in
     record {
       row = zero_row may words k st.row;
-      legal = subst (λ (l : List ℕ). IsLegal (history ++ entry 255 c ∷ []) l) (zero_padded words k) (Leads-push _ (padded_words words) history (entry 255 c) st.legal (sym (get_or_padding words (16 - length words) k)));
+      legal = subst (λ (l : List ℕ). IsLegal (history ++ entry 255 c ∷ []) l) (zero_padded words k)
+          (Leads-push _ (padded_words words) history (entry 255 c) st.legal
+          (sym (get_or_padding words (16 - length words) k)));
       seated = seated_latch history views core more c st.seated;
       seen = seen_more history (entry 255 c ∷ []) views 0 (view_after_call core more c) st.seen (prefix_self more);
       same_may =
@@ -72,7 +80,8 @@ latched_standing may words views history core k st =
       quiet = λ all. zero_quiet words core k n st.behind (st.quiet all);
     }
 
-latches_first : (may : List ℕ) (slots k : ℕ) (me : Seat) → Allows (Kept may) slots 0 me k (λ n. bit_and n 0) (latch_step (step slots k 0 0 none) me)
+latches_first : (may : List ℕ) (slots k : ℕ) (me : Seat) → Allows (Kept may) slots 0 me k (λ n. bit_and n 0)
+    (latch_step (step slots k 0 0 none) me)
 latches_first may slots k me s kept homes at small =
     let st = core_is may s.words s.views kept.0 kept.1 me.0 kept.2 at in
     let n : ℕ = get_or s.words k 0 in
@@ -97,5 +106,7 @@ latches_first may slots k me s kept homes at small =
     )
 
 -- a step of the first seat that sets a word to 0
-pub latches : (may : List ℕ) (slots id k : ℕ) (me : Seat) → id ≡ 0 → Allows (Kept may) slots id me k (λ n. bit_and n 0) (latch_step (step slots k 0 0 none) me)
-latches may slots id k me is = subst (λ (z : ℕ). Allows (Kept may) slots z me k (λ n. bit_and n 0) (latch_step (step slots k 0 0 none) me)) (sym is) (latches_first may slots k me)
+pub latches : (may : List ℕ) (slots id k : ℕ) (me : Seat) → id ≡ 0 → Allows (Kept may) slots id me k (λ n. bit_and n 0)
+    (latch_step (step slots k 0 0 none) me)
+latches may slots id k me is = subst (λ (z : ℕ). Allows (Kept may) slots z me k (λ n. bit_and n 0)
+    (latch_step (step slots k 0 0 none) me)) (sym is) (latches_first may slots k me)

@@ -1,5 +1,6 @@
 -- Lists: what stands in them, and views by their places.
-use Rattle.std.proofs.Common.{◌≡◌, ℕ, zero, suc, ◌<◌, ◌≤◌, ◌⊎◌, List, [], ◌∷◌, ◌++◌, length, map, get_or, drop, refl, sym, ap, subst, inl, inr, ⊎_elim, Contains, arith}
+use Rattle.std.proofs.Common.{◌≡◌, ℕ, zero, suc, ◌<◌, ◌≤◌, ◌⊎◌, List, [], ◌∷◌, ◌++◌, length, map, get_or, drop, refl}
+use Rattle.std.proofs.Common.{sym, ap, subst, inl, inr, ⊎_elim, Contains, arith}
 use mathlib.Core.Option.{some, some-injective, some-ne-none}
 use mathlib.Core.Logic.{dite}
 use native.Mathlib.Decide.{ℕ_discrete}
@@ -12,7 +13,8 @@ module _ {X : Type 0} where
   pub in_tail : (x y : X) (xs : List X) → Contains xs y → Contains (x ∷ xs) y
   in_tail x y xs h = let l = h.1 in (suc h.0, omega arith, h.2)
 
-  in_cases_at : (x y : X) (xs : List X) (k : ℕ) → k < length (x ∷ xs) → get_or (x ∷ xs) k y ≡ y → (x ≡ y) ⊎ Contains xs y
+  in_cases_at : (x y : X) (xs : List X) (k : ℕ) → k < length (x ∷ xs) → get_or (x ∷ xs) k y ≡ y → (x ≡ y)
+      ⊎ Contains xs y
   in_cases_at x y xs zero l e = inl e
   in_cases_at x y xs (suc k) l e = inr (k, omega arith, e)
 
@@ -37,7 +39,8 @@ module _ {X : Type 0} where
   drop_whole (x ∷ xs) = drop_whole xs
 
   -- the last place, or an earlier one
-  pub at_push : (l : List X) (a b : X) (j : ℕ) → get_elem? (l ++ a ∷ []) j ≡ some b → (get_elem? l j ≡ some b) ⊎ ((j ≡ length l) × (a ≡ b))
+  pub at_push : (l : List X) (a b : X) (j : ℕ) → get_elem? (l ++ a ∷ []) j ≡ some b → (get_elem? l j ≡ some b)
+      ⊎ ((j ≡ length l) × (a ≡ b))
   at_push [] a b zero e = inr (refl, some-injective a b e)
   at_push [] a b (suc j) e = absurd (some-ne-none b (sym e))
   at_push (x ∷ xs) a b zero e = inl e
@@ -51,14 +54,20 @@ module _ {X : Type 0} where
 pub dec_in : (n : ℕ) (ns : List ℕ) → Dec (Contains ns n)
 dec_in n [] = no (in_none n)
 dec_in n (m ∷ ms) = dite (ℕ_discrete m n) (λ e. yes (subst (λ (k : ℕ). Contains (k ∷ ms) n) (sym e) (in_head n ms)))
-    (λ ne. elim (dec_in n ms) [ yes h ↦ yes (in_tail m n ms h) | no h ↦ no (λ t. ⊎_elim (λ e. ne e) h (in_cases m n ms t)) ])
+    (λ ne. elim (dec_in n ms) [
+      | yes h ↦ yes (in_tail m n ms h)
+      | no h ↦
+          no (λ t. ⊎_elim (λ e. ne e) h (in_cases m n ms t))
+    ])
 
 -- what stands in a list stands, mapped, in the mapped list, and back
 module _ {X : Type 0} (f : X → ℕ) where
   pub in_map : (x : X) (xs : List X) → Contains xs x → Contains (map f xs) (f x)
   in_map x [] h = absurd (in_none x h)
-  in_map x (y ∷ ys) h = ⊎_elim (λ e. subst (λ (n : ℕ). Contains (n ∷ map f ys) (f x)) (sym (ap f e)) (in_head (f x) (map f ys))) (λ t. in_tail (f y) (f x) (map f ys) (in_map x ys t)) (in_cases y x ys h)
+  in_map x (y ∷ ys) h = ⊎_elim (λ e. subst (λ (n : ℕ). Contains (n ∷ map f ys) (f x)) (sym (ap f e))
+      (in_head (f x) (map f ys))) (λ t. in_tail (f y) (f x) (map f ys) (in_map x ys t)) (in_cases y x ys h)
 
   pub of_map : (n : ℕ) (xs : List X) → Contains (map f xs) n → (x : X) × (Contains xs x × (f x ≡ n))
   of_map n [] h = absurd (in_none n h)
-  of_map n (y ∷ ys) h = ⊎_elim (λ e. (y, (in_head y ys, e))) (λ t. let r = of_map n ys t in (r.0, (in_tail y r.0 ys r.1.0, r.1.1))) (in_cases (f y) n (map f ys) h)
+  of_map n (y ∷ ys) h = ⊎_elim (λ e. (y, (in_head y ys, e))) (λ t. let r = of_map n ys t in
+      (r.0, (in_tail y r.0 ys r.1.0, r.1.1))) (in_cases (f y) n (map f ys) h)

@@ -1,5 +1,6 @@
 -- New words meet the rule.
-use Rattle.std.proofs.Common.{◌≡◌, ℕ, ◌+◌, ◌-◌, ◌*◌, ◌/◌, ◌%◌, ◌^◌, ◌<◌, ◌≤◌, zero, suc, List, [], ◌∷◌, ◌++◌, Some, None, refl, sym, ap, ◌∙◌, subst, arith}
+use Rattle.std.proofs.Common.{◌≡◌, ℕ, ◌+◌, ◌-◌, ◌*◌, ◌/◌, ◌%◌, ◌^◌, ◌<◌, ◌≤◌, zero, suc, List, [], ◌∷◌, ◌++◌, Some}
+use Rattle.std.proofs.Common.{None, refl, sym, ap, ◌∙◌, subst, arith}
 use Rattle.std.proofs.lemmas.List.{replicate-append-replicate}
 use Rattle.std.specs.Int.{bit_at}
 use Rattle.std.proofs.lemmas.Nat.Bits.{bit_at-zero}
@@ -19,14 +20,16 @@ blank_row : (may : List ℕ) (n : ℕ) → n ≤ 16 → ((irq : ℕ) → IsPendi
 blank_row may n l covers = record {
   short = subst (λ (m : ℕ). m ≤ 16) (sym (blank_long n)) l;
   low = λ k. subst (λ (m : ℕ). m < 2 ^ 32) (sym (zeros n k)) (omega arith);
-  within = λ irq h. let z : pending_bit (blank n) irq ≡ 0 = ap (λ w. bit_at w (irq % 32)) (zeros n (irq / 32)) ∙ bit_at-zero (irq % 32) in absurd (omega arith);
+  within = λ irq h. let z : pending_bit (blank n) irq ≡ 0 = ap (λ w. bit_at w (irq % 32)) (zeros n (irq / 32))
+      ∙ bit_at-zero (irq % 32) in absurd (omega arith);
   covers = λ irq h. let c = covers irq h in subst (λ (m : ℕ). irq / 32 < m) (sym (blank_long n)) (omega arith);
 }
 
 blank_padded : (n : ℕ) → n ≤ 16 → blank 16 ≡ padded_words (blank n)
 blank_padded n l =
     let whole : n + (16 - n) ≡ 16 = omega arith in
-    sym (ap (λ (m : ℕ). blank n ++ blank (16 - m)) (blank_long n) ∙ replicate-append-replicate n (16 - n) 0 ∙ ap blank whole)
+    sym (ap (λ (m : ℕ). blank n ++ blank (16 - m)) (blank_long n) ∙ replicate-append-replicate n (16 - n) 0
+    ∙ ap blank whole)
 
 new_seated : (may : List ℕ) → Seated [] (newcomer may ∷ []) (newcomer may)
 new_seated may = record {
@@ -40,20 +43,24 @@ new_seated may = record {
   unmade = λ number other out. refl;
 }
   where
-    none_claims : (seat number : ℕ) (v : View) → get_elem? (newcomer may ∷ []) seat ≡ some v → number_of v ≡ Some number → ⊥
-    none_claims zero number v at is = let e : None ≡ Some number = ap number_of (some-injective (newcomer may) v at) ∙ is in cc
+    none_claims : (seat number : ℕ) (v : View) → get_elem? (newcomer may ∷ []) seat ≡ some v → number_of v ≡ Some number
+        → ⊥
+    none_claims zero number v at is = let e : None ≡ Some number = ap number_of (some-injective (newcomer may) v at)
+        ∙ is in cc
     none_claims (suc seat) number v at is = absurd (some-ne-none v (sym at))
 
-pub opens : (may words : List ℕ) (n : ℕ) → words ≡ blank n → n ≤ 16 → ((irq : ℕ) → IsPending may irq → irq < 32 * n) → Standing may words (newcomer may ∷ []) [] (newcomer may)
-opens may words n is l covers = subst (λ (ws : List ℕ). Standing may ws (newcomer may ∷ []) [] (newcomer may)) (sym is) record {
-  row = blank_row may n l covers;
-  legal = blank_padded n l;
-  seated = new_seated may;
-  seen = unseen;
-  same_may = λ seat v at lives. known seat v at;
-  behind = omega arith;
-  quiet = λ all k word h. absurd (in_none _ h);
-}
+pub opens : (may words : List ℕ) (n : ℕ) → words ≡ blank n → n ≤ 16 → ((irq : ℕ) → IsPending may irq → irq < 32 * n)
+    → Standing may words (newcomer may ∷ []) [] (newcomer may)
+opens may words n is l covers = subst (λ (ws : List ℕ). Standing may ws (newcomer may ∷ []) [] (newcomer may)) (sym is)
+    record {
+      row = blank_row may n l covers;
+      legal = blank_padded n l;
+      seated = new_seated may;
+      seen = unseen;
+      same_may = λ seat v at lives. known seat v at;
+      behind = omega arith;
+      quiet = λ all k word h. absurd (in_none _ h);
+    }
   where
     unseen : (seat : ℕ) (v : View) → get_elem? (newcomer may ∷ []) seat ≡ some v → IsPrefix v.seen []
     unseen zero v at = subst (λ (x : View). IsPrefix x.seen []) (some-injective (newcomer may) v at) (prefix_none [])

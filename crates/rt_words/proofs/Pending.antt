@@ -1,5 +1,7 @@
 -- A pend keeps the rule.
-use Rattle.std.proofs.Common.{◌≡◌, ℕ, ◌+◌, ◌-◌, ◌*◌, ◌/◌, ◌%◌, ◌^◌, ◌<◌, ◌≢◌, if◌then◌else◌, List, [], ◌∷◌, ◌++◌, length, get_or, set, bit_or, refl, sym, ap, ◌∙◌, subst, arith, length-set, get_or-set_same, get_or-set_other, eq-eqb, ne_eqb}
+use Rattle.std.proofs.Common.{◌≡◌, ℕ, ◌+◌, ◌-◌, ◌*◌, ◌/◌, ◌%◌, ◌^◌, ◌<◌, ◌≢◌, if◌then◌else◌, List, [], ◌∷◌, ◌++◌}
+use Rattle.std.proofs.Common.{length, get_or, set, bit_or, refl, sym, ap, ◌∙◌, subst, arith, length-set}
+use Rattle.std.proofs.Common.{get_or-set_same, get_or-set_other, eq-eqb, ne_eqb}
 use Rattle.std.specs.Int.{bit_at}
 use Rattle.std.proofs.lemmas.Nat.{or_of_32, pow_below}
 use Rattle.std.proofs.lemmas.Nat.Bits.{bit_at-pow_same, bit_at-pow_other, bit_at-lt}
@@ -32,28 +34,38 @@ one_power a b e = dite (ℕ_discrete a b) (λ h. h) (λ ne.
     let same : bit_at (2 ^ a) a ≡ bit_at (2 ^ b) a = ap (λ n. bit_at n a) e in
     absurd (omega arith))
 
-answered_at : (words : List ℕ) (irq n : ℕ) → get_or words (irq / 32) 0 ≡ n → Dec (bit_at n (irq % 32) ≡ 1) → IsAnswered words (Pend irq (answer_at n (irq % 32)))
-answered_at words irq n is (yes e) = subst (λ b. IsAnswered words (Pend irq (if b then Merged else Raised))) (sym (eq-eqb (bit_at n (irq % 32)) 1 e)) (ap (λ w. bit_at w (irq % 32)) is ∙ e)
+answered_at : (words : List ℕ) (irq n : ℕ) → get_or words (irq / 32) 0 ≡ n → Dec (bit_at n (irq % 32) ≡ 1)
+    → IsAnswered words (Pend irq (answer_at n (irq % 32)))
+answered_at words irq n is (yes e) = subst (λ b. IsAnswered words (Pend irq (if b then Merged else Raised)))
+    (sym (eq-eqb (bit_at n (irq % 32)) 1 e)) (ap (λ w. bit_at w (irq % 32)) is ∙ e)
 answered_at words irq n is (no ne) =
     let l = bit_at-lt n (irq % 32) in
     let z : bit_at n (irq % 32) ≡ 0 = omega arith in
-    subst (λ b. IsAnswered words (Pend irq (if b then Merged else Raised))) (sym (ne_eqb (bit_at n (irq % 32)) 1 ne)) (ap (λ w. bit_at w (irq % 32)) is ∙ z)
+    subst (λ b. IsAnswered words (Pend irq (if b then Merged else Raised))) (sym (ne_eqb (bit_at n (irq % 32)) 1 ne))
+    (ap (λ w. bit_at w (irq % 32)) is ∙ z)
 
 -- Merged exactly where the bit stood
-answered : (words : List ℕ) (irq n : ℕ) → get_or words (irq / 32) 0 ≡ n → IsAnswered words (Pend irq (answer_at n (irq % 32)))
+answered : (words : List ℕ) (irq n : ℕ) → get_or words (irq / 32) 0 ≡ n
+    → IsAnswered words (Pend irq (answer_at n (irq % 32)))
 answered words irq n is = answered_at words irq n is (ℕ_discrete (bit_at n (irq % 32)) 1)
 
 abbrev pend_in : List ℕ → ℕ → List ℕ
 pend_in words irq = set words (irq / 32) (with_bit (get_or words (irq / 32) 0) (irq % 32))
 
-low_by : (words : List ℕ) (irq : ℕ) → irq / 32 < length words → ((k : ℕ) → get_or words k 0 < 2 ^ 32) → (k : ℕ) → Dec (k ≡ irq / 32) → get_or (pend_in words irq) k 0 < 2 ^ 32
+low_by : (words : List ℕ) (irq : ℕ) → irq / 32 < length words → ((k : ℕ) → get_or words k 0 < 2 ^ 32) → (k : ℕ)
+    → Dec (k ≡ irq / 32) → get_or (pend_in words irq) k 0 < 2 ^ 32
 low_by words irq l low k (yes e) =
-    let here : get_or (pend_in words irq) k 0 ≡ with_bit (get_or words (irq / 32) 0) (irq % 32) = ap (λ i. get_or (pend_in words irq) i 0) e ∙ get_or-set_same words (irq / 32) _ 0 l in
+    let here : get_or (pend_in words irq) k 0 ≡ with_bit (get_or words (irq / 32) 0) (irq % 32) =
+    ap (λ i. get_or (pend_in words irq) i 0) e ∙ get_or-set_same words (irq / 32) _ 0 l in
     let bit : irq % 32 < 32 = omega arith in
-    subst (λ (n : ℕ). n < 2 ^ 32) (sym here) (or_of_32 (get_or words (irq / 32) 0) (2 ^ (irq % 32)) (low (irq / 32)) (pow_below (irq % 32) 32 bit))
-low_by words irq l low k (no ne) = subst (λ (n : ℕ). n < 2 ^ 32) (sym (get_or-set_other words (irq / 32) k _ 0 ne)) (low k)
+    subst (λ (n : ℕ). n < 2 ^ 32) (sym here) (or_of_32 (get_or words (irq / 32) 0) (2 ^ (irq % 32)) (low (irq / 32))
+    (pow_below (irq % 32) 32 bit))
+low_by words irq l low k (no ne) = subst (λ (n : ℕ). n < 2 ^ 32) (sym (get_or-set_other words (irq / 32) k _ 0 ne))
+    (low k)
 
-within_by : (may words : List ℕ) (irq : ℕ) → irq / 32 < length words → IsPending may irq → ((i : ℕ) → IsPending words i → IsPending may i) → (i : ℕ) → IsPending (pend_in words irq) i → Dec (i ≡ irq) → IsPending may i
+within_by : (may words : List ℕ) (irq : ℕ) → irq / 32 < length words → IsPending may irq
+    → ((i : ℕ) → IsPending words i → IsPending may i) → (i : ℕ) → IsPending (pend_in words irq) i → Dec (i ≡ irq)
+    → IsPending may i
 within_by may words irq l may_be within i h (yes e) = subst (λ (n : ℕ). IsPending may n) (sym e) may_be
 within_by may words irq l may_be within i h (no ne) = within i (sym (pend_other words irq i (λ _. l) ne) ∙ h)
 
@@ -68,7 +80,8 @@ pend_row may words irq may_be is =
       covers = λ i h. let c = is.covers i h in omega arith;
     }
 
-pend_padded : (words : List ℕ) (irq : ℕ) (a : Pended) → irq / 32 < length words → after (padded_words words) (Pend irq a) ≡ padded_words (pend_in words irq)
+pend_padded : (words : List ℕ) (irq : ℕ) (a : Pended) → irq / 32 < length words
+    → after (padded_words words) (Pend irq a) ≡ padded_words (pend_in words irq)
 pend_padded words irq a l =
     let i : ℕ = irq / 32 in
     let n : ℕ = with_bit (get_or words i 0) (irq % 32) in
@@ -76,7 +89,8 @@ pend_padded words irq a l =
     ∙ set_padding words (blank (16 - length words)) i n l
     ∙ ap (λ (m : ℕ). set words i n ++ blank (16 - m)) (sym (length-set words i n))
 
-pended_standing : (may words : List ℕ) (views : List View) (history : List Entry) (core : View) (id irq : ℕ) (v : View) → Standing may words views history core
+pended_standing : (may words : List ℕ) (views : List View) (history : List Entry) (core : View) (id irq : ℕ) (v : View)
+    → Standing may words views history core
     → get_elem? views id ≡ some v → v.stage ≡ Device → IsPending may irq
     → (c : Call) → c ≡ Pend irq (answer_at (get_or words (irq / 32) 0) (irq % 32))
     → Standing may (pend_in words irq) (set views id (view_after_call v (history ++ entry v.line c ∷ []) c))
@@ -86,10 +100,12 @@ pended_standing may words views history core id irq v st at stage may_be c is =
     let l = st.row.covers irq may_be in
     let mine = st.seated.lines id v.line v at (numbered v Device stage) in
     let more : List Entry = history ++ entry v.line c ∷ [] in
-    let a : IsAnswered (padded_words words) c = subst (λ (x : Call). IsAnswered (padded_words words) x) (sym is) (answered (padded_words words) irq n (get_or_padding words (16 - length words) (irq / 32))) in
+    let a : IsAnswered (padded_words words) c = subst (λ (x : Call). IsAnswered (padded_words words) x) (sym is)
+    (answered (padded_words words) irq n (get_or_padding words (16 - length words) (irq / 32))) in
     record {
       row = pend_row may words irq may_be st.row;
-      legal = subst (λ (x : List ℕ). IsLegal (history ++ entry v.line c ∷ []) x) (ap (λ (x : Call). after (padded_words words) x) is ∙ pend_padded words irq (answer_at n (irq % 32)) l)
+      legal = subst (λ (x : List ℕ). IsLegal (history ++ entry v.line c ∷ []) x)
+          (ap (λ (x : Call). after (padded_words words) x) is ∙ pend_padded words irq (answer_at n (irq % 32)) l)
           (Leads-push _ (padded_words words) history (entry v.line c) st.legal a);
       seated = seated_pend history views core id v more c st.seated at stage;
       seen = seen_more history (entry v.line c ∷ []) views id (view_after_call v more c) st.seen (prefix_self more);
@@ -100,7 +116,8 @@ pended_standing may words views history core id irq v st at stage may_be c is =
 
 -- a device's step that sets the bit of an interrupt
 pub pends : (may : List ℕ) (slots id irq : ℕ) (me : Seat) → me.0.stage ≡ Device → IsPending may irq
-    → Allows (Kept may) slots id me (irq / 32) (λ n. bit_or n (2 ^ (irq % 32))) (pend_step (step slots (irq / 32) (2 ^ (irq % 32)) 0 none) me)
+    → Allows (Kept may) slots id me (irq / 32) (λ n. bit_or n (2 ^ (irq % 32)))
+    (pend_step (step slots (irq / 32) (2 ^ (irq % 32)) 0 none) me)
 pends may slots id irq me stage may_be s kept homes at small =
     let n : ℕ = get_or s.words (irq / 32) 0 in
     let c : Call = Pend irq (answer_at n (irq % 32)) in
@@ -125,11 +142,14 @@ pends may slots id irq me stage may_be s kept homes at small =
     )
 
 -- the same, at the word and the operand of the code
-pub pends_as : (may : List ℕ) (slots id irq word mask : ℕ) (me : Seat) → word ≡ irq / 32 → mask ≡ 2 ^ (irq % 32) → me.0.stage ≡ Device → IsPending may irq
+pub pends_as : (may : List ℕ) (slots id irq word mask : ℕ) (me : Seat) → word ≡ irq / 32 → mask ≡ 2 ^ (irq % 32)
+    → me.0.stage ≡ Device → IsPending may irq
     → Allows (Kept may) slots id me word (λ n. bit_or n mask) (pend_step (step slots word mask 0 none) me)
 pends_as may slots id irq word mask me w m stage may_be =
-    subst (λ (x : ℕ). Allows (Kept may) slots id me x (λ n. bit_or n mask) (pend_step (step slots x mask 0 none) me)) (sym w)
-    (subst (λ (y : ℕ). Allows (Kept may) slots id me (irq / 32) (λ n. bit_or n y) (pend_step (step slots (irq / 32) y 0 none) me)) (sym m) (pends may slots id irq me stage may_be))
+    subst (λ (x : ℕ). Allows (Kept may) slots id me x (λ n. bit_or n mask) (pend_step (step slots x mask 0 none) me))
+    (sym w)
+    (subst (λ (y : ℕ). Allows (Kept may) slots id me (irq / 32) (λ n. bit_or n y)
+    (pend_step (step slots (irq / 32) y 0 none) me)) (sym m) (pends may slots id irq me stage may_be))
 
 -- the answer, by the test of the bit
 pub answer_merged : (found bit : ℕ) → bit_at found bit ≡ 1 → answer_at found bit ≡ Merged

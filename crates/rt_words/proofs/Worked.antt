@@ -21,5 +21,6 @@ is_legal = (refl, (refl, (refl, (refl, refl))))
 core_part : part history 255 ≡ Latch 0 8 ∷ []
 core_part = refl
 
-counts : (raised_count 3 (calls_in history) ≡ 2) × (merged_count 3 (calls_in history) ≡ 1) × (latched_count 3 (calls_in history) ≡ 1) × (pending_bit left 3 ≡ 1)
+counts : (raised_count 3 (calls_in history) ≡ 2) × (merged_count 3 (calls_in history) ≡ 1)
+    × (latched_count 3 (calls_in history) ≡ 1) × (pending_bit left 3 ≡ 1)
 counts = (refl, refl, refl, refl)

@@ -102,10 +102,10 @@ fn rest_difference(alloc: Global, ran: &mut Ran, case: &Case) -> Result<&'static
     Ok(output_difference(ran, case))
 }
 
-/// What is told of a case: `ok`, or what differs. The parts of a case are `words`, where they are not these; the
-/// texts `app`, `second` and `third`, where without the last the third source may not be read; the numbers of calls that
-/// fail, `app_fails`, `second_fails`, `third_fails` and `out_fails`; the `room` of the sink; and what is wanted, `exit`,
-/// `output` and `second_left`, what the second source still has, where the case says that.
+/// What is told of a case: `ok`, or what differs. The parts of a case are `words`, where they are not these; the texts
+/// `app`, `second` and `third`, where without the last the third source may not be read; the numbers of calls that
+/// fail, `app_fails`, `second_fails`, `third_fails` and `out_fails`; the `room` of the sink; and what is wanted,
+/// `exit`, `output` and `second_left`, what the second source still has, where the case says that.
 pub fn verdict<R: Threads + Sync>(
     rt: &R,
     alloc: Global,

@@ -1,5 +1,5 @@
--- The system ceiling of Baker's machine, and how many steps the running job has left (Stack-Based Scheduling of Realtime
--- Processes, 1991), told of the jobs that an auditor keeps.
+-- The system ceiling of Baker's machine, and how many steps the running job has left (Stack-Based Scheduling of
+-- Realtime Processes, 1991), told of the jobs that an auditor keeps.
 use Rattle.std.specs.Prelude.{ℕ, max, nat_le, Bool, true, false, ◌&&◌, List, [], ◌∷◌, map}
 use Rattle.std.specs.List.{list_all}
 use Rattle.rt_ids.specs.Lists.{greatest}

@@ -8,7 +8,8 @@ use Rattle.rt_baker_moves.specs.Waiting.{insert_before}
 
 -- an interrupt comes to be pending: where something serves it, it waits at its index
 abbrev pub waiting_with : App → ℕ → List ℕ → List ℕ
-waiting_with app irq waiting = if nat_lt 0 (priority_of app irq) then insert_before (goes_before app) irq waiting else waiting
+waiting_with app irq waiting = if nat_lt 0 (priority_of app irq) then insert_before (goes_before app) irq waiting else
+    waiting
 
 -- without the first of this number
 abbrev pub without : ℕ → List ℕ → List ℕ

@@ -10,7 +10,8 @@ use Rattle.rt_baker_work.specs.Work.{Work}
 
 -- a spawn, of which a variable is told where there is one
 abbrev pub make_spawn : App → Option ℕ → Spawn → Later → Later
-make_spawn app variable s later vars vs = spawn_actions app (value_in vars vs) s (λ granted. give_answer variable granted
+make_spawn app variable s later vars vs = spawn_actions app (value_in vars vs) s
+    (λ granted. give_answer variable granted
     later vars) vs
 
 -- Things to do came on top, which are to do first whatever is left behind them.

@@ -95,7 +95,8 @@ tables_after_listing priority t l = record {
 
 -- the tables after a body of this priority that lists these and does this
 abbrev pub tables_after_body : App → ℕ → List Listed → Block → Tables → Tables
-tables_after_body app priority shared block t = fold (tables_after_spawn app priority) (fold (tables_after_listing priority) t shared) (spawns block)
+tables_after_body app priority shared block t = fold (tables_after_spawn app priority)
+    (fold (tables_after_listing priority) t shared) (spawns block)
 
 -- the tables after `init` or `idle`, where it is declared
 abbrev pub used_by_thread : App → Tables → Option Body → Tables

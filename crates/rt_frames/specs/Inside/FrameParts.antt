@@ -21,7 +21,14 @@ both a b = record {
 
 -- what an expression needs
 abbrev pub expression_parts : Expression → Parts
-expression_parts e = record { variables = 0; depth = saturated_number (depth e); has_loop = false; locks = 0; spawns = 0 }
+expression_parts e = record {
+  variables = 0;
+  depth = saturated_number (depth e);
+  has_loop = false;
+  locks = 0;
+  spawns =
+      0;
+}
 
 -- what a spawn needs
 abbrev pub spawn_parts : Spawn → Parts

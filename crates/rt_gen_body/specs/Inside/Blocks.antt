@@ -72,7 +72,8 @@ module _ (c : Context) where
       ∷ (block (max threshold (guard_at r).ceiling) (next_slot lock) (at + 1)
       ++ leave_line (section.Res r) (guard_at r) threshold lock ∷ [])
 
-  -- the code of a statement, at a static preemption threshold, with a slot for the mask of the next section, from an address on
+  -- the code of a statement, at a static preemption threshold, with a slot for the mask of the next section, from an
+  -- address on
   abbrev mutual
     pub statement_code : ℕ → ℕ → ℕ → Statement → List Line
     statement_code threshold lock at (Bind x v) = bind_code c threshold at x v

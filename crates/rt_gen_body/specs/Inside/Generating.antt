@@ -29,7 +29,8 @@ pub record IsReady (g : Generator) : Type 0 where
   -- and by the rows of its messages that may be armed
   pub rows : g.rows.now ≡ g.plan.now.app.now
 
--- the blocks of a body with so many arguments, at a preemption threshold, in an application whose resources are guarded so
+-- the blocks of a body with so many arguments, at a preemption threshold, in an application whose resources are guarded
+-- so
 abbrev pub slots_code : App → List Guard → ℕ → ℕ → Body → ℕ → List Line
 slots_code app guards args threshold b entry =
     let with : Context = record {

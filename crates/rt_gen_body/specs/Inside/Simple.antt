@@ -27,7 +27,8 @@ timed_lines timed.Cancel app n threshold slot at = cancel_code app n threshold s
 timed_lines timed.Move app n threshold slot at = move_code app n threshold slot at
 
 module _ (c : Context) where
-  -- a spawn whose arguments are there, at a static preemption threshold, from an address on; none of what is no software task
+  -- a spawn whose arguments are there, at a static preemption threshold, from an address on; none of what is no
+  -- software task
   abbrev pub message_code : ℕ → ℕ → ℕ → List Line
   message_code threshold at n =
       if is_some_and is_software (slice_get c.app.tasks n) then spawn_code c.app n threshold c.spawns at else []

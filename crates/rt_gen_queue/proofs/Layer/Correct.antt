@@ -29,7 +29,8 @@ at_passed {z = z} h correct =
 
 pub by_line : {z : Setting} {h : Here} (i : Instr) (told : Option Note) → slice_get z.code h.at ≡ Some (i, told)
     → InTime (suc h.done) h
-    → LineFits (storage z.app) z.code z.bodies z.thread z.who (Some (i, told)) (spot_after_step (spot z h)) (Later z h) → S z h
+    → LineFits (storage z.app) z.code z.bodies z.thread z.who (Some (i, told)) (spot_after_step (spot z h)) (Later z h)
+    → S z h
 by_line {z = z} {h = h} i told here time fits =
     let one : suc (h.until - suc h.done) ≡ h.until - h.done = omega (arith, time.0) in
     record {

@@ -8,7 +8,8 @@ use Rattle.rt_gen_queue.proofs.Vocabulary.{◌==◌, ◌∙◌, ◌≡◌, ◌�
 use Rattle.std.specs.Option.{option_to_list}
 use Rattle.rt_lemmas.proofs.Membership.{all_from_members}
 use Rattle.rt_ids.specs.declared.op.Op.{Op}
-use Rattle.rt_code.{proofs.Done.effect_is_done, specs.Effect.unchecked_effect, specs.Effect.next, specs.Effect.next_with_slot}
+use Rattle.rt_code.{proofs.Done.effect_is_done, specs.Effect.unchecked_effect, specs.Effect.next}
+use Rattle.rt_code.{specs.Effect.next_with_slot}
 use Rattle.rt_code.{specs.Operands.are_there, specs.Operands.slots_of, specs.Processor.Processor}
 use Rattle.rt_code.specs.Access.{Access, Loads, Stores, access_of, cell_of, cells_of}
 use Rattle.rt_code.specs.declared.instr.Instr.TheVariants as instr

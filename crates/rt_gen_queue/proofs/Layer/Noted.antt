@@ -2,7 +2,8 @@
 use Rattle.rt_gen_queue.proofs.Vocabulary.{Action, Agree, Clocks, Doing, Emits, Entry, Guarded, HasCode, Holder, Instr}
 use Rattle.rt_gen_queue.proofs.Vocabulary.{Line, LineFits, List, None, Posts, SetsAlarm, Some, Values, and_right, ap}
 use Rattle.rt_gen_queue.proofs.Vocabulary.{arith, delays, does, effect, is_open, least_instant, length, length-set, map}
-use Rattle.rt_gen_queue.proofs.Vocabulary.{spot_after_step, plain, refl, slice_index, slice_set, storage, subst, suc, sym, true}
+use Rattle.rt_gen_queue.proofs.Vocabulary.{spot_after_step, plain, refl, slice_index, slice_set, storage, subst, suc}
+use Rattle.rt_gen_queue.proofs.Vocabulary.{sym, true}
 use Rattle.rt_gen_queue.proofs.Vocabulary.{ℕ, ◌+◌, ◌<◌, ◌^◌, ◌∙◌, ◌∷◌, ◌≡◌}
 use Rattle.rt_ids.specs.declared.ids.Section.TheVariants as section
 use Rattle.rt_code.specs.Acting.{Acts}
@@ -46,7 +47,8 @@ module _ {size mask : ℕ} where
     pub goes_later : {rest : Doing Values} {after : List ℕ} → length after ≡ length ws → MayRun f (line ∷ lines) h ws
         → HasCode z.code (suc h.at) (map (placed f.slot) lines)
         → Straight z f lines (behind_line h places cells queues rest) after
-        → Later z h (spot_after_step (spot z (Now f (record (behind_line h places cells queues rest) { done = h.done }) after)))
+        → Later z h
+        (spot_after_step (spot z (Now f (record (behind_line h places cells queues rest) { done = h.done }) after)))
     goes_later {rest = rest} {after = after} long may has on =
         at_passed (Now f (record (behind_line h places cells queues rest) { done = h.done }) after)
         (on.runs (may_follow places cells queues rest after long may) has)

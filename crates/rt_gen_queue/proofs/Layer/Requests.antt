@@ -2,7 +2,8 @@
 use Rattle.rt_gen_queue.proofs.Vocabulary.{Action, Agree, Asks, BodyRow, Bool, Clocks, Doing, Emits, Goes, Guarded}
 use Rattle.rt_gen_queue.proofs.Vocabulary.{Holder, Instr, Leads, MayAccess, None, Posts, Returns, SetsAlarm, Some}
 use Rattle.rt_gen_queue.proofs.Vocabulary.{Values, [], body_frame, caller_frame, delays, does, effect as action_effect}
-use Rattle.rt_gen_queue.proofs.Vocabulary.{false, is_open, least_instant, length, spot_after_step, plain, processor_of, refl}
+use Rattle.rt_gen_queue.proofs.Vocabulary.{false, is_open, least_instant, length, spot_after_step, plain, processor_of}
+use Rattle.rt_gen_queue.proofs.Vocabulary.{refl}
 use Rattle.rt_gen_queue.proofs.Vocabulary.{slice_get, slice_index, slice_set, storage, subst, suc, sym, true, ℕ, ◌<◌}
 use Rattle.rt_gen_queue.proofs.Vocabulary.{◌^◌, ◌≡◌}
 use Rattle.rt_ids.specs.declared.ids.Section.TheVariants as section
@@ -23,7 +24,8 @@ Follows z h values rest =
 -- the next action, and what follows it
 abbrev pub acts : {z : Setting} {h : Here} {values : Values} {rest : Values → Doing Values} (action : Action)
     → h.rest ≡ does action values (λ answer. rest) → Follows z h values (λ vs. rest (action_effect action vs))
-    → Acts (storage z.app) z.bodies z.who action 0 (record (spot_after_step (spot z h)) { address = suc h.at }) (Later z h)
+    → Acts (storage z.app) z.bodies z.who action 0 (record (spot_after_step (spot z h)) { address = suc h.at })
+    (Later z h)
 acts {h = h} {values = values} {rest = rest} action is on = record {
   values = values;
   follows = λ answer. rest;
@@ -44,7 +46,8 @@ asks_for {z = z} {h = h} i asked to here time leads may asks =
     (record {
       touches = may;
       goes = λ now b m early.
-          subst (λ (e : Effect). Goes (storage z.app) z.code z.bodies z.thread z.who None b m (spot_after_step (spot z h))
+          subst (λ (e : Effect). Goes (storage z.app) z.code z.bodies z.thread z.who None b m
+          (spot_after_step (spot z h))
           (Later z h) e) (sym (leads now b m)) (refl, refl, kept_same h.held h.slots, asks);
     })
 
@@ -95,7 +98,8 @@ module _ {z : Setting} {h : Here} where
       (record {
         touches = tt;
         goes = λ now b m early.
-            subst (λ (e : Effect). Goes (storage z.app) z.code z.bodies z.thread z.who None b m (spot_after_step (spot z h))
+            subst (λ (e : Effect). Goes (storage z.app) z.code z.bodies z.thread z.who None b m
+            (spot_after_step (spot z h))
             (Later z h) e)
             (sym (effect_is_done (instr.Clock d) now (processor_of (spot z h) b m) refl
             (one_there d (length h.slots) there))) (

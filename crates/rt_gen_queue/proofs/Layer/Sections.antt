@@ -2,7 +2,8 @@
 use Rattle.rt_gen_queue.proofs.Vocabulary.{Agree, AllByRecursion, Contains, Doing, Enters, Entry, Guarded, Held, Holder}
 use Rattle.rt_gen_queue.proofs.Vocabulary.{Instr, IsKindFor, IsWithin, Kind, Leaves, List, NobodyKeeps, Section, Some}
 use Rattle.rt_gen_queue.proofs.Vocabulary.{TakesOver, Values, [], ap, arith, closing_instr, does, drop, false, is_open}
-use Rattle.rt_gen_queue.proofs.Vocabulary.{length, map, line_with_note, opening_instr, spot_after_step, refl, saved_slot, saved_slots, slots_with_mask}
+use Rattle.rt_gen_queue.proofs.Vocabulary.{length, map, line_with_note, opening_instr, spot_after_step, refl}
+use Rattle.rt_gen_queue.proofs.Vocabulary.{saved_slot, saved_slots, slots_with_mask}
 use Rattle.rt_gen_queue.proofs.Vocabulary.{slice_get, slice_index, storage, subst, suc, sym, ℕ, ◌+◌, ◌-◌, ◌<◌, ◌∙◌, ◌∷◌}
 use Rattle.rt_gen_queue.proofs.Vocabulary.{◌≡◌}
 use Rattle.rt_code.specs.Masking.{inside}
@@ -75,7 +76,8 @@ module _ {z : Setting} {h : Here} where
 
   -- out of it: the deadlines are those around it
   pub leaves_here : {i : Instr} {x : Section} {values : Values} {rest : Values → Doing Values} (kind : Kind)
-      (may : MayClose h x kind) → slice_get z.code h.at ≡ Some (line_with_note i (note.Leave x)) → i ≡ closing_instr kind
+      (may : MayClose h x kind) → slice_get z.code h.at ≡ Some (line_with_note i (note.Leave x)) → i
+      ≡ closing_instr kind
       → InTime (suc h.done) h → h.rest ≡ does (Leaves x) values (λ answer. rest)
       → (storage z.app).Spells (Guarded x) (slice_index h.cells) (h.queues (Guarded x)) (values (Guarded x))
       → ((vs : Values) → Agree (storage z.app) z.who may.outer vs values

@@ -86,7 +86,8 @@ row_with_entering e row = if is_same_section row.section e.section then with_ent
 -- the rows with one more entering
 abbrev pub rows_with_entering : Entering → List Entering → List Entering
 rows_with_entering e rows =
-    if list_any (λ row. is_same_section row.section e.section) rows then map (row_with_entering e) rows else rows ++ e ∷ []
+    if list_any (λ row. is_same_section row.section e.section) rows then map (row_with_entering e) rows else rows ++ e
+    ∷ []
 
 -- each entering holds off everyone who enters
 abbrev pub holds_off : Entering → Bool

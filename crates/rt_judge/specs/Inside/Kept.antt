@@ -20,7 +20,8 @@ OperatesAt img p = (i : Instr) (told : Option Note) → slice_get img.code p.add
 
 -- the note that stands there is right there
 abbrev pub NotesAt : Image → Point → Type 0
-NotesAt img p = (i : Instr) (told : Option Note) → slice_get img.code p.address ≡ Some (i, told) → IsNotedWell img p i told
+NotesAt img p = (i : Instr) (told : Option Note) → slice_get img.code p.address ≡ Some (i, told)
+    → IsNotedWell img p i told
 
 -- a section is entered there, by this instruction
 abbrev pub EntersBy : Image → Point → Instr → Section → Type 0

@@ -17,7 +17,8 @@ use Rattle.rt_judge.specs.declared.findings.Findings.{Findings}
 use Rattle.rt_judge.specs.declared.walk.Visit.{Visit}
 
 -- a walk from some visits, and what was found on it
-pub record LooksFrom (img : Image) (owner : Owner) (starts : List Visit) (old new : Findings) (bs : List Visit) : Type 0 where
+pub record LooksFrom (img : Image) (owner : Owner) (starts : List Visit) (old new : Findings) (bs : List Visit) : Type
+    0 where
   pub table : Table
   pub walked : IsWalked img owner starts table bs
   pub finds : (ps : List Point) → Finds img ps old → Finds img (ps ++ points_of owner table.entries) new

@@ -47,8 +47,10 @@ pub record IsTouching (img : Image) (ps : List Point) (cell : ℕ) (t : Touching
   pub touches : Toucher img ps cell first access
   pub value : owner_value img first.owner ≡ t.value
   pub differ : SomeIfTrue t.differ (λ p a. Toucher img ps cell p a × (owner_value img p.owner ≢ t.value))
-  pub guards : (x : Section) → IsIn t.sections.items x → (p : Point) (a : Access) → Toucher img ps cell p a → IsIn (sections p.inside) x
-  pub guarding : (x : Section) → ((p : Point) (a : Access) → Toucher img ps cell p a → IsIn (sections p.inside) x) → IsIn t.sections.items x
+  pub guards : (x : Section) → IsIn t.sections.items x → (p : Point) (a : Access) → Toucher img ps cell p a
+      → IsIn (sections p.inside) x
+  pub guarding : (x : Section) → ((p : Point) (a : Access) → Toucher img ps cell p a → IsIn (sections p.inside) x)
+      → IsIn t.sections.items x
 
 -- what a row has of a cell
 abbrev pub TellsOfTouching : Image → List Point → ℕ → Option Touching → Type 0

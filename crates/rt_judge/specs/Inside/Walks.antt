@@ -1,5 +1,6 @@
 -- How far a walk through an owner's code has come.
-use Rattle.std.specs.Prelude.{◌≡◌, ◌≢◌, ◌⊎◌, ℕ, suc, ◌+◌, ◌≤◌, ◌<◌, ◌^◌, Bool, true, false, not, List, [], ◌∷◌, ◌++◌, map, length}
+use Rattle.std.specs.Prelude.{◌≡◌, ◌≢◌, ◌⊎◌, ℕ, suc, ◌+◌, ◌≤◌, ◌<◌, ◌^◌, Bool, true, false, not, List, [], ◌∷◌, ◌++◌}
+use Rattle.std.specs.Prelude.{map, length}
 use Rattle.std.specs.Prelude.{slice_get, Option, Some, None, if◌then◌else◌}
 use Rattle.std.specs.List.{AllByRecursion, Contains}
 use Rattle.std.specs.BTreeMap.{BTreeMap, get, btree_map_len, IsOrdered, Updates}
@@ -42,7 +43,8 @@ ArePoints img owner visits = AllByRecursion (λ visit. IsPoint img (point_of own
 abbrev pub Meets : Image → Owner → Table → Visit → Meeting → Type 0
 Meets img owner table visit New = (get nat_cmp table visit.address ≡ None) × (length visit.nesting ≤ MOST_OPEN)
 Meets img owner table visit Known = Has table visit
-Meets img owner table visit Ambiguous = IsTable img owner table → IsPoint img (point_of owner visit) → ¬ NestsInOneWay img
+Meets img owner table visit Ambiguous = IsTable img owner table → IsPoint img (point_of owner visit)
+    → ¬ NestsInOneWay img
 
 -- one visit more, where it is so
 abbrev pub more : Bool → Visit → List Visit → List Visit

@@ -22,7 +22,8 @@ IsBest n kept = IsBestBelow n IRQ_NUMBERS kept
 -- the same, whatever is pending, where these words have the bits of the ready ones
 abbrev pub IsBestOf : List (Option ℕ) → List ℕ → ℕ → Best → Type 0
 IsBestOf priorities words count kept =
-    (pending : List Bool) → AreReady priorities pending words → IsBestBelow (controller_of priorities pending) count kept
+    (pending : List Bool) → AreReady priorities pending words → IsBestBelow (controller_of priorities pending) count
+    kept
 
 -- the best with one more that is pending, where it is enabled
 abbrev pub with : Best → ℕ → Option ℕ → Best

@@ -14,7 +14,8 @@ use Rattle.rt_grammar.specs.Limits.{within}
 use Rattle.rt_grammar.specs.Options.{OfInit, OfIdle}
 use Rattle.rt_grammar.specs.Declaration.{Head}
 use Rattle.rt_parse.specs.declared.stop.Found.{Found}
-use Rattle.rt_parse.specs.Inside.Reading.{Reader, ◌>>=◌, begins_with, fault_found_at, repeat_at, word_at, sign_at, name_at}
+use Rattle.rt_parse.specs.Inside.Reading.{Reader, ◌>>=◌, begins_with, fault_found_at, repeat_at, word_at, sign_at}
+use Rattle.rt_parse.specs.Inside.Reading.{name_at}
 use Rattle.rt_parse.specs.Inside.Reading.{this_name_at, limited_number_at}
 use Rattle.rt_parse.specs.Inside.ReadingList.{adds_at, names_at}
 use Rattle.rt_parse.specs.Inside.ReadingResources.{interrupts_at, monotonic_at, shared_resources_at, locals_at}

@@ -12,7 +12,8 @@ use Rattle.rt_ast.specs.Tree.{Expression, Num, Read}
 use Rattle.rt_grammar.specs.Tokens.{free}
 use Rattle.rt_grammar.specs.Expression.{Signs, comparisons, strengths, op_of}
 use Rattle.rt_grammar.specs.Reach.{is_of}
-use Rattle.rt_parse.specs.Inside.Reading.{Reader, ◌>>=◌, token_at, repeat_at, begins_with, fault_found_at, limited_sign_at}
+use Rattle.rt_parse.specs.Inside.Reading.{Reader, ◌>>=◌, token_at, repeat_at, begins_with, fault_found_at}
+use Rattle.rt_parse.specs.Inside.Reading.{limited_sign_at}
 use Rattle.rt_parse.specs.Inside.Reading.{sign_at, name_at, number_at}
 use Rattle.rt_parse.specs.Inside.ReadingDepth.{Kept, Measured, joined_measure, atomic}
 
@@ -41,7 +42,8 @@ chains_at (signs ∷ stronger) atom tokens = chain_at signs (chains_at stronger 
 -- the comparison behind its left side, or none
 unfoldable pub comparison_tail_at : Reader Measured → Measured → Reader Measured
 comparison_tail_at operand left tokens =
-    if begins_with (is_of comparisons) tokens then joined_operand_at comparisons operand left tokens else Ok (left, tokens)
+    if begins_with (is_of comparisons) tokens then joined_operand_at comparisons operand left tokens else Ok
+    (left, tokens)
 
 -- an expression: one side, and perhaps a comparison
 unfoldable pub comparison_at : Reader Measured → Reader Measured
@@ -103,7 +105,8 @@ atom_or_at nested tokens =
 -- an expression in parentheses, where so many may be opened
 unfoldable pub nested_expression_at : ℕ → Reader Measured
 nested_expression_at zero tokens = refused_parenthesis_at tokens
-nested_expression_at (suc more) tokens = parenthesized_expression_at (comparison_at (atom_or_at (nested_expression_at more))) tokens
+nested_expression_at (suc more) tokens = parenthesized_expression_at
+    (comparison_at (atom_or_at (nested_expression_at more))) tokens
 
 -- an atom, where so many parentheses may be opened
 abbrev pub atom_at : ℕ → Reader Measured

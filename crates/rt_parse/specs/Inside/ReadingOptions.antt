@@ -7,7 +7,8 @@ use Rattle.rt_lex.specs.Token.{Token, is_this_word, is_this_sign}
 use Rattle.rt_ast.specs.declared.app.ListedTree.{ListedTree}
 use Rattle.rt_grammar.specs.Limits.{within}
 use Rattle.rt_grammar.specs.Options.{Options, no_options, Owner, is_task, is_init}
-use Rattle.rt_parse.specs.Inside.Reading.{Reader, ◌>>=◌, begins_with, fault_found_at, word_at, sign_at, name_at, number_at}
+use Rattle.rt_parse.specs.Inside.Reading.{Reader, ◌>>=◌, begins_with, fault_found_at, word_at, sign_at, name_at}
+use Rattle.rt_parse.specs.Inside.Reading.{number_at}
 use Rattle.rt_parse.specs.Inside.Reading.{limited_number_at}
 use Rattle.rt_parse.specs.Inside.ReadingList.{items_at, adds_at, names_at}
 

@@ -91,7 +91,8 @@ resources_at tokens = do
 
 -- the shared resources, if their word comes next
 unfoldable pub shared_resources_at : Reader (List SharedTree)
-shared_resources_at tokens = if begins_with (is_this_word (codes "shared")) tokens then resources_at tokens else Ok ([], tokens)
+shared_resources_at tokens = if begins_with (is_this_word (codes "shared")) tokens then resources_at tokens else Ok
+    ([], tokens)
 
 -- a local resource behind so many
 unfoldable pub local_at : ℕ → Reader LocalTree

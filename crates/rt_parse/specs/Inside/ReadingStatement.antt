@@ -6,7 +6,8 @@ use Rattle.rt_lex.specs.Token.{Token, is_this_word, is_this_sign}
 use Rattle.rt_ast.specs.Tree.{Statement, Block}
 use Rattle.rt_grammar.specs.Simple.{Counted}
 use Rattle.rt_grammar.specs.Statement.{block_of}
-use Rattle.rt_parse.specs.Inside.Reading.{Reader, ◌>>=◌, begins_with, fault_found_at, repeat_at, limited_sign_at, sign_at}
+use Rattle.rt_parse.specs.Inside.Reading.{Reader, ◌>>=◌, begins_with, fault_found_at, repeat_at, limited_sign_at}
+use Rattle.rt_parse.specs.Inside.Reading.{sign_at}
 use Rattle.rt_parse.specs.Inside.ReadingExpression.{is_name}
 use Rattle.rt_parse.specs.Inside.ReadingSimple.{bind_at, assign_at, emit_at, pend_at, call_at}
 use Rattle.rt_parse.specs.Inside.ReadingNested.{branch_at, loop_at, further_at, lock_at}
@@ -50,7 +51,8 @@ abbrev pub is_inside : Token → Bool
 is_inside t = not (is_this_sign (codes "}") t)
 
 -- a block, inside which these readers read blocks and what is behind a lock's name
-unfoldable pub braced_block_at : (ℕ → Reader (Counted Block)) → (ℕ → Reader (Counted Block)) → ℕ → Reader (Counted Block)
+unfoldable pub braced_block_at : (ℕ → Reader (Counted Block)) → (ℕ → Reader (Counted Block)) → ℕ
+    → Reader (Counted Block)
 braced_block_at block inside room tokens = do
   a ← sign_at (codes "{") tokens
   all ← repeat_at is_inside (one_more_at block inside) (length a.1) ([], room) a.1

@@ -24,7 +24,8 @@ scope_of bindings outer = record { variables = map variable_of (reverse bindings
 
 -- the scope behind a block, where so many variables stand before the block outside
 abbrev pub scope_behind_block : Scope → ℕ → Scope
-scope_behind_block s outer = let rest = drop s.here s.variables in record { variables = rest; here = length rest - outer }
+scope_behind_block s outer = let rest = drop s.here s.variables in
+    record { variables = rest; here = length rest - outer }
 
 -- what a name means in a map
 abbrev pub meaning_at : Meanings → List ℕ → Option Meaning

@@ -68,7 +68,8 @@ module _ (img : Image) where
     pub frame : length slots ≡ frame_of img p.owner
     pub saves : Saves slots p.inside base (is_starting p.owner)
 
-  -- a handler at the first point on what it interrupted at the second: its priority is above the execution priority there
+  -- a handler at the first point on what it interrupted at the second: its priority is above the execution priority
+  -- there
   pub record IsOn (p q : Point) (base : ℕ) (x : Context) : Type 0 where
     pub index : ℕ
     pub handler : Handler

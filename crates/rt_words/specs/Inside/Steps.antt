@@ -92,7 +92,11 @@ take_step s me found after = after ≡ (device (unwrap_or me.0.reserved 255) [] 
 
 -- the first seat takes in a line
 abbrev pub view_after_join : View → View → View
-view_after_join v w = record v { gathered = record { line = w.line; calls = w.calls } ∷ v.gathered; since = length v.calls }
+view_after_join v w = record v {
+  gathered = record { line = w.line; calls = w.calls } ∷ v.gathered;
+  since =
+      length v.calls;
+}
 
 -- what a seat knows once it is spent: nothing
 abbrev pub spent_view : View
@@ -111,6 +115,7 @@ spent_view =
 
 -- the first seat looks at the history so far, and finds that it made each line that it gathered, none of them twice
 abbrev pub look_step : Step (Unit {0}) → Seat → ℕ → Seat → Type 0
-look_step s me found after = (seen : List Entry) × (after ≡ (record me.0 { since = length me.0.calls; seen = seen }, me.1))
+look_step s me found after = (seen : List Entry)
+    × (after ≡ (record me.0 { since = length me.0.calls; seen = seen }, me.1))
     × IsPrefix me.0.seen seen × Distinct (numbers me.0.gathered)
     × ((number : ℕ) → Contains (numbers me.0.gathered) number → Contains me.0.made number)

@@ -15,9 +15,11 @@ returns-in-Some c =
 pub returns-in-Some-served_dispatcher : goal.returns-in-Some-served_dispatcher
 returns-in-Some-served_dispatcher c =
     let app = app_of c.args.app.now in
-    served_behind app c.hardware.result (Some c.in-Some-served_dispatcher.served) (serves app c.args.irq) (task_services 0
+    served_behind app c.hardware.result (Some c.in-Some-served_dispatcher.served) (serves app c.args.irq)
+    (task_services 0
     app.tasks) (level_services app (levels app) ++ timer_service app.mono) c.in_default.is c.hardware.ensures
-    (served_in_front app c.served_dispatcher.result c.in-Some-served_dispatcher.served (serves app c.args.irq) (level_services app
+    (served_in_front app c.served_dispatcher.result c.in-Some-served_dispatcher.served (serves app c.args.irq)
+    (level_services app
     (levels app)) (timer_service app.mono) c.in-Some-served_dispatcher.is c.served_dispatcher.ensures)
 
 pub returns : goal.returns
@@ -25,5 +27,6 @@ returns c =
     let app = app_of c.args.app.now in
     served_behind app c.hardware.result c.served_timer.result (serves app c.args.irq) (task_services 0 app.tasks)
     (level_services app (levels app) ++ timer_service app.mono) c.in_default.is c.hardware.ensures
-    (served_behind app c.served_dispatcher.result c.served_timer.result (serves app c.args.irq) (level_services app (levels
+    (served_behind app c.served_dispatcher.result c.served_timer.result (serves app c.args.irq)
+    (level_services app (levels
     app)) (timer_service app.mono) c.in_default-served_dispatcher.is c.served_dispatcher.ensures c.served_timer.ensures)

@@ -10,7 +10,8 @@ overflow_cast-last_handle c = omega (arith, c.last_handle.ensures)
 
 pub returns-clause-same : goal.returns-clause-same
 returns-clause-same c = λ app.
-    handle_told app c.args.variable c.last_handle.result c.args.work.now c.set.new.self c.args.store.now c.last_handle.ensures
+    handle_told app c.args.variable c.last_handle.result c.args.work.now c.set.new.self c.args.store.now
+    c.last_handle.ensures
     c.set.ensures
 
 pub returns-clause-lighter : goal.returns-clause-lighter

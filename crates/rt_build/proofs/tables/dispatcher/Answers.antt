@@ -10,15 +10,18 @@ use Rattle.rt_build.proofs.tables.dispatcher.Goals as goal
 
 pub hw-requires-clause-least : goal.hw-requires-clause-least
 hw-requires-clause-least c =
-    (level_within (app_of c.args.plan.now.app.now) c.requires.plan.accepted c.args.index c.args.level c.requires.level).0
+    (level_within (app_of c.args.plan.now.app.now) c.requires.plan.accepted c.args.index c.args.level
+    c.requires.level).0
 
 pub hw-requires-clause-greatest : goal.hw-requires-clause-greatest
 hw-requires-clause-greatest c =
-    (level_within (app_of c.args.plan.now.app.now) c.requires.plan.accepted c.args.index c.args.level c.requires.level).1
+    (level_within (app_of c.args.plan.now.app.now) c.requires.plan.accepted c.args.index c.args.level
+    c.requires.level).1
 
 pub index-requires : goal.index-requires
 index-requires c =
-    let within = slice_get_within (levels (app_of c.args.plan.now.app.now)) c.args.index c.args.level c.requires.level in
+    let within = slice_get_within (levels (app_of c.args.plan.now.app.now)) c.args.index c.args.level
+    c.requires.level in
     omega (arith, c.requires.entries.of_levels, c.args.code.now.dispatchers.ok.0)
 
 pub returns : goal.returns

@@ -38,5 +38,6 @@ returns c = λ p there.
     ∙ (ap (λ p. get_or p.app.now.dispatchers.items (c.len.result - 1 - c.args.index) d) c.plan.view_is
     ∙ ap (λ n. get_or app.dispatchers n d) same) in
     dispatcher_is app c.args.index p there sound d
-    (slice_get_read app.dispatchers (length app.dispatchers) above d refl (dispatcher_there app c.args.index p there sound)
+    (slice_get_read app.dispatchers (length app.dispatchers) above d refl
+    (dispatcher_there app c.args.index p there sound)
     read)

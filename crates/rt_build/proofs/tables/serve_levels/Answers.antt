@@ -30,7 +30,8 @@ bounds-handlers-from c =
     let app = app_of c.args.plan.now.app.now in
     let rows = c.deref-row-items.ensures.value ∙ ap (λ p. p.ceil.ready) c.plan.view_is in
     let row = get_or c.deref-row-items.result.now c.loop-index.index (record { level = 0; ceiling = 0 }) in
-    let there = level_at c.args.plan.now c.requires.plan.planned c.deref-row-items.result.now rows c.loop-index.index row
+    let there = level_at c.args.plan.now c.requires.plan.planned c.deref-row-items.result.now rows c.loop-index.index
+    row
     (slice_get-get_or c.deref-row-items.result.now c.loop-index.index (record { level = 0; ceiling = 0 })
     c.loop-index-test.true) in
     let irq = c.dispatcher_irq-irq.result in

@@ -24,7 +24,8 @@ returns-in-Some c =
     let last = timer_last app mono c.in-Some.is in
     let table = c.args.handlers.now in
     subst (λ (handlers : List (Option Handler)). HasHandlers app at (services app) handlers)
-    (sym (ap (λ n. set table n (Some c.timer.result)) c.from.ensures ∙ ap (λ h. set table mono.irq (Some h)) c.timer.ensures))
+    (sym (ap (λ n. set table n (Some c.timer.result)) c.from.ensures
+    ∙ ap (λ h. set table mono.irq (Some h)) c.timer.ensures))
     (next_served app at (accepted_are_sound app c.requires.plan.accepted) (untimed_services app) [] (services app)
     (timed_service app mono) table last last c.requires.others)
 

@@ -22,5 +22,6 @@ hw-requires-clause-greatest c =
 pub returns : goal.returns
 returns c =
     let app = app_of c.args.plan.now.app.now in
-    timer_row_is app (entries_of app c.args.code.now) c.args.mono.priority c.hw.result c.args.code.now.timer c.hw.ensures
+    timer_row_is app (entries_of app c.args.code.now) c.args.mono.priority c.hw.result c.args.code.now.timer
+    c.hw.ensures
     refl

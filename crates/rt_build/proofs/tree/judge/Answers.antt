@@ -8,16 +8,21 @@ resolve-requires c = c.texts_keep_limits.ensures.law c.args.src.now (written.app
 
 pub returns-in-Ok-clause-ok : goal.returns-in-Ok-clause-ok
 returns-in-Ok-clause-ok c =
-    kept_by c.args.src.now (written.app_of c.args.tree.now) c.in-Ok.resolved.app c.in-Ok.resolved.faults.items c.in-Ok.ensures.app c.in-Ok.ensures.faults c.rules.result c.rules.ensures.ok
+    kept_by c.args.src.now (written.app_of c.args.tree.now) c.in-Ok.resolved.app c.in-Ok.resolved.faults.items
+    c.in-Ok.ensures.app c.in-Ok.ensures.faults c.rules.result c.rules.ensures.ok
 
 pub returns-in-Ok-clause-limits : goal.returns-in-Ok-clause-limits
 returns-in-Ok-clause-limits c =
-    limits_by c.args.src.now (written.app_of c.args.tree.now) c.in-Ok.resolved.app c.in-Ok.resolved.faults.items c.in-Ok.ensures.app c.in-Ok.ensures.faults c.rules.result c.in-Ok.ensures.limits c.rules.ensures.ok
+    limits_by c.args.src.now (written.app_of c.args.tree.now) c.in-Ok.resolved.app c.in-Ok.resolved.faults.items
+    c.in-Ok.ensures.app c.in-Ok.ensures.faults c.rules.result c.in-Ok.ensures.limits c.rules.ensures.ok
 
 pub returns-in-Ok-clause-accepted : goal.returns-in-Ok-clause-accepted
 returns-in-Ok-clause-accepted c =
-    placed_by (written.app_of c.args.tree.now) (c.texts_keep_limits.ensures.law c.args.src.now (written.app_of c.args.tree.now) c.requires.text) c.in-Ok.resolved.app c.in-Ok.resolved.faults.items c.in-Ok.ensures.app c.in-Ok.ensures.faults c.in-Ok.ensures.limits c.rules.result c.rules.ensures.ok
+    placed_by (written.app_of c.args.tree.now) (c.texts_keep_limits.ensures.law c.args.src.now
+    (written.app_of c.args.tree.now) c.requires.text) c.in-Ok.resolved.app c.in-Ok.resolved.faults.items
+    c.in-Ok.ensures.app c.in-Ok.ensures.faults c.in-Ok.ensures.limits c.rules.result c.rules.ensures.ok
 
 pub returns-in-Ok-clause-refused : goal.returns-in-Ok-clause-refused
 returns-in-Ok-clause-refused c =
-    broken_by c.args.src.now (written.app_of c.args.tree.now) c.in-Ok.resolved.app c.in-Ok.resolved.faults.items c.in-Ok.ensures.app c.in-Ok.ensures.faults c.rules.result c.rules.ensures.refused
+    broken_by c.args.src.now (written.app_of c.args.tree.now) c.in-Ok.resolved.app c.in-Ok.resolved.faults.items
+    c.in-Ok.ensures.app c.in-Ok.ensures.faults c.rules.result c.rules.ensures.refused

@@ -6,4 +6,5 @@ use Rattle.rt_ceil.specs.Inside.Tables.{used_by_task}
 use Rattle.rt_ceil.proofs.bodies.count_tasks.Given as goal
 
 abbrev pub invariant-loop-task : goal.invariant-loop-task
-invariant-loop-task l = l.tables ≡ fold (used_by_task (app_of l.app)) l.fn.tables (map task_of (take l.task-index l.app.tasks.items))
+invariant-loop-task l = l.tables ≡ fold (used_by_task (app_of l.app)) l.fn.tables
+    (map task_of (take l.task-index l.app.tasks.items))

@@ -8,6 +8,8 @@ pub returns : goal.returns
 returns c =
     let a = c.args in
     let n = a.caller + a.frame in
-    ap (with_top c.push.new.self n) (c.copy_arguments.ensures ∙ ap (λ ws. copied a.caller a.from a.args (set ws (a.caller - 1) a.address)) c.top-slots.ensures.value)
+    ap (with_top c.push.new.self n) (c.copy_arguments.ensures
+    ∙ ap (λ ws. copied a.caller a.from a.args (set ws (a.caller - 1) a.address)) c.top-slots.ensures.value)
     ∙ ap (λ p. with_top p n (copied a.caller a.from a.args (set (top p n) (a.caller - 1) a.address))) c.push.ensures
-    ∙ body_pushed a.region.now a.caller a.frame a.from a.args a.address c.requires.slot c.requires.caller c.requires.there c.requires.taken
+    ∙ body_pushed a.region.now a.caller a.frame a.from a.args a.address c.requires.slot c.requires.caller
+    c.requires.there c.requires.taken

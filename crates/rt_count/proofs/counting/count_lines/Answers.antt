@@ -58,5 +58,6 @@ pub returns-clause-counted : goal.returns-clause-counted
 returns-clause-counted c =
     let script = c.args.lines.now in
     let all : take c.loop-line.line-index script ≡ script = take_all c.loop-line.line-index script (omega arith) in
-    subst (λ (s : List Line). Counted (events s) c.args.core.now c.loop-line.core c.args.summary.now c.loop-line.summary)
+    subst (λ (s : List Line). Counted (events s) c.args.core.now c.loop-line.core c.args.summary.now
+    c.loop-line.summary)
     all c.loop-line.invariant.counted

@@ -13,14 +13,17 @@ loop-done-init c = record { counted = λ summary. nothing_yet c.args.core.now su
 
 pub tick-requires : goal.tick-requires
 tick-requires c =
-    early_after c.loop-done._done c.args.count Tick c.args.core.now c.loop-done.core (c.loop-done.invariant.counted (summary_of 0 [])).leads
+    early_after c.loop-done._done c.args.count Tick c.args.core.now c.loop-done.core
+    (c.loop-done.invariant.counted (summary_of 0 [])).leads
     (omega arith) c.requires.early
 
 pub loop-done-preserved : goal.loop-done-preserved
 loop-done-preserved c = record {
   counted = λ summary.
-      more c.loop-done._done Tick c.args.core.now c.loop-done.core c.tick.new.self summary summary summary (c.loop-done.invariant.counted summary)
-      (tick_uncounted c.loop-done.core c.tick.new.self summary c.tick.result (tick_leads c.loop-done.core c.tick.new.self c.tick.ensures.state)
+      more c.loop-done._done Tick c.args.core.now c.loop-done.core c.tick.new.self summary summary summary
+      (c.loop-done.invariant.counted summary)
+      (tick_uncounted c.loop-done.core c.tick.new.self summary c.tick.result
+      (tick_leads c.loop-done.core c.tick.new.self c.tick.ensures.state)
       c.tick.ensures.shown);
   steps = ap (λ (m : Machine). m.steps) c.tick.ensures.state ∙ c.loop-done.invariant.steps;
 }
@@ -28,4 +31,5 @@ loop-done-preserved c = record {
 pub returns-clause-counted : goal.returns-clause-counted
 returns-clause-counted c = λ summary.
     let all : c.loop-done._done ≡ c.args.count = omega arith in
-    subst (λ n. Counted (replicate n Tick) c.args.core.now c.loop-done.core summary summary) all (c.loop-done.invariant.counted summary)
+    subst (λ n. Counted (replicate n Tick) c.args.core.now c.loop-done.core summary summary) all
+    (c.loop-done.invariant.counted summary)

@@ -6,4 +6,5 @@ pub loop-k-init : goal.loop-k-init
 loop-k-init c = none_below interrupt c.args.out.now.items
 
 pub loop-k-preserved : goal.loop-k-preserved
-loop-k-preserved c = one_more interrupt c.loop-k.k c.args.out.now.items _ _ c.loop-k.invariant c.in_ok-push_interrupt.ensures
+loop-k-preserved c = one_more interrupt c.loop-k.k c.args.out.now.items _ _ c.loop-k.invariant
+    c.in_ok-push_interrupt.ensures

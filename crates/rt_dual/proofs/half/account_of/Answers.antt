@@ -41,7 +41,8 @@ returns c =
     take_at ended (drop (length ended) mid) rows.len whole
     ∙ c.settle.ensures ∙ ap (map (settled_row counts bits)) lent in
     subst (Settles c.args.own.calls c.args.bell (irqs_of rows.items)) (sym is)
-    (settles c.args.own c.gather-tally.new.self c.args.bell c.requires.made c.requires.gathered c.gather-tally.ensures.core
+    (settles c.args.own c.gather-tally.new.self c.args.bell c.requires.made c.requires.gathered
+    c.gather-tally.ensures.core
     bits c.close-left.ensures.history counts tally rows.items front c.requires.empty
     (c.add_counts.ensures ∙ ap (map (with_counts tally)) c.deref_mut.ensures.value) c.gather-tally.ensures.raised
     c.gather-tally.ensures.merged c.close-left.ensures.latched)

@@ -29,7 +29,8 @@ returns c =
         front = two.front;
         at = refl;
         routes =
-            are_routes second first.names c.routes_of-2.result (λ i there. two.made.in_range i ((two.made.may i).1 there))
+            are_routes second first.names c.routes_of-2.result
+            (λ i there. two.made.in_range i ((two.made.may i).1 there))
             (λ irq less. c.routes_of-2.ensures.there irq less ∙ ap (λ (n : Names). forward second n irq) first_names)
             c.routes_of-2.ensures.above;
         kept = c.new-2.ensures;

@@ -80,7 +80,8 @@ returns-in-Err-clause-part g c =
     λ _. record {
       bytes = wrote.0;
       is =
-          pair_text c.args.script.now a x b y old new wrote.0 c.requires.first_fresh c.requires.second_fresh before ended
+          pair_text c.args.script.now a x b y old new wrote.0 c.requires.first_fresh c.requires.second_fresh before
+          ended
           written;
       took = wrote.2;
     }

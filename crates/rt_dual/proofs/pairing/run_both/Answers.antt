@@ -15,7 +15,8 @@ beside-ends-requires-clause-first_can g c = λ _ _.
 pub beside-ends-requires-clause-second_can : goal.beside-ends-requires-clause-second_can
 beside-ends-requires-clause-second_can g c = λ _ _.
     let both = c.args.both.now in
-    can_run Second c.args.second.now c.args.first.now.image both.two both.one both.right both.left c.requires.second_fresh
+    can_run Second c.args.second.now c.args.first.now.image both.two both.one both.right both.left
+    c.requires.second_fresh
     c.requires.second_lines c.requires.before.two c.requires.before.one c.args.script.now c.requires.script
 
 pub beside-ends-requires-clause-first_declared : goal.beside-ends-requires-clause-first_declared

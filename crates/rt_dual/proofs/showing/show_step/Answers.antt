@@ -31,7 +31,8 @@ returns-in_default-clause-ok c =
       leads = step_leads core c.step.new.self c.step.ensures.state;
       lined = silent_lined core c.step.result c.step.ensures.item c.in_default.is;
       took =
-          subst (Took (Some kept) (Some kept)) (sym (silent_lines core c.step.result c.step.ensures.item c.in_default.is))
+          subst (Took (Some kept) (Some kept))
+          (sym (silent_lines core c.step.result c.step.ensures.item c.in_default.is))
           (took_none (Some kept));
     }
 

@@ -18,7 +18,8 @@ loop-done-init g c = record {
 
 pub turn-requires-clause-can : goal.turn-requires-clause-can
 turn-requires-clause-can g c =
-    can_on (repeated_turns c.loop-done._done (turn_of c.args.side.now.core_id c.args.asked.now)) 1 (count_of c.args.asked.now)
+    can_on (repeated_turns c.loop-done._done (turn_of c.args.side.now.core_id c.args.asked.now)) 1
+    (count_of c.args.asked.now)
     c.args.core.now c.loop-done.core c.args.side.now c.loop-done.side _ _ c.loop-done.invariant.run
     (omega (
       arith,
@@ -28,7 +29,8 @@ turn-requires-clause-can g c =
 
 pub turn-requires-clause-declared : goal.turn-requires-clause-declared
 turn-requires-clause-declared g c =
-    subst (λ (p : CoreId). HasNameAt p c.loop-done.core.image.names c.args.asked.now) (sym c.loop-done.invariant.run.core_id)
+    subst (λ (p : CoreId). HasNameAt p c.loop-done.core.image.names c.args.asked.now)
+    (sym c.loop-done.invariant.run.core_id)
     (subst (λ (img : Image). HasNameAt c.args.side.now.core_id img.names c.args.asked.now)
     (sym c.loop-done.invariant.run.sends.leads.image) c.requires.declared)
 
@@ -54,6 +56,7 @@ loop-done-preserved g c = record {
 pub returns-clause-ok : goal.returns-clause-ok
 returns-clause-ok g c =
     let all : c.loop-done._done ≡ c.count-done-end.result = omega arith in
-    subst (λ n. Runs (repeated_turns n (turn_of c.args.side.now.core_id c.args.asked.now)) c.args.core.now c.loop-done.core
+    subst (λ n. Runs (repeated_turns n (turn_of c.args.side.now.core_id c.args.asked.now)) c.args.core.now
+    c.loop-done.core
     c.args.side.now c.loop-done.side)
     (all ∙ c.count-done-end.ensures) c.loop-done.invariant.run

@@ -39,7 +39,8 @@ own_line-requires-clause-declared g c =
     let core_id = c.args.side.now.core_id in
     let names = c.args.core.now.image.names in
     let named : HasNameAt core_id names (get_or script i line) =
-    all_at (HasNameAt core_id names) script i (get_or script i line) c.requires.declared (slice_get-get_or script i line at) in
+    all_at (HasNameAt core_id names) script i (get_or script i line) c.requires.declared
+    (slice_get-get_or script i line at) in
     subst (λ (p : CoreId). HasNameAt p c.loop-asked.core.image.names line) (sym c.loop-asked.invariant.run.core_id)
     (subst (λ (img : Image). HasNameAt core_id img.names line) (sym c.loop-asked.invariant.run.sends.leads.image)
     (subst (HasNameAt core_id names) (sym c.asked-item.is) named))
@@ -53,7 +54,8 @@ returns-in_err-own_line-clause-err g c =
     on_err_from c.from_residual.result
     (own_line_begun c.args.side.now.core_id script i line at c.asked-item.is c.args.core.now c.loop-asked.core
     c.own_line.new.core c.args.side.now c.loop-asked.side c.loop-asked.invariant.run
-    (subst (λ (p : CoreId). Begins (repeated_turns (count_of line) (turn_of p line)) c.loop-asked.core c.own_line.new.core)
+    (subst (λ (p : CoreId). Begins (repeated_turns (count_of line) (turn_of p line)) c.loop-asked.core
+    c.own_line.new.core)
     c.loop-asked.invariant.run.core_id c.in_err-own_line.ensures.err))
 
 pub loop-asked-preserved : goal.loop-asked-preserved
@@ -66,7 +68,8 @@ loop-asked-preserved g c =
       run =
           own_line_more c.args.side.now.core_id script i line at c.asked-item.is c.args.core.now c.loop-asked.core
           c.own_line.new.core c.args.side.now c.loop-asked.side c.own_line.new.side c.loop-asked.invariant.run
-          (subst (λ (p : CoreId). Runs (repeated_turns (count_of line) (turn_of p line)) c.loop-asked.core c.own_line.new.core
+          (subst (λ (p : CoreId). Runs (repeated_turns (count_of line) (turn_of p line)) c.loop-asked.core
+          c.own_line.new.core
           c.loop-asked.side c.own_line.new.side) c.loop-asked.invariant.run.core_id c.in_ok-own_line.ensures.ok);
       none_held = c.in_ok-own_line.ensures.none_held;
     }
@@ -75,6 +78,7 @@ pub returns-clause-ok : goal.returns-clause-ok
 returns-clause-ok g c =
     let script = c.args.script.now in
     let all : take c.loop-asked.asked-index script ≡ script = take_all c.loop-asked.asked-index script (omega arith) in
-    subst (λ (s : List Line). Runs (own_turns c.args.side.now.core_id s) c.args.core.now c.loop-asked.core c.args.side.now
+    subst (λ (s : List Line). Runs (own_turns c.args.side.now.core_id s) c.args.core.now c.loop-asked.core
+    c.args.side.now
     c.loop-asked.side)
     all c.loop-asked.invariant.run

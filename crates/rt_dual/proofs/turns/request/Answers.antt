@@ -19,7 +19,8 @@ returns-in-First-clause-ok c =
     let is = c.in-First.is in
     on_ok_weaker c.send_pend.result
     (happened (Arrive c.args.irq) (request_of c.args.side.now.core_id c.args.irq)
-    (ap (λ (p : CoreId). looks (request_of p c.args.irq)) is) (ap (λ (p : CoreId). interleaving (request_of p c.args.irq) []) is)
+    (ap (λ (p : CoreId). looks (request_of p c.args.irq)) is)
+    (ap (λ (p : CoreId). interleaving (request_of p c.args.irq) []) is)
     refl c.args.core.now c.send_pend.new.core c.args.side.now c.send_pend.new.out)
     c.send_pend.ensures.ok
 
@@ -29,11 +30,13 @@ returns-in-First-clause-err c =
     on_err_weaker c.send_pend.result
     (λ breaks. stopped (request_of c.args.side.now.core_id c.args.irq) [] [] c.args.core.now c.send_pend.new.core _ _
     (event_cut (Arrive c.args.irq) (request_of c.args.side.now.core_id c.args.irq)
-    (ap (λ (p : CoreId). looks (request_of p c.args.irq)) is) (ap (λ (p : CoreId). interleaving (request_of p c.args.irq) []) is)
+    (ap (λ (p : CoreId). looks (request_of p c.args.irq)) is)
+    (ap (λ (p : CoreId). interleaving (request_of p c.args.irq) []) is)
     [] c.args.core.now c.send_pend.new.core _ _ breaks))
     c.send_pend.ensures.err
 
 pub returns-in-Second-clause-ok : goal.returns-in-Second-clause-ok
 returns-in-Second-clause-ok c =
-    subst (λ (p : CoreId). Runs (request_of p c.args.irq) c.args.core.now c.args.core.now c.args.side.now c.args.side.now)
+    subst (λ (p : CoreId). Runs (request_of p c.args.irq) c.args.core.now c.args.core.now c.args.side.now
+    c.args.side.now)
     (sym c.in-Second.is) (runs_none c.args.core.now c.args.side.now)

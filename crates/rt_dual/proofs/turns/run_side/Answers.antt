@@ -17,7 +17,8 @@ own_lines-requires-clause-can g c =
 pub returns-in_err-own_lines-clause-err : goal.returns-in_err-own_lines-clause-err
 returns-in_err-own_lines-clause-err g c =
     on_err_from c.from_residual.result
-    (begins_before (own_turns c.args.side.now.core_id c.args.script.now) (Looks ∷ []) c.args.core.now c.own_lines.new.core
+    (begins_before (own_turns c.args.side.now.core_id c.args.script.now) (Looks ∷ []) c.args.core.now
+    c.own_lines.new.core
     c.in_err-own_lines.ensures.err)
 
 pub last_look-requires-clause-can : goal.last_look-requires-clause-can

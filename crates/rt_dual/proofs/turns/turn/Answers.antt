@@ -15,7 +15,8 @@ returns-in-Ticks-clause-ok g c =
     let core_id = c.args.side.now.core_id in
     on_ok_weaker c.send_tick.result
     (happened Tick (turn_of core_id c.args.asked.now) (ap (λ (l : Line). looks (turn_of core_id l)) is)
-    (ap (λ (l : Line). interleaving (turn_of core_id l) []) is) refl c.args.core.now c.send_tick.new.core c.args.side.now
+    (ap (λ (l : Line). interleaving (turn_of core_id l) []) is) refl c.args.core.now c.send_tick.new.core
+    c.args.side.now
     c.send_tick.new.out)
     c.send_tick.ensures.ok
 

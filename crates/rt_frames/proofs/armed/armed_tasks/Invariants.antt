@@ -9,4 +9,5 @@ pub record Counted (sum left all number : ℕ) : Type 0 where
   pub few : sum ≤ number
 
 abbrev pub invariant-loop-number : goal.invariant-loop-number
-invariant-loop-number l = Counted l.tasks (armed_count (app_of l.app) l.number (map task_of (drop l.number l.app.tasks.items))) (armed_tasks (app_of l.app)) l.number
+invariant-loop-number l = Counted l.tasks (armed_count (app_of l.app) l.number
+    (map task_of (drop l.number l.app.tasks.items))) (armed_tasks (app_of l.app)) l.number

@@ -5,4 +5,5 @@ use Rattle.rt_frames.specs.Inside.Flags.{flags_with, delayed_targets, task_spawn
 use Rattle.rt_frames.proofs.armed.flag_tasks.Given as goal
 
 abbrev pub invariant-loop-task : goal.invariant-loop-task
-invariant-loop-task l = l.armed ≡ flags_with (delayed_targets (flat_map task_spawns (map task_of (take l.task-index l.tasks)))) l.fn.armed
+invariant-loop-task l = l.armed ≡ flags_with
+    (delayed_targets (flat_map task_spawns (map task_of (take l.task-index l.tasks)))) l.fn.armed

@@ -10,14 +10,18 @@ pub returns-then-are_threads_quiet : goal.returns-then-are_threads_quiet
 returns-then-are_threads_quiet c =
     let app = app_of c.args.app.now in
     let ts = c.args.app.now.tasks.items in
-    both_say c.are_threads_quiet.result c.are_tasks_quiet.result (body_holds_no_pend app.init && body_holds_no_pend app.idle) (list_all (λ t. holds_no_pend (task_of t).body.block) ts) c.are_threads_quiet.ensures
-    c.if-are_threads_quiet.true (c.are_tasks_quiet.ensures ∙ ap (list_all (λ t. holds_no_pend (task_of t).body.block)) c.deref.ensures.value)
+    both_say c.are_threads_quiet.result c.are_tasks_quiet.result
+    (body_holds_no_pend app.init && body_holds_no_pend app.idle)
+    (list_all (λ t. holds_no_pend (task_of t).body.block) ts) c.are_threads_quiet.ensures
+    c.if-are_threads_quiet.true (c.are_tasks_quiet.ensures ∙ ap (list_all (λ t. holds_no_pend (task_of t).body.block))
+    c.deref.ensures.value)
     ∙ sym (of_members body.Init body.Idle app.init app.idle ts)
 
 pub returns-else-are_threads_quiet : goal.returns-else-are_threads_quiet
 returns-else-are_threads_quiet c =
     let app = app_of c.args.app.now in
     let ts = c.args.app.now.tasks.items in
-    first_says c.are_threads_quiet.result (body_holds_no_pend app.init && body_holds_no_pend app.idle) (list_all (λ t. holds_no_pend (task_of t).body.block) ts) c.are_threads_quiet.ensures
+    first_says c.are_threads_quiet.result (body_holds_no_pend app.init && body_holds_no_pend app.idle)
+    (list_all (λ t. holds_no_pend (task_of t).body.block) ts) c.are_threads_quiet.ensures
     c.if-are_threads_quiet.false
     ∙ sym (of_members body.Init body.Idle app.init app.idle ts)

@@ -10,10 +10,12 @@ use Rattle.rt_frames.proofs.form.has_hardware_alone.Goals as goal
 pub returns-then-bind_all : goal.returns-then-bind_all
 returns-then-bind_all c =
     both_say c.bind_all.result c.is_none.result (has_no_software (app_of c.args.app.now)) (is_none c.args.app.now.mono)
-    (c.bind_all.ensures ∙ ap (list_all (λ t. not (is_software (task_of t)))) c.deref.ensures.value ∙ none_software c.args.app.now.tasks.items) c.if-bind_all.true
+    (c.bind_all.ensures ∙ ap (list_all (λ t. not (is_software (task_of t)))) c.deref.ensures.value
+    ∙ none_software c.args.app.now.tasks.items) c.if-bind_all.true
     (none_is c.args.app.now.mono c.is_none.result c.is_none.ensures)
 
 pub returns-else-bind_all : goal.returns-else-bind_all
 returns-else-bind_all c =
     first_says c.bind_all.result (has_no_software (app_of c.args.app.now)) (is_none c.args.app.now.mono)
-    (c.bind_all.ensures ∙ ap (list_all (λ t. not (is_software (task_of t)))) c.deref.ensures.value ∙ none_software c.args.app.now.tasks.items) c.if-bind_all.false
+    (c.bind_all.ensures ∙ ap (list_all (λ t. not (is_software (task_of t)))) c.deref.ensures.value
+    ∙ none_software c.args.app.now.tasks.items) c.if-bind_all.false

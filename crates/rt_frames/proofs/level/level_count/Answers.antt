@@ -6,4 +6,5 @@ use Rattle.rt_frames.proofs.Below.{flags_count}
 use Rattle.rt_frames.proofs.level.level_count.Goals as goal
 
 pub returns : goal.returns
-returns c = c.count.ensures ∙ flags_count (λ p. list_any (is_of_level p) (app_of c.args.app.now).tasks) c.level_flags.result c.level_flags.ensures.flags
+returns c = c.count.ensures ∙ flags_count (λ p. list_any (is_of_level p) (app_of c.args.app.now).tasks)
+    c.level_flags.result c.level_flags.ensures.flags

@@ -5,7 +5,16 @@ use Rattle.rt_frames.proofs.Sums.{count_task_more, count_task_few, from_bool_mos
 use Rattle.rt_frames.proofs.level.software_count.Goals as goal
 
 pub loop-task-preserved : goal.loop-task-preserved
-loop-task-preserved c = omega (arith, ap from_bool c.is_software.ensures, count_task_more is_software c.args.tasks.now c.loop-task.task-index c.task-item.result c.loop-task-test.true c.task-item.is)
+loop-task-preserved c = omega (
+  arith,
+  ap from_bool c.is_software.ensures,
+  count_task_more is_software c.args.tasks.now c.loop-task.task-index c.task-item.result c.loop-task-test.true
+      c.task-item.is,
+)
 
 pub overflow_add-count : goal.overflow_add-count
-overflow_add-count c = omega (arith, count_task_few is_software c.args.tasks.now c.loop-task.task-index, from_bool_most c.is_software.result)
+overflow_add-count c = omega (
+  arith,
+  count_task_few is_software c.args.tasks.now c.loop-task.task-index,
+  from_bool_most c.is_software.result,
+)

@@ -7,5 +7,7 @@ use Rattle.rt_frames.proofs.stack.handler_flags.Goals as goal
 
 pub returns : goal.returns
 returns c =
-    handlers_are (app_of c.args.app.now) c.none-handlers.result c.flag_priorities.new.flags c.flag_timer.new.flags c.none-handlers.ensures
-    (c.flag_priorities.ensures ∙ ap (λ ts. flags_with (map (λ (t : Task). t.priority) (map task_of ts)) c.none-handlers.result) c.deref.ensures.value) c.flag_timer.ensures c.flag_timer.array_long
+    handlers_are (app_of c.args.app.now) c.none-handlers.result c.flag_priorities.new.flags c.flag_timer.new.flags
+    c.none-handlers.ensures
+    (c.flag_priorities.ensures ∙ ap (λ ts. flags_with (map (λ (t : Task). t.priority) (map task_of ts))
+    c.none-handlers.result) c.deref.ensures.value) c.flag_timer.ensures c.flag_timer.array_long

@@ -7,4 +7,9 @@ pub loop-priority-init : goal.loop-priority-init
 loop-priority-init c = omega (arith, bytes_none (app_of c.args.app.now))
 
 pub loop-priority-preserved : goal.loop-priority-preserved
-loop-priority-preserved c = omega (arith, bytes_more (app_of c.args.app.now) c.loop-priority.priority, level_is (app_of c.args.app.now) c.args.handlers.now c.requires c.loop-priority.priority c.from.result c.from.ensures)
+loop-priority-preserved c = omega (
+  arith,
+  bytes_more (app_of c.args.app.now) c.loop-priority.priority,
+  level_is (app_of c.args.app.now) c.args.handlers.now c.requires c.loop-priority.priority c.from.result
+      c.from.ensures,
+)

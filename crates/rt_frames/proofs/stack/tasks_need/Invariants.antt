@@ -7,4 +7,5 @@ use Rattle.rt_frames.specs.Inside.Needs.{need_at}
 use Rattle.rt_frames.proofs.stack.tasks_need.Given as goal
 
 abbrev pub invariant-loop-task : goal.invariant-loop-task
-invariant-loop-task l = l.most ≡ saturated_number (greatest (map (need_at l.priority) (map task_of (take l.task-index l.tasks))))
+invariant-loop-task l = l.most ≡ saturated_number
+    (greatest (map (need_at l.priority) (map task_of (take l.task-index l.tasks))))

@@ -5,4 +5,5 @@ use Rattle.rt_frames.specs.Inside.Waits.{block_wait}
 use Rattle.rt_frames.proofs.waiting.+block.Given as goal
 
 abbrev pub invariant-block_wait-loop-stmt : goal.invariant-block_wait-loop-stmt
-invariant-block_wait-loop-stmt l = l.most ≡ block_wait (app_of l.app) l.measure l.ceilings l.priority (block_of (take l.stmt-index l.stmts))
+invariant-block_wait-loop-stmt l = l.most ≡ block_wait (app_of l.app) l.measure l.ceilings l.priority
+    (block_of (take l.stmt-index l.stmts))

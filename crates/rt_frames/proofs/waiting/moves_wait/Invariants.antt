@@ -6,4 +6,6 @@ use Rattle.rt_frames.proofs.waiting.moves_wait.Given as goal
 
 abbrev pub invariant-loop-number : goal.invariant-loop-number
 invariant-loop-number l =
-    max l.most (moves_wait (app_of l.app) l.ceilings l.priority l.number (map task_of (drop l.number l.app.tasks.items))) ≡ moves_wait (app_of l.app) l.ceilings l.priority 0 (app_of l.app).tasks
+    max l.most (moves_wait (app_of l.app) l.ceilings l.priority l.number
+    (map task_of (drop l.number l.app.tasks.items))) ≡ moves_wait (app_of l.app) l.ceilings l.priority 0
+    (app_of l.app).tasks

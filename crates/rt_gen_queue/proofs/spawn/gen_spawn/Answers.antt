@@ -14,7 +14,8 @@ returns c =
     let is : c.extend_from_slice.new.self.items ≡ old ++ code =
     rw (c.extend_from_slice.ensures.items, c.in_ok-extend_from_slice.was, c.as_slice.ensures)
     (rw (c.in_ok-append_spawn.ensures, c.new-lines.ensures)
-    (ap (λ (t : Target). old ++ spawn_lines t c.args.threshold c.args.slot c.args.entry) c.find_target-target.ensures.is))
+    (ap (λ (t : Target). old ++ spawn_lines t c.args.threshold c.args.slot c.args.entry)
+    c.find_target-target.ensures.is))
     in
     let long = spawn_long app c.args.task c.args.threshold c.args.slot c.args.entry in
     let count = arguments app c.args.task task.0 task.1 in

@@ -34,7 +34,8 @@ returns c =
     let is : c.extend_from_slice.new.self.items ≡ old ++ code =
     rw (c.extend_from_slice.ensures.items, c.in_ok-extend_from_slice.was, c.as_slice.ensures)
     (rw (c.in_ok-push_call.ensures, c.new-lines.ensures)
-    (λ i. old ++ lines_of call (c.in_ok-emitter.ensures.queue i) (c.in_ok-emitter.ensures.slot i) c.args.threshold (armed i)
+    (λ i. old ++ lines_of call (c.in_ok-emitter.ensures.queue i) (c.in_ok-emitter.ensures.slot i) c.args.threshold
+    (armed i)
     c.args.entry)) in
     record {
       code = is;

@@ -13,8 +13,10 @@ returns-then-ne c = (
       let irqs = c.args.irqs.now in
       let index = c.loop-index.index in
       let row = c.index-irqs-index.result in
-      let at : slice_get irqs index ≡ Some row = slice_get_read irqs (length irqs) index row refl (omega arith) c.index-irqs-index.is in
-      let first = position_of_key (λ row. row.number) irqs index row at (λ j y at_j same. apart j index y row at_j at same) in
+      let at : slice_get irqs index ≡ Some row = slice_get_read irqs (length irqs) index row refl (omega arith)
+      c.index-irqs-index.is in
+      let first = position_of_key (λ row. row.number) irqs index row at
+      (λ j y at_j same. apart j index y row at_j at same) in
       grind (arith, common_steps),
 )
 
@@ -22,9 +24,12 @@ pub loop-index-preserved : goal.loop-index-preserved
 loop-index-preserved c =
     let irqs = c.args.irqs.now in
     let index = c.loop-index.index in
-    let found : position (λ other. other.number == c.index-irqs-index.result.number) irqs ≡ Some index = grind (arith, common_steps) in
-    let here : (row : Row) → slice_get irqs index ≡ Some row → position (λ other. other.number == row.number) irqs ≡ Some index =
-    λ row at. subst (λ r. position (λ other. other.number == r.number) irqs ≡ Some index) (c.index-irqs-index.is ∙ get_or_from_slice_get irqs index row _ at) found in
+    let found : position (λ other. other.number == c.index-irqs-index.result.number) irqs ≡ Some index =
+    grind (arith, common_steps) in
+    let here : (row : Row) → slice_get irqs index ≡ Some row → position (λ other. other.number == row.number) irqs
+    ≡ Some index =
+    λ row at. subst (λ r. position (λ other. other.number == r.number) irqs ≡ Some index)
+    (c.index-irqs-index.is ∙ get_or_from_slice_get irqs index row _ at) found in
     below_more _ _ c.loop-index.invariant here
 
 pub returns : goal.returns

@@ -4,4 +4,5 @@ use Rattle.rt_image_tables.proofs.runnable.numbers_differ.Given as goal
 
 abbrev pub invariant-loop-index : goal.invariant-loop-index
 invariant-loop-index l =
-    (i : ℕ) → i < l.index → (row : IrqRow) → slice_get l.irqs i ≡ Some row → position (λ other. other.number == row.number) l.irqs ≡ Some i
+    (i : ℕ) → i < l.index → (row : IrqRow) → slice_get l.irqs i ≡ Some row
+    → position (λ other. other.number == row.number) l.irqs ≡ Some i

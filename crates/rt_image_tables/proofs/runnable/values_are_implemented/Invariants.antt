@@ -5,4 +5,5 @@ use Rattle.rt_image_tables.proofs.runnable.values_are_implemented.Given as goal
 
 abbrev pub invariant-loop-row : goal.invariant-loop-row
 invariant-loop-row l =
-    (i : ℕ) (row : IrqRow) (h : Handler) → i < l.row-index → slice_get l.irqs i ≡ Some row → row.handler ≡ Some h → h.value % 2 ^ (8 - l.bits) ≡ 0
+    (i : ℕ) (row : IrqRow) (h : Handler) → i < l.row-index → slice_get l.irqs i ≡ Some row → row.handler ≡ Some h
+    → h.value % 2 ^ (8 - l.bits) ≡ 0

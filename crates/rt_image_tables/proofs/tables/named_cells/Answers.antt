@@ -8,5 +8,7 @@ pub loop-index-preserved : goal.loop-index-preserved
 loop-index-preserved c =
     let cell = cell_named c.args.cells.now in
     let before = take c.loop-index.index c.args.names.now.shared in
-    c.in_ok-push.ensures.items ∙ ap (λ xs. xs ++ c.named_cell.result ∷ []) c.loop-index.invariant ∙ ap (λ x. map cell before ++ x ∷ []) c.named_cell.ensures
-    ∙ sym (map_push cell before c.in-Some.name.now) ∙ ap (map cell) (taken_next c.args.names.now.shared c.loop-index.index c.in-Some.name.now (sym c.in-Some.ensures))
+    c.in_ok-push.ensures.items ∙ ap (λ xs. xs ++ c.named_cell.result ∷ []) c.loop-index.invariant
+    ∙ ap (λ x. map cell before ++ x ∷ []) c.named_cell.ensures
+    ∙ sym (map_push cell before c.in-Some.name.now) ∙ ap (map cell)
+    (taken_next c.args.names.now.shared c.loop-index.index c.in-Some.name.now (sym c.in-Some.ensures))

@@ -9,7 +9,8 @@ loop-o-preserved c =
     let i = c.loop-o.o-index in
     let xs = c.args.opened.now in
     let within : i < length xs = omega arith in
-    let split : drop i xs ≡ o ∷ drop (i + 1) xs = drop_more xs i o within ∙ ap (λ y. y ∷ drop (i + 1) xs) (sym c.o-item.is) in
+    let split : drop i xs ≡ o ∷ drop (i + 1) xs = drop_more xs i o within
+    ∙ ap (λ y. y ∷ drop (i + 1) xs) (sym c.o-item.is) in
     ap (λ v. priority_over v (drop (i + 1) xs)) c.lowered_value-value.ensures
     ∙ priority_over_more o.kind c.loop-o.value (drop (i + 1) xs)
     ∙ ap (priority_over c.loop-o.value) (sym split)

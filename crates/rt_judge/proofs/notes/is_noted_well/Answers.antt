@@ -1,6 +1,7 @@
 use Rattle.std.proofs.Common.{sym, ◌∙◌}
 use Rattle.rt_judge.proofs.notes.is_noted_well.Goals as goal
-use Rattle.rt_judge.proofs.notes.is_noted_well.Goals.{then-stands_on, else-stands_on, then-has_its_note, else-has_its_note}
+use Rattle.rt_judge.proofs.notes.is_noted_well.Goals.{then-stands_on, else-stands_on, then-has_its_note}
+use Rattle.rt_judge.proofs.notes.is_noted_well.Goals.{else-has_its_note}
 
 pub returns-then-is_unsaved : goal.returns-then-is_unsaved
 returns-then-is_unsaved c address = elim c.if-has_its_note.branch [

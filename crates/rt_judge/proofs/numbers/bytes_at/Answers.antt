@@ -8,7 +8,8 @@ pub returns-in-Some-clause-bytes : goal.returns-in-Some-clause-bytes
 returns-in-Some-clause-bytes c =
     let img = c.args.image.now in
     let bytes = bytes_from (entry_words img) c.args.value img.irqs (Some c.in-Some.frame)
-    (c.in-Some.ensures ∙ ap (greatest_frame c.args.value) (c.deref.ensures.value ∙ ap (λ (i : Image). i.irqs) c.image.view_is)) in
+    (c.in-Some.ensures ∙ ap (greatest_frame c.args.value) (c.deref.ensures.value
+    ∙ ap (λ (i : Image). i.irqs) c.image.view_is)) in
     let entry = c.from.ensures in
     let words = c.entry_words.ensures.value in
     let frame = c.from-in-Some.ensures in
@@ -18,4 +19,5 @@ pub returns-in-None-clause-bytes : goal.returns-in-None-clause-bytes
 returns-in-None-clause-bytes c =
     let img = c.args.image.now in
     sym (bytes_from (entry_words img) c.args.value img.irqs None
-    (c.in-None.ensures ∙ ap (greatest_frame c.args.value) (c.deref.ensures.value ∙ ap (λ (i : Image). i.irqs) c.image.view_is)))
+    (c.in-None.ensures ∙ ap (greatest_frame c.args.value) (c.deref.ensures.value
+    ∙ ap (λ (i : Image). i.irqs) c.image.view_is)))

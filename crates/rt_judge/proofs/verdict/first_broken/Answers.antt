@@ -1,6 +1,7 @@
 use Rattle.std.proofs.Common.{sym, refl, ◌∙◌, arith}
 use Rattle.rt_points.specs.declared.rule.Rule.TheVariants as rule
-use Rattle.rt_judge.proofs.Verdicts.{keeps_below, checked, is_false, stays, not_stays, operates, not_operates, notes, not_notes}
+use Rattle.rt_judge.proofs.Verdicts.{keeps_below, checked, is_false, stays, not_stays, operates, not_operates, notes}
+use Rattle.rt_judge.proofs.Verdicts.{not_notes}
 use Rattle.rt_judge.proofs.Verdicts.{enters, not_enters, guards, not_guards}
 use Rattle.rt_judge.proofs.verdict.first_broken.Goals as goal
 

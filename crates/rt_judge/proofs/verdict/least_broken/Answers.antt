@@ -12,7 +12,8 @@ returns-in-None c =
     record {
       rule = rule.Nesting;
       numbered = refl;
-      broken = none_case c.in_ok-findings.field-0 (¬ NestsInOneWay img) (Looked img) c.in-None.is c.in_ok-findings.ensures;
+      broken = none_case c.in_ok-findings.field-0 (¬ NestsInOneWay img) (Looked img) c.in-None.is
+          c.in_ok-findings.ensures;
       lower = keeps_below img 1
           (λ lt. absurd (omega (arith, lt)))
           (λ lt. absurd (omega (arith, lt)))

@@ -10,7 +10,8 @@ loop-index-init c =
 
 pub loop-index-preserved : goal.loop-index-preserved
 loop-index-preserved c =
-    looked_more c.args.image.now c.loop-index.index c.loop-index.findings c.look_at_handler.new.findings c.loop-index.invariant
+    looked_more c.args.image.now c.loop-index.index c.loop-index.findings c.look_at_handler.new.findings
+    c.loop-index.invariant
     (kept_case c.in_ok-look_at_handler.field-0 _ _ c.if-not-branch-2.false c.in_ok-look_at_handler.ensures)
 
 pub returns : goal.returns

@@ -20,11 +20,13 @@ loop-visit-preserved-in-Continue-1 c =
     let now = c.take_in.new.self in
     let facts = c.in_ok-take_in-in-New.ensures in
     let before : IsWalking img owner starts table (rest ++ visit ∷ []) bs =
-    subst (λ (ws : List Visit). IsWalking img owner starts table ws bs) c.in-Some.ensures.items c.loop-visit.invariant in
+    subst (λ (ws : List Visit). IsWalking img owner starts table ws bs) c.in-Some.ensures.items
+    c.loop-visit.invariant in
     let meets = c.in-New.ensures img owner in
     let fits : visit.address < 2 ^ 32 = search rules in
     subst (λ (ws : List Visit). IsWalking img owner starts now.table ws now.behind.items) (sym facts.waiting)
-    (subst (λ (us : List Visit). IsWalking img owner starts now.table (rest ++ waits img owner visit) us) (sym facts.behind)
+    (subst (λ (us : List Visit). IsWalking img owner starts now.table (rest ++ waits img owner visit) us)
+    (sym facts.behind)
     (walks_in img owner starts table now.table rest bs visit before facts.table meets.0 meets.1 fits))
 
 pub loop-visit-smaller-in-Continue-1 : goal.loop-visit-smaller-in-Continue-1
@@ -44,7 +46,8 @@ loop-visit-preserved c =
     let rest = c.pop.new.self.items in
     let visit = c.in-Some.visit in
     let before : IsWalking img owner starts table (rest ++ visit ∷ []) bs =
-    subst (λ (ws : List Visit). IsWalking img owner starts table ws bs) c.in-Some.ensures.items c.loop-visit.invariant in
+    subst (λ (ws : List Visit). IsWalking img owner starts table ws bs) c.in-Some.ensures.items
+    c.loop-visit.invariant in
     walks_past img owner starts table table rest bs visit before (c.in-Known.ensures img owner)
 
 pub returns-in-Ambiguous : goal.returns-in-Ambiguous
@@ -57,8 +60,10 @@ returns-in-Ambiguous c =
     let rest = c.pop.new.self.items in
     let visit = c.in-Some.visit in
     let before : IsWalking img owner starts table (rest ++ visit ∷ []) bs =
-    subst (λ (ws : List Visit). IsWalking img owner starts table ws bs) c.in-Some.ensures.items c.loop-visit.invariant in
-    c.in-Ambiguous.ensures img owner c.loop-visit.invariant.table (point img owner starts table table rest bs visit before)
+    subst (λ (ws : List Visit). IsWalking img owner starts table ws bs) c.in-Some.ensures.items
+    c.loop-visit.invariant in
+    c.in-Ambiguous.ensures img owner c.loop-visit.invariant.table
+    (point img owner starts table table rest bs visit before)
 
 pub returns : goal.returns
 returns c =

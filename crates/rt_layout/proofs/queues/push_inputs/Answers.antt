@@ -5,4 +5,5 @@ use Rattle.rt_layout.proofs.queues.push_inputs.Goals as goal
 
 pub loop-place-preserved : goal.loop-place-preserved
 loop-place-preserved c =
-    grown c.args.cells.now.items _ _ c.loop-place.cells.items _ _ c.loop-place.invariant c.in_ok-push_input.ensures (flat_map_more (input_rows (task_of c.args.task.now)) c.loop-place.place)
+    grown c.args.cells.now.items _ _ c.loop-place.cells.items _ _ c.loop-place.invariant c.in_ok-push_input.ensures
+    (flat_map_more (input_rows (task_of c.args.task.now)) c.loop-place.place)

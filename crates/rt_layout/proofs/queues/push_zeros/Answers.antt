@@ -8,4 +8,5 @@ pub loop-number-preserved : goal.loop-number-preserved
 loop-number-preserved c =
     let front = c.args.front.now in
     let n = c.loop-number.number in
-    grown c.args.cells.now.items (zero_rows front n) _ c.loop-number.cells.items _ _ c.loop-number.invariant c.in_ok-push_numbered.ensures (map_more (λ k. row (front ++ decimal k) 0) n)
+    grown c.args.cells.now.items (zero_rows front n) _ c.loop-number.cells.items _ _ c.loop-number.invariant
+    c.in_ok-push_numbered.ensures (map_more (λ k. row (front ++ decimal k) 0) n)

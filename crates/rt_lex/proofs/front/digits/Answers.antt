@@ -9,4 +9,6 @@ use Rattle.rt_lex.proofs.front.digits.Goals as goal
 pub returns : goal.returns
 returns c =
     let text = c.args.text.now in
-    ap (λ n. take n text) (count_from_yields_List c.take_while.result _ c.count-len.ensures.ran (YieldsList-from_take_while _ is_digit (YieldsList-from_slice text (cc)) c.take_while.ensures.closure c.take_while.ensures.done (λ x b q k. search (rules, tests))) ∙ length-prefix_len is_digit text)
+    ap (λ n. take n text) (count_from_yields_List c.take_while.result _ c.count-len.ensures.ran
+    (YieldsList-from_take_while _ is_digit (YieldsList-from_slice text (cc)) c.take_while.ensures.closure
+    c.take_while.ensures.done (λ x b q k. search (rules, tests))) ∙ length-prefix_len is_digit text)

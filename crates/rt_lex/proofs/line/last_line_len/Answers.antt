@@ -7,4 +7,6 @@ use Rattle.rt_lex.proofs.line.last_line_len.Goals as goal
 pub returns : goal.returns
 returns c =
     let back = reverse c.args.text.now in
-    count_from_yields_List c.take_while.result _ c.count.ensures.ran (YieldsList-from_take_while _ (λ b. not (eqb b 10)) (YieldsList-from_rev_slice c.args.text.now (cc)) c.take_while.ensures.closure c.take_while.ensures.done (λ x b q k. search (rules, tests)))
+    count_from_yields_List c.take_while.result _ c.count.ensures.ran
+    (YieldsList-from_take_while _ (λ b. not (eqb b 10)) (YieldsList-from_rev_slice c.args.text.now (cc))
+    c.take_while.ensures.closure c.take_while.ensures.done (λ x b q k. search (rules, tests)))

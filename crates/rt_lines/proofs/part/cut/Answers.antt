@@ -12,4 +12,5 @@ returns-in-Some-clause-parts c =
     rw (take_all (length text - (at + 1)) (drop (at + 1) text) whole) h.1
 
 pub returns-in-None-clause-parts : goal.returns-in-None-clause-parts
-returns-in-None-clause-parts c = split_nowhere (λ b. b == c.args.byte) c.args.text.now (sym c.place_of.ensures ∙ c.in-None.is)
+returns-in-None-clause-parts c = split_nowhere (λ b. b == c.args.byte) c.args.text.now
+    (sym c.place_of.ensures ∙ c.in-None.is)

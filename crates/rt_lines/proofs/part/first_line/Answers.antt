@@ -11,4 +11,5 @@ pub returns-in-None-clause-lines : goal.returns-in-None-clause-lines
 returns-in-None-clause-lines c =
     let cut = rw c.in-None.is at c.cut.ensures.parts in
     let whole = rw c.in-None.is at c.cut.ensures.whole in
-    last_line (λ b. b == 10) c.args.text.now c.requires (cut ∙ ap (λ (line : List ℕ). line ∷ []) whole) ∙ ap (λ (line : List ℕ). line ∷ []) (sym whole)
+    last_line (λ b. b == 10) c.args.text.now c.requires (cut ∙ ap (λ (line : List ℕ). line ∷ []) whole)
+    ∙ ap (λ (line : List ℕ). line ∷ []) (sym whole)

@@ -4,4 +4,5 @@ use Rattle.rt_listing.specs.Words.{spaced_number}
 use Rattle.rt_listing.proofs.line.push_operands.Given as goal
 
 abbrev pub invariant-loop-operand : goal.invariant-loop-operand
-invariant-loop-operand l = l.out.items ≡ l.fn.out.items ++ l.word ++ flat_map spaced_number (take l.operand-index l.operands)
+invariant-loop-operand l = l.out.items ≡ l.fn.out.items ++ l.word ++ flat_map spaced_number
+    (take l.operand-index l.operands)

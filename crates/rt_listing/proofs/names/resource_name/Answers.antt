@@ -7,4 +7,5 @@ use Rattle.rt_listing.proofs.names.resource_name.Goals as goal
 pub returns : goal.returns
 returns c =
     ap (λ (name : Bor (List ℕ)). name.now) c.unwrap_or.ensures ∙ unwrap_or-now c.resource_at.result _
-    ∙ ap (λ name. unwrap_or name []) c.resource_at.ensures ∙ unwrap_or-slice_get c.args.names.now.shared c.args.resource []
+    ∙ ap (λ name. unwrap_or name []) c.resource_at.ensures ∙ unwrap_or-slice_get c.args.names.now.shared c.args.resource
+    []

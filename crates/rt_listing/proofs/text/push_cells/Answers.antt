@@ -8,8 +8,10 @@ use Rattle.rt_listing.proofs.text.push_cells.Goals as goal
 pub loop-number-preserved : goal.loop-number-preserved
 loop-number-preserved c = record {
   text = grind (arith, common_steps);
-  short = one_more IsShortCell c.args.cells.now _ c.index-cells-number.result (omega arith) c.index-cells-number.is c.loop-number.invariant.short c.in_ok-push_cell.ensures.short;
+  short = one_more IsShortCell c.args.cells.now _ c.index-cells-number.result (omega arith) c.index-cells-number.is
+      c.loop-number.invariant.short c.in_ok-push_cell.ensures.short;
 }
 
 pub returns-clause-short : goal.returns-clause-short
-returns-clause-short c = rw (take_all c.loop-number.number c.args.cells.now (omega arith)) at c.loop-number.invariant.short
+returns-clause-short c = rw (take_all c.loop-number.number c.args.cells.now (omega arith)) at
+    c.loop-number.invariant.short

@@ -11,12 +11,16 @@ loop-address-preserved c =
     let line = c.index-code-address in
     record {
       text = grind (arith, common_steps);
-      instrs = one_more HasShortInstr lines _ line.result (omega arith) line.is c.loop-address.invariant.instrs c.push_line.ensures.instr_short;
-      notes = one_more HasShortNote lines _ line.result (omega arith) line.is c.loop-address.invariant.notes c.push_line.ensures.note_short;
+      instrs = one_more HasShortInstr lines _ line.result (omega arith) line.is c.loop-address.invariant.instrs
+          c.push_line.ensures.instr_short;
+      notes = one_more HasShortNote lines _ line.result (omega arith) line.is c.loop-address.invariant.notes
+          c.push_line.ensures.note_short;
     }
 
 pub returns-clause-instrs_short : goal.returns-clause-instrs_short
-returns-clause-instrs_short c = rw (take_all c.loop-address.address c.args.code.now (omega arith)) at c.loop-address.invariant.instrs
+returns-clause-instrs_short c = rw (take_all c.loop-address.address c.args.code.now (omega arith)) at
+    c.loop-address.invariant.instrs
 
 pub returns-clause-notes_short : goal.returns-clause-notes_short
-returns-clause-notes_short c = rw (take_all c.loop-address.address c.args.code.now (omega arith)) at c.loop-address.invariant.notes
+returns-clause-notes_short c = rw (take_all c.loop-address.address c.args.code.now (omega arith)) at
+    c.loop-address.invariant.notes

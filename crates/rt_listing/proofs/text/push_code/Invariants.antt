@@ -6,7 +6,8 @@ use Rattle.rt_listing.proofs.text.push_code.Given as goal
 
 abbrev pub invariant-loop-address : goal.invariant-loop-address
 invariant-loop-address l = record {
-  text : l.out.items ++ lines_with_numbers (code_line l.names) l.address (drop l.address l.code) ≡ l.fn.out.items ++ lines_with_numbers (code_line l.names) 0 l.code;
+  text : l.out.items ++ lines_with_numbers (code_line l.names) l.address (drop l.address l.code) ≡ l.fn.out.items
+      ++ lines_with_numbers (code_line l.names) 0 l.code;
   instrs : All HasShortInstr (take l.address l.code);
   notes : All HasShortNote (take l.address l.code);
 }

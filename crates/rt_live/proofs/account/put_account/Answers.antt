@@ -1,4 +1,5 @@
-use Rattle.std.proofs.Common.{rules, ◌≡◌, ℕ, ◌+◌, ◌<◌, List, ◌++◌, length, take, drop, flat_map, get_or, sym, ap, subst, ◌∙◌}
+use Rattle.std.proofs.Common.{rules, ◌≡◌, ℕ, ◌+◌, ◌<◌, List, ◌++◌, length, take, drop, flat_map, get_or, sym, ap, subst}
+use Rattle.std.proofs.Common.{◌∙◌}
 use Rattle.std.proofs.lemmas.List.{take-append-drop}
 use Rattle.std.proofs.lemmas.List.Concat.{flat_map-append}
 use Rattle.rt_lemmas.proofs.Lists.{drop_as_cons}
@@ -13,7 +14,8 @@ use Rattle.rt_live.proofs.account.put_account.Goals as goal
 split_at : (f : AccountRow → List ℕ) (rows : List AccountRow) (i : ℕ) (row : AccountRow) → i < length rows
     → row ≡ get_or rows i row → flat_map f (take i rows) ++ (f row ++ flat_map f (drop (i + 1) rows)) ≡ flat_map f rows
 split_at f rows i row within is =
-    ap (λ (rest : List AccountRow). flat_map f (take i rows) ++ flat_map f rest) (sym (drop_as_cons rows i row within is))
+    ap (λ (rest : List AccountRow). flat_map f (take i rows) ++ flat_map f rest)
+    (sym (drop_as_cons rows i row within is))
     ∙ sym (flat_map-append f (take i rows) (drop i rows))
     ∙ ap (flat_map f) (take-append-drop i rows)
 

@@ -9,7 +9,10 @@ use Rattle.rt_live.proofs.gathering.gather_line.Goals as goal
 
 pub add_counts-requires : goal.add_counts-requires
 add_counts-requires c =
-    record { room = counts_fit c.args.line.now.gathered c.args.rows.now (omega (arith, c.requires.room)) c.requires.counted }
+    record {
+      room = counts_fit c.args.line.now.gathered c.args.rows.now (omega (arith, c.requires.room))
+          c.requires.counted;
+    }
 
 pub returns-clause-counted : goal.returns-clause-counted
 returns-clause-counted c =

@@ -6,7 +6,8 @@ use Rattle.rt_words.specs.Lines.{Core}
 use Rattle.rt_live.specs.Devices.{is_of_device}
 use Rattle.rt_live.specs.Ready.{IsWaiting}
 use Rattle.rt_live.specs.Inside.Making.{HasMadeLines}
-use Rattle.rt_live.proofs.Made.{none_below, no_lines, below, devices_below, devices_step, device_more, no_device, line_more}
+use Rattle.rt_live.proofs.Made.{none_below, no_lines, below, devices_below, devices_step, device_more, no_device}
+use Rattle.rt_live.proofs.Made.{line_more}
 use Rattle.rt_live.proofs.making.devices_of.Goals as goal
 use Rattle.rt_live.proofs.making.devices_of.Goals.{then-names_device+in_ok-device_of+in_ok-push, else-names_device}
 

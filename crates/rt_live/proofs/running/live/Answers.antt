@@ -38,7 +38,8 @@ returns-in-Ok-went-clause-balanced g c =
     let all = subst (λ (s : List Line). Completes (turns s) ready.line c.args.core.now c.go-went.new.core
     (λ found. Took x y (live_text img s found))) (sym c.go-went.ensures.script) c.in-Ok-went.ensures.ok in
     subst (λ (s : List Line). AllByRecursion (IsBalanced s) c.close-account.result.rows.items) same
-    (rows_balanced ready c.close-account.ensures.ready c.go-went.ensures.gathered ranges c.close-account.result.rows.items
+    (rows_balanced ready c.close-account.ensures.ready c.go-went.ensures.gathered ranges
+    c.close-account.result.rows.items
     c.close-account.ensures.closes c.args.core.now c.go-went.new.core c.requires.fresh
     (λ found. Took x y (live_text img ready.script found)) all)
 

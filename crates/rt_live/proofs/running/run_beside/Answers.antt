@@ -14,37 +14,46 @@ use Rattle.rt_live.proofs.running.run_beside.Goals as goal
 pub returns-in_err-went-clause-err : goal.returns-in_err-went-clause-err
 returns-in_err-went-clause-err g c =
     let same = c.go-went.ensures.script in
-    let ranges = subst (λ (s : List Line). AllByRecursion HasDeviceInRange s) (ap (λ r. r.script) c.ready.view_is ∙ sym same) c.lines-events.ensures.script.devices in
+    let ranges = subst (λ (s : List Line). AllByRecursion HasDeviceInRange s)
+    (ap (λ r. r.script) c.ready.view_is ∙ sym same) c.lines-events.ensures.script.devices in
     on_err_from c.from_residual.result
-    (run_part c.go-went.new.self c.close-account.ensures.ready c.go-went.ensures.gathered c.args.ready.script same ranges
+    (run_part c.go-went.new.self c.close-account.ensures.ready c.go-went.ensures.gathered c.args.ready.script same
+    ranges
     c.close-account.result.rows.items c.close-account.ensures.closes c.args.core.now c.go-went.new.core c.requires.fresh
     (g.K.Sink.taken c.args.out.now) (g.K.Sink.taken c.go-went.new.out) c.in_err-went.ensures.err)
 
 pub returns-clause-ok : goal.returns-clause-ok
 returns-clause-ok g c =
     let same = c.go-went.ensures.script in
-    let ranges = subst (λ (s : List Line). AllByRecursion HasDeviceInRange s) (ap (λ r. r.script) c.ready.view_is ∙ sym same) c.lines-events.ensures.script.devices in
+    let ranges = subst (λ (s : List Line). AllByRecursion HasDeviceInRange s)
+    (ap (λ r. r.script) c.ready.view_is ∙ sym same) c.lines-events.ensures.script.devices in
     let irqs = c.go-went.ensures.rows ∙ c.requires.rows in
     let named = ap (λ (i : Image). i.names) (c.behind-core.view_is ∙ c.image.ensures) in
     let x = g.K.Sink.taken c.args.out.now in
     let y = g.K.Sink.taken c.go-went.new.out in
     let z = g.K.Sink.taken c.put_account.new.out in
-    on_ok_weaker c.put_account.result (Took y z (account_text c.behind-core.inside.names c.close-account.result.rows.items))
+    on_ok_weaker c.put_account.result
+    (Took y z (account_text c.behind-core.inside.names c.close-account.result.rows.items))
     ((bytes : List ℕ) × IsLiveText c.args.core.now.image c.args.ready.script bytes × Took x z bytes)
-    (wrote_whole c.go-went.new.self c.close-account.ensures.ready c.go-went.ensures.gathered c.args.ready.script same ranges
-    c.close-account.result.rows.items c.close-account.ensures.closes c.args.core.now c.go-went.new.core c.requires.fresh x y
+    (wrote_whole c.go-went.new.self c.close-account.ensures.ready c.go-went.ensures.gathered c.args.ready.script same
+    ranges
+    c.close-account.result.rows.items c.close-account.ensures.closes c.args.core.now c.go-went.new.core c.requires.fresh
+    x y
     irqs c.behind-core.inside.names named z c.in_ok-went.ensures.ok) c.put_account.ensures.ok
 
 pub returns-clause-err : goal.returns-clause-err
 returns-clause-err g c =
     let same = c.go-went.ensures.script in
-    let ranges = subst (λ (s : List Line). AllByRecursion HasDeviceInRange s) (ap (λ r. r.script) c.ready.view_is ∙ sym same) c.lines-events.ensures.script.devices in
+    let ranges = subst (λ (s : List Line). AllByRecursion HasDeviceInRange s)
+    (ap (λ r. r.script) c.ready.view_is ∙ sym same) c.lines-events.ensures.script.devices in
     let irqs = c.go-went.ensures.rows ∙ c.requires.rows in
     let named = ap (λ (i : Image). i.names) (c.behind-core.view_is ∙ c.image.ensures) in
     let x = g.K.Sink.taken c.args.out.now in
     let y = g.K.Sink.taken c.go-went.new.out in
     let z = g.K.Sink.taken c.put_account.new.out in
     on_err_weaker c.put_account.result
-    (wrote_part c.go-went.new.self c.close-account.ensures.ready c.go-went.ensures.gathered c.args.ready.script same ranges
-    c.close-account.result.rows.items c.close-account.ensures.closes c.args.core.now c.go-went.new.core c.requires.fresh x y
+    (wrote_part c.go-went.new.self c.close-account.ensures.ready c.go-went.ensures.gathered c.args.ready.script same
+    ranges
+    c.close-account.result.rows.items c.close-account.ensures.closes c.args.core.now c.go-went.new.core c.requires.fresh
+    x y
     irqs c.behind-core.inside.names named z c.in_ok-went.ensures.ok) c.put_account.ensures.err

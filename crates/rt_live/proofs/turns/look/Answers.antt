@@ -75,4 +75,5 @@ loop-k-preserved g c = record {
 }
 
 pub returns-clause-ok : goal.returns-clause-ok
-returns-clause-ok g c = looks_alone c.args.line.now.calls _ c.args.core.now _ _ _ c.loop-k.k (omega arith) c.loop-k.invariant.run
+returns-clause-ok g c = looks_alone c.args.line.now.calls _ c.args.core.now _ _ _ c.loop-k.k (omega arith)
+    c.loop-k.invariant.run

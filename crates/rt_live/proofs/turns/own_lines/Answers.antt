@@ -95,7 +95,8 @@ loop-asked-preserved g c =
     let at : i < length script = omega arith in
     record {
       run =
-          own_line_more script i c.asked-item.result at c.asked-item.is c.args.core.now _ c.own_line.new.core _ _ _ _ _ _
+          own_line_more script i c.asked-item.result at c.asked-item.is c.args.core.now _ c.own_line.new.core _ _ _ _ _
+          _
           c.loop-asked.invariant.run c.in_ok-own_line.ensures.ok;
       same = same_line_on c.args.line.now _ _ c.loop-asked.invariant.same c.own_line.ensures.same;
       none_held = c.in_ok-own_line.ensures.none_held;

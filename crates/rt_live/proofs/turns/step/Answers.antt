@@ -10,7 +10,8 @@ use Rattle.rt_live.proofs.turns.step.Goals as goal
 
 pub returns-in_err-look-clause-err : goal.returns-in_err-look-clause-err
 returns-in_err-look-clause-err g c =
-    on_err_from c.from_residual.result (step_look_cut c.args.line.now.calls _ c.args.core.now _ _ _ c.in_err-look.ensures.err)
+    on_err_from c.from_residual.result (step_look_cut c.args.line.now.calls _ c.args.core.now _ _ _
+    c.in_err-look.ensures.err)
 
 pub send_step-requires-clause-writable : goal.send_step-requires-clause-writable
 send_step-requires-clause-writable g c =

@@ -6,7 +6,8 @@ pub returns-clause-same : goal.returns-clause-same
 returns-clause-same c = clear_same c.args.words.now c.from.result c.args.number c.from.ensures c.requires
 
 pub returns-clause-others : goal.returns-clause-others
-returns-clause-others c = λ other ne. clear_other c.args.words.now c.from.result c.args.number other c.from.ensures c.requires ne
+returns-clause-others c = λ other ne. clear_other c.args.words.now c.from.result c.args.number other c.from.ensures
+    c.requires ne
 
 pub returns-clause-words : goal.returns-clause-words
 returns-clause-words c = λ k ne. words_beside c.args.words.now c.from.result _ c.args.number k c.from.ensures ne

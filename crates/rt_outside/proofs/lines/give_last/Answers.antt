@@ -11,4 +11,5 @@ returns-then-is_empty g c =
 pub returns : goal.returns
 returns g c =
     let some : 0 < length c.args.held.now = search rules in
-    λ text holds. last_goes (g.L.LineSink.came c.args.sink.now) (g.L.LineSink.came c.take.new.self) text c.args.held.now c.args.count some holds c.in_ok-take.ensures
+    λ text holds. last_goes (g.L.LineSink.came c.args.sink.now) (g.L.LineSink.came c.take.new.self) text c.args.held.now
+    c.args.count some holds c.in_ok-take.ensures

@@ -10,6 +10,7 @@ invariant-loop-turn g l = record {
   within : l.taken ≤ l.limit;
   buffer : vec_len l.piece ≡ min 4096 (l.limit + 1);
   few : l.count + length l.held.items ≤ l.taken;
-  text : (text : List ℕ) × Gave (g.S.Source.left l.initial.source) (g.S.Source.left l.source) text × (length text ≡ l.taken) × HoldsLast (g.L.LineSink.came l.sink) text l.held.items l.count;
+  text : (text : List ℕ) × Gave (g.S.Source.left l.initial.source) (g.S.Source.left l.source) text
+      × (length text ≡ l.taken) × HoldsLast (g.L.LineSink.came l.sink) text l.held.items l.count;
   quiet : g.S.Source.faults l.source ≡ g.S.Source.faults l.initial.source;
 }

@@ -8,8 +8,11 @@ pub returns-in_err-done-clause-err : goal.returns-in_err-done-clause-err
 returns-in_err-done-clause-err g c =
     let done = c.loop-turn.done in
     let bytes = c.args.bytes.now in
-    on_err_from c.from_residual.result
-    (take done bytes, (drop done bytes, take-append-drop done bytes), rw c.in_err-done.ensures.err c.loop-turn.invariant.took)
+    on_err_from c.from_residual.result (
+      take done bytes,
+      (drop done bytes, take-append-drop done bytes),
+      rw c.in_err-done.ensures.err c.loop-turn.invariant.took,
+    )
 
 pub loop-turn-preserved : goal.loop-turn-preserved
 loop-turn-preserved g c = record {

@@ -7,7 +7,8 @@ use Rattle.rt_parse.proofs.Loops.{IsUnderWay}
 use Rattle.rt_parse.proofs.body.tasks.Given as goal
 
 abbrev pub invariant-loop-alloc : goal.invariant-loop-alloc
-invariant-loop-alloc l = IsUnderWay (is_this_word (codes "task")) (adds_at task_at) (map task_of l.tasks.items) l.rest [] l.fn.tokens
+invariant-loop-alloc l = IsUnderWay (is_this_word (codes "task")) (adds_at task_at) (map task_of l.tasks.items) l.rest
+    [] l.fn.tokens
 
 abbrev pub decreases-loop-alloc : goal.decreases-loop-alloc
 decreases-loop-alloc l = length l.rest

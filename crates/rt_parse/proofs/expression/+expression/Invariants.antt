@@ -26,7 +26,8 @@ abbrev pub decreases-nested_expression : goal.decreases-nested_expression
 decreases-nested_expression l = l.more * 40
 
 abbrev pub invariant-climb-loop-operator : goal.invariant-climb-loop-operator
-invariant-climb-loop-operator l = behind_at (strengths_from l.least) (atom_at l.more) (measured_view l.left) l.tokens ≡ chains_at (strengths_from l.least) (atom_at l.more) l.fn.tokens
+invariant-climb-loop-operator l = behind_at (strengths_from l.least) (atom_at l.more) (measured_view l.left) l.tokens
+    ≡ chains_at (strengths_from l.least) (atom_at l.more) l.fn.tokens
 
 abbrev pub decreases-climb-loop-operator : goal.decreases-climb-loop-operator
 decreases-climb-loop-operator l = length l.tokens

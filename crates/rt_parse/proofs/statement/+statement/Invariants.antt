@@ -42,7 +42,8 @@ decreases-braced_block l = l.left * 10 + 7
 
 abbrev pub invariant-statements-loop-alloc : goal.invariant-statements-loop-alloc
 invariant-statements-loop-alloc l =
-    IsUnderWay is_inside (one_more_at (block_at l.left) (inside_at l.left)) (map statement_of l.statements.items, l.room) l.rest ([], l.fn.first_room) l.fn.tokens
+    IsUnderWay is_inside (one_more_at (block_at l.left) (inside_at l.left))
+    (map statement_of l.statements.items, l.room) l.rest ([], l.fn.first_room) l.fn.tokens
 
 abbrev pub decreases-statements-loop-alloc : goal.decreases-statements-loop-alloc
 decreases-statements-loop-alloc l = length l.rest

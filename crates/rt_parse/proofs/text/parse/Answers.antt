@@ -15,19 +15,25 @@ returns-in-Ok-clause-ok c =
 pub returns-in-Ok-clause-only : goal.returns-in-Ok-clause-only
 returns-in-Ok-clause-only c other t =
     let short : length c.args.src.now ≤ TEXT_BYTES = omega (arith, c.if-src.false) in
-    text_only c.args.src.now other (app_of c.in-Ok.tree) t (read_is_text c.args.src.now short (app_of c.in-Ok.tree) (ap text_at (sym c.of.ensures.all) ∙ c.in-Ok.ensures))
+    text_only c.args.src.now other (app_of c.in-Ok.tree) t
+    (read_is_text c.args.src.now short (app_of c.in-Ok.tree) (ap text_at (sym c.of.ensures.all) ∙ c.in-Ok.ensures))
 
 pub returns-in-Err-At-clause-refused : goal.returns-in-Err-At-clause-refused
 returns-in-Err-At-clause-refused c fault e =
     let short : length c.args.src.now ≤ TEXT_BYTES = omega (arith, c.if-src.false) in
-    refused c.args.src.now short c.in-Err-At.found (ap text_at (sym c.of.ensures.all) ∙ (rw c.in-Err-At.field-0-is at c.in-Err-At.ensures)) fault (sym c.fault_of.ensures ∙ same_fault c.fault_of.result fault e)
+    refused c.args.src.now short c.in-Err-At.found (ap text_at (sym c.of.ensures.all)
+    ∙ (rw c.in-Err-At.field-0-is at c.in-Err-At.ensures)) fault
+    (sym c.fault_of.ensures ∙ same_fault c.fault_of.result fault e)
 
 pub returns-in-Err-At-clause-first : goal.returns-in-Err-At-clause-first
 returns-in-Err-At-clause-first c fault other e x =
     let short : length c.args.src.now ≤ TEXT_BYTES = omega (arith, c.if-src.false) in
-    refused_first c.args.src.now short c.in-Err-At.found (ap text_at (sym c.of.ensures.all) ∙ (rw c.in-Err-At.field-0-is at c.in-Err-At.ensures)) fault other (sym c.fault_of.ensures ∙ same_fault c.fault_of.result fault e) x
+    refused_first c.args.src.now short c.in-Err-At.found (ap text_at (sym c.of.ensures.all)
+    ∙ (rw c.in-Err-At.field-0-is at c.in-Err-At.ensures)) fault other
+    (sym c.fault_of.ensures ∙ same_fault c.fault_of.result fault e) x
 
 pub returns-in-Err-At-clause-none : goal.returns-in-Err-At-clause-none
 returns-in-Err-At-clause-none c fault e app t =
     let short : length c.args.src.now ≤ TEXT_BYTES = omega (arith, c.if-src.false) in
-    no_text c.args.src.now short c.in-Err-At.found (ap text_at (sym c.of.ensures.all) ∙ (rw c.in-Err-At.field-0-is at c.in-Err-At.ensures)) app t
+    no_text c.args.src.now short c.in-Err-At.found (ap text_at (sym c.of.ensures.all)
+    ∙ (rw c.in-Err-At.field-0-is at c.in-Err-At.ensures)) app t

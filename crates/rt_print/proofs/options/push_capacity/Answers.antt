@@ -6,5 +6,7 @@ use Rattle.rt_print.proofs.options.push_capacity.Goals as goal
 pub returns-in_ok-push_number-in-Some-clause-text :
     goal.returns-in_ok-push_number-in-Some-clause-text
 returns-in_ok-push_number-in-Some-clause-text c =
-    one_opened c.args.opened c.args.out.now.items c.push_opening.new.out.items c.push_bytes.new.out.items c.push_number.new.out.items (codes "capacity = ") (decimal c.in-Some.number) (capacity_option c.args.capacity)
-    (ap capacity_option c.in-Some.is) c.in_ok-push_opening-in-Some.ensures c.in_ok-push_bytes-in-Some.ensures c.in_ok-push_number-in-Some.ensures
+    one_opened c.args.opened c.args.out.now.items c.push_opening.new.out.items c.push_bytes.new.out.items
+    c.push_number.new.out.items (codes "capacity = ") (decimal c.in-Some.number) (capacity_option c.args.capacity)
+    (ap capacity_option c.in-Some.is) c.in_ok-push_opening-in-Some.ensures c.in_ok-push_bytes-in-Some.ensures
+    c.in_ok-push_number-in-Some.ensures

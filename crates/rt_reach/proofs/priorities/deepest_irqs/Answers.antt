@@ -10,7 +10,8 @@ use Rattle.rt_reach.proofs.priorities.deepest_irqs.Goals.{in-Some+in_ok-push, in
 
 pub loop-priority-init : goal.loop-priority-init
 loop-priority-init c = c.new-irqs.ensures.items
-    ∙ ap (map (λ p. or_zero (deepest_irq (app_of c.args.app.now) p))) (sym (below_none (has_handler (app_of c.args.app.now))))
+    ∙ ap (map (λ p. or_zero (deepest_irq (app_of c.args.app.now) p)))
+    (sym (below_none (has_handler (app_of c.args.app.now))))
 
 pub loop-priority-preserved : goal.loop-priority-preserved
 loop-priority-preserved c =
@@ -22,7 +23,8 @@ loop-priority-preserved c =
           c.match-deepest_irq.irqs.items c.loop-priority.invariant (sym c.deepest_irq.ensures ∙ w.in-Some.is)
           (ap (λ (v : Vec Irq Global). v.items) w.irqs-is ∙ w.in_ok-push.ensures.items)
       | in_default w ↦
-          kept app c.requires.accepted c.requires.form priority c.loop-priority.irqs.items c.match-deepest_irq.irqs.items
+          kept app c.requires.accepted c.requires.form priority c.loop-priority.irqs.items
+          c.match-deepest_irq.irqs.items
           c.loop-priority.invariant (sym c.deepest_irq.ensures ∙ w.in_default.is)
           (ap (λ (v : Vec Irq Global). v.items) w.irqs-is)
     ]

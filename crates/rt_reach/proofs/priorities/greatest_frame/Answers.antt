@@ -11,7 +11,8 @@ loop-number-preserved c =
     let ts = c.deref-task-items.result.now in
     let are = c.requires ∙ ap (λ us. thread_frame app.init ∷ thread_frame app.idle ∷ map words (map task_of us))
     (sym c.deref-task-items.ensures.value) in
-    let next = most_next (is_bound_at c.args.priority) c.args.frames.now (thread_frame app.init) (thread_frame app.idle) ts
+    let next = most_next (is_bound_at c.args.priority) c.args.frames.now (thread_frame app.init) (thread_frame app.idle)
+    ts
     c.loop-number.number c.task-item.result c.loop-number.most are c.loop-number-test.true c.task-item.is
     c.loop-number.invariant in
     elim c.if-is_bound_at.branch [

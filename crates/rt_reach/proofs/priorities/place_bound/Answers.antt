@@ -6,7 +6,8 @@ use Rattle.rt_app.specs.Stack.{is_bound_at, thread_frame}
 use Rattle.rt_app.specs.View.{task_of, app_of}
 use Rattle.rt_reach.proofs.Greatest.{words, frame_at, find_here, find_not}
 use Rattle.rt_reach.proofs.priorities.place_bound.Goals as goal
-use Rattle.rt_reach.proofs.priorities.place_bound.Goals.{else-is_bound_at-via-then-is_bound_at+else-frames-number, else-is_bound_at-via-else-is_bound_at}
+use Rattle.rt_reach.proofs.priorities.place_bound.Goals.{else-is_bound_at-via-then-is_bound_at+else-frames-number}
+use Rattle.rt_reach.proofs.priorities.place_bound.Goals.{else-is_bound_at-via-else-is_bound_at}
 
 both_fail : (a b : Bool) → b ≡ false → (a && b) ≡ false
 both_fail true b is = is
@@ -45,5 +46,6 @@ loop-number-preserved c =
           not_it (both_fail (is_bound_at c.args.priority (task_of t)) (words (task_of t) == c.args.words)
           (ne_eqb (words (task_of t)) c.args.words (λ same. w.if-frames-number.false (frame ∙ same))))
       | else-is_bound_at-via-else-is_bound_at w ↦
-          not_it (ap (λ b. b && (words (task_of t) == c.args.words)) (sym c.is_bound_at.ensures ∙ w.if-is_bound_at.false))
+          not_it (ap (λ b. b && (words (task_of t) == c.args.words))
+          (sym c.is_bound_at.ensures ∙ w.if-is_bound_at.false))
     ]

@@ -5,4 +5,5 @@ use Rattle.rt_report.specs.Report.{body_lines}
 use Rattle.rt_report.proofs.bounds.push_bodies.Given as goal
 
 abbrev pub invariant-loop-bound : goal.invariant-loop-bound
-invariant-loop-bound l = l.out.items ≡ l.fn.out.items ++ flat_map (body_lines (app_of l.app).tasks) (take l.bound-index l.bodies)
+invariant-loop-bound l = l.out.items ≡ l.fn.out.items ++ flat_map (body_lines (app_of l.app).tasks)
+    (take l.bound-index l.bodies)

@@ -10,7 +10,9 @@ use Rattle.rt_resolve.proofs.app.resolve_tasks.Given as goal
 
 abbrev pub invariant-loop-task : goal.invariant-loop-task
 invariant-loop-task l = record {
-  trees : map built.task_of l.resolved.items ≡ map (meant.task (written.app_of l.app)) (map written.task_of (take l.task-index l.tasks));
-  faults : l.faults.items ≡ l.fn.faults.items ++ flat_map (rules_on.task_faults (written.app_of l.app)) (map written.task_of (take l.task-index l.tasks));
+  trees : map built.task_of l.resolved.items ≡ map (meant.task (written.app_of l.app))
+      (map written.task_of (take l.task-index l.tasks));
+  faults : l.faults.items ≡ l.fn.faults.items ++ flat_map (rules_on.task_faults (written.app_of l.app))
+      (map written.task_of (take l.task-index l.tasks));
   printable : AllByRecursion IsPrintableTask (map written.task_of (drop l.task-index l.tasks));
 }

@@ -34,7 +34,8 @@ invariant-resolve_block-loop-stmt l = record {
   outer : l.outer ≡ length l.fn.names.variables.variables - l.fn.names.variables.here;
   outside : drop l.names.variables.here l.names.variables.variables ≡ l.fn.names.variables.variables;
   next : l.next + meant.binders (block_of (drop l.stmt-index l.stmts)) ≡ l.fn.next + meant.binders (block_of l.stmts);
-  tree : followed (built.block_of l.block.items) (meant.block (names_of l.names) l.next (block_of (drop l.stmt-index l.stmts)))
+  tree : followed (built.block_of l.block.items) (meant.block (names_of l.names) l.next
+      (block_of (drop l.stmt-index l.stmts)))
       ≡ meant.block (named.inside (names_of l.fn.names)) l.fn.next (block_of l.stmts);
   faults : l.faults.items ++ wrong.block_faults (names_of l.names) l.next (block_of (drop l.stmt-index l.stmts))
       ≡ l.fn.faults.items ++ wrong.block_faults (named.inside (names_of l.fn.names)) l.fn.next (block_of l.stmts);

@@ -9,5 +9,6 @@ use Rattle.rt_resolve.proofs.declared.resolve_dispatchers.Given as goal
 abbrev pub invariant-loop-x : goal.invariant-loop-x
 invariant-loop-x l = record {
   dispatchers : l.resolved.items ≡ map (meant.dispatcher (written.app_of l.app)) (take l.x-index l.dispatchers);
-  faults : l.faults.items ≡ l.fn.faults.items ++ flat_map (λ x. wrong.if_unknown (named.irq_named (written.app_of l.app) x.name) x.at) (take l.x-index l.dispatchers);
+  faults : l.faults.items ≡ l.fn.faults.items ++ flat_map
+      (λ x. wrong.if_unknown (named.irq_named (written.app_of l.app) x.name) x.at) (take l.x-index l.dispatchers);
 }

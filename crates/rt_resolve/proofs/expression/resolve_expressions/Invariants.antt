@@ -9,6 +9,8 @@ use Rattle.rt_resolve.proofs.expression.resolve_expressions.Given as goal
 
 abbrev pub invariant-loop-expr : goal.invariant-loop-expr
 invariant-loop-expr l = record {
-  trees : map built.expression_of l.resolved.items ≡ map (meant.expression (names_of l.names)) (map written.expression_of (take l.expr-index l.exprs));
-  faults : l.faults.items ≡ l.fn.faults.items ++ flat_map (wrong.expression_faults (names_of l.names)) (map written.expression_of (take l.expr-index l.exprs));
+  trees : map built.expression_of l.resolved.items ≡ map (meant.expression (names_of l.names))
+      (map written.expression_of (take l.expr-index l.exprs));
+  faults : l.faults.items ≡ l.fn.faults.items ++ flat_map (wrong.expression_faults (names_of l.names))
+      (map written.expression_of (take l.expr-index l.exprs));
 }

@@ -23,7 +23,9 @@ loop-listing-preserved c =
     let more = numbers_more all i any_listing lt in
     record {
       size = simp length-set c.loop-listing.invariant.size;
-      marked = rw m (marks_more c.loop-listing.is_listed before after (get_or all i any_listing).number more c.loop-listing.invariant.size fits c.loop-listing.invariant.marked);
-      faults = listed_more all i any_listing before after c.loop-listing.faults.items c.push_when.new.faults.items _ _ lt more (c.loop-listing.invariant.marked (get_or all i any_listing).number fits)
+      marked = rw m (marks_more c.loop-listing.is_listed before after (get_or all i any_listing).number more
+          c.loop-listing.invariant.size fits c.loop-listing.invariant.marked);
+      faults = listed_more all i any_listing before after c.loop-listing.faults.items c.push_when.new.faults.items _ _
+          lt more (c.loop-listing.invariant.marked (get_or all i any_listing).number fits)
           (rw m at c.in_ok-push_when.ensures) c.loop-listing.invariant.faults;
     }

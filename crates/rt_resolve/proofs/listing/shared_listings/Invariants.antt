@@ -7,4 +7,6 @@ use Rattle.rt_resolve.specs.Inside.NamesView.{use_of}
 use Rattle.rt_resolve.proofs.listing.shared_listings.Given as goal
 
 abbrev pub invariant-loop-l : goal.invariant-loop-l
-invariant-loop-l l = map use_of l.listings.items ≡ flat_map (λ x. listing_of (named.shared_resource_named (written.app_of l.app) x.name.name) x.name.at) (take l.l-index l.listed)
+invariant-loop-l l = map use_of l.listings.items ≡ flat_map
+    (λ x. listing_of (named.shared_resource_named (written.app_of l.app) x.name.name) x.name.at)
+    (take l.l-index l.listed)

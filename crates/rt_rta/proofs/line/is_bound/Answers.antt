@@ -9,5 +9,6 @@ use Rattle.rt_rta.proofs.line.is_bound.Goals as goal
 pub returns : goal.returns
 returns c =
     let app = app_of c.args.app.now in
-    c.one_binds.ensures ∙ ap (list_any (λ t. is_some_and (λ n. n == c.args.irq) (number_of app (task_of t)))) c.deref.ensures.value
+    c.one_binds.ensures ∙ ap (list_any (λ t. is_some_and (λ n. n == c.args.irq) (number_of app (task_of t))))
+    c.deref.ensures.value
     ∙ sym (list_any-map task_of (λ t. is_some_and (λ n. n == c.args.irq) (number_of app t)) c.args.app.now.tasks.items)

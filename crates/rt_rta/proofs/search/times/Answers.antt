@@ -12,15 +12,18 @@ bounds-requires-clause-sound c = accepted_are_sound (app_of c.args.app.now) c.re
 
 pub times_of-requires-clause-small : goal.times_of-requires-clause-small
 times_of-requires-clause-small c =
-    subst (AllByRecursion IsSmall) (sym (c.deref-2.ensures.value ∙ c.in_ok-all.ensures)) (loads_small (app_of c.args.app.now) c.args.limits.now c.requires.limits)
+    subst (AllByRecursion IsSmall) (sym (c.deref-2.ensures.value ∙ c.in_ok-all.ensures))
+    (loads_small (app_of c.args.app.now) c.args.limits.now c.requires.limits)
 
 pub times_of-requires-clause-few : goal.times_of-requires-clause-few
 times_of-requires-clause-few c =
-    subst (λ xs. length xs ≤ 64) (sym (c.deref-2.ensures.value ∙ c.in_ok-all.ensures)) (loads_few (app_of c.args.app.now) c.args.limits.now c.requires.accepted.limits.few_tasks)
+    subst (λ xs. length xs ≤ 64) (sym (c.deref-2.ensures.value ∙ c.in_ok-all.ensures))
+    (loads_few (app_of c.args.app.now) c.args.limits.now c.requires.accepted.limits.few_tasks)
 
 pub returns : goal.returns
 returns c =
     let waits = c.deref.ensures.value ∙ ap (λ (b : Bounds). b.waits) (c.bounds-2.view_is ∙ c.in_ok-bounds.ensures) in
     if_ok_weaker c.times_of.result _ _
-    (λ rows is. are_responses (app_of c.args.app.now) c.args.limits.now c.deref-2.result.now c.deref.result.now rows.items (c.deref-2.ensures.value ∙ c.in_ok-all.ensures) waits is)
+    (λ rows is. are_responses (app_of c.args.app.now) c.args.limits.now c.deref-2.result.now c.deref.result.now
+    rows.items (c.deref-2.ensures.value ∙ c.in_ok-all.ensures) waits is)
     c.times_of.ensures

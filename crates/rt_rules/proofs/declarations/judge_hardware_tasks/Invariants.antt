@@ -8,4 +8,5 @@ use Rattle.rt_rules.specs.Inside.First.{first_of}
 use Rattle.rt_rules.proofs.declarations.judge_hardware_tasks.Given as goal
 
 abbrev pub invariant-loop-task : goal.invariant-loop-task
-invariant-loop-task l = l.first ≡ first_of l.fn.first (flat_map (λ t. when (is_mixed t) rule.NotSoftware t.at) (map task_of (take l.task-index l.tasks)))
+invariant-loop-task l = l.first ≡ first_of l.fn.first (flat_map (λ t. when (is_mixed t) rule.NotSoftware t.at)
+    (map task_of (take l.task-index l.tasks)))

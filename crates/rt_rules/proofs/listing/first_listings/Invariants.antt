@@ -4,4 +4,5 @@ use Rattle.rt_rules.specs.Inside.Tables.{listing_at}
 use Rattle.rt_rules.proofs.listing.first_listings.Given as goal
 
 abbrev pub invariant-loop-listing : goal.invariant-loop-listing
-invariant-loop-listing l = (r : ℕ) → listing_at l.first r ≡ find (λ x. x.listed.resource == r) (take l.listing-index l.listings)
+invariant-loop-listing l = (r : ℕ) → listing_at l.first r ≡ find (λ x. x.listed.resource == r)
+    (take l.listing-index l.listings)

@@ -6,4 +6,5 @@ use Rattle.rt_rules.specs.Inside.First.{first_of}
 use Rattle.rt_rules.proofs.listing.judge_listings.Given as goal
 
 abbrev pub invariant-loop-listing : goal.invariant-loop-listing
-invariant-loop-listing l = l.first ≡ first_of l.fn.first (flat_map (listing_breaks (app_of l.app)) (take l.listing-index l.listing-items))
+invariant-loop-listing l = l.first ≡ first_of l.fn.first
+    (flat_map (listing_breaks (app_of l.app)) (take l.listing-index l.listing-items))

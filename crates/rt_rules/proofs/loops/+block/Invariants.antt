@@ -7,4 +7,5 @@ use Rattle.rt_rules.specs.Inside.Tables.{has}
 use Rattle.rt_rules.proofs.loops.+block.Given as goal
 
 abbrev pub invariant-insert_loops-loop-stmt : goal.invariant-insert_loops-loop-stmt
-invariant-insert_loops-loop-stmt l = (k : ℕ) → has l.found k ≡ (list_any (λ y. y == k) (loops (block_of (take l.stmt-index l.stmts))) || has l.fn.found k)
+invariant-insert_loops-loop-stmt l = (k : ℕ) → has l.found k
+    ≡ (list_any (λ y. y == k) (loops (block_of (take l.stmt-index l.stmts))) || has l.fn.found k)

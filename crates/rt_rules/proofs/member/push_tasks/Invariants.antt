@@ -6,4 +6,5 @@ use Rattle.rt_rules.specs.Inside.View.{member_of}
 use Rattle.rt_rules.proofs.member.push_tasks.Given as goal
 
 abbrev pub invariant-loop-number : goal.invariant-loop-number
-invariant-loop-number l = map member_of l.members.items ++ task_members l.number (map task_of (drop l.number l.tasks)) ≡ map member_of l.fn.members.items ++ task_members 0 (map task_of l.tasks)
+invariant-loop-number l = map member_of l.members.items ++ task_members l.number (map task_of (drop l.number l.tasks))
+    ≡ map member_of l.fn.members.items ++ task_members 0 (map task_of l.tasks)

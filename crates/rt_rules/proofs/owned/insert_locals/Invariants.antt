@@ -5,4 +5,5 @@ use Rattle.rt_rules.specs.Inside.Tables.{has}
 use Rattle.rt_rules.proofs.owned.insert_locals.Given as goal
 
 abbrev pub invariant-loop-item : goal.invariant-loop-item
-invariant-loop-item l = (k : ℕ) → has l.owned k ≡ (list_any (λ o. o.local == k) (take l.item-index l.locals) || has l.fn.owned k)
+invariant-loop-item l = (k : ℕ) → has l.owned k ≡ (list_any (λ o. o.local == k) (take l.item-index l.locals)
+    || has l.fn.owned k)

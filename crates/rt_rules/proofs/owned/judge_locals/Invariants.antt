@@ -8,4 +8,6 @@ use Rattle.rt_rules.specs.Inside.Tables.{has}
 use Rattle.rt_rules.proofs.owned.judge_locals.Given as goal
 
 abbrev pub invariant-loop-item : goal.invariant-loop-item
-invariant-loop-item l = l.first ≡ first_of l.fn.first (flat_map (λ o. when (is_known o.local && has l.owned o.local) rule.LocalInTwoTasks o.at) (take l.item-index l.locals))
+invariant-loop-item l = l.first ≡ first_of l.fn.first
+    (flat_map (λ o. when (is_known o.local && has l.owned o.local) rule.LocalInTwoTasks o.at)
+    (take l.item-index l.locals))

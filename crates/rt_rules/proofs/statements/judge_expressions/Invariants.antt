@@ -9,4 +9,5 @@ use Rattle.rt_rules.proofs.statements.judge_expressions.Given as goal
 
 abbrev pub invariant-loop-expr : goal.invariant-loop-expr
 invariant-loop-expr l =
-    l.first ≡ first_use (app_of l.judge.app.now) (member_of l.judge.member) l.fn.first (flat_map (reads (locked_resources l.locked)) (map expression_of (take l.expr-index l.exprs)))
+    l.first ≡ first_use (app_of l.judge.app.now) (member_of l.judge.member) l.fn.first
+    (flat_map (reads (locked_resources l.locked)) (map expression_of (take l.expr-index l.exprs)))

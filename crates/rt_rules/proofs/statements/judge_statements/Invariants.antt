@@ -8,4 +8,6 @@ use Rattle.rt_rules.specs.Inside.View.{member_of}
 use Rattle.rt_rules.proofs.statements.judge_statements.Given as goal
 
 abbrev pub invariant-loop-member : goal.invariant-loop-member
-invariant-loop-member l = l.first ≡ first_of l.fn.first (flat_map (λ m. flat_map (breaks (app_of l.app) m) (uses [] m.body.block)) (map member_of (take l.member-index l.members)))
+invariant-loop-member l = l.first ≡ first_of l.fn.first
+    (flat_map (λ m. flat_map (breaks (app_of l.app) m) (uses [] m.body.block))
+    (map member_of (take l.member-index l.members)))

@@ -10,6 +10,8 @@ loop-item-preserved c =
     let was = c.loop-item.invariant in (
       x.number ∷ was.0,
       used_table was.0 x.number (has c.loop-item.used) (has c.insert.new.self) was.1 c.in_ok-insert.ensures,
-      used_more was.0 c.args.uses.now c.loop-item.item-index x c.loop-item.first c.offer_when.new.self _ c.loop-item-test.true
-          (seen_at c.args.uses.now c.loop-item.item-index x c.item-item.result c.item.view_is c.item-item.is) was.2 (rw (← was.1 x.number, ← c.has.ensures) c.offer_when.ensures),
+      used_more was.0 c.args.uses.now c.loop-item.item-index x c.loop-item.first c.offer_when.new.self _
+          c.loop-item-test.true
+          (seen_at c.args.uses.now c.loop-item.item-index x c.item-item.result c.item.view_is c.item-item.is) was.2
+          (rw (← was.1 x.number, ← c.has.ensures) c.offer_when.ensures),
     )

@@ -4,4 +4,5 @@ use Rattle.rt_app.specs.Declarations.{use_of}
 use Rattle.rt_rules.proofs.used.push_dispatchers.Given as goal
 
 abbrev pub invariant-loop-dispatcher : goal.invariant-loop-dispatcher
-invariant-loop-dispatcher l = l.uses.items ≡ l.fn.uses.items ++ flat_map (λ d. use_of d.irq d.at) (take l.dispatcher-index l.dispatchers)
+invariant-loop-dispatcher l = l.uses.items ≡ l.fn.uses.items ++ flat_map (λ d. use_of d.irq d.at)
+    (take l.dispatcher-index l.dispatchers)

@@ -10,14 +10,16 @@ use Rattle.rt_run.proofs.event.run_to_item.Goals as goal
 
 pub returns-in_default-clause-ok : goal.returns-in_default-clause-ok
 returns-in_default-clause-ok g c =
-    none_written c.args.most c.args.core.now c.steps_to_item.new.self c.steps_to_item.result _ c.args.held.now c.steps_to_item.ensures c.in_default.is
+    none_written c.args.most c.args.core.now c.steps_to_item.new.self c.steps_to_item.result _ c.args.held.now
+    c.steps_to_item.ensures c.in_default.is
 
 pub put_shown-requires-clause-words : goal.put_shown-requires-clause-words
 put_shown-requires-clause-words g c =
     let core = c.args.core.now in
     let named = ap (λ (i : Image). i.names) (c.behind-core.view_is ∙ c.image.ensures ∙ c.steps_to_item.ensures.image) in
     subst (λ (n : Names). HasWords n c.in-Some.what) (sym named)
-    (reached_words c.args.most core c.steps_to_item.new.self c.steps_to_item.result c.in-Some.what c.steps_to_item.ensures c.in-Some.is
+    (reached_words c.args.most core c.steps_to_item.new.self c.steps_to_item.result c.in-Some.what
+    c.steps_to_item.ensures c.in-Some.is
     c.requires.writable.lines c.requires.writable.known)
 
 pub returns-in_err-put_shown-clause-err : goal.returns-in_err-put_shown-clause-err
@@ -29,7 +31,8 @@ returns-in_err-put_shown-clause-err g c =
     (cut_more goes.done c.args.most Step core c.steps_to_item.new.self _ _ c.args.held.now goes.within
     (stopped (replicate goes.done Step) core c.steps_to_item.new.self _ _ c.args.held.now _
     (reached_leads c.args.most core c.steps_to_item.new.self c.steps_to_item.result goes)
-    (item_lines c.args.most core c.steps_to_item.new.self c.steps_to_item.result c.in-Some.what goes c.in-Some.is _ _ named c.steps-behind.ensures)
+    (item_lines c.args.most core c.steps_to_item.new.self c.steps_to_item.result c.in-Some.what goes c.in-Some.is _ _
+    named c.steps-behind.ensures)
     c.in_err-put_shown.ensures.err))
 
 pub returns-clause-ok : goal.returns-clause-ok
@@ -43,7 +46,9 @@ returns-clause-ok g c =
     (g.K.Sink.taken c.args.out.now) (g.K.Sink.taken c.put_shown.new.out) c.args.held.now c.put_shown.new.held) count
     (written (replicate goes.done Step) core c.steps_to_item.new.self _ _ c.args.held.now _ _
     (reached_leads c.args.most core c.steps_to_item.new.self c.steps_to_item.result goes)
-    (item_lined c.args.most core c.steps_to_item.new.self c.steps_to_item.result c.in-Some.what goes c.in-Some.is _ _ named c.steps-behind.ensures
+    (item_lined c.args.most core c.steps_to_item.new.self c.steps_to_item.result c.in-Some.what goes c.in-Some.is _ _
+    named c.steps-behind.ensures
     c.put_shown.ensures.line)
-    (item_lines c.args.most core c.steps_to_item.new.self c.steps_to_item.result c.in-Some.what goes c.in-Some.is _ _ named c.steps-behind.ensures)
+    (item_lines c.args.most core c.steps_to_item.new.self c.steps_to_item.result c.in-Some.what goes c.in-Some.is _ _
+    named c.steps-behind.ensures)
     c.in_ok-put_shown.ensures.ok)

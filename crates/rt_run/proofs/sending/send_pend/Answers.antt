@@ -9,19 +9,22 @@ use Rattle.rt_run.proofs.sending.send_pend.Goals as goal
 pub returns-in_err-run_pend-clause-err : goal.returns-in_err-run_pend-clause-err
 returns-in_err-run_pend-clause-err g c =
     on_err_from c.from_residual.result
-    (broken (Arrive c.args.irq ∷ []) c.args.core.now _ _ c.args.held.now c.requires.empty _ c.in_err-run_pend.ensures.err)
+    (broken (Arrive c.args.irq ∷ []) c.args.core.now _ _ c.args.held.now c.requires.empty _
+    c.in_err-run_pend.ensures.err)
 
 pub returns-clause-ok : goal.returns-clause-ok
 returns-clause-ok g c =
     on_ok_weaker c.put_held.result
-    (sent (Arrive c.args.irq ∷ []) c.args.core.now c.run_pend.new.core _ c.args.held.now c.requires.empty _ _ c.run_pend.new.held
+    (sent (Arrive c.args.irq ∷ []) c.args.core.now c.run_pend.new.core _ c.args.held.now c.requires.empty _ _
+    c.run_pend.new.held
     c.in_ok-run_pend.ensures.ok)
     c.put_held.ensures.ok
 
 pub returns-clause-err : goal.returns-clause-err
 returns-clause-err g c =
     on_err_weaker c.put_held.result
-    (sent_part (Arrive c.args.irq ∷ []) c.args.core.now c.run_pend.new.core _ c.args.held.now c.requires.empty _ _ c.run_pend.new.held
+    (sent_part (Arrive c.args.irq ∷ []) c.args.core.now c.run_pend.new.core _ c.args.held.now c.requires.empty _ _
+    c.run_pend.new.held
     c.in_ok-run_pend.ensures.ok)
     c.put_held.ensures.err
 

@@ -21,7 +21,8 @@ returns-clause-ok g c =
 pub returns-clause-err : goal.returns-clause-err
 returns-clause-err g c =
     on_err_weaker c.put_held.result
-    (sent_part (Step ∷ []) c.args.core.now c.run_step.new.core _ c.args.held.now c.requires.empty _ _ c.run_step.new.held
+    (sent_part (Step ∷ []) c.args.core.now c.run_step.new.core _ c.args.held.now c.requires.empty _ _
+    c.run_step.new.held
     c.in_ok-run_step.ensures.ok)
     c.put_held.ensures.err
 

@@ -21,7 +21,8 @@ returns-clause-ok g c =
 pub returns-clause-err : goal.returns-clause-err
 returns-clause-err g c =
     on_err_weaker c.put_held.result
-    (sent_part (Tick ∷ []) c.args.core.now c.run_tick.new.core _ c.args.held.now c.requires.empty _ _ c.run_tick.new.held
+    (sent_part (Tick ∷ []) c.args.core.now c.run_tick.new.core _ c.args.held.now c.requires.empty _ _
+    c.run_tick.new.held
     c.in_ok-run_tick.ensures.ok)
     c.put_held.ensures.err
 

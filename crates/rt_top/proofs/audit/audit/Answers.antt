@@ -12,9 +12,11 @@ use Rattle.rt_top.proofs.audit.audit.Goals as goal
 
 pub returns-in-Err-clause-decides : goal.returns-in-Err-clause-decides
 returns-in-Err-clause-decides g c third =
-    halts_decides Audit (inputs (g.A.Source.left c.args.app.now) (g.B.Source.left c.args.second.now) third) (omega arith) RefusesApplication (λ text line r. r)
+    halts_decides Audit (inputs (g.A.Source.left c.args.app.now) (g.B.Source.left c.args.second.now) third)
+    (omega arith) RefusesApplication (λ text line r. r)
     (Rose (g.A.Source.faults c.args.app.now) (g.A.Source.faults c.read_accepted.new.app))
-    (Rose (g.A.Source.faults c.args.app.now) (g.A.Source.faults c.read_accepted.new.app) × IsKept g.B.Source.left g.B.Source.faults c.args.second.now c.args.second.now)
+    (Rose (g.A.Source.faults c.args.app.now) (g.A.Source.faults c.read_accepted.new.app)
+    × IsKept g.B.Source.left g.B.Source.faults c.args.second.now c.args.second.now)
     (Rose (g.B.Source.faults c.args.second.now) (g.B.Source.faults c.args.second.now))
     (λ h. (h, record { has_all = refl; no_fault = refl }))
     c.in-Err.reply c.in-Err.ensures.halts
@@ -33,5 +35,6 @@ returns-clause-decides g c third =
 
 pub returns-clause-kept : goal.returns-clause-kept
 returns-clause-kept g c third r =
-    absurd (audit_passes (g.A.Source.left c.args.app.now) (g.B.Source.left c.args.second.now) third (app_of c.in-Ok.accepted)
+    absurd (audit_passes (g.A.Source.left c.args.app.now) (g.B.Source.left c.args.second.now) third
+    (app_of c.in-Ok.accepted)
     (λ text told. c.in-Ok.ensures.accepted text told) r)

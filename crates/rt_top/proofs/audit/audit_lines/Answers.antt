@@ -15,7 +15,8 @@ returns-in-Ok-read_lines-clause-answers g c =
     let app = app_of c.args.machine.now.code.now.app.now in
     let whole = c.in-Ok-read_lines.ensures.whole in
     whole_told app (g.B.Source.left c.args.second.now) (g.B.Source.left c.read_lines.new.source) whole.0
-    (Rose (g.B.Source.faults c.args.second.now) (g.B.Source.faults c.read_lines.new.source)) whole.1 c.audit_reply.result
+    (Rose (g.B.Source.faults c.args.second.now) (g.B.Source.faults c.read_lines.new.source)) whole.1
+    c.audit_reply.result
     (c.audit_reply.ensures app whole.0 c.requires.chosen whole.2 (sym whole.3) whole.4)
 
 pub returns-in-Err-TooLong-clause-answers : goal.returns-in-Err-TooLong-clause-answers

@@ -20,7 +20,10 @@ returns-in-Err-clause-decides g c second third =
 pub returns-clause-decides : goal.returns-clause-decides
 returns-clause-decides g c second third =
     tells_decides Build (inputs (g.A.Source.left c.args.app.now) second third)
-    (Rose (g.A.Source.faults c.args.app.now) (g.A.Source.faults c.read_accepted.new.app)) ⊥ status.Done (Lists (app_of c.in-Ok.accepted))
-    (listed_decided (g.A.Source.left c.args.app.now) second third (app_of c.in-Ok.accepted) (λ text told. c.in-Ok.ensures.accepted text told) c.in-Ok.ensures.kept)
+    (Rose (g.A.Source.faults c.args.app.now) (g.A.Source.faults c.read_accepted.new.app)) ⊥ status.Done
+    (Lists (app_of c.in-Ok.accepted))
+    (listed_decided (g.A.Source.left c.args.app.now) second third (app_of c.in-Ok.accepted)
+    (λ text told. c.in-Ok.ensures.accepted text told) c.in-Ok.ensures.kept)
     c.reply_of_text.result
-    (made_tells status.Done (Lists (app_of c.in-Ok.accepted)) c.build_text.result c.build_text.ensures c.reply_of_text.result c.reply_of_text.ensures.text c.reply_of_text.ensures.memory)
+    (made_tells status.Done (Lists (app_of c.in-Ok.accepted)) c.build_text.result c.build_text.ensures
+    c.reply_of_text.result c.reply_of_text.ensures.text c.reply_of_text.ensures.memory)

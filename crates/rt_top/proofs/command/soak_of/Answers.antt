@@ -24,7 +24,8 @@ returns-in_ok-workers-in-len5-clause-some c =
       times = (get_or words 3 d).now;
       threads = (get_or words 4 d).now;
       named = five_of words d c.in-len5.len_at_least c.in-len5.len_below
-          ∙ ap (λ w. w ∷ (get_or words 1 d).now ∷ (get_or words 2 d).now ∷ (get_or words 3 d).now ∷ (get_or words 4 d).now ∷ []) verb;
+          ∙ ap (λ w. w ∷ (get_or words 1 d).now ∷ (get_or words 2 d).now ∷ (get_or words 3 d).now
+          ∷ (get_or words 4 d).now ∷ []) verb;
       is_number = (c.in_ok-number-in-len5.ensures.some.0, omega (arith, c.in_ok-number-in-len5.ensures.some.2));
       is_count = c.in_ok-count-in-len5.ensures.some;
       is_workers = c.in_ok-workers-in-len5.ensures.some;

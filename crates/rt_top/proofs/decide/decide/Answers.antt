@@ -48,7 +48,8 @@ returns-in_default-clause-concludes g c =
     (IsKept g.B.Source.left g.B.Source.faults c.args.second.now c.decide_two.new.second)
     (Rose (g.B.Source.faults c.args.second.now) (g.B.Source.faults c.decide_two.new.second))
     (IsKept g.C.Source.left g.C.Source.faults c.args.third.now c.args.third.now)
-    ((3 ≤ reads (command_word c.args.command)) × Rose (g.C.Source.faults c.args.third.now) (g.C.Source.faults c.args.third.now))
+    ((3 ≤ reads (command_word c.args.command)) × Rose (g.C.Source.faults c.args.third.now)
+    (g.C.Source.faults c.args.third.now))
     (record { has_all = refl; no_fault = refl })
     (g.K.Sink.taken c.args.out.now) (g.K.Sink.taken c.decide_two.new.out) (g.K.Sink.faults c.args.out.now)
     (g.K.Sink.faults c.decide_two.new.out) c.decide_two.result

@@ -13,8 +13,10 @@ use Rattle.rt_top.proofs.decide.decide_two.Goals as goal
 
 pub returns-in-Run-clause-concludes : goal.returns-in-Run-clause-concludes
 returns-in-Run-clause-concludes g c third =
-    concludes_as c.args.command command.Run c.in-Run.is (inputs (g.A.Source.left c.args.app.now) (g.B.Source.left c.args.second.now) third)
-    (Rose (g.A.Source.faults c.args.app.now) (g.A.Source.faults c.run.new.app) × IsKept g.B.Source.left g.B.Source.faults c.args.second.now c.run.new.second)
+    concludes_as c.args.command command.Run c.in-Run.is (inputs (g.A.Source.left c.args.app.now)
+    (g.B.Source.left c.args.second.now) third)
+    (Rose (g.A.Source.faults c.args.app.now) (g.A.Source.faults c.run.new.app)
+    × IsKept g.B.Source.left g.B.Source.faults c.args.second.now c.run.new.second)
     (Rose (g.B.Source.faults c.args.second.now) (g.B.Source.faults c.run.new.second))
     (g.K.Sink.taken c.args.out.now) (g.K.Sink.taken c.run.new.out) (g.K.Sink.faults c.args.out.now)
     (g.K.Sink.faults c.run.new.out) c.run.result (c.run.ensures.concludes third)
@@ -24,14 +26,19 @@ returns-in-Run-clause-first_kept g c none = some_read c.args.command command.Run
 
 pub returns-in-Run-clause-kept : goal.returns-in-Run-clause-kept
 returns-in-Run-clause-kept g c third either =
-    kept_as c.args.command command.Run c.in-Run.is (inputs (g.A.Source.left c.args.app.now) (g.B.Source.left c.args.second.now) third)
+    kept_as c.args.command command.Run c.in-Run.is (inputs (g.A.Source.left c.args.app.now)
+    (g.B.Source.left c.args.second.now) third)
     (IsKept g.B.Source.left g.B.Source.faults c.args.second.now c.run.new.second)
-    (two_kept Run (inputs (g.A.Source.left c.args.app.now) (g.B.Source.left c.args.second.now) third) (IsKept g.B.Source.left g.B.Source.faults c.args.second.now c.run.new.second) (omega arith) (c.run.ensures.kept third)) either
+    (two_kept Run (inputs (g.A.Source.left c.args.app.now) (g.B.Source.left c.args.second.now) third)
+    (IsKept g.B.Source.left g.B.Source.faults c.args.second.now c.run.new.second) (omega arith)
+    (c.run.ensures.kept third)) either
 
 pub returns-in-Live-clause-concludes : goal.returns-in-Live-clause-concludes
 returns-in-Live-clause-concludes g c third =
-    concludes_as c.args.command command.Live c.in-Live.is (inputs (g.A.Source.left c.args.app.now) (g.B.Source.left c.args.second.now) third)
-    (Rose (g.A.Source.faults c.args.app.now) (g.A.Source.faults c.live.new.app) × IsKept g.B.Source.left g.B.Source.faults c.args.second.now c.live.new.second)
+    concludes_as c.args.command command.Live c.in-Live.is
+    (inputs (g.A.Source.left c.args.app.now) (g.B.Source.left c.args.second.now) third)
+    (Rose (g.A.Source.faults c.args.app.now) (g.A.Source.faults c.live.new.app)
+    × IsKept g.B.Source.left g.B.Source.faults c.args.second.now c.live.new.second)
     (Rose (g.B.Source.faults c.args.second.now) (g.B.Source.faults c.live.new.second))
     (g.K.Sink.taken c.args.out.now) (g.K.Sink.taken c.live.new.out) (g.K.Sink.faults c.args.out.now)
     (g.K.Sink.faults c.live.new.out) c.live.result (c.live.ensures.concludes third)
@@ -41,9 +48,12 @@ returns-in-Live-clause-first_kept g c none = some_read c.args.command command.Li
 
 pub returns-in-Live-clause-kept : goal.returns-in-Live-clause-kept
 returns-in-Live-clause-kept g c third either =
-    kept_as c.args.command command.Live c.in-Live.is (inputs (g.A.Source.left c.args.app.now) (g.B.Source.left c.args.second.now) third)
+    kept_as c.args.command command.Live c.in-Live.is (inputs (g.A.Source.left c.args.app.now)
+    (g.B.Source.left c.args.second.now) third)
     (IsKept g.B.Source.left g.B.Source.faults c.args.second.now c.live.new.second)
-    (two_kept Live (inputs (g.A.Source.left c.args.app.now) (g.B.Source.left c.args.second.now) third) (IsKept g.B.Source.left g.B.Source.faults c.args.second.now c.live.new.second) (omega arith) (c.live.ensures.kept third)) either
+    (two_kept Live (inputs (g.A.Source.left c.args.app.now) (g.B.Source.left c.args.second.now) third)
+    (IsKept g.B.Source.left g.B.Source.faults c.args.second.now c.live.new.second) (omega arith)
+    (c.live.ensures.kept third)) either
 
 pub returns-in-Audit-clause-concludes : goal.returns-in-Audit-clause-concludes
 returns-in-Audit-clause-concludes g c third =
@@ -52,9 +62,11 @@ returns-in-Audit-clause-concludes g c third =
     × IsKept g.B.Source.left g.B.Source.faults c.args.second.now c.audit.new.second in
     let second = Rose (g.B.Source.faults c.args.second.now) (g.B.Source.faults c.audit.new.second) in
     concludes_as c.args.command command.Audit c.in-Audit.is t both second (g.K.Sink.taken c.args.out.now)
-    (g.K.Sink.taken c.finish.new.out) (g.K.Sink.faults c.args.out.now) (g.K.Sink.faults c.finish.new.out) c.finish.result
+    (g.K.Sink.taken c.finish.new.out) (g.K.Sink.faults c.args.out.now) (g.K.Sink.faults c.finish.new.out)
+    c.finish.result
     (finished (g.K.Sink.taken c.args.out.now) (g.K.Sink.taken c.finish.new.out) (g.K.Sink.faults c.args.out.now)
-    (g.K.Sink.faults c.finish.new.out) c.finish.result (IsDecided Audit t) (Stops (HasFailed Audit both second)) c.audit.result
+    (g.K.Sink.faults c.finish.new.out) c.finish.result (IsDecided Audit t) (Stops (HasFailed Audit both second))
+    c.audit.result
     (c.audit.ensures.decides third) c.finish.ensures.finished)
 
 pub returns-in-Audit-clause-first_kept : goal.returns-in-Audit-clause-first_kept
@@ -62,14 +74,18 @@ returns-in-Audit-clause-first_kept g c none = some_read c.args.command command.A
 
 pub returns-in-Audit-clause-kept : goal.returns-in-Audit-clause-kept
 returns-in-Audit-clause-kept g c third either =
-    kept_as c.args.command command.Audit c.in-Audit.is (inputs (g.A.Source.left c.args.app.now) (g.B.Source.left c.args.second.now) third)
+    kept_as c.args.command command.Audit c.in-Audit.is (inputs (g.A.Source.left c.args.app.now)
+    (g.B.Source.left c.args.second.now) third)
     (IsKept g.B.Source.left g.B.Source.faults c.args.second.now c.audit.new.second)
-    (two_kept Audit (inputs (g.A.Source.left c.args.app.now) (g.B.Source.left c.args.second.now) third) (IsKept g.B.Source.left g.B.Source.faults c.args.second.now c.audit.new.second) (omega arith) (c.audit.ensures.kept third)) either
+    (two_kept Audit (inputs (g.A.Source.left c.args.app.now) (g.B.Source.left c.args.second.now) third)
+    (IsKept g.B.Source.left g.B.Source.faults c.args.second.now c.audit.new.second) (omega arith)
+    (c.audit.ensures.kept third)) either
 
 pub returns-in-Audit-clause-first_heard : goal.returns-in-Audit-clause-first_heard
 returns-in-Audit-clause-first_heard g c =
     heard (g.K.Sink.taken c.args.out.now) (g.K.Sink.taken c.finish.new.out) (g.K.Sink.faults c.args.out.now)
-    (g.K.Sink.faults c.finish.new.out) c.finish.result (g.A.Source.faults c.args.app.now) (g.A.Source.faults c.audit.new.app)
+    (g.K.Sink.faults c.finish.new.out) c.finish.result (g.A.Source.faults c.args.app.now)
+    (g.A.Source.faults c.audit.new.app)
     c.audit.result c.audit.ensures.first_heard c.finish.ensures.finished
 
 pub returns-in-Audit-clause-second_heard : goal.returns-in-Audit-clause-second_heard
@@ -85,9 +101,12 @@ returns-in-Times-clause-concludes g c third =
     × IsKept g.B.Source.left g.B.Source.faults c.args.second.now c.times.new.second in
     let second = Rose (g.B.Source.faults c.args.second.now) (g.B.Source.faults c.times.new.second) in
     concludes_as c.args.command command.Times c.in-Times.is t both second (g.K.Sink.taken c.args.out.now)
-    (g.K.Sink.taken c.finish-in-Times.new.out) (g.K.Sink.faults c.args.out.now) (g.K.Sink.faults c.finish-in-Times.new.out) c.finish-in-Times.result
-    (finished (g.K.Sink.taken c.args.out.now) (g.K.Sink.taken c.finish-in-Times.new.out) (g.K.Sink.faults c.args.out.now)
-    (g.K.Sink.faults c.finish-in-Times.new.out) c.finish-in-Times.result (IsDecided Times t) (Stops (HasFailed Times both second)) c.times.result
+    (g.K.Sink.taken c.finish-in-Times.new.out) (g.K.Sink.faults c.args.out.now)
+    (g.K.Sink.faults c.finish-in-Times.new.out) c.finish-in-Times.result
+    (finished (g.K.Sink.taken c.args.out.now) (g.K.Sink.taken c.finish-in-Times.new.out)
+    (g.K.Sink.faults c.args.out.now)
+    (g.K.Sink.faults c.finish-in-Times.new.out) c.finish-in-Times.result (IsDecided Times t)
+    (Stops (HasFailed Times both second)) c.times.result
     (c.times.ensures.decides third) c.finish-in-Times.ensures.finished)
 
 pub returns-in-Times-clause-first_kept : goal.returns-in-Times-clause-first_kept
@@ -95,21 +114,26 @@ returns-in-Times-clause-first_kept g c none = some_read c.args.command command.T
 
 pub returns-in-Times-clause-kept : goal.returns-in-Times-clause-kept
 returns-in-Times-clause-kept g c third either =
-    kept_as c.args.command command.Times c.in-Times.is (inputs (g.A.Source.left c.args.app.now) (g.B.Source.left c.args.second.now) third)
+    kept_as c.args.command command.Times c.in-Times.is (inputs (g.A.Source.left c.args.app.now)
+    (g.B.Source.left c.args.second.now) third)
     (IsKept g.B.Source.left g.B.Source.faults c.args.second.now c.times.new.second)
-    (two_kept Times (inputs (g.A.Source.left c.args.app.now) (g.B.Source.left c.args.second.now) third) (IsKept g.B.Source.left g.B.Source.faults c.args.second.now c.times.new.second) (omega arith) (c.times.ensures.kept third)) either
+    (two_kept Times (inputs (g.A.Source.left c.args.app.now) (g.B.Source.left c.args.second.now) third)
+    (IsKept g.B.Source.left g.B.Source.faults c.args.second.now c.times.new.second) (omega arith)
+    (c.times.ensures.kept third)) either
 
 pub returns-in-Times-clause-first_heard : goal.returns-in-Times-clause-first_heard
 returns-in-Times-clause-first_heard g c =
     heard (g.K.Sink.taken c.args.out.now) (g.K.Sink.taken c.finish-in-Times.new.out) (g.K.Sink.faults c.args.out.now)
-    (g.K.Sink.faults c.finish-in-Times.new.out) c.finish-in-Times.result (g.A.Source.faults c.args.app.now) (g.A.Source.faults c.times.new.app)
+    (g.K.Sink.faults c.finish-in-Times.new.out) c.finish-in-Times.result (g.A.Source.faults c.args.app.now)
+    (g.A.Source.faults c.times.new.app)
     c.times.result c.times.ensures.first_heard c.finish-in-Times.ensures.finished
 
 pub returns-in-Times-clause-second_heard : goal.returns-in-Times-clause-second_heard
 returns-in-Times-clause-second_heard g c =
     heard (g.K.Sink.taken c.args.out.now) (g.K.Sink.taken c.finish-in-Times.new.out) (g.K.Sink.faults c.args.out.now)
     (g.K.Sink.faults c.finish-in-Times.new.out) c.finish-in-Times.result (g.B.Source.faults c.args.second.now)
-    (g.B.Source.faults c.times.new.second) c.times.result c.times.ensures.second_heard c.finish-in-Times.ensures.finished
+    (g.B.Source.faults c.times.new.second) c.times.result c.times.ensures.second_heard
+    c.finish-in-Times.ensures.finished
 
 pub demo-requires : goal.demo-requires
 demo-requires g c =
@@ -122,8 +146,10 @@ returns-in-Demo-clause-concludes g c third =
     let both = Rose (g.A.Source.faults c.args.app.now) (g.A.Source.faults c.args.app.now)
     × IsKept g.B.Source.left g.B.Source.faults c.args.second.now c.args.second.now in
     let second = Rose (g.B.Source.faults c.args.second.now) (g.B.Source.faults c.args.second.now) in
-    concludes_as c.args.command (command.Demo c.in-Demo.tasks) c.in-Demo.is t both second (g.K.Sink.taken c.args.out.now)
-    (g.K.Sink.taken c.finish-in-Demo.new.out) (g.K.Sink.faults c.args.out.now) (g.K.Sink.faults c.finish-in-Demo.new.out) c.finish-in-Demo.result
+    concludes_as c.args.command (command.Demo c.in-Demo.tasks) c.in-Demo.is t both second
+    (g.K.Sink.taken c.args.out.now)
+    (g.K.Sink.taken c.finish-in-Demo.new.out) (g.K.Sink.faults c.args.out.now)
+    (g.K.Sink.faults c.finish-in-Demo.new.out) c.finish-in-Demo.result
     (finished (g.K.Sink.taken c.args.out.now) (g.K.Sink.taken c.finish-in-Demo.new.out) (g.K.Sink.faults c.args.out.now)
     (g.K.Sink.faults c.finish-in-Demo.new.out) c.finish-in-Demo.result (IsDecided (Demo c.in-Demo.tasks) t)
     (Stops (HasFailed (Demo c.in-Demo.tasks) both second)) c.demo.result
@@ -131,7 +157,8 @@ returns-in-Demo-clause-concludes g c third =
 
 pub single-requires-clause-one : goal.single-requires-clause-one
 single-requires-clause-one g c lifetimes outlives =
-    reads_one c.args.command c.requires.two c.in_default.not-Run c.in_default.not-Live c.in_default.not-Audit c.in_default.not-Times c.in_default.not-Demo
+    reads_one c.args.command c.requires.two c.in_default.not-Run c.in_default.not-Live c.in_default.not-Audit
+    c.in_default.not-Times c.in_default.not-Demo
 
 pub returns-in_default-clause-concludes : goal.returns-in_default-clause-concludes
 returns-in_default-clause-concludes g c third =
@@ -139,22 +166,27 @@ returns-in_default-clause-concludes g c third =
     let rose = Rose (g.A.Source.faults c.args.app.now) (g.A.Source.faults c.single.new.app) in
     let both = rose × IsKept g.B.Source.left g.B.Source.faults c.args.second.now c.args.second.now in
     let second = Rose (g.B.Source.faults c.args.second.now) (g.B.Source.faults c.args.second.now) in
-    let one = reads_one c.args.command c.requires.two c.in_default.not-Run c.in_default.not-Live c.in_default.not-Audit c.in_default.not-Times c.in_default.not-Demo in
+    let one = reads_one c.args.command c.requires.two c.in_default.not-Run c.in_default.not-Live c.in_default.not-Audit
+    c.in_default.not-Times c.in_default.not-Demo in
     let few : reads (command_word c.args.command) ≤ 1 = omega (arith, one) in
-    finished (g.K.Sink.taken c.args.out.now) (g.K.Sink.taken c.finish-in_default.new.out) (g.K.Sink.faults c.args.out.now)
+    finished (g.K.Sink.taken c.args.out.now) (g.K.Sink.taken c.finish-in_default.new.out)
+    (g.K.Sink.faults c.args.out.now)
     (g.K.Sink.faults c.finish-in_default.new.out) c.finish-in_default.result (IsDecided (command_word c.args.command) t)
     (Stops (HasFailed (command_word c.args.command) both second)) c.single.result
-    (only_first (command_word c.args.command) t few rose both second (λ h. (h, record { has_all = refl; no_fault = refl })) c.single.result
+    (only_first (command_word c.args.command) t few rose both second
+    (λ h. (h, record { has_all = refl; no_fault = refl })) c.single.result
     (c.single.ensures.decides (g.B.Source.left c.args.second.now) third))
     c.finish-in_default.ensures.finished
 
 pub returns-in_default-clause-first_kept : goal.returns-in_default-clause-first_kept
 returns-in_default-clause-first_kept g c none =
-    let one = reads_one c.args.command c.requires.two c.in_default.not-Run c.in_default.not-Live c.in_default.not-Audit c.in_default.not-Times c.in_default.not-Demo in
+    let one = reads_one c.args.command c.requires.two c.in_default.not-Run c.in_default.not-Live c.in_default.not-Audit
+    c.in_default.not-Times c.in_default.not-Demo in
     absurd (omega (arith, none, one))
 
 pub returns-in_default-clause-first_heard : goal.returns-in_default-clause-first_heard
 returns-in_default-clause-first_heard g c =
     heard (g.K.Sink.taken c.args.out.now) (g.K.Sink.taken c.finish-in_default.new.out) (g.K.Sink.faults c.args.out.now)
-    (g.K.Sink.faults c.finish-in_default.new.out) c.finish-in_default.result (g.A.Source.faults c.args.app.now) (g.A.Source.faults c.single.new.app)
+    (g.K.Sink.faults c.finish-in_default.new.out) c.finish-in_default.result (g.A.Source.faults c.args.app.now)
+    (g.A.Source.faults c.single.new.app)
     c.single.result c.single.ensures.heard c.finish-in_default.ensures.finished

@@ -11,13 +11,16 @@ use Rattle.rt_top.proofs.deepest.deepest.Goals as goal
 pub returns-in-Ok-clause-decides : goal.returns-in-Ok-clause-decides
 returns-in-Ok-clause-decides g c second third =
     replies_decides Deepest (inputs (g.A.Source.left c.args.app.now) second third)
-    (Rose (g.A.Source.faults c.args.app.now) (g.A.Source.faults c.read_accepted.new.app)) ⊥ (TellsDeepest (app_of c.in-Ok.accepted))
-    (deepened_decided (g.A.Source.left c.args.app.now) second third (app_of c.in-Ok.accepted) (λ text told. c.in-Ok.ensures.accepted text told))
+    (Rose (g.A.Source.faults c.args.app.now) (g.A.Source.faults c.read_accepted.new.app)) ⊥
+    (TellsDeepest (app_of c.in-Ok.accepted))
+    (deepened_decided (g.A.Source.left c.args.app.now) second third (app_of c.in-Ok.accepted)
+    (λ text told. c.in-Ok.ensures.accepted text told))
     c.deepest_reply.result c.deepest_reply.ensures
 
 pub returns-in-Err-clause-decides : goal.returns-in-Err-clause-decides
 returns-in-Err-clause-decides g c second third =
-    halts_decides Deepest (inputs (g.A.Source.left c.args.app.now) second third) (omega arith) RefusesApplication (λ text line r. r)
+    halts_decides Deepest (inputs (g.A.Source.left c.args.app.now) second third) (omega arith) RefusesApplication
+    (λ text line r. r)
     (Rose (g.A.Source.faults c.args.app.now) (g.A.Source.faults c.read_accepted.new.app))
     (Rose (g.A.Source.faults c.args.app.now) (g.A.Source.faults c.read_accepted.new.app)) ⊥ (λ h. h)
     c.in-Err.reply c.in-Err.ensures.halts

@@ -11,4 +11,5 @@ returns-in-Ok-Some c =
 
 pub returns-in-Ok-None : goal.returns-in-Ok-None
 returns-in-Ok-None c =
-    deepest_other (app_of c.args.app.now) (sym (rw c.in-Ok-None.field-0-is at c.in-Ok-None.ensures.form)) c.line.result c.line.ensures
+    deepest_other (app_of c.args.app.now) (sym (rw c.in-Ok-None.field-0-is at c.in-Ok-None.ensures.form)) c.line.result
+    c.line.ensures

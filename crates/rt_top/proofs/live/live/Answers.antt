@@ -22,7 +22,8 @@ returns-in-Ok-clause-concludes g c third =
     c.run_live.result c.in-Ok.ensures.untouched c.in-Ok.ensures.still
     (ends_as (ShowsLive c.in-Ok.core.image c.in-Ok.script) (IsDecided Live t) WantsMemory
     (Stops (HasFailed Live (rose × kept) second))
-    (live_decided (g.A.Source.left c.args.app.now) (g.B.Source.left c.args.second.now) third c.in-Ok.core.image c.in-Ok.script c.in-Ok.ensures.started)
+    (live_decided (g.A.Source.left c.args.app.now) (g.B.Source.left c.args.second.now) third c.in-Ok.core.image
+    c.in-Ok.script c.in-Ok.ensures.started)
     (λ ended is. inl is)
     (g.K.Sink.taken c.start.new.out) (g.K.Sink.taken c.run_live.new.out) (g.K.Sink.faults c.start.new.out)
     (g.K.Sink.faults c.run_live.new.out) c.run_live.result c.run_live.ensures.ends)

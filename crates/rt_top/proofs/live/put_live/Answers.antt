@@ -13,7 +13,8 @@ returns-in_err-put_all-clause-err g c =
     on_err_from c.from_residual.result (
       some.0,
       some.1,
-      part_more (g.K.Sink.taken c.args.out.now) (g.K.Sink.taken c.put_all.new.sink) c.args.front.now some.0 c.in_err-put_all.ensures.err,
+      part_more (g.K.Sink.taken c.args.out.now) (g.K.Sink.taken c.put_all.new.sink) c.args.front.now some.0
+          c.in_err-put_all.ensures.err,
     )
 
 pub returns-clause-ok : goal.returns-clause-ok
@@ -39,7 +40,8 @@ returns-clause-err g c =
 
 pub returns-clause-cause : goal.returns-clause-cause
 returns-clause-cause g c =
-    cause_on (g.K.Sink.faults c.args.out.now) (g.K.Sink.faults c.put_all.new.sink) (g.K.Sink.faults c.run_beside.new.out)
+    cause_on (g.K.Sink.faults c.args.out.now) (g.K.Sink.faults c.put_all.new.sink)
+    (g.K.Sink.faults c.run_beside.new.out)
     c.run_beside.result c.in_ok-put_all.ensures.quiet c.run_beside.ensures.cause
 
 pub returns-clause-quiet : goal.returns-clause-quiet

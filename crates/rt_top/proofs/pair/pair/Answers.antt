@@ -18,7 +18,8 @@ use Rattle.rt_top.proofs.pair.pair.Goals as goal
 
 pub returns-in-Err-clause-concludes : goal.returns-in-Err-clause-concludes
 returns-in-Err-clause-concludes g c =
-    let t = (inputs (g.A.Source.left c.args.app.now) (g.B.Source.left c.args.second.now) (g.C.Source.left c.args.third.now)) in
+    let t = (inputs (g.A.Source.left c.args.app.now) (g.B.Source.left c.args.second.now)
+    (g.C.Source.left c.args.third.now)) in
     let rose = Rose (g.A.Source.faults c.args.app.now) (g.A.Source.faults c.read_both.new.app) in
     let kept = IsKept g.B.Source.left g.B.Source.faults c.args.second.now c.read_both.new.second in
     let second = Rose (g.B.Source.faults c.args.second.now) (g.B.Source.faults c.read_both.new.second) in
@@ -28,7 +29,8 @@ returns-in-Err-clause-concludes g c =
     (g.K.Sink.taken c.args.out.now) (g.K.Sink.taken c.finish.new.out) (g.K.Sink.faults c.args.out.now)
     (g.K.Sink.faults c.finish.new.out) c.finish.result
     (finished (g.K.Sink.taken c.args.out.now) (g.K.Sink.taken c.finish.new.out) (g.K.Sink.faults c.args.out.now)
-    (g.K.Sink.faults c.finish.new.out) c.finish.result (IsDecided Pair t) (Stops (HasFailed Pair (rose × kept) second)) c.in-Err.reply
+    (g.K.Sink.faults c.finish.new.out) c.finish.result (IsDecided Pair t) (Stops (HasFailed Pair (rose × kept) second))
+    c.in-Err.reply
     (c.in-Err.ensures.decides (g.C.Source.left c.args.third.now)) c.finish.ensures.finished)
 
 pub returns-in-Err-clause-second_kept : goal.returns-in-Err-clause-second_kept
@@ -36,12 +38,18 @@ returns-in-Err-clause-second_kept g c r = c.read_both.ensures.kept (g.C.Source.l
 
 pub returns-in-Ok-Some-clause-concludes : goal.returns-in-Ok-Some-clause-concludes
 returns-in-Ok-Some-clause-concludes g c =
-    let t = (inputs (g.A.Source.left c.args.app.now) (g.B.Source.left c.args.second.now) (g.C.Source.left c.args.third.now)) in
-    let first = Rose (g.A.Source.faults c.args.app.now) (g.A.Source.faults c.read_both.new.app) × IsKept g.B.Source.left g.B.Source.faults c.args.second.now c.read_both.new.second × IsKept g.C.Source.left g.C.Source.faults c.args.third.now c.read_within.new.source in
-    let second = (Rose (g.B.Source.faults c.args.second.now) (g.B.Source.faults c.read_both.new.second) × IsKept g.C.Source.left g.C.Source.faults c.args.third.now c.read_within.new.source) ⊎ Rose (g.C.Source.faults c.args.third.now) (g.C.Source.faults c.read_within.new.source) in
+    let t = (inputs (g.A.Source.left c.args.app.now) (g.B.Source.left c.args.second.now)
+    (g.C.Source.left c.args.third.now)) in
+    let first = Rose (g.A.Source.faults c.args.app.now) (g.A.Source.faults c.read_both.new.app)
+    × IsKept g.B.Source.left g.B.Source.faults c.args.second.now c.read_both.new.second
+    × IsKept g.C.Source.left g.C.Source.faults c.args.third.now c.read_within.new.source in
+    let second = (Rose (g.B.Source.faults c.args.second.now) (g.B.Source.faults c.read_both.new.second)
+    × IsKept g.C.Source.left g.C.Source.faults c.args.third.now c.read_within.new.source)
+    ⊎ Rose (g.C.Source.faults c.args.third.now) (g.C.Source.faults c.read_within.new.source) in
     ends_as (AnswersPair (app_of c.in-Ok.both.first) (app_of c.in-Ok.both.second) c.deref.result.now) (IsDecided Pair t)
     WantsMemory (Stops (HasFailed Pair first second))
-    (pair_decided (g.A.Source.left c.args.app.now) (g.B.Source.left c.args.second.now) (g.C.Source.left c.args.third.now)
+    (pair_decided (g.A.Source.left c.args.app.now) (g.B.Source.left c.args.second.now)
+    (g.C.Source.left c.args.third.now)
     (app_of c.in-Ok.both.first) (λ text told. c.in-Ok.ensures.first text told)
     (app_of c.in-Ok.both.second) (λ text told. c.in-Ok.ensures.second text told) c.deref.result.now
     (λ last told. c.deref.ensures.value ∙ (rw c.in-Ok-Some.field-0-is at c.in-Ok-Some.ensures.whole last told)))
@@ -51,13 +59,21 @@ returns-in-Ok-Some-clause-concludes g c =
 
 pub returns-in-Ok-None-clause-concludes : goal.returns-in-Ok-None-clause-concludes
 returns-in-Ok-None-clause-concludes g c =
-    let t = (inputs (g.A.Source.left c.args.app.now) (g.B.Source.left c.args.second.now) (g.C.Source.left c.args.third.now)) in
-    let first = Rose (g.A.Source.faults c.args.app.now) (g.A.Source.faults c.read_both.new.app) × IsKept g.B.Source.left g.B.Source.faults c.args.second.now c.read_both.new.second × IsKept g.C.Source.left g.C.Source.faults c.args.third.now c.read_within.new.source in
-    let second = (Rose (g.B.Source.faults c.args.second.now) (g.B.Source.faults c.read_both.new.second) × IsKept g.C.Source.left g.C.Source.faults c.args.third.now c.read_within.new.source) ⊎ Rose (g.C.Source.faults c.args.third.now) (g.C.Source.faults c.read_within.new.source) in
-    finished (g.K.Sink.taken c.args.out.now) (g.K.Sink.taken c.finish-in-Ok-None.new.out) (g.K.Sink.faults c.args.out.now)
-    (g.K.Sink.faults c.finish-in-Ok-None.new.out) c.finish-in-Ok-None.result (IsDecided Pair t) (Stops (HasFailed Pair first second)) c.refuse_script.result
+    let t = (inputs (g.A.Source.left c.args.app.now) (g.B.Source.left c.args.second.now)
+    (g.C.Source.left c.args.third.now)) in
+    let first = Rose (g.A.Source.faults c.args.app.now) (g.A.Source.faults c.read_both.new.app)
+    × IsKept g.B.Source.left g.B.Source.faults c.args.second.now c.read_both.new.second
+    × IsKept g.C.Source.left g.C.Source.faults c.args.third.now c.read_within.new.source in
+    let second = (Rose (g.B.Source.faults c.args.second.now) (g.B.Source.faults c.read_both.new.second)
+    × IsKept g.C.Source.left g.C.Source.faults c.args.third.now c.read_within.new.source)
+    ⊎ Rose (g.C.Source.faults c.args.third.now) (g.C.Source.faults c.read_within.new.source) in
+    finished (g.K.Sink.taken c.args.out.now) (g.K.Sink.taken c.finish-in-Ok-None.new.out)
+    (g.K.Sink.faults c.args.out.now)
+    (g.K.Sink.faults c.finish-in-Ok-None.new.out) c.finish-in-Ok-None.result (IsDecided Pair t)
+    (Stops (HasFailed Pair first second)) c.refuse_script.result
     (tells_decides Pair t first second status.Text (SaysScript in_script.TooLong)
-    (long_pair_decided (g.A.Source.left c.args.app.now) (g.B.Source.left c.args.second.now) (g.C.Source.left c.args.third.now)
+    (long_pair_decided (g.A.Source.left c.args.app.now) (g.B.Source.left c.args.second.now)
+    (g.C.Source.left c.args.third.now)
     (app_of c.in-Ok.both.first) (λ text told. c.in-Ok.ensures.first text told)
     (app_of c.in-Ok.both.second) (λ text told. c.in-Ok.ensures.second text told)
     (λ last told. rw c.in-Ok-None.field-0-is at c.in-Ok-None.ensures.long last told))
@@ -67,41 +83,51 @@ returns-in-Ok-None-clause-concludes g c =
 pub returns-clause-concludes : goal.returns-clause-concludes
 returns-clause-concludes g c =
     inr (
-      third_stops (Rose (g.A.Source.faults c.args.app.now) (g.A.Source.faults c.read_both.new.app) × IsKept g.B.Source.left g.B.Source.faults c.args.second.now c.read_both.new.second × IsKept g.C.Source.left g.C.Source.faults c.args.third.now c.read_within.new.source)
-          (Rose (g.B.Source.faults c.args.second.now) (g.B.Source.faults c.read_both.new.second) × IsKept g.C.Source.left g.C.Source.faults c.args.third.now c.read_within.new.source)
-          (Rose (g.C.Source.faults c.args.third.now) (g.C.Source.faults c.read_within.new.source)) c.in-Err-read_within.status c.in-Err-read_within.ensures.err,
+      third_stops (Rose (g.A.Source.faults c.args.app.now) (g.A.Source.faults c.read_both.new.app)
+          × IsKept g.B.Source.left g.B.Source.faults c.args.second.now c.read_both.new.second
+          × IsKept g.C.Source.left g.C.Source.faults c.args.third.now c.read_within.new.source)
+          (Rose (g.B.Source.faults c.args.second.now) (g.B.Source.faults c.read_both.new.second)
+          × IsKept g.C.Source.left g.C.Source.faults c.args.third.now c.read_within.new.source)
+          (Rose (g.C.Source.faults c.args.third.now) (g.C.Source.faults c.read_within.new.source))
+          c.in-Err-read_within.status c.in-Err-read_within.ensures.err,
       took_none (g.K.Sink.taken c.args.out.now),
     )
 
 pub returns-in-Ok-Some-clause-second_kept : goal.returns-in-Ok-Some-clause-second_kept
 returns-in-Ok-Some-clause-second_kept g c r =
-    absurd (no_first (g.A.Source.left c.args.app.now) (g.B.Source.left c.args.second.now) (g.C.Source.left c.args.third.now)
+    absurd (no_first (g.A.Source.left c.args.app.now) (g.B.Source.left c.args.second.now)
+    (g.C.Source.left c.args.third.now)
     (app_of c.in-Ok.both.first) (λ text told. c.in-Ok.ensures.first text told) r)
 
 pub returns-in-Ok-Some-clause-third_kept : goal.returns-in-Ok-Some-clause-third_kept
 returns-in-Ok-Some-clause-third_kept g c r =
-    absurd (none_refused (g.A.Source.left c.args.app.now) (g.B.Source.left c.args.second.now) (g.C.Source.left c.args.third.now)
+    absurd (none_refused (g.A.Source.left c.args.app.now) (g.B.Source.left c.args.second.now)
+    (g.C.Source.left c.args.third.now)
     (app_of c.in-Ok.both.first) (λ text told. c.in-Ok.ensures.first text told)
     (app_of c.in-Ok.both.second) (λ text told. c.in-Ok.ensures.second text told) r)
 
 pub returns-in-Ok-None-clause-second_kept : goal.returns-in-Ok-None-clause-second_kept
 returns-in-Ok-None-clause-second_kept g c r =
-    absurd (no_first (g.A.Source.left c.args.app.now) (g.B.Source.left c.args.second.now) (g.C.Source.left c.args.third.now)
+    absurd (no_first (g.A.Source.left c.args.app.now) (g.B.Source.left c.args.second.now)
+    (g.C.Source.left c.args.third.now)
     (app_of c.in-Ok.both.first) (λ text told. c.in-Ok.ensures.first text told) r)
 
 pub returns-in-Ok-None-clause-third_kept : goal.returns-in-Ok-None-clause-third_kept
 returns-in-Ok-None-clause-third_kept g c r =
-    absurd (none_refused (g.A.Source.left c.args.app.now) (g.B.Source.left c.args.second.now) (g.C.Source.left c.args.third.now)
+    absurd (none_refused (g.A.Source.left c.args.app.now) (g.B.Source.left c.args.second.now)
+    (g.C.Source.left c.args.third.now)
     (app_of c.in-Ok.both.first) (λ text told. c.in-Ok.ensures.first text told)
     (app_of c.in-Ok.both.second) (λ text told. c.in-Ok.ensures.second text told) r)
 
 pub returns-clause-second_kept : goal.returns-clause-second_kept
 returns-clause-second_kept g c r =
-    absurd (no_first (g.A.Source.left c.args.app.now) (g.B.Source.left c.args.second.now) (g.C.Source.left c.args.third.now)
+    absurd (no_first (g.A.Source.left c.args.app.now) (g.B.Source.left c.args.second.now)
+    (g.C.Source.left c.args.third.now)
     (app_of c.in-Ok.both.first) (λ text told. c.in-Ok.ensures.first text told) r)
 
 pub returns-clause-third_kept : goal.returns-clause-third_kept
 returns-clause-third_kept g c r =
-    absurd (none_refused (g.A.Source.left c.args.app.now) (g.B.Source.left c.args.second.now) (g.C.Source.left c.args.third.now)
+    absurd (none_refused (g.A.Source.left c.args.app.now) (g.B.Source.left c.args.second.now)
+    (g.C.Source.left c.args.third.now)
     (app_of c.in-Ok.both.first) (λ text told. c.in-Ok.ensures.first text told)
     (app_of c.in-Ok.both.second) (λ text told. c.in-Ok.ensures.second text told) r)

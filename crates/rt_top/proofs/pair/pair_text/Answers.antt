@@ -16,7 +16,8 @@ returns-in-Ok-clause-ends g c =
     (g.K.Sink.faults c.args.out.now) (g.K.Sink.faults c.start_text.new.out) (g.K.Sink.faults c.run_pair.new.out)
     c.run_pair.result c.in-Ok.ensures.untouched c.in-Ok.ensures.still
     (ends_as (ShowsPair image other c.in-Ok.script) (AnswersPair one other c.args.text.now) WantsMemory WantsMemory
-    (λ ended bytes shows. pairing.shown image c.in-Ok.script ended bytes c.in-Ok.ensures.good c.in-Ok.ensures.read shows)
+    (λ ended bytes shows. pairing.shown image c.in-Ok.script ended bytes c.in-Ok.ensures.good c.in-Ok.ensures.read
+    shows)
     (λ ended is. is)
     (g.K.Sink.taken c.start_text.new.out) (g.K.Sink.taken c.run_pair.new.out) (g.K.Sink.faults c.start_text.new.out)
     (g.K.Sink.faults c.run_pair.new.out) c.run_pair.result c.run_pair.ensures.ends)

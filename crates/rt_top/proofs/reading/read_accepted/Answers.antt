@@ -5,10 +5,12 @@ use Rattle.rt_top.proofs.reading.read_accepted.Goals as goal
 
 pub returns-in-Ok-clause-accepted : goal.returns-in-Ok-clause-accepted
 returns-in-Ok-clause-accepted g c text told =
-    accepted_result (g.A.Source.left c.args.app.now) (Rose (g.A.Source.faults c.args.app.now) (g.A.Source.faults c.read_tree.new.app)) (app_of c.in-Ok.written.tree) c.in-Ok.written.text.items
+    accepted_result (g.A.Source.left c.args.app.now) (Rose (g.A.Source.faults c.args.app.now)
+    (g.A.Source.faults c.read_tree.new.app)) (app_of c.in-Ok.written.tree) c.in-Ok.written.text.items
     c.in-Ok.ensures.read (λ own e. c.in-Ok.ensures.same own e) c.judged_app.result c.judged_app.ensures.ok text told
 
 pub returns-in-Ok-clause-halts : goal.returns-in-Ok-clause-halts
 returns-in-Ok-clause-halts g c =
-    broken_result (g.A.Source.left c.args.app.now) (Rose (g.A.Source.faults c.args.app.now) (g.A.Source.faults c.read_tree.new.app)) (app_of c.in-Ok.written.tree) c.in-Ok.written.text.items
+    broken_result (g.A.Source.left c.args.app.now) (Rose (g.A.Source.faults c.args.app.now)
+    (g.A.Source.faults c.read_tree.new.app)) (app_of c.in-Ok.written.tree) c.in-Ok.written.text.items
     c.in-Ok.ensures.read (λ own e. c.in-Ok.ensures.same own e) c.judged_app.result c.judged_app.ensures.broken

@@ -8,14 +8,18 @@ use Rattle.rt_top.proofs.reading.read_tree.Goals as goal
 pub returns-in-Err-TooLong-clause-halts : goal.returns-in-Err-TooLong-clause-halts
 returns-in-Err-TooLong-clause-halts g c =
     let gave = (rw c.in-Err-TooLong.field-0-is at c.in-Err-TooLong.ensures.too_long) refl in
-    refused_halts (g.A.Source.left c.args.app.now) (Rose (g.A.Source.faults c.args.app.now) (g.A.Source.faults c.read_text.new.source)) too_long
-    (λ text told. refused_long text (long_text (g.A.Source.left c.args.app.now) (g.A.Source.left c.read_text.new.source) 262145 text told gave)) c.refuse.result c.refuse.ensures
+    refused_halts (g.A.Source.left c.args.app.now) (Rose (g.A.Source.faults c.args.app.now)
+    (g.A.Source.faults c.read_text.new.source)) too_long
+    (λ text told. refused_long text (long_text (g.A.Source.left c.args.app.now) (g.A.Source.left c.read_text.new.source)
+    262145 text told gave)) c.refuse.result c.refuse.ensures
 
 pub returns-in-Err-At-clause-halts : goal.returns-in-Err-At-clause-halts
 returns-in-Err-At-clause-halts g c =
     let refused = (rw c.in-Err-At.field-0-is at c.in-Err-At.ensures.refused) c.in-Err-At.fault refl in
-    refused_halts (g.A.Source.left c.args.app.now) (Rose (g.A.Source.faults c.args.app.now) (g.A.Source.faults c.read_text.new.source)) c.in-Err-At.fault
+    refused_halts (g.A.Source.left c.args.app.now) (Rose (g.A.Source.faults c.args.app.now)
+    (g.A.Source.faults c.read_text.new.source)) c.in-Err-At.fault
     (λ text told.
-    let whole = whole_text (g.A.Source.left c.args.app.now) (g.A.Source.left c.read_text.new.source) c.in-Ok.text.items text told c.in-Ok.ensures.whole in
+    let whole = whole_text (g.A.Source.left c.args.app.now) (g.A.Source.left c.read_text.new.source) c.in-Ok.text.items
+    text told c.in-Ok.ensures.whole in
     subst (λ t. IsRefused t c.in-Err-At.fault) (c.deref.ensures.value ∙ sym whole) refused)
     c.refuse-in-Err-At.result c.refuse-in-Err-At.ensures

@@ -4,10 +4,12 @@ use Rattle.rt_top.proofs.reading.read_within.Goals as goal
 
 pub returns-in-Ok-clause-whole : goal.returns-in-Ok-clause-whole
 returns-in-Ok-clause-whole g c text told =
-    sym (whole_text (g.S.Source.left c.args.source.now) (g.S.Source.left c.read_text.new.source) c.in-Ok.text.items text told c.in-Ok.ensures.whole)
+    sym (whole_text (g.S.Source.left c.args.source.now) (g.S.Source.left c.read_text.new.source) c.in-Ok.text.items text
+    told c.in-Ok.ensures.whole)
 
 pub returns-in-Err-TooLong-clause-long : goal.returns-in-Err-TooLong-clause-long
 returns-in-Err-TooLong-clause-long g c text told =
     let gave = (rw c.in-Err-TooLong.field-0-is at c.in-Err-TooLong.ensures.too_long) refl in
-    let long = long_text (g.S.Source.left c.args.source.now) (g.S.Source.left c.read_text.new.source) _ text told gave in
+    let long = long_text (g.S.Source.left c.args.source.now) (g.S.Source.left c.read_text.new.source) _ text told
+    gave in
     omega (arith, long)

@@ -6,5 +6,6 @@ use Rattle.rt_top.proofs.reply.refuse.Goals as goal
 
 pub returns : goal.returns
 returns c =
-    made_tells status.App (λ bytes. bytes ≡ refusal_line c.args.fault) c.refusal_line.result c.refusal_line.ensures c.reply_of_text.result
+    made_tells status.App (λ bytes. bytes ≡ refusal_line c.args.fault) c.refusal_line.result c.refusal_line.ensures
+    c.reply_of_text.result
     c.reply_of_text.ensures.text c.reply_of_text.ensures.memory

@@ -30,7 +30,8 @@ returns-clause-err g c =
 
 pub returns-clause-cause : goal.returns-clause-cause
 returns-clause-cause g c =
-    cause_on (g.K.Sink.faults c.args.out.now) (g.K.Sink.faults c.put_all.new.sink) (g.K.Sink.faults c.run_script.new.out)
+    cause_on (g.K.Sink.faults c.args.out.now) (g.K.Sink.faults c.put_all.new.sink)
+    (g.K.Sink.faults c.run_script.new.out)
     c.run_script.result c.in_ok-put_all.ensures.quiet c.run_script.ensures.cause
 
 pub returns-clause-quiet : goal.returns-clause-quiet

@@ -20,9 +20,11 @@ returns-in-Ok-clause-concludes g c third =
     (g.K.Sink.taken c.args.out.now) (g.K.Sink.taken c.start.new.out) (g.K.Sink.taken c.run_script.new.out)
     (g.K.Sink.faults c.args.out.now) (g.K.Sink.faults c.start.new.out) (g.K.Sink.faults c.run_script.new.out)
     c.run_script.result c.in-Ok.ensures.untouched c.in-Ok.ensures.still
-    (ends_as (λ ended bytes. (ended ≡ status.Done) × (bytes ≡ run_text c.in-Ok.core.image c.in-Ok.script)) (IsDecided Run t) WantsMemory
+    (ends_as (λ ended bytes. (ended ≡ status.Done) × (bytes ≡ run_text c.in-Ok.core.image c.in-Ok.script))
+    (IsDecided Run t) WantsMemory
     (Stops (HasFailed Run (rose × kept) second))
-    (run_decided (g.A.Source.left c.args.app.now) (g.B.Source.left c.args.second.now) third c.in-Ok.core.image c.in-Ok.script c.in-Ok.ensures.started)
+    (run_decided (g.A.Source.left c.args.app.now) (g.B.Source.left c.args.second.now) third c.in-Ok.core.image
+    c.in-Ok.script c.in-Ok.ensures.started)
     (λ ended is. inl is)
     (g.K.Sink.taken c.start.new.out) (g.K.Sink.taken c.run_script.new.out) (g.K.Sink.faults c.start.new.out)
     (g.K.Sink.faults c.run_script.new.out) c.run_script.result c.run_script.ensures.ends)

@@ -11,7 +11,8 @@ returns-in-Ok-put_run-clause-ends g c =
     let script = c.args.script.now in
     let front = c.deref.ensures.value ∙ c.in-Ok.ensures
     ∙ ap (λ (i : Image). listing i ++ codes "trace\n") c.image.ensures in
-    whole_ends image script (c.deref.result.now ++ text_of image script) (run_bytes image script c.deref.result.now front)
+    whole_ends image script (c.deref.result.now ++ text_of image script)
+    (run_bytes image script c.deref.result.now front)
     (g.K.Sink.taken c.args.out.now) (g.K.Sink.taken c.put_run.new.out) (g.K.Sink.faults c.args.out.now)
     (g.K.Sink.faults c.put_run.new.out) c.in-Ok-put_run.ensures.ok
 
@@ -21,6 +22,7 @@ returns-clause-ends g c =
     let script = c.args.script.now in
     let front = c.deref.ensures.value ∙ c.in-Ok.ensures
     ∙ ap (λ (i : Image). listing i ++ codes "trace\n") c.image.ensures in
-    part_ends image script (c.deref.result.now ++ text_of image script) (run_bytes image script c.deref.result.now front)
+    part_ends image script (c.deref.result.now ++ text_of image script)
+    (run_bytes image script c.deref.result.now front)
     (g.K.Sink.taken c.args.out.now) (g.K.Sink.taken c.put_run.new.out) (g.K.Sink.faults c.args.out.now)
     (g.K.Sink.faults c.put_run.new.out) (c.in-Err.ensures.cause.failed refl) c.in-Err.ensures.err

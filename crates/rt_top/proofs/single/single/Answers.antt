@@ -35,23 +35,29 @@ returns-in-Soak-clause-decides g c second third =
 pub returns-in-Deepest-clause-decides : goal.returns-in-Deepest-clause-decides
 returns-in-Deepest-clause-decides g c second third =
     subst (λ (x : Command). Decides (command_word x) (inputs (g.A.Source.left c.args.app.now) second third)
-    (Rose (g.A.Source.faults c.args.app.now) (g.A.Source.faults c.deepest.new.app)) ⊥ c.deepest.result) (sym c.in-Deepest.is)
+    (Rose (g.A.Source.faults c.args.app.now) (g.A.Source.faults c.deepest.new.app)) ⊥ c.deepest.result)
+    (sym c.in-Deepest.is)
     (c.deepest.ensures.decides second third)
 
 pub returns-in-Verify-clause-decides : goal.returns-in-Verify-clause-decides
 returns-in-Verify-clause-decides g c second third =
     subst (λ (x : Command). Decides (command_word x) (inputs (g.A.Source.left c.args.app.now) second third)
-    (Rose (g.A.Source.faults c.args.app.now) (g.A.Source.faults c.verify.new.image)) ⊥ c.verify.result) (sym c.in-Verify.is)
+    (Rose (g.A.Source.faults c.args.app.now) (g.A.Source.faults c.verify.new.image)) ⊥ c.verify.result)
+    (sym c.in-Verify.is)
     (c.verify.ensures.decides second third)
 
 pub soak-requires-clause-some : goal.soak-requires-clause-some
-soak-requires-clause-some g c lifetimes outlives = let range = subst (λ (x : Command). IsInRange (command_word x)) c.in-Soak.is c.requires.range in range.1
+soak-requires-clause-some g c lifetimes outlives = let range = subst (λ (x : Command). IsInRange (command_word x))
+    c.in-Soak.is c.requires.range in range.1
 
 pub soak-requires-clause-most : goal.soak-requires-clause-most
-soak-requires-clause-most g c lifetimes outlives = let range = subst (λ (x : Command). IsInRange (command_word x)) c.in-Soak.is c.requires.range in range.2
+soak-requires-clause-most g c lifetimes outlives = let range = subst (λ (x : Command). IsInRange (command_word x))
+    c.in-Soak.is c.requires.range in range.2
 
 pub soak-requires-clause-working : goal.soak-requires-clause-working
-soak-requires-clause-working g c lifetimes outlives = let range = subst (λ (x : Command). IsInRange (command_word x)) c.in-Soak.is c.requires.range in range.3
+soak-requires-clause-working g c lifetimes outlives = let range = subst (λ (x : Command). IsInRange (command_word x))
+    c.in-Soak.is c.requires.range in range.3
 
 pub soak-requires-clause-few : goal.soak-requires-clause-few
-soak-requires-clause-few g c lifetimes outlives = let range = subst (λ (x : Command). IsInRange (command_word x)) c.in-Soak.is c.requires.range in range.4
+soak-requires-clause-few g c lifetimes outlives = let range = subst (λ (x : Command). IsInRange (command_word x))
+    c.in-Soak.is c.requires.range in range.4

@@ -12,7 +12,8 @@ use Rattle.rt_top.proofs.soak.soak.Goals as goal
 
 pub returns-in-Err-clause-decides : goal.returns-in-Err-clause-decides
 returns-in-Err-clause-decides g c second third =
-    halts_decides (Soak c.args.number c.args.count c.args.workers) (inputs (g.A.Source.left c.args.app.now) second third) (omega arith) RefusesApplication
+    halts_decides (Soak c.args.number c.args.count c.args.workers)
+    (inputs (g.A.Source.left c.args.app.now) second third) (omega arith) RefusesApplication
     (λ text line r. r) (Rose (g.A.Source.faults c.args.app.now) (g.A.Source.faults c.read_accepted.new.app))
     (Rose (g.A.Source.faults c.args.app.now) (g.A.Source.faults c.read_accepted.new.app)) ⊥ (λ h. h)
     c.in-Err.reply c.in-Err.ensures.halts
@@ -24,6 +25,8 @@ returns-clause-decides g c second third =
     tells_decides (Soak number count c.args.workers) (inputs (g.A.Source.left c.args.app.now) second third)
     (Rose (g.A.Source.faults c.args.app.now) (g.A.Source.faults c.read_accepted.new.app)) ⊥ status.Done
     (TellsSoak (app_of c.in-Ok.accepted) number count)
-    (soaked_decided (g.A.Source.left c.args.app.now) second third (app_of c.in-Ok.accepted) (λ text told. c.in-Ok.ensures.accepted text told) number count c.args.workers)
+    (soaked_decided (g.A.Source.left c.args.app.now) second third (app_of c.in-Ok.accepted)
+    (λ text told. c.in-Ok.ensures.accepted text told) number count c.args.workers)
     c.reply_of_text.result
-    (made_tells status.Done (TellsSoak (app_of c.in-Ok.accepted) number count) c.soak_text.result c.soak_text.ensures c.reply_of_text.result c.reply_of_text.ensures.text c.reply_of_text.ensures.memory)
+    (made_tells status.Done (TellsSoak (app_of c.in-Ok.accepted) number count) c.soak_text.result c.soak_text.ensures
+    c.reply_of_text.result c.reply_of_text.ensures.text c.reply_of_text.ensures.memory)

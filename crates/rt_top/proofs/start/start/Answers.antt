@@ -13,7 +13,8 @@ use Rattle.rt_top.specs.Inside.Decides.{Stops, HasFailed, IsDecided}
 use Rattle.rt_top.specs.Inside.Replies.{WantsMemory}
 use Rattle.rt_top.specs.Inside.Started.{AnswersRefusal}
 use Rattle.rt_top.proofs.Giving.{ends_as, finished, heard, heard_err, heard_in, stopped}
-use Rattle.rt_top.proofs.Deciding.{halts_decides, tells_decides, refuses_first, script_reads, script_reads_first, script_passes, long_script_decided, refusal_decided}
+use Rattle.rt_top.proofs.Deciding.{halts_decides, tells_decides, refuses_first, script_reads, script_reads_first}
+use Rattle.rt_top.proofs.Deciding.{script_passes, long_script_decided, refusal_decided}
 use Rattle.rt_top.proofs.Ran.{started_by}
 use Rattle.rt_top.proofs.start.start.Goals as goal
 
@@ -24,9 +25,11 @@ returns-in-Err-clause-ends g c command has third =
     let kept = IsKept g.B.Source.left g.B.Source.faults c.args.second.now c.args.second.now in
     let second = Rose (g.B.Source.faults c.args.second.now) (g.B.Source.faults c.args.second.now) in
     finished (g.K.Sink.taken c.args.out.now) (g.K.Sink.taken c.finish.new.out) (g.K.Sink.faults c.args.out.now)
-    (g.K.Sink.faults c.finish.new.out) c.finish.result (IsDecided command t) (Stops (HasFailed command (rose × kept) second))
+    (g.K.Sink.faults c.finish.new.out) c.finish.result (IsDecided command t)
+    (Stops (HasFailed command (rose × kept) second))
     c.in-Err.reply
-    (halts_decides command t (script_reads_first command has) RefusesApplication (refuses_first command has) rose (rose × kept) second
+    (halts_decides command t (script_reads_first command has) RefusesApplication (refuses_first command has) rose
+    (rose × kept) second
     (λ h. (h, record { has_all = refl; no_fault = refl })) c.in-Err.reply c.in-Err.ensures.halts)
     c.finish.ensures.finished
 
@@ -56,7 +59,8 @@ returns-in-Ok-Some-clause-ends g c =
     let t = (inputs (g.A.Source.left c.args.app.now) (g.B.Source.left c.args.second.now) third) in
     ends_as (AnswersRefusal (app_of c.in-Ok.accepted) c.deref.result.now) (IsDecided command t) WantsMemory
     (Stops (HasFailed command (rose × kept) second))
-    (refusal_decided (g.A.Source.left c.args.app.now) (g.B.Source.left c.args.second.now) third (app_of c.in-Ok.accepted)
+    (refusal_decided (g.A.Source.left c.args.app.now) (g.B.Source.left c.args.second.now) third
+    (app_of c.in-Ok.accepted)
     (λ text told. c.in-Ok.ensures.accepted text told) command has c.deref.result.now
     (λ more heard. c.deref.ensures.value ∙ (rw c.in-Ok-Some.field-0-is at c.in-Ok-Some.ensures.whole more heard)))
     (λ s is. inl is)
@@ -66,7 +70,8 @@ returns-in-Ok-Some-clause-ends g c =
 
 pub returns-in-Ok-Some-clause-kept : goal.returns-in-Ok-Some-clause-kept
 returns-in-Ok-Some-clause-kept g c command has third r =
-    absurd (script_passes (g.A.Source.left c.args.app.now) (g.B.Source.left c.args.second.now) third (app_of c.in-Ok.accepted)
+    absurd (script_passes (g.A.Source.left c.args.app.now) (g.B.Source.left c.args.second.now) third
+    (app_of c.in-Ok.accepted)
     (λ text told. c.in-Ok.ensures.accepted text told) command has r)
 
 pub returns-in-Ok-None-clause-ends : goal.returns-in-Ok-None-clause-ends
@@ -75,7 +80,8 @@ returns-in-Ok-None-clause-ends g c command has third =
     let rose = Rose (g.A.Source.faults c.args.app.now) (g.A.Source.faults c.read_accepted.new.app) in
     let kept = IsKept g.B.Source.left g.B.Source.faults c.args.second.now c.read_within.new.source in
     let second = Rose (g.B.Source.faults c.args.second.now) (g.B.Source.faults c.read_within.new.source) in
-    finished (g.K.Sink.taken c.args.out.now) (g.K.Sink.taken c.finish-in-Ok-None.new.out) (g.K.Sink.faults c.args.out.now)
+    finished (g.K.Sink.taken c.args.out.now) (g.K.Sink.taken c.finish-in-Ok-None.new.out)
+    (g.K.Sink.faults c.args.out.now)
     (g.K.Sink.faults c.finish-in-Ok-None.new.out) c.finish-in-Ok-None.result (IsDecided command t)
     (Stops (HasFailed command (rose × kept) second)) c.refuse_script.result
     (tells_decides command t (rose × kept) second status.Text (SaysScript in_script.TooLong)
@@ -87,7 +93,8 @@ returns-in-Ok-None-clause-ends g c command has third =
 
 pub returns-in-Ok-None-clause-kept : goal.returns-in-Ok-None-clause-kept
 returns-in-Ok-None-clause-kept g c command has third r =
-    absurd (script_passes (g.A.Source.left c.args.app.now) (g.B.Source.left c.args.second.now) third (app_of c.in-Ok.accepted)
+    absurd (script_passes (g.A.Source.left c.args.app.now) (g.B.Source.left c.args.second.now) third
+    (app_of c.in-Ok.accepted)
     (λ text told. c.in-Ok.ensures.accepted text told) command has r)
 
 pub returns-clause-ends : goal.returns-clause-ends
@@ -96,9 +103,11 @@ returns-clause-ends g c command has third =
     (Rose (g.A.Source.faults c.args.app.now) (g.A.Source.faults c.read_accepted.new.app)
     × IsKept g.B.Source.left g.B.Source.faults c.args.second.now c.read_within.new.source)
     (Rose (g.B.Source.faults c.args.second.now) (g.B.Source.faults c.read_within.new.source)) (script_reads command has)
-    (g.K.Sink.taken c.args.out.now) (g.K.Sink.faults c.args.out.now) c.in-Err-read_within.status c.in-Err-read_within.ensures.err
+    (g.K.Sink.taken c.args.out.now) (g.K.Sink.faults c.args.out.now) c.in-Err-read_within.status
+    c.in-Err-read_within.ensures.err
 
 pub returns-clause-kept : goal.returns-clause-kept
 returns-clause-kept g c command has third r =
-    absurd (script_passes (g.A.Source.left c.args.app.now) (g.B.Source.left c.args.second.now) third (app_of c.in-Ok.accepted)
+    absurd (script_passes (g.A.Source.left c.args.app.now) (g.B.Source.left c.args.second.now) third
+    (app_of c.in-Ok.accepted)
     (λ text told. c.in-Ok.ensures.accepted text told) command has r)

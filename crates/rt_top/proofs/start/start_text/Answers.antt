@@ -17,8 +17,10 @@ returns-in-Ok-read_script-clause-good g c =
 
 pub returns-in-Ok-read_script-clause-read : goal.returns-in-Ok-read_script-clause-read
 returns-in-Ok-read_script-clause-read g c =
-    let same = ap (λ (i : Image). i.names) (c.behind-core.view_is ∙ c.image.ensures) ∙ c.in-Ok.ensures.image.tables.names in
-    subst (λ (n : Names). script.IsScriptText n c.args.text.now c.in-Ok-read_script.script) same c.in-Ok-read_script.ensures.read
+    let same = ap (λ (i : Image). i.names) (c.behind-core.view_is ∙ c.image.ensures)
+    ∙ c.in-Ok.ensures.image.tables.names in
+    subst (λ (n : Names). script.IsScriptText n c.args.text.now c.in-Ok-read_script.script) same
+    c.in-Ok-read_script.ensures.read
 
 pub returns-in-Ok-read_script-clause-names : goal.returns-in-Ok-read_script-clause-names
 returns-in-Ok-read_script-clause-names g c =
@@ -27,9 +29,11 @@ returns-in-Ok-read_script-clause-names g c =
 
 pub returns-in-Err-clause-ends : goal.returns-in-Err-clause-ends
 returns-in-Err-clause-ends g c =
-    let same = ap (λ (i : Image). i.names) (c.behind-core.view_is ∙ c.image.ensures) ∙ c.in-Ok.ensures.image.tables.names in
+    let same = ap (λ (i : Image). i.names) (c.behind-core.view_is ∙ c.image.ensures)
+    ∙ c.in-Ok.ensures.image.tables.names in
     finished (g.K.Sink.taken c.args.out.now) (g.K.Sink.taken c.finish.new.out) (g.K.Sink.faults c.args.out.now)
-    (g.K.Sink.faults c.finish.new.out) c.finish.result (AnswersRefusal (app_of c.args.app.now) c.args.text.now) WantsMemory
+    (g.K.Sink.faults c.finish.new.out) c.finish.result (AnswersRefusal (app_of c.args.app.now) c.args.text.now)
+    WantsMemory
     c.refuse_script.result
     (refused_replies (app_of c.args.app.now) c.args.text.now c.in-Err.refusal
     (subst (λ (n : Names). script.IsRefused n c.args.text.now c.in-Err.refusal) same c.in-Err.ensures.refused)

@@ -9,14 +9,17 @@ use Rattle.rt_top.specs.SecondRefusal.{SaysLimits}
 use Rattle.rt_top.specs.Ends.{IsKept}
 use Rattle.rt_top.specs.Defined.{inputs}
 use Rattle.rt_top.specs.Inside.Replies.{AnswersTimes}
-use Rattle.rt_top.proofs.Deciding.{halts_decides, replies_decides, tells_decides, stops_decides, times_passes, timed_decided, long_limits_decided}
+use Rattle.rt_top.proofs.Deciding.{halts_decides, replies_decides, tells_decides, stops_decides, times_passes}
+use Rattle.rt_top.proofs.Deciding.{timed_decided, long_limits_decided}
 use Rattle.rt_top.proofs.times.times.Goals as goal
 
 pub returns-in-Err-clause-decides : goal.returns-in-Err-clause-decides
 returns-in-Err-clause-decides g c third =
-    halts_decides Times (inputs (g.A.Source.left c.args.app.now) (g.B.Source.left c.args.second.now) third) (omega arith) RefusesApplication (λ text line r. r)
+    halts_decides Times (inputs (g.A.Source.left c.args.app.now) (g.B.Source.left c.args.second.now) third)
+    (omega arith) RefusesApplication (λ text line r. r)
     (Rose (g.A.Source.faults c.args.app.now) (g.A.Source.faults c.read_accepted.new.app))
-    (Rose (g.A.Source.faults c.args.app.now) (g.A.Source.faults c.read_accepted.new.app) × IsKept g.B.Source.left g.B.Source.faults c.args.second.now c.args.second.now)
+    (Rose (g.A.Source.faults c.args.app.now) (g.A.Source.faults c.read_accepted.new.app)
+    × IsKept g.B.Source.left g.B.Source.faults c.args.second.now c.args.second.now)
     (Rose (g.B.Source.faults c.args.second.now) (g.B.Source.faults c.args.second.now))
     (λ h. (h, record { has_all = refl; no_fault = refl }))
     c.in-Err.reply c.in-Err.ensures.halts
@@ -35,7 +38,8 @@ returns-in-Ok-Some-clause-decides g c third =
 
 pub returns-in-Ok-Some-clause-kept : goal.returns-in-Ok-Some-clause-kept
 returns-in-Ok-Some-clause-kept g c third r =
-    absurd (times_passes (g.A.Source.left c.args.app.now) (g.B.Source.left c.args.second.now) third (app_of c.in-Ok.accepted)
+    absurd (times_passes (g.A.Source.left c.args.app.now) (g.B.Source.left c.args.second.now) third
+    (app_of c.in-Ok.accepted)
     (λ text told. c.in-Ok.ensures.accepted text told) r)
 
 pub returns-in-Ok-None-clause-decides : goal.returns-in-Ok-None-clause-decides
@@ -43,7 +47,8 @@ returns-in-Ok-None-clause-decides g c third =
     tells_decides Times (inputs (g.A.Source.left c.args.app.now) (g.B.Source.left c.args.second.now) third)
     (Rose (g.A.Source.faults c.args.app.now) (g.A.Source.faults c.read_accepted.new.app)
     × IsKept g.B.Source.left g.B.Source.faults c.args.second.now c.read_within.new.source)
-    (Rose (g.B.Source.faults c.args.second.now) (g.B.Source.faults c.read_within.new.source)) status.Text (SaysLimits in_limits.TooLong)
+    (Rose (g.B.Source.faults c.args.second.now) (g.B.Source.faults c.read_within.new.source)) status.Text
+    (SaysLimits in_limits.TooLong)
     (long_limits_decided (g.A.Source.left c.args.app.now) (g.B.Source.left c.args.second.now) third
     (app_of c.in-Ok.accepted) (λ text told. c.in-Ok.ensures.accepted text told)
     (λ more heard. rw c.in-Ok-None.field-0-is at c.in-Ok-None.ensures.long more heard))
@@ -51,7 +56,8 @@ returns-in-Ok-None-clause-decides g c third =
 
 pub returns-in-Ok-None-clause-kept : goal.returns-in-Ok-None-clause-kept
 returns-in-Ok-None-clause-kept g c third r =
-    absurd (times_passes (g.A.Source.left c.args.app.now) (g.B.Source.left c.args.second.now) third (app_of c.in-Ok.accepted)
+    absurd (times_passes (g.A.Source.left c.args.app.now) (g.B.Source.left c.args.second.now) third
+    (app_of c.in-Ok.accepted)
     (λ text told. c.in-Ok.ensures.accepted text told) r)
 
 pub returns-clause-decides : goal.returns-clause-decides
@@ -64,5 +70,6 @@ returns-clause-decides g c third =
 
 pub returns-clause-kept : goal.returns-clause-kept
 returns-clause-kept g c third r =
-    absurd (times_passes (g.A.Source.left c.args.app.now) (g.B.Source.left c.args.second.now) third (app_of c.in-Ok.accepted)
+    absurd (times_passes (g.A.Source.left c.args.app.now) (g.B.Source.left c.args.second.now) third
+    (app_of c.in-Ok.accepted)
     (λ text told. c.in-Ok.ensures.accepted text told) r)

@@ -2,7 +2,8 @@ use Rattle.rt_outside.specs.Faults.{Rose}
 use Rattle.rt_top.specs.Words.{texts}
 use Rattle.rt_top.specs.Ends.{IsKept}
 use Rattle.rt_top.specs.Defined.{inputs}
-use Rattle.rt_top.proofs.Clauses.{answered, complete, no_usage, is_command, first_unread, second_unread, third_unread, read, silent, write, part, no_words}
+use Rattle.rt_top.proofs.Clauses.{answered, complete, no_usage, is_command, first_unread, second_unread, third_unread}
+use Rattle.rt_top.proofs.Clauses.{read, silent, write, part, no_words}
 use Rattle.rt_top.proofs.top.rtic.Goals as goal
 
 pub returns-in-Some-clause-answered : goal.returns-in-Some-clause-answered
@@ -132,13 +133,16 @@ returns-in-Some-clause-part g c command named is_write told =
     command named is_write told
 
 pub returns-in-None-clause-answered : goal.returns-in-None-clause-answered
-returns-in-None-clause-answered g c command named is_answer told = no_words (texts c.args.words.now) c.in-None.ensures.none command named
+returns-in-None-clause-answered g c command named is_answer told =
+    no_words (texts c.args.words.now) c.in-None.ensures.none command named
 
 pub returns-in-None-clause-complete : goal.returns-in-None-clause-complete
-returns-in-None-clause-complete g c command due named is_due no_first no_second no_third no_sink = no_words (texts c.args.words.now) c.in-None.ensures.none command named
+returns-in-None-clause-complete g c command due named is_due no_first no_second no_third no_sink =
+    no_words (texts c.args.words.now) c.in-None.ensures.none command named
 
 pub returns-in-None-clause-part : goal.returns-in-None-clause-part
-returns-in-None-clause-part g c command named is_write told = no_words (texts c.args.words.now) c.in-None.ensures.none command named
+returns-in-None-clause-part g c command named is_write told = no_words (texts c.args.words.now) c.in-None.ensures.none
+    command named
 
 pub returns-in-None-clause-usage : goal.returns-in-None-clause-usage
 returns-in-None-clause-usage g c none = c.answer.ensures.wrote

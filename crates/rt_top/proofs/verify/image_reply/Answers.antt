@@ -14,6 +14,8 @@ returns-in-Ok-Yes c =
 
 pub returns-in-Ok-No : goal.returns-in-Ok-No
 returns-in-Ok-No c =
-    let least = subst (IsLeastBroken c.args.image.now) (sym c.from.ensures) (rw c.in-Ok-No.field-0-is at c.in-Ok-No.ensures) in
-    replies_as (λ ended bytes. (ended ≡ status.No) × (bytes ≡ codes "no " ++ decimal c.from.result ++ codes "\n")) (TellsImage c.args.image.now)
+    let least = subst (IsLeastBroken c.args.image.now) (sym c.from.ensures)
+    (rw c.in-Ok-No.field-0-is at c.in-Ok-No.ensures) in
+    replies_as (λ ended bytes. (ended ≡ status.No) × (bytes ≡ codes "no " ++ decimal c.from.result ++ codes "\n"))
+    (TellsImage c.args.image.now)
     (no_told c.args.image.now c.from.result least) c.reply_number.result c.reply_number.ensures

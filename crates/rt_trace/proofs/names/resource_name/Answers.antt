@@ -10,8 +10,10 @@ pub returns : goal.returns
 returns c =
     let name =
     ap (λ (name : Bor (List ℕ)). name.now) c.unwrap_or.ensures ∙ unwrap_or-now c.resource_at.result _
-    ∙ ap (λ name. unwrap_or name []) c.resource_at.ensures ∙ unwrap_or-slice_get c.args.names.now.shared c.args.resource [] in
+    ∙ ap (λ name. unwrap_or name []) c.resource_at.ensures ∙ unwrap_or-slice_get c.args.names.now.shared c.args.resource
+    [] in
     record {
       name = name;
-      short = subst (λ (name : List ℕ). length name ≤ NAME_BYTES) (sym name) (resource_name_short c.args.names.now c.args.resource c.resource_count-count.ensures.names);
+      short = subst (λ (name : List ℕ). length name ≤ NAME_BYTES) (sym name)
+          (resource_name_short c.args.names.now c.args.resource c.resource_count-count.ensures.names);
     }

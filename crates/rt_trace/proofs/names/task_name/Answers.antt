@@ -13,5 +13,6 @@ returns c =
     ∙ ap (λ name. unwrap_or name []) c.task_at.ensures ∙ unwrap_or-slice_get c.args.names.now.tasks c.args.task [] in
     record {
       name = name;
-      short = subst (λ (name : List ℕ). length name ≤ NAME_BYTES) (sym name) (task_name_short c.args.names.now c.args.task c.task_count-count.ensures.names);
+      short = subst (λ (name : List ℕ). length name ≤ NAME_BYTES) (sym name)
+          (task_name_short c.args.names.now c.args.task c.task_count-count.ensures.names);
     }

@@ -13,7 +13,9 @@ loop-word-preserved c =
     record {
       few = omega arith;
       long = length-set c.loop-word.values c.loop-word.count c.in_ok-values.field-0 ∙ c.loop-word.invariant.long;
-      all = values_step c.loop-word.values c.loop-word.count c.in_ok-values.field-0 c.in-Some.word.now (words_of c.in-Some.behind) few (omega arith) (sym c.read_number.ensures ∙ c.in_ok-values.was)
-          ∙ (ap (λ (ws : List (List ℕ)). and_make (values_at (4 - c.loop-word.count) ws) (λ (vs : List ℕ). take c.loop-word.count c.loop-word.values ++ vs)) (sym next)
+      all = values_step c.loop-word.values c.loop-word.count c.in_ok-values.field-0 c.in-Some.word.now
+          (words_of c.in-Some.behind) few (omega arith) (sym c.read_number.ensures ∙ c.in_ok-values.was)
+          ∙ (ap (λ (ws : List (List ℕ)). and_make (values_at (4 - c.loop-word.count) ws)
+          (λ (vs : List ℕ). take c.loop-word.count c.loop-word.values ++ vs)) (sym next)
           ∙ c.loop-word.invariant.all);
     }

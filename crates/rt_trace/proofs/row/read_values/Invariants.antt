@@ -9,7 +9,8 @@ abbrev pub invariant-loop-word : goal.invariant-loop-word
 invariant-loop-word l = record {
   few : l.count ≤ 4;
   long : length l.values ≡ 4;
-  all : and_make (values_at (4 - l.count) (words_of l.rest)) (λ (vs : List ℕ). take l.count l.values ++ vs) ≡ values_at 4 (words_of l.fn.words);
+  all : and_make (values_at (4 - l.count) (words_of l.rest)) (λ (vs : List ℕ). take l.count l.values ++ vs)
+      ≡ values_at 4 (words_of l.fn.words);
 }
 
 abbrev pub decreases-loop-word : goal.decreases-loop-word

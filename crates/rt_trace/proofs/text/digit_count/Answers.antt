@@ -15,19 +15,24 @@ pub returns-in-1000-to-9999-clause-count : goal.returns-in-1000-to-9999-clause-c
 returns-in-1000-to-9999-clause-count c = sym (length_decimal 3 c.args.number (omega arith) (omega arith) (omega arith))
 
 pub returns-in-10000-to-99999-clause-count : goal.returns-in-10000-to-99999-clause-count
-returns-in-10000-to-99999-clause-count c = sym (length_decimal 4 c.args.number (omega arith) (omega arith) (omega arith))
+returns-in-10000-to-99999-clause-count c = sym (length_decimal 4 c.args.number (omega arith) (omega arith)
+    (omega arith))
 
 pub returns-in-100000-to-999999-clause-count : goal.returns-in-100000-to-999999-clause-count
-returns-in-100000-to-999999-clause-count c = sym (length_decimal 5 c.args.number (omega arith) (omega arith) (omega arith))
+returns-in-100000-to-999999-clause-count c = sym (length_decimal 5 c.args.number (omega arith) (omega arith)
+    (omega arith))
 
 pub returns-in-1000000-to-9999999-clause-count : goal.returns-in-1000000-to-9999999-clause-count
-returns-in-1000000-to-9999999-clause-count c = sym (length_decimal 6 c.args.number (omega arith) (omega arith) (omega arith))
+returns-in-1000000-to-9999999-clause-count c =
+    sym (length_decimal 6 c.args.number (omega arith) (omega arith) (omega arith))
 
 pub returns-in-10000000-to-99999999-clause-count : goal.returns-in-10000000-to-99999999-clause-count
-returns-in-10000000-to-99999999-clause-count c = sym (length_decimal 7 c.args.number (omega arith) (omega arith) (omega arith))
+returns-in-10000000-to-99999999-clause-count c =
+    sym (length_decimal 7 c.args.number (omega arith) (omega arith) (omega arith))
 
 pub returns-in-100000000-to-999999999-clause-count : goal.returns-in-100000000-to-999999999-clause-count
-returns-in-100000000-to-999999999-clause-count c = sym (length_decimal 8 c.args.number (omega arith) (omega arith) (omega arith))
+returns-in-100000000-to-999999999-clause-count c =
+    sym (length_decimal 8 c.args.number (omega arith) (omega arith) (omega arith))
 
 pub returns-in_default-clause-count : goal.returns-in_default-clause-count
 returns-in_default-clause-count c = sym (length_decimal 9 c.args.number (omega arith) (omega arith) (omega arith))

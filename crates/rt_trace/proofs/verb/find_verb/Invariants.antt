@@ -5,4 +5,5 @@ use Rattle.rt_trace.proofs.verb.find_verb.Given as goal
 
 -- it is none of those so far
 abbrev pub invariant-loop-verb : goal.invariant-loop-verb
-invariant-loop-verb l = find (λ (v : Verb). bytes_eq (spelling v) l.word) (drop l.verb-index l.verbs) ≡ find (λ (v : Verb). bytes_eq (spelling v) l.word) l.verbs
+invariant-loop-verb l = find (λ (v : Verb). bytes_eq (spelling v) l.word) (drop l.verb-index l.verbs)
+    ≡ find (λ (v : Verb). bytes_eq (spelling v) l.word) l.verbs

@@ -10,7 +10,8 @@ load-requires g c =
     let some = c.words.invariant.some in (
       c.requires.seat ∙ sym (ap (λ (r : Row). r.table) c.words.view_is),
       omega arith,
-      reserves c.words.inside.table.shared.key c.words.inside.table.shared.table_id.slots seat.id g.N.Numbered.number seat.me c.requires.first
+      reserves c.words.inside.table.shared.key c.words.inside.table.shared.table_id.slots seat.id g.N.Numbered.number
+          seat.me c.requires.first
           (subst (λ (m : ℕ). m ≢ 255) (sym n) c.requires.other)
           (subst (λ (m : ℕ). ¬ Contains seat.me.0.made m) (sym n) c.requires.new),
     )

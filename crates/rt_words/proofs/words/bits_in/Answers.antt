@@ -5,14 +5,16 @@ use Rattle.rt_words.proofs.Closing.{element, copied_more, copied_all}
 use Rattle.rt_words.proofs.words.bits_in.Goals as goal
 
 pub overflow_cast-bits : goal.overflow_cast-bits
-overflow_cast-bits c = Fits-of_lt (subst (λ (n : ℕ). n < 2 ^ 32) (element (slots_items c.args.closed.words) c.loop-k.k c.word.result c.word.ensures) (c.requires.low c.loop-k.k))
+overflow_cast-bits c = Fits-of_lt (subst (λ (n : ℕ). n < 2 ^ 32)
+    (element (slots_items c.args.closed.words) c.loop-k.k c.word.result c.word.ensures) (c.requires.low c.loop-k.k))
 
 pub loop-k-preserved : goal.loop-k-preserved
 loop-k-preserved c =
     let l = c.requires.short in
     let t = c.loop-k-test.true in
     let e = c.len-k-end.ensures in
-    copied_more (slots_items c.args.closed.words) c.loop-k.bits c.loop-k.k c.word.result c.loop-k.invariant (omega arith) c.word.ensures
+    copied_more (slots_items c.args.closed.words) c.loop-k.bits c.loop-k.k c.word.result c.loop-k.invariant
+    (omega arith) c.word.ensures
 
 pub returns : goal.returns
 returns c =

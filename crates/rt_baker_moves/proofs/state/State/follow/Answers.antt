@@ -11,7 +11,8 @@ returns-in_ok-act-in-Act c =
     λ t h.
     (let app = app_of c.args.machine.now.code.now.app.now in
     let s = c.args.self.now in
-    c.in_ok-act-in-Act.ensures t (subst (λ (todo : Todo). StateIs app (held_with_job s (with_next todo c.args.job) s.store) t)
+    c.in_ok-act-in-Act.ensures t
+    (subst (λ (todo : Todo). StateIs app (held_with_job s (with_next todo c.args.job) s.store) t)
     c.in-Act.is h))
 
 pub returns-in_ok-read-in-Clock : goal.returns-in_ok-read-in-Clock
@@ -19,5 +20,6 @@ returns-in_ok-read-in-Clock c =
     λ t h.
     (let app = app_of c.args.machine.now.code.now.app.now in
     let s = c.args.self.now in
-    c.in_ok-read-in-Clock.ensures t (subst (λ (todo : Todo). StateIs app (held_with_job s (with_next todo c.args.job) s.store)
+    c.in_ok-read-in-Clock.ensures t
+    (subst (λ (todo : Todo). StateIs app (held_with_job s (with_next todo c.args.job) s.store)
     t) c.in-Clock.is h))

@@ -23,4 +23,5 @@ returns-in_ok-follow-in-Some c =
     λ t h.
     (let app = app_of c.args.machine.now.code.now.app.now in
     let s = c.args.self.now in
-    c.in_ok-follow-in-Some.ensures t (subst (λ (j : Kept). StateIs app (held_with_job s j s.store) t) c.in-Some.ensures h))
+    c.in_ok-follow-in-Some.ensures t (subst (λ (j : Kept). StateIs app (held_with_job s j s.store) t) c.in-Some.ensures
+    h))

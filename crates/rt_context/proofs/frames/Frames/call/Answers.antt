@@ -14,13 +14,23 @@ may c =
 pub push-requires-clause-fits : goal.push-requires-clause-fits
 push-requires-clause-fits c =
     let s = seen c.args.self.now c.self.inside c.self.invariant c.self.view_is in
-    fits_from_room c.args.self.now c.self.inside c.args.row.frame s (may (goal.at.push-requires-clause-fits c).After-from-args).room
+    fits_from_room c.args.self.now c.self.inside c.args.row.frame s
+    (may (goal.at.push-requires-clause-fits c).After-from-args).room
 
 spells : (c : After-push) → MayCall c.args.self.now c.args.row c.args.from
-    → Spells (frames_after_call c.args.self.now c.args.row c.args.from c.args.address) (record { region = c.push.new.region; entry = c.self.inside.entry; frame = c.args.row.frame; caller = Some c.self.inside.frame; callers = c.self.inside.callers })
+    → Spells (frames_after_call c.args.self.now c.args.row c.args.from c.args.address)
+    (record {
+      region = c.push.new.region;
+      entry = c.self.inside.entry;
+      frame = c.args.row.frame;
+      caller =
+          Some c.self.inside.frame;
+      callers = c.self.inside.callers;
+    })
 spells c may =
     let s = seen c.args.self.now c.self.inside c.self.invariant c.self.view_is in
-    spells_called c.args.self.now c.self.inside _ c.args.row c.args.from c.from-args.result c.args.address s may c.from-args.ensures c.push.ensures refl refl refl refl
+    spells_called c.args.self.now c.self.inside _ c.args.row c.args.from c.from-args.result c.args.address s may
+    c.from-args.ensures c.push.ensures refl refl refl refl
 
 pub invariant_of-self : goal.invariant_of-self
 invariant_of-self c =
@@ -28,4 +38,5 @@ invariant_of-self c =
 
 pub returns-clause-called : goal.returns-clause-called
 returns-clause-called c = λ _.
-    spelled _ _ (spells (goal.at.returns-clause-called c).After-push (may (goal.at.returns-clause-called c).After-from-args))
+    spelled _ _ (spells (goal.at.returns-clause-called c).After-push
+    (may (goal.at.returns-clause-called c).After-from-args))

@@ -12,13 +12,21 @@ use Rattle.rt_context.proofs.frames.Frames.execute.Goals as goal
 use Rattle.rt_context.proofs.frames.Frames.execute.Goals.{After-execute}
 
 abbrev after : After-execute → Inside
-after c = record { region = with_top c.self.inside.region c.self.inside.frame c.execute.new.slots; entry = c.self.inside.entry; frame = c.self.inside.frame; caller = c.self.inside.caller; callers = c.self.inside.callers }
+after c = record {
+  region = with_top c.self.inside.region c.self.inside.frame c.execute.new.slots;
+  entry =
+      c.self.inside.entry;
+  frame = c.self.inside.frame;
+  caller = c.self.inside.caller;
+  callers = c.self.inside.callers;
+}
 
 spells : (c : After-execute) → Spells (written c.args.self.now c.execute.new.slots) (after c)
 spells c =
     let s = seen c.args.self.now c.self.inside c.self.invariant c.self.view_is in
     let long : length c.execute.new.slots ≡ c.self.inside.frame = c.execute.auto.slots ∙ c.top-slots.ensures.len in
-    spells_written c.args.self.now c.self.inside (after c) c.execute.new.slots s long (c.top-slots.ensures.below_stays c.execute.new.slots long) refl refl refl refl
+    spells_written c.args.self.now c.self.inside (after c) c.execute.new.slots s long
+    (c.top-slots.ensures.below_stays c.execute.new.slots long) refl refl refl refl
 
 pub invariant_of-self : goal.invariant_of-self
 invariant_of-self c = kept _ _ (spells (goal.at.invariant_of-self c).After-execute)
@@ -32,9 +40,11 @@ returns-clause-effect c =
     let e = c.execute in
     let s = seen a.self.now c.self.inside c.self.invariant c.self.view_is in
     let P : List ℕ → List ℕ → Type 0 = λ old new.
-    Gives e.result (processor a.registers.now old a.cells.now) (processor e.new.registers new e.new.cells) (effect a.instr a.time (processor a.registers.now old a.cells.now)) in
+    Gives e.result (processor a.registers.now old a.cells.now) (processor e.new.registers new e.new.cells)
+    (effect a.instr a.time (processor a.registers.now old a.cells.now)) in
     let written_slots = sym (ap (λ (f : Frames). f.slots) (view (goal.at.returns-clause-effect c).After-execute)) in
-    subst (λ new. P a.self.now.slots new) written_slots (subst (λ old. P old e.new.slots) (c.top-slots.ensures.value ∙ top_is a.self.now c.self.inside s) e.ensures)
+    subst (λ new. P a.self.now.slots new) written_slots (subst (λ old. P old e.new.slots)
+    (c.top-slots.ensures.value ∙ top_is a.self.now c.self.inside s) e.ensures)
 
 pub returns-clause-rest : goal.returns-clause-rest
 returns-clause-rest c =
@@ -43,4 +53,5 @@ returns-clause-rest c =
 pub returns-clause-words : goal.returns-clause-words
 returns-clause-words c =
     let s = seen c.args.self.now c.self.inside c.self.invariant c.self.view_is in
-    ap (λ (f : Frames). length f.slots) (view (goal.at.returns-clause-words c).After-execute) ∙ c.execute.auto.slots ∙ c.top-slots.ensures.len ∙ s.frame
+    ap (λ (f : Frames). length f.slots) (view (goal.at.returns-clause-words c).After-execute) ∙ c.execute.auto.slots
+    ∙ c.top-slots.ensures.len ∙ s.frame

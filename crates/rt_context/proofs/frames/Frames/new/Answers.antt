@@ -7,7 +7,15 @@ use Rattle.rt_context.proofs.Entering.{spells_thread}
 use Rattle.rt_context.proofs.frames.Frames.new.Goals as goal
 use Rattle.rt_context.proofs.frames.Frames.new.Goals.{After-new-2}
 
-spells : (c : After-new-2) → Spells (thread (c.args.stack_bytes / 4) c.args.entry c.args.thread_words) (record { region = c.push.new.self; entry = c.args.entry; frame = c.args.thread_words; caller = None; callers = c.new-2.result })
+spells : (c : After-new-2) → Spells (thread (c.args.stack_bytes / 4) c.args.entry c.args.thread_words)
+    (record {
+      region = c.push.new.self;
+      entry = c.args.entry;
+      frame = c.args.thread_words;
+      caller = None;
+      callers =
+          c.new-2.result;
+    })
 spells c =
     spells_thread (c.args.stack_bytes / 4) c.args.entry c.args.thread_words _ (omega arith) c.requires.basic
     (c.push.ensures ∙ ap (λ (r : Region). region_after_push r c.args.thread_words) c.in_ok-region.ensures.empty)

@@ -8,14 +8,22 @@ use Rattle.rt_context.proofs.Entering.{spells_thread}
 use Rattle.rt_context.proofs.frames.Frames.reset.Goals as goal
 use Rattle.rt_context.proofs.frames.Frames.reset.Goals.{After-clear}
 
-spells : (c : After-clear) → Spells (thread c.self.inside.region.size c.self.inside.entry c.args.thread_words) (record { region = c.push.new.self; entry = c.self.inside.entry; frame = c.args.thread_words; caller = None; callers = c.clear.new.self })
+spells : (c : After-clear) → Spells (thread c.self.inside.region.size c.self.inside.entry c.args.thread_words)
+    (record {
+      region = c.push.new.self;
+      entry = c.self.inside.entry;
+      frame = c.args.thread_words;
+      caller = None;
+      callers = c.clear.new.self;
+    })
 spells c =
     let is = c.self.inside in
     let s = c.self.invariant in
     let none : length is.region.words - c.used.result ≡ 0 = omega (arith, c.used.ensures.words) in
     let emptied : c.pop.new.self ≡ empty is.region.size =
     c.pop.ensures ∙ ap (λ (k : ℕ). record { words = take k is.region.words; size = is.region.size }) none in
-    spells_thread is.region.size is.entry c.args.thread_words _ (omega (arith, s.size, s.small)) (omega (arith, s.entry, s.basic))
+    spells_thread is.region.size is.entry c.args.thread_words _ (omega (arith, s.size, s.small))
+    (omega (arith, s.entry, s.basic))
     (c.push.ensures ∙ ap (λ (r : Region). region_after_push r c.args.thread_words) emptied)
     refl refl refl c.clear.ensures
 

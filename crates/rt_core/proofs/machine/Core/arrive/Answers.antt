@@ -5,4 +5,6 @@ use Rattle.rt_core.proofs.Arriving.{arrivals_pend}
 use Rattle.rt_core.proofs.machine.Core.arrive.Goals as goal
 
 pub returns : goal.returns
-returns c = rw (c.arrive.ensures.state, ← c.self.view_is) (ap (λ k. record { image = c.self.inside.program; core = k; steps = c.self.inside.steps }) (arrivals_pend c.self.inside.program (arrivals c.args.k c.args.bits) (core c.self.inside)))
+returns c = rw (c.arrive.ensures.state, ← c.self.view_is)
+    (ap (λ k. record { image = c.self.inside.program; core = k; steps = c.self.inside.steps })
+    (arrivals_pend c.self.inside.program (arrivals c.args.k c.args.bits) (core c.self.inside)))

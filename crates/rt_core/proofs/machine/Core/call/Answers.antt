@@ -15,9 +15,11 @@ returns-then-not-call-clause-outcome c =
     let found : slice_get c.self.inside.program.bodies c.args.row ≡ Some c.in-Some.body = search rules in
     let fits : moves.call_fits c.self.inside.frames c.in-Some.body c.args.from ≡ false = search rules in
     ap (λ (m : Machine). transfer.call m.image m.core c.args.row c.args.from) (sym c.self.view_is)
-    ∙ call_is c.self.inside.program (core c.self.inside) c.self.inside.frames c.args.row c.args.from c.in-Some.body c.self.invariant.frames may found
+    ∙ call_is c.self.inside.program (core c.self.inside) c.self.inside.frames c.args.row c.args.from c.in-Some.body
+    c.self.invariant.frames may found
     ∙ ap (outcome_of (core c.self.inside) c.in-Some.body c.args.from) fits
-    ∙ ap (λ (f : Frames). Trapped (core (record c.self.inside { frames = f })) trap.Stack) (sym (c.if-not-call.ensures.unchanged refl))
+    ∙ ap (λ (f : Frames). Trapped (core (record c.self.inside { frames = f })) trap.Stack)
+    (sym (c.if-not-call.ensures.unchanged refl))
 
 pub returns-clause-outcome : goal.returns-clause-outcome
 returns-clause-outcome c =
@@ -26,7 +28,14 @@ returns-clause-outcome c =
     let fits : moves.call_fits c.self.inside.frames c.in-Some.body c.args.from ≡ true = search rules in
     let next : c.self.inside.registers.address + 1 ≡ suc c.self.inside.registers.address = omega arith in
     ap (λ (m : Machine). transfer.call m.image m.core c.args.row c.args.from) (sym c.self.view_is)
-    ∙ call_is c.self.inside.program (core c.self.inside) c.self.inside.frames c.args.row c.args.from c.in-Some.body c.self.invariant.frames may found
+    ∙ call_is c.self.inside.program (core c.self.inside) c.self.inside.frames c.args.row c.args.from c.in-Some.body
+    c.self.invariant.frames may found
     ∙ ap (outcome_of (core c.self.inside) c.in-Some.body c.args.from) fits
-    ∙ ap (λ (f : Frames). Done (core (record c.self.inside { frames = f; registers = record c.self.inside.registers { address = c.in-Some.body.entry } })) None)
-    (ap (λ a. moves.frames_after_call c.self.inside.frames c.in-Some.body c.args.from a) (sym next) ∙ sym (c.if-not-call.ensures.called refl))
+    ∙ ap (λ (f : Frames). Done
+    (core (record c.self.inside {
+      frames = f;
+      registers = record c.self.inside.registers
+          { address = c.in-Some.body.entry };
+    })) None)
+    (ap (λ a. moves.frames_after_call c.self.inside.frames c.in-Some.body c.args.from a) (sym next)
+    ∙ sym (c.if-not-call.ensures.called refl))

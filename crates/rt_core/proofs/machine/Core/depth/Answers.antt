@@ -8,4 +8,5 @@ use Rattle.rt_core.proofs.machine.Core.depth.Goals as goal
 
 pub returns-clause-bytes : goal.returns-clause-bytes
 returns-clause-bytes c =
-    c.depth.ensures.bytes ∙ ap frame.depth c.self.invariant.frames ∙ depth_is c.self.inside.program (core c.self.inside) ∙ ap (λ (m : Machine). spec.depth m.image m.core) c.self.view_is
+    c.depth.ensures.bytes ∙ ap frame.depth c.self.invariant.frames ∙ depth_is c.self.inside.program (core c.self.inside)
+    ∙ ap (λ (m : Machine). spec.depth m.image m.core) c.self.view_is

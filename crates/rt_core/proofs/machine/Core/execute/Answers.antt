@@ -13,6 +13,7 @@ invariant_of-self-else-changes_a_mask c =
       active = search rules;
       falling = search rules;
       execution = c.self.invariant.execution
-          ∙ execution_kept c.self.inside.nvic c.args.instr c.self.inside.time c.self.inside.registers c.execute.new.registers c.self.inside.frames.slots c.deref_mut.result.now
+          ∙ execution_kept c.self.inside.nvic c.args.instr c.self.inside.time c.self.inside.registers
+          c.execute.new.registers c.self.inside.frames.slots c.deref_mut.result.now
           c.execute.new.self.slots c.execute.new.cells c.in_ok-asked.asked keeps c.in_ok-asked.ensures.effect;
     }

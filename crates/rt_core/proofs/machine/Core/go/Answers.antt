@@ -13,7 +13,8 @@ returns-in_default-2 c =
     let after = c.execute-asked.new.self.core.processor in
     let address = c.self.inside.registers.address in
     let there : address < length c.self.inside.program.code =
-    slice_get_within c.self.inside.program.code address (c.in-Some.instr, c.in-Some.note) (sym c.line.ensures ∙ c.in-Some.is) in
+    slice_get_within c.self.inside.program.code address (c.in-Some.instr, c.in-Some.note)
+    (sym c.line.ensures ∙ c.in-Some.is) in
     let room : address + 1 < 2 ^ 32 = omega (arith, there, c.self.invariant.runnable.sizes.code_short) in
     let here = subst (λ (m : Machine). m.core.processor.address + 1 < 2 ^ 32) c.self.view_is room in
     record {
@@ -21,7 +22,9 @@ returns-in_default-2 c =
       inside = λ irq same. absurd (cc);
       next = λ is row from asked.
           let leads : effect c.in-Some.instr before.time before.processor ≡ Leads after (request.Call row from) =
-          subst (λ r. IfOk r (λ a. effect c.in-Some.instr before.time before.processor ≡ Leads after a)) asked c.execute-asked.ensures.ok in
-          subst (λ (p : Processor). p.address + 1 < 2 ^ 32) (sym (call_stays c.in-Some.instr before.time before.processor after row from leads)) here;
+          subst (λ r. IfOk r (λ a. effect c.in-Some.instr before.time before.processor ≡ Leads after a)) asked
+          c.execute-asked.ensures.ok in
+          subst (λ (p : Processor). p.address + 1 < 2 ^ 32)
+          (sym (call_stays c.in-Some.instr before.time before.processor after row from leads)) here;
       rest = search rules;
     }

@@ -8,7 +8,9 @@ use Rattle.rt_core.proofs.machine.Core.irq_to_take.Goals as goal
 
 pub returns : goal.returns
 returns c =
-    let picked : IsPicked c.self.inside.nvic c.self.inside.execution c.pick.result = record { ready = c.pick.ensures.ready; first = c.pick.ensures.first; none = c.pick.ensures.none } in
-    picked_is c.self.inside.program c.self.invariant.runnable (core c.self.inside) c.self.inside.nvic c.pick.ensures.sizes refl c.self.invariant.priorities c.pick.result
+    let picked : IsPicked c.self.inside.nvic c.self.inside.execution c.pick.result =
+    record { ready = c.pick.ensures.ready; first = c.pick.ensures.first; none = c.pick.ensures.none } in
+    picked_is c.self.inside.program c.self.invariant.runnable (core c.self.inside) c.self.inside.nvic
+    c.pick.ensures.sizes refl c.self.invariant.priorities c.pick.result
     (subst (λ e. IsPicked c.self.inside.nvic e c.pick.result) (kept_is c.self.inside c.self.invariant) picked)
     ∙ ap (λ (m : Machine). option_map (λ row. row.number) (priority.pick m.image m.core)) c.self.view_is

@@ -5,4 +5,5 @@ use Rattle.rt_ids.proofs.names.Names.irq_named.Goals as goal
 
 pub returns : goal.returns
 returns c =
-    c.copied.ensures ∙ c.get.ensures.value ∙ looked_up (bytes_eq c.args.name.now) c.self.inside.irqs.entries ∙ ap (λ names. irq_of names c.args.name.now) c.self.view_is
+    c.copied.ensures ∙ c.get.ensures.value ∙ looked_up (bytes_eq c.args.name.now) c.self.inside.irqs.entries
+    ∙ ap (λ names. irq_of names c.args.name.now) c.self.view_is

@@ -6,10 +6,12 @@ use Rattle.rt_ids.proofs.names.Names.task_named.Goals as goal
 
 pub returns-in-Some : goal.returns-in-Some
 returns-in-Some c =
-    sym c.in-Some.is ∙ c.get_index_of.ensures.index ∙ sym (position-map text (bytes_eq c.args.name.now) c.self.inside.tasks.keys)
+    sym c.in-Some.is ∙ c.get_index_of.ensures.index
+    ∙ sym (position-map text (bytes_eq c.args.name.now) c.self.inside.tasks.keys)
     ∙ ap (λ names. task_of names c.args.name.now) c.self.view_is
 
 pub returns-in-None : goal.returns-in-None
 returns-in-None c =
-    sym c.in-None.is ∙ c.get_index_of.ensures.index ∙ sym (position-map text (bytes_eq c.args.name.now) c.self.inside.tasks.keys)
+    sym c.in-None.is ∙ c.get_index_of.ensures.index
+    ∙ sym (position-map text (bytes_eq c.args.name.now) c.self.inside.tasks.keys)
     ∙ ap (λ names. task_of names c.args.name.now) c.self.view_is

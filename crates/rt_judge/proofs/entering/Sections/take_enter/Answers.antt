@@ -1,4 +1,5 @@
-use Rattle.std.proofs.Common.{◌≡◌, ◌&&◌, ◌++◌, ◌∷◌, [], List, not, Some, slice_get, refl, sym, ap, subst, ◌∙◌, IsTrue, OnOk}
+use Rattle.std.proofs.Common.{◌≡◌, ◌&&◌, ◌++◌, ◌∷◌, [], List, not, Some, slice_get, refl, sym, ap, subst, ◌∙◌, IsTrue}
+use Rattle.std.proofs.Common.{OnOk}
 use Rattle.std.specs.List.{list_any}
 use Rattle.rt_ids.specs.Holder.{is_same_section}
 use Rattle.rt_code.specs.declared.instr.Note.TheVariants as note
@@ -24,12 +25,15 @@ returns c = on_ok_weaker c.enter.result _ _ (λ rows address ps at tells.
     let behind = c.open_sections-2.ensures ∙ c.in_ok-behind.ensures ∙ ap (λ n. inside_after i n inside) c.requires in
     let stands = at ∙ ap (λ n. Some (i, n)) c.requires in
     let value : IsValueOf img p e.value = subst (IsValueOf img p) (sym c.outside_value.ensures) (value_of_next img p) in
-    let here = c.is_inside-is_inside.ensures ∙ ap (list_any (λ o. is_same_section o.section x)) c.open_sections.ensures in
-    let free = elim c.if-self.branch as (λ _. c.enter.new.self.free ≡ (c.args.self.now.free && not (list_any (λ o. is_same_section o.section x) inside))) [
+    let here = c.is_inside-is_inside.ensures ∙ ap (list_any (λ o. is_same_section o.section x))
+    c.open_sections.ensures in
+    let free = elim c.if-self.branch as (λ _. c.enter.new.self.free
+    ≡ (c.args.self.now.free && not (list_any (λ o. is_same_section o.section x) inside))) [
       | then-self w ↦ c.enter.ensures.free ∙ w.self-is ∙ ap not here
           ∙ sym (ap (λ b. b && not (list_any (λ o. is_same_section o.section x) inside)) w.if-self.true)
       | else-self w ↦ c.enter.ensures.free ∙ w.self-is ∙ w.if-self.false
           ∙ sym (ap (λ b. b && not (list_any (λ o. is_same_section o.section x) inside)) w.if-self.false)
     ] in
-    takes_enter img ps p i x stands e refl (c.execution_priority.ensures ∙ ap (execution_priority img c.args.owner) behind) value
+    takes_enter img ps p i x stands e refl (c.execution_priority.ensures
+    ∙ ap (execution_priority img c.args.owner) behind) value
     c.args.self.now c.enter.new.self tells free rows) c.enter.ensures.rows

@@ -18,10 +18,12 @@ returns c = on_ok_weaker c.take-2.result _ _ (λ cells address ps at found.
     record {
       addresses = has_line img ps p line.0 line.1 at self.addresses found.addresses;
       operands = operates img ps p line.0 line.1 at self.operands can.result found.operands
-          (subst (λ (o : List Opened). IsTrue can.result ↔ IsOperable img (point address owner o) line.0) c.open_sections.ensures
+          (subst (λ (o : List Opened). IsTrue can.result ↔ IsOperable img (point address owner o) line.0)
+          c.open_sections.ensures
           (can.ensures address));
       notes = notes img ps p line.0 line.1 at self.notes may.result found.notes
-          (subst (λ (o : List Opened). IsTrue may.result ↔ IsNotedWell img (point address owner o) line.0 line.1) c.open_sections-2.ensures
+          (subst (λ (o : List Opened). IsTrue may.result ↔ IsNotedWell img (point address owner o) line.0 line.1)
+          c.open_sections-2.ensures
           (may.ensures address));
       sections = c.in_ok-take.ensures address ps at found.sections;
       cells = cells address ps at found.cells;

@@ -8,7 +8,8 @@ use Rattle.rt_judge.proofs.touching.Cells.take.Goals as goal
 
 pub returns-in-None-clause-told : goal.returns-in-None-clause-told
 returns-in-None-clause-told c address ps at tells =
-    takes_no_touch c.args.image.now ps (point address c.args.owner c.args.nesting.now) c.args.line.now.0 c.args.line.now.1 at
+    takes_no_touch c.args.image.now ps (point address c.args.owner c.args.nesting.now) c.args.line.now.0
+    c.args.line.now.1 at
     c.args.self.now.rows.items c.in-None.ensures tells
 
 pub returns-else-touch-len-clause-told : goal.returns-else-touch-len-clause-told
@@ -18,7 +19,8 @@ returns-else-touch-len-clause-told c address ps at tells =
     let is = c.in-Some.ensures in
     let made = access_of_touch line.0 touch is.2 is.3 in
     let past : length c.args.self.now.rows.items ≤ touch.cell = search rules in
-    takes_outer_touch c.args.image.now ps (point address c.args.owner c.args.nesting.now) line.0 line.1 at touch made.access
+    takes_outer_touch c.args.image.now ps (point address c.args.owner c.args.nesting.now) line.0 line.1 at touch
+    made.access
     is.0 is.1 made.by made.at made.stores c.args.self.now.rows.items past tells
 
 pub returns-then-touch-len-clause-told : goal.returns-then-touch-len-clause-told
@@ -29,6 +31,8 @@ returns-then-touch-len-clause-told c = on_ok_weaker c.touch.result _ _ (λ done 
     let made = access_of_touch line.0 touch is.2 is.3 in
     let old = c.args.self.now.rows.items in
     let new = c.touch.new.self.rows.items in
-    takes_inner_touch c.args.image.now ps (point address c.args.owner c.args.nesting.now) line.0 line.1 at touch made.access
+    takes_inner_touch c.args.image.now ps (point address c.args.owner c.args.nesting.now) line.0 line.1 at touch
+    made.access
     is.0 is.1 made.by made.at made.stores old new
-    (subst (λ (opened : List Opened). IsTouched old new touch opened) c.open_sections.ensures done) tells) c.touch.ensures.touched
+    (subst (λ (opened : List Opened). IsTouched old new touch opened) c.open_sections.ensures done) tells)
+    c.touch.ensures.touched

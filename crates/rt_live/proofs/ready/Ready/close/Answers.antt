@@ -27,7 +27,8 @@ returns-clause-closes c =
     let ended : List AccountRow = c.settle.new.rows in
     let held : length front ≡ c.self.inside.rows.len = c.gather_all.auto.rows ∙ c.deref_mut.ensures.len in
     let lent : c.deref_mut-2.result.now ≡ front =
-    c.deref_mut-2.ensures.value ∙ take_at front (drop (length front) c.self.inside.rows.items) c.self.inside.rows.len held in
+    c.deref_mut-2.ensures.value ∙ take_at front (drop (length front) c.self.inside.rows.items) c.self.inside.rows.len
+    held in
     let whole : length ended ≡ c.self.inside.rows.len = c.settle.auto.rows ∙ c.deref_mut-2.ensures.len in
     let mid : List AccountRow =
     take c.self.inside.rows.len (front ++ drop (length front) c.self.inside.rows.items) in
@@ -37,7 +38,8 @@ returns-clause-closes c =
     ∙ c.settle.ensures ∙ ap (map (settled_row counts bits)) lent in
     subst (λ (ready : Prepared). Closes ready out) c.self.view_is
     (subst (Closes _) (sym rows)
-    (closes _ c.self.invariant c.gather_all.new.line c.gather_all.ensures.line bits c.close-left.ensures.history counts front
+    (closes _ c.self.invariant c.gather_all.new.line c.gather_all.ensures.line bits c.close-left.ensures.history counts
+    front
     c.gather_all.ensures.counted (c.gather_all.ensures.irqs ∙ ap irqs_of c.deref_mut.ensures.value)
     c.close-left.ensures.latched c.close-left.ensures.silent))
 

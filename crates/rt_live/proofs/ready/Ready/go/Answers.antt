@@ -50,7 +50,8 @@ gather_all-requires-clause-devices g c =
     let devices = c.self.inside.devices in
     let as_many : length ended ≡ length devices.items =
     omega (arith, c.beside-done.auto.devices, ap length c.deref_mut.ensures.value) in
-    let worked = subst (λ (ds : List Device). AllWork ds ended) c.deref_mut.ensures.value c.beside-done.ensures.worked in
+    let worked = subst (λ (ds : List Device). AllWork ds ended) c.deref_mut.ensures.value
+    c.beside-done.ensures.worked in
     subst (AllByRecursion (λ (d : Device). d.line.words ≡ c.self.inside.words))
     (sym (taken_back ended devices.items devices.len as_many (omega (arith, devices.ok.0))))
     (words_ended _ c.self.invariant c.beside-done.new.line c.beside-done.ensures.same ended worked as_many)
@@ -61,7 +62,8 @@ gather_all-requires-clause-room g c =
     let devices = c.self.inside.devices in
     let as_many : length ended ≡ length devices.items =
     omega (arith, c.beside-done.auto.devices, ap length c.deref_mut.ensures.value) in
-    let worked = subst (λ (ds : List Device). AllWork ds ended) c.deref_mut.ensures.value c.beside-done.ensures.worked in
+    let worked = subst (λ (ds : List Device). AllWork ds ended) c.deref_mut.ensures.value
+    c.beside-done.ensures.worked in
     subst (λ (ds : List Device). calls_gathered c.beside-done.new.line.gathered + calls_made ds + 2 ^ 32 ≤ 2 ^ 64)
     (sym (taken_back ended devices.items devices.len as_many (omega (arith, devices.ok.0))))
     (room_ended _ c.self.invariant c.beside-done.new.line c.beside-done.ensures.same ended worked as_many)
@@ -73,7 +75,8 @@ invariant_of-self g c =
     let rows = c.self.inside.rows in
     let as_many : length ended ≡ length devices.items =
     omega (arith, c.beside-done.auto.devices, ap length c.deref_mut.ensures.value) in
-    let worked = subst (λ (ds : List Device). AllWork ds ended) c.deref_mut.ensures.value c.beside-done.ensures.worked in
+    let worked = subst (λ (ds : List Device). AllWork ds ended) c.deref_mut.ensures.value
+    c.beside-done.ensures.worked in
     ready_again _ c.self.invariant c.beside-done.new.line c.beside-done.ensures.same ended worked as_many devices.len
     (omega (arith, devices.ok.0)) c.gather_all.new.line c.gather_all.ensures.line c.gather_all.new.rows
     c.gather_all.ensures.counted (c.gather_all.ensures.irqs ∙ ap irqs_of c.deref_mut-2.ensures.value) rows.len
@@ -103,7 +106,8 @@ end-requires-clause-able g c =
     (record { lines = c.requires.lines; known = fresh_known core c.requires.fresh }) refl in
     let run = c.in_ok-done.ensures.ok in
     record {
-      writable = still_writable (interleaving (own_turns c.lines-lines.result.now) run.found) core _ run.sends.leads able.writable;
+      writable = still_writable (interleaving (own_turns c.lines-lines.result.now) run.found) core _ run.sends.leads
+          able.writable;
       words =
           ap (λ (l : Core). l.words) c.gather_all.ensures.line
           ∙ same_words (take c.self.inside.devices.len (c.beside-done.new.devices
@@ -139,7 +143,8 @@ end-requires-clause-room g c =
       ap length c.requires.unused,
       ap (λ (l : Core). length l.calls) c.gather_all.ensures.line,
       ap length
-          (same_calls (take c.self.inside.devices.len (c.beside-done.new.devices ++ drop (length c.beside-done.new.devices)
+          (same_calls (take c.self.inside.devices.len (c.beside-done.new.devices
+          ++ drop (length c.beside-done.new.devices)
           c.self.inside.devices.items)) c.beside-done.new.line),
     )
 
@@ -150,7 +155,8 @@ invariant_of-self-2 g c =
     let rows = c.self.inside.rows in
     let as_many : length ended ≡ length devices.items =
     omega (arith, c.beside-done.auto.devices, ap length c.deref_mut.ensures.value) in
-    let worked = subst (λ (ds : List Device). AllWork ds ended) c.deref_mut.ensures.value c.beside-done.ensures.worked in
+    let worked = subst (λ (ds : List Device). AllWork ds ended) c.deref_mut.ensures.value
+    c.beside-done.ensures.worked in
     ready_calls _
     (ready_again _ c.self.invariant c.beside-done.new.line c.beside-done.ensures.same ended worked as_many devices.len
     (omega (arith, devices.ok.0)) c.gather_all.new.line c.gather_all.ensures.line c.gather_all.new.rows
@@ -168,7 +174,8 @@ returns-clause-ok g c =
     let turns_are = ap own_turns (c.lines-lines.ensures.lines ∙ ap (λ (r : Prepared). r.script) c.self.view_is) in
     let from = ap (λ (r : Prepared). r.line.calls) c.self.view_is ∙ c.requires.unused in
     let to = sym (ap (λ (l : Core). l.calls) c.gather_all.ensures.line ∙ same_calls given c.beside-done.new.line) in
-    let own = goes_same _ (own_turns script) _ [] _ line.calls c.args.core.now c.beside-done.new.core _ _ turns_are from to
+    let own = goes_same _ (own_turns script) _ [] _ line.calls c.args.core.now c.beside-done.new.core _ _ turns_are from
+    to
     c.in_ok-done.ensures.ok in
     let us = replicate c.beside-done.new.core.steps (Happens Step) in
     let all = all_turns script [] line.calls c.args.core.now c.beside-done.new.core _ _ c.requires.fresh own in
@@ -196,7 +203,8 @@ returns-clause-err g c =
     let turns_are = ap own_turns (c.lines-lines.ensures.lines ∙ ap (λ (r : Prepared). r.script) c.self.view_is) in
     let from = ap (λ (r : Prepared). r.line.calls) c.self.view_is ∙ c.requires.unused in
     let to = sym (ap (λ (l : Core). l.calls) c.gather_all.ensures.line ∙ same_calls given c.beside-done.new.line) in
-    let own = goes_same _ (own_turns script) _ [] _ line.calls c.args.core.now c.beside-done.new.core _ _ turns_are from to
+    let own = goes_same _ (own_turns script) _ [] _ line.calls c.args.core.now c.beside-done.new.core _ _ turns_are from
+    to
     c.in_ok-done.ensures.ok in
     let us = replicate c.beside-done.new.core.steps (Happens Step) in
     let all = all_turns script [] line.calls c.args.core.now c.beside-done.new.core _ _ c.requires.fresh own in

@@ -18,7 +18,8 @@ use Rattle.rt_live.proofs.ready.Ready.of.Goals as goal
 pub devices_of-requires-clause-may : goal.devices_of-requires-clause-may
 devices_of-requires-clause-may c =
     let names = c.args.core.now.image.names in
-    let named : c.behind-core.inside.names ≡ names = ap (λ (i : Image). i.names) (c.behind-core.view_is ∙ c.image.ensures) in
+    let named : c.behind-core.inside.names ≡ names = ap (λ (i : Image). i.names)
+    (c.behind-core.view_is ∙ c.image.ensures) in
     let table : c.in_ok-rows.rows.items ≡ map empty_row (declared_irqs names) =
     c.in_ok-rows.ensures ∙ ap (λ (n : Names). map empty_row (declared_irqs n)) named in
     let bits : c.in_ok-words.words.may ≡ c.bits_of.result = c.in_ok-words.ensures.words.1 in
@@ -29,12 +30,14 @@ devices_of-requires-clause-may c =
     subst (λ (may : List ℕ). IsPending may irq ↔ Contains (irqs_of c.in_ok-rows.rows.items) irq) (sym bits)
     (subst (λ (rs : List AccountRow). IsPending c.bits_of.result irq ↔ Contains (irqs_of rs) irq) rows
     (c.bits_of.ensures.may irq)))
-    (λ irq. subst (λ (may : List ℕ). IsPending may irq → irq < IRQ_NUMBERS) (sym bits) (c.bits_of.ensures.in_range irq)))
+    (λ irq. subst (λ (may : List ℕ). IsPending may irq → irq < IRQ_NUMBERS) (sym bits)
+    (c.bits_of.ensures.in_range irq)))
 
 pub invariant_of-result : goal.invariant_of-result
 invariant_of-result c =
     let names = c.args.core.now.image.names in
-    let named : c.behind-core.inside.names ≡ names = ap (λ (i : Image). i.names) (c.behind-core.view_is ∙ c.image.ensures) in
+    let named : c.behind-core.inside.names ≡ names = ap (λ (i : Image). i.names)
+    (c.behind-core.view_is ∙ c.image.ensures) in
     let table : c.in_ok-rows.rows.items ≡ map empty_row (declared_irqs names) =
     c.in_ok-rows.ensures ∙ ap (λ (n : Names). map empty_row (declared_irqs n)) named in
     let bits : c.in_ok-words.words.may ≡ c.bits_of.result = c.in_ok-words.ensures.words.1 in
@@ -56,6 +59,7 @@ invariant_of-result c =
 pub returns-clause-rows : goal.returns-clause-rows
 returns-clause-rows c =
     let names = c.args.core.now.image.names in
-    let named : c.behind-core.inside.names ≡ names = ap (λ (i : Image). i.names) (c.behind-core.view_is ∙ c.image.ensures) in
+    let named : c.behind-core.inside.names ≡ names = ap (λ (i : Image). i.names)
+    (c.behind-core.view_is ∙ c.image.ensures) in
     rows_declared names c.args.script.now c.requires c.in_ok-rows.rows.items
     (c.in_ok-rows.ensures ∙ ap (λ (n : Names). map empty_row (declared_irqs n)) named)

@@ -10,7 +10,8 @@ small : (c : goal.In-loop-from) → c.from-bits.result < 2 ^ 32
 small c = let f = c.type_inv.words c.from.result in let e = c.from-bits.ensures in omega arith
 
 pub with_number-best-requires-clause-number : goal.with_number-best-requires-clause-number
-with_number-best-requires-clause-number c = number_of_step c.args.words.now c.args.k c.from-bits.result c.loop-from.from (word_of c) (small c) c.loop-from-test.true c.requires.within
+with_number-best-requires-clause-number c = number_of_step c.args.words.now c.args.k c.from-bits.result c.loop-from.from
+    (word_of c) (small c) c.loop-from-test.true c.requires.within
 
 pub loop-from-preserved : goal.loop-from-preserved
 loop-from-preserved c =
@@ -20,7 +21,9 @@ loop-from-preserved c =
     let low : w < 2 ^ 32 = let f = c.type_inv.words c.from.result in let e = c.from-bits.ensures in omega arith in
     record {
       within = place_of_step ws c.args.k w c.loop-from.from e low c.loop-from-test.true;
-      best = best_of_step c.args.priorities.now ws c.args.k w c.loop-from.from c.loop-from.best c.with_number-best.result e low c.loop-from-test.true c.with_number-best.ensures.low c.with_number-best.ensures.value c.loop-from.invariant.best;
+      best = best_of_step c.args.priorities.now ws c.args.k w c.loop-from.from c.loop-from.best
+          c.with_number-best.result e low c.loop-from-test.true c.with_number-best.ensures.low
+          c.with_number-best.ensures.value c.loop-from.invariant.best;
     }
 
 pub returns : goal.returns
@@ -30,4 +33,5 @@ returns c =
     let w = c.from-bits.result in
     let e : w ≡ get_or ws k 0 = c.from-bits.ensures ∙ ap (λ (i : ℕ). get_or ws i 0) c.from.ensures in
     let l = c.loop-from.invariant.within in
-    scanned_past c.args.priorities.now ws (32 * k + c.loop-from.from) (32 * k + 32) c.loop-from.best (omega arith) (none_from ws k w c.loop-from.from e c.loop-from-test.false) c.loop-from.invariant.best
+    scanned_past c.args.priorities.now ws (32 * k + c.loop-from.from) (32 * k + 32) c.loop-from.best (omega arith)
+    (none_from ws k w c.loop-from.from e c.loop-from-test.false) c.loop-from.invariant.best

@@ -4,4 +4,7 @@ use Rattle.rt_ids.specs.Arrivals.{arrivals_below, pending_with}
 use Rattle.rt_nvic.proofs.nvic.Nvic.arrive.Given as goal
 
 abbrev pub invariant-loop-bit : goal.invariant-loop-bit
-invariant-loop-bit l = l.self ≡ record l.initial.self { pending = pending_with (arrivals_below l.k l.bits l.bit) l.initial.self.pending }
+invariant-loop-bit l = l.self ≡ record l.initial.self {
+  pending = pending_with (arrivals_below l.k l.bits l.bit)
+      l.initial.self.pending;
+}

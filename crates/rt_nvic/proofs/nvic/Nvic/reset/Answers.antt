@@ -18,14 +18,27 @@ invariant_of-self c =
     let is = c.self.inside in
     let fixed = c.self.invariant.fixed in
     let best = c.of-self-inside.result in
-    let chosen = subst (λ (words : List ℕ). IsBestOf is.priorities words IRQ_NUMBERS best) c.none-self-inside.ensures c.of-self-inside.ensures in
-    subst (λ (words : List ℕ). IsKept is.priorities (replicate WORDS 0) is.active ACTIVE words best) (sym c.none-self-inside.ensures)
+    let chosen = subst (λ (words : List ℕ). IsBestOf is.priorities words IRQ_NUMBERS best) c.none-self-inside.ensures
+    c.of-self-inside.ensures in
+    subst (λ (words : List ℕ). IsKept is.priorities (replicate WORDS 0) is.active ACTIVE words best)
+    (sym c.none-self-inside.ensures)
     (kept_cleared is.priorities is.active best fixed.priorities_long fixed.active_long chosen)
 
 pub returns : goal.returns
 returns c =
     let is = c.self.inside in
     let all : length is.active ≤ ACTIVE = let long = c.self.invariant.fixed.active_long in omega arith in
-    ap (λ (pending : List Bool). record { priorities = is.priorities; pending = pending; active = drop ACTIVE is.active }) flags_none
-    ∙ ap (λ (active : List ℕ). record { priorities = is.priorities; pending = replicate IRQ_NUMBERS false; active = active }) (drop_of_length-le is.active all)
-    ∙ ap (λ (n : Nvic). record { priorities = n.priorities; pending = replicate IRQ_NUMBERS false; active = [] }) c.self.view_is
+    ap (λ (pending : List Bool). record {
+      priorities = is.priorities;
+      pending = pending;
+      active =
+          drop ACTIVE is.active;
+    }) flags_none
+    ∙ ap (λ (active : List ℕ). record {
+      priorities = is.priorities;
+      pending = replicate IRQ_NUMBERS false;
+      active =
+          active;
+    }) (drop_of_length-le is.active all)
+    ∙ ap (λ (n : Nvic). record { priorities = n.priorities; pending = replicate IRQ_NUMBERS false; active = [] })
+    c.self.view_is

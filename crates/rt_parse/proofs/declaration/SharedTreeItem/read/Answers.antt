@@ -3,4 +3,5 @@ use Rattle.rt_parse.proofs.ShorterDeclaration.{shorter_resource}
 use Rattle.rt_parse.proofs.declaration.SharedTreeItem.read.Goals as goal
 
 pub returns-clause-shorter : goal.returns-clause-shorter
-returns-clause-shorter c = given_shorter (shorter_resource c.args.before) c.args.tokens c.resource.result c.resource.ensures
+returns-clause-shorter c = given_shorter (shorter_resource c.args.before) c.args.tokens c.resource.result
+    c.resource.ensures

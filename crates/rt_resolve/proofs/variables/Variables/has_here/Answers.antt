@@ -6,9 +6,11 @@ use Rattle.rt_resolve.proofs.variables.Variables.has_here.Goals as goal
 pub returns-in-Some : goal.returns-in-Some
 returns-in-Some c =
     rw (← c.self.view_is, ← length-reverse c.self.inside.bindings.items)
-    (ap (is_within c.self.inside.outer) (c.in-Some.ensures.value ∙ c.self.invariant.meanings c.args.name.now) ∙ is_here c.args.name.now c.self.inside.outer (reverse c.self.inside.bindings.items))
+    (ap (is_within c.self.inside.outer) (c.in-Some.ensures.value ∙ c.self.invariant.meanings c.args.name.now)
+    ∙ is_here c.args.name.now c.self.inside.outer (reverse c.self.inside.bindings.items))
 
 pub returns-in-None : goal.returns-in-None
 returns-in-None c =
     rw (← c.self.view_is, ← length-reverse c.self.inside.bindings.items)
-    (ap (is_within c.self.inside.outer) (c.in-None.ensures.value ∙ c.self.invariant.meanings c.args.name.now) ∙ is_here c.args.name.now c.self.inside.outer (reverse c.self.inside.bindings.items))
+    (ap (is_within c.self.inside.outer) (c.in-None.ensures.value ∙ c.self.invariant.meanings c.args.name.now)
+    ∙ is_here c.args.name.now c.self.inside.outer (reverse c.self.inside.bindings.items))

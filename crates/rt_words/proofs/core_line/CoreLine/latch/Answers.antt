@@ -9,11 +9,14 @@ use Rattle.rt_words.proofs.core_line.CoreLine.latch.Goals as goal
 pub fetch_and-found-requires : goal.fetch_and-found-requires
 fetch_and-found-requires c =
     let e = c.from.ensures in
-    let few : c.args.words.now.table.words ≡ c.words.inside.table.shared.table_id.words = ap (λ (r : Row). r.table.words) (sym c.words.view_is) in
+    let few : c.args.words.now.table.words ≡ c.words.inside.table.shared.table_id.words =
+    ap (λ (r : Row). r.table.words) (sym c.words.view_is) in
     let l = c.requires.word in (
-      ap (λ (l : Core). l.words.table) c.self.view_is ∙ ap (λ (r : Row). r.table) c.requires.words ∙ sym (ap (λ (r : Row). r.table) c.words.view_is),
+      ap (λ (l : Core). l.words.table) c.self.view_is ∙ ap (λ (r : Row). r.table) c.requires.words
+          ∙ sym (ap (λ (r : Row). r.table) c.words.view_is),
       omega arith,
-      latches c.words.inside.table.shared.key c.words.inside.table.shared.table_id.slots c.self.inside.seat.id c.from.result c.self.inside.seat.me c.self.invariant.first,
+      latches c.words.inside.table.shared.key c.words.inside.table.shared.table_id.slots c.self.inside.seat.id
+          c.from.result c.self.inside.seat.me c.self.invariant.first,
     )
 
 pub invariant_of-self : goal.invariant_of-self

@@ -7,15 +7,18 @@ use Rattle.rt_words.proofs.Tallies.{after_made, new_device}
 use Rattle.rt_words.proofs.core_line.CoreLine.split.Goals as goal
 
 pub reserve-requires-clause-seat : goal.reserve-requires-clause-seat
-reserve-requires-clause-seat c = ap (λ (l : Core). l.words.table) c.self.view_is ∙ ap (λ (r : Row). r.table) c.requires.words
+reserve-requires-clause-seat c = ap (λ (l : Core). l.words.table) c.self.view_is
+    ∙ ap (λ (r : Row). r.table) c.requires.words
 
 pub split_seat-seat-requires : goal.split_seat-seat-requires
 split_seat-seat-requires c =
     let r = c.reserve.ensures in
     let some = c.words.invariant.some in (
-      r.seat.0 ∙ ap (λ (l : Core). l.words.table) c.self.view_is ∙ ap (λ (r : Row). r.table) c.requires.words ∙ sym (ap (λ (r : Row). r.table) c.words.view_is),
+      r.seat.0 ∙ ap (λ (l : Core). l.words.table) c.self.view_is ∙ ap (λ (r : Row). r.table) c.requires.words
+          ∙ sym (ap (λ (r : Row). r.table) c.words.view_is),
       omega arith,
-      splits c.words.inside.table.shared.key c.reserve.new.seat.id c.reserve.new.seat.me.0 (r.seat.1 ∙ c.self.invariant.first),
+      splits c.words.inside.table.shared.key c.reserve.new.seat.id c.reserve.new.seat.me.0
+          (r.seat.1 ∙ c.self.invariant.first),
     )
 
 pub load-requires : goal.load-requires
@@ -23,9 +26,11 @@ load-requires c =
     let r = c.reserve.ensures in
     let s = c.split_seat-seat.ensures in
     let some = c.words.invariant.some in (
-      s.3 ∙ r.seat.0 ∙ ap (λ (l : Core). l.words.table) c.self.view_is ∙ ap (λ (r : Row). r.table) c.requires.words ∙ sym (ap (λ (r : Row). r.table) c.words.view_is),
+      s.3 ∙ r.seat.0 ∙ ap (λ (l : Core). l.words.table) c.self.view_is ∙ ap (λ (r : Row). r.table) c.requires.words
+          ∙ sym (ap (λ (r : Row). r.table) c.words.view_is),
       omega arith,
-      takes c.words.inside.table.shared.key c.words.inside.table.shared.table_id.slots c.split_seat-seat.result.id c.args.number c.split_seat-seat.result.me
+      takes c.words.inside.table.shared.key c.words.inside.table.shared.table_id.slots c.split_seat-seat.result.id
+          c.args.number c.split_seat-seat.result.me
           (ap (λ (m : Seat). m.0.stage) s.4)
           (ap (λ (m : Seat). m.0.reserved) s.4 ∙ ap (λ (m : Seat). m.0.reserved) r.view),
     )
@@ -34,7 +39,8 @@ pub invariant_of-self : goal.invariant_of-self
 invariant_of-self c =
     let r = c.reserve.ensures in
     let s = c.split_seat-seat.ensures in
-    after_made c.self.inside.seat.id _ c.args.number c.self.inside.seat.me _ c.self.inside.latched c.self.invariant (s.1 ∙ r.seat.1) (s.2 ∙ ap (λ (m : Seat). (without_reserved m.0, m.1)) r.view)
+    after_made c.self.inside.seat.id _ c.args.number c.self.inside.seat.me _ c.self.inside.latched c.self.invariant
+    (s.1 ∙ r.seat.1) (s.2 ∙ ap (λ (m : Seat). (without_reserved m.0, m.1)) r.view)
 
 pub invariant_of-result : goal.invariant_of-result
 invariant_of-result c =

@@ -13,8 +13,10 @@ returns-clause-history c =
     let whole = subst (λ (l : Core). AllGathered l.made l.gathered) (sym c.line.view_is) c.requires.gathered in
     subst (λ (l : Core). OneHistory l c.bits_in-bits.result) c.line.view_is
     (
-    ends_history c.self.inside.table.shared.key (slots_items c.close_with.result.words) c.bits_in-bits.result (slots_items c.close_with.result.slots) c.line.inside.seat.id c.line.inside.seat.me c.line.inside.latched
-    (record { table = c.line.inside.seat.table_id; may = c.line.inside.seat.me.0.may }) c.line.invariant c.close_with.ensures.values.2 c.bits_in-bits.ensures whole
+    ends_history c.self.inside.table.shared.key (slots_items c.close_with.result.words) c.bits_in-bits.result
+    (slots_items c.close_with.result.slots) c.line.inside.seat.id c.line.inside.seat.me c.line.inside.latched
+    (record { table = c.line.inside.seat.table_id; may = c.line.inside.seat.me.0.may }) c.line.invariant
+    c.close_with.ensures.values.2 c.bits_in-bits.ensures whole
     )
 
 pub returns-clause-behind : goal.returns-clause-behind
@@ -27,11 +29,16 @@ returns-clause-behind c = λ k l.
 pub returns-clause-account : goal.returns-clause-account
 returns-clause-account c =
     let whole = subst (λ (l : Core). AllGathered l.made l.gathered) (sym c.line.view_is) c.requires.gathered in
-    subst (λ (l : Core). (irq : ℕ) → irq < 512 → sum_by (λ (p : Part). raised_count irq p.calls) l.gathered ≡ slice_index c.line.inside.latched irq + pending_bit c.bits_in-bits.result irq) c.line.view_is
-    (ends_balanced c.self.inside.table.shared.key (slots_items c.close_with.result.words) c.bits_in-bits.result (slots_items c.close_with.result.slots) c.line.inside.seat.id c.line.inside.seat.me c.line.inside.latched c.line.invariant c.close_with.ensures.values.2 c.bits_in-bits.ensures whole)
+    subst (λ (l : Core). (irq : ℕ) → irq < 512 → sum_by (λ (p : Part). raised_count irq p.calls) l.gathered
+    ≡ slice_index c.line.inside.latched irq + pending_bit c.bits_in-bits.result irq) c.line.view_is
+    (ends_balanced c.self.inside.table.shared.key (slots_items c.close_with.result.words) c.bits_in-bits.result
+    (slots_items c.close_with.result.slots) c.line.inside.seat.id c.line.inside.seat.me c.line.inside.latched
+    c.line.invariant c.close_with.ensures.values.2 c.bits_in-bits.ensures whole)
 
 pub returns-clause-silent : goal.returns-clause-silent
 returns-clause-silent c =
     let whole = subst (λ (l : Core). AllGathered l.made l.gathered) (sym c.line.view_is) c.requires.gathered in
     subst (λ (l : Core). LatchedAreZero (drop l.since l.calls) c.bits_in-bits.result) c.line.view_is
-    (ends_silent c.self.inside.table.shared.key (slots_items c.close_with.result.words) c.bits_in-bits.result (slots_items c.close_with.result.slots) c.line.inside.seat.id c.line.inside.seat.me.0 c.line.invariant.first c.close_with.ensures.values.2 c.bits_in-bits.ensures whole)
+    (ends_silent c.self.inside.table.shared.key (slots_items c.close_with.result.words) c.bits_in-bits.result
+    (slots_items c.close_with.result.slots) c.line.inside.seat.id c.line.inside.seat.me.0 c.line.invariant.first
+    c.close_with.ensures.values.2 c.bits_in-bits.ensures whole)

@@ -12,8 +12,10 @@ of_words-requires c =
     let zero : ℕ = 0 in (
       [],
       newcomer c.args.may,
-      opens c.args.may _ n (take-replicate n 16 zero few) few (λ irq h. let l = c.requires.covered irq h in let e = c.from.ensures in omega arith),
+      opens c.args.may _ n (take-replicate n 16 zero few) few (λ irq h. let l = c.requires.covered irq h in let e =
+          c.from.ensures in omega arith),
     )
 
 pub invariant_of-line : goal.invariant_of-line
-invariant_of-line c = let e = c.in_ok-table.ensures in new_core c.in_ok-table.seat.id c.args.may c.in_ok-table.seat.me _ e.3 e.4 c.no_counts.ensures
+invariant_of-line c = let e = c.in_ok-table.ensures in new_core c.in_ok-table.seat.id c.args.may c.in_ok-table.seat.me _
+    e.3 e.4 c.no_counts.ensures
