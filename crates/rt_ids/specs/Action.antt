@@ -32,7 +32,7 @@ pub data Action : Type 0 where
   -- it arms a message for an instant, or takes the least armed one
   Arms : (instant : ℕ) → (message : Message) → Action
   Fires : (message : Message) → Action
-  -- it takes back the armed message of a task that has a handle, or puts it to another instant
+  -- it cancels the armed message of a task that has a handle, or moves it to another instant
   Cancels : (task : ℕ) → (handle : ℕ) → Action
   Moves : (task : ℕ) → (handle : ℕ) → (instant : ℕ) → Action
   -- it sets the alarm to the least instant that is armed
@@ -42,7 +42,7 @@ pub data Action : Type 0 where
   -- it returns from its interrupt
   Returns : Action
 
--- what an action changes in the contents of sections: the column of changes in the table of actions
+-- the contents of resources and queues after an action: it changes one queue, or nothing
 abbrev pub effect : Action → Values → Values
 effect (Places t) vs = values_with vs (Guarded (section.Free t)) (Number (number (vs (Guarded (section.Free t))) + 1))
 effect (Frees t) vs = values_with vs (Guarded (section.Free t)) (Number (number (vs (Guarded (section.Free t))) - 1))

@@ -6,11 +6,11 @@ use Rattle.std.specs.Prelude.{slice_set}
 use Rattle.std.specs.Int.{bit_at}
 use Rattle.rt_ids.specs.Lists.{numbers_below}
 
--- the bit of an interrupt in these words: 1 where it stands, else 0
+-- the bit of an interrupt in these words: 1 where it is pending, else 0
 abbrev pub bit_of : List ℕ → ℕ → ℕ
 bit_of words irq = bit_at (slice_index words (irq / 32)) (irq % 32)
 
--- the word of this number holds the interrupt's bit
+-- whether the interrupt's bit is in the word of this number and is set in these bits of it
 abbrev pub holds : ℕ → ℕ → ℕ → Bool
 holds k bits irq = (irq / 32 == k) && (bit_at bits (irq % 32) == 1)
 
@@ -22,7 +22,7 @@ arrivals_below k bits places = map (λ bit. 32 * k + bit) (filter (λ bit. bit_a
 abbrev pub arrivals : ℕ → ℕ → List ℕ
 arrivals k bits = arrivals_below k bits 32
 
--- the pending interrupts with these too
+-- by interrupt number whether it is pending, once these interrupts are pended too
 abbrev pub pending_with : List ℕ → List Bool → List Bool
 pending_with [] pending = pending
 pending_with (irq ∷ irqs) pending = pending_with irqs (slice_set pending irq true)

@@ -22,9 +22,9 @@ pub record Armed : Type 0 where
 pub record Timed : Type 0 where
   -- how many messages were armed by a `spawn_after` so far; the last of them has this handle
   pub given : ℕ
-  -- how many times a message was put to another instant so far
+  -- how many times a message was moved to another instant so far
   pub moved : ℕ
-  -- the armed messages, in order of their last arming; to be put to another instant counts as an arming
+  -- the armed messages, in order of their last arming; a move to another instant counts as an arming
   pub armed : List Armed
 
 -- what a holder holds: a number, ready messages, or the timer queue

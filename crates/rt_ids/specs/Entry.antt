@@ -1,4 +1,4 @@
--- Which messages stand in which queue, as places: a place of a software task holds one message of it at most. Free
+-- Which messages are in which queue, as places: a place of a software task holds one message of it at most. Free
 -- places, ready messages and armed messages are lists of entries, which move from one list to another and are never
 -- copied.
 use Rattle.std.specs.Prelude.{ℕ, ◌==◌, ◌&&◌, Bool, List, count_by}
@@ -13,6 +13,6 @@ pub record Entry : Type 0 where
 abbrev pub is_same_entry : Entry → Entry → Bool
 is_same_entry a b = (a.task == b.task) && (a.place == b.place)
 
--- how often an entry stands in a list
+-- how often an entry is in a list
 abbrev pub count : Entry → List Entry → ℕ
 count e es = count_by (is_same_entry e) es

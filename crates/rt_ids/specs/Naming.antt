@@ -1,5 +1,6 @@
--- How interrupts, tasks, sections and bodies stand by name in the text of an image: interrupts, tasks and resources by
--- the names that the application declares, queues by the name of their task or the number of their level behind a dot.
+-- How interrupts, tasks, sections and bodies are named in the text of an image: interrupts, tasks and resources by the
+-- names that the application declares; queues by the kind of the queue, a dot, and the name of their task or the number
+-- of their level.
 use Rattle.std.specs.Prelude.{ℕ, ◌==◌, List, [], ◌++◌, codes, decimal, find, option_map, unwrap_or, slice_index_or}
 use Rattle.std.specs.Prelude.{Option}
 use Rattle.rt_ids.specs.Names.{Names}

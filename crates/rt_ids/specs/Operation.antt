@@ -1,7 +1,8 @@
--- What a binary operation gives on two numbers of 32 bits. The data processing instructions of the ARMv7-M Architecture
--- Reference Manual (section A5.3) wrap so, and take a shift by 32 or more as 0. That a quotient by 0 is 0, as with
--- DIV_0_TRP clear (section B3.2.8), is theirs too; that the rest of a division by 0 is the dividend, and that a
--- comparison gives 1 or 0, is the language's own. The code has no powers of 2: it shifts, and wraps as it counts.
+-- What a binary operation gives on two numbers of 32 bits. Sums, differences and products wrap as the data-processing
+-- instructions of the ARMv7-M Architecture Reference Manual do (section A4.4), where a shift by 32 to 255 gives 0 too.
+-- That a quotient by 0 is 0, as with DIV_0_TRP clear (section B3.2.8), is theirs as well. It is the language's own that
+-- a greater shift gives 0, that the rest of a division by 0 is the dividend, and that a comparison gives 1 or 0. The
+-- code has no powers of 2: it shifts, and wraps as it counts.
 use Rattle.std.specs.Prelude.{ℕ, ◌+◌, ◌-◌, ◌*◌, ◌/◌, ◌%◌, ◌^◌, ◌==◌, Bool, not, nat_lt, nat_le, if◌then◌else◌, bit_and}
 use Rattle.std.specs.Prelude.{bit_or, bit_xor}
 use Rattle.rt_ids.specs.declared.op.Op.{Op}

@@ -3,7 +3,7 @@ use Rattle.std.specs.Prelude.{ℕ}
 use Rattle.rt_ids.specs.declared.status.Status.{Status}
 use Rattle.rt_ids.specs.declared.status.Status.TheVariants.{Done, App, Usage, Text, No, Read, Write, Memory}
 
--- the exit status of an end
+-- the exit status of a command that ended so
 abbrev pub exit_status : Status → ℕ
 exit_status Done = 0
 exit_status App = 1

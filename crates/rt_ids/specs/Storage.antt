@@ -15,7 +15,7 @@ pub data Home : Type 0 where
   -- no value of the application
   Nowhere : Home
 
--- who runs: `init`, which runs at the greatest priority and so may a task, or what runs at a priority, `idle` at 0
+-- who runs: `init`, which is told from a task of the greatest priority; or what runs at a priority, `idle` at 0
 pub data Runner : Type 0 where
   Starting : Runner
   AtPriority : (priority : ℕ) → Runner

@@ -20,7 +20,7 @@ words =
 abbrev pub is_word : List ℕ → Bool
 is_word text = list_any (λ w. bytes_eq text w) words
 
--- a letter or `_`, and name bytes behind it: no text of no bytes is one
+-- a letter or `_`, then letters, digits and `_`; the empty text is none
 abbrev pub is_identifier : List ℕ → Bool
 is_identifier [] = false
 is_identifier (b ∷ rest) = is_letter b && list_all is_name_byte rest

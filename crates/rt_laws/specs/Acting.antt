@@ -1,5 +1,5 @@
 -- What the running job's next action changes: the other column of the table of Baker's machine, a line an action. What
--- is not named stays. Behind an action the job's rest runs on to the next action at once; the code runs instructions,
+-- is not named stays. After an action the job's rest runs on to the next action at once; the code runs instructions,
 -- and can be interrupted between any two.
 use Rattle.std.specs.Prelude.{ℕ, ◌-◌, true, if◌then◌else◌, List, ◌∷◌, map, drop, slice_set, Option, Some, None}
 use Rattle.rt_ids.specs.Content.{Values}
@@ -17,7 +17,7 @@ use Rattle.rt_laws.specs.Giving.{next_instant, is_due}
 abbrev pub state_after_pend : ℕ → State → State
 state_after_pend irq s = record s { pending = slice_set s.pending irq true }
 
--- a step of its body, and of each open section, is spent
+-- a job with one core step spent, of its own cost and of the cost of each open section
 abbrev pub job_after_step : Job → Job
 job_after_step job = record job { left = job.left - 1; lefts = map (λ n. n - 1) job.lefts }
 
@@ -27,12 +27,12 @@ alarm_set app instant s =
     if is_due s.time instant then state_after_pend (timer_number app) (record s { alarm = None })
     else record s { alarm = instant }
 
--- the thread as it begins `idle`, and where it waits since that is absent
+-- the thread as it begins `idle`, or as it waits where `idle` is not declared
 abbrev pub idle_job : App → Values → Option Body → Job
 idle_job app vs None = new_job Waiting 0 0 over
 idle_job app vs (Some b) = new_job Idle 0 (cost_of (cost_measure app) app.idle) (idle_doing app vs)
 
--- the clock answers the time
+-- what an action answers in a state: the time for a reading of the clock, and 0 for any other
 abbrev pub answer : State → Action → ℕ
 answer s Clocks = s.time
 answer s action = 0
@@ -42,7 +42,7 @@ module _ (app : App) (s : State) (job : Job) (others : List Job) where
   abbrev pub runs_on : Job → Values → State
   runs_on j vs = record s { jobs = j ∷ others; values = reached_values j.rest vs }
 
-  -- the state behind an action, with these values, where the job has this left to do
+  -- the state after an action, with these values, where the job has this left to do
   abbrev pub state_after_action : Action → Values → Doing Values → State
   state_after_action (Enters x cost) vs rest =
       runs_on (record (job_after_step job) {
@@ -67,7 +67,7 @@ module _ (app : App) (s : State) (job : Job) (others : List Job) where
   state_after_action Returns vs rest = record s { jobs = others }
   state_after_action action vs rest = runs_on (record (job_after_step job) { rest = rest }) vs
 
-  -- the state behind the running job's next action, and the same state where nothing is left to do
+  -- the state after the running job's next action, and the same state where nothing is left to do
   abbrev pub state_after_doing : Doing Values → State
   state_after_doing over = s
   state_after_doing (does action made next) =

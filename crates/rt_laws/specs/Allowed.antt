@@ -60,7 +60,7 @@ abbrev pub state_after_item : App → State → List Job → State
 state_after_item app s [] = s
 state_after_item app s (job ∷ others) = state_after_doing app s job others job.rest
 
--- the state behind a label
+-- the state after a label
 abbrev pub after : App → State → Label → State
 after app s (Arrived irq) = state_after_pend irq s
 after app s Ticked = record s { time = suc s.time; owing = is_due (suc s.time) s.alarm }

@@ -1,6 +1,6 @@
--- A run told by the items of its trace, one after another: between two items pass as many silent steps as their
--- numbers say. An alarm that is owed is a tick's, any other a step's; so a trace has one list of states at most. It
--- is what `Run` says, item by item.
+-- A run item by item, in the order of its trace: between two items pass as many silent steps as their numbers say. An
+-- alarm that is owed is a tick's, any other a step's; so a trace has one list of states at most. It is what `Run` says,
+-- item by item.
 use Rattle.std.specs.Prelude.{ℕ, suc, ◌-◌, ◌≤◌, Bool, if◌then◌else◌, List, [], ◌∷◌, ◌++◌, replicate, Some, None}
 use Rattle.rt_trace.specs.Label.{Label, Arrived, Ticked, Rang, Stepped}
 use Rattle.rt_trace.specs.declared.item.Item.{Item}
@@ -18,12 +18,12 @@ label_of owing what.Tick = Ticked
 label_of owing what.Alarm = if owing then Rang else Stepped (Some what.Alarm)
 label_of owing w = Stepped (Some w)
 
--- the core steps that are done behind it: one more where it is a step
+-- the core steps that are done after a label: one more where it is a step
 abbrev pub steps_after : ℕ → Label → ℕ
 steps_after n (Stepped shown) = suc n
 steps_after n label = n
 
--- the state behind labels
+-- the state after these labels
 abbrev pub after_all : App → State → List Label → State
 after_all app s [] = s
 after_all app s (label ∷ labels) = after_all app (after app s label) labels
@@ -32,13 +32,13 @@ after_all app s (label ∷ labels) = after_all app (after app s label) labels
 abbrev pub silent : ℕ → List Label
 silent n = replicate n (Stepped None)
 
--- an item comes in a state in which n steps are done, behind silent steps up to its number
+-- an item comes in a state in which n steps are done, after silent steps up to its number
 pub record Comes (app : App) (s : State) (n : ℕ) (item : Item) : Type 0 where
   pub in_order : n ≤ item.step
   pub quiet : RunsOn app s (silent (item.step - n))
   pub allowed : May app (after_all app s (silent (item.step - n))) (label_of s.owing item.what)
 
--- the state behind an item, with the silent steps before it
+-- the state after an item, with the silent steps before it
 abbrev pub after_item : App → State → ℕ → Item → State
 after_item app s n item = after app (after_all app s (silent (item.step - n))) (label_of s.owing item.what)
 

@@ -1,4 +1,4 @@
--- How far the counts of a state rise: with each label by one at most. So behind n labels that show something the time,
+-- How far the counts of a state rise: with each label by one at most. So after n labels that show something the time,
 -- the handles given, the moves, and the places that are out of each task, are n at most.
 use Rattle.std.specs.Prelude.{ℕ, suc, ◌≤◌, List, None}
 use Rattle.rt_ids.specs.Holder.{Guarded}

@@ -1,6 +1,6 @@
 -- Messages of one instant fire in the order in which they were last armed or moved: an arming and a move put their
--- message last in the timer queue, and of the messages of the least instant the first there fires. That the order is
--- that of the last arming is this project's own.
+-- message last in the timer queue, and of the messages of the least instant the first in the queue fires. That the
+-- order is that of the last arming is this project's own.
 use Rattle.std.specs.Prelude.{◌≡◌, ℕ, suc, ◌<◌, ◌≤◌, List, [], ◌∷◌, ◌++◌, Some}
 use Rattle.std.specs.List.{AllByRecursion}
 use Rattle.rt_ids.specs.Holder.{Guarded}

@@ -24,7 +24,7 @@ abbrev pub JudgedTracesKeepLaws : Type 0
 JudgedTracesKeepLaws =
     (app : App) (trace : Trace) → IsAccepted app → (judged : Judged app trace) → KeepsLaws app judged.run.labels
 
--- each leave is of the innermost section of the running job, which is what one takes it for
+-- each leave is of the section that the running job entered last, as the observer takes it
 abbrev pub RunsNestSections : Type 0
 RunsNestSections = (app : App) → IsAccepted app → (labels : List Label) → RunsOn app (first app) labels
     → SectionsNest app labels

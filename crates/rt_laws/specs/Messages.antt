@@ -1,7 +1,7 @@
 -- What holds of messages in a run, at every moment of it (Baker, Stack-Based Scheduling of Realtime Processes, 1991;
--- the RTIC 1 book, software tasks and the monotonic): spawns are full exactly where the capacity is out, messages
--- start first in, first out, and fire in order and not early; handles are of one message each; places are where they
--- are counted; and ready and due messages are served. Each has a file of its own.
+-- the RTIC 1 book, software tasks and the monotonic): a spawn finds its task full exactly where all places of the task
+-- are out; messages start first in, first out; they fire in order and not early; a handle is of one armed message; the
+-- places that are out are accounted for; and ready and due messages are served. Each has a file of its own.
 use Rattle.std.specs.Prelude.{ℕ, List, take}
 use Rattle.rt_trace.specs.Label.{Label}
 use Rattle.rt_app.specs.Tree.{App}
@@ -14,12 +14,12 @@ use Rattle.rt_laws.specs.Handles.{KeepsHandles}
 use Rattle.rt_laws.specs.Places.{CountsPlaces}
 use Rattle.rt_laws.specs.Served.{ServesReady, ServesDue}
 
--- the state behind the first so many labels
+-- the state after the first n labels
 abbrev pub state_at : App → List Label → ℕ → State
 state_at app labels n = after_all app (first app) (take n labels)
 
--- at each moment behind these labels messages are in order, have handles of their own, lie in places that are counted,
--- and are served
+-- at each moment of these labels messages are in order, have handles of their own, have their places accounted for, and
+-- are served
 pub record KeepsMessages (app : App) (labels : List Label) : Type 0 where
   pub in_order : (n : ℕ) → KeepsQueues app (state_at app labels n)
   pub handled : (n : ℕ) → KeepsHandles (state_at app labels n)

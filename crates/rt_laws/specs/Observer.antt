@@ -1,6 +1,7 @@
--- What one sees of the jobs by what a machine shows alone: the stack of jobs by takes and returns, who is inside what
--- by enters and leaves, and which interrupts are pending. Beside what is shown it takes the static priorities of the
--- application, and nothing of a machine's state: no priorities, no costs. The names of sections are the application's.
+-- What an observer knows of the jobs by what a machine shows alone: the stack of jobs by takes and returns, who is
+-- inside what by enters and leaves, and which interrupts are pending. Beside what is shown it uses the static
+-- priorities of the application. Of the machine's state it uses nothing: neither what jobs have left to do nor their
+-- costs. The names of sections are the application's.
 use Rattle.std.specs.Prelude.{ℕ, suc, ◌^◌, Bool, true, false, List, [], ◌∷◌, drop, replicate, slice_set, Some, None}
 use Rattle.rt_ids.specs.Choice.{IsIn}
 use Rattle.rt_ids.specs.declared.ids.BodyId.TheVariants as body
@@ -12,11 +13,11 @@ use Rattle.rt_trace.specs.declared.item.What.TheVariants as what
 use Rattle.rt_app.specs.Tree.{App}
 use Rattle.rt_laws.specs.Services.{priority_of, timer_number}
 
--- a job as it is seen
+-- a job as an observer sees it
 pub record Seen : Type 0 where
   pub priority : ℕ
-  -- the sections that it is inside, innermost first, and the core step in which it entered each, which names this one
-  -- section of this one job
+  -- the sections that it is inside, innermost first, and the core step in which it entered each; the step names this
+  -- one section of this one job
   pub inside : List Section
   pub since : List ℕ
 
@@ -60,7 +61,7 @@ abbrev pub seen_after_leave : Seen → Seen
 seen_after_leave job = record job { inside = drop 1 job.inside; since = drop 1 job.since }
 
 module _ (app : App) where
-  -- what the item of a step tells
+  -- what an observer learns by the item of a step
   abbrev pub sight_after_item : Observer → What → Observer
   sight_after_item v (what.Take irq depth) =
       record v { pending = slice_set v.pending irq false; jobs = outside (priority_of app irq) ∷ v.jobs }
@@ -73,7 +74,7 @@ module _ (app : App) where
   sight_after_item v (what.End body.Init) = record v { jobs = on_running (λ job. record job { priority = 0 }) v.jobs }
   sight_after_item v w = v
 
-  -- what is known behind a label
+  -- what an observer knows after a label
   abbrev pub sees : Observer → Label → Observer
   sees v (Arrived irq) = is_pended irq v
   sees v Ticked = v
@@ -81,7 +82,7 @@ module _ (app : App) where
   sees v (Stepped None) = record v { steps = suc v.steps }
   sees v (Stepped (Some w)) = record (sight_after_item v w) { steps = suc v.steps }
 
-  -- what one sees behind labels
+  -- what an observer knows after these labels
   abbrev pub sees_all : Observer → List Label → Observer
   sees_all v [] = v
   sees_all v (label ∷ labels) = sees_all (sees v label) labels

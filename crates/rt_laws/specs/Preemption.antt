@@ -1,6 +1,6 @@
--- The system ceiling, and the interrupt that is to be taken (Stack-Based Scheduling of
--- Realtime Processes, 1991; ties go by the number, as in the ARMv7-M Architecture Reference Manual, section B1.5.4).
--- The code of the core compares priority values with masks.
+-- The system ceiling, and the interrupt that is to be taken (Baker, Stack-Based Scheduling of Realtime Processes, 1991;
+-- ties go by the number, as in the ARMv7-M Architecture Reference Manual, section B1.5.4). The code of the core
+-- compares priority values with masks.
 use Rattle.std.specs.Prelude.{◌≡◌, ℕ, ◌==◌, ◌<◌, ◌≤◌, ◌⊎◌, max, Bool, false, ◌&&◌, ◌||◌, nat_lt, List, map}
 use Rattle.std.specs.Prelude.{slice_index_or, Option}
 use Rattle.rt_ids.specs.Lists.{greatest}
@@ -15,8 +15,8 @@ use Rattle.rt_laws.specs.State.{Job, State}
 abbrev pub greatest_ceiling : App → List Section → ℕ
 greatest_ceiling app xs = greatest (map (ceiling app) xs)
 
--- Baker's system ceiling (1991): the greatest of the priorities of all started jobs and of the
--- ceilings of all their open sections
+-- Baker's system ceiling (1991): the greatest of the priorities of all started jobs and of the ceilings of all their
+-- open sections
 abbrev pub system_ceiling : App → List Job → ℕ
 system_ceiling app jobs = greatest (map (λ job. max job.priority (greatest_ceiling app job.sections)) jobs)
 

@@ -40,7 +40,7 @@ abbrev pub OneSection : App → List Label → Type 0
 OneSection app labels = AtEach (λ v label behind. WaitsWell app v label behind × ServesWell app v label behind) app
     (first_sight app) labels
 
--- what is left is what the running job entered last, as the reading of a leave has it
+-- a section that is left is the one that the running job entered last, as the observer takes it
 abbrev pub LeavesInnermost : Observer → Label → Type 0
 LeavesInnermost v (Stepped (Some (what.Leave x value))) =
     AllByRecursion (λ job. slice_get job.inside 0 ≡ Some x) (take 1 v.jobs)

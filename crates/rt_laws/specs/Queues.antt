@@ -1,8 +1,8 @@
--- What holds of the actions of queues beside their being next, in every run: a place is taken where one is left, and
--- refused where none is; messages start in the order in which they became ready; of armed messages the one of the
--- least instant fires, of equal ones the first armed, and not before its instant; a message that is taken back or put
--- to another instant is armed, and has the handle. The actions were chosen before, in the same section; this says that
--- nothing has changed since.
+-- What holds of the actions of queues beside their being next, in every run: a place is taken where one is free, and a
+-- task is found full where all its places are out; messages start in the order in which they became ready; of armed
+-- messages the one of the least instant fires, of equal ones the one that was armed or moved first, and not before its
+-- instant; a message that is cancelled or moved is armed, and has the handle. The actions were chosen before, in the
+-- same section; this says that nothing has changed since.
 use Rattle.std.specs.Prelude.{◌≡◌, ℕ, ◌<◌, ◌≤◌, List, [], ◌∷◌, Option, Some, None, IfSome}
 use Rattle.rt_ids.specs.Choice.{IsIn}
 use Rattle.rt_ids.specs.Holder.{Guarded}
@@ -52,7 +52,7 @@ abbrev pub NextKeepsOrder : App → ℕ → Values → List Section → Doing Va
 NextKeepsOrder app time vs sections over = Unit {0}
 NextKeepsOrder app time vs sections (does action made next) = InQueue sections action × KeepsOrder app time vs action
 
--- the next action of the running job, and of every other, which others have stopped
+-- the next action of each started job, running or preempted, keeps the order of its queue
 abbrev pub AllKeepOrder : App → ℕ → Values → List Job → Type 0
 AllKeepOrder app time vs [] = Unit {0}
 AllKeepOrder app time vs (job ∷ others) =

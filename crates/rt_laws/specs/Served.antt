@@ -1,9 +1,9 @@
 -- That messages are served, in every run (Baker, Stack-Based Scheduling of Realtime Processes, 1991; the RTIC 1 book,
 -- software tasks and the monotonic). Where a message is ready and no job has the section of its ready queue open, the
--- dispatcher of the level is about to enter that section: its interrupt is pending, or it has started and stands before
--- its own section of it, which its cost tells from those of the bodies that it runs. So is the timer handler, where a
--- message is due and no job has the section of the timer queue open. The code posts the interrupt, or sets the alarm,
--- inside the section.
+-- dispatcher of the level is about to enter that section: its interrupt is pending, or it has started and its next
+-- action enters its own section, which its cost tells from those of the bodies that it runs. The same holds of the
+-- timer handler, where a message is due and no job has the section of the timer queue open. The code posts the
+-- interrupt, or sets the alarm, inside the section.
 use Rattle.std.specs.Prelude.{◌≡◌, ℕ, ◌⊎◌, true, false, Contains, List, [], ◌∷◌, slice_index_or, Some}
 use Rattle.rt_ids.specs.Choice.{IsIn}
 use Rattle.rt_ids.specs.Holder.{Guarded}
@@ -32,13 +32,13 @@ BeginsWith x cost over = ⊥
 BeginsWith x cost (does (Enters y most) made next) = (y ≡ x) × (most ≡ cost)
 BeginsWith x cost (does action made next) = ⊥
 
--- some started job serves the interrupt, and stands before the section at this cost
+-- some started job serves the interrupt, and its next action enters the section at this cost
 abbrev pub StandsBefore : List Job → ℕ → Section → ℕ → Type 0
 StandsBefore [] irq x cost = ⊥
 StandsBefore (job ∷ others) irq x cost =
     ((job.role ≡ Serving irq) × BeginsWith x cost job.rest) ⊎ StandsBefore others irq x cost
 
--- the interrupt is pending, or a job that serves it stands before the section
+-- the interrupt is pending, or a job that serves it is about to enter the section
 abbrev pub IsServed : State → ℕ → Section → ℕ → Type 0
 IsServed s irq x cost = (slice_index_or s.pending irq false ≡ true) ⊎ StandsBefore s.jobs irq x cost
 

@@ -1,6 +1,6 @@
--- What serves an interrupt, by its number: the items of a trace and the interrupt controller name interrupts so, an
--- application by their place in the order of declaration (the RTIC 1 book, hardware tasks, software tasks and the
--- monotonic). Numbers differ.
+-- What serves an interrupt, by its number: the items of a trace and the interrupt controller name interrupts by
+-- numbers, an application by their indices in the order of declaration (the RTIC 1 book, hardware tasks, software tasks
+-- and the monotonic). Numbers differ.
 use Rattle.std.specs.Prelude.{ℕ, ◌==◌, Bool, Option, option_map, find}
 use Rattle.std.specs.List.{list_any}
 use Rattle.rt_ids.specs.Lists.{is_some_and, or_zero, then_from}
@@ -14,7 +14,7 @@ use Rattle.rt_ids.specs.declared.ids.BodyId.TheVariants as body
 abbrev pub is_declared : App → ℕ → Bool
 is_declared app irq = list_any (λ d. d.number == irq) app.irqs
 
--- what serves it, where it is enabled
+-- what serves the interrupt of this number; where nothing does, it is not enabled
 abbrev pub service_at : App → ℕ → Option Service
 service_at app irq = find (λ s. is_some_and (λ n. n == irq) (irq_number app s.irq)) (services app)
 

@@ -1,5 +1,5 @@
--- How many silent steps may pass, and what they lead to, told from the costs at once: nothing is to be taken, and the
--- body and each open section have so many steps left. The machine takes them one by one.
+-- How many silent steps may pass, and what they lead to, by the costs at once: nothing is to be taken, and the body and
+-- each open section have so many steps left. The machine takes them one by one.
 use Rattle.std.specs.Prelude.{◌≡◌, ℕ, suc, ◌-◌, ◌≤◌, false, List, [], ◌∷◌, map, None}
 use Rattle.std.specs.List.{AllByRecursion}
 use Rattle.rt_app.specs.Tree.{App}

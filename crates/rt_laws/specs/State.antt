@@ -26,7 +26,7 @@ pub data Role : Type 0 where
 pub record Job : Type 0 where
   pub role : Role
   pub priority : ℕ
-  -- what it has left to do: it stands at its next action
+  -- what it has left to do, from its next action on
   pub rest : Doing Values
   -- the core steps that the cost of its body or handler, as `check` prints it of a body, has left
   pub left : ℕ

@@ -42,7 +42,7 @@ abbrev pub is_return : ℕ → Label → Bool
 is_return irq (Stepped (Some (what.Ret left))) = left == irq
 is_return irq label = false
 
--- the one further out, where there is one
+-- the number that was found further out, else this one where its section holds the priority off
 abbrev pub outer_or : ℕ → Bool → Option ℕ → Option ℕ
 outer_or n holds (Some m) = Some m
 outer_or n true None = Some n
@@ -64,7 +64,8 @@ pub record LieInOneSection (app : App) (p : ℕ) (steps : List Seen) : Type 0 wh
 abbrev pub is_pending : Observer → ℕ → Bool
 is_pending v irq = slice_index_or v.pending irq false
 
--- each enabled interrupt that becomes pending here and was not: the steps that lower jobs take until its take
+-- for each enabled interrupt that becomes pending at this label and was not before: all steps that lower jobs take
+-- until its take lie in one section, within the waiting bound
 abbrev pub WaitsWell : App → Observer → Label → List Label → Type 0
 WaitsWell app v label labels =
     (irq : ℕ) (s : Service) → service_at app irq ≡ Some s → is_pending v irq ≡ false
