@@ -36,7 +36,7 @@ pub record IsSound (app : App) : Type 0 where
   -- a body takes no more steps than a body may, its end counted, and all code no more instructions than code may
   pub steps : AllByRecursion (λ m. block_steps (cost_measure app) m.body.block + 1 ≤ BODY_COST) (members app)
   pub size : shared_size app + sum_by (λ m. body_cost (size_measure app) m.body) (members app) ≤ CODE_SIZE
-  -- levels and ceilings are priorities that there are
+  -- levels and ceilings are priorities of the application
   pub priorities : AllByRecursion (λ p. (1 ≤ p) × (p ≤ 2 ^ app.bits)) (handler_priorities app)
   pub ceilings : (s : Section) → IsSectionOf app s → ceiling app s ≤ 2 ^ app.bits
   -- a resource that is `lock_free` is listed at one priority; one that is read as `&name` is so by all that list it,
@@ -49,8 +49,8 @@ pub record IsSound (app : App) : Type 0 where
       → is_lock_free app l.listed.resource ≡ false
   pub owners : (n i j : ℕ) (m o : Member) → slice_get (members app) i ≡ Some m → slice_get (members app) j ≡ Some o
       → owns n m ≡ true → owns n o ≡ true → i ≡ j
-  -- an interrupt that serves something is declared, serves that alone, and at a priority that there is; numbers are
-  -- those of interrupts, and differ; each level of software tasks has a dispatcher
+  -- an interrupt that serves something is declared, serves that alone, and has a priority of the application; the
+  -- numbers of interrupts are in their range, and differ; each level of software tasks has a dispatcher
   pub served : AllByRecursion (λ s. (s.irq < length app.irqs) × (1 ≤ s.priority) × (s.priority ≤ 2 ^ app.bits))
       (services app)
   pub services_differ : AreDifferent (map (λ s. s.irq) (services app))

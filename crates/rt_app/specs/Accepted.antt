@@ -1,6 +1,6 @@
 -- The applications that are accepted, as they show it themselves: they break no rule and keep the limits, their names
--- are names and differ, each number in them is the place of something that is declared, a variable is in scope where
--- it is read or assigned, and the body lists the local resources that it uses, as a task of RTIC 1 does.
+-- are names and differ, each number in them is the index of something that is declared, a variable is in scope where it
+-- is read or assigned, and the body lists the local resources that it uses, as a task of RTIC 1 does.
 use Rattle.std.specs.Prelude.{◌≡◌, ℕ, ◌+◌, ◌<◌, Contains, List, [], ◌∷◌, length, map, Option, Some, None}
 use Rattle.std.specs.List.{AllByRecursion, range_with_len}
 use Rattle.rt_ids.specs.Lists.{AreDifferent}
@@ -17,19 +17,19 @@ use Rattle.rt_app.specs.Rules.{violations}
 
 -- in a body that lists these local resources
 module _ (app : App) (listed : List ℕ) where
-  -- a name stands for a variable that is in scope, for a shared resource, or for a local one that the body lists
+  -- a name is meant: it is of a variable in scope, of a shared resource, or of a local resource that the body lists
   abbrev pub IsMeant : List ℕ → Atom → Type 0
   IsMeant visible (Var x) = Contains visible x
   IsMeant visible (Shared r) = r < length app.shared
   IsMeant visible (Local n) = (n < length app.locals) × Contains listed n
 
-  -- each atom of an expression is in scope or declared
+  -- each name in an expression is meant
   abbrev pub AreMeant : List ℕ → Expression → Type 0
   AreMeant visible (Num n) = Unit {0}
   AreMeant visible (Read atom at) = IsMeant visible atom
   AreMeant visible (Oper o left right) = AreMeant visible left × AreMeant visible right
 
-  -- the task of a spawn is declared, and the delay, the arguments and the handle are meant
+  -- the task of a spawn is declared, and the names in its delay, its arguments and its handle are meant
   abbrev pub IsSpawnPlaced : List ℕ → Spawn → Type 0
   IsSpawnPlaced visible (Soon task args at) = (task < length app.tasks) × AllByRecursion (AreMeant visible) args
   IsSpawnPlaced visible (After word delay task args at) =
@@ -38,13 +38,13 @@ module _ (app : App) (listed : List ℕ) where
   IsSpawnPlaced visible (Move word delay task handle at) =
       AreMeant visible delay × (task < length app.tasks) × AreMeant visible handle
 
-  -- what the value of a `let` holds is meant
+  -- the names in the value of a `let` are meant, and the task of its spawn is declared
   abbrev pub IsValuePlaced : List ℕ → Value → Type 0
   IsValuePlaced visible (Calc e) = AreMeant visible e
   IsValuePlaced visible (Now at) = Unit {0}
   IsValuePlaced visible (Call s) = IsSpawnPlaced visible s
 
-  -- the variables in scope behind a statement, before which there are so many
+  -- the variables in scope after a statement, before which the body has so many
   abbrev pub behind : ℕ → List ℕ → Statement → List ℕ
   behind n visible (Bind x v) = n ∷ visible
   behind n visible (Assign x e at) = visible
@@ -55,7 +55,8 @@ module _ (app : App) (listed : List ℕ) where
   behind n visible (Pend i) = visible
   behind n visible (Spawns s) = visible
 
-  -- a statement is placed, behind so many variables of the body, and with these in scope
+  -- a statement names only what is declared, what is in scope, or what the body lists; the body has so many variables
+  -- before it, and these are in scope
   abbrev mutual
     pub IsStatementPlaced : ℕ → List ℕ → Statement → Type 0
     IsStatementPlaced n visible (Bind x v) = (x ≡ n) × IsValuePlaced visible v
@@ -68,14 +69,14 @@ module _ (app : App) (listed : List ℕ) where
     IsStatementPlaced n visible (Pend i) = i < length app.irqs
     IsStatementPlaced n visible (Spawns s) = IsSpawnPlaced visible s
 
-    -- each statement of a block is placed, with the variables in scope behind those before it
+    -- each statement of a block is such, with the variables in scope after those before it
     pub IsBlockPlaced : ℕ → List ℕ → Block → Type 0
     IsBlockPlaced n visible Empty = Unit {0}
     IsBlockPlaced n visible (Then s rest) =
         IsStatementPlaced n visible s × IsBlockPlaced (n + variables_in s) (behind n visible s) rest
 
 module _ (app : App) where
-  -- a body that takes so many arguments
+  -- a body that takes so many arguments lists only what is declared, and its statements name only what they may
   pub record IsBodyPlaced (args : ℕ) (b : Body) : Type 0 where
     pub shared : AllByRecursion (λ l. l.resource < length app.shared) b.shared
     pub local : AllByRecursion (λ o. o.local < length app.locals) b.local
@@ -104,7 +105,7 @@ module _ (app : App) where
   IsMonoPlaced None = Unit {0}
   IsMonoPlaced (Some mono) = mono.irq < length app.irqs
 
-  -- a task binds and uses what is declared
+  -- a task binds a declared interrupt, if any, and its body names only what it may
   abbrev pub IsTaskPlaced : Task → Type 0
   IsTaskPlaced t = IsBindingPlaced t.binds × IsBodyPlaced t.args t.body
 

@@ -13,12 +13,12 @@ pub record Member : Type 0 where
   pub args : ℕ
   pub body : Body
 
--- `init` and `idle` count with the priority 0
+-- `init` or `idle`, where it is declared, with the priority 0
 abbrev pub thread_members : BodyId → Option Body → List Member
 thread_members id None = []
 thread_members id (Some b) = record { id = id; priority = 0; args = 0; body = b } ∷ []
 
--- tasks, the first of which has this number
+-- the bodies of tasks, the first of which has this number
 abbrev pub task_members : ℕ → List Task → List Member
 task_members n [] = []
 task_members n (t ∷ ts) =

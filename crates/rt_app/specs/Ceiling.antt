@@ -51,7 +51,8 @@ readies app p s = makes_ready s && is_some_and (is_of_level p) (slice_get app.ta
 abbrev pub arms_level : App → ℕ → Spawn → Bool
 arms_level app p s = arms_message s && is_some_and (is_of_level p) (slice_get app.tasks (target s))
 
--- the priority of the monotonic, which moves messages that are due to the ready queue of their level
+-- the priority of the monotonic, which makes messages ready that are due, where some body arms messages of this level;
+-- else 0
 abbrev pub mover_priority : App → ℕ → Option Mono → ℕ
 mover_priority app p None = 0
 mover_priority app p (Some mono) = if list_any (holds (arms_level app p)) (members app) then mono.priority else 0
@@ -62,7 +63,7 @@ abbrev pub ready_ceiling : App → ℕ → ℕ
 ready_ceiling app p = max p (max (greatest_priority (holds (readies app p)) app) (mover_priority app p app.mono))
 
 -- the ceiling of the timer queue: the greatest of the monotonic's priority and those of the bodies that spawn after a
--- delay, cancel or put off
+-- delay, cancel or reschedule
 abbrev pub timer_ceiling : App → ℕ
 timer_ceiling app =
     max (or_zero (option_map (λ mono. mono.priority) app.mono)) (greatest_priority (holds uses_timer) app)

@@ -1,6 +1,6 @@
--- What a body takes: its cost is the greatest number of core steps of a run of it that is not interrupted, its size
--- the number of its instructions. Both are sums over its statements, with the same numbers; they are this project's
--- own. A sum stops one above the greatest cost that a body may have, so that no number grows beyond bounds.
+-- What a body takes: its cost bounds the core steps of a run of it that is not interrupted, its size the number of its
+-- instructions. Both are sums over its statements, with the same numbers; they are this project's own. A sum stops one
+-- above the greatest cost that a body may have, so that no number grows beyond bounds.
 use Rattle.std.specs.Prelude.{ℕ, ◌+◌, ◌-◌, ◌*◌, min, max, Bool, List, [], ◌∷◌, if◌then◌else◌}
 use Rattle.rt_ids.specs.declared.limits.TheConstants.{BODY_COST}
 use Rattle.rt_app.specs.declared.costs.TheConstants.{SPAWN_COST, SPAWN_AFTER_COST, MESSAGE_COST, LOOP_COST, TURN_COST}
@@ -12,7 +12,7 @@ use Rattle.rt_app.specs.Tree.{Statement, Bind, Assign, Branch, Repeat, Locked, E
 pub record Measure : Type 0 where
   -- the messages that may be armed at once
   pub messages : ℕ
-  -- whether code is counted, both blocks of a branch and one turn of a loop, and not steps
+  -- whether instructions are counted (both blocks of a branch, and one turn of a loop), and not core steps
   pub is_size : Bool
 
 -- a number up to one above the greatest cost that a body may have
@@ -46,11 +46,11 @@ bind_cost m (Calc e) = capped_cost (expression_cost e + 1)
 bind_cost m (Now at) = 2
 bind_cost m (Call s) = capped_cost (spawn_cost m s + 1)
 
--- steps go through one block of a branch, code has both
+-- the cost of the blocks of a branch: steps go through one of them, code has both
 abbrev pub branch_cost : Measure → ℕ → ℕ → ℕ
 branch_cost m first second = if m.is_size then first + second else max first second
 
--- steps take each turn of a loop, code has one
+-- how many turns of a loop are counted: steps take each, code has one
 abbrev pub turns : Measure → ℕ → ℕ → ℕ
 turns m first last = if m.is_size then 1 else last - first
 
@@ -59,7 +59,7 @@ abbrev pub lock_cost : ℕ → ℕ
 lock_cost inner = capped_cost (2 + inner)
 
 abbrev mutual
-  -- the greatest number of core steps of a statement, its inner blocks included, or the number of its instructions
+  -- a bound on the core steps of a statement, its inner blocks included, or on its instructions
   pub statement_cost : Measure → Statement → ℕ
   statement_cost m (Bind x v) = bind_cost m v
   statement_cost m (Assign x e at) = capped_cost (expression_cost e + 1)

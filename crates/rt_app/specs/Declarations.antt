@@ -1,5 +1,5 @@
--- The rules on declarations: priorities, interrupts, dispatchers, local resources, hardware tasks. An unknown name,
--- which is refused as such, breaks none of them.
+-- The rules on declarations: priorities, interrupts, dispatchers, local resources, hardware tasks. An unknown name
+-- breaks none of them, because it has a refusal of its own.
 use Rattle.std.specs.Prelude.{ℕ, ◌==◌, ◌^◌, nat_lt, nat_le, Bool, not, ◌&&◌, ◌||◌, List, [], ◌∷◌, ◌++◌, length, map}
 use Rattle.std.specs.Prelude.{flat_map, Option, Some, None, if◌then◌else◌}
 use Rattle.std.specs.List.{list_any}
@@ -30,7 +30,7 @@ mono_priority bits (Some mono) = when (not (is_priority bits mono.priority)) rul
 abbrev pub task_priority : ℕ → Task → List Violation
 task_priority bits t = when (not (is_priority bits t.priority)) rule.PriorityOutOfRange t.priority_at
 
--- every priority that is none
+-- every priority that is out of range
 abbrev pub priorities : App → List Violation
 priorities app = mono_priority app.bits app.mono ++ flat_map (task_priority app.bits) app.tasks
 
@@ -59,7 +59,7 @@ abbrev pub bound_use : Option ℕ → ℕ → List Used
 bound_use None at = []
 bound_use (Some irq) at = use_of irq at
 
--- an interrupt is a dispatcher, the monotonic's or a hardware task's, one of these and once
+-- the uses of interrupts: as a dispatcher's, as the monotonic's, and as a hardware task's; no interrupt may have two
 abbrev pub interrupt_uses : App → List Used
 interrupt_uses app =
     flat_map (λ d. use_of d.irq d.at) app.dispatchers
@@ -69,11 +69,11 @@ interrupt_uses app =
 abbrev pub number_uses : App → List Used
 number_uses app = map (λ d. record { number = d.number; at = d.number_at }) app.irqs
 
--- every interrupt that serves two, and every number that two have
+-- every second use of an interrupt, and every second interrupt of a number
 abbrev pub interrupts : App → List Violation
 interrupts app = used_twice [] (interrupt_uses app) ++ used_twice [] (number_uses app)
 
--- each level of software tasks has a dispatcher
+-- the violation where there are fewer dispatchers than levels of software tasks
 abbrev pub dispatchers : App → List Violation
 dispatchers app = when (nat_lt (length app.dispatchers) (length (levels app))) rule.TooFewDispatchers app.name_at
 
@@ -81,20 +81,20 @@ dispatchers app = when (nat_lt (length app.dispatchers) (length (levels app))) r
 abbrev pub owns : ℕ → Member → Bool
 owns n m = list_any (λ o. o.local == n) m.body.local
 
--- a local resource that a body before lists too
+-- the violation of a local resource that a body before lists too
 abbrev pub owned_before : List Member → Owned → List Violation
 owned_before before o = when (is_known o.local && list_any (owns o.local) before) rule.LocalInTwoTasks o.at
 
--- a local resource is listed by one body; the bodies before these are in the first list
+-- every local resource that a second body lists; the bodies before these are in the first list
 abbrev pub owned_twice : List Member → List Member → List Violation
 owned_twice before [] = []
 owned_twice before (m ∷ ms) = flat_map (owned_before before) m.body.local ++ owned_twice (m ∷ before) ms
 
--- capacity and arguments are for software tasks
+-- whether a hardware task has a capacity or arguments, which are for software tasks
 abbrev pub is_mixed : Task → Bool
 is_mixed t = not (is_software t) && (t.has_capacity || nat_lt 0 t.args)
 
--- every hardware task with what is for software tasks
+-- every hardware task that has a capacity or arguments
 abbrev pub hardware_tasks : App → List Violation
 hardware_tasks app = flat_map (λ t. when (is_mixed t) rule.NotSoftware t.at) app.tasks
 

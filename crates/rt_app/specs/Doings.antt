@@ -23,11 +23,11 @@ abbrev pub nothing : Rest
 nothing vs = over
 
 module _ (app : App) where
-  -- a body with these arguments, and what is left to do behind it; its variables begin as 0
+  -- a body with these arguments, and what is left to do after it; its variables begin as 0
   abbrev pub body_doing : Body → List ℕ → Rest → Rest
   body_doing b args rest = run_block app b.block (λ vars. rest) (args ++ replicate (variables b.block) 0)
 
-  -- a body that may not be declared
+  -- a body, or nothing where it is not declared
   abbrev pub declared_doing : Option Body → List ℕ → Rest → Rest
   declared_doing None args rest = rest
   declared_doing (Some b) args rest = body_doing b args rest
@@ -40,7 +40,7 @@ module _ (app : App) where
   abbrev pub idle_doing : Rest
   idle_doing = declared_doing app.idle [] (act (Ends body.Idle) nothing)
 
-  -- the body of a task
+  -- the body of a task, and what is left to do after it
   abbrev pub task_doing : ℕ → List ℕ → Rest → Rest
   task_doing n args rest = declared_doing (then_from (slice_get app.tasks n) (λ t. Some t.body)) args rest
 

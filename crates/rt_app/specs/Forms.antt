@@ -1,5 +1,5 @@
--- Forms of applications that an analysis is made for: those whose interrupts come from outside alone, so that what is
--- pending rises by arrivals and by nothing else. They are this project's own.
+-- Forms of applications that an analysis is made for: those whose interrupts come from outside alone, so that an
+-- interrupt becomes pending by its arrival and by nothing else. They are this project's own.
 use Rattle.std.specs.Prelude.{Bool, true, false, not, nat_le, ◌&&◌, Option, Some, None}
 use Rattle.std.specs.List.{list_any, list_all}
 use Rattle.rt_app.specs.declared.costs.TheConstants.{BRIEF_INIT_COST}
@@ -10,11 +10,11 @@ use Rattle.rt_app.specs.Level.{is_software}
 use Rattle.rt_app.specs.Handlers.{has_no_monotonic}
 use Rattle.rt_app.specs.BodyCost.{cost_of, cost_measure}
 
--- each task is run by an interrupt that it binds
+-- there is no software task: each task binds an interrupt
 abbrev pub has_no_software : App → Bool
 has_no_software app = not (list_any is_software app.tasks)
 
--- whether no `pend` stands in a statement or in a block, nor in their inner blocks
+-- whether a statement has no `pend`, nor have its inner blocks
 abbrev mutual
   pub statement_holds_no_pend : Statement → Bool
   statement_holds_no_pend (Bind x v) = true
@@ -26,27 +26,27 @@ abbrev mutual
   statement_holds_no_pend (Pend i) = false
   statement_holds_no_pend (Spawns s) = true
 
-  -- whether no `pend` stands in a block
+  -- whether a block has no `pend`, nor have its inner blocks
   pub holds_no_pend : Block → Bool
   holds_no_pend Empty = true
   holds_no_pend (Then s rest) = statement_holds_no_pend s && holds_no_pend rest
 
--- a body that is not declared holds none
+-- whether a body has no `pend`, or is not declared
 abbrev pub body_holds_no_pend : Option Body → Bool
 body_holds_no_pend None = true
 body_holds_no_pend (Some b) = holds_no_pend b.block
 
--- hardware tasks alone, and none of the declared bodies pends an interrupt: the form that response times are told for
+-- hardware tasks alone, no monotonic, and no body that pends an interrupt: the form that `times` is for
 abbrev pub has_response_times : App → Bool
 has_response_times app =
     (has_no_software app && has_no_monotonic app) && list_all (λ m. holds_no_pend m.body.block) (members app)
 
--- `init` is over soon
+-- `init` takes few core steps: `BRIEF_INIT_COST` at most
 abbrev pub is_brief : App → Bool
 is_brief app = nat_le (cost_of (cost_measure app) app.init) BRIEF_INIT_COST
 
--- hardware tasks alone, and an `init` that pends no interrupt and is over soon: the form that a script to the stack
--- bound is written for
+-- hardware tasks alone, no monotonic, and an `init` that pends no interrupt and takes few core steps: the form that
+-- `deepest` is for
 abbrev pub has_deepest_script : App → Bool
 has_deepest_script app =
     (has_no_software app && has_no_monotonic app) && (body_holds_no_pend app.init && is_brief app)

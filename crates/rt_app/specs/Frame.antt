@@ -9,7 +9,7 @@ use Rattle.rt_app.specs.Variables.{variables}
 use Rattle.rt_app.specs.Spawned.{uses_timer, spawns}
 use Rattle.rt_ids.specs.Lists.{greatest}
 
--- a number or a name is 1 deep
+-- the depth of an expression: a number or a name is 1 deep
 abbrev pub depth : Expression → ℕ
 depth (Num n) = 1
 depth (Read atom at) = 1
@@ -28,7 +28,7 @@ value_depth (Calc e) = depth e
 value_depth (Now at) = 0
 value_depth (Call s) = spawn_depth s
 
--- the greatest depth of an expression, and 0 where there is none
+-- the greatest depth of an expression in a statement, and 0 where there is none
 abbrev mutual
   pub statement_depth : Statement → ℕ
   statement_depth (Bind x v) = value_depth v
@@ -45,7 +45,7 @@ abbrev mutual
   block_depth Empty = 0
   block_depth (Then s rest) = max (statement_depth s) (block_depth rest)
 
--- whether there is a `for`
+-- whether a statement is a `for` or has one in an inner block
 abbrev mutual
   pub is_loop : Statement → Bool
   is_loop (Bind x v) = false
@@ -57,7 +57,7 @@ abbrev mutual
   is_loop (Pend i) = false
   is_loop (Spawns s) = false
 
-  -- whether a `for` stands in a block
+  -- whether a block has a `for`
   pub has_loop : Block → Bool
   has_loop Empty = false
   has_loop (Then s rest) = is_loop s || has_loop rest
@@ -79,7 +79,7 @@ abbrev mutual
   locks Empty = 0
   locks (Then s rest) = max (statement_locks s) (locks rest)
 
--- what a spawn keeps while it runs
+-- the words of the frame that a spawn needs while it runs
 abbrev pub spawn_words : Spawn → ℕ
 spawn_words s = if uses_timer s then TIMER_QUEUE_WORDS else SPAWN_WORDS
 
@@ -91,8 +91,8 @@ expression_words b = max (block_depth b) (if has_loop b then 1 else 0)
 abbrev pub even : ℕ → ℕ
 even n = n + n % 2
 
--- Where the parts of the frame of a body with so many arguments begin: in front stand its variables, the arguments
--- first, then come the words where expressions are evaluated, one for each depth of locking to save a mask in, and
+-- Where the parts of the frame of a body with so many arguments begin: first its variables, the arguments before all
+-- others; then the words where expressions are evaluated; then one for each depth of locking, to save a mask in; and
 -- those of a spawn.
 abbrev pub first_expression_slot : ℕ → Body → ℕ
 first_expression_slot args b = args + variables b.block

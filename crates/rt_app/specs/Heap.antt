@@ -6,19 +6,19 @@ use Rattle.std.specs.Prelude.{◌≡◌, ℕ, ◌+◌, ◌-◌, ◌*◌, ◌/◌
 use Rattle.std.specs.List.{AllByRecursion}
 use Rattle.rt_ids.specs.Entry.{Entry, count}
 
--- the place above a place: below the place i lie 2 * i + 1 and 2 * i + 2
+-- the parent of an index in the heap: the children of i are 2 * i + 1 and 2 * i + 2
 abbrev pub above : ℕ → ℕ
 above i = (i - 1) / 2
 
--- a binary heap: of so many places each but the first has a key no less than the place above it
+-- a binary heap of so many indices: at each but the first the key is no less than that of its parent
 abbrev pub IsHeap : ℕ → (ℕ → ℕ) → Type 0
 IsHeap n key = (j : ℕ) → 0 < j → j < n → key (above j) ≤ key j
 
--- the message at a place
+-- the message at an index of the heap
 abbrev pub at : List Entry → ℕ → Entry
 at heap i = slice_index_or heap i (record { task = 0; place = 0 })
 
--- the keys of the places of a heap, by the key of a message
+-- the keys of a heap by index, from the key of a message
 abbrev pub keys : (Entry → ℕ) → List Entry → ℕ → ℕ
 keys key heap i = key (at heap i)
 

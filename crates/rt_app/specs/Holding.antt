@@ -1,6 +1,6 @@
--- How what resources and queues hold is spelled in memory, who keeps what without a section, and all of it as the
--- storage that code stands over. That a job reaches a resource in its critical section alone is RTIC's (the RTIC 1
--- book, resources); how queues lie in cells is this project's own.
+-- How memory spells what resources and queues hold, who keeps what without a section, and all of it as the storage over
+-- which code is correct. That a job reaches a resource in its critical section alone is RTIC's (the RTIC 1 book,
+-- resources); how queues lie in cells is this project's own.
 use Rattle.std.specs.Prelude.{◌≡◌, ℕ, ◌+◌, ◌-◌, ◌*◌, ◌%◌, ◌==◌, ◌<◌, ◌≤◌, nat_lt, Bool, true, false, not, ◌&&◌, List}
 use Rattle.std.specs.Prelude.{length, map, slice_get, Some, option_map, Contains, IsSome}
 use Rattle.std.specs.List.{AllByRecursion, list_any, range_with_len}
@@ -29,8 +29,8 @@ use Rattle.rt_app.specs.Heap.{IsArranged}
 abbrev pub message_word : Entry → ℕ
 message_word e = 16 * e.task + e.place
 
--- a place of a task that may be armed as a number below the number of messages that may be: the row of its cells in the
--- columns of the timer queue
+-- the row of a place in the columns of the timer queue: the places of the tasks that may be armed, numbered through
+-- from 0
 abbrev pub armed_place : App → Entry → ℕ
 armed_place app e = capacities_before app e.task + e.place
 
@@ -45,7 +45,8 @@ module _ (app : App) (cells : ℕ → ℕ) where
       let first : ℕ = inputs_at app e.task + e.place * arguments_of app e.task in
       record { task = e.task; args = map cells (range_with_len first (arguments_of app e.task)) }
 
-  -- the free places of a task, the one that is taken next first; as many more are out as it has
+  -- The cells spell the free places of a task, the one that is taken next first; the other places of its capacity are
+  -- out.
   pub record SpellsFree (n : ℕ) (entries : List Entry) (content : Content) : Type 0 where
     pub out : content ≡ Number (capacity_of app n - length entries)
     pub room : length entries ≤ capacity_of app n
@@ -54,7 +55,7 @@ module _ (app : App) (cells : ℕ → ℕ) where
     pub stack : (i : ℕ) (e : Entry) → slice_get entries i ≡ Some e → cells (free_at app n + (length entries - i))
         ≡ e.place
 
-  -- the ready messages of a level, the oldest first
+  -- the cells spell the ready messages of a level, the oldest first
   pub record SpellsReady (p : ℕ) (entries : List Entry) (content : Content) : Type 0 where
     pub messages : content ≡ Messages (map message_at entries)
     pub room : length entries ≤ ready_room app p
@@ -82,7 +83,7 @@ module _ (app : App) (cells : ℕ → ℕ) where
   abbrev pub arming_of_entry : Entry → Armed
   arming_of_entry e = record { instant = instant_at e; message = message_at e; handle = handle_at e }
 
-  -- The armed messages, in order of their last arming. Their places lie as a heap, by instant and arming.
+  -- The cells spell the armed messages, in order of their last arming. Their rows lie as a heap, by instant and arming.
   pub record SpellsTimer (entries : List Entry) (content : Content) : Type 0 where
     pub timed : Timed
     pub is : content ≡ Delays timed
@@ -100,7 +101,7 @@ module _ (app : App) (cells : ℕ → ℕ) where
     pub column : (i : ℕ) (e : Entry) → slice_get heap i ≡ Some e → cells (heap_at app + i) ≡ armed_place app e
     pub arranged : IsArranged instant_at arming_at (timed.given + timed.moved) heap entries
 
-  -- what the cells of a holder spell, where the messages of these places stand in its queue
+  -- the cells spell this content of a holder, where the messages of these places are in its queue
   abbrev pub Spells : Holder → List Entry → Content → Type 0
   Spells (Guarded (section.Res r)) entries content = content ≡ Number (cells (resource_at app r))
   Spells (Own n) entries content = content ≡ Number (cells (local_at app n))

@@ -52,7 +52,7 @@ place_cells n t place =
     map (λ k. record { name = front ++ decimal k; first = 0; home = In (record { task = n; place = place }) })
     (range_with_len 0 t.args)
 
--- the cells of tasks, the first of which has this number; a hardware task has none
+-- the cells of tasks, the first of which has this number: free places and arguments; a hardware task has none
 abbrev pub task_cells : ℕ → List Task → List Cell
 task_cells n [] = []
 task_cells n (t ∷ more) =
@@ -63,7 +63,7 @@ task_cells n (t ∷ more) =
 abbrev pub ready_room : App → ℕ → ℕ
 ready_room app p = sum_by (λ t. t.capacity) (filter (is_of_level p) app.tasks)
 
--- A ready queue lies as a ring: the place of its oldest message, how many there are, and then the messages.
+-- A ready queue lies as a ring: the index of its oldest message, how many there are, and then the messages.
 abbrev pub ready_cells : App → ℕ → List Cell
 ready_cells app p =
     let front : List ℕ = codes "ready." ++ decimal p ++ codes "." in
@@ -83,9 +83,9 @@ timer_cell name = record { name = codes "timer." ++ name; first = 0; home = At (
 abbrev pub timer_column : App → List ℕ → List Cell
 timer_column app name = map (λ k. timer_cell (name ++ codes "." ++ decimal k)) (range_with_len 0 (armed_messages app))
 
--- The timer queue: how many messages are armed, how often one was armed so far, first and later, and how often first.
--- Then for each place of the tasks that may be armed the instant of its message, the number of its last arming and its
--- handle; these three stay where they are. At last a heap of the places of armed messages.
+-- The timer queue: how many messages are armed, how many armings there were, moves counted too, and how many handles
+-- were given. Then for each place of the tasks that may be armed the instant of its message, the number of its last
+-- arming and its handle; these three stay where they are. At last a heap of these rows.
 abbrev pub timer_queue_cells : App → List Cell
 timer_queue_cells app =
     timer_cell (codes "count") ∷ timer_cell (codes "armings") ∷ timer_cell (codes "given")
@@ -134,7 +134,7 @@ timer_at app =
     length app.shared + length app.locals + length (task_cells 0 app.tasks)
     + length (flat_map (ready_cells app) (levels app))
 
--- the cell of the count of armings, first and later
+-- the cell of the count of armings, moves counted too
 abbrev pub armings_at : App → ℕ
 armings_at app = timer_at app + 1
 
@@ -154,7 +154,7 @@ numbers_at app = instants_at app + armed_messages app
 abbrev pub handles_at : App → ℕ
 handles_at app = numbers_at app + armed_messages app
 
--- the first cell of the heap of armed places
+-- the first cell of the heap of the rows of armed messages
 abbrev pub heap_at : App → ℕ
 heap_at app = handles_at app + armed_messages app
 

@@ -1,6 +1,6 @@
--- The rule on what bodies take: none has more steps than a body may, and up to none the code has more instructions
--- than it may. So each body behind the first with which the code is too long breaks the rule too; the first is the
--- one that is refused.
+-- The rule on what bodies take: no body has more core steps than a body may, and the code up to the end of each has no
+-- more instructions than code may. So each body after the first with which the code is too long breaks the rule too;
+-- the first is reported.
 use Rattle.std.specs.Prelude.{ℕ, ◌+◌, nat_lt, ◌||◌, List, [], ◌∷◌, ◌++◌}
 use Rattle.rt_ids.specs.declared.limits.TheConstants.{BODY_COST, CODE_SIZE}
 use Rattle.rt_ids.specs.declared.rule.Rule.TheVariants as rule
@@ -10,7 +10,7 @@ use Rattle.rt_app.specs.Bodies.{Member, members}
 use Rattle.rt_app.specs.BodyCost.{body_cost, cost_measure, size_measure, shared_size}
 use Rattle.rt_app.specs.Violation.{when}
 
--- bodies that stand behind code of this size
+-- the bodies that are too long, of those that come after code of this size
 abbrev pub too_long : App → ℕ → List Member → List Violation
 too_long app before [] = []
 too_long app before (m ∷ ms) =
@@ -18,6 +18,6 @@ too_long app before (m ∷ ms) =
     when (nat_lt BODY_COST (body_cost (cost_measure app) m.body) || nat_lt CODE_SIZE behind) rule.TooLongBody m.body.at
     ++ too_long app behind ms
 
--- every body that is too long, behind the code that belongs to no body
+-- every body that is too long; the code that belongs to no body is counted before them all
 abbrev pub lengths : App → List Violation
 lengths app = too_long app (shared_size app) (members app)

@@ -42,7 +42,7 @@ abbrev pub armed_capacities : App → ℕ → List Task → ℕ
 armed_capacities app n [] = 0
 armed_capacities app n (t ∷ ts) = (if is_armed app n then t.capacity else 0) + armed_capacities app (n + 1) ts
 
--- how many there are, of those from this number on
+-- how many tasks are named in a `spawn_after`, of those from this number on
 abbrev pub armed_count : App → ℕ → List Task → ℕ
 armed_count app n [] = 0
 armed_count app n (t ∷ ts) = (if is_armed app n then 1 else 0) + armed_count app (n + 1) ts

@@ -8,7 +8,7 @@ use Rattle.rt_app.specs.Tree.{Statement, Bind, Assign, Branch, Repeat, Locked, E
 use Rattle.rt_app.specs.Tree.{Body, Task, App}
 use Rattle.rt_app.specs.Frame.{block_depth}
 
--- statements, those of inner blocks too
+-- how many statements a statement is, with those of its inner blocks
 abbrev mutual
   pub statements_in : Statement → ℕ
   statements_in (Bind x v) = 1
@@ -20,12 +20,12 @@ abbrev mutual
   statements_in (Pend i) = 1
   statements_in (Spawns s) = 1
 
-  -- the statements of a block, those of inner blocks too
+  -- how many statements a block has, with those of inner blocks
   pub statements_of : Block → ℕ
   statements_of Empty = 0
   statements_of (Then s rest) = statements_in s + statements_of rest
 
--- blocks inside each other, this one included
+-- the greatest number of blocks inside each other in a statement
 abbrev mutual
   pub inner_blocks : Statement → ℕ
   inner_blocks (Bind x v) = 0
@@ -42,7 +42,7 @@ abbrev mutual
   blocks_of Empty = 1
   blocks_of (Then s rest) = max (1 + inner_blocks s) (blocks_of rest)
 
--- numbers are of 32 bits
+-- the numbers in an expression are of 32 bits
 abbrev pub ExpressionFits : Expression → Type 0
 ExpressionFits (Num n) = n < 2 ^ 32
 ExpressionFits (Read atom at) = Unit {0}
@@ -79,7 +79,7 @@ abbrev mutual
   BlockFits Empty = Unit {0}
   BlockFits (Then s rest) = StatementFits s × BlockFits rest
 
--- few statements, blocks and expressions that are not too deep, numbers that fit
+-- a body keeps the limits: few statements, blocks and expressions that are not too deep, numbers that fit
 pub record KeepsBodyLimits (b : Body) : Type 0 where
   pub statements : statements_of b.block ≤ STATEMENTS
   pub nesting : blocks_of b.block ≤ NESTING
@@ -91,7 +91,7 @@ abbrev pub KeepsThreadLimits : Option Body → Type 0
 KeepsThreadLimits None = Unit {0}
 KeepsThreadLimits (Some b) = KeepsBodyLimits b
 
--- few arguments, and as many messages as a task may have out
+-- a task keeps the limits: few arguments, a capacity in its range, and those of its body
 pub record KeepsTaskLimits (t : Task) : Type 0 where
   pub args : t.args ≤ ARGUMENTS
   pub least_capacity : 1 ≤ t.capacity

@@ -29,11 +29,12 @@ listings app = flat_map listings_of (members app)
 abbrev pub is_lock_free : App → ℕ → Bool
 is_lock_free app r = is_some_and (λ s. s.lock_free) (slice_get app.shared r)
 
--- whether two answers are one
+-- whether two tests have the same answer
 abbrev pub is_same : Bool → Bool → Bool
 is_same a b = if a then b else not b
 
--- whether a listing is shared where the first is exclusive, or the other way round, or shared and `lock_free`
+-- whether a listing has an `&` where the first has none, or the other way round, or has one though the resource is
+-- `lock_free`
 abbrev pub is_shared_and_exclusive : App → Listing → Listing → Bool
 is_shared_and_exclusive app first l =
     not (is_same l.listed.by_ref first.listed.by_ref) || (l.listed.by_ref && is_lock_free app l.listed.resource)

@@ -1,6 +1,6 @@
 -- What the statements of a body mean: the actions that they come to, one at a time, each with the values that resources
 -- and queues then have (the RTIC 1 book, resources and software tasks). Statements are run on the tree, at once up to
--- the next action, and what follows an action goes by the values behind it, whatever others did to them. The code runs
+-- the next action, and what follows an action goes by the values after it, whatever others did to them. The code runs
 -- instructions, and can be interrupted between any two.
 use Rattle.std.specs.Prelude.{ℕ, zero, suc, ◌-◌, ◌==◌, if◌then◌else◌, List, slice_index, slice_set}
 use Rattle.rt_ids.specs.Lists.{or_zero}
@@ -19,11 +19,11 @@ use Rattle.rt_app.specs.Cost.{lock_cost, block_cost}
 use Rattle.rt_app.specs.BodyCost.{cost_measure}
 use Rattle.rt_app.specs.Sending.{Rest, act, spawn_actions}
 
--- what is left to do behind a statement, by the variables of the body and the values then
+-- what is left to do after a statement, by the variables of the body and the values then
 abbrev pub Later : Type 0
 Later = List ℕ → Rest
 
--- what a name stands for holds this
+-- the value of what a name stands for
 abbrev pub read : List ℕ → Values → Atom → ℕ
 read vars vs (atom.Var x) = slice_index vars x
 read vars vs (atom.Shared r) = number (vs (Guarded (section.Res r)))
@@ -35,13 +35,13 @@ value_in vars vs (Num n) = n
 value_in vars vs (Read x at) = read vars vs x
 value_in vars vs (Oper op left right) = operate op (value_in vars vs left) (value_in vars vs right)
 
--- a name comes to stand for this
+-- what a name stands for gets this value, and then what is left to do
 abbrev pub assign : Atom → ℕ → Later → Later
 assign (atom.Var x) n later vars vs = later (slice_set vars x n) vs
 assign (atom.Shared r) n later vars vs = later vars (values_with vs (Guarded (section.Res r)) (Number n))
 assign (atom.Local l) n later vars vs = later vars (values_with vs (Own l) (Number n))
 
--- So many turns of a loop, from a number on. Its variable is set behind the last turn too, where nobody reads it.
+-- So many turns of a loop, from a number on. Its variable is set after the last turn too, where nobody reads it.
 abbrev pub turns_from : ℕ → ℕ → ℕ → (Later → Later) → Later → Later
 turns_from zero x i turn later vars vs = later (slice_set vars x i) vs
 turns_from (suc n) x i turn later vars vs = turn (turns_from n x (suc i) turn later) (slice_set vars x i) vs
@@ -55,7 +55,7 @@ module _ (app : App) where
       spawn_actions app (value_in vars vs) s (λ answer. later (slice_set vars x answer)) vs
 
   abbrev mutual
-    -- a statement comes to its actions, and behind them to what is left to do
+    -- the actions of a statement, and then what is left to do
     pub run : Statement → Later → Later
     run (Bind x v) later vars vs = bind x v later vars vs
     run (Assign x e at) later vars vs = assign x (value_in vars vs e) later vars vs
@@ -69,7 +69,7 @@ module _ (app : App) where
     run (Pend i) later vars vs = act (Posts (or_zero (irq_number app i))) (later vars) vs
     run (Spawns s) later vars vs = spawn_actions app (value_in vars vs) s (λ answer. later vars) vs
 
-    -- a block comes to the actions of its statements, one statement behind the other
+    -- the actions of a block, one statement after the other, and then what is left to do
     pub run_block : Block → Later → Later
     run_block Empty later vars vs = later vars vs
     run_block (Then s rest) later vars vs = run s (run_block rest later) vars vs

@@ -12,7 +12,7 @@ use Rattle.rt_app.specs.Layout.{layout}
 abbrev pub frames : App → List ℕ
 frames app = thread_frame app.init ∷ thread_frame app.idle ∷ map (λ t. frame_words t.args t.body) app.tasks
 
--- the plan is of its application
+-- the plan has the ceilings, the layout and the frames of its application
 pub record IsPlan (plan : Plan) : Type 0 where
   pub ceilings : plan.ceil ≡ ceilings (app_of plan.app.now)
   pub layout : plan.lay ≡ layout (app_of plan.app.now)

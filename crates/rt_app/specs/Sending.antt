@@ -1,7 +1,7 @@
 -- The actions by which messages go to software tasks (the RTIC 1 book, software tasks and the monotonic): a spawn takes
--- a place of its task, where one is left, and puts the message into the ready queue of the task's level, or into the
--- timer queue. A message in the timer queue is taken back or put to another instant by its handle. That they are these
--- actions, in sections of these queues, is this project's own.
+-- a place of its task, where one is free, and puts the message into the ready queue of the task's level, or into the
+-- timer queue. A message in the timer queue is cancelled, or moved to another instant, by its handle. That they are
+-- these actions, in sections of these queues, is this project's own.
 use Rattle.std.specs.Prelude.{ℕ, ◌+◌, min, nat_lt, Bool, List, [], ◌∷◌, map, slice_get, option_map, is_some}
 use Rattle.std.specs.Prelude.{if◌then◌else◌}
 use Rattle.rt_ids.specs.Lists.{or_zero, then_from}
@@ -22,11 +22,11 @@ use Rattle.rt_app.specs.Handlers.{dispatcher_of, irq_number}
 abbrev pub Rest : Type 0
 Rest = Values → Doing Values
 
--- an action that answers nothing, and the rest behind it
+-- an action whose answer nobody uses, and the rest after it
 abbrev pub act : Action → Rest → Rest
 act action rest vs = does action vs (λ answer. rest)
 
--- actions in order, and the rest behind them
+-- actions in order, and the rest after them
 abbrev pub act_all : List Action → Rest → Rest
 act_all [] rest = rest
 act_all (action ∷ actions) rest = act action (act_all actions rest)
@@ -77,7 +77,7 @@ module _ (app : App) where
   abbrev pub is_armed_as : ℕ → ℕ → Values → Bool
   is_armed_as n handle vs = is_some (message_of_handle n handle (delays (vs (Guarded section.Timer))))
 
-  -- In a section of this cost an armed message is taken back, and its place is free again; the rest is then the first.
+  -- In a section of this cost an armed message is cancelled, and its place is free again; the rest is then the first.
   -- Where no armed message of the task has the handle, it is the second.
   abbrev pub cancel_actions : ℕ → ℕ → ℕ → Rest → Rest → Rest
   cancel_actions cost n handle cancelled missing =
@@ -87,8 +87,8 @@ module _ (app : App) where
       (act_all (Enters (section.Free n) FREE_COST ∷ Frees n ∷ Leaves (section.Free n) ∷ []) cancelled)) vs
       else act (Leaves section.Timer) missing vs)
 
-  -- In a section of this cost an armed message is put to an instant so many ticks from now; the rest is then the first.
-  -- Where no armed message of the task has the handle, it is the second.
+  -- In a section of this cost an armed message is moved to an instant so many ticks from now; the rest is then the
+  -- first. Where no armed message of the task has the handle, it is the second.
   abbrev pub move_actions : ℕ → ℕ → ℕ → ℕ → Rest → Rest → Rest
   move_actions cost delay n handle moved missing =
       act (Enters section.Timer cost)

@@ -1,8 +1,8 @@
--- What no broken rule means for a body, in the terms of RTIC 1 (the RTIC 1 book, resources and software tasks) and of
--- Baker (Stack-Based Scheduling of Realtime Processes, 1991): the body reaches a shared resource in a section of it, or
--- without one where it may; each section's ceiling is at least the body's priority, and none stands in a section of the
--- same resource; a loop's variable is set by its loop alone. The rules are lists of violations; this follows the
--- statements.
+-- What it means for a body that no rule is broken, in the terms of RTIC 1 (the RTIC 1 book, resources and software
+-- tasks) and of Baker (Stack-Based Scheduling of Realtime Processes, 1991): the body reaches a shared resource in a
+-- section of it, or without one where it may; each section's ceiling is at least the body's priority, and none lies in
+-- a section of the same resource; a loop's variable is set by its loop alone. The rules are lists of violations; this
+-- follows the statements.
 use Rattle.std.specs.Prelude.{◌≡◌, ℕ, ◌+◌, ◌-◌, ◌^◌, ◌<◌, ◌≤◌, ◌⊎◌, true, false, Contains, List, [], ◌∷◌, length, map}
 use Rattle.std.specs.Prelude.{slice_get, Some}
 use Rattle.std.specs.List.{AllByRecursion}
@@ -79,7 +79,8 @@ module _ (app : App) (m : Member) where
   IsSoundValue locked (Now at) = (mono : Mono) × (app.mono ≡ Some mono)
   IsSoundValue locked (Call s) = IsSoundSpawn locked s
 
-  -- a section of a resource: no body but `init`, which runs at the greatest priority, uses it otherwise
+  -- a lock is sound: the resource is declared, the body is not `init` and lists it to be locked, the ceiling is at
+  -- least the body's priority, and the lock lies in no lock of the same resource
   pub record IsSoundLock (locked : List ℕ) (r : ℕ) : Type 0 where
     pub is_there : r < length app.shared
     pub no_init : is_init m.id ≡ false
@@ -87,8 +88,8 @@ module _ (app : App) (m : Member) where
     pub within : m.priority ≤ ceiling app (section.Res r)
     pub once : ¬ Contains locked r
 
-  -- a statement is sound, behind so many variables of the body, inside sections of these resources, and in loops of
-  -- these variables
+  -- a statement is sound, where the body has so many variables before it, inside sections of these resources, and in
+  -- loops of these variables
   abbrev mutual
     pub IsSoundStatement : ℕ → List ℕ → List ℕ → Statement → Type 0
     IsSoundStatement n locked fixed (Bind x v) = (x ≡ n) × IsSoundValue locked v
@@ -103,12 +104,12 @@ module _ (app : App) (m : Member) where
     IsSoundStatement n locked fixed (Pend i) = i < length app.irqs
     IsSoundStatement n locked fixed (Spawns s) = IsSoundSpawn locked s
 
-    -- each statement of a block is sound, behind the variables of those before it
+    -- each statement of a block is sound, with the variables of those before it counted
     pub IsSoundBlock : ℕ → List ℕ → List ℕ → Block → Type 0
     IsSoundBlock n locked fixed Empty = Unit {0}
     IsSoundBlock n locked fixed (Then s rest) =
         IsSoundStatement n locked fixed s × IsSoundBlock (n + variables_in s) locked fixed rest
 
-  -- the whole body, behind its arguments
+  -- the whole body is sound; its arguments are its first variables
   abbrev pub IsSoundBody : Type 0
   IsSoundBody = IsSoundBlock m.args [] [] m.body.block

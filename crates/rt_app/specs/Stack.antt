@@ -1,4 +1,4 @@
--- How deep the one stack can get. Handlers of one priority never stand on each other, so each priority counts once,
+-- How deep the one stack can get. Two handlers of one priority are never active at once, so each priority counts once,
 -- with the greatest need of its handlers: a maximum per priority, where the machine has nested frames (Baker, 1991, on
 -- sharing a stack).
 use Rattle.std.specs.Prelude.{ℕ, zero, suc, ◌+◌, ◌*◌, ◌==◌, max, Bool, not, ◌&&◌, ◌||◌, List, map, filter, Option, Some}
@@ -27,7 +27,7 @@ is_timed_at p app = is_some_and (λ mono. mono.priority == p) app.mono
 abbrev pub has_handler : App → ℕ → Bool
 has_handler app p = list_any (λ t. t.priority == p) app.tasks || is_timed_at p app
 
--- the words of a dispatcher, on which one of its tasks stands
+-- the words of a dispatcher's frame and of the greatest frame of its tasks, of which it calls one at a time
 abbrev pub dispatcher_need : App → ℕ → ℕ
 dispatcher_need app p =
     if list_any (is_of_level p) app.tasks then DISPATCHER_WORDS + greatest (frames_of (is_of_level p) app) else 0

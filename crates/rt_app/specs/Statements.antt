@@ -1,5 +1,5 @@
--- The rules on statements: shared resources (Baker, 1991; the RTIC 1 book), spawns, time, and what can be assigned
--- to. A name that is not known, which is refused as such, breaks none of them.
+-- The rules on statements: shared resources (Baker, 1991; the RTIC 1 book), spawns, time, and what can be assigned to.
+-- An unknown name breaks none of them, because it has a refusal of its own.
 use Rattle.std.specs.Prelude.{ℕ, ◌==◌, Bool, true, false, not, ◌&&◌, ◌||◌, List, [], ◌++◌, length, flat_map, find}
 use Rattle.std.specs.Prelude.{slice_get, Option, is_none}
 use Rattle.std.specs.List.{list_any}
@@ -37,7 +37,8 @@ is_lockable app m r = is_some_and (λ l. not l.by_ref && not (is_lock_free app r
 abbrev pub is_free : App → Member → ℕ → Bool
 is_free app m r = is_some_and (λ l. l.by_ref || is_lock_free app r) (listing_in m r)
 
--- `init` uses every shared resource by its name; any other body one that it locks, or that it reaches without a lock
+-- whether a body uses a shared resource where it may not: it is not `init`, it may not go without a lock, and it is not
+-- inside a lock of a resource that it lists to be locked
 abbrev pub is_outside : App → Member → List ℕ → Atom → Bool
 is_outside app m locked (atom.Var x) = false
 is_outside app m locked (atom.Local n) = false
@@ -45,33 +46,33 @@ is_outside app m locked (atom.Shared r) =
     is_known r
     && (not (is_init m.id) && not (is_free app m r || (is_lockable app m r && list_any (λ q. q == r) locked)))
 
--- `init` locks nothing, any other body what it lists to be locked
+-- whether a lock is misplaced: `init` locks nothing, any other body only what it lists to be locked
 abbrev pub is_misplaced_lock : App → Member → ℕ → Bool
 is_misplaced_lock app m r = is_known r && (is_init m.id || not (is_lockable app m r))
 
--- a lock of a resource that is locked already
+-- whether a lock is of a resource that is locked already
 abbrev pub is_inside_itself : List ℕ → ℕ → Bool
 is_inside_itself locked r = is_known r && list_any (λ q. q == r) locked
 
--- the variable of a loop, and what a body other than `init` lists to be read alone
+-- what may not be assigned to: the variable of a loop, and what a body other than `init` lists to be read alone
 abbrev pub is_fixed : Member → Atom → Bool
 is_fixed m (atom.Var x) = list_any (λ y. y == x) (loops m.body.block)
 is_fixed m (atom.Local n) = false
 is_fixed m (atom.Shared r) = is_known r && (not (is_init m.id) && is_some_and (λ l. l.by_ref) (listing_in m r))
 
--- a spawn is of a software task, with as many arguments as it takes
+-- whether a task is a software task that takes as many arguments
 abbrev pub takes : List Expression → Task → Bool
 takes args t = is_software t && (length args == t.args)
 
--- a spawn of a hardware task, or with another number of arguments
+-- whether a spawn is of a hardware task, or has another number of arguments than its task
 abbrev pub is_bad_spawn : App → ℕ → List Expression → Bool
 is_bad_spawn app n args = is_known n && not (is_some_and (takes args) (slice_get app.tasks n))
 
--- a message of a hardware task
+-- whether a message that is cancelled or moved is of a hardware task
 abbrev pub is_bad_message : App → ℕ → Bool
 is_bad_message app n = is_known n && not (is_some_and is_software (slice_get app.tasks n))
 
--- the rules that a spawn breaks: all but one at once want a monotonic
+-- the rules that a spawn, a `cancel` or a `reschedule_after` breaks: all but a spawn at once want a monotonic
 abbrev pub spawn_breaks : App → Spawn → List Violation
 spawn_breaks app (Soon task args at) = when (is_bad_spawn app task args) rule.NotSoftware at
 spawn_breaks app (After word delay task args at) =
@@ -92,7 +93,7 @@ use_breaks app m locked (Locks r at) =
 use_breaks app m locked (MakesSpawn s) = spawn_breaks app s
 use_breaks app m locked (AsksTime at) = when (is_none app.mono) rule.NoMonotonic at
 
--- the rules that a use breaks where it stands
+-- the rules that a use breaks at its place in the text
 abbrev pub breaks : App → Member → Placed → List Violation
 breaks app m p = use_breaks app m p.locked p.what
 

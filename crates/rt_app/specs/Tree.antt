@@ -19,7 +19,7 @@ pub data Expression : Type 0 where
   Read : Atom → ℕ → Expression
   Oper : Op → Expression → Expression → Expression
 
--- what sends a message to a software task, or takes it back or puts it off by its handle
+-- what sends a message to a software task, or cancels or reschedules one by its handle
 pub data Spawn : Type 0 where
   -- the task, its arguments, and the offset of its name
   Soon : ℕ → List Expression → ℕ → Spawn
@@ -37,7 +37,8 @@ pub data Value : Type 0 where
   Now : ℕ → Value
   Call : Spawn → Value
 
--- A block is none or a statement and the block behind it.
+-- a statement, with its inner blocks: a `let`, an assignment, an `if`, a `for`, a lock, an `emit`, a `pend`, or a spawn
+-- whose answer is dropped
 mutual
   pub data Statement : Type 0 where
     Bind : ℕ → Value → Statement
@@ -49,7 +50,7 @@ mutual
     Pend : ℕ → Statement
     Spawns : Spawn → Statement
 
-  -- a block: a list of statements
+  -- a block: nothing, or a statement and the rest of the block
   pub data Block : Type 0 where
     Empty : Block
     Then : Statement → Block → Block

@@ -5,7 +5,8 @@ use Rattle.rt_app.specs.declared.expr.Atom.{Atom}
 use Rattle.rt_app.specs.Tree.{Expression, Num, Read, Oper, Spawn, Soon, After, Cancel, Move, Value, Calc, Now, Call}
 use Rattle.rt_app.specs.Tree.{Statement, Bind, Assign, Branch, Repeat, Locked, Emit, Pend, Spawns, Block, Empty, Then}
 
--- a name is read or assigned, a resource is locked, a task is spawned, the time is asked
+-- a use that the rules speak of: a name is read or assigned, a resource is locked, a message is spawned, cancelled or
+-- moved, or the time is asked for
 pub data Use : Type 0 where
   Reads : Atom → (at : ℕ) → Use
   Writes : Atom → (at : ℕ) → Use
@@ -62,7 +63,7 @@ abbrev mutual
   uses locked Empty = []
   uses locked (Then s rest) = statement_uses locked s ++ uses locked rest
 
--- the variables of `for` statements
+-- the variables of a `for` and of those in inner blocks
 abbrev mutual
   pub statement_loops : Statement → List ℕ
   statement_loops (Bind x v) = []

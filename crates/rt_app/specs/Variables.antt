@@ -2,7 +2,7 @@
 use Rattle.std.specs.Prelude.{ℕ, ◌+◌}
 use Rattle.rt_app.specs.Tree.{Statement, Bind, Assign, Branch, Repeat, Locked, Emit, Pend, Spawns, Block, Empty, Then}
 
--- the `let` and `for` statements, those of inner blocks too
+-- how many variables a statement brings in: one for each `let` and `for`, those of inner blocks too
 abbrev mutual
   pub variables_in : Statement → ℕ
   variables_in (Bind x v) = 1
@@ -14,7 +14,7 @@ abbrev mutual
   variables_in (Pend i) = 0
   variables_in (Spawns s) = 0
 
-  -- the variables that the statements of a block bring in
+  -- how many variables the statements of a block bring in
   pub variables : Block → ℕ
   variables Empty = 0
   variables (Then s rest) = variables_in s + variables rest

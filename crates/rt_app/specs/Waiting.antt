@@ -1,9 +1,9 @@
--- How long a job of a priority may wait for jobs of lower ones, in core steps: for one section of one of them,
--- since no other can begin while it is pending (Baker, Stack-Based Scheduling of Realtime Processes, 1991, on
--- blocking). A section counts where its ceiling is at least the priority, its body is of lower priority, and it
--- stands in no other section of its body of such a ceiling: that one holds the priority off already. (In a loop of
--- no turns it can cost more than that one.) `init` counts for nothing. The code walks each body once a priority, and
--- does not look into a section that counts.
+-- How long a job of a priority may wait for jobs of lower ones, in core steps: for one section of one of them, since no
+-- other can begin while it is pending (Baker, Stack-Based Scheduling of Realtime Processes, 1991, on blocking). A
+-- section counts where its ceiling is at least the priority, its body is of lower priority, and it lies in no other
+-- section of its body of such a ceiling: that one holds the priority off already. (In a loop of no turns it can cost
+-- more than that one.) `init` counts for nothing. The code walks each body once a priority, and does not look into a
+-- section that counts.
 use Rattle.std.specs.Prelude.{ℕ, ◌+◌, Bool, max, ◌&&◌, nat_lt, nat_le, List, [], ◌∷◌, ◌++◌, map, filter}
 use Rattle.std.specs.Prelude.{Option, Some, None, if◌then◌else◌}
 use Rattle.rt_ids.specs.Lists.{greatest}
@@ -23,7 +23,7 @@ use Rattle.rt_app.specs.BodyCost.{cost_measure, dispatcher_section_cost, timer_s
 pub record CriticalSection : Type 0 where
   -- the priority of the body
   pub priority : ℕ
-  -- the greatest ceiling of the sections of the body that it stands in, and 0 where it stands in none
+  -- the greatest ceiling of the sections of the body that it lies in, and 0 where it lies in none
   pub outer : ℕ
   pub ceiling : ℕ
   -- its core steps, from the entering to the leaving
@@ -31,25 +31,25 @@ pub record CriticalSection : Type 0 where
 
 -- in code that runs at a priority
 module _ (app : App) (priority : ℕ) where
-  -- and that stands in sections of ceilings up to this
+  -- and that lies in sections of ceilings up to this
   module _ (outer : ℕ) where
-    -- a section that guards this
+    -- a critical section there, of this cost
     abbrev pub critical : Section → ℕ → CriticalSection
     critical s cost = record { priority = priority; outer = outer; ceiling = ceiling app s; cost = cost }
 
-    -- the places that a software task's messages have left
+    -- the section of a task's free places
     abbrev pub free_section : ℕ → CriticalSection
     free_section task = critical (section.Free task) FREE_COST
 
-    -- the ready messages of a level
+    -- the section of the ready messages of a level, of this cost
     abbrev pub ready_section : ℕ → ℕ → CriticalSection
     ready_section p cost = critical (section.Ready p) cost
 
-    -- the armed messages, of a section of this cost
+    -- the section of the timer queue, of this cost
     abbrev pub timer_section : ℕ → CriticalSection
     timer_section cost = critical section.Timer cost
 
-    -- a lock round a block
+    -- the section of a lock round a block
     abbrev pub lock_section : ℕ → Block → CriticalSection
     lock_section r inner = critical (section.Res r) (lock_cost (block_cost (cost_measure app) inner))
 
