@@ -1,4 +1,5 @@
--- What an instruction touches of memory: at most one cell. Of a cell behind another the number is in a slot.
+-- What an instruction touches of memory: at most one cell. Where the cell's number is computed, a slot has its distance
+-- from a cell that the instruction names.
 use Rattle.std.specs.Prelude.{ℕ, ◌+◌, List, slice_get, option_map, Option, Some, None}
 use Rattle.std.specs.Option.{option_to_list}
 use Rattle.rt_code.specs.Processor.{Processor, Effect, Traps, Leads}
@@ -18,7 +19,7 @@ cell_of (Loads cell) = cell
 cell_of (Stores cell) = cell
 
 -- The access of an instruction: none where it touches no cell, or where the slot that it needs for the cell's number is
--- not in the frame. The number of a cell behind another is a sum that does not wrap.
+-- not in the frame. A computed number is a sum that does not wrap.
 abbrev pub access_of : Instr → Processor → Option Access
 access_of (instr.Load d c) p = Some (Loads c)
 access_of (instr.Store c s) p = Some (Stores c)

@@ -1,4 +1,4 @@
--- How code does an action: what the job has left to do must begin with it, and what follows goes by the values behind
+-- How code does an action: what the job has left to do must begin with it, and what follows goes by the values after
 -- it, whatever others did to what is not the job's. Places of messages move from list to list, and are nowhere copied.
 use Rattle.std.specs.Prelude.{◌≡◌, ℕ, ◌+◌, ◌≤◌, true, List, [], ◌∷◌, ◌++◌, length, take, drop, slice_get, Option, Some}
 use Rattle.std.specs.Prelude.{if◌then◌else◌}
@@ -18,12 +18,12 @@ use Rattle.rt_code.specs.declared.image.BodyRow.{BodyRow}
 use Rattle.rt_code.specs.declared.instr.Note.{Note}
 use Rattle.rt_code.specs.declared.instr.Note.TheVariants as note
 
--- the queue of one section becomes this
+-- the queues with this list for the queue of a section
 abbrev pub with_queue : (Holder → List Entry) → Section → List Entry → Holder → List Entry
 with_queue queues x entries holder = if is_same_holder (Guarded x) holder then entries else queues holder
 
 module _ (st : Storage) (bodies : List BodyRow) (who : Runner) where
-  -- The next action is this one, and then the job goes on, by the answer and by the values behind it.
+  -- The next action is this one, and then the job goes on, by the answer and by the values after it.
   pub record Acts (action : Action) (answer : ℕ) (s : Spot) (later : Spot → Type 0) : Type 0 where
     pub values : Values
     pub follows : ℕ → Values → Doing Values
@@ -31,13 +31,14 @@ module _ (st : Storage) (bodies : List BodyRow) (who : Runner) where
     pub on : (vs : Values) → Agree st who s.held vs values
         → later (record s { rest = follows answer (effect action vs) })
 
-  -- The alarm becomes the least armed instant, for the monotonic's interrupt, or none where nothing is armed.
+  -- The next action sets the alarm, inside the section of the timer queue, to the least armed instant, or to none where
+  -- nothing is armed.
   pub record SetsTheAlarm (instant : Option ℕ) (s : Spot) (later : Spot → Type 0) : Type 0 where
     pub acts : Acts SetsAlarm 0 s later
     pub inside : is_open s.held section.Timer ≡ true
     pub least : least_instant (delays (acts.values (Guarded section.Timer))) ≡ instant
 
-  -- a place of a task is taken into the hands
+  -- a place of a task is taken into the job's hands
   pub record PlacesMessage (t : ℕ) (s : Spot) (later : Spot → Type 0) : Type 0 where
     pub entry : Entry
     pub others : List Entry
@@ -52,7 +53,7 @@ module _ (st : Storage) (bodies : List BodyRow) (who : Runner) where
     pub inside : is_open s.held (section.Free t) ≡ true
     pub acts : Acts (FindsFull t) 0 s later
 
-  -- the message in the hands goes last into the ready queue of a level
+  -- the message in the job's hands goes last into the ready queue of a level
   pub record ReadiesMessage (t : ℕ) (s : Spot) (later : Spot → Type 0) : Type 0 where
     pub level : ℕ
     pub message : Message
@@ -68,7 +69,7 @@ module _ (st : Storage) (bodies : List BodyRow) (who : Runner) where
         })
         later
 
-  -- the message in the hands goes last into the timer queue, for the instant in a slot
+  -- the message in the job's hands goes last into the timer queue, for the instant in a slot
   pub record ArmsMessage (t slot : ℕ) (s : Spot) (later : Spot → Type 0) : Type 0 where
     pub instant : ℕ
     pub message : Message
@@ -98,7 +99,7 @@ module _ (st : Storage) (bodies : List BodyRow) (who : Runner) where
     pub acts : Acts (Starts level message) 0
         (record s { places = entry ∷ s.places; queues = with_queue s.queues (section.Ready level) others }) later
 
-  -- an armed message comes into the hands; the others stay in order
+  -- an armed message comes into the job's hands; the others stay in order
   pub record FiresMessage (t : ℕ) (s : Spot) (later : Spot → Type 0) : Type 0 where
     pub message : Message
     pub entry : Entry
@@ -110,7 +111,7 @@ module _ (st : Storage) (bodies : List BodyRow) (who : Runner) where
     pub acts : Acts (Fires message) 0
         (record s { places = entry ∷ s.places; queues = with_queue s.queues section.Timer (before ++ behind) }) later
 
-  -- an armed message, whose handle is in a slot, comes into the hands; the others stay in order
+  -- an armed message, whose handle is in a slot, comes into the job's hands; the others stay in order
   pub record CancelsMessage (t slot : ℕ) (s : Spot) (later : Spot → Type 0) : Type 0 where
     pub handle : ℕ
     pub entry : Entry
@@ -138,7 +139,7 @@ module _ (st : Storage) (bodies : List BodyRow) (who : Runner) where
     pub acts : Acts (Moves t handle instant) 0
         (record s { queues = with_queue s.queues section.Timer (before ++ (behind ++ entry ∷ [])) }) later
 
-  -- the place in the hands is free again, and is taken next
+  -- the place in the job's hands is free again, and is taken next
   pub record FreesPlace (t : ℕ) (s : Spot) (later : Spot → Type 0) : Type 0 where
     pub entry : Entry
     pub others : List Entry
@@ -151,7 +152,7 @@ module _ (st : Storage) (bodies : List BodyRow) (who : Runner) where
           queues = with_queue s.queues (section.Free t) (entry ∷ s.queues (Guarded (section.Free t)));
         }) later
 
-  -- what a note on a plain instruction says is done; those of sections and ends stand on instructions of their own
+  -- what a note on a plain instruction says is done; the notes of sections and ends are on instructions of their own
   abbrev pub Noted : Note → Spot → (Spot → Type 0) → Type 0
   Noted (note.Placed t) s later = PlacesMessage t s later
   Noted (note.Full t) s later = FindsTaskFull t s later

@@ -33,8 +33,8 @@ abbrev pub unmask : Processor → ℕ → Effect
 unmask p value =
     if nat_le value 1 then Leads (record (next p) { primask = value == 1 }) request.Nothing else Traps trap.Stack
 
--- What an instruction does at a time, where its cells and slots are there. The number of a cell behind another, C +
--- slot S, is a sum that does not wrap.
+-- What an instruction does at a time, where its cells and slots are there. A computed cell, C + slot S, has a number
+-- that is a sum and does not wrap.
 abbrev pub unchecked_effect : Instr → ℕ → Processor → Effect
 unchecked_effect (instr.Set d v) time p = Leads (next_with_slot p d v) request.Nothing
 unchecked_effect (instr.Copy d s) time p = Leads (next_with_slot p d (slot p s)) request.Nothing

@@ -31,7 +31,7 @@ module _ (st : Storage) (code : List (Instr × Option Note)) (bodies : List Body
     pub spelled : (h : Holder) → st.is_kept who h ≡ true → st.Spells h (slice_index s.cells) (s.queues h) (values h)
 
   -- a body that a handler calls runs in a frame of its own, with no section open; the handler's frame keeps the address
-  -- behind the call
+  -- after the call
   pub record Calls (row from : ℕ) (s : Spot) (later : Spot → Type 0) : Type 0 where
     pub called : BodyRow
     pub is_there : slice_get bodies row ≡ Some called
@@ -41,7 +41,7 @@ module _ (st : Storage) (code : List (Instr × Option Note)) (bodies : List Body
     pub on : let frame : List ℕ = stack.caller_frame s.slots (suc s.address) in
         later (record s { address = called.entry; slots = stack.body_frame frame called from; caller = Some frame })
 
-  -- the end of a called body leads back to the handler's frame, behind the call
+  -- the end of a called body leads back to the handler's frame, to the address after the call
   pub record ComesBack (t : ℕ) (s : Spot) (later : Spot → Type 0) : Type 0 where
     pub frame : List ℕ
     pub caller : s.caller ≡ Some frame
@@ -49,7 +49,8 @@ module _ (st : Storage) (code : List (Instr × Option Note)) (bodies : List Body
     pub acts : Acts st bodies who (Ends (body.Task t)) 0
         (record s { address = stack.return_address frame; slots = frame; caller = None }) later
 
-  -- `init` ends by serving interrupts, and the thread goes on at its address; `idle` by going to the same again
+  -- How a body ends: `init` by serving interrupts, and the thread goes on at its address; `idle` by a jump to that
+  -- address; a called body by going back to its handler.
   abbrev pub EndsBody : BodyId → Instr → Spot → (Spot → Type 0) → Type 0
   EndsBody body.Init i s later =
       (i ≡ instr.Serve) × (who ≡ Starting) × (suc s.address ≡ thread) × Finishes (Ends body.Init) s

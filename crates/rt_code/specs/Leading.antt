@@ -1,5 +1,5 @@
--- Which notes stand on instructions of their own, and what an instruction leads to from the place of a job. Notes are
--- this project's own.
+-- Which notes are on instructions of their own, and what an instruction leads to from where a job is. Notes are this
+-- project's own.
 use Rattle.std.specs.Prelude.{◌≡◌, ℕ, ◌^◌, ◌<◌, Bool, true, false, Option, Some}
 use Rattle.rt_code.specs.Effect.{effect}
 use Rattle.rt_code.specs.Owning.{Spot}
@@ -23,7 +23,8 @@ is_plain (Some (note.Leave x)) = false
 is_plain (Some (note.End b)) = false
 is_plain told = true
 
--- whatever the masks, in time: what an instruction leads to from a spot, and what it asks of the core
+-- with these masks, at a time below 2^31, an instruction leads from where a job is to this processor, and asks this of
+-- the core
 abbrev pub LeadsTo : Spot → Instr → ℕ → ℕ → Bool → Processor → Request → Type 0
 LeadsTo s i time basepri primask p asked =
     (time < 2 ^ 31) × (effect i time (processor_of s basepri primask) ≡ Leads p asked)

@@ -19,7 +19,7 @@ HasCell img n = Unit {0}
 pub record HasLines (img : Image) : Type 0 where
   pub listable : IsListable img
   pub names : AreNames img.names
-  -- the interrupt of each row stands in the names, with its number
+  -- the interrupt of each row is among the names, with its number
   pub irqs : AllByRecursion (λ row. Contains img.names.irqs (row.name, row.number)) img.irqs
   -- each resource that a note leaves has a cell of its name
   pub left : AllByRecursion (λ line. HasCell img line.1) img.code

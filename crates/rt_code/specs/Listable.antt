@@ -40,7 +40,7 @@ pub record AreWritable (names : Names) : Type 0 where
   pub tasks_differ : AreDifferent names.tasks
   pub shared_differ : AreDifferent names.shared
 
--- what the type of names keeps is enough
+-- names that an application may declare can be written
 abbrev pub NamesAreWritable : Type 0
 NamesAreWritable = (names : Names) → AreNames names → AreWritable names
 

@@ -1,7 +1,7 @@
 -- How code goes into a section and comes out of it. A section holds off all priorities up to its ceiling: by nothing
--- where what runs does already, by BASEPRI, or by PRIMASK where the value of the ceiling is 0, which as BASEPRI would
--- mask nothing (the RTIC 1 book, critical sections; ARMv7-M Architecture Reference Manual, section B1.4.3). What the
--- mask was is kept in a slot, and put back.
+-- where what runs does already; by BASEPRI; or by PRIMASK where the priority value of the ceiling is 0, which in
+-- BASEPRI would mask nothing (the RTIC 1 book, critical sections; ARMv7-M Architecture Reference Manual, section
+-- B1.4.3). What the mask was is kept in a slot, and put back.
 use Rattle.std.specs.Prelude.{◌≡◌, ℕ, suc, ◌-◌, ◌<◌, ◌≤◌, max, false, List, ◌∷◌, length, map, drop, slice_index}
 use Rattle.std.specs.Prelude.{slice_set, Contains}
 use Rattle.std.specs.List.{AllByRecursion}
@@ -18,7 +18,7 @@ use Rattle.rt_code.specs.Owning.{Agree, LeavesMine}
 use Rattle.rt_code.specs.declared.instr.Instr.{Instr}
 use Rattle.rt_code.specs.declared.instr.Instr.TheVariants as instr
 
--- the instruction that opens a section of this kind; BASEPRI becomes the value of its ceiling
+-- the instruction that opens a section of this kind; BASEPRI becomes the priority value of its ceiling
 abbrev pub opening_instr : ℕ → Kind → Instr
 opening_instr value Marked = instr.Mark
 opening_instr value (Raised slot) = instr.Raise slot value
@@ -30,7 +30,7 @@ closing_instr Marked = instr.Mark
 closing_instr (Raised slot) = instr.Restore slot
 closing_instr (Masked slot) = instr.Unmask slot
 
--- the slots with what a mask was, where one is kept
+-- the slots with what a mask was, where the kind keeps one
 abbrev pub slots_with_mask : Kind → ℕ → List ℕ → List ℕ
 slots_with_mask Marked value slots = slots
 slots_with_mask (Raised slot) value slots = slice_set slots slot value
@@ -60,7 +60,7 @@ module _ (st : Storage) (who : Runner) where
   NobodyKeeps (AtPriority p) x =
       (q : ℕ) → (st.is_kept (AtPriority q) (Guarded x) ≡ false) × (st.is_constant (AtPriority q) (Guarded x) ≡ false)
 
-  -- the job behind the opening of a section, with memory and queues as they then are
+  -- where the job is after the opening of a section, with memory and queues as they then are
   abbrev pub inside : Section → Kind → ℕ → ℕ → Doing Values → List ℕ → (Holder → List Entry) → Spot → Spot
   inside x kind saved cost rest cells queues s = record s {
     held = record { section = x; kind = kind } ∷ s.held;
@@ -72,7 +72,7 @@ module _ (st : Storage) (who : Runner) where
     rest = rest;
   }
 
-  -- What it guards is taken over as the others left it, with no place of a message twice among the job's own.
+  -- What a section guards is taken over as the others left it, with no place of a message twice among the job's own.
   pub record TakesOver (x : Section) (s : Spot) (values vs : Values) (cells : List ℕ)
       (queues : Holder → List Entry) : Type 0 where
     pub agree : Agree st who s.held vs values
@@ -101,7 +101,8 @@ module _ (st : Storage) (who : Runner) where
         → TakesOver x s values vs cells queues
         → later (inside x kind saved cost (follows 0 vs) cells queues s)
 
-  -- What it guards is given back as it then is: its cells spell its value.
+  -- The job's next action leaves the innermost section, and the instruction closes it. What the section guards is given
+  -- back as it then is: its cells spell its value.
   pub record ComesOut (x : Section) (i : Instr) (s : Spot) (later : Spot → Type 0) : Type 0 where
     pub values : Values
     pub follows : ℕ → Values → Doing Values

@@ -1,4 +1,4 @@
--- The slots that an instruction names, and whether places are there.
+-- The slots that an instruction names, and whether cells or slots are there.
 use Rattle.std.specs.Prelude.{ℕ, Bool, nat_lt, List, [], ◌∷◌, length}
 use Rattle.std.specs.List.{list_all}
 use Rattle.rt_code.specs.declared.instr.Instr.{Instr}
@@ -23,6 +23,6 @@ slots_of (instr.Mask d) = d ∷ []
 slots_of (instr.Unmask s) = s ∷ []
 slots_of i = []
 
--- all of these places are in the words
+-- whether all of these indices are within the words
 abbrev pub are_there : List ℕ → List ℕ → Bool
 are_there indices words = list_all (λ index. nat_lt index (length words)) indices

@@ -12,8 +12,8 @@ use Rattle.rt_ids.specs.Storage.{Storage, Runner, Home, At, In, Nowhere}
 use Rattle.rt_ids.specs.declared.ids.Section.{Section}
 use Rattle.rt_code.specs.Access.{Access, Loads, Stores}
 
--- how a section holds others off: a mark alone, since what runs does already; or BASEPRI or PRIMASK, whose value before
--- is in a slot
+-- how a section holds others off: by nothing, since what runs does already; or by BASEPRI or PRIMASK, whose value
+-- before is in a slot
 pub data Kind : Type 0 where
   Marked : Kind
   Raised : (slot : ℕ) → Kind

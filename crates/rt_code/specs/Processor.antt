@@ -1,7 +1,7 @@
--- What an instruction reads and writes by itself: the processor's registers that it names, the words of the running
--- frame, and the cells of memory (ARMv7-M Architecture Reference Manual, sections B1.4.2 and B1.4.3 for the masks). The
--- general registers are not modelled: an instruction works on the words of the frame. Also what it asks of the rest of
--- the core.
+-- What an instruction reads and writes by itself: the processor's registers that it names (ARMv7-M Architecture
+-- Reference Manual, section B1.4; for the masks section B1.4.3), the words of the running frame, and the cells of
+-- memory. The general registers are not modelled: an instruction works on the words of the frame. Also what it asks of
+-- the rest of the core.
 use Rattle.std.specs.Prelude.{◌≡◌, ℕ, Bool, List, Result, Ok, Err}
 use Rattle.rt_code.specs.declared.processor.Registers.{Registers}
 use Rattle.rt_code.specs.declared.processor.Request.{Request}
@@ -20,7 +20,7 @@ pub record Processor : Type 0 where
   -- memory
   pub cells : List ℕ
 
--- the parts of the code, together
+-- the processor whose parts the code keeps apart: registers, the running frame and memory
 abbrev pub processor : Registers → List ℕ → List ℕ → Processor
 processor r slots cells =
     record { address = r.address; basepri = r.basepri; primask = r.primask; slots = slots; cells = cells }

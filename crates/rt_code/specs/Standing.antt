@@ -1,7 +1,7 @@
--- Code that stands: from where a job is, instruction after instruction does what the job has left to do, action by
--- action and in time, whatever others do to what is not its own. It is said by what each instruction does (`effect`),
--- once for all code, and not by how code is generated: a job is thought of in its own frame, its own sections and its
--- own part of memory, as a task of RTIC 1 is.
+-- Code that stands, that is, code that is correct: from where a job is, instruction after instruction does what the job
+-- has left to do, action by action and in time, whatever others do to what is not its own. It is said by what each
+-- instruction does (`effect`), once for all code, and not by how code is generated: a job is thought of in its own
+-- frame, its own sections and its own part of memory, as a task of RTIC 1 is.
 use Rattle.std.specs.Prelude.{◌≡◌, ℕ, zero, suc, ◌-◌, ◌^◌, ◌<◌, Bool, true, false, ◌||◌, List, [], ◌∷◌, length, map}
 use Rattle.std.specs.Prelude.{slice_get, slice_index, Option, Some, None}
 use Rattle.std.specs.List.{AllByRecursion}
@@ -30,7 +30,7 @@ abbrev pub processor_of : Spot → ℕ → Bool → Processor
 processor_of s basepri primask =
     record { address = s.address; basepri = basepri; primask = primask; slots = s.slots; cells = s.cells }
 
--- where a job is behind an instruction of its own
+-- where a job is after an instruction of its own
 abbrev pub spot_behind : Spot → Processor → Spot
 spot_behind s p = record s { address = p.address; slots = p.slots; cells = p.cells }
 

@@ -1,5 +1,5 @@
--- What holds of all code that stands: further code behind it, more steps than it needs, and whatever others do to what
--- is not the job's own change nothing of it; and of each of its steps what the definition tells.
+-- What holds of all code that stands: further code after it, more steps than it needs, and whatever others do to what
+-- is not the job's own change nothing of it; and of each of its steps what the definition says.
 use Rattle.std.specs.Prelude.{◌≡◌, ℕ, suc, ◌<◌, ◌≤◌, ◌⊎◌, false, List, [], ◌∷◌, ◌++◌, Option}
 use Rattle.rt_ids.specs.Holder.{Holder}
 use Rattle.rt_ids.specs.Content.{Content}
@@ -32,7 +32,7 @@ SpellsByItsOwn st = (h : Holder) (before after : ℕ → ℕ) (entries : List En
     → st.Spells h before entries content → st.Spells h after entries content
 
 module _ (st : Storage) (bodies : List BodyRow) (thread : ℕ) (who : Runner) where
-  -- code that stands does so with further code behind it
+  -- code that stands does so with further code after it
   abbrev pub StandsBeforeMore : Type 0
   StandsBeforeMore = (code more : List (Instr × Option Note)) (n : ℕ) (s : Spot)
       → Stands st code bodies thread who n s → Stands st (code ++ more) bodies thread who n s
@@ -50,14 +50,15 @@ module _ (st : Storage) (bodies : List BodyRow) (thread : ℕ) (who : Runner) wh
       → LeavesMine st who s cells queues → Stands st code bodies thread who n s
       → Stands st code bodies thread who n (record s { cells = cells; queues = queues })
 
--- what holds at each place where code stands with a step to take
+-- a law holds of each configuration in which code stands with a step to take
 abbrev pub OfEachStep
     : Storage → (List (Instr × Option Note) → List BodyRow → ℕ → Runner → ℕ → Spot → Type 0) → Type 0
 OfEachStep st law =
     (code : List (Instr × Option Note)) (bodies : List BodyRow) (thread : ℕ) (who : Runner) (n : ℕ) (s : Spot)
     → Stands st code bodies thread who (suc n) s → law code bodies thread who n s
 
--- All laws of code that stands, for a storage: code and steps more, others; and of each step that it takes.
+-- All laws of code that stands over a storage: it stands with more code after it, with more steps, and whatever others
+-- do; and six laws of each step that it takes.
 pub record StandingLaws (st : Storage) : Type 0 where
   pub appending : (bodies : List BodyRow) (thread : ℕ) (who : Runner) → StandsBeforeMore st bodies thread who
   pub more_steps : (bodies : List BodyRow) (thread : ℕ) (who : Runner) → StandsWithMore st bodies thread who

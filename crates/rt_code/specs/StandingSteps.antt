@@ -33,8 +33,8 @@ module _ (st : Storage) (code : List (Instr × Option Note)) (bodies : List Body
   abbrev pub Later : Spot → Type 0
   Later t = Stands st code bodies thread who n t
 
-  -- Step: a step is left to the job and to each open section, and the line touches what the job may touch. A plain
-  -- line is silent or does the next action, and the code stands behind it.
+  -- Step: a step is left to the job and to each open section, and the line touches what the job may touch. A plain line
+  -- is silent or does the next action, and the code stands after it.
   pub record StepLaw : Type 0 where
     pub left : HaveLeft s.lefts
     pub line : Instr × Option Note

@@ -57,11 +57,12 @@ reset img = record {
   stopped = false;
 }
 
--- the stack words of what a handler interrupted, with the so many that exception entry pushed
+-- how many stack words an active handler's context takes: what it interrupted, and the words that exception entry
+-- pushed
 abbrev pub context_words : ℕ → Context → ℕ
 context_words entry x = stack.context_words entry x.caller x.slots
 
--- the stack words in use
+-- how many stack words are in use
 abbrev pub stack_in_use : Image → Core → ℕ
 stack_in_use img c = stack.words_in_use (context_words (entry_words img)) c.caller c.processor.slots c.below
 

@@ -17,7 +17,7 @@ use Rattle.rt_core.specs.Stepping.{go_on, step}
 use Rattle.rt_core.specs.Trace.{tick, happen, core_after, labels, trace, depth_after}
 use Rattle.rt_core.specs.Transfer.{core_after_pend, exception_entry}
 
--- the trace of events shows just these events
+-- the trace of a list of events shows just these events
 abbrev pub ShowsItsEvents : Type 0
 ShowsItsEvents = (img : Image) (events : List Event) → shown_events 0 (trace img events) (steps events) ≡ events
 

@@ -21,8 +21,8 @@ pub record IsAt (c : Core) (s : Spot) : Type 0 where
   pub cells : c.processor.cells ≡ s.cells
   pub caller : c.caller ≡ s.caller
 
--- Behind a plain instruction: the masks as they were, the frame and memory as long, and what the open sections saved
--- in its slots.
+-- After a plain instruction the masks are as they were, the frame and memory are as long, and the slots in which open
+-- sections saved masks are as they were.
 pub record GoesPlainly (s : Spot) (before after : Processor) : Type 0 where
   pub basepri : after.basepri ≡ before.basepri
   pub primask : after.primask ≡ before.primask
@@ -42,14 +42,14 @@ at_address c address = with_processor c (record c.processor { address = address 
 abbrev pub core_serving : Core → ℕ → Core
 core_serving c address = with_processor c (record c.processor { address = address; primask = false })
 
--- the core behind a called body, in its handler's frame
+-- the core after a called body, in its handler's frame
 abbrev pub in_frame : Core → List ℕ → Core
 in_frame c frame = record c {
   processor = record c.processor { address = stack.return_address frame; slots = frame };
   caller = None;
 }
 
--- the core behind a handler, where it interrupted what runs on
+-- the core after a handler's return, where what it interrupted runs on
 abbrev pub in_context : Core → Context → List Context → Core
 in_context c x others = record c {
   processor = record c.processor { address = x.address; slots = x.slots };

@@ -6,7 +6,7 @@ use Rattle.rt_code.specs.Masking.{slots_with_mask}
 use Rattle.rt_code.specs.Owning.{Kind, Marked, Raised, Masked}
 use Rattle.rt_code.specs.Processor.{Processor}
 
--- what the mask of a kind is, as the slot that saves it holds it
+-- what the mask of a kind is, as a number that a slot can save
 abbrev pub mask_of : Processor → Kind → ℕ
 mask_of p Marked = 0
 mask_of p (Raised slot) = p.basepri
@@ -30,11 +30,11 @@ CanPutBack Marked slots = Unit {0}
 CanPutBack (Raised slot) slots = slot < length slots
 CanPutBack (Masked slot) slots = (slot < length slots) × (slice_index slots slot ≤ 1)
 
--- behind the instruction that opens a section of a kind: its mask is set, and what it was is saved
+-- the processor after the instruction that opens a section of a kind: its mask is set, and what it was is saved
 abbrev pub processor_after_opening : Processor → ℕ → Kind → Processor
 processor_after_opening p value kind =
     record (with_mask p value kind) { address = suc p.address; slots = slots_with_mask kind (mask_of p kind) p.slots }
 
--- behind the instruction that closes a section of a kind: its mask is put back
+-- the processor after the instruction that closes a section of a kind: its mask is put back
 abbrev pub processor_after_closing : Processor → Kind → Processor
 processor_after_closing p kind = record (with_saved p kind) { address = suc p.address }

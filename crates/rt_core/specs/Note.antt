@@ -1,5 +1,5 @@
--- The item of a note, read from the core after the instruction that it stands on. Notes are this model's own: they say
--- in the terms of RTIC 1 what the code has done. None where a slot that the note names is not in the frame.
+-- The item of a note, read from the core after the instruction that has the note. Notes are this model's own: they say
+-- in the terms of RTIC 1 what the code has done. There is no item where a slot that the note names is not in the frame.
 use Rattle.std.specs.Prelude.{ℕ, ◌+◌, ◌==◌, ◌||◌, nat_le, if◌then◌else◌, List, length, take, drop, slice_get}
 use Rattle.std.specs.Prelude.{option_map, Option, Some, None}
 use Rattle.rt_ids.specs.Lists.{then_from}

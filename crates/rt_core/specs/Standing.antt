@@ -1,6 +1,6 @@
--- What a core step does where code that stands runs: the step of the core, and what stands behind it. Who follows a
--- job on the core goes by these cases, and unfolds no instruction. They are read off the definitions of standing code
--- and of a core step; the cases are this project's own.
+-- What a core step does where code that stands runs: the step of the core, and what the code is correct for after it. A
+-- proof that follows a job on the core goes by these cases, and unfolds no instruction. They are read off the
+-- definitions of standing code and of a core step; the cases are this project's own.
 use Rattle.std.specs.Prelude.{◌≡◌, ℕ, suc, ◌^◌, ◌<◌, true, false, List, ◌∷◌, Option, Some, None}
 use Rattle.rt_ids.specs.Lists.{is_empty}
 use Rattle.rt_ids.specs.Action.{Action, Emits, Posts, Clocks, Ends, Returns}
@@ -33,7 +33,7 @@ module _ (img : Image) (st : Storage) (thread : ℕ) (who : Runner) (c : Core) (
   abbrev pub Gives : Core → Option What → Type 0
   Gives after shown = step img c ≡ (after, shown)
 
-  -- the job's next action, behind an instruction that leads to this processor
+  -- the job does its next action by an instruction that leads to this processor
   abbrev pub ActsBehind : Processor → Action → ℕ → Type 0
   ActsBehind p action answer = Acts st img.bodies who action answer (spot_behind (spot_after_step s) p) later
 
@@ -41,12 +41,13 @@ module _ (img : Image) (st : Storage) (thread : ℕ) (who : Runner) (c : Core) (
   abbrev pub EndsHere : Action → Type 0
   EndsHere action = Finishes st img.code img.bodies thread who action (spot_after_step s)
 
-  -- By what instruction the core steps. A plain one leads the processor to another state, a step nearer to each end.
+  -- By what kind of instruction the core steps. A plain one leads the processor to another state, a step nearer to each
+  -- end.
   pub data StepsBy : Type 0 where
-    -- nothing that is seen
+    -- a silent step
     BySilence : (p : Processor) → GoesPlainly s c.processor p → Gives (with_processor c p) None
         → later (spot_behind (spot_after_step s) p) → StepsBy
-    -- a move of a place, or none found
+    -- what a note says: a place of a message moves, or none is found
     ByNote : (p : Processor) → GoesPlainly s c.processor p → (told : Note)
         → (noted : Noted st img.bodies who told (spot_behind (spot_after_step s) p) later)
         → Gives (with_processor c p)
@@ -93,13 +94,13 @@ module _ (img : Image) (st : Storage) (thread : ℕ) (who : Runner) (c : Core) (
         → Gives (in_context c x others) (Some (what.Ret x.irq)))
         → StepsBy
 
-  -- Nothing is out of its time, the step touches what the job may touch, and it is one of these.
+  -- No count of steps that are left has run out, the step touches what the job may touch, and it is one of these.
   pub record StepsAsStands : Type 0 where
     pub left : HaveLeft s.lefts
     pub touches : MayAccess st who s (access img c)
     pub by : StepsBy
 
--- Where code stands that the core is at, a step of the core itself is one of these, and the code stands behind it.
+-- Where the core is at a job whose code stands, a step of the core is one of these, and the code stands after it.
 abbrev pub StandingLeads : Storage → Type 0
 StandingLeads st = (img : Image) (thread : ℕ) (who : Runner) (c : Core) (s : Spot) (n : ℕ)
     → c.stopped ≡ false → pick img c ≡ None → c.time < 2 ^ 31 → IsAt c s

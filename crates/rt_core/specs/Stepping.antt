@@ -18,7 +18,7 @@ use Rattle.rt_core.specs.Transfer.{core_after_pend, exception_entry, exception_r
 use Rattle.rt_core.specs.Outcome.{Outcome, Trapped, Done, settle}
 use Rattle.rt_core.specs.Note.{item_of_note}
 
--- what an instruction asks of the core
+-- what comes of what an instruction asks of the core
 abbrev pub answer : Image → Core → Request → Outcome
 answer img c request.Nothing = Done c None
 answer img c (request.Emit value) = Done c (Some (what.Emit value))
@@ -40,12 +40,12 @@ abbrev pub with_note : Image → Option Note → Outcome → Outcome
 with_note img (Some n) (Done c None) = outcome_of_note c (item_of_note img c n)
 with_note img n outcome = outcome
 
--- what comes of an instruction with its note, by its effect
+-- what comes of an instruction with its note, from its effect
 abbrev pub go_on : Image → Core → Option Note → Effect → Outcome
 go_on img c n (Traps t) = Trapped c t
 go_on img c n (Leads p asked) = with_note img n (answer img (record c { processor = p }) asked)
 
--- the instruction at the code address
+-- what comes of the line at the code address; where there is none, a trap
 abbrev pub run : Image → Core → Option (Instr × Option Note) → Outcome
 run img c None = Trapped c trap.Jump
 run img c (Some line) = go_on img c line.1 (effect line.0 c.time c.processor)

@@ -19,7 +19,7 @@ has_room img c n = stack.has_room (img.stack_bytes / 4) (stack_in_use img c) n
 abbrev pub core_after_pend : Core → ℕ → Core
 core_after_pend c irq = record c { pending = slice_set c.pending irq true }
 
--- the core behind exception entry (ARMv7-M Architecture Reference Manual, section B1.5.6)
+-- the core after exception entry (ARMv7-M Architecture Reference Manual, section B1.5.6)
 abbrev pub core_after_entry : Core → ℕ → Handler → Core
 core_after_entry c irq h = record c {
   pending = slice_set c.pending irq false;
@@ -39,7 +39,7 @@ exception_entry img c irq (Some h) =
     then Done (core_after_entry c irq h) (Some (what.Take irq (depth img (core_after_entry c irq h)))) else Trapped c
     trap.Stack
 
--- the core behind exception return (section B1.5.8): what was interrupted runs on
+-- what comes of exception return (section B1.5.8): what was interrupted runs on, or a trap where there is nothing
 abbrev pub outcome_of_return : Core → Option (Context × List Context) → Outcome
 outcome_of_return c None = Trapped c trap.Stack
 outcome_of_return c (Some found) =
@@ -60,7 +60,8 @@ may_call c = stack.may_call c.caller c.processor.slots c.below
 abbrev pub call_fits : Image → Core → BodyRow → ℕ → Bool
 call_fits img c row from = stack.arguments_fit c.processor.slots row from && has_room img c row.frame
 
--- a call returns to the next address
+-- the core after a call: the body runs in a frame of its own, and the caller's frame keeps the next address, to which
+-- the body returns
 abbrev pub core_after_call : Core → BodyRow → ℕ → Core
 core_after_call c row from =
     let caller = stack.caller_frame c.processor.slots (suc c.processor.address) in record c {
@@ -78,14 +79,14 @@ call_row img c (Some row) from =
 abbrev pub call : Image → Core → ℕ → ℕ → Outcome
 call img c row from = if may_call c then call_row img c (slice_get img.bodies row) from else Trapped c trap.Stack
 
--- a body's return to the frame of its handler
+-- what comes of a body's return to the frame of its handler; a trap where there is no such frame
 abbrev pub back_to : Core → Option (List ℕ) → Outcome
 back_to c None = Trapped c trap.Stack
 back_to c (Some slots) =
     let after = record c.processor { address = stack.return_address slots; slots = slots } in
     Done (record c { processor = after; caller = None }) None
 
--- the end of a called body
+-- what comes of the end of a called body
 abbrev pub back : Core → Outcome
 back c = back_to c c.caller
 

@@ -33,9 +33,9 @@ pub record RunsWell (app : App) (img : Image) (events : List Event) : Type 0 whe
   pub shows : shown_events 0 (trace img events) (steps events) ≡ events
   -- sections are exclusive, no job finds one taken, and none waits for more than one section of one lower job
   pub laws : KeepsLaws app (labels img (reset img) events)
-  -- At every moment: a message finds no place exactly where the capacity is out, and places are where they are counted;
-  -- messages start first in, first out, and fire in order and not early; a handle is of one message; and ready and due
-  -- messages are served.
+  -- At every moment: a spawn finds its task full exactly where all places of the task are out, and the places that are
+  -- out are accounted for; messages start first in, first out, and fire in order and not early; a handle is of one
+  -- message; and ready and due messages are served.
   pub messages : KeepsMessages app (labels img (reset img) events)
   -- the stack bytes in use are within the bound at every moment
   pub stack_within : (n : ℕ) → depth_after img (take n events) ≤ stack_bytes app
@@ -44,7 +44,7 @@ pub record RunsWell (app : App) (img : Image) (events : List Event) : Type 0 whe
   pub guarded : (n : ℕ) → AccessesAreGuarded app img (take n events)
 
 -- All this holds of every list of events: core steps, ticks, and arrivals of declared interrupts, in any order. A trace
--- numbers its steps below 2 ^ 31, so that nothing is said of a longer list.
+-- numbers its steps below 2 ^ 31, so nothing is said of a longer list.
 pub record Good (app : App) (img : Image) : Type 0 where
   pub size : img.stack_bytes ≡ stack_bytes app
   pub each : (events : List Event) → length events < 2 ^ 31 → AreDeclared app events → RunsWell app img events

@@ -25,7 +25,7 @@ abbrev pub IsInit : App → List Seen → Type 0
 IsInit app (job ∷ []) = job.priority ≡ 2 ^ app.bits
 IsInit app jobs = ⊥
 
--- where the jobs are seen so, a step may store to a resource: inside it, as `init`, or where it is `lock_free`
+-- where an observer knows these jobs, a step may store to a resource: inside it, as `init`, or where it is `lock_free`
 abbrev pub MayStore : App → List Seen → ℕ → Type 0
 MayStore app jobs r = IsInside jobs (section.Res r) ⊎ (IsInit app jobs ⊎ (is_lock_free app r ≡ true))
 
@@ -37,7 +37,7 @@ IsGuarded app img jobs (Some (Loads cell)) =
     (r : ℕ) → resource_cell img r ≡ Some cell → MayStore app jobs r ⊎ (is_read_alone app r ≡ true)
 IsGuarded app img jobs (Some (Stores cell)) = (r : ℕ) → resource_cell img r ≡ Some cell → MayStore app jobs r
 
--- the access of the next step behind these events
+-- the access of the next core step after these events is guarded
 abbrev pub AccessesAreGuarded : App → Image → List Event → Type 0
 AccessesAreGuarded app img events =
     IsGuarded app img (sees_all app (first_sight app) (labels img (reset img) events)).jobs

@@ -7,6 +7,6 @@ use Rattle.rt_code.specs.declared.instr.Instr.{Instr}
 use Rattle.rt_code.specs.declared.processor.Request.{Request}
 use Rattle.rt_code.specs.declared.processor.Trap.{Trap}
 
--- what the code answers and leaves is what comes of this instruction
+-- what the code answers, and the processor that it leaves, are the effect of this instruction
 abbrev pub Does : Instr → Result Request Trap → Processor → Processor → Type 0
 Does i result before after = Gives result before after (effect i 0 before)

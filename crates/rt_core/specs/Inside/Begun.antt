@@ -13,7 +13,8 @@ use Rattle.rt_core.specs.Inside.Came.{effect_of, note_at}
 use Rattle.rt_core.specs.declared.step.Begun.{Begun}
 use Rattle.rt_core.specs.declared.step.Begun.TheVariants as begun
 
--- what comes of a step that began at a code address and has come so far, where an instruction came to this
+-- the outcome of a core step that began at a code address and has come so far, where its instruction answered this:
+-- what is left is an exception entry, the item of a note, what the instruction asks, or nothing
 abbrev pub outcome_of_rest : Image → Core → ℕ → Begun → Result Request Trap → Outcome
 outcome_of_rest img c address (begun.Entry irq) came = attempt img c (pick img c)
 outcome_of_rest img c address begun.Noted came = go_on img c (note_at img address) (Leads c.processor request.Nothing)

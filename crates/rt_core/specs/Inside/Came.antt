@@ -1,4 +1,4 @@
--- What the code says came of a step.
+-- What the code says of the outcome of a step.
 use Rattle.std.specs.Prelude.{◌≡◌, ℕ, Result, Ok, Err, Option, Some, None, slice_get}
 use Rattle.rt_code.specs.Image.{Image}
 use Rattle.rt_code.specs.Processor.{Processor, Effect, Traps, Leads}

@@ -1,4 +1,4 @@
--- How far a controller has the priority values of an image.
+-- How far the interrupt controller has been given the priority values of an image.
 use Rattle.std.specs.Prelude.{◌≡◌, ℕ, ◌<◌, ◌≤◌, length, None, option_map}
 use Rattle.rt_ids.specs.declared.limits.TheConstants.{IRQ_NUMBERS}
 use Rattle.rt_code.specs.Image.{Image}

@@ -14,12 +14,12 @@ abbrev pub is_init : Role → Bool
 is_init Init = true
 is_init role = false
 
--- BASEPRI behind the opening of a section of this kind: the value of its ceiling, or as it was
+-- BASEPRI after the opening of a section of this kind: the priority value of its ceiling, or as it was
 abbrev pub base_by : Kind → ℕ → ℕ → ℕ
 base_by (Raised slot) value before = value
 base_by kind value before = before
 
--- PRIMASK behind the opening of a section of this kind: set, or as it was
+-- PRIMASK after the opening of a section of this kind: set, or as it was
 abbrev pub mask_by : Kind → Bool → Bool
 mask_by (Masked slot) before = true
 mask_by kind before = before
@@ -55,7 +55,7 @@ module _ (app : App) where
   abbrev pub mask_of : Part → List Part → Bool
   mask_of p ps = mask_inside p.held (mask_under p.role ps)
 
-  -- a section of this kind keeps these in its slot
+  -- a section of this kind keeps this BASEPRI or this PRIMASK in its slot
   abbrev pub SavesBy : List ℕ → Kind → ℕ → Bool → Type 0
   SavesBy slots Marked base mask = Unit {0}
   SavesBy slots (Raised slot) base mask = (slot < length slots) × (slice_index slots slot ≡ base)

@@ -47,7 +47,7 @@ module _ (app : App) (img : Image) (thread : ℕ) where
   IsStacked p [] = IsThread p
   IsStacked p (q ∷ ps) = IsOn p q ps × IsStacked q ps
 
-  -- what no started job owns
+  -- memory spells what no started job owns
   abbrev pub IsSpelled : List ℕ → (Holder → List Entry) → Values → List Part → Type 0
   IsSpelled cells queues values parts =
       (h : Holder) → IsHeld app h → AllByRecursion (λ p. Owns app img thread p h ≡ false) parts

@@ -1,5 +1,5 @@
 -- A moment of a run, seen from both machines at once: what the core has in frames, masks and cells, and what Baker's
--- machine has in jobs and values. Each job is told with its frame beside it, so that both states can be read off.
+-- machine has in jobs and values. Each job has its frame beside it, so that both states can be read off.
 use Rattle.std.specs.Prelude.{ℕ, Bool, List, [], ◌∷◌, ◌++◌, map, Option}
 use Rattle.rt_ids.specs.Holder.{Holder}
 use Rattle.rt_ids.specs.Content.{Values}
@@ -64,7 +64,7 @@ irq_of role = 0
 abbrev pub sections_of : List Held → List Section
 sections_of held = map (λ h. h.section) held
 
--- what Baker's machine has of it
+-- the job of Baker's machine that a started job is
 abbrev pub job_of : Part → Job
 job_of p = record {
   role = p.role;
@@ -75,7 +75,7 @@ job_of p = record {
   lefts = p.lefts;
 }
 
--- what code that stands has of it, in this memory
+-- where a started job's code is, with this memory and these queues
 abbrev pub spot_of : List ℕ → (Holder → List Entry) → Part → Spot
 spot_of cells queues p = record {
   held = p.held;

@@ -30,11 +30,11 @@ AreOnce [] = Unit {0}
 AreOnce (h ∷ outer) = (is_open outer h.section ≡ false) × AreOnce outer
 
 module _ (app : App) (img : Image) (thread : ℕ) where
-  -- what it owns in its open sections
+  -- whether a job owns what a holder holds, with its open sections
   abbrev pub Owns : Part → Holder → Bool
   Owns p h = owns (storage app) (who p) p.held h
 
-  -- what it reads in them
+  -- whether a job may read what a holder holds, with its open sections
   abbrev pub Reads : Part → Holder → Bool
   Reads p h = reads (storage app) (who p) p.held h
 
@@ -46,7 +46,8 @@ module _ (app : App) (img : Image) (thread : ℕ) where
   abbrev pub AreApart : Part → Part → Type 0
   AreApart p q = SparesTheOther p q × SparesTheOther q p
 
-  -- an open section: its ceiling is at least the job's priority, it guards something, and nobody goes without it
+  -- an open section is well: its ceiling is at least the job's priority, it guards something of the application, and
+  -- nobody reaches that without the section
   pub record IsOpenWell (runner : Runner) (h : Held) : Type 0 where
     pub within : IsWithin (storage app) runner runner h.section
     pub is_held : IsHeld app (Guarded h.section)
@@ -65,7 +66,7 @@ module _ (app : App) (img : Image) (thread : ℕ) where
     pub closed : p.held ≡ []
     pub none : p.lefts ≡ []
 
-  -- the code stands for what is left
+  -- the code stands for what the job has left to do; without `idle` the thread waits
   abbrev pub StandsBy : Role → List ℕ → (Holder → List Entry) → Part → Type 0
   StandsBy Waiting cells queues p = WaitsAt p
   StandsBy role cells queues p =

@@ -1,5 +1,6 @@
 -- What is left to do is sparing: on its way to each action it changes only what the job owns then, it enters only
--- sections of things that there are, and only a handler returns. It is said of the meaning of bodies, not of code.
+-- sections of things that the application has, and only a handler returns. It is said of the meaning of bodies, not of
+-- code.
 use Rattle.std.specs.Prelude.{◌≡◌, ℕ, ◌||◌, Bool, true, false, List, ◌∷◌, drop, slice_get}
 use Rattle.std.specs.List.{AllByRecursion, list_any}
 use Rattle.rt_ids.specs.Lists.{is_some_and}
@@ -16,7 +17,7 @@ use Rattle.rt_app.specs.Level.{is_software, is_of_level}
 use Rattle.rt_app.specs.Sending.{Rest}
 use Rattle.rt_laws.specs.State.{reached_values}
 
--- Behind the opening of a ready queue its messages are of tasks of its level, as they are spelled. Behind a reading of
+-- After the opening of a ready queue its messages are of tasks of its level, as memory spells them. After a reading of
 -- the clock, by which the timer handler looks for a due message, armed messages are of software tasks.
 abbrev pub IsEntered : App → Action → Values → Type 0
 IsEntered app (Enters (section.Ready p) cost) vs =
@@ -33,13 +34,13 @@ module _ (app : App) (who : Runner) (handles : Bool) where
   owns_in held (Guarded x) = list_any (λ y. is_same_section y x) held || is_kept app who (Guarded x)
   owns_in held (Own n) = is_kept app who (Own n)
 
-  -- the sections that are open behind an action
+  -- the sections that are open after an action
   abbrev pub sections_after : List Section → Action → List Section
   sections_after held (Enters x cost) = x ∷ held
   sections_after held (Leaves x) = drop 1 held
   sections_after held action = held
 
-  -- an action enters sections of things that there are, and only a handler returns
+  -- an action enters only sections of things that the application has, and only a handler returns
   abbrev pub IsActionOf : Action → Type 0
   IsActionOf (Enters x cost) = IsHeld app (Guarded x)
   IsActionOf Returns = handles ≡ true

@@ -6,7 +6,8 @@ use Rattle.rt_core.specs.Core.{Core, Context}
 use Rattle.rt_laws.specs.State.{State}
 use Rattle.rt_sim.specs.Inside.Moment.{Part, Moment, irq_of, jobs_of}
 
--- what a handler of this interrupt, with this priority value, was entered for, and what it interrupted
+-- the contexts of the active handlers: the first is of this interrupt and this priority value, and each has what it
+-- interrupted
 abbrev pub contexts : ℕ → ℕ → ℕ → List Part → List Context
 contexts bits irq value [] = []
 contexts bits irq value (q ∷ ps) =
