@@ -12,7 +12,7 @@ use Rattle.rt_app.specs.Handlers.{Handler, Runs, Dispatches, Times, Service, ser
 use Rattle.rt_code.specs.declared.image.Handler as row
 use Rattle.rt_code.specs.declared.image.IrqRow.{IrqRow}
 
--- Addresses of first instructions: where the thread goes on behind `init`, of the body of each task, of the dispatcher
+-- Addresses of first instructions: where the thread goes on after `init`, of the body of each task, of the dispatcher
 -- of each level, and of the timer handler. `init` is at 0, where a core begins.
 pub record Entries : Type 0 where
   pub idle : ℕ
@@ -38,7 +38,7 @@ handler_words app (Dispatches p) = DISPATCHER_WORDS
 handler_words app Times = TIMER_WORDS
 
 module _ (app : App) (at : Entries) where
-  -- how an interrupt serves what it serves
+  -- the handler in the row of an interrupt that is served: its priority value, its entry and its frame
   abbrev pub handler_row : Service → row.Handler
   handler_row s = record {
     value = hardware app.bits s.priority;

@@ -1,8 +1,8 @@
 -- What an image of an application is: its tables say what the application declares, where its interrupts are served and
 -- from which address, and at these addresses the code stands, that is, does what the bodies mean within the printed
 -- costs and in the printed frames (the RTIC 1 book: `init` runs first and then `idle`, a hardware task in its
--- interrupt, a software task from its dispatcher, and the monotonic has an interrupt of its own). In which order its
--- parts lie is told, and how many instructions there are at most; else the code is the compiler's choice.
+-- interrupt, a software task from its dispatcher, and the monotonic has an interrupt of its own). The order of the
+-- parts of the code, and how many instructions they may have, are fixed; beyond that the code is the compiler's choice.
 use Rattle.std.specs.Prelude.{◌≡◌, ◌≤◌, ℕ, Bool, false, List, length, map, slice_get, Option, Some, None, if◌then◌else◌}
 use Rattle.std.specs.Prelude.{Contains}
 use Rattle.rt_ids.specs.Lists.{is_some_and}
@@ -35,8 +35,8 @@ IdleStands app code bodies entry (Some b) =
     StandsFrom (storage app) code bodies entry (AtPriority 0) (length (memory app)) (thread_words app) entry
     (body_cost (cost_measure app) b) (idle_doing app)
 
--- The rows of bodies as code sees them that calls bodies of some tasks alone, those that pass: any other leads to an
--- address behind all code.
+-- The rows of bodies as code sees them that may call the bodies of the tasks that pass, and no others: any other row
+-- leads to an address past all code.
 abbrev pub callable_rows : App → (Task → Bool) → ℕ → List BodyRow → List BodyRow
 callable_rows app test behind rows =
     map (λ row. if is_some_and test (slice_get app.tasks row.task) then row else record row { entry = behind }) rows
@@ -54,8 +54,9 @@ module _ (app : App) (at : Entries) where
     pub irqs : img.irqs ≡ irq_rows app at 0 app.irqs
     pub bodies : img.bodies ≡ rows_for at.task 0 app.tasks
 
-  -- The thread, hardware tasks and the timer handler call no body, and a dispatcher those of its level alone. That a
-  -- called body stands is part of this: it is code that the dispatcher runs.
+  -- The code stands at each entry for what is served there. The thread, hardware tasks and the timer handler call no
+  -- body, and a dispatcher those of its level alone. That a called body stands is part of this: it is code that the
+  -- dispatcher runs.
   pub record HasCode (img : Image) : Type 0 where
     pub init : (bodies : List BodyRow)
         → StandsFrom (storage app) img.code bodies at.idle Starting (length (memory app)) (thread_words app) 0
@@ -72,12 +73,12 @@ module _ (app : App) (at : Entries) where
         → StandsFrom (storage app) img.code bodies thread (AtPriority mono.priority) (length (memory app)) TIMER_WORDS
         at.timer (timer_cost app) (timer_doing app)
 
--- An image of an application: for some entries its tables lead to them, its code stands at them, and the parts of the
--- code lie in their order.
+-- An image of an application: for some entries its tables lead to them, its code stands at them, the parts of the code
+-- lie in their order, and there are no more instructions than the rule on sizes counts.
 pub record IsImageOf (app : App) (img : Image) : Type 0 where
   pub at : Entries
   pub tables : HasTables app at img
   pub code : HasCode app at img
-  -- the parts of the code lie in their order, and there is nothing between them or behind them
+  -- the parts of the code lie in their order, and there is nothing between them or after them
   pub order : IsInOrder app at img.code
   pub size : length img.code ≤ code_size app

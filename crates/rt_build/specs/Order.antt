@@ -1,8 +1,7 @@
--- The order and the form of the code of an image (this project's own). `init` stands first, `idle` behind it, and then
--- the hardware tasks as they are declared; the bodies of software tasks, the dispatchers and the timer handler follow,
--- in an order that is free. Each part begins where the one before it ends, and has no more instructions than the rule
--- on sizes counts for it. Of a body the end is fixed, and where it emits literals and pends interrupts alone, each
--- line.
+-- The order and the form of the code of an image (this project's own). `init` is first, `idle` next, and then come the
+-- hardware tasks as they are declared; the bodies of software tasks, the dispatchers and the timer handler follow, in
+-- an order that is free. Each part begins where the one before it ends, and has no more instructions than the rule on
+-- sizes counts for it. Of a body the end is fixed, and where it emits literals and pends interrupts alone, each line.
 use Rattle.std.specs.Prelude.{◌≡◌, ℕ, ◌+◌, ◌≤◌, Bool, not, List, [], ◌∷◌, ◌++◌, length, map, sum_by, IsPermutation}
 use Rattle.std.specs.Prelude.{Option, Some, None, if◌then◌else◌}
 use Rattle.rt_ids.specs.declared.ids.BodyId.{BodyId}
@@ -34,7 +33,7 @@ begin_of at (OfBody (body.Task n)) = at.task n
 begin_of at (OfLevel p) = at.dispatcher p
 begin_of at OfTimer = at.timer
 
--- how many instructions it may have
+-- how many instructions a part of the code may have
 abbrev pub size_of : App → Part → ℕ
 size_of app (OfBody id) = cost_of (size_measure app) (body_at app id)
 size_of app (OfLevel p) = dispatcher_size app p
@@ -68,7 +67,7 @@ timer_parts (Some mono) = OfTimer ∷ []
 abbrev pub fixed_parts : App → List Part
 fixed_parts app = OfBody body.Init ∷ OfBody body.Idle ∷ task_parts (λ t. not (is_software t)) 0 app.tasks
 
--- the parts behind those whose order is fixed
+-- the parts after those whose order is fixed
 abbrev pub free_parts : App → List Part
 free_parts app = task_parts is_software 0 app.tasks ++ (map OfLevel (levels app) ++ timer_parts app.mono)
 
@@ -79,14 +78,15 @@ module _ (app : App) (at : Entries) where
     pub short : length lines ≤ size_of app part
     pub formed : IsFormed app part from lines
 
-  -- These parts, one behind the other, are all of these lines, from an address on.
+  -- These parts, one after the other, are all of these lines, from an address on.
   abbrev pub AreAbutting : ℕ → List Part → List Line → Type 0
   AreAbutting from [] lines = lines ≡ []
   AreAbutting from (part ∷ parts) lines =
       (own more : List Line) × (lines ≡ own ++ more) × IsPart part from own
       × AreAbutting (from + length own) parts more
 
-  -- the parts of the application are all of its code
+  -- the parts of the application are all of its code, first those whose order is fixed, and then the others in some
+  -- order
   pub record IsInOrder (code : List Line) : Type 0 where
     pub behind : List Part
     pub free : IsPermutation behind (free_parts app)

@@ -6,7 +6,7 @@ use Rattle.rt_points.specs.Rules.{GuardsCells}
 use Rattle.rt_points.specs.declared.rule.Rule.{Rule}
 use Rattle.rt_points.specs.declared.rule.Rule.TheVariants as rule
 
--- the number of a rule, by which the least broken one is told
+-- the number of a rule; `verify` reports the least of those that are broken
 abbrev pub rule_number : Rule → ℕ
 rule_number rule.Nesting = 1
 rule_number rule.Numbers = 2

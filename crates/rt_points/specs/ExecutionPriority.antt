@@ -1,13 +1,14 @@
 -- The execution priority of a point: the one that its owner and its open sections hold a processor to (ARMv7-M
--- Architecture Reference Manual, section B1.5.4; Baker, Stack-Based Scheduling of Realtime Processes, 1991, calls it
--- the current ceiling). A smaller value is a higher priority. It is told from the code; the core's is in its registers.
+-- Architecture Reference Manual, section B1.5.4). It is one owner's part in the system ceiling of Baker (Stack-Based
+-- Scheduling of Realtime Processes, 1991), as a priority value. A smaller value is a higher priority. Here it follows
+-- from the code; the core has it in its registers.
 use Rattle.std.specs.Prelude.{ℕ, min, List, [], ◌∷◌, option_map, unwrap_or}
 use Rattle.rt_ids.specs.declared.limits.TheConstants.{THREAD_VALUE}
 use Rattle.rt_code.specs.Image.{Image}
 use Rattle.rt_points.specs.Point.{Owner, Starting, Thread, Handling, Kind, Mark, Raise, Mask, Opened}
 use Rattle.rt_points.specs.Leading.{handler_at}
 
--- the priority value of an owner: `init` runs with all interrupts masked, the thread below them all
+-- the priority value of an owner: `init` runs with all interrupts masked, the thread below every interrupt
 abbrev pub owner_value : Image → Owner → ℕ
 owner_value img Starting = 0
 owner_value img Thread = THREAD_VALUE

@@ -26,7 +26,7 @@ LeadsOn instr.Back at to = ⊥
 LeadsOn instr.Ret at to = ⊥
 LeadsOn i at to = to ≡ suc at
 
--- who runs on behind an instruction: where `init` serves interrupts, the thread
+-- who runs after an instruction: where `init` serves interrupts, the thread
 abbrev pub owner_after : Instr → Owner → Owner
 owner_after instr.Serve Starting = Thread
 owner_after i owner = owner
@@ -37,7 +37,7 @@ kind_of (instr.Raise d v) = Raise d v
 kind_of (instr.Mask d) = Mask d
 kind_of i = Mark
 
--- the open sections behind a line: what is left is the innermost
+-- the open sections after a line: what is left is the innermost
 abbrev pub inside_after : Instr → Option Note → List Opened → List Opened
 inside_after i (Some (note.Enter x)) inside = record { section = x; kind = kind_of i } ∷ inside
 inside_after i (Some (note.Leave x)) inside = drop 1 inside

@@ -1,9 +1,9 @@
--- Where code can be: at an address, for someone who runs it, with some sections open. It is what can be told of a
+-- Where code can be: at an address, for someone who runs it, with some sections open. It is what can be known of a
 -- moment without the data: an abstract state of a data flow analysis (Kildall, A Unified Approach to Global Program
 -- Optimization, 1973), as the Java verifier has one (The Java Virtual Machine Specification, section 4.10.2).
 use Rattle.std.specs.Prelude.{ℕ, List, map}
 use Rattle.rt_ids.specs.declared.ids.Section.{Section}
--- whose code runs: `init`, the thread behind it, or the handler of the interrupt at an index in the table of interrupts
+-- whose code runs: `init`, the thread after it, or the handler of the interrupt at an index in the table of interrupts
 pub use Rattle.rt_points.specs.declared.point.Owner.{Owner}
 pub use Rattle.rt_points.specs.declared.point.Owner.TheVariants.{Starting, Thread, Handling}
 -- How an open section holds others off: by nothing; or by BASEPRI, raised to a value, or by PRIMASK, and what the mask

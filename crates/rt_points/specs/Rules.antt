@@ -82,7 +82,7 @@ pub record IsOperable (img : Image) (p : Point) (i : Instr) : Type 0 where
 abbrev pub OperatesWell : Image → Type 0
 OperatesWell img = (p : Point) (i : Instr) (told : Option Note) → StandsAt img p i told → IsOperable img p i
 
--- whether a section is entered on an instruction
+-- whether an instruction is one on which a section may be entered
 abbrev pub opens : Instr → Bool
 opens instr.Mark = true
 opens (instr.Raise d v) = true
@@ -100,12 +100,13 @@ abbrev pub ClosesInnermost : List Opened → Section → Instr → Type 0
 ClosesInnermost [] x i = ⊥
 ClosesInnermost (o ∷ outer) x i = (o.section ≡ x) × (i ≡ leaving_instr o.kind)
 
--- the instruction is a jump, and the thread's
+-- the instruction is a jump, and it is the thread that runs
 abbrev pub JumpsInThread : Owner → Instr → Type 0
 JumpsInThread owner (instr.Jump l) = owner ≡ Thread
 JumpsInThread owner i = ⊥
 
--- a note stands where it may
+-- a note is where it may be: on an instruction that opens or closes the section as it should, or on the end of `init`
+-- or of `idle`
 abbrev pub StandsOn : Owner → List Opened → Option Note → Instr → Type 0
 StandsOn owner inside None i = Unit {0}
 StandsOn owner inside (Some (note.Enter x)) i = opens i ≡ true
@@ -185,8 +186,8 @@ NotesWell img = (p : Point) (i : Instr) (told : Option Note) → StandsAt img p 
 abbrev pub EntersAt : Image → Point → Instr → Section → Type 0
 EntersAt img p i x = StandsAt img p i (Some (note.Enter x))
 
--- Sixth rule: a section is entered by who is not inside it, and holds off everyone who enters it anywhere, `init`
--- aside.
+-- Sixth rule: whoever enters a section is not inside it, and the section holds off everyone who enters it anywhere,
+-- `init` aside.
 pub record HoldsOff (img : Image) (p : Point) (i : Instr) (x : Section) : Type 0 where
   pub free : ¬ IsIn (sections p.inside) x
   pub others : (q : Point) (j : Instr) → q.owner ≢ Starting → EntersAt img q j x

@@ -1,4 +1,4 @@
--- How many bytes a stack needs. Handlers of one priority value never stand on each other, so each value counts once,
+-- How many bytes a stack needs. Two handlers of one priority value are never active at once, so each value counts once,
 -- with what exception entry pushes and the greatest frame of its handlers (Baker, Stack-Based Scheduling of Realtime
 -- Processes, 1991, on sharing a stack).
 use Rattle.std.specs.Prelude.{ℕ, zero, suc, ◌+◌, ◌*◌, ◌==◌, List, [], ◌∷◌, map, filter}
@@ -17,16 +17,16 @@ handlers irqs = filter_map (λ row. row.handler) irqs
 abbrev pub frames_at : Image → ℕ → List ℕ
 frames_at img value = map (λ h. h.frame) (filter (λ h. h.value == value) (handlers img.irqs))
 
--- what a priority value takes: nothing where no handler has it
+-- the bytes that a priority value takes: none where no handler has it
 abbrev pub bytes_of : ℕ → List ℕ → ℕ
 bytes_of entry [] = 0
 bytes_of entry (frame ∷ frames) = 4 * (entry + greatest (frame ∷ frames))
 
--- what the priority values below this one take together
+-- the bytes that the priority values below this one take together
 unfoldable pub bytes_below : Image → ℕ → ℕ
 bytes_below img zero = 0
 bytes_below img (suc value) = bytes_below img value + bytes_of (entry_words img) (frames_at img value)
 
--- the thread, and on it a handler of each value that is in use
+-- the bytes of the stack at the deepest: the thread's frame, and on it a handler of each value that is in use
 abbrev pub stack_need : Image → ℕ
 stack_need img = 4 * img.thread_words + bytes_below img THREAD_VALUE

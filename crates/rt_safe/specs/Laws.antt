@@ -1,4 +1,4 @@
--- What the rules give.
+-- What the seven rules are worth: an image that keeps them is safe, and a core runs it.
 use Rattle.std.specs.Prelude.{◌^◌, ◌<◌, length}
 use Rattle.rt_code.specs.Image.{Image}
 use Rattle.rt_code.specs.Runnable.{IsRunnable}

@@ -19,7 +19,8 @@ use Rattle.rt_laws.specs.Properties.{Exclusive, NeverWaits}
 use Rattle.rt_laws.specs.Observer.{Seen, IsInside, first_sight, sees_all}
 use Rattle.rt_points.specs.Rules.{IsContended}
 
--- What holds of one list of events: whichever application one reads priorities from, which these properties do not use.
+-- What holds of one list of events. The priorities that an observer reads from an application do not matter to these
+-- properties, so they hold for any.
 pub record RunsSafely (img : Image) (events : List Event) : Type 0 where
   pub no_trap : AllByRecursion (λ item. IsNoTrap item.what) (trace img events)
   -- the stack bytes in use are within the region at every moment
@@ -34,11 +35,12 @@ abbrev pub IsInit : List Label → List Seen → Type 0
 IsInit labels (job ∷ []) = ¬ Contains labels (Stepped (Some (what.End body.Init)))
 IsInit labels jobs = ⊥
 
--- a touch is by a job that is inside this section, or by `init`, where these labels were shown and the jobs are seen so
+-- the running job is inside this section, or it is `init`, where these labels were shown and an observer knows these
+-- jobs
 abbrev pub IsTouchedBy : List Label → List Seen → Section → Type 0
 IsTouchedBy labels jobs x = IsInside jobs x ⊎ IsInit labels jobs
 
--- if the next step behind these events touches the cell, the running job is inside the section, or it is `init`
+-- if the next core step after these events touches the cell, the running job is inside the section, or it is `init`
 abbrev pub TouchesInside : App → Image → ℕ → Section → List Event → Type 0
 TouchesInside app img cell x events =
     (a : Access) → access img (core_after img (reset img) events) ≡ Some a → cell_of a ≡ cell

@@ -17,7 +17,7 @@ merges irq (Pend n Raised) = false
 merges irq (Pend n Merged) = n == irq
 merges irq (Latch k word) = false
 
--- the word that was latched holds the interrupt's bit
+-- whether a call latched a word with the interrupt's bit set
 abbrev pub latches : ℕ → Call → Bool
 latches irq (Pend n answer) = false
 latches irq (Latch k word) = (k == irq / 32) && (bit_at word (irq % 32) == 1)

@@ -20,7 +20,7 @@ LatchedAreZero calls words = (k word : ℕ) → Contains calls (Latch k word) �
 abbrev pub calls_in : List Entry → List Call
 calls_in history = map (λ e. e.call) history
 
--- how often the calls of the gathered lines did it
+-- how often the calls of the gathered lines did something that is counted so
 abbrev pub times_gathered : (List Call → ℕ) → Core → ℕ
 times_gathered times line = sum_by (λ p. times p.calls) line.gathered
 

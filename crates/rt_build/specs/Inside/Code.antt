@@ -1,4 +1,4 @@
--- What stands in the code of an application while it grows, whatever code is put behind it.
+-- What is in the code of an application while it grows, whatever code is put after it.
 use Rattle.std.specs.Prelude.{◌≡◌, ◌≢◌, ◌==◌, ℕ, ◌+◌, ◌<◌, ◌≤◌, Bool, true, false, not, List, ◌++◌, length, take, drop}
 use Rattle.std.specs.Prelude.{slice_get, slice_index, map, Some, [], ◌∷◌, position, if◌then◌else◌}
 use Rattle.std.specs.List.{AllByRecursion}
@@ -31,22 +31,22 @@ use Rattle.rt_build.specs.declared.code.Kind.TheVariants.{Hardware, Software}
 abbrev pub IsKept : List Line → List Line → Type 0
 IsKept before after = take (length before) after ≡ before
 
--- code behind which no more than so many lines were put, which name only what is declared
+-- so many lines at most were put after code, and they name only what is declared
 pub record Adds (app : App) (size : ℕ) (before after : List Line) : Type 0 where
   pub kept : IsKept before after
   pub named : AllByRecursion (IsNameable (names_of app)) (drop (length before) after)
   pub short : length after ≤ length before + size
 
--- behind code these parts were put, which begin where these entries say
+-- after code these parts were put, which begin where these entries say
 abbrev pub AddsParts : App → Entries → List Part → List Line → List Line → Type 0
 AddsParts app at parts before after = AreAbutting app at (length before) parts (drop (length before) after)
 
--- the tasks that bind an interrupt, and those that do not
+-- whether a task is of a kind: one that binds an interrupt, or one that does not
 abbrev pub is_of_kind : Kind → Task → Bool
 is_of_kind Hardware t = not (is_software t)
 is_of_kind Software t = is_software t
 
--- the size of the body of a task of a kind
+-- the greatest size of the body of a task, if the task is of a kind, else 0
 abbrev pub kind_size : App → Kind → Task → ℕ
 kind_size app kind t = if is_of_kind kind t then body_cost (size_measure app) t.body else 0
 
@@ -54,12 +54,12 @@ kind_size app kind t = if is_of_kind kind t then body_cost (size_measure app) t.
 pub record HasDispatcher (app : App) (level : ℕ) (code : List Line) (entry : ℕ) : Type 0 where
   pub there : HasCode code entry (dispatcher_code app level entry)
 
--- the code of the timer handler at a level stands at an address
+-- the code of the timer handler at a priority stands at an address
 pub record HasHandler (app : App) (priority : ℕ) (code : List Line) (entry : ℕ) : Type 0 where
   pub there : HasCode code entry (timer_code app priority entry)
 
 module _ (app : App) (lines : List Line) where
-  -- the code of `init` stands at 0, and that of the thread at this address, where it goes on behind `init`
+  -- the code of `init` stands at 0, and that of the thread at this address, where it goes on after `init`
   pub record HasThread (entry : ℕ) : Type 0 where
     pub init : (more : List Line) (bodies : List BodyRow)
         → StandsFrom (storage app) (lines ++ more) bodies entry Starting (length (memory app)) (thread_words app) 0
@@ -101,13 +101,13 @@ pub record TellsTask (app : App) (kind : Kind) (n : ℕ) (t : Task) (before afte
 abbrev pub part_of_kind : Kind → ℕ → Task → List Part
 part_of_kind kind n t = if is_of_kind kind t then OfBody (body.Task n) ∷ [] else []
 
--- behind code a task was put, if it is of a kind, and it begins at the address of its number
+-- after code a task was put, if it is of a kind, and it begins at the address of its number
 abbrev pub AddsTask : App → Kind → ℕ → Task → List ℕ → List Line → List Line → Type 0
 AddsTask app kind n t entries before after =
     (at : Entries) → (is_of_kind kind t ≡ true → at.task n ≡ slice_index entries n)
     → AddsParts app at (part_of_kind kind n t) before after
 
--- behind code the tasks of a kind below a number were put, which begin at these addresses
+-- after code the tasks of a kind below a number were put, which begin at these addresses
 abbrev pub AddsTasksBelow : App → ℕ → Kind → List ℕ → List Line → List Line → Type 0
 AddsTasksBelow app count kind entries before after =
     (at : Entries)
@@ -115,11 +115,11 @@ AddsTasksBelow app count kind entries before after =
     → at.task n ≡ slice_index entries n)
     → AddsParts app at (task_parts (is_of_kind kind) 0 (take count app.tasks)) before after
 
--- behind code all tasks of a kind were put, which begin at these addresses
+-- after code all tasks of a kind were put, which begin at these addresses
 abbrev pub AddsTasks : App → Kind → List ℕ → List Line → List Line → Type 0
 AddsTasks app kind entries before after = AddsTasksBelow app (length app.tasks) kind entries before after
 
--- behind code the dispatchers of as many levels were put, which begin at these addresses
+-- after code the dispatchers of as many levels were put, which begin at these addresses
 abbrev pub AddsDispatchers : App → List ℕ → List Line → List Line → Type 0
 AddsDispatchers app entries before after =
     (at : Entries)
@@ -137,8 +137,8 @@ pub record HasEntries (app : App) (code : Code) : Type 0 where
   pub of_tasks : length code.tasks.items ≡ length app.tasks
   pub of_levels : length code.dispatchers.items ≡ length (levels app)
 
--- Where the parts of code begin: a task at the address at its number, the dispatcher of a level at that at the level's
--- place.
+-- Where the parts of code begin: a task at the address at its number, the dispatcher of a level at the address at the
+-- level's index.
 abbrev pub entries_of : App → Code → Entries
 entries_of app code = record {
   idle = code.idle;
@@ -147,7 +147,7 @@ entries_of app code = record {
   timer = code.timer;
 }
 
--- all code, which names only what is declared, lies in its order, and is no longer than the rule on sizes counts
+-- all code stands, names only what is declared, lies in its order, and is no longer than the rule on sizes counts
 pub record IsCodeOf (app : App) (code : Code) : Type 0 where
   pub entries : HasEntries app code
   pub thread : HasThread app code.lines.items code.idle

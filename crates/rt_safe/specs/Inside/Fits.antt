@@ -19,12 +19,12 @@ abbrev pub is_starting : Owner → Bool
 is_starting Starting = true
 is_starting owner = false
 
--- BASEPRI behind the opening of a section of this kind, from what it was before
+-- BASEPRI after the opening of a section of this kind, from what it was before
 abbrev pub base_by : Kind → ℕ → ℕ
 base_by (Raise slot value) before = value
 base_by kind before = before
 
--- PRIMASK behind the opening of a section of this kind, from what it was before
+-- PRIMASK after the opening of a section of this kind, from what it was before
 abbrev pub mask_by : Kind → Bool → Bool
 mask_by (Mask slot) before = true
 mask_by kind before = before
@@ -56,7 +56,7 @@ Saves slots [] base mask = Unit {0}
 Saves slots (o ∷ outer) base mask =
     SavesBy slots o.kind (base_inside outer base) (mask_inside outer mask) × Saves slots outer base mask
 
--- `init` or the thread behind it, which interrupt nobody
+-- `init` or the thread after it, which interrupt nobody
 abbrev pub IsLowest : Owner → Type 0
 IsLowest (Handling index) = ⊥
 IsLowest owner = Unit {0}

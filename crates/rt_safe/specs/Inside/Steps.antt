@@ -1,4 +1,4 @@
--- What a core step leads to where a core fits: a core that fits again, and an item that tells how sections open and
+-- What a core step leads to where a core fits: a core that fits again, and an item that says how sections open and
 -- close.
 use Rattle.std.specs.Prelude.{◌≡◌, ◌≢◌, List, [], ◌∷◌, drop, map, Option, Some, None}
 use Rattle.std.specs.List.{AllByRecursion}
@@ -24,7 +24,7 @@ abbrev pub on_first : (List Section → List Section) → List (List Section) �
 on_first f [] = []
 on_first f (inside ∷ others) = f inside ∷ others
 
--- the open sections of each job behind an item
+-- the open sections of each job after an item
 abbrev pub insides_after : Option What → List (List Section) → List (List Section)
 insides_after (Some (what.Take irq depth)) insides = [] ∷ insides
 insides_after (Some (what.Ret irq)) insides = drop 1 insides
@@ -53,6 +53,6 @@ pub record Steps (img : Image) (c : Core) (p : Point) (qs : List Point) : Type 0
   pub insides : insides_after shown (insides_of (p ∷ qs)) ≡ insides_of (point ∷ below)
   pub free : FindsNone shown (insides_of (p ∷ qs))
   pub no_trap : IsNoTrapShown shown
-  -- nobody runs as `init` behind who did not, or behind its end
+  -- a step leads to `init` only from `init`, and not by its end
   pub started : p.owner ≢ Starting → point.owner ≢ Starting
   pub ended : shown ≡ Some (what.End body.Init) → point.owner ≢ Starting

@@ -7,7 +7,7 @@ use Rattle.rt_words.specs.Object.{IsPending}
 use Rattle.rt_words.specs.Inside.Seats.{Seat}
 use Rattle.rt_words.specs.Account.{raised_count, merged_count, latched_count}
 
--- a row has 1 to 16 words, with a place for each interrupt that may be pended
+-- a row has 1 to 16 words, with a bit for each interrupt that may be pended
 pub record IsSound (table : TableId) (may : List ℕ) : Type 0 where
   pub no_slots : table.slots ≡ 0
   pub some : 1 ≤ table.words

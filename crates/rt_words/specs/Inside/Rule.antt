@@ -7,19 +7,19 @@ use Rattle.rt_words.specs.History.{Entry, IsLegal}
 use Rattle.rt_words.specs.Ending.{AllGathered, LatchedAreZero}
 use Rattle.rt_words.specs.Inside.Seats.{Seated, HaveSeen, AllKnow}
 
--- at most 16 words of 32 bits, with bits of interrupts that may be pended alone, and a place for each of these
+-- at most 16 words of 32 bits, which have a bit for each interrupt that may be pended, and no other bit set
 pub record IsRow (may words : List ℕ) : Type 0 where
   pub short : length words ≤ 16
   pub low : (k : ℕ) → slice_index words k < 2 ^ 32
   pub within : (irq : ℕ) → IsPending words irq → IsPending may irq
   pub covers : (irq : ℕ) → IsPending may irq → irq / 32 < length words
 
--- the words with words of 0 behind them, 16 in all
+-- the words with words of 0 after them, 16 in all
 abbrev pub padded_words : List ℕ → List ℕ
 padded_words words = words ++ replicate (16 - length words) 0
 
--- a legal history leaves the words as they stand, its parts are the seats' calls, and each seat has seen a beginning
--- of it
+-- a legal history leaves the words as they are, its parts are the seats' calls, and each seat has seen a beginning of
+-- it
 pub record Standing (may words : List ℕ) (views : List View) (history : List Entry) (core : View) : Type 0 where
   pub row : IsRow may words
   pub legal : IsLegal history (padded_words words)

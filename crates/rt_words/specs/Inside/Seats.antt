@@ -51,7 +51,7 @@ pub record Gathered (history : List Entry) (core : View) (p : Part) : Type 0 whe
   pub made : Contains core.made p.line
   pub other : p.line ≢ 255
 
--- no number stands twice
+-- no number is twice in a list
 abbrev pub Distinct : List ℕ → Type 0
 Distinct [] = Unit {0}
 Distinct (n ∷ ns) = (¬ Contains ns n) × Distinct ns
@@ -70,7 +70,7 @@ pub record Seated (history : List Entry) (views : List View) (core : View) : Typ
   pub unmade : (number : ℕ) → number ≢ 255 → ¬ Contains core.made number → part history number ≡ []
 
 -- What a seat has seen is a beginning of the history. So no step can change what the history has: where another seat
--- has seen all of it, a step only adds behind.
+-- has seen all of it, a step only adds to its end.
 abbrev pub HaveSeen : List Entry → List View → Type 0
 HaveSeen history views = (seat : ℕ) (v : View) → get_elem? views seat ≡ some v → IsPrefix v.seen history
 

@@ -49,12 +49,12 @@ device number calls seen may =
 abbrev pub view_after_call : View → List Entry → Call → View
 view_after_call v seen call = record v { calls = v.calls ++ call ∷ []; seen = seen }
 
--- all that had been seen, what came in between, and this call behind it
+-- all that had been seen, what came in between, and this call last
 abbrev pub Extends : List Entry → ℕ → Call → List Entry → Type 0
 Extends old line call new =
     (between : List Entry) × (new ≡ (old ++ between) ++ record { line = line; call = call } ∷ [])
 
--- Merged where the bit stood in the word that was found
+-- Merged where the bit was set in the word that was found
 abbrev pub answer_at : ℕ → ℕ → Pended
 answer_at found bit = if bit_at found bit == 1 then Merged else Raised
 
