@@ -1,6 +1,6 @@
 -- What an audit says of a trace: that it is judged right, by Baker's machine (Stack-Based Scheduling of Realtime
 -- Processes, 1991), and then it keeps the laws that every run keeps; or which item is the first that is wrong. It is
--- told by whole beginnings of the trace; the code follows the machine item by item, and counts silent steps by their
+-- said by whole beginnings of the trace; the code follows the machine item by item, and counts silent steps by their
 -- costs.
 use Rattle.std.specs.Prelude.{◌≡◌, ℕ, suc, ◌<◌, ◌≤◌, ◌⊎◌, length, take, None}
 use Rattle.rt_trace.specs.Trace.{Trace}
@@ -11,14 +11,14 @@ use Rattle.rt_laws.specs.Messages.{KeepsMessages}
 use Rattle.rt_baker.specs.declared.verdict.Verdict.{Verdict}
 use Rattle.rt_baker.specs.declared.verdict.Verdict.TheVariants as verdict
 
--- the first so many items, as a trace that tells no total
+-- the first n items, as a trace that states no total
 abbrev pub front : ℕ → Trace → Trace
 front n trace = record { items = take n trace.items; total = None }
 
 -- It is judged right. Sections were exclusive then, no job found one taken, and none waited for more than one section
--- of one lower job. At every moment spawns were full exactly where the capacity was out; messages started first in,
--- first out, and fired in order and not early; a handle was of one message; the indices that were out were those in
--- transit, armed and ready; and messages that were ready or due were served.
+-- of one lower job. At every moment spawns found a task full exactly where all its places were out; messages started
+-- first in, first out, and fired in order and not early; a handle was of one message; the places that were out were
+-- those in transit, armed and ready; and messages that were ready or due were served.
 pub record IsRight (app : App) (trace : Trace) : Type 0 where
   pub judged : Judged app trace
   pub laws : KeepsLaws app judged.run.labels
@@ -29,7 +29,7 @@ abbrev pub IsWrongBehind : App → Trace → ℕ → Type 0
 IsWrongBehind app trace n =
     ((n < length trace.items) × (Judged app (front (suc n) trace) → ⊥)) ⊎ (n ≡ length trace.items)
 
--- It is not judged right, and the first item that is wrong has this number, from 1. A wrong total has the number behind
+-- It is not judged right, and the first item that is wrong has this number, from 1. A wrong total has the number after
 -- the last item's.
 pub record IsWrongAt (app : App) (trace : Trace) (number : ℕ) : Type 0 where
   pub before : ℕ

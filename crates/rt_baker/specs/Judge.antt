@@ -1,6 +1,6 @@
--- Which items a judge has judged. They come one after another from the start on; the state and the steps behind them
--- are functions of them, so there is one of each at most. A run of Baker's machine (Stack-Based Scheduling of Realtime
--- Processes, 1991) is told by labels.
+-- Which items a judge has judged. They come one after another from the start on; the state and the steps after them are
+-- functions of them, so there is one of each at most. A run of Baker's machine (Stack-Based Scheduling of Realtime
+-- Processes, 1991) is a list of labels; here it goes by items.
 use Rattle.std.specs.Prelude.{◌≡◌, ℕ, suc, ◌-◌, ◌^◌, ◌<◌, List, [], ◌∷◌, length, take, Option, Some, None}
 use Rattle.std.specs.Prelude.{if◌then◌else◌}
 use Rattle.std.specs.List.{AllByRecursion}
@@ -14,24 +14,24 @@ use Rattle.rt_baker_moves.specs.State.{Held, StateIs}
 use Rattle.rt_baker.specs.declared.done.Done.{Done}
 use Rattle.rt_baker.specs.declared.judge.Judge.{Judge}
 
--- the core steps that are done
+-- the core steps that are done after the last item
 abbrev pub steps_done : Done → ℕ
 steps_done d = if d.is_step then suc d.step else d.step
 
 module _ (app : App) where
-  -- the state behind items, from a state on in which n core steps are done
+  -- the state after items, from a state on in which n core steps are done
   abbrev pub state_behind : laws.State → ℕ → List Item → laws.State
   state_behind t n [] = t
   state_behind t n (item ∷ items) =
       state_behind (after_item app t n item) (steps_after item.step (label_of t.owing item.what)) items
 
-  -- the core steps that are done behind items, likewise
+  -- the core steps that are done after items, likewise
   abbrev pub steps_done_behind : laws.State → ℕ → List Item → ℕ
   steps_done_behind t n [] = n
   steps_done_behind t n (item ∷ items) =
       steps_done_behind (after_item app t n item) (steps_after item.step (label_of t.owing item.what)) items
 
-  -- each item comes behind those before it
+  -- each item comes after those before it
   abbrev pub AllCome : laws.State → ℕ → List Item → Type 0
   AllCome t n [] = Unit {0}
   AllCome t n (item ∷ items) =
@@ -42,13 +42,13 @@ module _ (app : App) where
     pub come : AllCome (laws.first app) 0 items
     pub depths : AllByRecursion (λ item. IsWithinStack app item.what) items
 
-  -- The items are right, and this is kept of the state behind them, where so many steps are done.
+  -- The items are right, and this is kept of the state after them, where so many steps are done.
   pub record Follows (items : List Item) (s : Held) (done : ℕ) : Type 0 where
     pub right : AreRight items
     pub is : StateIs app s (state_behind (laws.first app) 0 items)
     pub steps : done ≡ steps_done_behind (laws.first app) 0 items
 
-  -- The items in front of this index are right, and with the item there they are not.
+  -- The items before this index are right, and with the item there they are not.
   pub record FailsAt (items : List Item) (index : ℕ) : Type 0 where
     pub within : index < length items
     pub right : AreRight (take index items)
@@ -59,8 +59,8 @@ module _ (app : App) where
   Stands items s done None = Follows items s (steps_done done)
   Stands items s done (Some index) = FailsAt items index
 
-  -- These items were judged. The judge keeps the state behind them where all are right, and else which is the first
-  -- that is wrong.
+  -- These items were judged. The judge keeps the state after them where all are right, and else which is the first that
+  -- is wrong.
   pub record HasJudged (items : List Item) (judge : Judge) : Type 0 where
     pub counted : judge.items ≡ length items
     pub bounded : judge.stack ≡ stack_bytes app

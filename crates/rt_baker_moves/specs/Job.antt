@@ -31,7 +31,7 @@ pub record Kept : Type 0 where
   pub sections : List Section
   pub lefts : List ℕ
 
--- the last action of a job, behind all that it has to do
+-- the last action of a job, after all that it has to do
 abbrev pub finish : laws.Role → Later
 finish laws.Init vars = act (Ends body.Init) (λ vs. over)
 finish laws.Idle vars = act (Ends body.Idle) (λ vs. over)

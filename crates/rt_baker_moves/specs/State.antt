@@ -1,5 +1,5 @@
 -- What an auditor keeps of a state of Baker's machine (Stack-Based Scheduling of Realtime Processes, 1991), and the
--- states that it stands for. Contents are lists by number here, and what jobs have left to do lists of things to do.
+-- states that it may be. Contents are lists by number here, and what jobs have left to do lists of things to do.
 use Rattle.std.specs.Prelude.{◌≡◌, ℕ, ◌-◌, ◌^◌, ◌<◌, Bool, List, [], ◌∷◌, Option}
 use Rattle.rt_app.specs.Tree.{App}
 use Rattle.rt_laws.specs.State as laws

@@ -17,7 +17,7 @@ pub record AreTables (app : App) (t : Tables) : Type 0 where
   pub measured : t.measure ≡ cost_measure app
   -- the dispatchers of levels, by number
   pub dispatched : (p : ℕ) → p < 256 → slice_index t.dispatchers.items p ≡ dispatcher_number app p
-  -- the cost of a section of the armed messages, and of one where a message is told by its handle
+  -- the cost of a section of the timer queue, and of one that looks for the message of a handle
   pub timed : t.timer_section ≡ timer_section_cost app
   pub addressed : t.handle_section ≡ handle_section_cost app
   -- what serves the interrupts, by number

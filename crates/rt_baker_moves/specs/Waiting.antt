@@ -6,12 +6,12 @@ use Rattle.rt_app.specs.Tree.{App}
 use Rattle.rt_laws.specs.Preemption.{goes_before}
 use Rattle.rt_laws.specs.Services.{priority_of}
 
--- a list with one item more, in front of the first that it beats
+-- a list with one item more, before the first that it beats
 abbrev pub insert_before : {A : Type 0} → (A → A → Bool) → A → List A → List A
 insert_before beats x [] = x ∷ []
 insert_before beats x (y ∷ ys) = if beats x y then x ∷ y ∷ ys else y ∷ insert_before beats x ys
 
--- those of a list that pass, each in front of those that it beats
+-- those of a list that pass, each before those that it beats
 abbrev pub chosen_in_order : {A : Type 0} → (A → Bool) → (A → A → Bool) → List A → List A
 chosen_in_order passes beats [] = []
 chosen_in_order passes beats (x ∷ xs) =
@@ -21,6 +21,6 @@ chosen_in_order passes beats (x ∷ xs) =
 abbrev pub waits : App → List Bool → ℕ → Bool
 waits app pending irq = slice_index_or pending irq false && nat_lt 0 (priority_of app irq)
 
--- the declared interrupts that are pending and served, the one that would be taken first in front
+-- the declared interrupts that are pending and served, in the order in which they would be taken
 unfoldable pub waiting_irqs : App → List Bool → List ℕ
 waiting_irqs app pending = chosen_in_order (waits app pending) (goes_before app) (map (λ d. d.number) app.irqs)

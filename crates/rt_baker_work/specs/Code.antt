@@ -23,6 +23,6 @@ pub record IsCode (code : Code) : Type 0 where
   pub measured : code.measure ≡ cost_measure (app_of code.app.now)
   -- the dispatchers of levels, by number
   pub dispatched : (p : ℕ) → p < 256 → slice_index code.dispatchers.now p ≡ dispatcher_number (app_of code.app.now) p
-  -- the cost of a section of the armed messages, and of one where a message is told by its handle
+  -- the cost of a section of the timer queue, and of one that looks for the message of a handle
   pub timed : code.timer_section ≡ timer_section_cost (app_of code.app.now)
   pub addressed : code.handle_section ≡ handle_section_cost (app_of code.app.now)

@@ -1,5 +1,6 @@
--- What handlers have to do as they begin (the RTIC 1 book, hardware tasks, software tasks and the monotonic). The
--- definitions (`rt_app`) have the return of a handler in what it does; here it is behind all that there is to do.
+-- What handlers have to do as they begin (the RTIC 1 book, hardware tasks, software tasks and the monotonic). In the
+-- definitions (`rt_app`) the return of a handler is a part of what it does; here it comes after all that there is to
+-- do.
 use Rattle.std.specs.Prelude.{[]}
 use Rattle.rt_ids.specs.Holder.{Guarded}
 use Rattle.rt_ids.specs.Content.{messages}

@@ -1,4 +1,4 @@
--- What an auditor keeps of resources and queues: lists by their numbers, of which a number behind the end has nothing.
+-- What an auditor keeps of resources and queues: lists by their numbers, in which a number past the end has nothing.
 -- The definitions have one function from what holds something to what it holds (`rt_ids`; the RTIC 1 book, resources,
 -- software tasks and the monotonic).
 use Rattle.std.specs.Prelude.{ℕ, ◌-◌, ◌^◌, ◌<◌, List, [], slice_index, slice_index_or}
@@ -18,7 +18,7 @@ pub record Store : Type 0 where
   -- the armed messages, and the counts of the timer queue
   pub timed : Timed
 
--- the contents that it stands for
+-- the contents of resources and queues that are kept so
 unfoldable pub contents : Store → Values
 contents s (Guarded (section.Res r)) = Number (slice_index s.shared r)
 contents s (Guarded (section.Free t)) = Number (slice_index s.out t)

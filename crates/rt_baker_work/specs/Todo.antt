@@ -1,6 +1,6 @@
--- What a thing on an auditor's list of things to do comes to: the actions of what it stands for, and then those of what
--- is left behind it. The definitions run a body on its tree, with what is left as a function (`rt_app`; the RTIC 1
--- book, resources, software tasks and the monotonic).
+-- What a thing on an auditor's list of things to do comes to: the actions that it means, and then those of what is left
+-- after it. The definitions run a body on its tree, with what is left as a function (`rt_app`; the RTIC 1 book,
+-- resources, software tasks and the monotonic).
 use Rattle.std.specs.Prelude.{ℕ, ◌-◌, List, [], ◌∷◌, ◌++◌, replicate, slice_get, slice_set, Option, Some}
 use Rattle.std.specs.Prelude.{None, if◌then◌else◌}
 use Rattle.rt_ids.specs.Lists.{is_empty, then_from}
@@ -27,18 +27,18 @@ use Rattle.rt_baker_work.specs.declared.todo.Reading.{Reading}
 use Rattle.rt_baker_work.specs.declared.todo.Reading.TheVariants as reading
 use Rattle.rt_baker_work.specs.Actions.{action_of}
 
--- a variable, where there is one, comes to hold this
+-- a variable, where there is one, gets this value
 abbrev pub give_answer : Option ℕ → ℕ → Later → Later
 give_answer None n later vars = later vars
 give_answer (Some x) n later vars = later (slice_set vars x n)
 
--- a variable, where there is one, comes to hold the handle that was given last
+-- a variable, where there is one, gets the handle that was given last
 abbrev pub give_handle : Option ℕ → Later → Later
 give_handle None later vars vs = later vars vs
 give_handle (Some x) later vars vs = later (slice_set vars x (timer_content (vs (Guarded section.Timer))).given) vs
 
 module _ (app : App) where
-  -- A message that has a place goes to its queue, at once or behind a delay. The rest goes by what the spawn gives.
+  -- A message that has a place goes to its queue, at once or after a delay. The rest goes by what the spawn gives.
   abbrev pub send_message : Option ℕ → Message → (ℕ → Rest) → Rest
   send_message None m rest = act_all (ready_actions app (task_priority app m.task) m) (rest 1)
   send_message (Some delay) m rest = arm_actions app (timer_section_cost app) delay m rest
@@ -77,7 +77,7 @@ module _ (app : App) where
       act_all (Fires a.message ∷ SetsAlarm ∷ Leaves section.Timer ∷ ready_actions app (task_priority app
       a.message.task) a.message) rest
 
-  -- the clock is read, for this
+  -- what a reading of the clock is for: a variable, an arming, a move, or the timer handler
   abbrev pub use_clock : Reading → ℕ → Later → Later
   use_clock (reading.Bind x) time later vars vs = later (slice_set vars x time) vs
   use_clock (reading.Arm delay m) time later vars vs = act (Arms (instant_after app time delay) m) (later vars) vs
@@ -86,7 +86,8 @@ module _ (app : App) where
   use_clock reading.Fire time later vars vs = fire_message (due app time (delays (vs (Guarded section.Timer))))
       (later vars) vs
 
-  -- inside the section of the armed messages one of them is taken back, where it has the handle
+  -- inside the section of the timer queue the armed message of the task that has the handle is cancelled, where there
+  -- is one
   abbrev pub cancel_message : Option ℕ → ℕ → ℕ → Later → Later
   cancel_message variable n handle later vars vs =
       if is_armed_as app n handle vs
@@ -95,7 +96,8 @@ module _ (app : App) where
       (give_answer variable 0 later vars))) vs
       else act (Leaves section.Timer) (give_answer variable 1 later vars) vs
 
-  -- inside the section of the armed messages one of them is put off, where it has the handle
+  -- inside the section of the timer queue the armed message of the task that has the handle is moved, where there is
+  -- one
   abbrev pub move_message : Option ℕ → ℕ → ℕ → ℕ → Later → Later
   move_message variable delay n handle later vars vs =
       if is_armed_as app n handle vs
@@ -103,7 +105,7 @@ module _ (app : App) where
       (λ vars. leave_timer app (give_answer variable 0 later vars)) vars)
       else act (Leaves section.Timer) (give_answer variable 1 later vars) vs
 
-  -- what a thing to do comes to, and behind it what is left
+  -- what a thing to do comes to, and after it what is left
   abbrev pub meaning : Todo → Later → Later
   meaning (todo.Run stmts) later vars vs = run_block app (block_of stmts.now) later vars vs
   meaning (todo.Turns x i last stmts) later vars vs = turns_from (last - i) x i (run_block app (block_of

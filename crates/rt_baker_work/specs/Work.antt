@@ -1,5 +1,5 @@
 -- What an auditor has left to do for a job, and how it changes as silent statements run. The definitions have what is
--- left as a function of what is behind it, of variables and of contents (`rt_app`; the RTIC 1 book, resources).
+-- left as a function of what comes after it, of variables and of contents (`rt_app`; the RTIC 1 book, resources).
 use Rattle.std.specs.Prelude.{◌≡◌, ℕ, Bool, true, false, List, [], ◌∷◌, Option, Some, None}
 use Rattle.rt_app.specs.Tree.{App}
 use Rattle.rt_app.specs.Meaning.{Later}
@@ -19,13 +19,13 @@ pub record Work : Type 0 where
 abbrev pub no_work : Work
 no_work = record { todos = []; vars = [] }
 
--- Whatever is left behind it, what was to do first and then the old work is what the new work is.
+-- Whatever is left after it, what was to do first and then the old work is what the new work is.
 pub record Becomes (app : App) (first : Later → Later) (old : Work) (was : Store) (new : Work) (is : Store) : Type
     0 where
   pub same : (later : Later) → first (behind app old.todos later) old.vars (contents was) ≡ behind app new.todos
       later new.vars (contents is)
 
--- others can see it
+-- whether a thing to do is one that others can see
 abbrev pub is_seen : Todo → Bool
 is_seen (todo.Act a) = true
 is_seen (todo.Clock r) = true

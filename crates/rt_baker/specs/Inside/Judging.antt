@@ -1,6 +1,6 @@
--- What an auditor says of an item, and of the silent steps in front of it, for each state of Baker's machine
--- (Stack-Based Scheduling of Realtime Processes, 1991) that the one that it keeps stands for: that it may come, and
--- what is kept of the state behind it; or that it may not. Likewise of the end.
+-- What an auditor says of an item, and of the silent steps before it, for each state of Baker's machine (Stack-Based
+-- Scheduling of Realtime Processes, 1991) that the one that it keeps may be: that it may come, and what is kept of the
+-- state after it; or that it may not. Likewise of the end.
 use Rattle.std.specs.Prelude.{◌≡◌, ℕ, ◌-◌, ◌<◌, ◌≤◌, ◌^◌, Bool, true, false, Option, Some, None}
 use Rattle.rt_trace.specs.declared.item.Item.{Item}
 use Rattle.rt_trace.specs.declared.item.What.{What}
@@ -30,7 +30,7 @@ pub record MayGoOn (app : App) (s : Held) : Type 0 where
   pub within : AreWithin count state
   pub few : count < 2 ^ 32 - 1
 
--- An item may come, and this is kept of the state behind it.
+-- An item may come, and this is kept of the state after it.
 pub record Came (app : App) (t : laws.State) (w : What) (new : Held) : Type 0 where
   pub may : May app t (label_of t.owing w)
   pub is : StateIs app new (after app t (label_of t.owing w))
@@ -40,7 +40,7 @@ unfoldable pub Judges : App → Bool → Held → Held → What → Type 0
 Judges app true old new w = (t : laws.State) → StateIs app old t → Came app t w new
 Judges app false old new w = (t : laws.State) → StateIs app old t → May app t (label_of t.owing w) → ⊥
 
--- So many silent steps may pass, and this is kept of the state behind them.
+-- So many silent steps may pass, and this is kept of the state after them.
 pub record Passed (app : App) (t : laws.State) (k : ℕ) (new : Held) : Type 0 where
   pub runs : RunsOn app t (silent k)
   pub is : StateIs app new (after_all app t (silent k))
@@ -50,13 +50,13 @@ unfoldable pub Passes : App → Bool → Held → Held → ℕ → Type 0
 Passes app true old new k = (t : laws.State) → StateIs app old t → Passed app t k new
 Passes app false old new k = (t : laws.State) → StateIs app old t → RunsOn app t (silent k) → ⊥
 
--- An item comes where so many steps are done, and this is kept of the state behind it, where so many are.
+-- An item comes where so many steps are done, and this is kept of the state after it, where so many are.
 pub record Behind (app : App) (t : laws.State) (n : ℕ) (item : Item) (new : Held) (m : ℕ) : Type 0 where
   pub comes : Comes app t n item
   pub is : StateIs app new (after_item app t n item)
   pub steps : m ≡ steps_after item.step (label_of t.owing item.what)
 
--- An item came with the silent steps in front of it where they might, and only there.
+-- An item came with the silent steps before it where they might, and only there.
 unfoldable pub ItemComes : App → Option Done → Held → Held → ℕ → Item → Type 0
 ItemComes app None old new n item = (t : laws.State) → StateIs app old t → Comes app t n item → ⊥
 ItemComes app (Some d) old new n item = (t : laws.State) → StateIs app old t → Behind app t n item new (steps_done d)
@@ -69,7 +69,7 @@ ItemJudged app (Some d) old new n item =
     IsWithinStack app item.what
     × ((t : laws.State) → StateIs app old t → Behind app t n item new (steps_done d))
 
--- A trace may end where so many steps are done: silent steps come up to the total, where it is told.
+-- A trace may end where so many steps are done: silent steps come up to the total, where the trace states one.
 abbrev pub Ends : App → laws.State → ℕ → Option ℕ → Type 0
 Ends app t n None = Unit {0}
 Ends app t n (Some total) = (n ≤ total) × RunsOn app t (silent (total - n))

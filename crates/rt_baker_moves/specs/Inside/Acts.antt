@@ -1,4 +1,4 @@
--- What an action of the running job changes in what an auditor keeps of it and of the state, told beside what the
+-- What an action of the running job changes in what an auditor keeps of the job and of the state, beside what the
 -- machine of the definitions changes (`rt_laws`; Baker, Stack-Based Scheduling of Realtime Processes, 1991).
 use Rattle.std.specs.Prelude.{◌≡◌, ℕ, ◌-◌, true, [], ◌∷◌, ◌++◌, map, drop, slice_set, slice_index_or, Option, None}
 use Rattle.std.specs.Prelude.{if◌then◌else◌}
@@ -18,7 +18,7 @@ use Rattle.rt_baker_moves.specs.Job.{Kept, rest_of, with_rest}
 use Rattle.rt_baker_moves.specs.State.{Held}
 use Rattle.rt_baker_moves.specs.Inside.Waiting.{waiting_with}
 
--- what an action changes in the sections and the steps that are left
+-- what an action changes in the open sections and in the steps that are left
 abbrev pub kept_after_action : Action → Kept → Kept
 kept_after_action (Enters x cost) j = record j {
   left = j.left - 1;
@@ -40,7 +40,7 @@ pub record IsPerformed (app : App) (a : Action) (old : Kept) (was : Store) (new 
   pub rest : rest_of app new (contents is) ≡ rest_of app old (effect a (contents was))
   pub settled : IsSettled new.work.todos
 
--- with a running job that is another, and other contents
+-- a state with this running job on its jobs, and with these contents
 abbrev pub held_with_job : Held → Kept → Store → Held
 held_with_job s new is = record {
   jobs = new ∷ s.jobs;
@@ -92,7 +92,7 @@ with_work j w = record {
   lefts = j.lefts;
 }
 
--- the state as it was before the running job was taken out of it and this action off its work
+-- the state as it was before the running job was taken out of it and did this action of its work
 abbrev pub before : code.Action → Kept → Held → Held
 before a job s = held_with_job s (with_work job (record {
   todos = job.work.todos ++ todo.Act a ∷ [];

@@ -1,5 +1,5 @@
 -- What the moves of Baker's machine (Stack-Based Scheduling of Realtime Processes, 1991) change in what an auditor
--- keeps of its state. The definitions tell them of the machine's own states.
+-- keeps of its state. The definitions speak of the machine's own states.
 use Rattle.std.specs.Prelude.{◌≡◌, ℕ, ◌-◌, [], ◌∷◌, ◌++◌, map}
 use Rattle.rt_app.specs.Tree.{App}
 use Rattle.rt_laws.specs.State as laws
@@ -20,7 +20,7 @@ kept_after_steps k j = record j { left = j.left - k; lefts = map (λ n. n - k) j
 abbrev pub with_next : Todo → Kept → Kept
 with_next t j = with_work j (record { todos = j.work.todos ++ t ∷ []; vars = j.work.vars })
 
--- Whatever state of the machine the old one stands for, its running job has done its next action in the new one.
+-- Whatever state of the machine the old one may be, its running job has done its next action in the new one.
 abbrev pub Advances : App → Held → Held → Type 0
 Advances app old new = (t : laws.State) → StateIs app old t → StateIs app new (state_after_item app t t.jobs)
 
@@ -29,7 +29,7 @@ pub record IsBegun (app : App) (k : laws.Job) (was : Store) (new : Kept) (is : S
   pub job : JobIs app new k
   pub values : reached_values k.rest (contents was) ≡ contents is
 
--- The thread began `idle`, or waits since that is absent.
+-- The thread began `idle`, or waits where `idle` is not declared.
 pub record IsIdling (app : App) (old new : Held) : Type 0 where
   pub job : Kept
   pub store : Store

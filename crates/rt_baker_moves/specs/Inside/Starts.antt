@@ -1,5 +1,5 @@
--- The jobs of Baker's machine (Stack-Based Scheduling of Realtime Processes, 1991) that begin with something to do,
--- told of what an auditor keeps. The definitions have the return of a handler in what it does; here it is behind all
+-- The jobs of Baker's machine (Stack-Based Scheduling of Realtime Processes, 1991) that begin with something to do, in
+-- what an auditor keeps. In the definitions the return of a handler is a part of what it does; here it comes after all
 -- that there is to do.
 use Rattle.std.specs.Prelude.{◌≡◌, ℕ, [], false, slice_set}
 use Rattle.rt_ids.specs.Content.{Values}

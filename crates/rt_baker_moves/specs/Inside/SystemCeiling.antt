@@ -1,5 +1,5 @@
 -- The system ceiling of Baker's machine, and how many steps the running job has left (Stack-Based Scheduling of
--- Realtime Processes, 1991), told of the jobs that an auditor keeps.
+-- Realtime Processes, 1991), from the jobs that an auditor keeps.
 use Rattle.std.specs.Prelude.{ℕ, max, nat_le, Bool, true, false, ◌&&◌, List, [], ◌∷◌, map}
 use Rattle.std.specs.List.{list_all}
 use Rattle.rt_ids.specs.Lists.{greatest}
@@ -9,15 +9,15 @@ use Rattle.rt_laws.specs.State as laws
 use Rattle.rt_baker_moves.specs.Job.{Kept}
 
 module _ (app : App) where
-  -- the level of a job: the greatest of its priority and of the ceilings of its open sections
+  -- a job's part in the system ceiling: the greatest of its priority and of the ceilings of its open sections
   abbrev pub job_threshold : Kept → ℕ
   job_threshold j = max j.priority (greatest_ceiling app j.sections)
 
-  -- the level: the greatest of these jobs' levels
+  -- the system ceiling: the greatest of these jobs' parts in it
   abbrev pub kept_ceiling : List Kept → ℕ
   kept_ceiling js = greatest (map job_threshold js)
 
--- a job of this role has so many steps left; the thread that waits has no cost
+-- whether a job of this role has so many steps left; the thread that waits has no cost
 abbrev pub has_steps : laws.Role → ℕ → ℕ → Bool
 has_steps laws.Waiting left k = true
 has_steps role left k = nat_le k left

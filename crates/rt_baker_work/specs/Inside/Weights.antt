@@ -11,7 +11,8 @@ use Rattle.rt_baker_work.specs.declared.todo.Todo.TheVariants as todo
 abbrev pub turns_weight : ℕ → ℕ → ℕ
 turns_weight turns block = 1 + turns * (block + 1)
 
--- a block is one thing more than its statements; a spawn leaves a thing to do by which a variable is told
+-- how much a statement weighs beside the one that it counts for in its block; a spawn leaves a thing to do by which a
+-- variable gets its answer
 abbrev mutual
   pub statement_weight : Statement → ℕ
   statement_weight (Bind x v) = 2
@@ -23,18 +24,18 @@ abbrev mutual
   statement_weight (Pend i) = 0
   statement_weight (Spawns s) = 2
 
-  -- how much a block weighs
+  -- how much a block weighs: one, and for each statement one and its weight
   pub block_weight : Block → ℕ
   block_weight Empty = 1
   block_weight (Then s rest) = 1 + statement_weight s + block_weight rest
 
--- the bodies of these tasks together
+-- how much the bodies of these tasks weigh together
 abbrev pub bodies_weight : List Task → ℕ
 bodies_weight [] = 0
 bodies_weight (t ∷ tasks) = block_weight t.body.block + bodies_weight tasks
 
 module _ (app : App) where
-  -- one thing to do; a message's body is one of all the bodies
+  -- how much a thing to do weighs; a message's body weighs no more than all bodies together
   abbrev pub weight : Todo → ℕ
   weight (todo.Run stmts) = block_weight (block_of stmts.now)
   weight (todo.Turns x i last stmts) = turns_weight (last - i) (block_weight (block_of stmts.now))
@@ -49,7 +50,7 @@ module _ (app : App) where
   weight (todo.Act a) = 0
   weight (todo.Clock r) = 0
 
-  -- things to do in sum
+  -- how much these things to do weigh together
   abbrev pub weights : List Todo → ℕ
   weights [] = 0
   weights (t ∷ ts) = weight t + weights ts
