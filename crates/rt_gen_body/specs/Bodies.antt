@@ -1,6 +1,6 @@
--- What is promised of the code of a body, wherever further code stands behind it: from its entry on it does what the
--- body has to do, whatever others do to what is not its own, within the cost that is printed for it, and then ends as
--- its kind of body does (the RTIC 1 book: `init`, `idle`, hardware tasks, software tasks).
+-- What is promised of the code of a body, wherever further code comes after it: from its entry on it does what the body
+-- has to do, whatever others do to what is not its own, within the cost that is printed for it, and then ends as its
+-- kind of body does (the RTIC 1 book: `init`, `idle`, hardware tasks, software tasks).
 use Rattle.std.specs.Prelude.{◌≡◌, ℕ, ◌<◌, true, false, ◌++◌, ⊤, List, [], length, slice_get, Option, Some, None}
 use Rattle.rt_ids.specs.Action.{Returns}
 use Rattle.rt_ids.specs.Storage.{Starting, AtPriority}
@@ -34,7 +34,7 @@ pub record DeclaredStands (app : App) (n : ℕ) (code : List Line) (entry : ℕ)
   pub called : (t : Task) → slice_get app.tasks n ≡ Some t → is_software t ≡ true
       → CalledBodyStands app n code (row_for (λ k. entry) n t)
 
--- A body stands in this code, which goes as far as its end, and with more behind it: `init` leads to what stands behind
+-- A body stands in this code, which goes as far as its end, and with more after it: `init` leads to what comes after
 -- it, and `idle` to its own entry.
 abbrev pub BodyStands : App → BodyId → List Line → ℕ → Type 0
 BodyStands app body.Init code entry =

@@ -37,7 +37,8 @@ abbrev pub fixed_body : App → Option Member → Option (List Line)
 fixed_body app None = Some []
 fixed_body app (Some m) = if m.args == 0 then fixed_block app m.body.block else None
 
--- the lines of a body from an address on
+-- lines from an address on have the form of a body's code: they end as the body does, and where each line is fixed they
+-- are those lines
 pub record HasForm (app : App) (id : BodyId) (entry : ℕ) (lines : List Line) : Type 0 where
   pub ends : (front : List Line) × (lines ≡ front ++ end_line app id entry ∷ [])
   pub fixed : (front : List Line) → fixed_body app (member_at app id) ≡ Some front

@@ -1,7 +1,7 @@
 -- The code of the dispatcher of a level of software tasks, instruction by instruction (the RTIC 1 book, software tasks
 -- and their dispatchers): it takes the oldest message of the level's ready queue, whose word is 16 times its task and
 -- its place, looks among the tasks of the level for its task, loads its arguments, gives its place back and calls the
--- body. What it means is not told here but by the law that it stands. That it is made of these instructions is this
+-- body. Not this file but the law that it stands says what it means. That it is made of these instructions is this
 -- project's own.
 use Rattle.std.specs.Prelude.{ℕ, ◌+◌, ◌==◌, List, [], ◌∷◌, ◌++◌, map, slice_index, if◌then◌else◌}
 use Rattle.std.specs.List.{range_with_len}
@@ -21,14 +21,14 @@ use Rattle.rt_gen_disp.specs.declared.called.Called.{Called}
 use Rattle.rt_gen_disp.specs.declared.lines.Exit.{Exit}
 use Rattle.rt_gen_disp.specs.declared.slots.TheConstants.{WORD, LEFT, INDEX, OTHER, ONE, PLACE, TASK, MASK}
 
--- where the message is not of the task an address is next; else it comes into a slot how far the place's arguments are
--- from the task's first
+-- a jump where the message is of another task; else a slot gets the distance of the place's arguments from the task's
+-- first
 abbrev pub test_lines : Called → ℕ → List Line
 test_lines c next =
     plain (instr.Set OTHER c.task) ∷ plain (instr.Calc op.Eq OTHER TASK OTHER) ∷ plain (instr.JumpZ OTHER next)
     ∷ plain (instr.Set OTHER c.args) ∷ plain (instr.Calc op.Mul OTHER PLACE OTHER) ∷ []
 
--- so many arguments of the place come into the first slots, where a task's arguments lie from a cell on
+-- the place's arguments, so many, come into the first slots; the task's arguments lie from a cell on
 abbrev pub argument_lines : ℕ → ℕ → List Line
 argument_lines inputs count = map (λ j. plain (instr.LoadAt j (inputs + j) OTHER)) (range_with_len 0 count)
 
@@ -74,7 +74,7 @@ callee_of app n row t = record {
   guard = guard_of app (section.Free n);
 }
 
--- What is next where a message is not of a task: the code behind the task's, and for the last task of the level the
+-- What is next where a message is not of a task: the code after the task's, and for the last task of the level the
 -- exit, which no message reaches.
 abbrev pub next_for : Exit → ℕ → ℕ → ℕ
 next_for exit n behind = if n == exit.last then exit.address else behind

@@ -17,7 +17,8 @@ use Rattle.rt_gen_queue.specs.Line.{Line, HasCode}
 use Rattle.rt_gen_queue.specs.Called.{row_for, rows_for, CalledBodyStands}
 use Rattle.rt_gen_disp.specs.Code.{dispatcher_code}
 
--- wherever the code of the dispatcher of a level stands, beside the bodies of the level's tasks
+-- wherever the code of the dispatcher of a level is, it stands for what the dispatcher has to do, beside called bodies
+-- of the level's tasks that stand
 abbrev pub DispatchersStand : Type 0
 DispatchersStand =
     (app : App) → IsAccepted app → (level : ℕ) → Contains (levels app) level

@@ -1,6 +1,6 @@
--- Where the bodies of software tasks stand when their level's dispatcher calls them (the RTIC 1 book, software tasks
--- and their dispatchers). That a body is called in a frame of its own, and goes back where that frame says, is this
--- project's own.
+-- In which configurations the bodies of software tasks begin and end when their level's dispatcher calls them (the RTIC
+-- 1 book, software tasks and their dispatchers). That a body is called in a frame of its own, and goes back where that
+-- frame says, is this project's own.
 use Rattle.std.specs.Prelude.{◌≡◌, ℕ, ◌+◌, ◌≤◌, ◌||◌, true, List, [], ◌∷◌, ◌++◌, length, take, slice_get}
 use Rattle.std.specs.Prelude.{slice_index, Option, Some, None, if◌then◌else◌}
 use Rattle.rt_ids.specs.Holder.{Holder}
@@ -48,7 +48,7 @@ calm left slots caller at cells queues rest = record {
   rest = rest;
 }
 
--- all that a level keeps, or may read at any time, is spelled by the cells of the whole memory
+-- memory spells all that the jobs of a level keep, or may read at any time
 pub record AreSpelled (app : App) (level : ℕ) (cells : List ℕ) (queues : Holder → List Entry) (vs : Values) : Type 0
   where
     pub long : length cells ≡ length (memory app)
@@ -56,9 +56,10 @@ pub record AreSpelled (app : App) (level : ℕ) (cells : List ℕ) (queues : Hol
         → ((storage app).is_kept (AtPriority level) h || (storage app).is_constant (AtPriority level) h) ≡ true
         → (storage app).Spells h (slice_index cells) (queues h) (vs h)
 
--- A called body of a task of a level stands: where what is to be done behind its end stands within so many steps, at
--- the address that the frame of the handler keeps and in that frame, the whole body and that stand at the body's entry
--- within the body's cost and so many steps, in a frame whose first slots are the arguments, whatever it holds else.
+-- A called body of a task of a level stands. Suppose that what is to be done after its end stands within so many steps,
+-- at the address that the handler's frame keeps and in that frame. Then the whole body and that stand at the body's
+-- entry, within the body's cost and so many steps, in a frame whose first slots are the arguments, whatever else it
+-- holds.
 abbrev pub CalledAtLevel : App → ℕ → ℕ → Task → List Line → BodyRow → Type 0
 CalledAtLevel app n level t code row =
     (bodies : List BodyRow) (thread steps : ℕ) (frame : List ℕ) (behind : Rest)

@@ -1,6 +1,6 @@
 -- How code goes into a section and comes out of it, by the section's ceiling and by the preemption threshold of what
 -- runs already (Baker, Stack-Based Scheduling of Realtime Processes, 1991; the RTIC 1 book, critical sections). What
--- masks is told where the kinds of sections are; here it is chosen, and noted.
+-- each kind of section masks is in `Masking` of rt_code; here the kind is chosen, and the line has its note.
 use Rattle.std.specs.Prelude.{ℕ, ◌==◌, nat_le, if◌then◌else◌}
 use Rattle.rt_ids.specs.Priority.{hardware}
 use Rattle.rt_ids.specs.declared.ids.Section.{Section}
@@ -12,7 +12,7 @@ use Rattle.rt_code.specs.declared.instr.Note.TheVariants as note
 use Rattle.rt_gen_queue.specs.Line.{Line, line_with_note}
 use Rattle.rt_gen_queue.specs.declared.guard.Guard.{Guard}
 
--- the guard of a ceiling, with so many bits of priorities
+-- the guard of a ceiling, where so many bits of priorities are implemented
 abbrev pub guard_of_ceiling : ℕ → ℕ → Guard
 guard_of_ceiling bits top = record { ceiling = top; value = hardware bits top }
 
@@ -21,11 +21,11 @@ abbrev pub kind_of : Guard → ℕ → ℕ → Kind
 kind_of g threshold slot =
     if nat_le g.ceiling threshold then Marked else if g.value == 0 then Masked slot else Raised slot
 
--- the line that opens a section with this guard at a level
+-- the line that opens a section with this guard at a preemption threshold
 abbrev pub enter_line : Section → Guard → ℕ → ℕ → Line
 enter_line x g threshold slot = line_with_note (opening_instr g.value (kind_of g threshold slot)) (note.Enter x)
 
--- the line that closes a section with this guard at a level
+-- the line that closes a section with this guard at a preemption threshold
 abbrev pub leave_line : Section → Guard → ℕ → ℕ → Line
 leave_line x g threshold slot = line_with_note (closing_instr (kind_of g threshold slot)) (note.Leave x)
 
@@ -38,14 +38,14 @@ module _ (app : App) where
   abbrev pub guard_of : Section → Guard
   guard_of x = guard_of_ceiling app.bits (ceiling app x)
 
-  -- the kind of a section of the application at a level, with a slot for what the mask was
+  -- the kind of a section of the application at a preemption threshold, with a slot for what the mask was
   abbrev pub kind_at : Section → ℕ → ℕ → Kind
   kind_at x threshold slot = kind_of (guard_of x) threshold slot
 
-  -- the line that opens a section of the application at a level
+  -- the line that opens a section of the application at a preemption threshold
   abbrev pub enter : Section → ℕ → ℕ → Line
   enter x threshold slot = enter_line x (guard_of x) threshold slot
 
-  -- the line that closes a section of the application at a level
+  -- the line that closes a section of the application at a preemption threshold
   abbrev pub leave : Section → ℕ → ℕ → Line
   leave x threshold slot = leave_line x (guard_of x) threshold slot

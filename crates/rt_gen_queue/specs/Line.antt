@@ -1,5 +1,5 @@
--- A line of generated code, with the note that it may have; where lines stand in code, and what each of them may name.
--- That notes stand beside the instructions is this project's own.
+-- A line of generated code, with the note that it may have; which lines code has from an address on, and what each of
+-- them may name. That notes are beside the instructions is this project's own.
 use Rattle.std.specs.Prelude.{◌≡◌, ℕ, suc, List, [], ◌∷◌, slice_get, Option, Some, None}
 use Rattle.rt_ids.specs.Names.{Names}
 use Rattle.rt_code.specs.Listable.{HasInstr, HasNote}
@@ -18,7 +18,7 @@ plain i = (i, None)
 abbrev pub line_with_note : Instr → Note → Line
 line_with_note i told = (i, Some told)
 
--- these lines stand in the code from an address on
+-- the code has these lines from an address on
 abbrev pub HasCode : List Line → ℕ → List Line → Type 0
 HasCode code at [] = Unit {0}
 HasCode code at (line ∷ lines) = (slice_get code at ≡ Some line) × HasCode code (suc at) lines

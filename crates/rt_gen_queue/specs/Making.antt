@@ -1,4 +1,4 @@
--- Lines as they are generated, one behind the other.
+-- Lines as they are generated, one after the other.
 use Rattle.std.specs.Prelude.{◌≡◌, ℕ, ◌+◌, ◌++◌, List, length}
 use Rattle.rt_gen_queue.specs.Line.{Line}
 
@@ -8,7 +8,7 @@ pub record Made : Type 0 where
   pub entry : ℕ
   pub lines : List Line
 
--- The address of the next line is behind the last one.
+-- The address of the next line comes after the last one.
 abbrev pub next_address : Made → ℕ
 next_address code = code.entry + length code.lines
 

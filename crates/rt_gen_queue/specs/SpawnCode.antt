@@ -41,7 +41,7 @@ module _ (app : App) where
   abbrev pub ready_code : ℕ → ℕ → ℕ → ℕ → List Line
   ready_code task p threshold slot = ready_lines (target_at task p) threshold slot
 
-  -- the lines of the two answers: 1 behind a message that was put, and 0 where no place was left
+  -- the lines of the two answers: 1 after a message that was put, and 0 where no place was left
   abbrev pub end_code : ℕ → ℕ → ℕ → ℕ → List Line
   end_code task threshold slot end = end_lines (target_of task) threshold slot end
 

@@ -1,6 +1,6 @@
 -- The lines of a spawn, from what it is made of: a place of the task is taken, its arguments are stored, and its
--- message goes into the ring of its level (the RTIC 1 book, software tasks, `spawn`). What they mean is not told here
--- but by the law that they stand. That they are these instructions is this project's own.
+-- message goes into the ring of its level (the RTIC 1 book, software tasks, `spawn`). Not this file but the law that
+-- they stand says what they mean. That they are these instructions is this project's own.
 use Rattle.std.specs.Prelude.{ℕ, ◌+◌, ◌*◌, List, [], ◌∷◌, ◌++◌, map}
 use Rattle.std.specs.List.{range_with_len}
 use Rattle.rt_ids.specs.declared.ids.Section.TheVariants as section
@@ -11,15 +11,16 @@ use Rattle.rt_gen_queue.specs.Line.{Line, plain, line_with_note}
 use Rattle.rt_gen_queue.specs.Guards.{enter_line, leave_line}
 use Rattle.rt_gen_queue.specs.declared.target.Target.{Target}
 
--- arguments into the cells of a place, from a cell and a slot on, of which the first so many are done
+-- the lines that store arguments into the cells of a place, from a cell and a slot on; the first so many are done
+-- already
 abbrev pub store_code : ℕ → ℕ → ℕ → ℕ → List Line
 store_code count cell slot from =
     map (λ j. plain (instr.StoreAt (cell + j) (slot + 7) (slot + j))) (range_with_len from count)
 
--- The slots behind the arguments: a number of places or messages, a place in the ring, the place that is taken and then
--- its message as a word, a number beside these, and what the mask was.
+-- The slots after the arguments: a number of places or of messages, an index in the ring, the place that is taken and
+-- then its message as a word, a number beside these, and what the mask was.
 module _ (c : Target) (threshold slot : ℕ) where
-  -- a place of the task, or a jump where none is left
+  -- a place of the task is taken, or a jump where none is left
   abbrev pub take_lines : ℕ → List Line
   take_lines full =
       enter_line (section.Free c.task) c.guard threshold (slot + 8)
@@ -39,7 +40,7 @@ module _ (c : Target) (threshold slot : ℕ) where
       ∷ (store_code c.args c.inputs slot 0
       ++ plain (instr.Set (slot + 7) (16 * c.task)) ∷ plain (instr.Calc op.Add (slot + 6) (slot + 6) (slot + 7)) ∷ [])
 
-  -- the message into the ring, behind those that are ready
+  -- the message goes into the ring, after those that are ready, and the dispatcher is pended
   abbrev pub ready_lines : List Line
   ready_lines =
       enter_line (section.Ready c.queue.level) c.queue.guard threshold (slot + 8)

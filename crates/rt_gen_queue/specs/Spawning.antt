@@ -44,8 +44,8 @@ module _ (app : App) (who : Runner) where
     pub off : HoldsOff who s.held threshold
     pub steps : AllByRecursion (λ n. SPAWN_COST ≤ n) s.lefts
 
-  -- Behind the spawn: the answer is in the first slot, other slots, what the job may read, and its cells and queues
-  -- are as they were.
+  -- After the spawn: the answer is in the first slot; other slots, what the job may read, and its cells and queues are
+  -- as they were.
   pub record HasSpawned (slot : ℕ) (s : Spot) (vs : Values) (granted used : ℕ) (slots cells : List ℕ)
       (queues : Holder → List Entry) (ws : Values) : Type 0 where
     pub answer : (granted ≤ 1) × (slice_index slots slot ≡ granted)
@@ -55,7 +55,7 @@ module _ (app : App) (who : Runner) where
     pub own : LeavesMine (storage app) who s cells queues
     pub agree : Agree (storage app) who s.held ws vs
 
-  -- where a job is behind these lines of a spawn, with this left to do
+  -- where a job is after these lines of a spawn, with this left to do
   abbrev pub behind : Spot → List Line → ℕ → List ℕ → List ℕ → (Holder → List Entry) → Rest → Values → Spot
   behind s lines used slots cells queues rest ws = record s {
     lefts = map (λ n. n - used) s.lefts;
@@ -66,7 +66,7 @@ module _ (app : App) (who : Runner) where
     rest = rest ws;
   }
 
--- The code of a spawn stands for its actions and for any rest, where the code behind it stands for that rest.
+-- The code of a spawn stands for its actions and for any rest, where the code after it stands for that rest.
 abbrev pub SpawnsStand : Type 0
 SpawnsStand =
     (app : App) (task : ℕ) (t : Task) (code : List Line) (bodies : List BodyRow) (thread : ℕ) (who : Runner)

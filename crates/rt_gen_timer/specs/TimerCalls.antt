@@ -1,8 +1,8 @@
--- What is promised of the code for the timer queue, wherever it stands: a `spawn_after` takes a place of its task and
--- arms the message, or finds no place; a `cancel` and a `reschedule_after` take the message of a handle back or put it
--- to another instant, or find none; and the handler of the monotonic makes the due message ready (the RTIC 1 book,
--- `spawn_after`, `cancel`, `reschedule_after`; that the handler makes one message ready an entry is this project's
--- own). Each is within its cost, whatever others do to what is not the job's own; and what the job has is as before.
+-- What is promised of the code for the timer queue, wherever it is: a `spawn_after` takes a place of its task and arms
+-- the message, or finds no place; a `cancel` and a `reschedule_after` cancel or move the message of a handle, or find
+-- none; and the handler of the monotonic makes the due message ready (the RTIC 1 book, `spawn_after`, `cancel`,
+-- `reschedule_after`; that the handler makes one message ready an entry is this project's own). Each is within its
+-- cost, whatever others do to what is not the job's own; and what the job has is as before.
 use Rattle.std.specs.Prelude.{◌≡◌, ℕ, ◌+◌, ◌*◌, ◌^◌, ◌<◌, ◌≤◌, ◌⊎◌, true, false, List, length, take, drop}
 use Rattle.std.specs.Prelude.{slice_get, slice_index, Some, IsSome}
 use Rattle.std.specs.List.{AllByRecursion}
@@ -55,8 +55,8 @@ module _ (app : App) where
       pub closed : is_open s.held (section.Free task) ≡ false
       pub within : IsWithin (storage app) who who (section.Free task)
 
-    -- Behind a call of so many steps: the answer is in the first slot, other slots, what the job may read, and its
-    -- cells and queues are as they were.
+    -- After a call of so many steps: the answer is in the first slot; other slots, what the job may read, and its cells
+    -- and queues are as they were.
     pub record HasUsedTimer (steps slot : ℕ) (s : Spot) (vs : Values) (answer used : ℕ) (slots cells : List ℕ)
         (queues : Holder → List Entry) (ws : Values) : Type 0 where
       pub answered : (answer ≤ 2 ^ 31) × (slice_index slots slot ≡ answer)
@@ -66,8 +66,8 @@ module _ (app : App) where
       pub own : LeavesMine (storage app) who s cells queues
       pub agree : Agree (storage app) who s.held ws vs
 
-    -- The code of such a call, which takes so many steps, stands for its actions: where the code behind it stands for
-    -- the rest, within so many further steps.
+    -- The code of such a call, which takes so many steps, stands for its actions, where the code after it stands for
+    -- the rest within so many further steps.
     abbrev pub StandsBefore : List Line → List BodyRow → ℕ → ℕ → ℕ → List Line → (ℕ → Rest) → ℕ → Spot → Values → Type 0
     StandsBefore code bodies thread steps slot lines rest n s vs =
         ((answer used m : ℕ) (slots cells : List ℕ) (queues : Holder → List Entry) (ws : Values) → n ≤ m

@@ -55,8 +55,8 @@ module _ (app : App) where
       then choice_lines queue_of 0 threshold (armed_task n) at ++ choices_code threshold (at + 26) (n + 1) more
       else choices_code threshold at (n + 1) more
 
-  -- The timer handler at a priority, from an address on. A message that is of no task would leave the section as where
-  -- none is due, which no message does.
+  -- The timer handler at a priority, from an address on. If the message were of no task, the handler would leave the
+  -- section as where none is due; no message is so.
   abbrev pub timer_code : ℕ → ℕ → List Line
   timer_code threshold at =
       front_lines queue_of 0 threshold at

@@ -1,6 +1,6 @@
 -- The lines of code for the timer queue, from what it is made of: a binary heap in cells (Williams, Algorithm 232:
 -- Heapsort, 1964), whose entries are rows of columns with the instant, the number of the last arming and the handle of
--- a message. What the lines mean is not told here but by the laws that they stand. That they are these instructions is
+-- a message. Not this file but the laws that the lines stand say what they mean. That they are these instructions is
 -- this project's own.
 use Rattle.std.specs.Prelude.{ℕ, ◌+◌, ◌-◌, ◌*◌, List, [], ◌∷◌, ◌++◌}
 use Rattle.rt_ids.specs.declared.ids.Section.TheVariants as section
@@ -65,11 +65,11 @@ module _ (q : TimerQueue) (slot : ℕ) where
   abbrev pub store : ℕ → ℕ → Line
   store c s = plain (instr.Store c (slot + s))
 
-  -- a slot gets the value of a cell behind another, the distance being in a slot
+  -- a slot gets the value of a cell at a distance from another, which is in a slot
   abbrev pub load_at : ℕ → ℕ → ℕ → Line
   load_at d c s = plain (instr.LoadAt (slot + d) c (slot + s))
 
-  -- a cell behind another, the distance being in a slot, gets the value of a slot
+  -- a cell at a distance from another, which is in a slot, gets the value of a slot
   abbrev pub store_at : ℕ → ℕ → ℕ → Line
   store_at c s a = plain (instr.StoreAt c (slot + s) (slot + a))
 
@@ -102,7 +102,7 @@ module _ (q : TimerQueue) (slot : ℕ) where
       ∷ copy HOLE OTHER
       ∷ plain (instr.Jump at) ∷ [])
 
-  -- the row of a message, its instant and its number from a position in the heap
+  -- the row of a message, its instant and its number, by its index in the heap
   abbrev pub key_lines : ℕ → ℕ → ℕ → ℕ → List Line
   key_lines place row instant number =
       load_at row (heap_of q) place
@@ -131,8 +131,8 @@ module _ (q : TimerQueue) (slot : ℕ) where
       ∷ copy HOLE OTHER
       ∷ plain (instr.Jump at) ∷ [])))))
 
-  -- The position in the heap whose message has the handle in a slot, from the hole down to the first place, and the row
-  -- of that message; or a jump where none has it. A turn has 6 lines.
+  -- The index in the heap whose message has the handle in a slot, looked for from below the hole down to the first
+  -- index, and the row of that message; or a jump where none has it. A turn has 6 lines.
   abbrev pub search_lines : ℕ → ℕ → ℕ → List Line
   search_lines handle missing at =
       jump_zero HOLE missing
@@ -194,7 +194,7 @@ module _ (q : TimerQueue) (slot : ℕ) where
   abbrev pub constant_lines : List Line
   constant_lines = set ONE 1 ∷ set TWO 2 ∷ []
 
-  -- a jump where a row is behind those of a task; else the message's word in place of its row, and it fires. 6 lines.
+  -- a jump where a row is past those of a task; else the message's word in place of its row, and it fires. 6 lines.
   abbrev pub fire_lines : ArmedTask → ℕ → List Line
   fire_lines a next =
       set OTHER (a.first + a.rows)
@@ -210,7 +210,7 @@ module _ (q : TimerQueue) (slot : ℕ) where
       load NUMBER (armings_of q) ∷ calc op.Add OTHER NUMBER ONE ∷ store (armings_of q) OTHER ∷ []
 
   -- A message whose word is in a slot becomes a row of the columns, with the next number and the next handle, which is
-  -- the answer; and the heap has one position more. 16 lines.
+  -- the answer; and the heap has one index more. 16 lines.
   abbrev pub row_lines : ArmedTask → List Line
   row_lines a =
       constant_lines
@@ -226,8 +226,8 @@ module _ (q : TimerQueue) (slot : ℕ) where
   again_lines =
       number_lines ++ store_at (instants_of q) HAND INSTANT ∷ store_at (numbers_of q) HAND NUMBER ∷ []
 
-  -- The message whose row is in a slot gets another instant and the next number, and goes up or down from where it
-  -- stands. 59 lines.
+  -- The message whose row is in a slot gets another instant and the next number, and goes up or down from where it is.
+  -- 59 lines.
   abbrev pub put_off_lines : ArmedTask → ℕ → List Line
   put_off_lines a at =
       copy HAND PLACE
@@ -251,8 +251,8 @@ module _ (q : TimerQueue) (slot : ℕ) where
     abbrev pub leave_timer : Line
     leave_timer = leave_line section.Timer q.guard threshold (slot + MASK)
 
-    -- The message whose word is in a slot is armed: it gets a number, the next handle and the next position in the
-    -- heap, and goes up from there. From an address on, 46 lines.
+    -- The message whose word is in a slot is armed: it gets a number, the next handle and the next index in the heap,
+    -- and goes up from there. From an address on, 46 lines.
     abbrev pub arm_lines : ArmedTask → ℕ → List Line
     arm_lines a at =
         enter_timer
@@ -263,7 +263,8 @@ module _ (q : TimerQueue) (slot : ℕ) where
         (note.Arm a.target.task (slot + INSTANT))
         ∷ (alarm_lines (at + 39) ++ leave_timer ∷ []))))
 
-    -- a jump behind the message that is armed, and the answer 0 where no place is left. 3 lines.
+    -- after a message that was armed, a jump past the code for none; where no place is left, the answer is 0, and the
+    -- section closes. 3 lines.
     abbrev pub full_lines : ArmedTask → ℕ → List Line
     full_lines a end =
         plain (instr.Jump end)
@@ -289,7 +290,7 @@ module _ (q : TimerQueue) (slot : ℕ) where
         ∷ line_with_note (instr.Store c.free (slot + COUNT)) (note.Free c.task)
         ∷ leave_line (section.Free c.task) c.guard threshold (slot + MASK) ∷ []
 
-    -- the section opens, and the hole is behind the last message. 5 lines.
+    -- the section opens, and the hole is after the last message. 5 lines.
     abbrev pub open_lines : List Line
     open_lines = enter_timer ∷ (constant_lines ++ load COUNT q.at ∷ copy HOLE COUNT ∷ [])
 
@@ -302,7 +303,8 @@ module _ (q : TimerQueue) (slot : ℕ) where
     abbrev pub place_lines : ArmedTask → List Line
     place_lines a = leave_timer ∷ set OTHER a.first ∷ calc op.Sub PLACE PLACE OTHER ∷ []
 
-    -- behind the found message, whose lines answer 0, the code for none: the section closes, and the answer is 1
+    -- after the lines of a message that was found, the answer 0; and the code where none was: the section closes, and
+    -- the answer is 1
     abbrev pub missing_lines : ℕ → List Line
     missing_lines end = answer_lines 0 end ++ leave_timer ∷ set ANSWER 1 ∷ []
 
@@ -319,7 +321,7 @@ module _ (q : TimerQueue) (slot : ℕ) where
         ++ missing_lines (at + 91)))))
 
     -- Of a `reschedule_after`: the message of the handle gets another instant and the next number, and goes up or down
-    -- from where it stands; the answer is 0; or there is none. 87 lines.
+    -- from where it is; the answer is 0; or there is none. 87 lines.
     abbrev pub move_lines : ArmedTask → ℕ → List Line
     move_lines a at =
         find_lines a ARGUMENTS (at + 85) at
@@ -339,7 +341,7 @@ module _ (q : TimerQueue) (slot : ℕ) where
         ∷ calc op.Lt OTHER ANSWER INSTANT
         ∷ jump_zero OTHER due ∷ [])
 
-    -- the section closes, and it returns; behind that, the first position in the heap is the hole
+    -- the section closes, and the handler returns; after that, the first index of the heap is the hole
     abbrev pub idle_lines : List Line
     idle_lines = leave_timer ∷ plain instr.Ret ∷ set HOLE 0 ∷ []
 
@@ -350,7 +352,7 @@ module _ (q : TimerQueue) (slot : ℕ) where
         due_lines (at + 10) (at + 18)
         ++ (alarm_lines (at + 10) ++ (idle_lines ++ remove_lines (at + 19)))
 
-    -- a message of this task becomes ready, and one of another is left to the code behind. 26 lines.
+    -- a message of this task becomes ready, and one of another is left to the code after it. 26 lines.
     abbrev pub choice_lines : ArmedTask → ℕ → List Line
     choice_lines a at =
         fire_lines a (at + 26)

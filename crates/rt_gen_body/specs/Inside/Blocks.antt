@@ -1,5 +1,5 @@
 -- The code of statements and blocks, instruction by instruction, from an address on: choices, loops, and sections of
--- resources. What it means is not told here but by the promise that it stands.
+-- resources. Not this file but the promise that it stands says what it means.
 use Rattle.std.specs.Prelude.{◌≡◌, ℕ, ◌+◌, max, List, [], ◌∷◌, ◌++◌, length, slice_index, slice_index_or, slice_set}
 use Rattle.rt_ids.specs.declared.ids.Section.TheVariants as section
 use Rattle.rt_ids.specs.declared.op.Op.TheVariants as op
@@ -12,7 +12,7 @@ use Rattle.rt_gen_queue.specs.declared.guard.Guard.{Guard}
 use Rattle.rt_gen_body.specs.Inside.Values.{Context, next_slot, value_code}
 use Rattle.rt_gen_body.specs.Inside.Simple.{send_code, bind_code, assign_code, emit_code}
 
--- code is longer by these lines, and the jump at a place leads behind them
+-- code is longer by these lines, and the jump at an index of it leads past them
 abbrev pub EndsWith : Made → Made → ℕ → List Line → Type 0
 EndsWith before after over lines =
     after
@@ -25,11 +25,11 @@ module _ (c : Context) where
   abbrev pub guard_at : ℕ → Guard
   guard_at r = slice_index_or c.guards r (record { ceiling = 0; value = 0 })
 
-  -- the choice behind a test, whose jump stands at an address: one block of code, or nothing
+  -- the choice after a test, whose jump is at an address: one block of code, or nothing
   abbrev pub one_code : ℕ → (ℕ → List Line) → List Line
   one_code at first = plain (instr.JumpZ c.expressions (at + 1 + length (first (at + 1)))) ∷ first (at + 1)
 
-  -- the choice behind a test between two blocks of code
+  -- the choice after a test between two blocks of code
   abbrev pub two_code : ℕ → (ℕ → List Line) → (ℕ → List Line) → List Line
   two_code at first second =
       let then_code : List Line = first (at + 1) in
@@ -38,12 +38,12 @@ module _ (c : Context) where
       plain (instr.JumpZ c.expressions else_at)
       ∷ (then_code ++ plain (instr.Jump (else_at + length else_code)) ∷ else_code)
 
-  -- the choice behind a test: between two blocks, or of one where the second is empty
+  -- the choice after a test: between two blocks, or of one where the second is empty
   abbrev pub branch_code : ℕ → (ℕ → List Line) → (ℕ → List Line) → Block → List Line
   branch_code at first second Empty = one_code at first
   branch_code at first second other = two_code at first second
 
-  -- the first of two blocks, with jumps that lead behind it and that are still to lead behind the second
+  -- the first of two blocks, with a jump that leads past it, and one that is still to lead past the second
   abbrev pub first_code : ℕ → List Line → List Line
   first_code at block =
       plain (instr.JumpZ c.expressions (at + 1 + length block + 1)) ∷ (block ++ plain (instr.Jump 0) ∷ [])
@@ -54,12 +54,12 @@ module _ (c : Context) where
       plain (instr.Set x first) ∷ plain (instr.Set c.expressions last)
       ∷ plain (instr.Calc op.Lt c.expressions x c.expressions) ∷ []
 
-  -- the lines behind a turn: the variable rises by one, and a jump back to the head of the loop
+  -- the lines after a turn: the variable rises by one, and a jump back to the head of the loop
   abbrev pub loop_back : ℕ → ℕ → List Line
   loop_back x head =
       plain (instr.Set c.expressions 1) ∷ plain (instr.Calc op.Add x x c.expressions) ∷ plain (instr.Jump head) ∷ []
 
-  -- a loop, whose turn's code begins four instructions behind the loop's address
+  -- a loop, whose turn's code begins four instructions after the loop's address
   abbrev pub loop_code : ℕ → ℕ → ℕ → ℕ → List Line → List Line
   loop_code at x first last turn =
       loop_front x first last
@@ -91,7 +91,7 @@ module _ (c : Context) where
     statement_code threshold lock at (Pend i) = plain (instr.Post (slice_index c.numbers i)) ∷ []
     statement_code threshold lock at (Spawns s) = send_code c threshold at s
 
-    -- the code of a block, one statement behind the other
+    -- the code of a block, one statement after the other
     pub block_code : ℕ → ℕ → ℕ → Block → List Line
     block_code threshold lock at Empty = []
     block_code threshold lock at (Then s rest) =

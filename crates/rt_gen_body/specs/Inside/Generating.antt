@@ -1,4 +1,4 @@
--- What a generator has, as the context of the definitions.
+-- What a generator of code has, as the context of the definitions.
 use Rattle.std.specs.Prelude.{◌≡◌, ℕ, List, map, length}
 use Rattle.rt_app.specs.Accepted.{IsAccepted}
 use Rattle.rt_app.specs.Frame.{first_expression_slot, first_lock_slot, first_spawn_slot}

@@ -13,7 +13,7 @@ use Rattle.rt_gen_body.specs.declared.spawn.Timed.{Timed}
 use Rattle.rt_gen_body.specs.declared.spawn.Timed.TheVariants as timed
 use Rattle.rt_gen_body.specs.Inside.Values.{Context, store, value_code, arguments_code}
 
--- the values that a spawn goes with
+-- the expressions of a spawn, in the order of the text: its delay, its arguments or its handle
 abbrev pub values_of : Spawn → List Expression
 values_of (Soon n args place) = args
 values_of (After word delay n args place) = delay ∷ args
@@ -27,17 +27,18 @@ timed_lines timed.Cancel app n threshold slot at = cancel_code app n threshold s
 timed_lines timed.Move app n threshold slot at = move_code app n threshold slot at
 
 module _ (c : Context) where
-  -- a spawn whose arguments are there, at a static preemption threshold, from an address on; none of what is no
-  -- software task
+  -- the code of a spawn whose arguments are in their slots, at a static preemption threshold, from an address on; none
+  -- where the task is no software task
   abbrev pub message_code : ℕ → ℕ → ℕ → List Line
   message_code threshold at n =
       if is_some_and is_software (slice_get c.app.tasks n) then spawn_code c.app n threshold c.spawns at else []
 
-  -- whether there is a timer queue that holds messages of a task
+  -- whether there is a timer queue that may hold messages of a task
   abbrev pub is_timed : ℕ → Bool
   is_timed n = is_some c.app.mono && is_some_and is_software (slice_get c.app.tasks n)
 
-  -- what goes to the timer queue, whose delay, arguments and handle are there; none where there is none for the task
+  -- the code of a call that goes to the timer queue, whose delay, arguments and handle are in their slots; none where
+  -- no timer queue may hold messages of the task
   abbrev pub timed_code : Timed → ℕ → ℕ → ℕ → List Line
   timed_code kind threshold at n = if is_timed n then timed_lines kind c.app n threshold c.spawns at else []
 
@@ -45,14 +46,14 @@ module _ (c : Context) where
   abbrev pub values_code : Spawn → List Line
   values_code s = arguments_code c (values_of s) c.spawns
 
-  -- what goes once they are there
+  -- the code of a spawn whose values are in their slots
   abbrev pub goes_code : ℕ → ℕ → Spawn → List Line
   goes_code threshold at (Soon n args place) = message_code threshold at n
   goes_code threshold at (After word delay n args place) = timed_code timed.After threshold at n
   goes_code threshold at (Cancel word n handle place) = timed_code timed.Cancel threshold at n
   goes_code threshold at (Move word delay n handle place) = timed_code timed.Move threshold at n
 
-  -- a spawn: its values, and then what goes
+  -- the whole code of a spawn: its values, and then what it does with them
   abbrev pub send_code : ℕ → ℕ → Spawn → List Line
   send_code threshold at s =
       let front : List Line = values_code s in

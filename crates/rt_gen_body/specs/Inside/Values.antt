@@ -1,5 +1,5 @@
 -- What the code of a body is generated with, and the code that brings values into slots, instruction by instruction.
--- What it means is not told here but by the promise that it stands.
+-- Not this file but the promise that it stands says what it means.
 use Rattle.std.specs.Prelude.{ℕ, ◌+◌, ◌-◌, ◌^◌, min, List, [], ◌∷◌, ◌++◌}
 use Rattle.rt_app.specs.declared.expr.Atom.{Atom}
 use Rattle.rt_app.specs.declared.expr.Atom.TheVariants as atom
@@ -23,7 +23,7 @@ pub record Context : Type 0 where
   -- the first slot of a spawn
   pub spawns : ℕ
 
--- the next slot; frames are far shorter than where this stops
+-- the next slot; no frame is so long that the greatest number is met
 abbrev pub next_slot : ℕ → ℕ
 next_slot slot = min (slot + 1) (2 ^ 32 - 1)
 
@@ -34,7 +34,7 @@ module _ (c : Context) where
   load (atom.Shared r) slot = instr.Load slot r
   load (atom.Local n) slot = instr.Load slot (c.locals + n)
 
-  -- the value of a slot comes into a name
+  -- the value of a slot goes to what a name stands for
   abbrev pub store : Atom → ℕ → Instr
   store (atom.Var x) slot = instr.Copy x slot
   store (atom.Shared r) slot = instr.Store r slot

@@ -1,4 +1,4 @@
--- The three calls that go to the timer queue, as one.
+-- The three calls that go to the timer queue, taken as one.
 use Rattle.std.specs.Prelude.{ℕ, List}
 use Rattle.rt_app.specs.Tree.{App}
 use Rattle.rt_app.specs.declared.costs.TheConstants.{SPAWN_AFTER_COST, HANDLE_COST}
@@ -10,24 +10,25 @@ use Rattle.rt_gen_timer.specs.declared.call.Call.{Call}
 use Rattle.rt_gen_timer.specs.declared.call.Call.TheVariants.{After, Cancel, Move}
 use Rattle.rt_gen_timer.specs.declared.queue.TimerQueue.{TimerQueue}
 
--- the task of its message
+-- the task of a call's message
 abbrev pub task_of : Call → ℕ
 task_of (After task) = task
 task_of (Cancel task) = task
 task_of (Move task) = task
 
--- how many lines it has at most
+-- how many lines a call has at most
 abbrev pub cost_of : Call → ℕ
 cost_of (After task) = SPAWN_AFTER_COST
 cost_of (Cancel task) = HANDLE_COST
 cost_of (Move task) = HANDLE_COST
 
--- its lines, at a queue, in a body at a preemption threshold whose slots begin at one, of a task, from an address on
+-- the lines of a call on a timer queue, in a body at a preemption threshold whose slots begin at one, of a task, from
+-- an address on
 abbrev pub lines_of : Call → TimerQueue → ℕ → ℕ → ArmedTask → ℕ → List Line
 lines_of (After task) queue slot threshold armed at = after_lines queue slot threshold armed at
 lines_of (Cancel task) queue slot threshold armed at = cancel_lines queue slot threshold armed at
 lines_of (Move task) queue slot threshold armed at = move_lines queue slot threshold armed at
 
--- and in an application
+-- the lines of a call in an application
 abbrev pub code_of : App → Call → ℕ → ℕ → ℕ → List Line
 code_of app call threshold slot at = lines_of call (queue_of app) slot threshold (armed_task app (task_of call)) at
