@@ -46,7 +46,7 @@ impl Model for Store {
         s.ready.items) };
 }
 
-/// The number at a place, and 0 behind the end.
+/// The number at an index, and 0 past the end.
 pub(crate) fn at(numbers: &[u32], index: usize) -> u32
     ensures { result ≡ slice_index numbers.now index }
 {

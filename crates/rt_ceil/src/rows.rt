@@ -9,7 +9,7 @@ use rt_app::{Mono, ReadyCeiling, Task};
 use rt_ids::NoMemory;
 use std::alloc::Global;
 
-/// The ceiling of a task's free indices, where bodies up to this priority spawn it or cancel messages of it.
+/// The ceiling of a task's free places, where bodies up to this priority spawn it or cancel messages of it.
 fn free_row(task: &Task, priority: u8) -> Option<u8>
     ensures { result ≡ rows.free_row (task_of task.now) priority }
 {
@@ -20,7 +20,7 @@ fn free_row(task: &Task, priority: u8) -> Option<u8>
     }
 }
 
-/// The ceilings of the free indices of tasks.
+/// The ceilings of tasks' free places.
 pub(crate) fn free_rows(
     alloc: Global,
     tasks: &[Task],

@@ -47,7 +47,7 @@ fn last_of(tasks: &[Task], level: u8) -> usize
     last
 }
 
-/// The lines of the task at a place, where it is one of the level.
+/// The lines of the task of a number, where it is one of the level.
 fn push_task(
     plan: &Plan<'_>,
     queue: &ReadyQueue,

@@ -25,7 +25,7 @@ pub enum Verified {
     No(u8),
 }
 
-/// The place at which an owner begins, with nothing open.
+/// Where the walk over an owner's code begins, with nothing open.
 fn start(alloc: Global, address: u32) -> Result<Vec<Visit>, NoMemory>
     ensures { IfOk result (λ starts. starts.items ≡ record { address = address; nesting = [] } ∷ []) }
 {

@@ -24,7 +24,7 @@ pub struct Nvic {
     pending: [u32; WORDS],
     /// From `top` on, the active ones, last entered first.
     active: [Irq; ACTIVE],
-    /// From 0, where all places are taken, to `ACTIVE`, where none is.
+    /// From 0, where the array is full, to `ACTIVE`, where none is active.
     top: usize,
     /// The bits of those that are pending and enabled.
     ready: Ready,

@@ -1,4 +1,4 @@
-// From the tree of an application text to the application: names become places in their tables.
+// From the tree of an application text to the application: names become indices in their tables.
 #![tactic(auto)]
 
 ghost use Rattle.std.specs.Prelude.{◌≡◌, IfOk};

@@ -11,11 +11,11 @@ use Rattle.rt_app.specs.Level.{is_software}
 use Rattle.rt_ids.specs.Lists.{those_below}
 use Rattle.rt_ceil.specs.Inside.Tables.{level_of}
 
--- the ceiling of a task's free indices, where the task is a software task
+-- the ceiling of a task's free places, where the task is a software task
 abbrev pub free_row : Task → ℕ → Option ℕ
 free_row t priority = if is_software t then Some (max t.priority priority) else None
 
--- the ceilings of the free indices of the tasks from this number on
+-- the ceilings of the free places of the tasks from this number on
 abbrev pub free_rows : List ℕ → ℕ → List Task → List (Option ℕ)
 free_rows table n [] = []
 free_rows table n (t ∷ ts) = free_row t (slice_index table n) ∷ free_rows table (n + 1) ts

@@ -7,7 +7,7 @@ use Rattle.rt_nvic.specs.Inside.First.{controller_of}
 use Rattle.rt_nvic.specs.Inside.Bits.{flags, AreReady}
 use Rattle.rt_nvic.specs.Inside.Best.{IsBest}
 
--- an index for each number, a word for each 32 of them, and an index for each interrupt that may be active
+-- an entry for each number, a word for each 32 of them, and an entry for each interrupt that may be active
 pub record IsFixed (priorities : List (Option ℕ)) (pending : List ℕ) (active : List ℕ) (top : ℕ) : Type 0 where
   pub priorities_long : length priorities ≡ IRQ_NUMBERS
   pub pending_long : length pending ≡ WORDS
