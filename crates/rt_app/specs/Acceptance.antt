@@ -23,7 +23,8 @@ use Rattle.rt_app.specs.Stack.{stack_bytes, handler_priorities}
 use Rattle.rt_app.specs.Accepted.{IsAccepted}
 use Rattle.rt_app.specs.Sound.{IsSoundBody}
 
--- a section that its code may have
+-- a section of the application: of a declared resource or task, of a level of software tasks, or of the timer queue
+-- where there is a monotonic
 abbrev pub IsSectionOf : App → Section → Type 0
 IsSectionOf app (section.Res r) = r < length app.shared
 IsSectionOf app (section.Free n) = n < length app.tasks

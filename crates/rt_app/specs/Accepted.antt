@@ -85,7 +85,7 @@ module _ (app : App) where
     pub local_once : AreDifferent (map (λ o. o.local) b.local)
     pub block : IsBlockPlaced app (map (λ o. o.local) b.local) args (range_with_len 0 args) b.block
 
-  -- `idle`, where it is declared, takes no arguments
+  -- `idle`, where it is declared, takes no arguments, and names only what it may
   abbrev pub IsThreadPlaced : Option Body → Type 0
   IsThreadPlaced None = Unit {0}
   IsThreadPlaced (Some b) = IsBodyPlaced 0 b

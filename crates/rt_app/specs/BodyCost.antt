@@ -22,7 +22,7 @@ size_measure app = record { messages = min (armed_messages app) SIZED_MESSAGES; 
 abbrev pub body_cost : Measure → Body → ℕ
 body_cost m b = capped_cost (block_cost m b.block + 1)
 
--- a body that is not declared has its end alone
+-- the cost or the size of a body; one that is not declared has its end alone
 abbrev pub cost_of : Measure → Option Body → ℕ
 cost_of m None = 1
 cost_of m (Some b) = body_cost m b

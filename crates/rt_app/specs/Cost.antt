@@ -30,7 +30,7 @@ abbrev pub expressions_cost : List Expression → ℕ
 expressions_cost [] = 0
 expressions_cost (e ∷ es) = capped_cost (expression_cost e + expressions_cost es)
 
--- a spawn after a delay, a cancel and a move take more for each message that may be armed
+-- the cost of a spawn; one after a delay, a cancel and a move take more for each message that may be armed
 abbrev pub spawn_cost : Measure → Spawn → ℕ
 spawn_cost m (Soon task args at) = capped_cost (SPAWN_COST + expressions_cost args)
 spawn_cost m (After word delay task args at) =

@@ -17,7 +17,7 @@ use Rattle.rt_app.specs.Violation.{when}
 abbrev pub is_known : ℕ → Bool
 is_known n = not (n == UNKNOWN)
 
--- priorities of tasks and of the monotonic are from 1 to 2^bits
+-- whether a number is a priority of a task or of the monotonic: from 1 to 2^bits
 abbrev pub is_priority : ℕ → ℕ → Bool
 is_priority bits p = nat_le 1 p && nat_le p (2 ^ bits)
 

@@ -40,11 +40,12 @@ timer_need app p = if is_timed_at p app then TIMER_WORDS else 0
 abbrev pub need : App → ℕ → ℕ
 need app p = max (greatest (frames_of (is_bound_at p) app)) (max (dispatcher_need app p) (timer_need app p))
 
--- a priority takes what exception entry pushes and the greatest need of its handlers
+-- the bytes that a priority takes: what exception entry pushes and the greatest need of its handlers; none where it has
+-- no handler
 abbrev pub priority_bytes : App → ℕ → ℕ
 priority_bytes app p = if has_handler app p then 4 * (entry_words app.fpu + need app p) else 0
 
--- what the priorities below this one take together
+-- the bytes that the priorities below this one take together
 unfoldable pub bytes_below : App → ℕ → ℕ
 bytes_below app zero = 0
 bytes_below app (suc p) = bytes_below app p + priority_bytes app p

@@ -33,7 +33,7 @@ listing_in m r = find (λ l. l.resource == r) m.body.shared
 abbrev pub is_lockable : App → Member → ℕ → Bool
 is_lockable app m r = is_some_and (λ l. not l.by_ref && not (is_lock_free app r)) (listing_in m r)
 
--- whether it reaches it without a lock
+-- whether a body reaches a resource without a lock, as it lists it
 abbrev pub is_free : App → Member → ℕ → Bool
 is_free app m r = is_some_and (λ l. l.by_ref || is_lock_free app r) (listing_in m r)
 

@@ -19,7 +19,7 @@ abbrev pub expressions_steps : List Expression → ℕ
 expressions_steps [] = 0
 expressions_steps (e ∷ es) = expression_steps e + expressions_steps es
 
--- a spawn after a delay, a cancel and a move take more for each message that may be armed
+-- the steps of a spawn; one after a delay, a cancel and a move take more for each message that may be armed
 abbrev pub spawn_steps : Measure → Spawn → ℕ
 spawn_steps m (Soon task args at) = SPAWN_COST + expressions_steps args
 spawn_steps m (After word delay task args at) =

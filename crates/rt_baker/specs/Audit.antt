@@ -24,7 +24,7 @@ pub record IsRight (app : App) (trace : Trace) : Type 0 where
   pub laws : KeepsLaws app judged.run.labels
   pub messages : KeepsMessages app judged.run.labels
 
--- The items so far are judged right, and with the next one they are not; or all items are, and the total is not.
+-- With the item after the first n the items are not judged right; or the n items are all that there are.
 abbrev pub IsWrongBehind : App → Trace → ℕ → Type 0
 IsWrongBehind app trace n =
     ((n < length trace.items) × (Judged app (front (suc n) trace) → ⊥)) ⊎ (n ≡ length trace.items)

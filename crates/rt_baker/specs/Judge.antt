@@ -31,7 +31,7 @@ module _ (app : App) where
   steps_done_behind t n (item ∷ items) =
       steps_done_behind (after_item app t n item) (steps_after item.step (label_of t.owing item.what)) items
 
-  -- each item comes after those before it
+  -- each of these items comes where those before it have led
   abbrev pub AllCome : laws.State → ℕ → List Item → Type 0
   AllCome t n [] = Unit {0}
   AllCome t n (item ∷ items) =

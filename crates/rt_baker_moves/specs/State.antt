@@ -44,7 +44,7 @@ JobsAre app [] (k ∷ ks) = ⊥
 JobsAre app (j ∷ js) [] = ⊥
 JobsAre app (j ∷ js) (k ∷ ks) = JobIs app j k × JobsAre app js ks
 
--- this state is kept
+-- a state is the one that is kept: job by job, with all else equal, and with the interrupts that wait in order
 pub record StateIs (app : App) (s : Held) (t : laws.State) : Type 0 where
   pub jobs : JobsAre app s.jobs t.jobs
   pub is : t ≡ with_jobs s t.jobs

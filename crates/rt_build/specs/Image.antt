@@ -42,7 +42,7 @@ callable_rows app test behind rows =
     map (λ row. if is_some_and test (slice_get app.tasks row.task) then row else record row { entry = behind }) rows
 
 module _ (app : App) (at : Entries) where
-  -- what the application declares, and where its code is entered
+  -- the tables of the image say what the application declares, and where its code is entered
   pub record HasTables (img : Image) : Type 0 where
     pub bits : img.bits ≡ app.bits
     -- whether the core has the floating-point extension

@@ -39,7 +39,7 @@ size_of app (OfBody id) = cost_of (size_measure app) (body_at app id)
 size_of app (OfLevel p) = dispatcher_size app p
 size_of app OfTimer = timer_size app app.mono
 
--- the thread waits for interrupts where `idle` is not declared
+-- the lines of `idle`; where it is not declared, one line at which the thread waits for interrupts
 abbrev pub IsIdleFormed : App → Option Body → ℕ → List Line → Type 0
 IsIdleFormed app None entry lines = lines ≡ plain instr.Wait ∷ []
 IsIdleFormed app (Some b) entry lines = HasForm app body.Idle entry lines

@@ -28,7 +28,7 @@ next_with_slot p d v = record (next p) { slots = slice_set p.slots d v }
 abbrev pub next_with_cell : Processor → ℕ → ℕ → Processor
 next_with_cell p c v = record (next p) { cells = slice_set p.cells c v }
 
--- PRIMASK takes 0 or 1
+-- the effect of `unmask`: PRIMASK becomes 0 or 1; any other value traps
 abbrev pub unmask : Processor → ℕ → Effect
 unmask p value =
     if nat_le value 1 then Leads (record (next p) { primask = value == 1 }) request.Nothing else Traps trap.Stack

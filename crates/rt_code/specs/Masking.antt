@@ -43,7 +43,8 @@ module _ (st : Storage) (who : Runner) where
   IsMask ceiling threshold (Raised slot) = (threshold < ceiling) × (0 < st.value ceiling)
   IsMask ceiling threshold (Masked slot) = (threshold < ceiling) × (st.value ceiling ≡ 0)
 
-  -- `init` holds off all; another runner all up to the greatest of its priority and the ceilings of its open sections
+  -- the kind that a section asks for: in `init`, which holds off all, a mark; elsewhere by the preemption threshold,
+  -- the greatest of the runner's priority and of the ceilings of its open sections
   abbrev pub IsKindFor : Runner → List Held → Section → Kind → Type 0
   IsKindFor Starting held x kind = kind ≡ Marked
   IsKindFor (AtPriority p) held x kind =

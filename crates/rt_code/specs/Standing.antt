@@ -64,20 +64,23 @@ module _ (st : Storage) (code : List (Instr × Option Note)) (bodies : List Body
   Asks request.Back None s later = ⊥
   Asks asked (Some told) s later = ⊥
 
-  -- an instruction with this effect does not trap, and leaves the masks and what sections saved
+  -- an instruction with this effect does not trap, leaves the masks and what sections saved, and asks what the job has
+  -- to do next
   abbrev pub Goes : Option Note → ℕ → Bool → Spot → (Spot → Type 0) → Effect → Type 0
   Goes told basepri primask s later (Traps trap) = ⊥
   Goes told basepri primask s later (Leads p asked) =
       (p.basepri ≡ basepri) × (p.primask ≡ primask) × KeepsSaved s.held s.slots p.slots
       × Asks asked told (spot_behind s p) later
 
-  -- whatever the masks and the time, it touches what the job may touch
+  -- an instruction that neither opens nor closes a section, nor ends a body: it touches what the job may touch, and
+  -- with any masks and at any time below 2^31 it goes on as it should
   pub record Does (i : Instr) (told : Option Note) (s : Spot) (later : Spot → Type 0) : Type 0 where
     pub touches : MayAccess st who s (access_of i (processor_of s 0 false))
     pub goes : (time basepri : ℕ) (primask : Bool) → time < 2 ^ 31
         → Goes told basepri primask s later (instruction.effect i time (processor_of s basepri primask))
 
-  -- an instruction with its note: the sections' and the ends' own, and any other
+  -- an instruction with its note does what the job has to do: those of sections and of ends in ways of their own, and
+  -- any other
   abbrev pub Fits : Instr → Option Note → Spot → (Spot → Type 0) → Type 0
   Fits i (Some (note.Enter x)) s later = GoesIn st who x i s later
   Fits i (Some (note.Leave x)) s later = ComesOut st who x i s later
@@ -89,13 +92,15 @@ module _ (st : Storage) (code : List (Instr × Option Note)) (bodies : List Body
   LineFits None s later = ⊥
   LineFits (Some line) s later = Fits line.0 line.1 s later
 
-  -- Within so many steps of its own the job comes to its end: each step is its line's, and each is within what is left.
+  -- The code is correct where the job is: within so many steps of its own the job comes to its end, each step is that
+  -- of the line at its address, and no count of steps that are left runs out before.
   unfoldable pub Stands : ℕ → Spot → Type 0
   Stands zero s = ⊥
   Stands (suc n) s = HaveLeft s.lefts × LineFits (slice_get code s.address) (spot_after_step s) (Stands n)
 
-  -- Code at an address is a whole body or handler: from a frame of so many words, whatever it holds, and from what its
-  -- runner keeps, it does what is to be done, within its cost.
+  -- Code is correct at an entry, as a whole body or handler: from every frame of so many words, whatever it holds, and
+  -- every memory that spells what its runner keeps or may read at any time, it does what is to be done, within its
+  -- cost.
   abbrev pub StandsFrom : ℕ → ℕ → ℕ → ℕ → (Values → Doing Values) → Type 0
   StandsFrom memory words entry cost doing =
       (slots cells : List ℕ) (queues : Holder → List Entry) (vs : Values) → length slots ≡ words → length cells ≡ memory

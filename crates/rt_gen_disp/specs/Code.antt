@@ -63,7 +63,7 @@ module _ (q : ReadyQueue) where
   abbrev pub choice_lines : Called → ℕ → ℕ → List Line
   choice_lines c next at = test_lines c next ++ (argument_lines c.inputs c.args ++ start_lines c (at + (5 + c.args)))
 
--- a task by its number, whose body has this row
+-- what a dispatcher's code has of a task, whose body has this row
 abbrev pub callee_of : App → ℕ → ℕ → Task → Called
 callee_of app n row t = record {
   task = n;

@@ -8,7 +8,7 @@ pub record Made : Type 0 where
   pub entry : ℕ
   pub lines : List Line
 
--- The address of the next line comes after the last one.
+-- The address of the next line, which is the one after the last.
 abbrev pub next_address : Made → ℕ
 next_address code = code.entry + length code.lines
 

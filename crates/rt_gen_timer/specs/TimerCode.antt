@@ -27,7 +27,7 @@ module _ (app : App) where
     irq = or_zero (storage app).timer;
   }
 
-  -- a task by its number
+  -- what the code for the timer queue has of a task
   abbrev pub armed_task : ℕ → ArmedTask
   armed_task n = record {
     target = target_of app n;

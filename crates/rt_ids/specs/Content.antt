@@ -65,7 +65,7 @@ timer_content (Delays t) = t
 abbrev pub delays : Content → List Armed
 delays content = (timer_content content).armed
 
--- one more arming may come: the number of armings, first ones and later ones, stays a number of 31 bits
+-- one more arming may come: there were fewer than 2^31 so far, moves counted too
 abbrev pub MayArm : Content → Type 0
 MayArm (Number n) = Unit {0}
 MayArm (Messages messages) = Unit {0}

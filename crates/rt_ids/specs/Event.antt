@@ -8,7 +8,7 @@ pub data Event : Type 0 where
   Tick : Event
   Step : Event
 
--- how many of them are steps of the core
+-- how many of these events are steps of the core
 abbrev pub steps : List Event → ℕ
 steps [] = zero
 steps (Step ∷ events) = suc (steps events)

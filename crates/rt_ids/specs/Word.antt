@@ -25,7 +25,7 @@ abbrev pub is_identifier : List ℕ → Bool
 is_identifier [] = false
 is_identifier (b ∷ rest) = is_letter b && list_all is_name_byte rest
 
--- a name that can be declared
+-- a name that can be declared: an identifier of 1 to `NAME_BYTES` bytes that is no word of the language
 pub record IsName (text : List ℕ) : Type 0 where
   pub some : 1 ≤ length text
   pub short : length text ≤ NAME_BYTES

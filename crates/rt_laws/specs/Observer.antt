@@ -39,7 +39,8 @@ IsInside (job ∷ others) x = IsIn job.inside x
 abbrev pub outside : ℕ → Seen
 outside priority = record { priority = priority; inside = []; since = [] }
 
--- The thread begins as `init`, which has the greatest priority: interrupts are masked.
+-- What an observer knows at reset: the thread begins as `init`, which has the greatest priority, since interrupts are
+-- masked.
 abbrev pub first_sight : App → Observer
 first_sight app = record { jobs = outside (2 ^ app.bits) ∷ []; pending = replicate IRQ_NUMBERS false; steps = 0 }
 

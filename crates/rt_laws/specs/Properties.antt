@@ -11,7 +11,7 @@ use Rattle.rt_app.specs.Tree.{App}
 use Rattle.rt_laws.specs.Observer.{Seen, Observer, first_sight, sees}
 use Rattle.rt_laws.specs.Waiting.{WaitsWell, ServesWell}
 
--- a property holds at each label, of what is seen before it and of the labels behind it
+-- a property holds at each label, of what an observer knows before it and of the labels after it
 abbrev pub AtEach : (Observer → Label → List Label → Type 0) → App → Observer → List Label → Type 0
 AtEach P app v [] = Unit {0}
 AtEach P app v (label ∷ labels) = P v label labels × AtEach P app (sees app v label) labels

@@ -66,7 +66,7 @@ first_values app (Guarded (section.Ready p)) = Messages []
 first_values app (Guarded section.Timer) = Delays nothing_armed
 first_values app (Own n) = Number (or_zero (option_map (λ l. l.first) (slice_get app.locals n)))
 
--- `init` runs with all interrupts masked, so it has the greatest priority
+-- the state at reset: the thread begins `init`, which runs with all interrupts masked and so has the greatest priority
 abbrev pub first : App → State
 first app = record {
   jobs = new_job Init (2 ^ app.bits) (cost_of (cost_measure app) app.init) (init_doing app (first_values app)) ∷ [];

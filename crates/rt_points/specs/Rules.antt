@@ -228,6 +228,6 @@ pub record IsContended (img : Image) (cell : ℕ) : Type 0 where
 abbrev pub IsGuardedBy : Image → ℕ → Section → Type 0
 IsGuardedBy img cell x = (p : Point) → Touches img cell p → IsIn (sections p.inside) x
 
--- Seventh rule: each such cell has one section inside which alone it is touched.
+-- Seventh rule: each cell for which owners contend has a section inside which alone it is touched, `init` aside.
 abbrev pub GuardsCells : Image → Type 0
 GuardsCells img = (cell : ℕ) → IsContended img cell → (x : Section) × IsGuardedBy img cell x

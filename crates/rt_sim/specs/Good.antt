@@ -43,8 +43,9 @@ pub record RunsWell (app : App) (img : Image) (events : List Event) : Type 0 whe
   -- each load or store on a shared resource's cell is made where it may be
   pub guarded : (n : ℕ) → AccessesAreGuarded app img (take n events)
 
--- All this holds of every list of events: core steps, ticks, and arrivals of declared interrupts, in any order. A trace
--- numbers its steps below 2 ^ 31, so nothing is said of a longer list.
+-- The image is good: its stack region is as large as the stack bound, and all this holds of every list of events: core
+-- steps, ticks, and arrivals of declared interrupts, in any order. A trace numbers its steps below 2 ^ 31, so nothing
+-- is said of a longer list.
 pub record Good (app : App) (img : Image) : Type 0 where
   pub size : img.stack_bytes ≡ stack_bytes app
   pub each : (events : List Event) → length events < 2 ^ 31 → AreDeclared app events → RunsWell app img events

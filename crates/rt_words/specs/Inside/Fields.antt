@@ -14,7 +14,7 @@ pub record IsSound (table : TableId) (may : List ℕ) : Type 0 where
   pub most : table.words ≤ 16
   pub covers : (irq : ℕ) → IsPending may irq → irq / 32 < table.words
 
--- the counts are how often the calls did it, by interrupt
+-- the counts say by interrupt how often the calls did what is counted
 abbrev pub Counts : (ℕ → List Call → ℕ) → List ℕ → List Call → Type 0
 Counts times counts calls = (irq : ℕ) → irq < 512 → slice_index counts irq ≡ times irq calls
 
@@ -30,7 +30,7 @@ pub record IsCoreSeat (id : ℕ) (me : Seat) (counts : List ℕ) : Type 0 where
   pub merges : (irq : ℕ) → merged_count irq me.0.calls ≡ 0
   pub others : (irq : ℕ) → sum_by (λ p. latched_count irq p.calls) me.0.gathered ≡ 0
 
--- a device's calls are pends
+-- a device's seat: its calls are pends, and its two tables count those that raised and those that merged
 pub record IsDeviceSeat (me : Seat) (raises merges : List ℕ) : Type 0 where
   pub slots : me.1 ≡ []
   pub stage : me.0.stage ≡ Device

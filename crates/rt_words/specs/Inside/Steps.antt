@@ -58,13 +58,13 @@ Extends old line call new =
 abbrev pub answer_at : ℕ → ℕ → Pended
 answer_at found bit = if bit_at found bit == 1 then Merged else Raised
 
--- a pend of the interrupt whose bit it was
+-- a step that pends an interrupt: it set the interrupt's bit, and answers whether that was set already
 abbrev pub pend_step : Step (Unit {0}) → Seat → ℕ → Seat → Type 0
 pend_step s me found after = (seen : List Entry) × ((bit : ℕ) → bit < 32 → s.first ≡ 2 ^ bit
     → (after ≡ (view_after_call me.0 seen (Pend (32 * s.word + bit) (answer_at found bit)), me.1))
     × Extends me.0.seen me.0.line (Pend (32 * s.word + bit) (answer_at found bit)) seen)
 
--- a latch, in which bits of interrupts that may be pended were found alone
+-- a step that latches a word, in which only bits of interrupts that may be pended were set
 abbrev pub latch_step : Step (Unit {0}) → Seat → ℕ → Seat → Type 0
 latch_step s me found after = (seen : List Entry) × (after ≡ (view_after_call me.0 seen (Latch s.word found), me.1))
     × Extends me.0.seen 255 (Latch s.word found) seen × (found < 2 ^ 32)
