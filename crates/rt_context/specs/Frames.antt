@@ -3,8 +3,8 @@
 -- or the extended frame, which has words for the floating-point registers above it; at exception return (section
 -- B1.5.8) it reads them. Here the frames are a structure, and the words are its image. That LR holds the size of the
 -- interrupted frame in place of EXC_RETURN, that the words for the floating-point registers are 0, and that the stack
--- grows to higher places, are this model's own. The code keeps the words and a few sizes, and reads the rest back from
--- the words.
+-- grows to higher addresses, are this model's own. The code keeps the words and a few sizes, and reads the rest back
+-- from the words.
 use Rattle.std.specs.Prelude.{ℕ, ◌-◌, ◌*◌, List, [], ◌∷◌, ◌++◌, length, replicate, Option}
 use Rattle.rt_ids.specs.declared.exception.TheConstants.{BASIC_FRAME_WORDS}
 use Rattle.rt_code.specs.Stack as stack

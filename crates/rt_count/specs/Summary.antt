@@ -1,5 +1,5 @@
 -- What the items of runs count up to. It is this project's own: a summary that tells, over many runs, how often
--- interrupts were taken, values emitted and messages refused, and how deep the stack was.
+-- interrupts were taken, values emitted and tasks found full, and how deep the stack was.
 use Rattle.std.specs.Prelude.{ℕ, ◌%◌, ◌^◌, Bool, true, false, List, map, count_by, sum_by}
 use Rattle.rt_ids.specs.Lists.{greatest}
 use Rattle.rt_trace.specs.declared.item.Item.{Item}
@@ -17,7 +17,7 @@ abbrev pub is_emit : What → Bool
 is_emit (what.Emit value) = true
 is_emit w = false
 
--- a message was refused, since all places of its task were out
+-- a message found no place, because all places of its task were out
 abbrev pub is_full : What → Bool
 is_full (what.Full task) = true
 is_full w = false

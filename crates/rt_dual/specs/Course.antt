@@ -21,7 +21,7 @@ is_of_both (Arrive irq) = false
 is_of_both Tick = true
 is_of_both Step = true
 
--- the events of the first core under a script, devices' requests at their places, and those of the second
+-- the events of the first core under a script: all that the script has, devices' requests at the places of their lines
 abbrev pub first_events : List Line → List Event
 first_events script = events script
 

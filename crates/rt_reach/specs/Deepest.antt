@@ -1,6 +1,6 @@
 -- The script that goes deepest: handlers nest, one of each priority, the lowest first (Baker, Stack-Based Scheduling of
--- Realtime Processes, 1991, on sharing a stack). It is told by which interrupts are requested and by what the core does
--- at each; the code runs a core as far as the first exception entry alone. The script is this project's own.
+-- Realtime Processes, 1991, on sharing a stack). It is defined by which interrupts are requested and by what the core
+-- does at each; the code runs a core as far as the first exception entry alone. The script is this project's own.
 use Rattle.std.specs.Prelude.{◌≡◌, ℕ, suc, ◌<◌, List, [], ◌∷◌, ◌++◌, flat_map, replicate, Option}
 use Rattle.rt_ids.specs.Event.{Arrive, Step}
 use Rattle.rt_app.specs.Tree.{App}

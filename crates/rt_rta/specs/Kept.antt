@@ -1,4 +1,4 @@
--- Runs whose requests keep limits: response times are told of these alone.
+-- Runs whose requests keep limits: response times hold of these alone.
 use Rattle.std.specs.Prelude.{◌≡◌, ℕ, ◌≤◌, List, ◌∷◌, ◌++◌, Contains, Some, IsSome}
 use Rattle.rt_ids.specs.declared.ids.BodyId.TheVariants as body
 use Rattle.rt_trace.specs.Label.{Label, Arrived, Stepped, steps_of}

@@ -16,7 +16,7 @@ number_of app t = then_from t.binds (irq_number app)
 abbrev pub is_bound : App → ℕ → Bool
 is_bound app irq = list_any (λ t. is_some_and (λ n. n == irq) (number_of app t)) app.tasks
 
--- the least distance between requests of this interrupt, where one is told
+-- the least distance between requests of this interrupt, where the limits have one
 abbrev pub every_of : List Limit → ℕ → Option ℕ
 every_of limits irq = option_map (λ limit. limit.every) (find (λ limit. limit.irq == irq) limits)
 

@@ -3,8 +3,8 @@
 -- Response Times in a Real-Time System, 1986; Audsley, Burns, Richardson, Tindell and Wellings, 1993), with Baker's
 -- bound on blocking (Stack-Based Scheduling of Realtime Processes, 1991). What is this project's own: a step of the
 -- core takes the interrupt, so each handling counts one more than its cost; tasks of the priority itself count in full,
--- since of one priority the order of requests is not told; and blocking counts to the end. The code goes from 1 upwards
--- by the right side of the equation; a least number is told of here.
+-- since of one priority the order of requests is not known; and blocking counts to the end. The code goes from 1
+-- upwards by the right side of the equation; here it is a least number.
 use Rattle.std.specs.Prelude.{ℕ, ◌+◌, ◌-◌, ◌*◌, ◌/◌, ◌≤◌, nat_le, List, map, sum_by, Option, Some, None}
 use Rattle.std.specs.Prelude.{if◌then◌else◌, ◌≡◌}
 use Rattle.std.specs.List.{AllByRecursion}
@@ -22,8 +22,8 @@ use Rattle.rt_rta.specs.declared.response.TheConstants.{MOST_STEPS}
 abbrev pub most_requests : ℕ → ℕ → ℕ
 most_requests steps every = (steps + (every - 1)) / every
 
--- how many requests fall into so many core steps: none where no distance is told, since such an interrupt is never
--- requested
+-- how many requests fall into so many core steps: none where there is no least distance, since such an interrupt is
+-- never requested
 abbrev pub requests : Option ℕ → ℕ → ℕ
 requests None steps = 0
 requests (Some every) steps = most_requests steps every

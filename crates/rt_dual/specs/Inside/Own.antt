@@ -22,7 +22,7 @@ abbrev pub line_of : CoreId → List ℕ
 line_of First = codes "core 1\n"
 line_of Second = codes "core 2\n"
 
--- the place of the other core
+-- which core the other one is
 abbrev pub other_of : CoreId → CoreId
 other_of First = Second
 other_of Second = First

@@ -7,7 +7,7 @@ use Rattle.rt_app.specs.Level.{is_software}
 use Rattle.rt_frames.specs.declared.flags.TheConstants.{NUMBERS}
 use Rattle.rt_app.specs.Spawned.{spawns, arms_message, target}
 
--- a table with the flags of these numbers set; there is none where one of them has no place in it
+-- a table with the flags of these numbers set; the empty table where one of them is no index of it
 abbrev pub flags_with : List ℕ → List Bool → List Bool
 flags_with [] flags = flags
 flags_with (n ∷ ns) flags = if nat_lt n (length flags) then flags_with ns (slice_set flags n true) else []

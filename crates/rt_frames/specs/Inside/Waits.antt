@@ -16,7 +16,7 @@ use Rattle.rt_app.specs.Ceiling.{Ceilings}
 use Rattle.rt_app.specs.Cost.{Measure, lock_cost, block_cost}
 use Rattle.rt_app.specs.BodyCost.{dispatcher_section_cost}
 
--- a number that may not be there, in a place that may not be there, and 0 for none
+-- an optional number in an optional entry, and 0 for none
 abbrev pub or_zero_twice : Option (Option ℕ) → ℕ
 or_zero_twice None = 0
 or_zero_twice (Some p) = or_zero p
