@@ -62,8 +62,7 @@ fn take(frames: &mut Frames, step: Step) -> Answer
 }
 
 /// On a stack of 40 words, of which the thread has two: a step, its answer, and after it the depth in bytes and the
-/// words of
-/// the running frame.
+/// words of the running frame.
 const WALK: [(Step, Answer, u32, &[u32]); 18] = [
     (Back, RunsOn(None), 8, &[0, 0]),
     (Leave, RunsOn(None), 8, &[0, 0]),

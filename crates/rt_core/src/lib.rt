@@ -1,4 +1,4 @@
-// The core with its interrupt controller: one call is one event.
+// The core with its interrupt controller: a call is one event of the model, or several of one kind.
 #![tactic(auto)]
 
 pub mod alarm;

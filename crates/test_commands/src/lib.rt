@@ -1,6 +1,5 @@
 // The top call on sources in memory, as a case of a table says: its words, its texts, and the calls at which each
-// source and the
-// sink fail.
+// source and the sink fail.
 #![tactic(auto)]
 
 pub mod ran;

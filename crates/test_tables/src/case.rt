@@ -91,13 +91,10 @@ fn take_line(
     extend(alloc, &mut case.parts, name, piece)
 }
 
-/// The cases of a file. A case begins with a line `= NAME`; behind it stand lines `PART | LINE`, which adds a line to
-/// a part,
-/// and `PART "TEXT"` or `PART COUNT "TEXT"`, which adds so many copies of a text. In a text `\n`, `\t`, `\r`, `\xHH`
-/// and `\"` are
-/// as in Rust, `\#` is the number of the copy from 0 and `\+` the one from 1. Lines that are empty or begin with a
-/// `;` are
-/// not read.
+/// The cases of a file. A case begins with a line `= NAME`; behind it stand lines `PART | LINE`, which adds a line to a
+/// part, and `PART "TEXT"` or `PART COUNT "TEXT"`, which adds so many copies of a text. In a text `\n`, `\t`, `\r`,
+/// `\xHH` and `\"` are as in Rust, `\#` is the number of the copy from 0 and `\+` the one from 1. Lines that are empty
+/// or begin with a `;` are not read.
 pub fn cases(alloc: Global, file: &str) -> Result<Vec<Case>, Unread> {
     let mut found = Vec::new(alloc);
     for (number, line) in file.lines().enumerate() {

@@ -25,9 +25,8 @@ fn push_number(alloc: Global, out: &mut Vec<u8>, number: u32) -> Result<(), Allo
     Ok(())
 }
 
-/// What follows a `\`: `n`, `t`, `r`, `x` with two digits, `#` for the number of the copy from 0, `+` for the one
-/// from 1, and
-/// else the byte itself.
+/// What follows a `\`: `n`, `t`, `r`, `x` with two digits, `#` for the number of the copy from 0, `+` for the one from
+/// 1, and else the byte itself.
 fn push_escaped(
     alloc: Global,
     out: &mut Vec<u8>,
