@@ -210,7 +210,7 @@ module _ (q : TimerQueue) (slot : ℕ) where
       load NUMBER (armings_of q) ∷ calc op.Add OTHER NUMBER ONE ∷ store (armings_of q) OTHER ∷ []
 
   -- A message whose word is in a slot becomes a row of the columns, with the next number and the next handle, which is
-  -- the answer; and the heap has one index more. 16 lines.
+  -- the answer; and the heap is longer by one. 16 lines.
   abbrev pub row_lines : ArmedTask → List Line
   row_lines a =
       constant_lines
