@@ -132,9 +132,14 @@ module _ (plan : Plan) (made : Code) (words bytes : ℕ) (irqs : List IrqRow) (b
       tasks = λ n t there hardware. (tasks_stand n t there).bound t there hardware;
       dispatchers = λ p is thread. dispatcher_stands app planned.accepted at img.code tasks_stand p is img.bodies
           tabled.bodies (dispatchers_there p is).there thread;
-      timer = λ mono is. timers_stand app planned.accepted mono is (timer_section_cost app) (inl refl) img.code
-          made.timer
-          (handler_there mono is).there;
+      timer = λ mono is bodies thread. timers_stand app planned.accepted mono is (timer_section_cost app) (inl refl)
+          (record {
+            code = img.code;
+            address = made.timer;
+            has = (handler_there mono is).there;
+            bodies = bodies;
+          })
+          thread;
     }
 
     assembled : HasTables app at img → IsMade app img

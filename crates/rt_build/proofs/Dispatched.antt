@@ -45,8 +45,14 @@ module _ (app : App) (accepted : IsAccepted app) (at : Entries) (code : List Lin
       → StandsFrom (storage app) code (callable_rows app (is_of_level p) (length code) bodies) thread (AtPriority p)
       (length (memory app)) DISPATCHER_WORDS (at.dispatcher p) (dispatcher_cost app p) (dispatcher_doing app p)
   dispatcher_stands bodies are has thread =
-      dispatchers_stand app accepted p is code (at.dispatcher p) has entry
-      (callable_rows app (is_of_level p) (length code) bodies)
-      (ap (callable_rows app (is_of_level p) (length code)) are
-      ∙ rows_by_entries app (is_of_level p) (length code) at 0 app.tasks)
-      called thread
+      dispatchers_stand app accepted p is
+      (record {
+        code = code;
+        address = at.dispatcher p;
+        has = has;
+        entry = entry;
+        bodies = callable_rows app (is_of_level p) (length code) bodies;
+        rows = ap (callable_rows app (is_of_level p) (length code)) are
+            ∙ rows_by_entries app (is_of_level p) (length code) at 0 app.tasks;
+        called = called;
+      }) thread

@@ -24,23 +24,22 @@ BlockPerforms b p block =
     (run_block b.z.app block)
 
 module _ {b : Body} {p : Scope} where
-  -- A test and the jump behind it: the value decides what is left, and where the code goes on.
+  -- A test and the jump behind it: the value decides where the code goes on.
   decides : {visible : List ℕ} {h : Here} {vars : List ℕ} {vs : Values} {total : ℕ} {later : Later} {more : List Line}
-      (e : Expression) (to cost : ℕ) (rest : Bool → Doing Values) → expression_steps e + suc cost ≤ total
+      (e : Expression) (to cost : ℕ) → expression_steps e + suc cost ≤ total
       → Sound b p e → Begins b p h (value_code b.c e ++ plain (instr.JumpZ b.c.expressions to) ∷ more) total vars vs
-      → h.rest ≡ rest (value_in vars vs e == 0)
       → Behind b p visible h (length (value_code b.c e ++ plain (instr.JumpZ b.c.expressions to) ∷ more)) total later
       → ((slots : List ℕ)
       → Begins b p (valued b h e slots) (plain (instr.JumpZ b.c.expressions to) ∷ more) (suc cost) vars vs
       → HasCode b.z.code (h.at + length (value_code b.c e) + 1) more
       → Behind b p visible (valued b h e slots) (suc (length more)) (suc cost) later
-      → (stop : Bool) → h.rest ≡ rest stop
+      → (stop : Bool) → (value_in vars vs e == 0) ≡ stop
       → S b.z (record (valued b h e slots) {
         done = suc (h.done + expression_steps e);
         at = if stop then to else h.at + length (value_code b.c e) + 1;
       }))
       → S b.z h
-  decides {h = h} {vars = vars} {vs = vs} {more = more} e to cost rest less sound begins is behind on =
+  decides {h = h} {vars = vars} {vs = vs} {more = more} e to cost less sound begins behind on =
       let stop : Bool = value_in vars vs e == 0 in
       let next : h.at + length (value_code b.c e) + 1 ≡ suc (h.at + length (value_code b.c e)) = omega arith in
       with_value e (suc cost) less sound begins behind
@@ -50,7 +49,7 @@ module _ {b : Body} {p : Scope} where
         done = suc (h.done + expression_steps e);
         at = if stop then to else n;
       })) next
-      (on slots begins1 (subst (λ n. HasCode b.z.code n more) (sym next) begins1.has.1) behind1 stop is)))
+      (on slots begins1 (subst (λ n. HasCode b.z.code n more) (sym next) begins1.has.1) behind1 stop refl)))
 
   -- a block behind a jump
   begins_block : {h : Here} {lines : List Line} {cost : ℕ} {vars : List ℕ} {vs : Values} (block : Block) (at : ℕ)
@@ -69,16 +68,16 @@ module _ {b : Body} {p : Scope} where
   chooses e first Empty sound one two = record {
     runs = λ {h} {vars} {vs} later begins is behind.
         let at : ℕ = h.at + length (value_code b.c e) + 1 in
+        let left : Bool → Doing Values =
+        λ stop. if stop then later vars vs else run_block b.z.app first later vars vs in
         decides e (at + length (block_code b.c p.threshold p.lock at first))
-        (suc (block_steps (cost_measure b.z.app) first))
-        (λ stop. if stop then later vars vs else run_block b.z.app first later vars vs) (omega arith) sound begins is
-        behind
+        (suc (block_steps (cost_measure b.z.app) first)) (omega arith) sound begins behind
         (λ slots begins1 has behind1. elim [
-          | true ↦ λ now.
-              named refl refl now
+          | true ↦ λ stops.
+              named refl refl (is ∙ ap left stops)
               (goes_behind behind1 (omega arith) (omega arith) begins1.known (λ y here. refl))
-          | false ↦ λ now.
-              one.runs later (begins_block first at has (omega arith) begins1) now
+          | false ↦ λ stops.
+              one.runs later (begins_block first at has (omega arith) begins1) (is ∙ ap left stops)
               (still_behind behind1 (omega arith) (omega arith) (λ x here. refl))
         ]);
   }
@@ -92,19 +91,19 @@ module _ {b : Body} {p : Scope} where
         let over : List Line = plain (instr.Jump (to + length other)) ∷ other in
         let all = length-append code over in
         let steps : ℕ = max (block_steps (cost_measure b.z.app) first) (block_steps (cost_measure b.z.app) second) in
-        decides e to (suc steps)
-        (λ stop. if stop then run_block b.z.app second later vars vs else run_block b.z.app first later vars vs)
-        (omega arith) sound begins is behind
+        let left : Bool → Doing Values =
+        λ stop. if stop then run_block b.z.app second later vars vs else run_block b.z.app first later vars vs in
+        decides e to (suc steps) (omega arith) sound begins behind
         (λ slots begins1 has behind1.
         let over_has = code_behind b.z.code at (at + length code) code over refl has in
         elim [
-          | true ↦ λ now.
+          | true ↦ λ stops.
               two.runs later
               (begins_block second to (subst (λ a. HasCode b.z.code a other) (omega arith) over_has.1) (omega arith)
-              begins1) now (still_behind behind1 (omega (arith, all)) (omega arith) (λ x here. refl))
-          | false ↦ λ now.
+              begins1) (is ∙ ap left stops) (still_behind behind1 (omega (arith, all)) (omega arith) (λ x here. refl))
+          | false ↦ λ stops.
               one.runs later
-              (begins_block first at (code_front b.z.code at code over has) (omega arith) begins1) now
+              (begins_block first at (code_front b.z.code at code over has) (omega arith) begins1) (is ∙ ap left stops)
               (record {
                 on = λ t within settled.
                     goes over_has.0 (sooner (omega arith) begins1) jump_gives

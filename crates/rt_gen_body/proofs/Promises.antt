@@ -77,8 +77,9 @@ pub record IsBody (z : Setting) (m : Member) (words : ℕ) : Type 0 where
   pub room : frame_words m.args m.body ≤ words
   pub word : words < 2 ^ 32
 
--- a frame and memory as they are where a body begins
-record Given (z : Setting) (words : ℕ) (s : State) : Type 0 where
+-- the code of a body's blocks at an address, and a frame and memory as they are where it begins
+record Given (z : Setting) (m : Member) (words entry : ℕ) (s : State) : Type 0 where
+  has : HasCode z.code entry (lines_of z.app m entry)
   long : length s.slots ≡ words
   all : length s.cells ≡ length (memory z.app)
   known : AllSpelled z s.cells s.queues s.vs
@@ -132,14 +133,14 @@ module _ {z : Setting} {m : Member} {words : ℕ} (w : IsBody z m words) where
   }
 
   -- from its arguments on its blocks stand before what is correct behind them
-  blocks_stand : (until left entry : ℕ) (rest : Rest) (s : State) → HasCode z.code entry (lines_of z.app m entry)
-      → Lasts (block_steps (cost_measure z.app) m.body.block) (until ∷ left ∷ []) → Given z words s
+  blocks_stand : (until left entry : ℕ) (rest : Rest) (s : State)
+      → Lasts (block_steps (cost_measure z.app) m.body.block) (until ∷ left ∷ []) → Given z m words entry s
       → ((t : State) → t.done ≤ block_steps (cost_measure z.app) m.body.block → length t.cells ≡ length (memory z.app)
       → AllSpelled z t.cells t.queues t.vs
       → S z (job until left (entry + length (lines_of z.app m entry)) t (rest t.vs)))
       → Stands (storage z.app) z.code z.bodies z.thread z.who until
       (calm left s.slots z.caller entry s.cells s.queues (body_doing z.app m.body (take m.args s.slots) rest s.vs))
-  blocks_stand until left entry rest s has time given on =
+  blocks_stand until left entry rest s time given on =
       let placed = has_body z.app w.accepted m.id m w.is in
       let few = few_steps in let room = w.room in let long = given.long in
       let zeros : List ℕ = replicate (variables m.body.block) 0 in
@@ -162,7 +163,7 @@ module _ {z : Setting} {m : Member} {words : ℕ} (w : IsBody z m words) where
       }) (w.sound.bodies m.id m w.is) placed.placed.block).runs {h = begun start until} {vars = vars} {vs = s.vs}
       (λ vars. rest)
       (record {
-        has = has;
+        has = given.has;
         time = (omega (arith, time.0), (omega (arith, time.1.0), tt));
         known = record {
           in_slots = λ y here.
@@ -238,13 +239,13 @@ pub whole_stands : (z : Setting) {m : Member} {words : ℕ} (entry : ℕ) (actio
     → IsBody (alone z) m words → m.args ≡ 0 → HasCode z.code entry (lines_of z.app m entry)
     → Ending (alone z) (entry + length (lines_of z.app m entry)) action
     → Whole z words entry (body_cost (cost_measure z.app) m.body) (body_doing z.app m.body [] (act action nothing))
-whole_stands z {m = m} entry action w no_args has ending slots cells queues vs long all taken =
+whole_stands z {m = m} entry action w no_args has ending = λ slots cells queues vs long all taken.
     let cost : ℕ = body_cost (cost_measure z.app) m.body in
     let cost_eq = cost_is z.app m.body (few_steps w) in
     subst (λ n. Stands (storage z.app) z.code z.bodies z.thread z.who cost
     (calm cost slots None entry cells queues (body_doing z.app m.body (take n slots) (act action nothing) vs))) no_args
-    (blocks_stand w cost cost entry (act action nothing) (begun_with slots cells queues vs) has
-    (omega arith, (omega arith, tt)) (record { long = long; all = all; known = taken })
+    (blocks_stand w cost cost entry (act action nothing) (begun_with slots cells queues vs)
+    (omega arith, (omega arith, tt)) (record { has = has; long = long; all = all; known = taken })
     (λ t within kept known. ending cost cost t (omega arith, (omega arith, tt)) known))
 
 abbrev of_thread : BodyId → AppBody → Member
@@ -253,24 +254,37 @@ of_thread id b = record { id = id; priority = 0; args = 0; body = b }
 abbrev pub of_task : ℕ → Task → Member
 of_task n t = record { id = body.Task n; priority = t.priority; args = t.args; body = t.body }
 
--- a body of the thread, declared or not: of one that is not there is the end alone
-thread_stands : (z : Setting) (id : BodyId) (o : Option AppBody) (entry : ℕ) → IsAccepted z.app → IsSound z.app
-    → z.who ≡ runner_if (is_init id) 0 → member_at z.app id ≡ option_map (of_thread id) o
-    → thread_frame o ≤ thread_words z.app → HasCode z.code entry (blocks_of z.app (option_map (of_thread id) o) entry)
+-- a body of the thread, declared or not: it runs in the thread's frame, and the code of its blocks is at an address
+record OfThread (z : Setting) (id : BodyId) (o : Option AppBody) (entry : ℕ) : Type 0 where
+  accepted : IsAccepted z.app
+  sound : IsSound z.app
+  runs : z.who ≡ runner_if (is_init id) 0
+  is : member_at z.app id ≡ option_map (of_thread id) o
+  room : thread_frame o ≤ thread_words z.app
+  has : HasCode z.code entry (blocks_of z.app (option_map (of_thread id) o) entry)
+
+-- such a body stands: of one that is not there is the end alone
+thread_stands : (z : Setting) (id : BodyId) (o : Option AppBody) (entry : ℕ) → OfThread z id o entry
     → Ending (alone z) (entry + length (blocks_of z.app (option_map (of_thread id) o) entry)) (Ends id)
     → Whole z (thread_words z.app) entry (cost_of (cost_measure z.app) o)
     (declared_doing z.app o [] (act (Ends id) nothing))
-thread_stands z id None entry accepted sound runs is fits has ending slots cells queues vs long all taken =
+thread_stands z id None entry w ending = λ slots cells queues vs long all taken.
     let none : entry + 0 ≡ entry = omega arith in
     let s : State = begun_with slots cells queues vs in
     begins {z = alone z} (calm 1 slots None entry cells queues (act (Ends id) nothing vs)) 1
     (subst (λ at. S (alone z) (job 1 1 at s (act (Ends id) nothing vs))) none
     (ending 1 1 s (omega arith, (omega arith, tt)) taken))
-thread_stands z id (Some b) entry accepted sound runs is fits has ending slots cells queues vs long all taken =
-    let small = sound.stack_small in
-    whole_stands z entry (Ends id)
-    (record { accepted = accepted; sound = sound; is = is; runs = runs; room = fits; word = omega arith }) refl has
-    ending slots cells queues vs long all taken
+thread_stands z id (Some b) entry w ending =
+    let small = w.sound.stack_small in
+    whole_stands z {m = of_thread id b} entry (Ends id)
+    (record {
+      accepted = w.accepted;
+      sound = w.sound;
+      is = w.is;
+      runs = w.runs;
+      room = w.room;
+      word = omega (arith, w.room);
+    }) refl w.has ending
 
 -- the code of a body, declared or not: its blocks, and its last line behind them
 pub record BodyThere (app : App) (id : BodyId) (o : Option Member) (code : List Line) (entry : ℕ) : Type 0 where
@@ -311,7 +325,15 @@ module _ {app : App} (accepted : IsAccepted app) (sound : IsSound app) where
         length-append (blocks_of app m entry) (end_line app body.Init entry ∷ []),
       ) in
       let z : Setting = runs Starting (length (front ++ lines)) ((front ++ lines) ++ more) bodies None in
-      thread_stands z body.Init app.init entry accepted sound refl refl (omega arith) there.blocks
+      thread_stands z body.Init app.init entry
+      (record {
+        accepted = accepted;
+        sound = sound;
+        runs = refl;
+        is = refl;
+        room = omega arith;
+        has = there.blocks;
+      })
       (λ until left t time known.
       by_line instr.Serve (Some (note.End body.Init)) there.last time
       (refl, refl, size, finishes z until left at (Ends body.Init) t known))
@@ -325,7 +347,15 @@ module _ {app : App} (accepted : IsAccepted app) (sound : IsSound app) where
       let at : ℕ = entry + length (blocks_of app m entry) in
       let there = body_between app body.Idle m front more in
       let z : Setting = runs (AtPriority 0) entry ((front ++ code_of app body.Idle m entry) ++ more) bodies None in
-      thread_stands z body.Idle app.idle entry accepted sound refl refl (omega arith) there.blocks
+      thread_stands z body.Idle app.idle entry
+      (record {
+        accepted = accepted;
+        sound = sound;
+        runs = refl;
+        is = refl;
+        room = omega arith;
+        has = there.blocks;
+      })
       (λ until left t time known.
       by_line (instr.Jump entry) (Some (note.End body.Idle)) there.last time
       (refl, refl, finishes z until left at (Ends body.Idle) t known))
@@ -374,7 +404,8 @@ module _ {app : App} (accepted : IsAccepted app) (sound : IsSound app) where
         let cost_eq = cost_is app t.body (few_steps w) in
         rw is
         (blocks_stand w (cost + steps) left entry (act (Ends (body.Task n)) behind) (begun_with slots cells queues vs)
-        there.blocks (omega arith, (omega arith, tt)) (record { long = long; all = known.long; known = known.each })
+        (omega arith, (omega arith, tt))
+        (record { has = there.blocks; long = long; all = known.long; known = known.each })
         (λ s within kept spelled.
         by_line instr.Back (Some (note.End (body.Task n))) (last_is true software) (omega arith, (omega arith, tt)) (
           refl,

@@ -18,6 +18,7 @@ use Rattle.rt_code.specs.StandingLaws.{AreAtLeast}
 use Rattle.rt_code.specs.declared.instr.Instr.TheVariants as instr
 use Rattle.rt_gen_queue.proofs.{Facts.Spawned, Facts.few_arguments, Placing.code_behind, Whole.spawn_stands}
 use Rattle.rt_gen_queue.proofs.Layer.{Here, S, copy_gives, goes, lasts_left, left_at, spot}
+use Rattle.rt_gen_queue.specs.Spawning.{CallSite}
 use Rattle.rt_gen_body.proofs.Expressions.{Sets, Sound, evaluates, kept_set, next_begins, variable_set}
 use Rattle.rt_gen_body.proofs.Owning.{not_open, spelled_left}
 use Rattle.rt_gen_body.proofs.Places.{Begins, Body, Performs, Scope, Settled, State, free_slot, front_of, goes_behind}
@@ -131,6 +132,23 @@ module _ {b : Body} {p : Scope} {h : Here} {vars : List ℕ} {vs : Values} (q : 
     within = b.facts.enters (section.Free task) within;
   }
 
+-- the call site of a call that names a task
+abbrev site : Body → Scope → Here → Values → ℕ → Task → (ℕ → Rest) → CallSite
+site b p h vs task t rest = record {
+  app = b.z.app;
+  code = b.z.code;
+  bodies = b.z.bodies;
+  thread = b.z.thread;
+  who = b.z.who;
+  spot = spot b.z h;
+  threshold = p.threshold;
+  task = task;
+  t = t;
+  slot = b.c.spawns;
+  vs = vs;
+  rest = rest;
+}
+
 -- the code of what goes does its actions, once the values are in their slots
 goes_on : {b : Body} {p : Scope} {h : Here} {vars : List ℕ} {vs : Values} (q : Spawn) (rest : ℕ → Rest)
     → SoundSpawn b p q → Begins b p h (goes_code b.c p.threshold h.at q) (goes_steps b.z.app q) vars vs
@@ -145,23 +163,31 @@ goes_on {b = b} {p = p} {h = h} {vars = vars} {vs = vs} (Soon task args place) r
     (code_called b (λ a. spawn_code a task p.threshold b.c.spawns h.at) (λ a. true) task t refl one.is_there
     one.software)
     (λ has behind k enough.
-    spawn_stands b.z.app task t b.z.code b.z.bodies b.z.thread b.z.who p.threshold b.c.spawns (left q rest begins on) k
-    (spot b.z h) (value_in vars vs) args place rest vs b.facts.accepted one.is_there one.software has
+    spawn_stands (site b p h vs task t rest)
+    (record { accepted = b.facts.accepted; is_there = one.is_there; software = one.software })
     (record {
-      cells = begins.known.long;
-      frame = omega (arith, sound.words, begins.known.frame);
-      masks = below_spawns q rest begins on;
-      closed = (
-        not_open h.held p.locked (section.Free task) (λ r. refl) begins.inside.are,
-        not_open h.held p.locked (section.Ready t.priority) (λ r. refl) begins.inside.are,
-      );
-      within = (
-        b.facts.enters (section.Free task) one.within,
-        b.facts.enters (section.Ready t.priority) sound.sound.2,
-      );
-      off = begins.inside.off;
-      steps = lasts_left h.done SPAWN_COST h.deadlines begins.time.1;
-    }) enough (ap (λ count. take count (drop b.c.spawns h.slots)) (sym one.arguments) ∙ come) is
+      value = value_in vars vs;
+      args = args;
+      place = place;
+      has = has;
+      may = record {
+        cells = begins.known.long;
+        frame = omega (arith, sound.words, begins.known.frame);
+        masks = below_spawns q rest begins on;
+        closed = (
+          not_open h.held p.locked (section.Free task) (λ r. refl) begins.inside.are,
+          not_open h.held p.locked (section.Ready t.priority) (λ r. refl) begins.inside.are,
+        );
+        within = (
+          b.facts.enters (section.Free task) one.within,
+          b.facts.enters (section.Ready t.priority) sound.sound.2,
+        );
+        off = begins.inside.off;
+        steps = lasts_left h.done SPAWN_COST h.deadlines begins.time.1;
+      };
+      arguments = ap (λ count. take count (drop b.c.spawns h.slots)) (sym one.arguments) ∙ come;
+      is = is;
+    }) (left q rest begins on) k enough
     (λ granted used i slots cells queues ws less gone.
     behind granted used i slots cells queues ws less
     (record {
@@ -185,11 +211,21 @@ goes_on {b = b} {p = p} {h = h} {vars = vars} {vs = vs} (After word delay task a
     one.is_there
     one.software)
     (λ has.
-    afters_stand b.z.app task s.0 b.z.code b.z.bodies b.z.thread b.z.who p.threshold b.c.spawns (left q rest begins on)
-    (timer_section_cost b.z.app) (value_in vars vs delay) (spot b.z h) (map (value_in vars vs) args) rest vs
-    b.facts.accepted timed one.is_there one.software s.3 (inl refl) has (may_use q rest begins on sound.words s.5)
-    (may_take q rest begins on task one.within) values.0
-    (ap (λ count. take count (drop (b.c.spawns + 1) h.slots)) (sym one.arguments) ∙ values.1) is)
+    afters_stand (site b p h vs task s.0 rest)
+    (record { accepted = b.facts.accepted; is_there = one.is_there; software = one.software }) timed
+    (record {
+      cost = timer_section_cost b.z.app;
+      delay = value_in vars vs delay;
+      args = map (value_in vars vs) args;
+      armed = s.3;
+      costs = inl refl;
+      has = has;
+      may = may_use q rest begins on sound.words s.5;
+      places = may_take q rest begins on task one.within;
+      delayed = values.0;
+      arguments = ap (λ count. take count (drop (b.c.spawns + 1) h.slots)) (sym one.arguments) ∙ values.1;
+      is = is;
+    }) (left q rest begins on))
 goes_on {b = b} {p = p} {h = h} {vars = vars} {vs = vs} (Cancel word task handle place) rest sound begins come is on =
     let q : Spawn = Cancel word task handle place in
     let s = sound.sound in
@@ -202,9 +238,16 @@ goes_on {b = b} {p = p} {h = h} {vars = vars} {vs = vs} (Cancel word task handle
     one.is_there
     one.software)
     (λ has.
-    cancels_all_stand b.z.app task s.0 b.z.code b.z.bodies b.z.thread b.z.who p.threshold b.c.spawns
-    (left q rest begins on) (value_in vars vs handle) (spot b.z h) rest vs b.facts.accepted timed one.is_there
-    one.software has (may_use q rest begins on sound.words one.within) (may_take q rest begins on task s.2) values.0 is)
+    cancels_all_stand (site b p h vs task s.0 rest)
+    (record { accepted = b.facts.accepted; is_there = one.is_there; software = one.software }) timed
+    (record {
+      handle = value_in vars vs handle;
+      has = has;
+      may = may_use q rest begins on sound.words one.within;
+      places = may_take q rest begins on task s.2;
+      shown = values.0;
+      is = is;
+    }) (left q rest begins on))
 goes_on {b = b} {p = p} {h = h} {vars = vars} {vs = vs} (Move word delay task handle place) rest sound begins come is
     on =
     let q : Spawn = Move word delay task handle place in
@@ -218,9 +261,17 @@ goes_on {b = b} {p = p} {h = h} {vars = vars} {vs = vs} (Move word delay task ha
     (code_called b (λ a. move_code a task p.threshold b.c.spawns h.at) (λ a. is_some a.mono) task sound.sound.0 timed
     one.is_there one.software)
     (λ has.
-    moves_all_stand b.z.app task sound.sound.0 b.z.code b.z.bodies b.z.thread b.z.who p.threshold b.c.spawns
-    (left q rest begins on) (value_in vars vs delay) (value_in vars vs handle) (spot b.z h) rest vs b.facts.accepted
-    timed one.is_there one.software has (may_use q rest begins on sound.words one.within) values.0 second.0 is)
+    moves_all_stand (site b p h vs task sound.sound.0 rest)
+    (record { accepted = b.facts.accepted; is_there = one.is_there; software = one.software }) timed
+    (record {
+      delay = value_in vars vs delay;
+      handle = value_in vars vs handle;
+      has = has;
+      may = may_use q rest begins on sound.words one.within;
+      delayed = values.0;
+      shown = second.0;
+      is = is;
+    }) (left q rest begins on))
 
 module _ (b : Body) (p : Scope) where
   all_sound : (es : List Expression) → b.c.expressions + greatest (map depth es) ≤ b.top

@@ -226,57 +226,59 @@ module _ {d : Dispatcher} {cells : List ℕ} {queues : Holder → List Entry} {v
       let other : (n == exit.last) ≡ false = grind (arith, nat_tests) in
       ap (λ (b : Bool). if b then exit.address else behind) other
 
-  one_run : (first at n row k : ℕ) (t : Task) (more : List Line) → IsTask d.app d.level d.entry n row t
-      → Runs (at + (17 + t.args)) (n + 1) k more
-      → Runs at n (1 + k) (choice_code d.app d.level (exit_of d.app d.level first) at n row t ++ more)
-  one_run first at n row k t more is others =
-      record { runs = λ before time has tells. by_test (o.task == n) refl before time has tells }
-    where
-      exit : Exit
-      exit = exit_of d.app d.level first
+  -- where the code of the tasks leaves, by where the dispatcher begins
+  module _ (first : ℕ) where
+    abbrev exit : Exit
+    exit = exit_of d.app d.level first
 
-      by_test : {done until deadline : ℕ} {w : Words} (b : Bool) → (o.task == n) ≡ b → n ≤ o.task
-          → HasTime d (1 + k) done until deadline
-          → HasCode d.code at (choice_code d.app d.level exit at n row t ++ more) → TellsOf o es w
-          → S (job d) (chosen done until deadline at (words w))
-      by_test true e before time (set, (equal, (jump, behind))) tells =
-          let same : n ≡ o.task = sym (eqb-true o.task n e) in
-          let lines : ℕ → List Line = λ k.
-          plain (instr.Set 7 t.args) ∷ plain (instr.Calc op.Mul 7 9 7)
-          ∷ (argument_lines (slice_index (layout d.app).inputs k) t.args
-          ++ start_lines (queue_at d.app d.level) (callee_of d.app k row t) (at + (5 + t.args))) in
-          tested true e (omega (arith, time.job)) (omega (arith, time.section)) (set, (equal, (jump, tt))) tells
-          (task_run (subst (λ n. IsTask d.app d.level d.entry n row t) same is) (omega (arith, time.job))
-          (omega (arith, time.section)) (omega arith)
-          (subst (λ k. HasCode d.code (steps_and 3 at) (lines k)) same
-          (code_front d.code (steps_and 3 at) (lines n) more behind)) tells)
-      by_test {done = done} {until = until} {deadline = deadline} {w = w} false e before time has tells =
-          let differs : n ≢ o.task = grind (arith, nat_tests) in
-          let to : ℕ = at + (17 + t.args) in
-          let long = choice_long (queue_at d.app d.level) (callee_of d.app n row t) (next_for exit n to) at in
-          tested false e (omega (arith, time.job)) (omega (arith, time.section))
-          (has.0, (has.1.0, (has.1.1.0, tt))) tells
-          (subst (λ to. S (job d) (chosen (steps_and 3 done) until deadline to (words (record w { other = 0 }))))
-          (sym (leads_behind first to before differs))
-          (others.runs (omega (arith, before, differs))
-          (record { job = omega (arith, time.job); section = omega (arith, time.section) })
-          (code_behind d.code at to (choice_code d.app d.level exit at n row t) more (omega (arith, long)) has) tells))
+    one_run : (at n row k : ℕ) (t : Task) (more : List Line) → IsTask d.app d.level d.entry n row t
+        → Runs (at + (17 + t.args)) (n + 1) k more
+        → Runs at n (1 + k) (choice_code d.app d.level exit at n row t ++ more)
+    one_run at n row k t more is others =
+        record { runs = λ before time has tells. by_test (o.task == n) refl before time has tells }
+      where
+        by_test : {done until deadline : ℕ} {w : Words} (b : Bool) → (o.task == n) ≡ b → n ≤ o.task
+            → HasTime d (1 + k) done until deadline
+            → HasCode d.code at (choice_code d.app d.level exit at n row t ++ more) → TellsOf o es w
+            → S (job d) (chosen done until deadline at (words w))
+        by_test true e before time (set, (equal, (jump, behind))) tells =
+            let same : n ≡ o.task = sym (eqb-true o.task n e) in
+            let lines : ℕ → List Line = λ k.
+            plain (instr.Set 7 t.args) ∷ plain (instr.Calc op.Mul 7 9 7)
+            ∷ (argument_lines (slice_index (layout d.app).inputs k) t.args
+            ++ start_lines (queue_at d.app d.level) (callee_of d.app k row t) (at + (5 + t.args))) in
+            tested true e (omega (arith, time.job)) (omega (arith, time.section)) (set, (equal, (jump, tt))) tells
+            (task_run (subst (λ n. IsTask d.app d.level d.entry n row t) same is) (omega (arith, time.job))
+            (omega (arith, time.section)) (omega arith)
+            (subst (λ k. HasCode d.code (steps_and 3 at) (lines k)) same
+            (code_front d.code (steps_and 3 at) (lines n) more behind)) tells)
+        by_test {done = done} {until = until} {deadline = deadline} {w = w} false e before time has tells =
+            let differs : n ≢ o.task = grind (arith, nat_tests) in
+            let to : ℕ = at + (17 + t.args) in
+            let long = choice_long (queue_at d.app d.level) (callee_of d.app n row t) (next_for exit n to) at in
+            tested false e (omega (arith, time.job)) (omega (arith, time.section))
+            (has.0, (has.1.0, (has.1.1.0, tt))) tells
+            (subst (λ to. S (job d) (chosen (steps_and 3 done) until deadline to (words (record w { other = 0 }))))
+            (sym (leads_behind first to before differs))
+            (others.runs (omega (arith, before, differs))
+            (record { job = omega (arith, time.job); section = omega (arith, time.section) })
+            (code_behind d.code at to (choice_code d.app d.level exit at n row t) more (omega (arith, long)) has)
+            tells))
 
-  -- and so the code of all tasks of the level runs it
-  pub choices_run : (first at : ℕ)
-      → Runs at 0 (tasks_of d) (choices_code d.app d.level (exit_of d.app d.level first) at 0 0 d.app.tasks)
-  choices_run first at =
-      choices_grow {exit = exit_of d.app d.level first} {P = Runs}
-      (record {
-        none = λ at n from. record { runs = λ before time has tells. absurd (none_left before (from _)) };
-        other = λ at n k t lines here other rest. record {
-          runs = λ before time has tells.
-              let differs = not_other t here other in rest.runs (omega (arith, before, differs)) time has tells;
-        };
-        next = one_run first;
-      }) d.app.tasks at 0 0 (all_from d.app.tasks) (all_from (rows d))
-    where
-      none_left : {n : ℕ} → n ≤ o.task → slice_get d.app.tasks (n + (o.task - n)) ≡ None → ⊥
-      none_left {n = n} before none =
-          let here : n + (o.task - n) ≡ o.task = omega arith in
-          cc (ap (slice_get d.app.tasks) here, none, its_task.1)
+    -- and so the code of all tasks of the level runs it
+    pub choices_run : (at : ℕ) → Runs at 0 (tasks_of d) (choices_code d.app d.level exit at 0 0 d.app.tasks)
+    choices_run at =
+        choices_grow {exit = exit} {P = Runs}
+        (record {
+          none = λ at n from. record { runs = λ before time has tells. absurd (none_left before (from _)) };
+          other = λ at n k t lines here other rest. record {
+            runs = λ before time has tells.
+                let differs = not_other t here other in rest.runs (omega (arith, before, differs)) time has tells;
+          };
+          next = one_run;
+        }) d.app.tasks at 0 0 (all_from d.app.tasks) (all_from (rows d))
+      where
+        none_left : {n : ℕ} → n ≤ o.task → slice_get d.app.tasks (n + (o.task - n)) ≡ None → ⊥
+        none_left {n = n} before none =
+            let here : n + (o.task - n) ≡ o.task = omega arith in
+            cc (ap (slice_get d.app.tasks) here, none, its_task.1)

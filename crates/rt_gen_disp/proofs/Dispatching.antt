@@ -180,7 +180,7 @@ module _ (d : Dispatcher) (at : ℕ) (choices : HasCode d.code (at + 18) (choice
   dispatches : HasCode d.code at lines → (bodies : List BodyRow) → bodies ≡ rows d
       → StandsFrom (storage d.app) d.code bodies d.thread (AtPriority d.level) (length (memory d.app)) DISPATCHER_WORDS
       at (dispatcher_cost d.app d.level) (dispatcher_doing d.app d.level)
-  dispatches front bodies rows_are slots cells queues vs words_long long kept =
+  dispatches front bodies rows_are = λ slots cells queues vs words_long long kept.
       let m : Moment =
       record { done = 0; until = dispatcher_cost d.app d.level; at = at; cells = cells; queues = queues } in
       let start : Here = outside m [] (dispatcher_doing d.app d.level vs) in
@@ -196,18 +196,19 @@ module _ (d : Dispatcher) (at : ℕ) (choices : HasCode d.code (at + 18) (choice
       (subst (HasCode d.code at) (front_placed (queue_at d.app d.level) at) front))))
 
 pub dispatchers_stand : DispatchersStand
-dispatchers_stand app accepted level is code at has entry bodies rows_are stand thread =
+dispatchers_stand app accepted level is there thread =
     let d : Dispatcher = record {
       app = app;
       accepted = accepted;
       level = level;
       is = is;
-      code = code;
-      entry = entry;
-      bodies = stand;
+      code = there.code;
+      entry = there.entry;
+      bodies = there.called;
       thread = thread;
     } in
+    let at : ℕ = there.address in
     let front : List Line = front_lines (queue_at app level) at in
     let choices : List Line = choices_from d at (at + 18) in
-    dispatches d at (code_behind code at (at + 18) front choices refl has) (code_front code at front choices has) bodies
-    rows_are
+    dispatches d at (code_behind there.code at (at + 18) front choices refl there.has)
+    (code_front there.code at front choices there.has) there.bodies there.rows

@@ -17,15 +17,22 @@ use Rattle.rt_gen_queue.specs.Line.{Line, HasCode}
 use Rattle.rt_gen_queue.specs.Called.{row_for, rows_for, CalledBodyStands}
 use Rattle.rt_gen_disp.specs.Code.{dispatcher_code}
 
--- wherever the code of the dispatcher of a level is, it stands for what the dispatcher has to do, beside called bodies
--- of the level's tasks that stand
+-- Where a dispatcher of a level stands: its code is at an address, and beside it are the rows of the bodies by their
+-- entries, of which those of the level's tasks stand when they are called.
+pub record DispatcherAt (app : App) (level : ℕ) : Type 0 where
+  pub code : List Line
+  pub address : ℕ
+  pub has : HasCode code address (dispatcher_code app level address)
+  pub entry : ℕ → ℕ
+  pub bodies : List BodyRow
+  pub rows : bodies ≡ rows_for entry 0 app.tasks
+  pub called : (n : ℕ) (t : Task) → slice_get app.tasks n ≡ Some t → is_of_level level t ≡ true
+      → CalledBodyStands app n code (row_for entry n t)
+
+-- of an accepted application the dispatcher of a level stands wherever it is, wherever the thread goes on
 abbrev pub DispatchersStand : Type 0
 DispatchersStand =
-    (app : App) → IsAccepted app → (level : ℕ) → Contains (levels app) level
-    → (code : List Line) (at : ℕ) → HasCode code at (dispatcher_code app level at)
-    → (entry : ℕ → ℕ) (bodies : List BodyRow) → bodies ≡ rows_for entry 0 app.tasks
-    → ((n : ℕ) (t : Task) → slice_get app.tasks n ≡ Some t → is_of_level level t ≡ true
-    → CalledBodyStands app n code (row_for entry n t))
-    → (thread : ℕ)
-    → StandsFrom (storage app) code bodies thread (AtPriority level) (length (memory app)) DISPATCHER_WORDS at
-    (dispatcher_cost app level) (dispatcher_doing app level)
+    (app : App) → IsAccepted app → (level : ℕ) → Contains (levels app) level → (d : DispatcherAt app level)
+    (thread : ℕ)
+    → StandsFrom (storage app) d.code d.bodies thread (AtPriority level) (length (memory app)) DISPATCHER_WORDS
+    d.address (dispatcher_cost app level) (dispatcher_doing app level)

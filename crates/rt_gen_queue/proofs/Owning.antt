@@ -7,7 +7,7 @@ use Rattle.rt_gen_queue.proofs.Vocabulary.{false, home_of, if◌then◌else◌, 
 use Rattle.rt_gen_queue.proofs.Vocabulary.{is_same_section, length, memory, one_section, or_left, owns_open, owns_reads}
 use Rattle.rt_gen_queue.proofs.Vocabulary.{values_with, reads, reads_more, refl, same_section, slice_get_within}
 use Rattle.rt_gen_queue.proofs.Vocabulary.{slice_index}
-use Rattle.rt_gen_queue.proofs.Vocabulary.{storage, subst, sym, true, with_queue, ℕ, ◌<◌, ◌||◌, ◌∙◌, ◌∷◌, ◌≡◌, ◌≢◌}
+use Rattle.rt_gen_queue.proofs.Vocabulary.{storage, subst, sym, true, with_queue, ℕ, ◌<◌, ◌||◌, ◌∙◌, ◌∷◌, ◌≡◌}
 use Rattle.std.proofs.lemmas.Bool.{cases_Bool}
 use Rattle.rt_lemmas.proofs.{Bools.or_neither, Places.at_read}
 use Rattle.rt_ids.specs.Storage.{Nowhere}
@@ -76,10 +76,6 @@ pub timer_back : {app : App} {cells : ℕ → ℕ} {entries : List Entry} {conte
     → (storage app).Spells (Guarded section.Timer) cells entries content
 unfolding storage
 timer_back other more before old spells = (old.0, spells)
-
--- cells that belong to different things are different
-pub apart : (app : App) (a b : ℕ) (x y : Home) → home_of app a ≡ x → home_of app b ≡ y → ¬ (x ≡ y) → a ≢ b
-apart app a b x y first second differ same = differ (sym first ∙ ap (home_of app) same ∙ second)
 
 -- a cell that belongs to something is in memory
 pub in_memory : (app : App) (c : ℕ) (home : Home) → home_of app c ≡ home → ¬ (Nowhere ≡ home) → c < length (memory app)
@@ -172,7 +168,7 @@ module _ (z : Setting) where
       → reads (storage z.app) z.who held (Guarded x) ≡ false
       → Agree (storage z.app) z.who held after (values_with us (Guarded x) content)
       → Agree (storage z.app) z.who (h ∷ held) us ws → Agree (storage z.app) z.who held after ws
-  agree_out {us = us} held h x content none last inner holder may =
+  agree_out {us = us} held h x content none last inner = λ holder may.
       last holder may
       ∙ ap (λ (b : Bool). if b then content else us holder) (other_holder z.app z.who held x holder none may)
       ∙ inner holder (reads_more (storage z.app) z.who h held holder may)

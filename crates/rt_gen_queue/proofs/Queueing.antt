@@ -29,14 +29,15 @@ pub record HasMessage (z : Setting) (h : Here) (p task : ℕ) (e : Entry) (other
   pub message : message_at z.app (slice_index h.cells) e ≡ m
   pub long : length h.cells ≡ length (memory z.app)
 
-pub record MayReady (z : Setting) (f : Frame 9 8) (h : Here) (task p threshold : ℕ) (e : Entry) (others : List Entry)
-    (m : Message) : Type 0 where
-  pub known : Contains (levels z.app) p
-  pub few : ready_room z.app p ≤ 1024
-  pub code : HasCode z.code h.at (ready_code z.app task p threshold f.slot)
-  pub time : InTime (h.done + 12) h
-  pub enter : MayEnter z f h (section.Ready p) threshold
-  pub hands : HasMessage z h p task e others m
+module _ (z : Setting) (f : Frame 9 8) (h : Here) where
+  -- such a message may become ready
+  pub record MayReady (task p threshold : ℕ) (e : Entry) (others : List Entry) (m : Message) : Type 0 where
+    pub known : Contains (levels z.app) p
+    pub few : ready_room z.app p ≤ 1024
+    pub code : HasCode z.code h.at (ready_code z.app task p threshold f.slot)
+    pub time : InTime (h.done + 12) h
+    pub enter : MayEnter z f h (section.Ready p) threshold
+    pub hands : HasMessage z h p task e others m
 
 pub record HasReadied (z : Setting) (h : Here) (vs : Values) (cells : List ℕ) (queues : Holder → List Entry)
     (us : Values) : Type 0 where

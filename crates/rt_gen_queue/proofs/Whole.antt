@@ -20,9 +20,7 @@ use Rattle.rt_gen_queue.proofs.Words.{Arguments, Scratch, listed, words}
 use Rattle.rt_gen_queue.specs.Spawning.{SpawnsStand}
 
 pub spawn_stands : SpawnsStand
-spawn_stands app task t code bodies thread who threshold slot n k s value args place rest vs accepted at software has
-    may
-    fuel words_are is on =
+spawn_stands c named q n k fuel on =
     begins {z = z} s k
     (subst (λ (slots : List ℕ). S z (record h { slots = slots })) (sym (framed 9 8 s.slots slot long))
     (take_begins may_take a w is granted
@@ -32,6 +30,10 @@ spawn_stands app task t code bodies thread who threshold slot n k s value args p
     moved _ end refl (sym end_at ∙ omega arith)
     (ends_at 0 5 r vs (omega arith) (omega arith) own agree)))))
   where
+    open c use {app, code, bodies, thread, who, spot as s, threshold, task, t, slot, vs, rest}
+    open named use {accepted, is_there, software}
+    open q use {value, args, has, may, arguments as words_are, is}
+
     z : Setting
     z = record { app = app; code = code; bodies = bodies; thread = thread; who = who; caller = s.caller }
 
@@ -39,7 +41,7 @@ spawn_stands app task t code bodies thread who threshold slot n k s value args p
     h = begun s k
 
     facts : Spawned app task t
-    facts = record { accepted = accepted; at = at; software = software }
+    facts = record { accepted = accepted; at = is_there; software = software }
 
     long : slot + 9 ≤ length s.slots
     long = omega (arith, may.frame)

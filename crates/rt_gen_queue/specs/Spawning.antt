@@ -66,19 +66,47 @@ module _ (app : App) (who : Runner) where
     rest = rest ws;
   }
 
--- The code of a spawn stands for its actions and for any rest, where the code after it stands for that rest.
+-- A call site in the code of a job: the code, with the rows of bodies beside it and where the thread goes on; who runs,
+-- where, and at which preemption threshold; the task that is named, and its number; the first slot of the call; the
+-- values before it; and what is to be done behind it, by its answer.
+pub record CallSite : Type 0 where
+  pub app : App
+  pub code : List Line
+  pub bodies : List BodyRow
+  pub thread : ℕ
+  pub who : Runner
+  pub spot : Spot
+  pub threshold : ℕ
+  pub task : ℕ
+  pub t : Task
+  pub slot : ℕ
+  pub vs : Values
+  pub rest : ℕ → Rest
+
+-- a call site names a software task of an accepted application
+pub record NamesTask (c : CallSite) : Type 0 where
+  pub accepted : IsAccepted c.app
+  pub is_there : slice_get c.app.tasks c.task ≡ Some c.t
+  pub software : is_software c.t ≡ true
+
+-- A spawn at a call site: its code is where the job is, which may spawn the task; the values of the arguments are in
+-- the first slots; and the actions of the spawn are what is to be done.
+pub record SpawnAt (c : CallSite) : Type 0 where
+  pub value : Expression → ℕ
+  pub args : List Expression
+  pub place : ℕ
+  pub has : HasCode c.code c.spot.address (spawn_code c.app c.task c.threshold c.slot c.spot.address)
+  pub may : MaySpawn c.app c.who c.task c.t c.threshold c.slot c.spot
+  pub arguments : take c.t.args (drop c.slot c.spot.slots) ≡ map value args
+  pub is : c.spot.rest ≡ spawn_actions c.app value (Soon c.task args place) c.rest c.vs
+
+-- The code of a spawn stands for its actions and for any rest, where the code behind it stands for that rest.
 abbrev pub SpawnsStand : Type 0
 SpawnsStand =
-    (app : App) (task : ℕ) (t : Task) (code : List Line) (bodies : List BodyRow) (thread : ℕ) (who : Runner)
-    (threshold slot n k : ℕ) (s : Spot) (value : Expression → ℕ) (args : List Expression) (place : ℕ) (rest : ℕ → Rest)
-    (vs : Values)
-    → IsAccepted app → slice_get app.tasks task ≡ Some t → is_software t ≡ true
-    → HasCode code s.address (spawn_code app task threshold slot s.address)
-    → MaySpawn app who task t threshold slot s → SPAWN_COST + n ≤ k
-    → take t.args (drop slot s.slots) ≡ map value args
-    → s.rest ≡ spawn_actions app value (Soon task args place) rest vs
+    (c : CallSite) → NamesTask c → SpawnAt c → (n k : ℕ) → SPAWN_COST + n ≤ k
     → ((granted used m : ℕ) (slots cells : List ℕ) (queues : Holder → List Entry) (ws : Values) → n ≤ m
-    → HasSpawned app who slot s vs granted used slots cells queues ws
-    → Stands (storage app) code bodies thread who m
-    (behind app who s (spawn_code app task threshold slot s.address) used slots cells queues (rest granted) ws))
-    → Stands (storage app) code bodies thread who k s
+    → HasSpawned c.app c.who c.slot c.spot c.vs granted used slots cells queues ws
+    → Stands (storage c.app) c.code c.bodies c.thread c.who m
+    (behind c.app c.who c.spot (spawn_code c.app c.task c.threshold c.slot c.spot.address) used slots cells queues
+    (c.rest granted) ws))
+    → Stands (storage c.app) c.code c.bodies c.thread c.who k c.spot

@@ -1,8 +1,8 @@
 -- The code of a whole `spawn_after`: a place is taken and filled, and in the section of the timer queue its message is
 -- armed, with the handle for an answer; or none is left, and the answer is 0.
-use Rattle.rt_gen_queue.proofs.Vocabulary.{App, Arms, Content, Entry, Guarded, HasCode, Held, Holder, Home}
-use Rattle.rt_gen_queue.proofs.Vocabulary.{IsTimedPlace, Leaves, Line, List, Marked, MayLoad, Message, None, FindsFull}
-use Rattle.rt_gen_queue.proofs.Vocabulary.{Rest, SPAWN_AFTER_COST, Section, Some, TakesOver, Timed, Values, [], act}
+use Rattle.rt_gen_queue.proofs.Vocabulary.{Arms, Content, Entry, Guarded, HasCode, Held, Holder, Home}
+use Rattle.rt_gen_queue.proofs.Vocabulary.{IsTimedPlace, Leaves, Line, List, Marked, MayLoad, Message, FindsFull}
+use Rattle.rt_gen_queue.proofs.Vocabulary.{Rest, Section, Some, TakesOver, Timed, Values, [], act}
 use Rattle.rt_gen_queue.proofs.Vocabulary.{act_all, all_weaker, and_both, ap, arguments_of, arith, arm_actions}
 use Rattle.rt_gen_queue.proofs.Vocabulary.{capacities_before, armed_messages, armed_place, capacity_of, count_more}
 use Rattle.rt_gen_queue.proofs.Vocabulary.{drop}
@@ -13,9 +13,8 @@ use Rattle.rt_gen_queue.proofs.Vocabulary.{plain}
 use Rattle.rt_gen_queue.proofs.Vocabulary.{queued_more, reads_more, refl, slice_get, slice_index, storage, subst, suc}
 use Rattle.rt_gen_queue.proofs.Vocabulary.{sym, take, take-append-le, take_code, take_place, timer_content, true}
 use Rattle.rt_gen_queue.proofs.Vocabulary.{with_armed, ℕ}
-use Rattle.rt_gen_queue.proofs.Vocabulary.{◌&&◌, ◌*◌, ◌++◌, ◌+◌, ◌<◌, ◌^◌, ◌∙◌, ◌∷◌, ◌≡◌, ◌≤◌}
+use Rattle.rt_gen_queue.proofs.Vocabulary.{◌&&◌, ◌++◌, ◌+◌, ◌<◌, ◌^◌, ◌∙◌, ◌∷◌, ◌≡◌, ◌≤◌}
 use Rattle.rt_ids.specs.declared.ids.Section.TheVariants as section
-use Rattle.rt_app.specs.declared.costs.TheConstants.{MESSAGE_COST}
 use Rattle.rt_code.specs.declared.instr.Instr.TheVariants as instr
 use Rattle.rt_code.specs.declared.instr.Note.TheVariants as note
 use Rattle.rt_gen_queue.proofs.{Handing.refuses, Numbers.steps_and, Numbers.steps_are, Queues.message_alike}
@@ -23,7 +22,7 @@ use Rattle.rt_gen_queue.proofs.Entering.{MayEnter, enter_fits, enter_placed, ent
 use Rattle.rt_gen_queue.proofs.Entering.{opened, saves_below, saves_inside}
 use Rattle.rt_gen_queue.proofs.Facts.{arguments, few_arguments, few_free, free_top, place_of, small as small_words}
 use Rattle.rt_gen_queue.proofs.Granting.{HasTaken, MayTake, at_full, take_begins}
-use Rattle.rt_gen_queue.proofs.Layer.{Frame, Here, InTime, Now, S, Setting, Straight, all_fit, ends, fits, inner}
+use Rattle.rt_gen_queue.proofs.Layer.{Frame, Here, InTime, Now, S, Straight, all_fit, ends, fits, inner}
 use Rattle.rt_gen_queue.proofs.Layer.{inner_window, jumps, moved, read_behind, spot, writes_open}
 use Rattle.rt_gen_queue.proofs.Owning.{home_as, is_inside, nobody_keeps, reads_inside, timer_spelled}
 use Rattle.rt_gen_queue.proofs.Placing.{code_behind, code_front, fill_long}
@@ -37,19 +36,16 @@ use Rattle.rt_gen_timer.proofs.{Sifting.IsReady, Sifting.IsRisen, Sifting.rises_
 use Rattle.rt_gen_timer.proofs.{Turning.AreTurns, Turning.arm_steps, Turning.turns_for}
 use Rattle.rt_gen_timer.proofs.Acting.{Lasting, Runs, code_first, code_part, heap_open, run_stands, sooner}
 use Rattle.rt_gen_timer.proofs.Calling.{AgreeInside, Begins, Call, HasCalled, Inside, IsInside, Left, at_work}
-use Rattle.rt_gen_timer.proofs.Calling.{behind_call, columns_now, entries, f, leaving_code, leaving_fits, on_window}
-use Rattle.rt_gen_timer.proofs.Calling.{queue_now, settles, stands_called, w}
+use Rattle.rt_gen_timer.proofs.Calling.{behind_call, call_of, columns_now, entries, f, leaving_code, leaving_fits}
+use Rattle.rt_gen_timer.proofs.Calling.{on_window, queue_now, settles, stands_called, task_of, w}
 use Rattle.rt_gen_timer.proofs.Hollow.{IsBeside, beside_more, beside_one_place, hollow_filled}
 use Rattle.rt_gen_timer.proofs.Pushing.{MayPush, are, armings_before, counts, hole_begins, hollow_begins, is_row}
 use Rattle.rt_gen_timer.proofs.Pushing.{longer, room, size, spelled_more}
 use Rattle.rt_gen_timer.proofs.Window.{Scratch, Words, scratch_of, words}
-use Rattle.rt_gen_timer.specs.{TimerCalls.AftersStand, TimerCalls.MayUsePlaces, declared.queue.TimerQueue.TimerQueue}
+use Rattle.rt_gen_timer.specs.TimerCalls.{AftersStand, MayUsePlaces, after_steps}
 use Rattle.rt_gen_timer.specs.TimerCode.{after_code, armed_task, queue_of}
 use Rattle.rt_gen_timer.specs.TimerLines.{alarm_lines, arm_lines, full_lines, heap_of, row_lines}
-
--- the steps of such a call
-abbrev after_steps : App → ℕ
-after_steps app = SPAWN_AFTER_COST + MESSAGE_COST * armed_messages app
+use Rattle.rt_gen_timer.specs.declared.queue.TimerQueue.{TimerQueue}
 
 -- the nine of the words that a spawn's code works in, and these with others in them
 abbrev arguments_in : Words → Arguments
@@ -526,19 +522,18 @@ module _ {c : Call} {cost delay : ℕ} {args : List ℕ} {h : Here} (k : SendsLa
 
 -- the code of a `spawn_after` stands for its actions
 pub afters_stand : AftersStand
-afters_stand app task t code bodies thread who threshold slot n cost delay s args rest vs accepted mono there software
-    armed
-    costs has may places delay_is args_are is =
-    let z : Setting = record { app = app; code = code; bodies = bodies; thread = thread; who = who; caller = None } in
-    let c : Call = record { z = z; task = task; t = t; threshold = threshold; slot = slot; rest = rest; values = vs } in
-    let second : suc slot ≡ slot + 1 = omega arith in
-    stands_called c s (record { accepted = accepted; at = there; software = software }) mono may has is
+afters_stand c named timed a n =
+    let second : suc c.slot ≡ c.slot + 1 = omega arith in
+    let message : Message = record { task = c.task; args = a.args } in
+    let doing : Rest =
+    take_place c.app c.task (arm_actions c.app a.cost a.delay message c.rest) (c.rest 0) in
+    stands_called (call_of c) c.spot {doing = doing} (task_of c named) timed a.may a.has a.is
     (λ until call.
     after_goes (record {
       call = call;
-      armed = armed;
-      turns = turns_for app cost costs;
-      places = record { closed = places.closed; within = places.within };
-      delay_is = delay_is;
-      args_are = ap (λ d. take t.args (drop d s.slots)) second ∙ args_are;
+      armed = a.armed;
+      turns = turns_for c.app a.cost a.costs;
+      places = record { closed = a.places.closed; within = a.places.within };
+      delay_is = a.delayed;
+      args_are = ap (λ d. take c.t.args (drop d c.spot.slots)) second ∙ a.arguments;
     }))

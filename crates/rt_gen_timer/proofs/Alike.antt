@@ -94,7 +94,7 @@ same_keys xs first second x some = omega (arith, first x some, second x some)
 
 pub rising_same : (numbers arming : Entry → ℕ) (xs : List Entry) → AreSame numbers arming xs → IsRising arming xs
     → IsRising numbers xs
-rising_same numbers arming xs same rising i j a b first second less =
+rising_same numbers arming xs same rising = λ i j a b first second less.
     omega (
       arith,
       rising i j a b first second less,

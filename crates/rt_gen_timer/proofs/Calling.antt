@@ -5,7 +5,7 @@ use Rattle.rt_gen_queue.proofs.Vocabulary.{Holder, HoldsOff, IsSome, IsWithin, L
 use Rattle.rt_gen_queue.proofs.Vocabulary.{SpellsTimer, Spot, TakesOver, Task, Timed, Values, ap, arith, count_more}
 use Rattle.rt_gen_queue.proofs.Vocabulary.{false, is_open, leave, leave_timer, length, map, may_load, memory, mine}
 use Rattle.rt_gen_queue.proofs.Vocabulary.{owns_open, spot_after_step, values_with, queued, queues_same, refl}
-use Rattle.rt_gen_queue.proofs.Vocabulary.{saved_slots}
+use Rattle.rt_gen_queue.proofs.Vocabulary.{None, saved_slots}
 use Rattle.rt_gen_queue.proofs.Vocabulary.{slice_index, storage, subst, sym, timer_content, with_queue, ℕ, ◌++◌, ◌+◌}
 use Rattle.rt_gen_queue.proofs.Vocabulary.{◌-◌, ◌<◌}
 use Rattle.rt_gen_queue.proofs.Vocabulary.{◌^◌, ◌∙◌, ◌∷◌, ◌≡◌, ◌≤◌}
@@ -16,6 +16,7 @@ use Rattle.rt_gen_queue.proofs.Facts.{Spawned}
 use Rattle.rt_gen_queue.proofs.Layer.{Here, InTime, Now, S, Setting, Straight, begins, begun, lasts_less, placed, spot}
 use Rattle.rt_gen_queue.proofs.Layer.{window, window_long, window_outside, window_read}
 use Rattle.rt_gen_queue.proofs.Owning.{put_here, queue_here, spelled_put, timer_back}
+use Rattle.rt_gen_queue.specs.Spawning.{CallSite, NamesTask}
 use Rattle.rt_gen_timer.proofs.{Acting.Columns, Alone.IsTimerAlone, Closing.closes_timer, Closing.leaving_placed}
 use Rattle.rt_gen_timer.proofs.Opening.{MayOpen, columns_inside, may_enter}
 use Rattle.rt_gen_timer.proofs.Window.{Slots, Words, frame_of, window_of, words, words_of}
@@ -40,6 +41,18 @@ pub record Call : Type 0 where
   pub slot : ℕ
   pub rest : ℕ → Rest
   pub values : Values
+
+-- the call of a call site, in a frame of the job's own
+abbrev pub call_of : CallSite → Call
+call_of c = record {
+  z = record { app = c.app; code = c.code; bodies = c.bodies; thread = c.thread; who = c.who; caller = None };
+  task = c.task;
+  t = c.t;
+  threshold = c.threshold;
+  slot = c.slot;
+  rest = c.rest;
+  values = c.vs;
+}
 
 -- it may begin here, in so many steps
 pub record MayCall (c : Call) (steps : ℕ) (h : Here) : Type 0 where
@@ -238,6 +251,10 @@ own_on z h {e = e} {mid = mid} {more = more} first second = record {
 abbrev pub of_job : Call → Spot → Call
 of_job c s = record c { z = record c.z { caller = s.caller } }
 
+-- the task that a call site names
+pub task_of : (c : CallSite) → NamesTask c → Spawned c.app c.task c.t
+task_of c named = record { accepted = named.accepted; at = named.is_there; software = named.software }
+
 -- The code of a call stands for its actions where it is correct: a job that may use the timer queue may call, and
 -- behind the call the answer is in the first slot, and slots outside the window are as they were.
 pub stands_called : (c : Call) (s : Spot) {lines : List Line} {doing : Rest} {steps n : ℕ}
@@ -245,7 +262,7 @@ pub stands_called : (c : Call) (s : Spot) {lines : List Line} {doing : Rest} {st
     → HasCode c.z.code s.address lines → s.rest ≡ doing c.values
     → ((k : ℕ) → Begins (of_job c s) steps lines doing (begun s k) → S (of_job c s).z (begun s k))
     → StandsBefore c.z.app c.z.who c.z.code c.z.bodies c.z.thread steps c.slot lines c.rest n s c.values
-stands_called c s {steps = steps} facts mono uses has is correct on k enough =
+stands_called c s {steps = steps} facts mono uses has is correct = λ on k enough.
     let may : MayCall (of_job c s) steps (begun s k) = record {
       facts = facts;
       timed = mono;

@@ -1,6 +1,6 @@
 -- The code of a `cancel`: the message of the handle leaves the queue and its place becomes free, or there is none.
 use Rattle.rt_gen_queue.proofs.Vocabulary.{Agree, Cancels, Content, Enters, Entry, FREE_COST, Frees, Guarded, Leaves}
-use Rattle.rt_gen_queue.proofs.Vocabulary.{LeavesMine, Line, List, Marked, None, Number, Rest, Section, [], act}
+use Rattle.rt_gen_queue.proofs.Vocabulary.{LeavesMine, Line, List, Marked, Number, Rest, Section, [], act}
 use Rattle.rt_gen_queue.proofs.Vocabulary.{act_all, ap, arith, capacities_before, armed_messages, armed_place, at}
 use Rattle.rt_gen_queue.proofs.Vocabulary.{capacity_of, count, count_more, drop, few_messages, free_at}
 use Rattle.rt_gen_queue.proofs.Vocabulary.{handle_section_cost, leave, leave_timer, length, memory, line_with_note}
@@ -17,21 +17,22 @@ use Rattle.rt_gen_queue.proofs.{Numbers.added, Numbers.steps_and, Places.entry_a
 use Rattle.rt_gen_queue.proofs.Entering.{MayEnter, agree_left, enters, leaves, opened, own_left, reads_it}
 use Rattle.rt_gen_queue.proofs.Entering.{section_stands}
 use Rattle.rt_gen_queue.proofs.Facts.{capacity, few_free, free_top}
-use Rattle.rt_gen_queue.proofs.Layer.{Here, Now, S, Setting, calculates, ends, jumps, loads, moved, reads_open, sets}
+use Rattle.rt_gen_queue.proofs.Layer.{Here, Now, S, calculates, ends, jumps, loads, moved, reads_open, sets}
 use Rattle.rt_gen_queue.proofs.Layer.{spot, stores_at, writes_open}
 use Rattle.rt_gen_queue.proofs.Owning.{free_back, free_spelled, is_inside, nobody_keeps, spelled_put}
 use Rattle.rt_gen_queue.proofs.Returning.{IsGiven, Returned, free_home, frees, given_back, room_left}
 use Rattle.rt_gen_timer.proofs.{Alone.instant_in, Alone.number_in, Comparing.Place, Delaying.at_address}
 use Rattle.rt_gen_timer.proofs.{Marking.cancels, Rowing.taken_off, Settling.reach_enough, Window.Words, Window.words}
 use Rattle.rt_gen_timer.proofs.Acting.{code_first, code_part, run_stands, sooner}
-use Rattle.rt_gen_timer.proofs.Calling.{Begins, Call, HasCalled, Left, at_work, behind_call, columns_now, f}
-use Rattle.rt_gen_timer.proofs.Calling.{leaving_code, leaving_fits, on_window, own_on, settles, stands_called}
+use Rattle.rt_gen_timer.proofs.Calling.{Begins, Call, HasCalled, Left, at_work, behind_call, call_of, columns_now}
+use Rattle.rt_gen_timer.proofs.Calling.{f, leaving_code, leaving_fits, on_window, own_on, settles, stands_called}
+use Rattle.rt_gen_timer.proofs.Calling.{task_of}
 use Rattle.rt_gen_timer.proofs.Leaving.{IsAsBefore, alone, timer_left}
 use Rattle.rt_gen_timer.proofs.Removing.{IsRemoved, Removal, removed, removes_stand}
-use Rattle.rt_gen_timer.proofs.Seeking.{IsSeen, MaySeek, Taken, handle_steps, runs_call, runs_seen, seeks, seen}
+use Rattle.rt_gen_timer.proofs.Seeking.{IsSeen, MaySeek, Taken, runs_call, runs_seen, seeks, seen}
 use Rattle.rt_gen_timer.proofs.Seeking.{seen_words}
 use Rattle.rt_gen_timer.proofs.Spelled.{few_armings, place_of, row_of, spelled_whole}
-use Rattle.rt_gen_timer.specs.TimerCalls.{CancelsStand, MayUsePlaces}
+use Rattle.rt_gen_timer.specs.TimerCalls.{CancelsStand, MayUsePlaces, handle_steps}
 use Rattle.rt_gen_timer.specs.TimerCode.{cancel_code, queue_of}
 use Rattle.rt_gen_timer.specs.TimerLines.{alarm_lines, answer_lines, calc, free_lines, set}
 
@@ -318,15 +319,12 @@ module _ {c : Call} {handle : ℕ} {h : Here} (k : AsksCancel c handle h) where
 
 -- the code of a `cancel` stands for its actions
 pub cancels_all_stand : CancelsStand
-cancels_all_stand app task t code bodies thread who threshold slot n handle s rest vs accepted mono there software has
-    may
-    places shown is =
-    let z : Setting = record { app = app; code = code; bodies = bodies; thread = thread; who = who; caller = None } in
-    let c : Call = record { z = z; task = task; t = t; threshold = threshold; slot = slot; rest = rest; values = vs } in
-    stands_called c s (record { accepted = accepted; at = there; software = software }) mono may has is
+cancels_all_stand c named timed a n =
+    let doing : Rest = cancel_actions c.app (handle_section_cost c.app) c.task a.handle (c.rest 0) (c.rest 1) in
+    stands_called (call_of c) c.spot {doing = doing} (task_of c named) timed a.may a.has a.is
     (λ until call.
     cancel_goes (record {
       call = call;
-      places = record { closed = places.closed; within = places.within };
-      shown = shown;
+      places = record { closed = a.places.closed; within = a.places.within };
+      shown = a.shown;
     }))

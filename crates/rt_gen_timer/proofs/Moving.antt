@@ -1,6 +1,6 @@
 -- The code of a `reschedule_after`: the message of the handle gets another instant and the next number and goes up or
 -- down from where it stands, or there is none.
-use Rattle.rt_gen_queue.proofs.Vocabulary.{Clocks, Entry, Guarded, HasCode, Line, List, Moves, None, Rest, Values, act}
+use Rattle.rt_gen_queue.proofs.Vocabulary.{Clocks, Entry, Guarded, HasCode, Line, List, Moves, Rest, Values, act}
 use Rattle.rt_gen_queue.proofs.Vocabulary.{ap, arith, armed_messages, armed_place, at, does, few_messages}
 use Rattle.rt_gen_queue.proofs.Vocabulary.{handle_section_cost, leave, leave_timer, length, min, line_with_note, refl}
 use Rattle.rt_gen_queue.proofs.Vocabulary.{slice_index, subst, suc, sym, take, with_moved, ℕ, ◌*◌, ◌++◌, ◌+◌, ◌<◌, ◌^◌}
@@ -10,21 +10,21 @@ use Rattle.rt_ids.specs.declared.limits.TheConstants.{LONGEST_DELAY}
 use Rattle.rt_app.specs.Sending.{instant_after, move_actions}
 use Rattle.rt_code.specs.declared.instr.Instr.TheVariants as instr
 use Rattle.rt_code.specs.declared.instr.Note.TheVariants as note
-use Rattle.rt_gen_queue.proofs.Layer.{Here, Now, S, Setting, copies, ends, jumps, moved, sets, writes_open}
+use Rattle.rt_gen_queue.proofs.Layer.{Here, Now, S, copies, ends, jumps, moved, sets, writes_open}
 use Rattle.rt_gen_queue.proofs.Numbers.{steps_and}
 use Rattle.rt_gen_timer.proofs.{Alone.instant_in, Alone.number_in, Comparing.Hand, Comparing.Place, Lasting.last_alone}
 use Rattle.rt_gen_timer.proofs.{Marking.moves, Sifting.sinking, Spelled.few_armings, Spelled.row_of}
 use Rattle.rt_gen_timer.proofs.Acting.{code_first, code_part, heap_open, run_stands, sooner}
-use Rattle.rt_gen_timer.proofs.Calling.{AgreeInside, Begins, Call, at_work, columns_now, entries, f, leaving_code}
-use Rattle.rt_gen_timer.proofs.Calling.{leaving_fits, on_window, settles, stands_called}
+use Rattle.rt_gen_timer.proofs.Calling.{AgreeInside, Begins, Call, at_work, call_of, columns_now, entries, f}
+use Rattle.rt_gen_timer.proofs.Calling.{leaving_code, leaving_fits, on_window, settles, stands_called, task_of}
 use Rattle.rt_gen_timer.proofs.Delaying.{at_address, delayed, time_stands}
 use Rattle.rt_gen_timer.proofs.Hollow.{IsBeside, beside_more, beside_one_place, hollow_filled}
 use Rattle.rt_gen_timer.proofs.Postponing.{IsAgain, MayMove, again_hole, again_hollow, again_stands, are, is_row}
 use Rattle.rt_gen_timer.proofs.Postponing.{last_long, spelled_moved}
-use Rattle.rt_gen_timer.proofs.Seeking.{IsSeen, MaySeek, Taken, handle_steps, runs_seen, seeks, seen, seen_words}
+use Rattle.rt_gen_timer.proofs.Seeking.{IsSeen, MaySeek, Taken, runs_seen, seeks, seen, seen_words}
 use Rattle.rt_gen_timer.proofs.Settling.{IsSettled, MaySettle, reach_enough, settles_stand}
 use Rattle.rt_gen_timer.proofs.Window.{Scratch, Words, scratch_of, words}
-use Rattle.rt_gen_timer.specs.{TimerCalls.MovesStand, declared.queue.TimerQueue.TimerQueue}
+use Rattle.rt_gen_timer.specs.{TimerCalls.MovesStand, TimerCalls.handle_steps, declared.queue.TimerQueue.TimerQueue}
 use Rattle.rt_gen_timer.specs.TimerCode.{armed_task, move_code, queue_of}
 use Rattle.rt_gen_timer.specs.TimerLines.{alarm_lines, answer_lines, heap_of, put_off_lines}
 
@@ -236,12 +236,14 @@ module _ {c : Call} {delay handle : ℕ} {h : Here} (k : AsksMove c delay handle
 
 -- the code of a `reschedule_after` stands for its actions
 pub moves_all_stand : MovesStand
-moves_all_stand app task t code bodies thread who threshold slot n delay handle s rest vs accepted mono there software
-    has
-    may late shown is =
-    let z : Setting = record { app = app; code = code; bodies = bodies; thread = thread; who = who; caller = None } in
-    let c : Call = record { z = z; task = task; t = t; threshold = threshold; slot = slot; rest = rest; values = vs } in
-    let second : suc slot ≡ slot + 1 = omega arith in
-    stands_called c s (record { accepted = accepted; at = there; software = software }) mono may has is
+moves_all_stand c named timed a n =
+    let second : suc c.slot ≡ c.slot + 1 = omega arith in
+    let doing : Rest =
+    move_actions c.app (handle_section_cost c.app) a.delay c.task a.handle (c.rest 0) (c.rest 1) in
+    stands_called (call_of c) c.spot {doing = doing} (task_of c named) timed a.may a.has a.is
     (λ until call.
-    move_goes (record { call = call; delay_is = late; shown = ap (slice_index s.slots) second ∙ shown }))
+    move_goes (record {
+      call = call;
+      delay_is = a.delayed;
+      shown = ap (slice_index c.spot.slots) second ∙ a.shown;
+    }))

@@ -38,12 +38,16 @@ module _ {X : Type 0} (R : X → X → Type 0) where
   )
 
   pub along_at : (xs : List X) → Along xs → ByPlaces xs
-  along_at [] along i j a b first second less = absurd (none-some a first)
-  along_at (x ∷ xs) along zero (suc j) a b first second less =
-      subst (λ y. R y b) (same_Some x a first) (all_at (R x) xs j b along.0 second)
-  along_at (x ∷ xs) along (suc i) (suc j) a b first second less =
-      along_at xs along.1 i j a b first second (omega arith)
-  along_at (x ∷ xs) along i zero a b first second less = absurd (omega arith)
+  along_at [] along = λ i j a b first second less. absurd (none-some a first)
+  along_at (x ∷ xs) along = λ i j a b first second less. by (along_at xs along.1) i j first second less
+    where
+      -- the one in front is the first, or both are behind it
+      by : ByPlaces xs → (i j : ℕ) {a b : X} → slice_get (x ∷ xs) i ≡ Some a → slice_get (x ∷ xs) j ≡ Some b → i < j
+          → R a b
+      by behind zero (suc j) {a = a} {b = b} first second less =
+          subst (λ y. R y b) (same_Some x a first) (all_at (R x) xs j b along.0 second)
+      by behind (suc i) (suc j) {a = a} {b = b} first second less = behind i j a b first second (omega arith)
+      by behind i zero first second less = absurd (omega arith)
 
   -- one less
   pub along_less : (before behind : List X) (x : X) → Along (before ++ x ∷ behind) → Along (before ++ behind)

@@ -1,6 +1,6 @@
 -- A call by a handle: the section of the timer queue opens, and the message of the task that has the handle is looked
 -- for in the heap, from its last place down to the first; or none has it, the section closes, and the answer is 1.
-use Rattle.rt_gen_queue.proofs.Vocabulary.{App, Armed, Bool, Doing, Enters, Entry, Guarded, HANDLE_COST, HasCode}
+use Rattle.rt_gen_queue.proofs.Vocabulary.{Armed, Bool, Doing, Enters, Entry, Guarded, HasCode}
 use Rattle.rt_gen_queue.proofs.Vocabulary.{Holder, Leaves, Line, List, Option, Rest, Some, Values, [], act, ap, arith}
 use Rattle.rt_gen_queue.proofs.Vocabulary.{message_of_handle, arming_of_entry, armed_messages, armed_place, at}
 use Rattle.rt_gen_queue.proofs.Vocabulary.{cases_eq, false}
@@ -10,7 +10,6 @@ use Rattle.rt_gen_queue.proofs.Vocabulary.{plain, refl, slice_index, subst, suc,
 use Rattle.rt_gen_queue.proofs.Vocabulary.{◌++◌, ◌+◌, ◌<◌, ◌==◌, ◌^◌, ◌∙◌, ◌∷◌, ◌≡◌, ◌≢◌, ◌≤◌, ◌⊎◌}
 use Rattle.rt_ids.specs.declared.ids.Section.TheVariants as section
 use Rattle.rt_ids.specs.declared.op.Op.TheVariants as op
-use Rattle.rt_app.specs.declared.costs.TheConstants.{HANDLE_MESSAGE_COST}
 use Rattle.rt_code.specs.declared.instr.Instr.TheVariants as instr
 use Rattle.rt_gen_queue.proofs.{Numbers.one_less, Numbers.steps_and, Owning.timer_spelled, Placing.code_behind}
 use Rattle.rt_gen_queue.proofs.{Placing.code_front}
@@ -24,7 +23,7 @@ use Rattle.rt_gen_timer.proofs.Calling.{Call, HasCalled, Inside, IsInside, Left,
 use Rattle.rt_gen_timer.proofs.Calling.{columns_now, entries, f, leaving_code, leaving_fits, may_open, w}
 use Rattle.rt_gen_timer.proofs.Spelled.{armed_is, found_of, missing_of, own_task, row_of, spelled_column, spelled_count}
 use Rattle.rt_gen_timer.proofs.Window.{Slots, Words, words}
-use Rattle.rt_gen_timer.specs.TimerCode.{armed_task, queue_of}
+use Rattle.rt_gen_timer.specs.{TimerCalls.handle_steps, TimerCode.armed_task, TimerCode.queue_of}
 use Rattle.rt_gen_timer.specs.TimerLines.{find_lines, handles_of, heap_of, open_lines, own_lines, search_lines}
 use Rattle.rt_gen_timer.specs.TimerLines as lines
 use Rattle.rt_gen_timer.specs.declared.{armed.ArmedTask.ArmedTask, queue.TimerQueue.TimerQueue}
@@ -188,10 +187,6 @@ module _ {z : Setting} {f : Slots} {g : Search} {h : Here} {w : Words} (may : Ma
     finds_stand =
         searches (length g.heap) h.done w.place w.other (omega arith) (omega arith)
         (λ j most less. absurd (omega arith))
-
--- the steps of such a call
-abbrev pub handle_steps : App → ℕ
-handle_steps app = HANDLE_COST + HANDLE_MESSAGE_COST * armed_messages app
 
 -- the words where the section has opened, with so many messages in the heap
 abbrev pub opened_words : Words → ℕ → ℕ → Words

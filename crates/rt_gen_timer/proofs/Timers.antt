@@ -9,7 +9,7 @@ use Rattle.rt_gen_queue.proofs.Vocabulary.{drop, few_before, few_messages, guard
 use Rattle.rt_gen_queue.proofs.Vocabulary.{length, levels, lt-ltb, memory, message_at, message_word, nat_lt, nothing}
 use Rattle.rt_gen_queue.proofs.Vocabulary.{number_of, or_left, plain, ready_actions, ready_code, ready_room, refl}
 use Rattle.rt_gen_queue.proofs.Vocabulary.{slice_get, slice_get_within, slice_index, storage, subst, sym, task_priority}
-use Rattle.rt_gen_queue.proofs.Vocabulary.{the_task, timer_content, timer_cost, true, with_queue, without_least, ℕ, ◌*◌}
+use Rattle.rt_gen_queue.proofs.Vocabulary.{the_task, timer_cost, true, with_queue, without_least, ℕ, ◌*◌}
 use Rattle.rt_gen_queue.proofs.Vocabulary.{◌++◌}
 use Rattle.rt_gen_queue.proofs.Vocabulary.{◌+◌, ◌-◌, ◌<◌, ◌^◌, ◌∙◌, ◌∷◌, ◌≡◌, ◌≤◌}
 use Rattle.rt_ids.specs.{Content.with_fired, declared.limits.TheConstants.CAPACITY}
@@ -334,16 +334,15 @@ unfolding storage
 within_timer app mono is = timer_within app mono is
 
 pub timers_stand : TimersStand
-timers_stand app accepted mono is cost costs code first has bodies thread slots cells queues values words_are long
-    spelled =
+timers_stand app accepted mono is cost costs there thread = λ slots cells queues values words_are long spelled.
     let k : Handler = record {
       app = app;
-      code = code;
-      bodies = bodies;
+      code = there.code;
+      bodies = there.bodies;
       thread = thread;
       threshold = mono.priority;
       cost = cost;
-      first = first;
+      first = there.address;
       back = drop 24 slots;
       cells = cells;
       queues = queues;
@@ -353,7 +352,7 @@ timers_stand app accepted mono is cost costs code first has bodies thread slots 
     let may : MayHandle k = record {
       accepted = accepted;
       mono = subst IsSome (sym is) refl;
-      code = has;
+      code = there.has;
       least = idle_enough app cost costs;
       kept = record {
         spells = λ holder own.

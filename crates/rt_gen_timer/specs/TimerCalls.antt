@@ -4,7 +4,7 @@
 -- `reschedule_after`; that the handler makes one message ready an entry is this project's own). Each is within its
 -- cost, whatever others do to what is not the job's own; and what the job has is as before.
 use Rattle.std.specs.Prelude.{◌≡◌, ℕ, ◌+◌, ◌*◌, ◌^◌, ◌<◌, ◌≤◌, ◌⊎◌, true, false, List, length, take, drop}
-use Rattle.std.specs.Prelude.{slice_get, slice_index, Some, IsSome}
+use Rattle.std.specs.Prelude.{slice_index, Some, IsSome}
 use Rattle.std.specs.List.{AllByRecursion}
 use Rattle.rt_ids.specs.Holder.{Holder}
 use Rattle.rt_ids.specs.Content.{Values}
@@ -14,9 +14,9 @@ use Rattle.rt_ids.specs.declared.ids.Section.TheVariants as section
 use Rattle.rt_app.specs.declared.app.Mono.{Mono}
 use Rattle.rt_app.specs.declared.costs.TheConstants.{SPAWN_AFTER_COST, MESSAGE_COST, HANDLE_COST, HANDLE_MESSAGE_COST}
 use Rattle.rt_app.specs.declared.costs.TheConstants.{TIMER_QUEUE_WORDS, TIMER_WORDS}
-use Rattle.rt_app.specs.Tree.{Task, App}
+use Rattle.rt_app.specs.Tree.{App}
 use Rattle.rt_app.specs.BodyCost.{timer_section_cost, handle_section_cost, timer_cost}
-use Rattle.rt_app.specs.Level.{is_software, is_armed, armed_messages}
+use Rattle.rt_app.specs.Level.{is_armed, armed_messages}
 use Rattle.rt_app.specs.Sending.{Rest, take_place, arm_actions, cancel_actions, move_actions}
 use Rattle.rt_app.specs.Doings.{timer_doing_in}
 use Rattle.rt_app.specs.Layout.{memory}
@@ -27,7 +27,7 @@ use Rattle.rt_code.specs.Owning.{Spot, is_open, saved_slots, Agree, LeavesMine}
 use Rattle.rt_code.specs.Standing.{Stands, StandsFrom}
 use Rattle.rt_code.specs.declared.image.BodyRow.{BodyRow}
 use Rattle.rt_gen_queue.specs.Line.{Line, HasCode}
-use Rattle.rt_gen_queue.specs.Spawning.{HoldsOff, behind}
+use Rattle.rt_gen_queue.specs.Spawning.{HoldsOff, behind, CallSite, NamesTask}
 use Rattle.rt_gen_timer.specs.TimerCode.{after_code, cancel_code, move_code, timer_code}
 
 module _ (app : App) where
@@ -76,51 +76,87 @@ module _ (app : App) where
         (behind app who s lines used slots cells queues (rest answer) ws))
         → (k : ℕ) → steps + n ≤ k → Stands (storage app) code bodies thread who k s
 
+-- the steps of a `spawn_after`
+abbrev pub after_steps : App → ℕ
+after_steps app = SPAWN_AFTER_COST + MESSAGE_COST * armed_messages app
+
+-- the steps of a call with a handle: of a `cancel` and of a `reschedule_after`
+abbrev pub handle_steps : App → ℕ
+handle_steps app = HANDLE_COST + HANDLE_MESSAGE_COST * armed_messages app
+
+-- A `spawn_after` at a call site: its code is where the job is, which may use the timer queue and the places of the
+-- task, which may be armed; the delay and the arguments are in the first slots; and its actions, with a section of one
+-- of the two costs, are what is to be done.
+pub record AfterAt (c : CallSite) : Type 0 where
+  pub cost : ℕ
+  pub delay : ℕ
+  pub args : List ℕ
+  pub armed : is_armed c.app c.task ≡ true
+  pub costs : IsSectionCost c.app cost
+  pub has : HasCode c.code c.spot.address (after_code c.app c.task c.threshold c.slot c.spot.address)
+  pub may : MayUseTimer c.app c.who (after_steps c.app) c.threshold c.slot c.spot
+  pub places : MayUsePlaces c.app c.who c.task c.spot
+  pub delayed : slice_index c.spot.slots c.slot ≡ delay
+  pub arguments : take c.t.args (drop (c.slot + 1) c.spot.slots) ≡ args
+  pub is : c.spot.rest
+      ≡ take_place c.app c.task (arm_actions c.app cost delay (record { task = c.task; args = args }) c.rest) (c.rest 0)
+      c.vs
+
 -- The code of a `spawn_after` stands for its actions, with a section of each of the two costs, and for any rest.
 abbrev pub AftersStand : Type 0
 AftersStand =
-    (app : App) (task : ℕ) (t : Task) (code : List Line) (bodies : List BodyRow) (thread : ℕ) (who : Runner)
-    (threshold slot n cost delay : ℕ) (s : Spot) (args : List ℕ) (rest : ℕ → Rest) (vs : Values)
-    → let steps : ℕ = SPAWN_AFTER_COST + MESSAGE_COST * armed_messages app in
-    IsAccepted app → IsSome app.mono → slice_get app.tasks task ≡ Some t → is_software t ≡ true
-    → is_armed app task ≡ true → IsSectionCost app cost
-    → HasCode code s.address (after_code app task threshold slot s.address)
-    → MayUseTimer app who steps threshold slot s → MayUsePlaces app who task s
-    → slice_index s.slots slot ≡ delay → take t.args (drop (slot + 1) s.slots) ≡ args
-    → s.rest ≡ take_place app task (arm_actions app cost delay (record { task = task; args = args }) rest) (rest 0) vs
-    → StandsBefore app who code bodies thread steps slot (after_code app task threshold slot s.address) rest n s vs
+    (c : CallSite) → NamesTask c → IsSome c.app.mono → AfterAt c → (n : ℕ)
+    → StandsBefore c.app c.who c.code c.bodies c.thread (after_steps c.app) c.slot
+    (after_code c.app c.task c.threshold c.slot c.spot.address) c.rest n c.spot c.vs
+
+-- A `cancel` at a call site: its code is where the job is, which may use the timer queue and the places of the task;
+-- the handle is in the first slot; and its actions are what is to be done.
+pub record CancelAt (c : CallSite) : Type 0 where
+  pub handle : ℕ
+  pub has : HasCode c.code c.spot.address (cancel_code c.app c.task c.threshold c.slot c.spot.address)
+  pub may : MayUseTimer c.app c.who (handle_steps c.app) c.threshold c.slot c.spot
+  pub places : MayUsePlaces c.app c.who c.task c.spot
+  pub shown : slice_index c.spot.slots c.slot ≡ handle
+  pub is : c.spot.rest
+      ≡ cancel_actions c.app (handle_section_cost c.app) c.task handle (c.rest 0) (c.rest 1) c.vs
 
 -- The code of a `cancel` stands for its actions.
 abbrev pub CancelsStand : Type 0
 CancelsStand =
-    (app : App) (task : ℕ) (t : Task) (code : List Line) (bodies : List BodyRow) (thread : ℕ) (who : Runner)
-    (threshold slot n handle : ℕ) (s : Spot) (rest : ℕ → Rest) (vs : Values)
-    → let steps : ℕ = HANDLE_COST + HANDLE_MESSAGE_COST * armed_messages app in
-    IsAccepted app → IsSome app.mono → slice_get app.tasks task ≡ Some t → is_software t ≡ true
-    → HasCode code s.address (cancel_code app task threshold slot s.address)
-    → MayUseTimer app who steps threshold slot s → MayUsePlaces app who task s
-    → slice_index s.slots slot ≡ handle
-    → s.rest ≡ cancel_actions app (handle_section_cost app) task handle (rest 0) (rest 1) vs
-    → StandsBefore app who code bodies thread steps slot (cancel_code app task threshold slot s.address) rest n s vs
+    (c : CallSite) → NamesTask c → IsSome c.app.mono → CancelAt c → (n : ℕ)
+    → StandsBefore c.app c.who c.code c.bodies c.thread (handle_steps c.app) c.slot
+    (cancel_code c.app c.task c.threshold c.slot c.spot.address) c.rest n c.spot c.vs
+
+-- A `reschedule_after` at a call site: its code is where the job is, which may use the timer queue; the delay and the
+-- handle are in the first slots; and its actions are what is to be done.
+pub record MoveAt (c : CallSite) : Type 0 where
+  pub delay : ℕ
+  pub handle : ℕ
+  pub has : HasCode c.code c.spot.address (move_code c.app c.task c.threshold c.slot c.spot.address)
+  pub may : MayUseTimer c.app c.who (handle_steps c.app) c.threshold c.slot c.spot
+  pub delayed : slice_index c.spot.slots c.slot ≡ delay
+  pub shown : slice_index c.spot.slots (c.slot + 1) ≡ handle
+  pub is : c.spot.rest
+      ≡ move_actions c.app (handle_section_cost c.app) delay c.task handle (c.rest 0) (c.rest 1) c.vs
 
 -- The code of a `reschedule_after` stands for its actions. It uses no place.
 abbrev pub MovesStand : Type 0
 MovesStand =
-    (app : App) (task : ℕ) (t : Task) (code : List Line) (bodies : List BodyRow) (thread : ℕ) (who : Runner)
-    (threshold slot n delay handle : ℕ) (s : Spot) (rest : ℕ → Rest) (vs : Values)
-    → let steps : ℕ = HANDLE_COST + HANDLE_MESSAGE_COST * armed_messages app in
-    IsAccepted app → IsSome app.mono → slice_get app.tasks task ≡ Some t → is_software t ≡ true
-    → HasCode code s.address (move_code app task threshold slot s.address)
-    → MayUseTimer app who steps threshold slot s
-    → slice_index s.slots slot ≡ delay → slice_index s.slots (slot + 1) ≡ handle
-    → s.rest ≡ move_actions app (handle_section_cost app) delay task handle (rest 0) (rest 1) vs
-    → StandsBefore app who code bodies thread steps slot (move_code app task threshold slot s.address) rest n s vs
+    (c : CallSite) → NamesTask c → IsSome c.app.mono → MoveAt c → (n : ℕ)
+    → StandsBefore c.app c.who c.code c.bodies c.thread (handle_steps c.app) c.slot
+    (move_code c.app c.task c.threshold c.slot c.spot.address) c.rest n c.spot c.vs
+
+-- where the timer handler of a monotonic stands: its code is at an address, with rows of bodies beside it
+pub record TimerHandlerAt (app : App) (mono : Mono) : Type 0 where
+  pub code : List Line
+  pub address : ℕ
+  pub has : HasCode code address (timer_code app mono.priority address)
+  pub bodies : List BodyRow
 
 -- The code of the timer handler stands at the priority of the monotonic, with a section of each of the two costs.
 abbrev pub TimersStand : Type 0
 TimersStand =
     (app : App) → IsAccepted app → (mono : Mono) → app.mono ≡ Some mono → (cost : ℕ) → IsSectionCost app cost
-    → (code : List Line) (at : ℕ) → HasCode code at (timer_code app mono.priority at)
-    → (bodies : List BodyRow) (thread : ℕ)
-    → StandsFrom (storage app) code bodies thread (AtPriority mono.priority) (length (memory app)) TIMER_WORDS at
-    (timer_cost app) (timer_doing_in app cost)
+    → (h : TimerHandlerAt app mono) (thread : ℕ)
+    → StandsFrom (storage app) h.code h.bodies thread (AtPriority mono.priority) (length (memory app)) TIMER_WORDS
+    h.address (timer_cost app) (timer_doing_in app cost)
