@@ -13,7 +13,8 @@ use Rattle.rt_load.specs.declared.operand.Wrong.{Wrong}
 use Rattle.rt_load.proofs.Read.{then_ok, same_ok}
 use Rattle.rt_load.proofs.Fronts.{front_text, Stands}
 use Rattle.rt_load.proofs.Progress.{line_taken, first_taken}
-use Rattle.rt_load.proofs.Forward.{taken_append, listing_lines, whole, listing_taken}
+use Rattle.rt_load.proofs.Forward.{listing_lines, whole, listing_taken}
+use Rattle.rt_load.proofs.ForwardParts.{taken_append}
 use Rattle.rt_load.proofs.Split.{lines_split, listing_is, are_lines}
 
 -- what lines that are taken leave

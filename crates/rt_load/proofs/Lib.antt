@@ -9,6 +9,9 @@ pub mod Tables
 pub mod CodedBack
 pub mod Progress
 pub mod Lines
+pub mod ForwardParts
+pub mod ForwardCells
+pub mod ForwardRows
 pub mod Forward
 pub mod Again
 pub mod Nexts
@@ -17,7 +20,11 @@ pub mod Witness
 pub mod Unknown
 pub mod Verdict
 pub mod Following
+pub mod NameErrors
 pub mod Further
+pub mod FurtherInstr
+pub mod NotesAlike
+pub mod FurtherNote
 pub mod Named
 pub mod OneWay
 pub mod Judged

@@ -39,9 +39,10 @@ use Rattle.rt_load.proofs.Lines.{end_words, note_part, code_words, code_text, co
 use Rattle.rt_load.proofs.Fronts.{front_text, Stands}
 use Rattle.rt_load.proofs.Witness.{witness, mark_goes}
 use Rattle.rt_load.proofs.Unknown.{known_more}
-use Rattle.rt_load.proofs.Further.{NoName, form_no_name, ok_no_name, then_no_name, make_no_name, if_no_name}
-use Rattle.rt_load.proofs.Further.{number_no_name, then_name, further, InstrOver, NoteOver, instr_over, note_over}
-use Rattle.rt_load.proofs.Further.{noted_name}
+use Rattle.rt_load.proofs.NameErrors.{NoName, form_no_name, ok_no_name, then_no_name, make_no_name, if_no_name}
+use Rattle.rt_load.proofs.NameErrors.{number_no_name, then_name, noted_name}
+use Rattle.rt_load.proofs.{Further.further, FurtherInstr.InstrOver, FurtherInstr.instr_over, FurtherNote.NoteOver}
+use Rattle.rt_load.proofs.FurtherNote.{note_over}
 
 -- lines of other kinds name nothing that is in a table
 three_no_name : (ws : List (List ℕ)) → NoName (three ws)

@@ -18,7 +18,7 @@ use Rattle.rt_load.specs.Reading.{line_with_feed, IsLine}
 use Rattle.rt_load.proofs.Clean.{line_of_spelled}
 use Rattle.rt_load.proofs.Lines.{AreKnown, first_text, cell_text, irq_text, body_text, code_text, first_spelled}
 use Rattle.rt_load.proofs.Lines.{cell_spelled, irq_spelled, body_spelled, code_spelled, known_names}
-use Rattle.rt_load.proofs.Forward.{texts_from, listing_lines}
+use Rattle.rt_load.proofs.{ForwardCells.texts_from, Forward.listing_lines}
 
 pub cut_same : (u v x y : List ℕ) → IsLine u → IsLine v → u ++ 10 ∷ x ≡ v ++ 10 ∷ y → (u ≡ v) × (x ≡ y)
 cut_same [] [] x y p q e = (refl, ap (drop 1) e)

@@ -51,7 +51,7 @@ use Rattle.rt_load.proofs.Lines.{AreKnown, known_names, code_text, code_words, c
 use Rattle.rt_load.proofs.Lines.{name_identifier}
 use Rattle.rt_load.proofs.Again.{notes_again, line_again}
 use Rattle.rt_load.proofs.Tables.{chosen, irq_back, section_back, task_from, resource_from}
-use Rattle.rt_load.proofs.Forward.{passes, chooses, whole}
+use Rattle.rt_load.proofs.{ForwardParts.passes, ForwardParts.chooses, Forward.whole}
 use Rattle.rt_load.proofs.Following.{next_taken, ok_err}
 use Rattle.rt_load.proofs.CodedBack.{number32_from}
 use Rattle.rt_load.proofs.Ends.{last_same}
