@@ -56,9 +56,9 @@ fn row(alloc: Global, number: Irq, is_enabled: bool) -> Result<IrqRow, NoMemory>
 /// The rows of declared interrupts.
 fn rows(alloc: Global, irqs: Irqs) -> Result<Vec<IrqRow>, NoMemory> {
     let mut rows = Vec::new(alloc);
-    for place in 0..irqs.count {
-        if let Some(number) = Irq::new(place) {
-            let is_off = place == 1 && irqs.is_second_off;
+    for index in 0..irqs.count {
+        if let Some(number) = Irq::new(index) {
+            let is_off = index == 1 && irqs.is_second_off;
             rows.push(row(alloc, number, !is_off)?)?;
         }
     }

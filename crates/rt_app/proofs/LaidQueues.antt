@@ -9,7 +9,7 @@ use Rattle.std.proofs.lemmas.Option.{same_Some, none-some, slice_get_within}
 use Rattle.std.proofs.lemmas.List.{length-append, length-map}
 use Rattle.std.proofs.lemmas.List.FromFn.{length-range_with_len}
 use Rattle.rt_lemmas.proofs.Membership.{all_has, contains_cases, contains_none}
-use Rattle.rt_lemmas.proofs.Places.{at_front, at_back, read_at}
+use Rattle.rt_lemmas.proofs.Indices.{at_front, at_back, read_at}
 use Rattle.rt_ids.specs.Lists.{or_zero}
 use Rattle.rt_ids.specs.Holder.{Guarded}
 use Rattle.rt_ids.specs.Storage.{At, In, Nowhere}

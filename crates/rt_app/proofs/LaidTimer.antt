@@ -5,7 +5,7 @@ use Rattle.std.specs.Prelude.{codes}
 use Rattle.std.specs.List.{AllByRecursion, range_with_len}
 use Rattle.std.proofs.lemmas.List.{length-append}
 use Rattle.rt_lemmas.proofs.Membership.{all_append, all_at}
-use Rattle.rt_lemmas.proofs.Places.{at_back, there_is}
+use Rattle.rt_lemmas.proofs.Indices.{at_back, there_is}
 use Rattle.rt_ids.specs.Holder.{Guarded}
 use Rattle.rt_ids.specs.Storage.{At}
 use Rattle.rt_ids.specs.declared.ids.Section.TheVariants as section
@@ -134,7 +134,7 @@ module _ (app : App) where
     handle_is_home row within =
         named (handles_at app + row) (3 + 2 * armed_messages app + row) (omega arith) (omega arith)
 
-    pub heap_is_home : (place : ℕ) → place < armed_messages app
-        → home_of app (heap_at app + place) ≡ At (Guarded section.Timer)
-    heap_is_home place within =
-        named (heap_at app + place) (3 + 3 * armed_messages app + place) (omega arith) (omega arith)
+    pub heap_is_home : (position : ℕ) → position < armed_messages app
+        → home_of app (heap_at app + position) ≡ At (Guarded section.Timer)
+    heap_is_home position within =
+        named (heap_at app + position) (3 + 3 * armed_messages app + position) (omega arith) (omega arith)

@@ -92,10 +92,10 @@ module _ (app : App) (accepted : IsAccepted app) (parts : Parts app) where
   irq_numbers_differ = subst AreDifferent (map-map (λ u. u.number) (λ d. record { number = d.number; at = d.number_at })
       app.irqs) (numbers_differ [] (number_uses app) parts.numbers)
 
-  -- the dispatcher of a level stands at the place of the level
-  dispatcher_place : (p irq : ℕ) → dispatcher_of app p ≡ Some irq → slice_get dispatching (above p (levels app))
+  -- the dispatcher of a level stands at the index of the level
+  dispatcher_index : (p irq : ℕ) → dispatcher_of app p ≡ Some irq → slice_get dispatching (above p (levels app))
       ≡ Some irq
-  dispatcher_place p irq is =
+  dispatcher_index p irq is =
       let d = made_of (λ (d : Dispatcher). d.irq) (slice_get app.dispatchers (above p (levels app))) irq is in
       mapped_at (λ d. d.irq) app.dispatchers (above p (levels app)) d.0 d.1 ∙ ap Some d.2
 
@@ -134,7 +134,7 @@ module _ (app : App) (accepted : IsAccepted app) (parts : Parts app) where
               let higher : p < q.0 = all_has (λ y. p < y) ps q.0 rising.0 q.1 in
               let fewer = more_above p q.0 (levels app) higher (of_levels q.0 (contains_there p ps q.0 q.1)) in
               let same = different_front dispatching (timing ++ running) all_differ (above p (levels app))
-              (above q.0 (levels app)) i (dispatcher_place p i own) (dispatcher_place q.0 i q.2) in
+              (above q.0 (levels app)) i (dispatcher_index p i own) (dispatcher_index q.0 i q.2) in
               absurd (omega arith)
 
   pub services_differ : AreDifferent (irqs_of (services app))
@@ -161,7 +161,7 @@ module _ (app : App) (accepted : IsAccepted app) (parts : Parts app) where
 
       dispatches : (irq : ℕ) → Contains on_levels irq → Contains dispatching irq
       dispatches irq is = let p = served (levels app) irq is in contained dispatching (above p.0 (levels app)) irq
-          (dispatcher_place p.0 irq p.2)
+          (dispatcher_index p.0 irq p.2)
 
       apart_timer : (irq : ℕ) → Contains on_levels irq → Contains timing irq → ⊥
       apart_timer irq is there = different_apart dispatching (timing ++ running) all_differ irq (dispatches irq is)
@@ -179,7 +179,7 @@ module _ (app : App) (accepted : IsAccepted app) (parts : Parts app) where
   levels_dispatched p is =
       let enough = ltb-false (length app.dispatchers) (length (levels app))
       (not_broken _ rule.TooFewDispatchers app.name_at parts.dispatchers) in
-      let place = not_all_above p (levels app) is in
+      let within = not_all_above p (levels app) is in
       let d = some_at app.dispatchers (above p (levels app)) (omega arith) in
       ap (λ o. is_some (option_map (λ (d : Dispatcher). d.irq) o)) d.1
 

@@ -11,7 +11,7 @@ pub not_broken : (b : Bool) (r : Rule) (at : ℕ) → when b r at ≡ [] → b �
 not_broken true r at fine = absurd (cc)
 not_broken false r at fine = refl
 
--- a place in a list that is short is known
+-- an index in a list that is short is known
 pub known : (n count : ℕ) → n < count → count ≤ 255 → is_known n ≡ true
 known n count within few = grind (arith, nat_tests)
 

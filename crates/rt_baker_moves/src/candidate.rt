@@ -94,7 +94,7 @@ pub(crate) fn queue<'a>(
 }
 
 /// The index of an interrupt among these, where it is one of them.
-fn place_of(waiting: &[Irq], irq: u16) -> Option<usize>
+fn index_of(waiting: &[Irq], irq: u16) -> Option<usize>
     ensures { result ≡ position (λ n. n == irq) waiting.now }
 {
     waiting.iter().position(|other| other.get() == irq)
@@ -104,7 +104,7 @@ fn place_of(waiting: &[Irq], irq: u16) -> Option<usize>
 pub(crate) fn unqueue(waiting: &mut Vec<Irq>, irq: u16)
     ensures { waiting.new.items ≡ without irq waiting.old.items }
 {
-    match place_of(waiting, irq) {
+    match index_of(waiting, irq) {
         None => {}
         Some(index) => {
             waiting.remove(index);

@@ -12,7 +12,7 @@ use std::alloc::Global;
 const NUMBERS: usize = 256;
 
 /// A zero for each number of a byte.
-fn no_places(alloc: Global) -> Result<Vec<u32>, NoMemory>
+fn zeros(alloc: Global) -> Result<Vec<u32>, NoMemory>
     ensures { IfOk result (λ v. v.items ≡ replicate NUMBERS 0) }
 {
     Ok(vec![in alloc; 0; NUMBERS]?)
@@ -37,7 +37,7 @@ fn shared_values(alloc: Global, shared: &[Shared]) -> Result<Vec<u32>, NoMemory>
     for resource in shared {
         values.push(resource.first)?;
     }
-    let padding = no_places(alloc)?;
+    let padding = zeros(alloc)?;
     values.extend_from_slice(padding.as_slice())?;
     Ok(values)
 }
@@ -50,7 +50,7 @@ fn local_values(alloc: Global, locals: &[Local]) -> Result<Vec<u32>, NoMemory>
     for resource in locals {
         values.push(resource.first)?;
     }
-    let padding = no_places(alloc)?;
+    let padding = zeros(alloc)?;
     values.extend_from_slice(padding.as_slice())?;
     Ok(values)
 }
@@ -61,7 +61,7 @@ pub(crate) fn first_store(alloc: Global, app: &App) -> Result<Store, NoMemory>
 {
     let shared = shared_values(alloc, &app.shared)?;
     let locals = local_values(alloc, &app.locals)?;
-    let out = no_places(alloc)?;
+    let out = zeros(alloc)?;
     let ready = no_messages(alloc)?;
     Ok(Store::new(alloc, shared, locals, out, ready))
 }

@@ -1,4 +1,4 @@
--- A place of an auditor's lists that changes is a content that changes.
+-- An item of an auditor's lists that changes is a content that changes.
 use Rattle.std.proofs.Common.{◌≡◌, ◌≢◌, ℕ, zero, suc, ◌+◌, ◌-◌, ◌<◌, ◌≤◌, ◌==◌, nat_lt, Bool, true, false, cond}
 use Rattle.std.proofs.Common.{Option, Some, None, List, [], ◌∷◌, ◌++◌, length, drop, map, get_or, set, refl, sym}
 use Rattle.std.proofs.Common.{ap, ◌∙◌, subst, append-nil, arith, position, find, is_some, if◌then◌else◌}
@@ -18,10 +18,10 @@ use Rattle.rt_ids.specs.Action.{effect, Places, Frees, Readies, Starts, Arms, Fi
 use Rattle.rt_ids.specs.declared.ids.Section.TheVariants as section
 use Rattle.rt_baker_work.specs.Store.{Store, contents}
 
--- a list whose place is changed, read at a place
-at_place : {X : Type 0} (f : X → Content) (xs : List X) (r a : ℕ) (n d : X) → r < length xs
+-- a list of which one item is changed, read at an index
+at_index : {X : Type 0} (f : X → Content) (xs : List X) (r a : ℕ) (n d : X) → r < length xs
     → f (get_or (set xs r n) a d) ≡ (if r == a then f n else f (get_or xs a d))
-at_place f xs r a n d within = go (r == a) refl
+at_index f xs r a n d within = go (r == a) refl
   where
     go : (b : Bool) → (r == a) ≡ b → f (get_or (set xs r n) a d) ≡ (if b then f n else f (get_or xs a d))
     go true e = let h : a ≡ r = grind (arith, nat_tests) in ap f (get_or-set_at xs r a n d h within)
@@ -34,7 +34,7 @@ set_shared s r n within = λ i h. each h i
   where
     each : (h : Holder) → contents (record s { shared = set s.shared r n }) h ≡ values_with (contents s) (Guarded
         (section.Res r)) (Number n) h
-    each (Guarded (section.Res a)) = at_place Number s.shared r a n 0 within
+    each (Guarded (section.Res a)) = at_index Number s.shared r a n 0 within
     each (Guarded (section.Free a)) = refl
     each (Guarded (section.Ready a)) = refl
     each (Guarded section.Timer) = refl
@@ -51,9 +51,9 @@ set_local s r n within = λ i h. each h i
     each (Guarded (section.Free a)) = refl
     each (Guarded (section.Ready a)) = refl
     each (Guarded section.Timer) = refl
-    each (Own a) = at_place Number s.locals r a n 0 within
+    each (Own a) = at_index Number s.locals r a n 0 within
 
--- the same, where a store is seen as another and a place told otherwise
+-- the same, where a store is seen as another and an index told otherwise
 pub shared_is_set : (s t : Store) (i r n : ℕ) → s ≡ t → i ≡ r → i < length s.shared
     → contents (record s { shared = set s.shared i n }) ≡ values_with (contents t) (Guarded (section.Res r)) (Number n)
 shared_is_set s t i r n e f within =
@@ -66,7 +66,7 @@ local_is_set s t i r n e f within =
     set_local s i n within ∙ ap (λ (k : ℕ). values_with (contents s) (Own k) (Number n)) f
     ∙ ap (λ (u : Store). values_with (contents u) (Own r) (Number n)) e
 
--- a list that stands at a place of lists
+-- a list that stands at an index of lists
 pub list_read : {X Y : Type 0} (f : X → List Y) (xs : List X) (ys : List (List Y)) (i p : ℕ) (x : X) (r : List Y)
     → map f xs ≡ ys → i ≡ p → i < length xs → x ≡ get_or xs i x → r ≡ f x → r ≡ get_or ys p []
 list_read f xs ys i p x r view same within at is =
@@ -81,7 +81,7 @@ set_out s r n within = λ i h. each h i
     each : (h : Holder) → contents (record s { out = set s.out r n }) h ≡ values_with (contents s) (Guarded
         (section.Free r)) (Number n) h
     each (Guarded (section.Res a)) = refl
-    each (Guarded (section.Free a)) = at_place Number s.out r a n 0 within
+    each (Guarded (section.Free a)) = at_index Number s.out r a n 0 within
     each (Guarded (section.Ready a)) = refl
     each (Guarded section.Timer) = refl
     each (Own a) = refl
@@ -96,7 +96,7 @@ set_ready s p ms within = λ i h. each h i
         (section.Ready p)) (Messages ms) h
     each (Guarded (section.Res a)) = refl
     each (Guarded (section.Free a)) = refl
-    each (Guarded (section.Ready a)) = at_place Messages s.ready p a ms [] within
+    each (Guarded (section.Ready a)) = at_index Messages s.ready p a ms [] within
     each (Guarded section.Timer) = refl
     each (Own a) = refl
 
@@ -238,16 +238,16 @@ ready_taken f xs s t i p m x y view e same within reads drops =
     xs i within))
     (list_read f xs s.ready i i x (f x) view refl within reads refl) drops
 
--- the least armed message, by the place that was found
-place_of : (n k : ℕ) (b : Bool) → cond b (Some n) None ≡ Some k → n ≡ k
-place_of n k true is = same_Some n k is
-place_of n k false is = absurd (none-some k is)
+-- the least armed message, by the index that was found
+index_found : (n k : ℕ) (b : Bool) → cond b (Some n) None ≡ Some k → n ≡ k
+index_found n k true is = same_Some n k is
+index_found n k false is = absurd (none-some k is)
 
 pub one_removed : (P : Armed → Bool) (xs ys : List Armed) (o : Option ℕ) (k : ℕ) → o ≡ position P xs → o ≡ Some k
     → ys ≡ remove xs k → ys ≡ remove xs (position_or_len P xs)
 one_removed P xs ys o k found at is =
     is ∙ ap (remove xs)
-    (sym (place_of (position_or_len P xs) k (nat_lt (position_or_len P xs) (length xs)) (sym found ∙ at)))
+    (sym (index_found (position_or_len P xs) k (nat_lt (position_or_len P xs) (length xs)) (sym found ∙ at)))
 
 past_of : (n k : ℕ) → cond (nat_lt n k) (Some n) None ≡ None → k ≤ n
 past_of n k is = go (nat_lt n k) refl is
@@ -267,7 +267,7 @@ pub none_removed : (P : Armed → Bool) (xs : List Armed) (o : Option ℕ) → o
 none_removed P xs o found none =
     sym (removed_past xs (position_or_len P xs) (past_of (position_or_len P xs) (length xs) (sym found ∙ none)))
 
--- whether there is one, and which, by the place that was found
+-- whether there is one, and which, by the index that was found
 within_of : (n k len : ℕ) → cond (nat_lt n len) (Some n) None ≡ Some k → k < len
 within_of n k len is = go (nat_lt n len) refl is
   where

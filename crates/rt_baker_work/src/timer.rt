@@ -38,7 +38,7 @@ pub fn least_instant(armed: &[Armed]) -> Option<u64>
     least
 }
 
-/// The place of the first that was armed of those of the least instant.
+/// The index of the first that was armed of those of the least instant.
 pub(crate) fn least(armed: &[Armed]) -> Option<usize>
     ensures { result ≡ position (has_instant (least_instant armed.now)) armed.now }
 {
@@ -55,7 +55,7 @@ fn has_handle(armed: &Armed, task: TaskId, handle: u32) -> bool
     armed.message.task == task && armed.handle == u64::from(handle)
 }
 
-/// The place of the armed message of a task that has a handle.
+/// The index of the armed message of a task that has a handle.
 pub(crate) fn by_handle(armed: &[Armed], task: TaskId, handle: u32) -> Option<usize>
     ensures { result ≡ position (has_handle task handle) armed.now }
 {

@@ -25,7 +25,7 @@ use Rattle.rt_build.specs.Inside.Code.{AddsTasks, TellsTask, AddsDispatchers}
 use Rattle.rt_build.specs.declared.code.Kind.{Kind}
 use Rattle.rt_build.specs.declared.code.Kind.TheVariants.{Hardware, Software}
 use Rattle.rt_build.proofs.Grown.{behind, whole, kept_then}
-use Rattle.rt_build.proofs.Levels.{place_is}
+use Rattle.rt_build.proofs.Levels.{index_is}
 
 module _ (app : App) (at : Entries) where
   -- parts behind parts
@@ -92,10 +92,10 @@ module _ (test : Task → Bool) where
       → task_parts test n (take (k + 1) ts) ≡ task_parts test n (take k ts) ++ own (n + k) t
   parts_more n [] k t there = absurd (none-some t there)
   parts_more n (u ∷ us) zero t there =
-      append-nil (own n u) ∙ (ap (own n) (same_Some u t there) ∙ ap (λ m. own m t) (same_place n))
+      append-nil (own n u) ∙ (ap (own n) (same_Some u t there) ∙ ap (λ m. own m t) (same_index n))
     where
-      same_place : (n : ℕ) → n ≡ n + 0
-      same_place n = omega arith
+      same_index : (n : ℕ) → n ≡ n + 0
+      same_index n = omega arith
   parts_more n (u ∷ us) (suc k) t there =
       ap (λ m. task_parts test n (take m (u ∷ us))) (one_later k)
       ∙ (ap (λ (ps : List Part). own n u ++ ps) (parts_more (n + 1) us k t there)
@@ -236,7 +236,7 @@ module _ (app : App) (at : Entries) (entries : List ℕ) (before after : List Li
   levels_whole counted adds are =
       subst (λ (ps : List ℕ). AddsParts app at (map OfLevel ps) before after)
       (take_all (length entries) (levels app) (omega arith))
-      (adds at (λ k p less there. are p ∙ ap (λ o. slice_index entries (or_zero o)) (place_is app k p there)))
+      (adds at (λ k p less there. are p ∙ ap (λ o. slice_index entries (or_zero o)) (index_is app k p there)))
 
 -- all parts, put behind none
 module _ (app : App) (at : Entries) (none first second third fourth fifth all : List Line) (empty : none ≡ []) where

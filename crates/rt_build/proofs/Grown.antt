@@ -11,7 +11,7 @@ use Rattle.std.proofs.lemmas.List.{take_more, take-append-drop, take_all, drop_a
 use Rattle.std.proofs.lemmas.List.{get_or_push, length_push}
 use Rattle.std.proofs.Math.Seq.{take-append_seam}
 use Rattle.rt_lemmas.proofs.Membership.{all_append}
-use Rattle.rt_lemmas.proofs.Places.{at_back}
+use Rattle.rt_lemmas.proofs.Indices.{at_back}
 use Rattle.rt_ids.specs.Storage.{Starting, AtPriority}
 use Rattle.rt_ids.specs.declared.ids.BodyId.TheVariants as body
 use Rattle.rt_app.specs.declared.app.Mono.{Mono}

@@ -14,7 +14,7 @@ use Rattle.std.proofs.lemmas.Slice.Eq.{bytes_eq-Decides}
 use Rattle.rt_lemmas.proofs.Bools.{true_and_false, left_of_none, right_of_none}
 use Rattle.rt_lemmas.proofs.Lists.{all_map, mapped_at}
 use Rattle.rt_lemmas.proofs.Membership.{all_append, any_contained}
-use Rattle.rt_lemmas.proofs.Places.{there_is}
+use Rattle.rt_lemmas.proofs.Indices.{there_is}
 use Rattle.rt_ids.specs.Lists.{AreDifferent, then_from}
 use Rattle.rt_ids.specs.Word.{IsName}
 use Rattle.rt_ids.specs.declared.cell.CellRow.{CellRow}

@@ -43,19 +43,19 @@ all_above p (q ∷ ps) all =
     ∙ ap suc (all_above p ps all.1)
 
 -- those behind one are above it
-above_place : (ps : List ℕ) (k p : ℕ) → IsRising ps → slice_get ps k ≡ Some p → above p ps ≡ length ps - 1 - k
-above_place [] k p rising at = absurd (none-some p at)
-above_place (q ∷ ps) zero p rising at =
+above_index : (ps : List ℕ) (k p : ℕ) → IsRising ps → slice_get ps k ≡ Some p → above p ps ≡ length ps - 1 - k
+above_index [] k p rising at = absurd (none-some p at)
+above_index (q ∷ ps) zero p rising at =
     let same : q ≡ p = same_Some q p at in
     let own : nat_lt p q ≡ false = le-ltb p q (omega arith) in
     let rest : above p ps ≡ length ps = all_above p ps (subst (λ r. AllByRecursion (λ s. r < s) ps) same rising.0) in
     ap (λ b. length (if b then q ∷ filter (nat_lt p) ps else filter (nat_lt p) ps)) own ∙ omega (arith, rest)
-above_place (q ∷ ps) (suc k) p rising at =
+above_index (q ∷ ps) (suc k) p rising at =
     let less : q < p = all_at (λ s. q < s) ps k p rising.0 at in
     let own : nat_lt p q ≡ false = le-ltb p q (omega arith) in
     let within : k < length ps = slice_get_within ps k p at in
     ap (λ b. length (if b then q ∷ filter (nat_lt p) ps else filter (nat_lt p) ps)) own
-    ∙ omega (arith, above_place ps k p rising.1 at)
+    ∙ omega (arith, above_index ps k p rising.1 at)
 
 module _ (app : App) where
   levels_rise : IsRising (levels app)
@@ -67,8 +67,8 @@ module _ (app : App) where
     is_level = contained (levels app) k p there
 
     -- and it stands at no other index
-    pub place_is : position (λ q. q == p) (levels app) ≡ Some k
-    place_is =
+    pub index_is : position (λ q. q == p) (levels app) ≡ Some k
+    index_is =
         position_of_key (λ q. q) (levels app) k p there
         (λ j q at same. rising_differ (levels app) levels_rise j k p (at ∙ ap Some same) there)
 
@@ -77,15 +77,15 @@ module _ (app : App) where
       abbrev behind : ℕ
       behind = length (levels app) - 1 - k
 
-      places : dispatcher_of app p ≡ option_map (λ d. d.irq) (slice_get app.dispatchers behind)
-      places =
+      by_index : dispatcher_of app p ≡ option_map (λ d. d.irq) (slice_get app.dispatchers behind)
+      by_index =
           ap (λ n. option_map (λ d. d.irq) (slice_get app.dispatchers n))
-          (above_place (levels app) k p levels_rise there)
+          (above_index (levels app) k p levels_rise there)
 
       pub dispatcher_there : behind < length app.dispatchers
       dispatcher_there =
           is_some_within app.dispatchers behind
-          (is_some_mapped (slice_get app.dispatchers behind) (subst IsSome places (sound.dispatched p is_level)))
+          (is_some_mapped (slice_get app.dispatchers behind) (subst IsSome by_index (sound.dispatched p is_level)))
         where
           is_some_mapped : (o : Option Dispatcher) → IsSome (option_map (λ d. d.irq) o) → IsSome o
           is_some_mapped None is = is
@@ -93,7 +93,7 @@ module _ (app : App) where
 
       pub dispatcher_is : (d : Dispatcher) → slice_get app.dispatchers behind ≡ Some d
           → dispatcher_of app p ≡ Some d.irq
-      dispatcher_is d at = places ∙ ap (option_map (λ d. d.irq)) at
+      dispatcher_is d at = by_index ∙ ap (option_map (λ d. d.irq)) at
 
 -- the rows of ready queues are those of the levels
 module _ (plan : Plan) (planned : IsPlan plan) (rows : List ReadyCeiling) (are : rows ≡ plan.ceil.ready) where

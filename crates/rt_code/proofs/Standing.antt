@@ -73,17 +73,17 @@ least_left ls ms h left = absurd h
 pub least_serves : Serves AreAtLeast
 least_serves = record { more = least_more; fewer = least_fewer }
 
--- each line of the code stands at its place in other code
+-- each line of the code stands at its address in other code
 pub record HasLines (code other : List (Instr × Option Note)) : Type 0 where
   pub at : (k : ℕ) (line : Instr × Option Note) → slice_get code k ≡ Some line → slice_get other k ≡ Some line
 
-front_place : {X : Type 0} (xs ys : List X) (i : ℕ) (x : X) → slice_get xs i ≡ Some x → slice_get (xs ++ ys) i ≡ Some x
-front_place [] ys i x h = absurd (none-some x h)
-front_place (x ∷ xs) ys zero y h = h
-front_place (x ∷ xs) ys (suc i) y h = front_place xs ys i y h
+front_index : {X : Type 0} (xs ys : List X) (i : ℕ) (x : X) → slice_get xs i ≡ Some x → slice_get (xs ++ ys) i ≡ Some x
+front_index [] ys i x h = absurd (none-some x h)
+front_index (x ∷ xs) ys zero y h = h
+front_index (x ∷ xs) ys (suc i) y h = front_index xs ys i y h
 
 pub has_front : (code more : List (Instr × Option Note)) → HasLines code (code ++ more)
-has_front code more = record { at = λ k line h. front_place code more k line h }
+has_front code more = record { at = λ k line h. front_index code more k line h }
 
 module _ (st : Storage) (bodies : List BodyRow) (thread : ℕ) (who : Runner)
     (code more : List (Instr × Option Note)) where

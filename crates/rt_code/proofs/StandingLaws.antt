@@ -112,7 +112,7 @@ module _ (st : Storage) (code : List (Instr × Option Note)) (bodies : List Body
   ends_told None t a = a
   ends_told (Some told) t a = absurd a
 
-  -- a return, and a call, at the place where it stands
+  -- a return, and a call, at the spot where it stands
   returns_at : (i : Instr) (told : Option Note) → slice_get code s.address ≡ Some (i, told)
       → (time basepri : ℕ) (primask : Bool) (p : Processor)
       → LeadsTo s i time basepri primask p request.Return → Finishes st code bodies thread who Returns

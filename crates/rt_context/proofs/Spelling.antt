@@ -12,14 +12,14 @@ use Rattle.rt_context.specs.Inside.Parts.{contexts_in_words, frames, caller_size
 
 -- words behind others
 module _ (n : ℕ) (xs ys : List ℕ) (same : length ys ≡ n) where
-  place : length (xs ++ ys) - n ≡ length xs
-  place = omega (arith, length-append xs ys)
+  index : length (xs ++ ys) - n ≡ length xs
+  index = omega (arith, length-append xs ys)
 
   pub last_of-append : last_of n (xs ++ ys) ≡ ys
-  last_of-append = ap (λ k. drop k (xs ++ ys)) place ∙ drop-append_seam xs ys
+  last_of-append = ap (λ k. drop k (xs ++ ys)) index ∙ drop-append_seam xs ys
 
   pub without-append : without n (xs ++ ys) ≡ xs
-  without-append = ap (λ k. take k (xs ++ ys)) place ∙ take-append_seam xs ys
+  without-append = ap (λ k. take k (xs ++ ys)) index ∙ take-append_seam xs ys
 
 -- a caller's frame behind other words
 caller_of-append : (caller : Option (List ℕ)) (xs : List ℕ) → caller_of (caller_size caller) (xs ++ words_of caller)

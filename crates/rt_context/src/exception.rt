@@ -6,11 +6,11 @@ ghost use Rattle.rt_context.specs.Frames.{Saved, exception_frame};
 
 use rt_stack::Region;
 
-/// The place of LR, which holds the size of the interrupted frame.
+/// The index of LR, which holds the size of the interrupted frame.
 const LINK: usize = 5;
-/// The place of the return address.
+/// The index of the return address.
 const RETURN_ADDRESS: usize = 6;
-/// The place of xPSR, which holds the interrupted exception's number.
+/// The index of xPSR, which holds the interrupted exception's number.
 const STATUS: usize = 7;
 
 /// Where an interrupted frame runs on.

@@ -107,7 +107,7 @@ fn count_lines(core: &mut Core, lines: &[Line], summary: &mut Summary)
 }
 
 /// Runs a script on a core to which no event has come, and counts what it shows. The script's events come to the core
-/// line by line, the requests of a device at the place of its line.
+/// line by line, the requests of a device at its line.
 pub fn count_run(core: &mut Core, script: &Script) -> Summary
     requires { IsFresh core.old }
     ensures counts { result ≡ summary_of 1 (trace core.old.image (events script.now)) }

@@ -33,7 +33,7 @@ use std::thread::{Threads, join_mut};
 /// Runs two cores to which no event has come beside each other, each in a thread of its own where one can be made. A
 /// post of a core that its image does not enable pends the other application's interrupt of that name, by one fetch_or
 /// of the other core's words behind the step. The first core gets the events of the script, devices' requests at their
-/// places, the second its steps and ticks alone. Each latches all its words before each of its steps and once behind
+/// lines, the second its steps and ticks alone. Each latches all its words before each of its steps and once behind
 /// its last event. When both have ended, the text of each is written: its line, the listing of its image, its trace
 /// with the total of core steps, and the account of the other core's pends. The traces are kept in memory until then,
 /// so nothing has been written where memory is not there.

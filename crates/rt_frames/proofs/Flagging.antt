@@ -56,7 +56,7 @@ flag_step true n k ns flags within h rest = rest h ∙ ap (λ b. b || list_any (
     (list_any (λ m. m == k) ns)
 flag_step false n k ns flags within h rest = absurd (omega (arith, h))
 
--- where the table is still there at the end, each number had its place
+-- where the table is still there at the end, each number was an index of it
 pub flagged_at : (ns : List ℕ) (flags : List Bool) (k : ℕ) → 0 < length (flags_with ns flags)
     → get_or (flags_with ns flags) k false ≡ (get_or flags k false || list_any (λ n. n == k) ns)
 flagged_at [] flags k h = sym (or-false (get_or flags k false))

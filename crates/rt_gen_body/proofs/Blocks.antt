@@ -28,9 +28,9 @@ use Rattle.rt_gen_body.proofs.{Sending.binds_sent, Sending.sends, Storing.guard_
 use Rattle.rt_gen_body.proofs.Expressions.{Sets, assigns, binds_time, emits_value, pends, sets_variable}
 use Rattle.rt_gen_body.proofs.Loops.{BlockPerforms, chooses, in_loop, loops}
 use Rattle.rt_gen_body.proofs.Owning.{open_as, resource_cell, spelled_agreed, spelled_inside, spelled_outside}
-use Rattle.rt_gen_body.proofs.Places.{Begins, Body, Fits, Inside, Performs, Scope, block_needs, fewer_visible, front_of}
-use Rattle.rt_gen_body.proofs.Places.{goes_behind, inside_as, threshold_inside, listed_by, named, needs, part_fits}
-use Rattle.rt_gen_body.proofs.Places.{sooner}
+use Rattle.rt_gen_body.proofs.Scopes.{Begins, Body, Fits, Inside, Performs, Scope, block_needs, fewer_visible, front_of}
+use Rattle.rt_gen_body.proofs.Scopes.{goes_behind, inside_as, threshold_inside, listed_by, named, needs, part_fits}
+use Rattle.rt_gen_body.proofs.Scopes.{sooner}
 use Rattle.rt_gen_body.specs.Inside.Blocks.{block_code, guard_at, statement_code}
 use Rattle.rt_gen_body.specs.Inside.Values.{Context, next_slot}
 
@@ -56,8 +56,8 @@ in_lock b p r = record p {
   lock = next_slot p.lock;
 }
 
-module _ (b : Body) (p : Scope) (r place : ℕ) (inner : Block) (sound : IsSoundLock b.z.app b.m p.locked r)
-    (fits : Fits b p (needs b.z.app (Locked r inner place))) where
+module _ (b : Body) (p : Scope) (r offset : ℕ) (inner : Block) (sound : IsSoundLock b.z.app b.m p.locked r)
+    (fits : Fits b p (needs b.z.app (Locked r inner offset))) where
   abbrev kind : Kind
   kind = kind_of (guard_at b.c r) p.threshold p.lock
 
@@ -115,8 +115,8 @@ module _ (b : Body) (p : Scope) (r place : ℕ) (inner : Block) (sound : IsSound
       }
 
   pub locks : BlockPerforms b (in_lock b p r) inner
-      → Performs b p p.visible (λ at. statement_code b.c p.threshold p.lock at (Locked r inner place))
-      (statement_steps (cost_measure b.z.app) (Locked r inner place)) (run b.z.app (Locked r inner place))
+      → Performs b p p.visible (λ at. statement_code b.c p.threshold p.lock at (Locked r inner offset))
+      (statement_steps (cost_measure b.z.app) (Locked r inner offset)) (run b.z.app (Locked r inner offset))
   locks stands = record {
     runs = λ {h} {vars} {vs} later begins is behind.
         let cost : ℕ = lock_cost (block_cost (cost_measure b.z.app) inner) in

@@ -19,8 +19,8 @@ use Rattle.rt_gen_queue.proofs.Layer.{load_gives, posts_here, set_gives, store_g
 use Rattle.rt_gen_queue.proofs.Placing.{code_behind}
 use Rattle.rt_gen_body.proofs.Owning.{HasCell, OpenAre, local_cell, reads_cell, resource_cell, spelled_agreed}
 use Rattle.rt_gen_body.proofs.Owning.{spelled_put, writes_cell}
-use Rattle.rt_gen_body.proofs.Places.{Begins, Behind, Body, Inside, Knows, Performs, Scope, free_slot, front_of}
-use Rattle.rt_gen_body.proofs.Places.{goes_behind, listed_by, named, sooner, still_behind}
+use Rattle.rt_gen_body.proofs.Scopes.{Begins, Behind, Body, Inside, Knows, Performs, Scope, free_slot, front_of}
+use Rattle.rt_gen_body.proofs.Scopes.{goes_behind, listed_by, named, sooner, still_behind}
 use Rattle.rt_gen_body.proofs.Storing.{local_owned, number_is, resource_owned, resource_read}
 use Rattle.rt_gen_body.specs.Inside.Simple.{assign_code, emit_code}
 use Rattle.rt_gen_body.specs.Inside.Values.{Context, expression_code, next_slot, value_code}
@@ -127,17 +127,17 @@ pub evaluates : {b : Body} {p : Scope} (e : Expression) {h : Here} {vars : List 
     → Follows b h (expression_steps e) (length (expression_code b.c e slot free)) slot free (value_in vars vs e)
     → S b.z h
 evaluates (Num v) t deep reached meant begins on = one_line t begins (λ there free. set_gives there free) on
-evaluates (Read (atom.Var x) place) {vars = vars} t deep reached meant begins on =
+evaluates (Read (atom.Var x) offset) {vars = vars} t deep reached meant begins on =
     let below = begins.inside.below x meant in
     one_line t begins
     (λ there free. copy_gives (slice_index vars x) there (omega (arith, t.low, begins.inside.room)) free
     (begins.known.in_slots x meant)) on
-evaluates {b = b} {p = p} (Read (atom.Shared r) place) {h = h} {vs = vs} t deep reached meant begins on =
+evaluates {b = b} {p = p} (Read (atom.Shared r) offset) {h = h} {vs = vs} t deep reached meant begins on =
     one_line t begins
     (λ there free. load_gives (number (vs (Guarded (section.Res r)))) there free
     (reads_cell (resource_cell b.z.app r meant) (resource_read b.facts h.held p.locked r begins.inside.are reached)
     begins.known.long begins.known.in_cells)) on
-evaluates {b = b} {p = p} (Read (atom.Local n) place) {h = h} {vs = vs} t deep reached meant begins on =
+evaluates {b = b} {p = p} (Read (atom.Local n) offset) {h = h} {vs = vs} t deep reached meant begins on =
     one_line t begins
     (λ there free. load_gives (number (vs (Own n))) there free
     (reads_cell (local_at b n meant.0) (or_left _ _ (local_owned b.facts h.held p.locked n reached))
@@ -214,7 +214,7 @@ with_value {b = b} {p = p} {h = h} {lines = lines} e cost less sound begins behi
     (still_behind behind (omega (arith, length-append test lines)) (omega arith)
     (λ x here. same x (omega (arith, begins.inside.fixed x here, begins.inside.room))))))
 
--- the same place of two lists gets the same value
+-- the same index of two lists gets the same value
 both_set : (slots vars : List ℕ) (x v y : ℕ) → x < length slots → x < length vars
     → (y ≢ x → slice_index slots y ≡ slice_index vars y)
     → slice_index (slice_set slots x v) y ≡ slice_index (slice_set vars x v) y
@@ -318,20 +318,20 @@ module _ {b : Body} {p : Scope} where
   }
 
   -- an assignment, to whatever its name stands for
-  pub assigns : (x : Atom) (e : Expression) (place : ℕ) → Sound b p e → IsReached b.z.app b.m p.locked x
+  pub assigns : (x : Atom) (e : Expression) (offset : ℕ) → Sound b p e → IsReached b.z.app b.m p.locked x
       → IsMeant b.z.app (listed_by b.m) p.visible x → IsChangeable b.z.app b.m p.fixed x
-      → Performs b p p.visible (λ at. assign_code b.c x e) (expression_steps e + 1) (run b.z.app (Assign x e place))
-  assigns (atom.Var x) e place sound to meant changes =
+      → Performs b p p.visible (λ at. assign_code b.c x e) (expression_steps e + 1) (run b.z.app (Assign x e offset))
+  assigns (atom.Var x) e offset sound to meant changes =
       sets_variable e sound
       (record {
         small = λ {held} inside. omega (arith, inside.below x meant, inside.room);
         free = λ {held} inside. changes;
         cases = λ y here. inr here;
       })
-  assigns (atom.Shared r) e place sound to meant changes =
+  assigns (atom.Shared r) e offset sound to meant changes =
       stores_value e r (Guarded (section.Res r)) sound (resource_cell b.z.app r meant)
       (λ held are. resource_owned b.facts held p.locked p.fixed r are to changes)
-  assigns (atom.Local l) e place sound to meant changes =
+  assigns (atom.Local l) e offset sound to meant changes =
       stores_value e (b.c.locals + l) (Own l) sound (local_at b l meant.0)
       (λ held are. local_owned b.facts held p.locked l to)
 

@@ -1,7 +1,7 @@
 pub mod Promises
 pub mod Owning
 pub mod Expressions
-pub mod Places
+pub mod Scopes
 pub mod Loops
 pub mod Blocks
 pub mod Sending

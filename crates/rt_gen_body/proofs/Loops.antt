@@ -13,8 +13,8 @@ use Rattle.rt_code.specs.declared.instr.Instr.TheVariants as instr
 use Rattle.rt_gen_queue.proofs.{Numbers.added, Numbers.steps_and, Placing.code_behind, Placing.code_front}
 use Rattle.rt_gen_queue.proofs.Layer.{Here, S, calc_gives, goes, jump_by_gives, jump_gives, set_gives}
 use Rattle.rt_gen_body.proofs.Expressions.{Sound, next_begins, still_known, valued, variable_set, with_value}
-use Rattle.rt_gen_body.proofs.Places.{Begins, Behind, Body, Inside, Knows, Performs, Scope, fewer_visible, free_slot}
-use Rattle.rt_gen_body.proofs.Places.{goes_behind, inside_as, named, sooner, still_behind}
+use Rattle.rt_gen_body.proofs.Scopes.{Begins, Behind, Body, Inside, Knows, Performs, Scope, fewer_visible, free_slot}
+use Rattle.rt_gen_body.proofs.Scopes.{goes_behind, inside_as, named, sooner, still_behind}
 use Rattle.rt_gen_body.specs.Inside.{Blocks.block_code, Blocks.loop_back, Blocks.statement_code, Values.value_code}
 
 -- a block does what it means, and leaves in scope what was

@@ -175,14 +175,14 @@ module _ {z : Setting} where
       → HasCell z.app holder cell → length cells ≡ length (memory z.app) → IsSpelled z held cells vs
       → IsSpelled z held (slice_set cells cell v) (values_with vs holder (Number v))
   spelled_put {cells = cells} {vs = vs} {holder = holder} {cell = cell} v has long known = record {
-    has = λ {holder = other} {cell = place} at may.
+    has = λ {holder = other} {cell = c} at may.
         elim (same_or_other holder other) [
           | inl same ↦ ap (λ b. if b then Number v else vs other) same.1
               ∙ ap Number (sym (get_or-set_same cells cell v 0 (omega (arith, has.there))))
               ∙ ap (λ k. Number (slice_index (slice_set cells cell v) k))
-              (one_cell has (subst (λ (k : Holder). HasCell z.app k place) (sym same.0) at))
+              (one_cell has (subst (λ (k : Holder). HasCell z.app k c) (sym same.0) at))
           | inr apart ↦ ap (λ b. if b then Number v else vs other) apart ∙ known.has at may
-              ∙ ap Number (sym (get_or-set_other cells cell place v 0 (other_cell has at apart)))
+              ∙ ap Number (sym (get_or-set_other cells cell c v 0 (other_cell has at apart)))
         ];
   }
 

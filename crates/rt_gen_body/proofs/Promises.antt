@@ -25,7 +25,7 @@ use Rattle.rt_gen_queue.proofs.Placing.{code_behind, code_front, code_there}
 use Rattle.rt_gen_queue.specs.Called.{CalledBodyStands}
 use Rattle.rt_gen_body.proofs.{Blocks.block_stands, Storing.facts_for}
 use Rattle.rt_gen_body.proofs.Owning.{AllSpelled, all_agreed, known_of, spelled}
-use Rattle.rt_gen_body.proofs.Places.{Body, Facts, Scope, State, then_at}
+use Rattle.rt_gen_body.proofs.Scopes.{Body, Facts, Scope, State, then_at}
 use Rattle.rt_gen_body.specs.{Bodies.BodyStands, Form.end_line, Inside.Blocks.block_code}
 use Rattle.rt_gen_body.specs.Inside.Whole.{blocks_of, code_of, context_of, level_of}
 

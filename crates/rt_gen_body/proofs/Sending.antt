@@ -21,8 +21,8 @@ use Rattle.rt_gen_queue.proofs.Layer.{Here, S, copy_gives, goes, lasts_left, lef
 use Rattle.rt_gen_queue.specs.Spawning.{CallSite}
 use Rattle.rt_gen_body.proofs.Expressions.{Sets, Sound, evaluates, kept_set, next_begins, variable_set}
 use Rattle.rt_gen_body.proofs.Owning.{not_open, spelled_left}
-use Rattle.rt_gen_body.proofs.Places.{Begins, Body, Performs, Scope, Settled, State, free_slot, front_of, goes_behind}
-use Rattle.rt_gen_body.proofs.Places.{listed_by, named, sooner, then_at}
+use Rattle.rt_gen_body.proofs.Scopes.{Begins, Body, Performs, Scope, Settled, State, free_slot, front_of, goes_behind}
+use Rattle.rt_gen_body.proofs.Scopes.{listed_by, named, sooner, then_at}
 use Rattle.rt_gen_body.specs.Inside.Simple.{bind_code, goes_code, send_code, values_of}
 use Rattle.rt_gen_body.specs.Inside.Values.{Context, arguments_code, expression_code, next_slot}
 use Rattle.rt_gen_timer.proofs.{Afters.afters_stand, Cancelling.cancels_all_stand, Moving.moves_all_stand}
@@ -39,10 +39,10 @@ first_value n slot v slots vs within are =
 
 -- the steps of what goes, without those of its values
 abbrev goes_steps : App → Spawn → ℕ
-goes_steps app (Soon n args place) = SPAWN_COST
-goes_steps app (After word delay n args place) = SPAWN_AFTER_COST + MESSAGE_COST * armed_messages app
-goes_steps app (Cancel word n handle place) = HANDLE_COST + HANDLE_MESSAGE_COST * armed_messages app
-goes_steps app (Move word delay n handle place) = HANDLE_COST + HANDLE_MESSAGE_COST * armed_messages app
+goes_steps app (Soon n args offset) = SPAWN_COST
+goes_steps app (After word delay n args offset) = SPAWN_AFTER_COST + MESSAGE_COST * armed_messages app
+goes_steps app (Cancel word n handle offset) = HANDLE_COST + HANDLE_MESSAGE_COST * armed_messages app
+goes_steps app (Move word delay n handle offset) = HANDLE_COST + HANDLE_MESSAGE_COST * armed_messages app
 
 -- What follows a spawn, by its answer, which is in the first slot of spawns.
 record Answered (b : Body) (p : Scope) (h : Here) (size cost : ℕ) (vars : List ℕ) (rest : ℕ → Rest) : Type 0 where
@@ -155,8 +155,8 @@ goes_on : {b : Body} {p : Scope} {h : Here} {vars : List ℕ} {vs : Values} (q :
     → take (length (values_of q)) (drop b.c.spawns h.slots) ≡ map (value_in vars vs) (values_of q)
     → h.rest ≡ spawn_actions b.z.app (value_in vars vs) q rest vs
     → Answered b p h (length (goes_code b.c p.threshold h.at q)) (goes_steps b.z.app q) vars rest → S b.z h
-goes_on {b = b} {p = p} {h = h} {vars = vars} {vs = vs} (Soon task args place) rest sound begins come is on =
-    let q : Spawn = Soon task args place in
+goes_on {b = b} {p = p} {h = h} {vars = vars} {vs = vs} (Soon task args offset) rest sound begins come is on =
+    let q : Spawn = Soon task args offset in
     let t : Task = sound.sound.0 in
     let one = sound.sound.1 in
     by_law q rest begins on
@@ -168,7 +168,7 @@ goes_on {b = b} {p = p} {h = h} {vars = vars} {vs = vs} (Soon task args place) r
     (record {
       value = value_in vars vs;
       args = args;
-      place = place;
+      offset = offset;
       has = has;
       may = record {
         cells = begins.known.long;
@@ -198,9 +198,9 @@ goes_on {b = b} {p = p} {h = h} {vars = vars} {vs = vs} (Soon task args place) r
       own = gone.own;
       agree = gone.agree;
     })))
-goes_on {b = b} {p = p} {h = h} {vars = vars} {vs = vs} (After word delay task args place) rest sound begins come is
+goes_on {b = b} {p = p} {h = h} {vars = vars} {vs = vs} (After word delay task args offset) rest sound begins come is
     on =
-    let q : Spawn = After word delay task args place in
+    let q : Spawn = After word delay task args offset in
     let s = sound.sound in
     let one = s.1 in
     let timed = ap is_some s.4.1 in
@@ -226,8 +226,8 @@ goes_on {b = b} {p = p} {h = h} {vars = vars} {vs = vs} (After word delay task a
       arguments = ap (λ count. take count (drop (b.c.spawns + 1) h.slots)) (sym one.arguments) ∙ values.1;
       is = is;
     }) (left q rest begins on))
-goes_on {b = b} {p = p} {h = h} {vars = vars} {vs = vs} (Cancel word task handle place) rest sound begins come is on =
-    let q : Spawn = Cancel word task handle place in
+goes_on {b = b} {p = p} {h = h} {vars = vars} {vs = vs} (Cancel word task handle offset) rest sound begins come is on =
+    let q : Spawn = Cancel word task handle offset in
     let s = sound.sound in
     let one = s.1 in
     let timed = ap is_some one.timed.1 in
@@ -248,9 +248,9 @@ goes_on {b = b} {p = p} {h = h} {vars = vars} {vs = vs} (Cancel word task handle
       shown = values.0;
       is = is;
     }) (left q rest begins on))
-goes_on {b = b} {p = p} {h = h} {vars = vars} {vs = vs} (Move word delay task handle place) rest sound begins come is
+goes_on {b = b} {p = p} {h = h} {vars = vars} {vs = vs} (Move word delay task handle offset) rest sound begins come is
     on =
-    let q : Spawn = Move word delay task handle place in
+    let q : Spawn = Move word delay task handle offset in
     let one = sound.sound.1 in
     let timed = ap is_some one.timed.1 in
     let values = first_value 1 b.c.spawns (value_in vars vs delay) h.slots (value_in vars vs handle ∷ [])
@@ -292,28 +292,28 @@ few_given b locked {n = n} {t = t} one =
 module _ {b : Body} {p : Scope} where
   -- the values of a spawn may be evaluated
   values_sound : (q : Spawn) → SoundSpawn b p q → AllByRecursion (Sound b p) (values_of q)
-  values_sound (Soon n args place) s = all_sound b p args s.deep s.sound.1.reached s.placed.1
-  values_sound (After word delay n args place) s =
+  values_sound (Soon n args offset) s = all_sound b p args s.deep s.sound.1.reached s.placed.1
+  values_sound (After word delay n args offset) s =
       all_sound b p (delay ∷ args) (omega (arith, s.deep)) (s.sound.2, s.sound.1.reached) (s.placed.0, s.placed.2)
-  values_sound (Cancel word n handle place) s =
+  values_sound (Cancel word n handle offset) s =
       all_sound b p (handle ∷ []) (omega (arith, s.deep)) (s.sound.1.reached, tt) (s.placed.1, tt)
-  values_sound (Move word delay n handle place) s =
+  values_sound (Move word delay n handle offset) s =
       all_sound b p (delay ∷ handle ∷ []) (omega (arith, s.deep)) (s.sound.2, (s.sound.1.reached, tt))
       (s.placed.0, (s.placed.2, tt))
 
   -- and there is a slot for each, and one more
   values_few : (q : Spawn) → SoundSpawn b p q → b.c.spawns + length (values_of q) + 1 ≤ b.words
-  values_few (Soon n args place) s = omega (arith, s.words, few_given b p.locked s.sound.1)
-  values_few (After word delay n args place) s = omega (arith, s.words, few_given b p.locked s.sound.1)
-  values_few (Cancel word n handle place) s = omega (arith, s.words)
-  values_few (Move word delay n handle place) s = omega (arith, s.words)
+  values_few (Soon n args offset) s = omega (arith, s.words, few_given b p.locked s.sound.1)
+  values_few (After word delay n args offset) s = omega (arith, s.words, few_given b p.locked s.sound.1)
+  values_few (Cancel word n handle offset) s = omega (arith, s.words)
+  values_few (Move word delay n handle offset) s = omega (arith, s.words)
 
 steps_split : (b : Body) (q : Spawn)
     → spawn_steps (cost_measure b.z.app) q ≡ goes_steps b.z.app q + expressions_steps (values_of q)
-steps_split b (Soon n args place) = refl
-steps_split b (After word delay n args place) = omega arith
-steps_split b (Cancel word n handle place) = omega arith
-steps_split b (Move word delay n handle place) = omega arith
+steps_split b (Soon n args offset) = refl
+steps_split b (After word delay n args offset) = omega arith
+steps_split b (Cancel word n handle offset) = omega arith
+steps_split b (Move word delay n handle offset) = omega arith
 
 -- the values of arguments are in the slots from one on, and those of spawns before it are as they were
 record Come (b : Body) (slot : ℕ) (given before slots : List ℕ) : Type 0 where

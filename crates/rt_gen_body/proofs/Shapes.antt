@@ -88,7 +88,7 @@ module _ {app : App} (m : Member) (accepted : IsAccepted app) where
   -- what goes of a spawn behind its values, which are as many as the rule leaves room for
   goes_fine : (threshold at : ℕ) (s : Spawn) → (most : ℕ) × Fine app (goes_code c threshold at s) most
       × (expressions_steps (values_of s) + most ≤ spawn_steps (size_measure app) s)
-  goes_fine threshold at (Soon task args place) = (
+  goes_fine threshold at (Soon task args offset) = (
     SPAWN_COST,
     if_fine (is_some_and is_software (slice_get app.tasks task))
         (λ is.
@@ -104,7 +104,7 @@ module _ {app : App} (m : Member) (accepted : IsAccepted app) where
         }),
     omega arith,
   )
-  goes_fine threshold at (After word delay task args place) = (
+  goes_fine threshold at (After word delay task args offset) = (
     SPAWN_AFTER_COST,
     timed task (λ t irq facts. record {
       named = after_claimed app irq c.spawns threshold task t facts at;
@@ -112,7 +112,7 @@ module _ {app : App} (m : Member) (accepted : IsAccepted app) where
     }),
     omega arith,
   )
-  goes_fine threshold at (Cancel word task handle place) = (
+  goes_fine threshold at (Cancel word task handle offset) = (
     HANDLE_COST,
     timed task
         (λ t irq facts. record {
@@ -122,7 +122,7 @@ module _ {app : App} (m : Member) (accepted : IsAccepted app) where
         }),
     omega arith,
   )
-  goes_fine threshold at (Move word delay task handle place) = (
+  goes_fine threshold at (Move word delay task handle offset) = (
     HANDLE_COST,
     timed task
         (λ t irq facts. record { named = move_claimed app irq c.spawns threshold task t facts at; few = omega arith }),
@@ -189,10 +189,10 @@ module _ {app : App} (m : Member) (accepted : IsAccepted app) where
         → IsStatementPlaced app w.listed w.count w.visible s
         → Fine app (statement_code c threshold lock at s) (statement_steps (size_measure app) s)
     statement_fine (Bind x (Calc e)) w threshold lock at placed = valued e (plain (instr.Copy x c.expressions)) tt
-    statement_fine (Bind x (Now place)) w threshold lock at placed = record { named = tt; few = omega arith }
+    statement_fine (Bind x (Now offset)) w threshold lock at placed = record { named = tt; few = omega arith }
     statement_fine (Bind x (Call s)) w threshold lock at placed =
         both (send_fine threshold at s) (one_line (plain (instr.Copy x c.spawns)) tt)
-    statement_fine (Assign x e place) w threshold lock at placed =
+    statement_fine (Assign x e offset) w threshold lock at placed =
         valued e (plain (store c x c.expressions)) (store_named x c.expressions)
     statement_fine (Branch e first second) w threshold lock at placed =
         fewer
@@ -206,7 +206,7 @@ module _ {app : App} (m : Member) (accepted : IsAccepted app) where
         let back : Fine app (loop_back c x (at + 1)) 3 = record { named = tt; few = omega arith } in
         let all = both (block_fine turn inside threshold lock (at + 4) placed.1) back in
         record { named = all.named; few = omega (arith, all.few) }
-    statement_fine (Locked r inner place) w threshold lock at placed =
+    statement_fine (Locked r inner offset) w threshold lock at placed =
         lock_fine threshold lock at r (λ inside slot a. block_code c inside slot a inner) placed.0
         (λ inside slot a. block_fine inner w inside slot a placed.1)
     statement_fine (Emit e) w threshold lock at placed = valued e (plain (instr.Emit c.expressions)) tt

@@ -18,7 +18,7 @@ use Rattle.rt_app.specs.{declared.app.IrqDecl.IrqDecl, declared.body.Listed.List
 use Rattle.rt_app.specs.Listing.{Listing, is_lock_free, listings, listings_of}
 use Rattle.rt_app.specs.Statements.{is_free, is_init, is_lockable, listing_in}
 use Rattle.rt_app.specs.declared.expr.Atom.TheVariants as atom
-use Rattle.rt_gen_body.proofs.{Owning.OpenAre, Owning.open_as, Places.Facts}
+use Rattle.rt_gen_body.proofs.{Owning.OpenAre, Owning.open_as, Scopes.Facts}
 use Rattle.rt_gen_body.specs.Inside.{Blocks.guard_at, Values.Context, Whole.context_of}
 
 pub guard_is : (app : App) (m : Member) (r : ℕ) → r < length app.shared → guard_at (context_of app m) r

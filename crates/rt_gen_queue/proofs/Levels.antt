@@ -7,7 +7,7 @@ use Rattle.rt_gen_queue.proofs.Vocabulary.{nat_lt, option_map, or_zero, position
 use Rattle.rt_gen_queue.proofs.Vocabulary.{slice_get-get_or, slice_index, suc, sum_by, sum_by-cons, task_of, then_from}
 use Rattle.rt_gen_queue.proofs.Vocabulary.{true, ℕ, ◌+◌, ◌<◌, ◌==◌, ◌^◌, ◌∙◌, ◌∷◌, ◌≡◌, ◌≤◌}
 use Rattle.std.{proofs.lemmas.Bool.cases_Bool, proofs.lemmas.List.Sums.passes_at_first, specs.List.position_or_len}
-use Rattle.rt_lemmas.proofs.{Membership.any_contained, Places.read_at}
+use Rattle.rt_lemmas.proofs.{Membership.any_contained, Indices.read_at}
 use Rattle.rt_ids.proofs.Lists.{is_some-position, position-map}
 use Rattle.rt_ids.specs.declared.ids.Section.TheVariants as section
 use Rattle.rt_app.specs.declared.app.Task as code

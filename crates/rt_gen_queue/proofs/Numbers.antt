@@ -1,4 +1,4 @@
--- Rests of divisions, as a ring's places come round, and sums and differences of 32 bits that do not wrap.
+-- Rests of divisions, as a ring's indices come round, and sums and differences of 32 bits that do not wrap.
 use Rattle.rt_gen_queue.proofs.Vocabulary.{arith, nat_tests, operate, suc, zero, ℕ, ◌%◌, ◌*◌, ◌+◌, ◌-◌, ◌<◌, ◌^◌, ◌∙◌}
 use Rattle.rt_gen_queue.proofs.Vocabulary.{◌≡◌, ◌≢◌, ◌≤◌}
 use Rattle.std.proofs.Math.Nat.{mod-eq-sub-mod, mod-eq_of_lt}
@@ -10,7 +10,7 @@ small_rest n size less = mod-eq_of_lt less
 pub rest_round : (n size : ℕ) → size ≤ n → n < size + size → n % size ≡ n - size
 rest_round n size least less = mod-eq-sub-mod least ∙ mod-eq_of_lt (omega arith)
 
--- from one place on, places that are less than a round apart differ
+-- from one index on, indices that are less than a round apart differ
 pub apart : (first i j size : ℕ) → first < size → i < j → j < size → (first + i) % size ≢ (first + j) % size
 apart first i j size start less within same =
     let low = small_rest (first + i) size in

@@ -10,7 +10,7 @@ use Rattle.rt_gen_queue.proofs.Vocabulary.{ready_is_home, ready_room, refl, same
 use Rattle.rt_gen_queue.proofs.Vocabulary.{slice_index, suc, sym, the_task, zero, ℕ, ◌%◌, ◌*◌, ◌++◌, ◌+◌, ◌-◌, ◌<◌}
 use Rattle.rt_gen_queue.proofs.Vocabulary.{◌==◌, ◌∙◌, ◌∷◌, ◌≡◌, ◌≢◌}
 use Rattle.std.proofs.lemmas.Nat.{mod_below}
-use Rattle.rt_lemmas.proofs.Places.{at_either}
+use Rattle.rt_lemmas.proofs.Indices.{at_either}
 use Rattle.rt_ids.specs.declared.ids.Section.TheVariants as section
 use Rattle.rt_gen_queue.proofs.{Layer.Instructions.Wrote, Numbers.apart, Places.IsPlaceOf}
 

@@ -1,4 +1,4 @@
--- The words that the proofs of the four code crates share, from one place, as a prelude is in Rust: this file declares
+-- The words that the proofs of the four code crates share, from one module, as a prelude is in Rust: this file declares
 -- nothing, and hands on what is declared below. The words of the layer on which code is proved are in Layer. Types that
 -- this crate's source declares cannot be handed on to other crates.
 -- numbers, truth values, options, lists and equations

@@ -68,7 +68,7 @@ module _ (app : App) (who : Runner) where
 
 -- A call site in the code of a job: the code, with the rows of bodies beside it and where the thread goes on; who runs,
 -- where, and at which preemption threshold; the task that is named, and its number; the first slot of the call; the
--- values before it; and what is to be done behind it, by its answer.
+-- values before it; and what is to be done after it, by its answer.
 pub record CallSite : Type 0 where
   pub app : App
   pub code : List Line
@@ -94,13 +94,13 @@ pub record NamesTask (c : CallSite) : Type 0 where
 pub record SpawnAt (c : CallSite) : Type 0 where
   pub value : Expression → ℕ
   pub args : List Expression
-  pub place : ℕ
+  pub offset : ℕ
   pub has : HasCode c.code c.spot.address (spawn_code c.app c.task c.threshold c.slot c.spot.address)
   pub may : MaySpawn c.app c.who c.task c.t c.threshold c.slot c.spot
   pub arguments : take c.t.args (drop c.slot c.spot.slots) ≡ map value args
-  pub is : c.spot.rest ≡ spawn_actions c.app value (Soon c.task args place) c.rest c.vs
+  pub is : c.spot.rest ≡ spawn_actions c.app value (Soon c.task args offset) c.rest c.vs
 
--- The code of a spawn stands for its actions and for any rest, where the code behind it stands for that rest.
+-- The code of a spawn stands for its actions and for any rest, where the code after it stands for that rest.
 abbrev pub SpawnsStand : Type 0
 SpawnsStand =
     (c : CallSite) → NamesTask c → SpawnAt c → (n k : ℕ) → SPAWN_COST + n ≤ k

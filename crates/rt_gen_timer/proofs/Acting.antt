@@ -58,7 +58,7 @@ pub code_part : (code : List Line) (at : ℕ) (lines : List Line) (k n : ℕ) �
     → HasCode code (at + k) (take n (drop k lines))
 code_part code at lines k n has = code_first code n (at + k) (drop k lines) (code_from code k at lines has)
 
--- The section of the timer queue is open, and its cells are there: the counts, and the columns by row or by place.
+-- The section of the timer queue is open, and its cells are there: the counts, and the columns by row or by position.
 pub record Columns (z : Setting) (q : TimerQueue) (held : List Held) (cells : List ℕ) : Type 0 where
   pub opens : is_open held section.Timer ≡ true
   pub long : length cells ≡ length (memory z.app)
@@ -89,8 +89,8 @@ module _ {z : Setting} {q : TimerQueue} {h : Here} (columns : Columns z q h.held
   pub first_open : 0 < q.messages → Opens z h section.Timer (heap_of q)
   first_open less = cell_open (3 + 3 * q.messages) (omega arith) (omega arith)
 
-  pub heap_open : {place : ℕ} → place < q.messages → Opens z h section.Timer (heap_of q + place)
-  heap_open {place = place} less = cell_open (3 + 3 * q.messages + place) (omega arith) (omega arith)
+  pub heap_open : {position : ℕ} → position < q.messages → Opens z h section.Timer (heap_of q + position)
+  heap_open {position = position} less = cell_open (3 + 3 * q.messages + position) (omega arith) (omega arith)
 
   pub instant_open : {row : ℕ} → row < q.messages → Opens z h section.Timer (instants_of q + row)
   instant_open {row = row} less = cell_open (3 + row) (omega arith) (omega arith)

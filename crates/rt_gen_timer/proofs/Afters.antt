@@ -28,7 +28,7 @@ use Rattle.rt_gen_queue.proofs.Owning.{home_as, is_inside, nobody_keeps, reads_i
 use Rattle.rt_gen_queue.proofs.Placing.{code_behind, code_front, fill_long}
 use Rattle.rt_gen_queue.proofs.Storing.{Filled, fill_stands, message_is, own_filled}
 use Rattle.rt_gen_queue.proofs.Words.{Arguments, Scratch as Work, listed, words as nine_words}
-use Rattle.rt_gen_timer.proofs.{Alone.instant_in, Alone.number_in, Alone.timed_row, Comparing.Hand, Comparing.Place}
+use Rattle.rt_gen_timer.proofs.{Alone.instant_in, Alone.number_in, Alone.timed_row, Comparing.Hand, Comparing.LoopEnd}
 use Rattle.rt_gen_timer.proofs.{Comparing.in_hand, Delaying.at_address, Delaying.delayed, Delaying.time_stands}
 use Rattle.rt_gen_timer.proofs.{Lasting.last_alone, Marking.arms, Moves.settled_risen, Opening.MayOpen}
 use Rattle.rt_gen_timer.proofs.{Opening.may_enter, Order.above_less, Rowing.HasRow, Rowing.row_stands, Rowing.with_row}
@@ -38,7 +38,7 @@ use Rattle.rt_gen_timer.proofs.Acting.{Lasting, Runs, code_first, code_part, hea
 use Rattle.rt_gen_timer.proofs.Calling.{AgreeInside, Begins, Call, HasCalled, Inside, IsInside, Left, at_work}
 use Rattle.rt_gen_timer.proofs.Calling.{behind_call, call_of, columns_now, entries, f, leaving_code, leaving_fits}
 use Rattle.rt_gen_timer.proofs.Calling.{on_window, queue_now, settles, stands_called, task_of, w}
-use Rattle.rt_gen_timer.proofs.Hollow.{IsBeside, beside_more, beside_one_place, hollow_filled}
+use Rattle.rt_gen_timer.proofs.Hollow.{IsBeside, beside_more, beside_one_position, hollow_filled}
 use Rattle.rt_gen_timer.proofs.Pushing.{MayPush, are, armings_before, counts, hole_begins, hollow_begins, is_row}
 use Rattle.rt_gen_timer.proofs.Pushing.{longer, room, size, spelled_more}
 use Rattle.rt_gen_timer.proofs.Window.{Scratch, Words, scratch_of, words}
@@ -377,7 +377,7 @@ module _ {c : Call} {cost delay : ℕ} {args : List ℕ} {h : Here} (k : SendsLa
           note_lines = line_with_note (instr.StoreAt (heap_of q) 6 4) (note.Arm task 10) ∷ alarm_lines q 0 (g.at + 39)
 
           -- where the loop has left a hole
-          last_stand : {b : Place} {begin : ℕ} {vs : Values} (v : Words) (s : Scratch)
+          last_stand : {b : LoopEnd} {begin : ℕ} {vs : Values} (v : Words) (s : Scratch)
               → IsRisen hand k.turns.turns (size push) (here begin (g.at + 23) mid (instant_in app mid e) vs)
               (longer push) b → HasBegun begin vs
               → S z (Now (f may) (here b.done (g.at + 38) b.cells (instant_in app mid e) vs)
@@ -394,7 +394,7 @@ module _ {c : Call} {cost delay : ℕ} {args : List ℕ} {h : Here} (k : SendsLa
               (arms q (in_loop v s b.hole) (writes_open (heap_open columns place))
               (record { opens = columns.opens; hands = refl; of_task = (taken.of_task, refl) }) refl
               (λ after us2 one agree2.
-              let beside : IsBeside q mid after = beside_more risen.beside (beside_one_place q place one) in
+              let beside : IsBeside q mid after = beside_more risen.beside (beside_one_position q place one) in
               let agrees : AgreeInside i us2 = λ holder read. agree2 holder read ∙ begins.agree holder read in
               let armed : timer_content (us2 (Guarded section.Timer)) ≡ push.spells.timed =
               ap timer_content (queue_now now agrees) in
@@ -421,7 +421,7 @@ module _ {c : Call} {cost delay : ℕ} {args : List ℕ} {h : Here} (k : SendsLa
                 agree = later;
               })))))))
 
-          -- the loop upwards, from the last place
+          -- the loop upwards, from the last position
           rise_stands : {begin : ℕ} {vs : Values} (v : Words) (s : Scratch) → HasBegun begin vs
               → S z (Now (f may) (here begin (g.at + 23) mid (instant_in app mid e) vs)
               (words (in_loop v s (size push))))

@@ -1,4 +1,4 @@
--- On counts of a list of messages: one that is counted stands at a place, and splits the list there. And on two
+-- On counts of a list of messages: one that is counted stands at an index, and splits the list there. And on two
 -- readings of keys that are one on the messages of a list.
 use Rattle.rt_gen_queue.proofs.Vocabulary.{AllByRecursion, Entry, IsArranged, List, [], above, all_counted, ap, arith}
 use Rattle.rt_gen_queue.proofs.Vocabulary.{at, cond, count, count_more, counted, drop, drop_as_cons, get_or}
@@ -20,7 +20,7 @@ count_around x before behind e =
       count_more x e behind,
     )
 
--- what stands at a place is counted
+-- what stands at an index is counted
 pub counted_at : (xs : List Entry) (j : ℕ) → j < length xs → 0 < count (at xs j) xs
 counted_at xs j within =
     omega (
@@ -43,14 +43,14 @@ counted_both x xs i j first second apart =
       ap (one x) (get_or-set_other xs i j y nil apart),
     )
 
--- a message that is counted splits the list, at a place of it
+-- a message that is counted splits the list, at an index of it
 pub record IsSplit (xs : List Entry) (e : Entry) : Type 0 where
   pub before : List Entry
   pub behind : List Entry
   pub parts : xs ≡ before ++ e ∷ behind
-  pub place : ℕ
-  pub within : place < length xs
-  pub here : at xs place ≡ e
+  pub index : ℕ
+  pub within : index < length xs
+  pub here : at xs index ≡ e
 
 pub splits : (xs : List Entry) (e : Entry) → 0 < count e xs → IsSplit xs e
 splits xs e some =
@@ -62,7 +62,7 @@ splits xs e some =
       behind = drop (one.0 + 1) xs;
       parts = sym (take-append-drop one.0 xs)
           ∙ ap (λ ys. take one.0 xs ++ ys) (drop_as_cons xs one.0 e within (sym (here e)));
-      place = one.0;
+      index = one.0;
       within = within;
       here = here (record { task = 0; place = 0 });
     }

@@ -55,7 +55,7 @@ picks {armed_at = armed_at} {search = search} {rest = rest} s found others = rec
   others = ap rest (split_map armed_at s) ∙ others ∙ sym (map-append armed_at s.before s.behind);
 }
 
--- one message left the heap, from a place of it
+-- one message left the heap, from a position of it
 pub record IsWithout (key : Entry → ℕ) (heap : List Entry) (i : ℕ) (next : List Entry) : Type 0 where
   pub long : length next + 1 ≡ length heap
   pub order : IsHeap (length next) (keys key next)
@@ -82,7 +82,7 @@ without_last {key = key} heap n long order =
       alike = λ x. count_taken x heap n long;
     }
 
--- or the last one filled its place
+-- or the last one filled its position
 pub without_other : {key : Entry → ℕ} (heap : List Entry) {n i : ℕ} {next : List Entry} → length heap ≡ n + 1 → i < n
     → HasSettled n key (at heap n) (take n heap) i next → IsWithout key heap i next
 without_other {key = key} heap {n = n} {i = i} {next = next} long within settled = record {
@@ -118,7 +118,7 @@ module _ {instant arming : Entry → ℕ} {armings : ℕ} {heap entries : List E
       all_from_counted P entries
       (λ x some.
       let s = splits heap x (omega (arith, a.alike x, some)) in
-      subst P s.here (each s.place s.within))
+      subst P s.here (each s.index s.within))
 
   numbers_along : Along (λ x y. arming x < arming y) entries
   numbers_along = along_from (λ x y. arming x < arming y) entries a.rising

@@ -21,7 +21,7 @@ use Rattle.rt_gen_queue.proofs.Layer.{Here, Now, S, calculates, ends, jumps, loa
 use Rattle.rt_gen_queue.proofs.Layer.{spot, stores_at, writes_open}
 use Rattle.rt_gen_queue.proofs.Owning.{free_back, free_spelled, is_inside, nobody_keeps, spelled_put}
 use Rattle.rt_gen_queue.proofs.Returning.{IsGiven, Returned, free_home, frees, given_back, room_left}
-use Rattle.rt_gen_timer.proofs.{Alone.instant_in, Alone.number_in, Comparing.Place, Delaying.at_address}
+use Rattle.rt_gen_timer.proofs.{Alone.instant_in, Alone.number_in, Comparing.LoopEnd, Delaying.at_address}
 use Rattle.rt_gen_timer.proofs.{Marking.cancels, Rowing.taken_off, Settling.reach_enough, Window.Words, Window.words}
 use Rattle.rt_gen_timer.proofs.Acting.{code_first, code_part, run_stands, sooner}
 use Rattle.rt_gen_timer.proofs.Calling.{Begins, Call, HasCalled, Left, at_work, behind_call, call_of, columns_now}
@@ -212,7 +212,7 @@ module _ {c : Call} {handle : ℕ} {h : Here} (k : AsksCancel c handle h) where
       heap = is.now.spells.heap;
       all = length is.now.spells.heap;
       size = length is.now.spells.heap - 1;
-      place = j;
+      position = j;
       rising = length is.now.spells.heap;
       turns = length is.now.spells.heap;
     }
@@ -237,7 +237,7 @@ module _ {c : Call} {handle : ℕ} {h : Here} (k : AsksCancel c handle h) where
       pub count : v.count ≡ length is.now.spells.heap - 1
 
     -- Behind the removal the mark takes it into the hands, and the section closes.
-    takes_out : {b : Place} (v : Words) → AreOut v → IsRemoved removal (here done (h.at + 17) o.cells) b
+    takes_out : {b : LoopEnd} (v : Words) → AreOut v → IsRemoved removal (here done (h.at + 17) o.cells) b
         → S z (Now (f may) (here b.done (h.at + 71) b.cells) (words v))
     takes_out {b = b} v are gone =
         let first : ℕ = capacities_before app task in

@@ -33,7 +33,7 @@ pub record Hand : Type 0 where
   pub hand : Entry
 
 -- where a loop ends: the steps that are done, the position of the hole, the cells, and the messages of the heap
-pub record Place : Type 0 where
+pub record LoopEnd : Type 0 where
   pub done : ℕ
   pub hole : ℕ
   pub cells : List ℕ

@@ -1,6 +1,6 @@
 -- A heap of messages in cells: the column of the heap has the row of each, and the columns by row have the message's
--- instant and the number of its last arming. While one message is in hand its place is a hole, whatever stands there.
--- Only the heap's column is written then, so keys stay as they are.
+-- instant and the number of its last arming. While one message is in hand its position is a hole, whatever stands
+-- there. Only the heap's column is written then, so keys stay as they are.
 use Rattle.rt_gen_queue.proofs.Vocabulary.{Entry, List, None, Option, Some, [], ap, arith, at, cases_eq}
 use Rattle.rt_gen_queue.proofs.Vocabulary.{get_or-set_other, get_or-set_same, get_or-take, inl, inr, length, length-set}
 use Rattle.rt_gen_queue.proofs.Vocabulary.{length-take-le, refl, slice_index, slice_set, subst, sym, take, ℕ, ◌+◌, ◌<◌}
@@ -28,11 +28,11 @@ beside_more first second = record {
 }
 
 -- one position in the heap is written
-pub beside_one_place : (q : TimerQueue) {i v : ℕ} {before after : List ℕ} → i < q.messages
+pub beside_one_position : (q : TimerQueue) {i v : ℕ} {before after : List ℕ} → i < q.messages
     → Wrote (heap_of q + i) v before after → IsBeside q before after
-beside_one_place q within one = record { others = λ c out. one.others c (omega (arith, out)); long = one.long }
+beside_one_position q within one = record { others = λ c out. one.others c (omega (arith, out)); long = one.long }
 
--- what holds of a message put at a place, and of the others at theirs, holds of each place then
+-- what holds of a message put at a position, and of the others at theirs, holds of each position then
 pub set_each : (P : Entry → Type 0) {j : ℕ} (xs : List Entry) (i : ℕ) (e : Entry) → i < length xs → (j ≡ i → P e)
     → (j ≢ i → P (at xs j)) → P (at (slice_set xs i e) j)
 set_each P {j = j} xs i e within here there =
@@ -98,7 +98,7 @@ module _ {q : TimerQueue} {row instant arming : Entry → ℕ} where
         → IsHollow q row instant arming n after (with_moved xs i j) j
     hollow_moved {j = j} hollow there apart one =
         let beside : IsBeside q cells after =
-        beside_one_place q (omega (arith, hollow.within, hollow.room)) one in
+        beside_one_position q (omega (arith, hollow.within, hollow.room)) one in
         record {
           room = hollow.room;
           long = length-set xs i (at xs j) ∙ hollow.long;
@@ -142,7 +142,7 @@ module _ {q : TimerQueue} {row instant arming : Entry → ℕ} {n : ℕ} {xs : L
         kept = λ j less. subst (IsKept q row instant arming cells) (same j less) (whole.kept j (omega arith));
       }
 
-  -- or it comes into the hand, and a place of the others is the hole
+  -- or it comes into the hand, and a position of the others is the hole
   pub whole_taken : {i : ℕ} {cells : List ℕ} → i < n → IsWhole q row instant arming (n + 1) cells xs
       → IsHollow q row instant arming n cells (take n xs) i
   whole_taken within whole =
@@ -160,7 +160,7 @@ module _ {q : TimerQueue} {row instant arming : Entry → ℕ} {n : ℕ} {xs : L
       → IsKept q row instant arming cells e → Wrote (heap_of q + i) (row e) cells after
       → IsWhole q row instant arming n after (slice_set xs i e)
   whole_filled {i = i} {cells = cells} {after = after} e hollow kept one =
-      let beside = beside_one_place q (omega (arith, hollow.within, hollow.room)) one in
+      let beside = beside_one_position q (omega (arith, hollow.within, hollow.room)) one in
       record {
         room = hollow.room;
         long = length-set xs i e ∙ hollow.long;

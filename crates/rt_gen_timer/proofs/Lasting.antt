@@ -76,7 +76,7 @@ module _ {app : App} {others : List Entry} {e : Entry} (are : AreOthers app othe
         let own = own_row in
         row.others (heap_at app + j) (inr (omega arith)) (omega arith) (omega arith) (omega arith)
 
-    -- where the loops begin, on a list that is the heap of before but for a place
+    -- where the loops begin, on a list that is the heap of before but for a position
     pub hollow_last : {size n i : ℕ} {heap xs : List Entry}
         → IsWhole (queue_of app) (armed_place app) (instant_in app before) (number_in app before) size before heap
         → (n ≤ armed_messages app) × (length xs ≡ n) × (i < n)

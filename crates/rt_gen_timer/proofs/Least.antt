@@ -1,4 +1,4 @@
--- Of a list of armed messages: the least one, and the one of a handle, by the places of the list.
+-- Of a list of armed messages: the least one, and the one of a handle, by the indices of the list.
 use Rattle.rt_gen_queue.proofs.Vocabulary.{AllByRecursion, Armed, Bool, IfSome, List, None, Option, Some, []}
 use Rattle.rt_gen_queue.proofs.Vocabulary.{all_weaker, ap, arith, message_of_handle, cond, eq-eqb, false, find, least}
 use Rattle.rt_gen_queue.proofs.Vocabulary.{least_instant, min, ne_eqb, not, refl, suc, true, without_handle}

@@ -26,7 +26,7 @@ module _ {app : App} {before after : List ℕ} (mono : IsSome app.mono) (kept : 
         | inr past ↦ kept.cells c (omega (arith, past)) (inr (omega (arith, past)))
       ]
 
-  -- A message left the heap from a place of it: the cells spell the others.
+  -- A message left the heap from a position of it: the cells spell the others.
   pub timer_left : {entries : List Entry} {content : Content} (s : SpellsTimer app (slice_index before) entries content)
       → {i n : ℕ} {next : List Entry} {search : List Armed → Option Armed} {rest : List Armed → List Armed}
       (picked : IsPicked (armed_in app before) entries (at s.heap i) search rest)

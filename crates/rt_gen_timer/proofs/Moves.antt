@@ -1,5 +1,5 @@
--- Where one message of a heap is in hand, and its place is a hole: messages move to the hole, the hole goes up or down,
--- and with the one in hand at the hole each message is counted as before.
+-- Where one message of a heap is in hand, and its position is a hole: messages move to the hole, the hole goes up or
+-- down, and with the one in hand at the hole each message is counted as before.
 use Rattle.rt_gen_queue.proofs.Vocabulary.{Entry, IsHeap, List, [], above, ap, arith, at, count, get_or-set_other}
 use Rattle.rt_gen_queue.proofs.Vocabulary.{get_or-set_same, get_or-take, get_or_append_left, keys, length, length-set}
 use Rattle.rt_gen_queue.proofs.Vocabulary.{length-take-le, length_push, one, refl, slice_set, sym, take, ℕ, ◌++◌, ◌+◌}
@@ -8,7 +8,7 @@ use Rattle.std.proofs.lemmas.List.Sums.{sum_by-set}
 use Rattle.rt_gen_timer.proofs.Order.{IsHeapBeside, IsLesser, IsNoGreater, IsNoLess, IsPut, beside_one, closed}
 use Rattle.rt_gen_timer.proofs.Order.{risen_no_greater, rises, sinks, sunk_no_less}
 
--- A message moves from a place to another, and leaves a hole: what stands there after that is not looked at.
+-- A message moves from a position to another, and leaves a hole: what stands there after that is not looked at.
 abbrev pub with_moved : List Entry → ℕ → ℕ → List Entry
 with_moved xs i j = slice_set xs i (at xs j)
 
@@ -31,7 +31,7 @@ moved_alike xs i j e x here there apart =
     )
 
 module _ (n : ℕ) (key : Entry → ℕ) where
-  -- n messages, of which the one at a place is not looked at, and a heap beside that place
+  -- n messages, of which the one at a position is not looked at, and a heap beside that position
   pub record HasHole (xs : List Entry) (i : ℕ) : Type 0 where
     pub long : length xs ≡ n
     pub within : i < n
@@ -86,7 +86,7 @@ module _ {n : ℕ} {key : Entry → ℕ} where
     beside = sinks hole.beside lesser (put (at xs c) hole);
   }
 
-  -- where the loop upwards begins: one place more, behind the others, whose keys are those of before
+  -- where the loop upwards begins: one position more, behind the others, whose keys are those of before
   pub hole_behind : (before : Entry → ℕ) (heap : List Entry) (e : Entry) → n ≡ length heap + 1
       → IsHeap (length heap) (keys before heap)
       → ((j : ℕ) → j < length heap → key (at heap j) ≡ before (at heap j))
@@ -102,7 +102,7 @@ module _ {n : ℕ} {key : Entry → ℕ} where
         )));
   }
 
-  -- where both loops begin: one place less, and a hole at another
+  -- where both loops begin: one position less, and a hole at another
   pub hole_left : (heap : List Entry) {i : ℕ} → length heap ≡ n + 1 → i < n → IsHeap (length heap) (keys key heap)
       → HasHole n key (take n heap) i
   hole_left heap long within order = record {
@@ -112,7 +112,7 @@ module _ {n : ℕ} {key : Entry → ℕ} where
         (λ j less apart. (omega arith, ap key (get_or-take n heap j (record { task = 0; place = 0 }) less)));
   }
 
-  -- or another key at one place
+  -- or another key at one position
   pub hole_rekeyed : (before : Entry → ℕ) {heap : List Entry} {i : ℕ} → n ≡ length heap → i < n
       → IsHeap (length heap) (keys before heap)
       → ((j : ℕ) → j < length heap → j ≢ i → key (at heap j) ≡ before (at heap j)) → HasHole n key heap i
@@ -123,7 +123,7 @@ module _ {n : ℕ} {key : Entry → ℕ} where
   }
 
   module _ {e : Entry} {xs : List Entry} {i : ℕ} where
-    -- the loop upwards ends: at the first place, or below one that is no greater
+    -- the loop upwards ends: at the first position, or below one that is no greater
     pub rise_ends : HasHole n key xs i → IsNoLess i (keys key xs) (key e) → HasRisen n key e xs i xs i
     rise_ends hole no_less =
         record { hole = hole; alike = λ x. refl; no_less = no_less; no_greater = λ before. before }

@@ -12,13 +12,13 @@ use Rattle.rt_code.specs.declared.instr.Instr.TheVariants as instr
 use Rattle.rt_code.specs.declared.instr.Note.TheVariants as note
 use Rattle.rt_gen_queue.proofs.Layer.{Here, Now, S, copies, ends, jumps, moved, sets, writes_open}
 use Rattle.rt_gen_queue.proofs.Numbers.{steps_and}
-use Rattle.rt_gen_timer.proofs.{Alone.instant_in, Alone.number_in, Comparing.Hand, Comparing.Place, Lasting.last_alone}
+use Rattle.rt_gen_timer.proofs.{Alone.instant_in, Alone.number_in, Comparing.Hand, Comparing.LoopEnd, Lasting.last_alone}
 use Rattle.rt_gen_timer.proofs.{Marking.moves, Sifting.sinking, Spelled.few_armings, Spelled.row_of}
 use Rattle.rt_gen_timer.proofs.Acting.{code_first, code_part, heap_open, run_stands, sooner}
 use Rattle.rt_gen_timer.proofs.Calling.{AgreeInside, Begins, Call, at_work, call_of, columns_now, entries, f}
 use Rattle.rt_gen_timer.proofs.Calling.{leaving_code, leaving_fits, on_window, settles, stands_called, task_of}
 use Rattle.rt_gen_timer.proofs.Delaying.{at_address, delayed, time_stands}
-use Rattle.rt_gen_timer.proofs.Hollow.{IsBeside, beside_more, beside_one_place, hollow_filled}
+use Rattle.rt_gen_timer.proofs.Hollow.{IsBeside, beside_more, beside_one_position, hollow_filled}
 use Rattle.rt_gen_timer.proofs.Postponing.{IsAgain, MayMove, again_hole, again_hollow, again_stands, are, is_row}
 use Rattle.rt_gen_timer.proofs.Postponing.{last_long, spelled_moved}
 use Rattle.rt_gen_timer.proofs.Seeking.{IsSeen, MaySeek, Taken, runs_seen, seeks, seen, seen_words}
@@ -137,7 +137,7 @@ module _ {c : Call} {delay handle : ℕ} {h : Here} (k : AsksMove c delay handle
       at_loops begin us = here begin (h.at + 17 + 12) mid (moves_then (instant_in app mid e)) us
 
       -- the note, the alarm, the close and the answer
-      last_stand : {b : Place} {begin : ℕ} {us : Values} (v : Words) (s : Scratch)
+      last_stand : {b : LoopEnd} {begin : ℕ} {us : Values} (v : Words) (s : Scratch)
           → IsSettled hand size size j (at_loops begin us) is.now.spells.heap b → HasBegun v begin us
           → S z (Now (f may) (here b.done (h.at + 75) b.cells (moves_then (instant_in app mid e)) us)
           (words (left_words v s b.hole)))
@@ -153,7 +153,7 @@ module _ {c : Call} {delay handle : ℕ} {h : Here} (k : AsksMove c delay handle
           (moves q (left_words v s b.hole) begins.shown (writes_open (heap_open columns room))
           (record { opens = columns.opens; stands = is.found.parts; of_task = is.of_task }) refl
           (λ left us2 one agree2.
-          let beside : IsBeside q mid left = beside_more settled.beside (beside_one_place q room one) in
+          let beside : IsBeside q mid left = beside_more settled.beside (beside_one_position q room one) in
           at_address (h.at + 76) (omega arith)
           (settles is.now (with_moved task handle instant) (left_words v s b.hole)
           (record {

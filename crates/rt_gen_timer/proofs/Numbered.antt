@@ -15,7 +15,7 @@ pub all_around : {X : Type 0} (P : X → Type 0) (before behind : List X) (x : X
 all_around P before behind x here all =
     all_append P before (x ∷ behind) (all_front P before behind all) (here, all_behind P before behind all)
 
--- what holds at each place, holds of all
+-- what holds at each index, holds of all
 all_from_slots : {X : Type 0} (P : X → Type 0) (xs : List X)
     → ((i : ℕ) (x : X) → slice_get xs i ≡ Some x → P x) → AllByRecursion P xs
 all_from_slots P [] each = tt
@@ -26,23 +26,23 @@ module _ {X : Type 0} (R : X → X → Type 0) where
   Along [] = Unit {0}
   Along (x ∷ xs) = AllByRecursion (R x) xs × Along xs
 
-  -- the same by places
-  abbrev pub ByPlaces : List X → Type 0
-  ByPlaces xs = (i j : ℕ) (a b : X) → slice_get xs i ≡ Some a → slice_get xs j ≡ Some b → i < j → R a b
+  -- the same by indices
+  abbrev pub ByIndices : List X → Type 0
+  ByIndices xs = (i j : ℕ) (a b : X) → slice_get xs i ≡ Some a → slice_get xs j ≡ Some b → i < j → R a b
 
-  pub along_from : (xs : List X) → ByPlaces xs → Along xs
+  pub along_from : (xs : List X) → ByIndices xs → Along xs
   along_from [] each = tt
   along_from (x ∷ xs) each = (
     all_from_slots (R x) xs (λ j y at. each 0 (suc j) x y refl at (omega arith)),
     along_from xs (λ i j a b first second less. each (suc i) (suc j) a b first second (omega arith)),
   )
 
-  pub along_at : (xs : List X) → Along xs → ByPlaces xs
+  pub along_at : (xs : List X) → Along xs → ByIndices xs
   along_at [] along = λ i j a b first second less. absurd (none-some a first)
   along_at (x ∷ xs) along = λ i j a b first second less. by (along_at xs along.1) i j first second less
     where
       -- the one in front is the first, or both are behind it
-      by : ByPlaces xs → (i j : ℕ) {a b : X} → slice_get (x ∷ xs) i ≡ Some a → slice_get (x ∷ xs) j ≡ Some b → i < j
+      by : ByIndices xs → (i j : ℕ) {a b : X} → slice_get (x ∷ xs) i ≡ Some a → slice_get (x ∷ xs) j ≡ Some b → i < j
           → R a b
       by behind zero (suc j) {a = a} {b = b} first second less =
           subst (λ y. R y b) (same_Some x a first) (all_at (R x) xs j b along.0 second)

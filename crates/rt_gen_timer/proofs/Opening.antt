@@ -4,7 +4,7 @@ use Rattle.rt_gen_queue.proofs.Vocabulary.{AllByRecursion, App, Held, HoldsOff, 
 use Rattle.rt_gen_queue.proofs.Vocabulary.{Mono, None, Option, Some, accepted_are_sound, ap, arith, false, irq_number}
 use Rattle.rt_gen_queue.proofs.Vocabulary.{is_open, length, memory, option_map, or_zero, refl, saved_slots, storage}
 use Rattle.rt_gen_queue.proofs.Vocabulary.{sym, then_from, ℕ, ◌<◌, ◌∙◌, ◌∷◌, ◌≡◌}
-use Rattle.rt_lemmas.proofs.Places.{there_is}
+use Rattle.rt_lemmas.proofs.Indices.{there_is}
 use Rattle.rt_ids.specs.declared.ids.Section.TheVariants as section
 use Rattle.rt_app.{proofs.LaidTimer.timer_is_home, specs.Accepted.IsMonoPlaced}
 use Rattle.rt_gen_queue.proofs.{Entering.MayEnter, Entering.opened, Layer.Here, Layer.Setting, Owning.is_inside}

@@ -1,35 +1,35 @@
--- On the order of a heap while one message of it is in hand (Williams, Algorithm 232: Heapsort, 1964): its place is a
--- hole, whose key is not looked at. The key above the hole, or the lesser one below it, goes to the hole, until the one
--- in hand may fill it.
+-- On the order of a heap while one message of it is in hand (Williams, Algorithm 232: Heapsort, 1964): its position is
+-- a hole, whose key is not looked at. The key above the hole, or the lesser one below it, goes to the hole, until the
+-- one in hand may fill it.
 use Rattle.rt_gen_queue.proofs.Vocabulary.{IsHeap, above, arith, nat_lt, nat_tests, number_of, suc, zero, ℕ, ◌+◌, ◌<◌}
 use Rattle.rt_gen_queue.proofs.Vocabulary.{◌≡◌, ◌≢◌, ◌≤◌}
 
--- each place but the first lies below one that comes earlier
+-- each position but the first lies below one that comes earlier
 pub above_less : (j : ℕ) → 0 < j → above j < j
 above_less j some = omega arith
 
--- A heap of n places whatever the key at the place i: the edges that touch i are not asked, and the keys below i are no
--- less than the one above it.
+-- A heap of n positions whatever the key at the position i: the edges that touch i are not asked, and the keys below i
+-- are no less than the one above it.
 pub record IsHeapBeside (n i : ℕ) (key : ℕ → ℕ) : Type 0 where
   pub others : (j : ℕ) → 0 < j → j < n → j ≢ i → above j ≢ i → key (above j) ≤ key j
   pub across : (j : ℕ) → 0 < i → 0 < j → j < n → above j ≡ i → key (above i) ≤ key j
 
--- a key for a place is no greater than those below the place
+-- a key for a position is no greater than those below the position
 abbrev pub IsNoGreater : ℕ → ℕ → (ℕ → ℕ) → ℕ → Type 0
 IsNoGreater n i key k = (j : ℕ) → 0 < j → j < n → above j ≡ i → k ≤ key j
 
--- a key for a place is no less than the one above the place
+-- a key for a position is no less than the one above the position
 abbrev pub IsNoLess : ℕ → (ℕ → ℕ) → ℕ → Type 0
 IsNoLess i key k = 0 < i → key (above i) ≤ k
 
--- of the two places below a place one whose key is no greater than the other's
+-- of the two positions below a position one whose key is no greater than the other's
 pub record IsLesser (n i : ℕ) (key : ℕ → ℕ) (c : ℕ) : Type 0 where
   pub some : 0 < c
   pub within : c < n
   pub under : above c ≡ i
   pub least : IsNoGreater n i key (key c)
 
--- the keys with this one at a place
+-- the keys with this one at a position
 pub record IsPut (i k : ℕ) (key other : ℕ → ℕ) : Type 0 where
   pub here : other i ≡ k
   pub elsewhere : (j : ℕ) → j ≢ i → other j ≡ key j
@@ -79,8 +79,8 @@ module _ {n i : ℕ} {key other : ℕ → ℕ} (h : IsHeapBeside n i key) where
   closed no_greater no_less put j positive less =
       grind (arith, put.here, put.elsewhere j, put.elsewhere (above j), h.others j, no_greater j, no_less)
 
--- Where the loops begin: of a heap of m places each of n places but one is a place, with its key. One place more, or
--- one less, or another key at one.
+-- Where the loops begin: of a heap of m positions each of n positions but one is a position, with its key. One position
+-- more, or one less, or another key at one.
 pub beside_one : {m n i : ℕ} {key other : ℕ → ℕ} → IsHeap m key
     → ((j : ℕ) → j < n → j ≢ i → (j < m) × (other j ≡ key j)) → IsHeapBeside n i other
 beside_one {i = i} order same = record {
@@ -88,7 +88,8 @@ beside_one {i = i} order same = record {
   across = λ j inner positive less under. grind (arith, order j, order i, same j, same (above i));
 }
 
--- Of the two places below a place the lesser is chosen, where the left one stands for a right one that is not there.
+-- Of the two positions below a position the lesser is chosen, where the left one stands for a right one that is not
+-- there.
 pub lesser_is : {n i left right c : ℕ} {key : ℕ → ℕ} → left ≡ i + i + 1 → left < n
     → right ≡ left + number_of (nat_lt (left + 1) n) → c ≡ left + number_of (nat_lt (key right) (key left))
     → IsLesser n i key c
@@ -103,7 +104,7 @@ lesser_is is within right_is c_is = record {
 pub no_greater_than_lesser : {n i c : ℕ} {key : ℕ → ℕ} {k : ℕ} → IsLesser n i key c → k ≤ key c → IsNoGreater n i key k
 no_greater_than_lesser lesser most j positive less under = omega (arith, lesser.least j positive less under)
 
--- below the last place there is none
+-- below the last position there is none
 pub none_below : {n i k : ℕ} (key : ℕ → ℕ) → n ≤ i + i + 1 → IsNoGreater n i key k
 none_below key past j positive less under = absurd (omega arith)
 

@@ -99,7 +99,7 @@ module _ {app : App} {entries : List Entry} {e : Entry} {content : Content} {m :
         absurd (omega (arith, some, ap (λ y. count y entries) same, may.once e, count_more e e entries, one_itself e)));
   }
 
-  -- the heap with one place more, whose message is in hand
+  -- the heap with one position more, whose message is in hand
   abbrev pub longer : List Entry
   longer = may.spells.heap ++ e ∷ []
 

@@ -1,5 +1,5 @@
 -- The lines by which a message becomes a row of the columns: the counts of armings and of handles go up by one, the
--- heap has one place more, and the message's instant, its number and its handle are stored at its row. No other cell
+-- heap has one position more, and the message's instant, its number and its handle are stored at its row. No other cell
 -- is written.
 use Rattle.rt_gen_queue.proofs.Vocabulary.{Line, List, ap, arith, length, mod-mul-add, operate, refl, slice_index, ℕ}
 use Rattle.rt_gen_queue.proofs.Vocabulary.{◌%◌, ◌*◌, ◌++◌, ◌+◌, ◌-◌, ◌<◌, ◌^◌, ◌∙◌, ◌≡◌, ◌≢◌, ◌≤◌, ◌⊎◌}

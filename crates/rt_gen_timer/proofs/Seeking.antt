@@ -1,5 +1,5 @@
 -- A call by a handle: the section of the timer queue opens, and the message of the task that has the handle is looked
--- for in the heap, from its last place down to the first; or none has it, the section closes, and the answer is 1.
+-- for in the heap, from its last position down to the first; or none has it, the section closes, and the answer is 1.
 use Rattle.rt_gen_queue.proofs.Vocabulary.{Armed, Bool, Doing, Enters, Entry, Guarded, HasCode}
 use Rattle.rt_gen_queue.proofs.Vocabulary.{Holder, Leaves, Line, List, Option, Rest, Some, Values, [], act, ap, arith}
 use Rattle.rt_gen_queue.proofs.Vocabulary.{message_of_handle, arming_of_entry, armed_messages, armed_place, at}
@@ -92,7 +92,7 @@ turn_lines g at =
 
 module _ {z : Setting} {f : Slots} {g : Search} {h : Here} {w : Words} (may : MaySearch z f g h w) where
   -- what is told behind the lines, with the slots of the hole, of the row and two that are worked in written: their
-  -- end, with the place and the row, or the address for none
+  -- end, with the position and the row, or the address for none
   abbrev Finds : Type 0
   Finds =
       (done j x r : ℕ) → IsOwned g j → done ≤ h.done + (6 * length g.heap + 6)
@@ -104,7 +104,7 @@ module _ {z : Setting} {f : Slots} {g : Search} {h : Here} {w : Words} (may : Ma
       (done j y x r : ℕ) → IsNone g → done ≤ h.done + (6 * length g.heap + 6)
       → S z (Now f (record h { done = done; at = g.missing }) (words (record (looking w j y x) { right = r })))
 
-  -- The loop with the hole at a place: no message from there on has the handle.
+  -- The loop with the hole at a position: no message from there on has the handle.
   abbrev Searches : ℕ → Type 0
   Searches i =
       (done p o : ℕ) → i ≤ length g.heap → done + 6 * i ≤ h.done + 6 * length g.heap
@@ -140,14 +140,14 @@ module _ {z : Setting} {f : Slots} {g : Search} {h : Here} {w : Words} (may : Ma
               jumps_off off (none (steps_and 6 done) j p both below (inr (j, inside, is, out)) (omega arith))
         ]))))))
 
-    -- no place is left
+    -- no position is left
     none_left : Searches 0
     none_left done p o inside soon others =
         run_stands (record h { done = done }) (looking w 0 p o) (take 1 (turn_lines g h.at)) may.runs (omega arith) refl
         (may.code.0, tt)
         (jumps_off refl (none (suc done) 0 p o w.right (inl (λ j less. others j (omega arith) less)) (omega arith)))
 
-    -- One turn: the place before the hole has the handle, or the others are searched.
+    -- One turn: the position before the hole has the handle, or the others are searched.
     turn : {i : ℕ} → Searches i → Searches (suc i)
     turn {i = i} again done p o inside soon others =
         let r : ℕ = g.row (at g.heap i) in
@@ -177,12 +177,12 @@ module _ {z : Setting} {f : Slots} {g : Search} {h : Here} {w : Words} (may : Ma
               ])))
         ]))))))
 
-    -- the loop, by the places that are left
+    -- the loop, by the positions that are left
     searches : (i : ℕ) → Searches i
     searches zero = none_left
     searches (suc i) = turn (searches i)
 
-    -- The message of a handle is looked for from behind the last place on, and whether it is the task's.
+    -- The message of a handle is looked for from behind the last position on, and whether it is the task's.
     finds_stand : S z (Now f h (words (looking w (length g.heap) w.place w.other)))
     finds_stand =
         searches (length g.heap) h.done w.place w.other (omega arith) (omega arith)

@@ -5,14 +5,14 @@ use Rattle.rt_gen_queue.proofs.Vocabulary.{◌^◌, ◌≡◌, ◌≤◌}
 use Rattle.std.proofs.Math.Nat.{pow-succ'}
 use Rattle.rt_gen_queue.proofs.Layer.{Here, Now, S, Setting, moved}
 use Rattle.rt_gen_timer.proofs.{Acting.Columns, Acting.Runs, Acting.columns_on, Acting.sooner, Comparing.Hand}
-use Rattle.rt_gen_timer.proofs.{Comparing.IsOpen, Comparing.Place, Comparing.key, Hollow.IsBeside, Hollow.beside_more}
+use Rattle.rt_gen_timer.proofs.{Comparing.IsOpen, Comparing.LoopEnd, Comparing.key, Hollow.IsBeside, Hollow.beside_more}
 use Rattle.rt_gen_timer.proofs.{Moves.HasHole, Moves.HasSettled, Moves.settled_both, Window.Scratch, Window.Slots}
 use Rattle.rt_gen_timer.proofs.{Window.Words, Window.words}
 use Rattle.rt_gen_timer.proofs.Sifting.{IsReady, MaySink, reach_more, rise_reach, rises_stand, sink_reach, sinking}
 use Rattle.rt_gen_timer.proofs.Sifting.{sinks_stand}
 use Rattle.rt_gen_timer.specs.TimerLines.{rise_lines, sink_lines}
 
--- As many turns lead up to the first place as lead down from it; and how far, as a power of 2.
+-- As many turns lead up to the first position as lead down from it; and how far, as a power of 2.
 sink_doubles : (turns i : ℕ) → sink_reach turns (i + i + 1) ≡ sink_reach turns i + sink_reach turns i + 1
 sink_doubles zero i = omega arith
 sink_doubles (suc turns) i = sink_doubles turns (i + i + 1)
@@ -46,7 +46,7 @@ pub record MaySettle (z : Setting) (f : Slots) (k : Hand) (up down i : ℕ) (h :
   pub hole : HasHole k.size (key k) xs i
 
 -- what is behind them
-pub record IsSettled (k : Hand) (up down i : ℕ) (h : Here) (xs : List Entry) (b : Place) : Type 0 where
+pub record IsSettled (k : Hand) (up down i : ℕ) (h : Here) (xs : List Entry) (b : LoopEnd) : Type 0 where
   pub within : b.done ≤ h.done + (15 * up + 31 * down + 40)
   pub beside : IsBeside k.queue h.cells b.cells
   pub hollow : IsOpen k b.cells b.heap b.hole
@@ -54,7 +54,7 @@ pub record IsSettled (k : Hand) (up down i : ℕ) (h : Here) (xs : List Entry) (
 
 pub settles_stand : {z : Setting} {f : Slots} {k : Hand} {up down i : ℕ} {h : Here} {xs : List Entry} (w : Words)
     (s : Scratch) → MaySettle z f k up down i h xs
-    → ((b : Place) (t : Scratch) → IsSettled k up down i h xs b
+    → ((b : LoopEnd) (t : Scratch) → IsSettled k up down i h xs b
     → S z (Now f (record h { done = b.done; at = h.at + 46; cells = b.cells }) (words (sinking k w t b.hole))))
     → S z (Now f h (words (sinking k w s i)))
 settles_stand {z = z} {f = f} {k = k} {up = up} {down = down} {i = i} {h = h} {xs = xs} w s may on =

@@ -1,6 +1,6 @@
 -- The loops in which the message in hand goes up or down from the hole: up within 15 steps a turn, each of which at
--- least halves the place, and down within 31, each of which at least doubles it. What is behind a loop is told by what
--- holds there.
+-- least halves the position, and down within 31, each of which at least doubles it. What is behind a loop is told by
+-- what holds there.
 use Rattle.rt_gen_queue.proofs.Vocabulary.{Entry, HasCode, Line, List, [], above, ap, arith, at, cases_lt, drop, inl}
 use Rattle.rt_gen_queue.proofs.Vocabulary.{inr, keys, le-ltb, lt-ltb, nat_lt, number_of, operate, plain, refl, suc, sym}
 use Rattle.rt_gen_queue.proofs.Vocabulary.{take, zero, ℕ, ◌*◌, ◌++◌, ◌+◌, ◌-◌, ◌<◌, ◌^◌, ◌∙◌, ◌∷◌, ◌≡◌, ◌≢◌, ◌≤◌}
@@ -10,8 +10,8 @@ use Rattle.rt_gen_queue.proofs.Layer.{Here, Now, S, Setting, Straight, Wrote, ah
 use Rattle.rt_gen_queue.proofs.Layer.{jumps_off, stays, stores_at, writes_open}
 use Rattle.rt_gen_queue.proofs.Numbers.{added, one_less, steps_and}
 use Rattle.rt_gen_timer.proofs.Acting.{Columns, Runs, code_first, columns_on, heap_open, run_stands, sooner}
-use Rattle.rt_gen_timer.proofs.Comparing.{Hand, IsOpen, Place, compares, in_hand, key, key_from, less_of, loads_key}
-use Rattle.rt_gen_timer.proofs.Hollow.{IsBeside, IsKept, beside_more, beside_none, beside_one_place, hollow_moved}
+use Rattle.rt_gen_timer.proofs.Comparing.{Hand, IsOpen, LoopEnd, compares, in_hand, key, key_from, less_of, loads_key}
+use Rattle.rt_gen_timer.proofs.Hollow.{IsBeside, IsKept, beside_more, beside_none, beside_one_position, hollow_moved}
 use Rattle.rt_gen_timer.proofs.Moves.{HasHole, HasRisen, HasSunk, rise_ends, rise_hole, rise_turn, sink_ends, sink_hole}
 use Rattle.rt_gen_timer.proofs.Moves.{sink_turn, with_moved}
 use Rattle.rt_gen_timer.proofs.Order.{IsLesser, IsNoGreater, IsNoLess, above_less, lesser_is, no_greater_than_lesser}
@@ -20,7 +20,7 @@ use Rattle.rt_gen_timer.proofs.Window.{Scratch, Slots, Words, words}
 use Rattle.rt_gen_timer.specs.TimerLines.{copy, heap_of, jump_zero, rise_lines, sink_lines, store_at}
 
 module _ {z : Setting} {f : Slots} (k : Hand) {h : Here} {xs : List Entry} {i : ℕ} where
-  -- The last lines of a turn, behind a comparison of two keys: where the first is less the message at another place
+  -- The last lines of a turn, behind a comparison of two keys: where the first is less the message at another position
   -- moves to the hole, which is there then, and a turn more begins; else the loop ends.
   settles : {j a b again to : ℕ} (w : Words) (s : Scratch) → Columns z k.queue h.held h.cells → IsOpen k h.cells xs i
       → let t : Scratch = record s { other = j; row = k.row (at xs j); less = number_of (nat_lt a b) } in
@@ -41,12 +41,12 @@ module _ {z : Setting} {f : Slots} (k : Hand) {h : Here} {xs : List Entry} {i : 
         | inr most ↦ jumps_off (ap number_of (le-ltb a b most)) (over most)
       ]
 
--- a place that so many turns lead to the first is below this, less 1
+-- a position that so many turns lead to the first is below this, less 1
 abbrev pub rise_reach : ℕ → ℕ
 rise_reach zero = 2
 rise_reach (suc turns) = rise_reach turns + rise_reach turns
 
--- one place less
+-- one position less
 less_one : (i : ℕ) → 0 < i → i < 2 ^ 32 → operate op.Sub i 1 ≡ i - 1
 less_one i some small =
     let e : suc (i - 1) ≡ i = omega arith in
@@ -63,8 +63,8 @@ pub record IsReady (z : Setting) (f : Slots) (k : Hand) (turns i : ℕ) (h : Her
   pub hollow : IsOpen k h.cells xs i
   pub hole : HasHole k.size (key k) xs i
 
--- what is behind the loop, with the hole at another place
-pub record IsRisen (k : Hand) (turns i : ℕ) (h : Here) (xs : List Entry) (b : Place) : Type 0 where
+-- what is behind the loop, with the hole at another position
+pub record IsRisen (k : Hand) (turns i : ℕ) (h : Here) (xs : List Entry) (b : LoopEnd) : Type 0 where
   pub within : b.done ≤ h.done + (15 * turns + 12)
   pub beside : IsBeside k.queue h.cells b.cells
   pub hollow : IsOpen k b.cells b.heap b.hole
@@ -73,7 +73,7 @@ pub record IsRisen (k : Hand) (turns i : ℕ) (h : Here) (xs : List Entry) (b : 
 -- what is told behind the loop
 abbrev pub BehindRise : Setting → Slots → Hand → (turns i : ℕ) → Here → List Entry → Words → Type 0
 BehindRise z f k turns i h xs w =
-    (b : Place) (t : Scratch) → IsRisen k turns i h xs b
+    (b : LoopEnd) (t : Scratch) → IsRisen k turns i h xs b
     → S z (Now f (record h { done = b.done; at = h.at + 15; cells = b.cells }) (words (in_hand k w t b.hole)))
 
 abbrev Rises : Setting → Slots → Hand → ℕ → ℕ → Type 0
@@ -113,7 +113,7 @@ module _ {z : Setting} {f : Slots} {k : Hand} {turns i : ℕ} {h : Here} {xs : L
       }
 
   -- what is behind the turns behind is behind this turn too
-  risen_behind : {left : List ℕ} {b : Place} → 0 < i → IsReady z f k (suc turns) i h xs
+  risen_behind : {left : List ℕ} {b : LoopEnd} → 0 < i → IsReady z f k (suc turns) i h xs
       → Wrote (heap_of k.queue + i) (k.row (at xs (above i))) h.cells left
       → key k k.hand ≤ key k (at xs (above i))
       → IsRisen k turns (above i) (record h { done = steps_and 15 h.done; cells = left }) (with_moved xs i (above i)) b
@@ -121,20 +121,20 @@ module _ {z : Setting} {f : Slots} {k : Hand} {turns i : ℕ} {h : Here} {xs : L
   risen_behind some ready one greater behind = record {
     within = omega (arith, behind.within);
     beside = beside_more
-        (beside_one_place k.queue (omega (arith, ready.hollow.within, ready.hollow.room)) one) behind.beside;
+        (beside_one_position k.queue (omega (arith, ready.hollow.within, ready.hollow.room)) one) behind.beside;
     hollow = behind.hollow;
     risen = rise_turn ready.hole some greater behind.risen;
   }
 
 module _ {z : Setting} {f : Slots} {k : Hand} where
-  -- at the first place the loop ends
-  first_place : (turns : ℕ) → Rises z f k turns 0
-  first_place turns h xs w s ready on =
+  -- at the first position the loop ends
+  first_position : (turns : ℕ) → Rises z f k turns 0
+  first_position turns h xs w s ready on =
       run_stands h (in_hand k w s 0) (take 1 (rise_lines k.queue 0 h.at)) ready.runs (omega arith) refl
       (ready.code.0, tt)
       (jumps_off refl (on _ s (rise_over (suc h.done) ready (omega arith) (λ some. absurd (omega (arith, some))))))
 
-  -- One turn below the first place: where the message above is greater it moves down, and the turns behind go on.
+  -- One turn below the first position: where the message above is greater it moves down, and the turns behind go on.
   rises_once : {turns i : ℕ} → 0 < i → Rises z f k turns (above i) → Rises z f k (suc turns) i
   rises_once {turns = turns} {i = i} some again h xs w s ready on =
       let a : ℕ = above i in
@@ -166,7 +166,7 @@ module _ {z : Setting} {f : Slots} {k : Hand} where
 
   -- the loop, by its turns
   rises : (turns i : ℕ) → Rises z f k turns i
-  rises turns zero = first_place turns
+  rises turns zero = first_position turns
   rises zero (suc i) = λ h xs w s ready on. absurd (omega (arith, ready.reach))
   rises (suc turns) (suc i) = rises_once (omega arith) (rises turns (above (suc i)))
 
@@ -174,17 +174,17 @@ module _ {z : Setting} {f : Slots} {k : Hand} where
       → BehindRise z f k turns i h xs w → S z (Now f h (words (in_hand k w s i)))
   rises_stand {turns = turns} {i = i} {h = h} {xs = xs} = rises turns i h xs
 
--- so many turns lead from a place to one that has none below it among this many places
+-- so many turns lead from a position to one that has none below it among this many positions
 abbrev pub sink_reach : ℕ → ℕ → ℕ
 sink_reach zero i = i + i + 1
 sink_reach (suc turns) i = sink_reach turns (i + i + 1)
 
--- a place further on leads as far
+-- a position further on leads as far
 pub reach_more : (turns i j : ℕ) → i ≤ j → sink_reach turns i ≤ sink_reach turns j
 reach_more zero i j less = omega arith
 reach_more (suc turns) i j less = reach_more turns (i + i + 1) (j + j + 1) (omega arith)
 
--- the right place, or the left one where there is no right one, is a place
+-- the right position, or the left one where there is no right one, is a position
 right_within : (left n : ℕ) → left < n → left + number_of (nat_lt (left + 1) n) < n
 right_within left n within =
     elim (cases_lt (left + 1) n) [
@@ -203,8 +203,8 @@ pub record MaySink (z : Setting) (f : Slots) (k : Hand) (turns i : ℕ) (h : Her
   pub hollow : IsOpen k h.cells xs i
   pub hole : HasHole k.size (key k) xs i
 
--- what is behind the loop, with the hole at another place
-pub record IsSunk (k : Hand) (turns i : ℕ) (h : Here) (xs : List Entry) (b : Place) : Type 0 where
+-- what is behind the loop, with the hole at another position
+pub record IsSunk (k : Hand) (turns i : ℕ) (h : Here) (xs : List Entry) (b : LoopEnd) : Type 0 where
   pub within : b.done ≤ h.done + (31 * turns + 28)
   pub beside : IsBeside k.queue h.cells b.cells
   pub hollow : IsOpen k b.cells b.heap b.hole
@@ -217,7 +217,7 @@ sinking k w s i = in_hand k (record w { count = k.size }) s i
 -- what is told behind the loop
 abbrev pub BehindSink : Setting → Slots → Hand → (turns i : ℕ) → Here → List Entry → Words → Type 0
 BehindSink z f k turns i h xs w =
-    (b : Place) (t : Scratch) → IsSunk k turns i h xs b
+    (b : LoopEnd) (t : Scratch) → IsSunk k turns i h xs b
     → S z (Now f (record h { done = b.done; at = h.at + 31; cells = b.cells }) (words (sinking k w t b.hole)))
 
 -- and with two keys loaded, from two positions in the heap
@@ -275,13 +275,13 @@ module _ {z : Setting} {f : Slots} {k : Hand} {turns i : ℕ} {h : Here} {xs : L
         }
 
     -- what is behind the turns behind is behind this turn too
-    sunk_behind : {b : Place} → key k (at xs c) ≤ key k k.hand
+    sunk_behind : {b : LoopEnd} → key k (at xs c) ≤ key k k.hand
         → IsSunk k turns c (record h { done = steps_and 31 h.done; cells = left }) (with_moved xs i c) b
         → IsSunk k (suc turns) i h xs b
     sunk_behind less behind = record {
       within = omega (arith, behind.within);
       beside = beside_more
-          (beside_one_place k.queue (omega (arith, may.hollow.within, may.hollow.room)) one) behind.beside;
+          (beside_one_position k.queue (omega (arith, may.hollow.within, may.hollow.room)) one) behind.beside;
       hollow = behind.hollow;
       sunk = sink_turn may.hole lesser less behind.sunk;
     }
@@ -317,7 +317,7 @@ module _ {z : Setting} {f : Slots} {k : Hand} where
       (may_behind may lesser one) (λ b v behind. on b v (sunk_behind may lesser one (omega arith) behind)))
       (λ most. on _ u (sink_over (steps_and 28 h.done) may (omega arith) (no_greater_than_lesser lesser most)))))
 
-  -- The first lines of a turn: whether there is a place below the hole; 4 lines.
+  -- The first lines of a turn: whether there is a position below the hole; 4 lines.
   looks_below : {turns i : ℕ} {lines : List Line} {h : Here} {xs : List Entry} (w : Words) (s : Scratch)
       → MaySink z f k turns i h xs → BehindSink z f k turns i h xs w
       → (i + i + 1 < k.size → (t : Scratch)
@@ -379,7 +379,7 @@ module _ {z : Setting} {f : Slots} {k : Hand} where
       (sinks_to (again (left + less)) w (record (two_keys k xs t left right) { less = less; equal = g; work = b })
       may on lesser)))))))
 
-  -- below the last places the loop ends
+  -- below the last positions the loop ends
   last_turn : (i : ℕ) → Sinks z f k 0 i
   last_turn i h xs w s may on =
       run_stands h (sinking k w s i) (take 4 (sink_lines k.queue 0 h.at)) may.runs (omega arith) refl

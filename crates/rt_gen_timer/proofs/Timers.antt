@@ -25,7 +25,7 @@ use Rattle.rt_gen_queue.proofs.Layer.{Frame, Here, Now, S, begins, calculates, e
 use Rattle.rt_gen_queue.proofs.Layer.{spot, stays}
 use Rattle.rt_gen_timer.proofs.{Alone.instant_in, Alone.message_same, Alone.number_in, Arranged.IsPicked}
 use Rattle.rt_gen_timer.proofs.{Arranged.length_less, Calling.columns_now, Calling.entries, Calling.settles}
-use Rattle.rt_gen_timer.proofs.{Closing.closing_fit, Closing.closing_lines, Comparing.Place, Delaying.at_address}
+use Rattle.rt_gen_timer.proofs.{Closing.closing_fit, Closing.closing_lines, Comparing.LoopEnd, Delaying.at_address}
 use Rattle.rt_gen_timer.proofs.{Leaving.IsAsBefore, Leaving.alone, Leaving.timer_left, Marking.fires, Opening.may_enter}
 use Rattle.rt_gen_timer.proofs.{Spelled.few_armings, Spelled.place_of, Spelled.spelled_whole, Trying.choice_at}
 use Rattle.rt_gen_timer.proofs.{Trying.tries_stand, Turning.AreSinks, Turning.idle_enough, Turning.sinks_for}
@@ -188,7 +188,7 @@ module _ {k : Handler} (u : Due k) where
     heap = heap;
     all = length heap;
     size = length heap - 1;
-    place = 0;
+    position = 0;
     rising = 0;
     turns = u.sinks.turns;
   }
@@ -209,7 +209,7 @@ module _ {k : Handler} (u : Due k) where
   }
 
   -- behind the removal
-  module _ {b : Place} (gone : IsRemoved removal (here u.d.cells 11 (k.first + 19)) b) where
+  module _ {b : LoopEnd} (gone : IsRemoved removal (here u.d.cells 11 (k.first + 19)) b) where
     before : IsAsBefore k.app u.d.cells b.cells
     before = record { cells = gone.others }
 

@@ -47,17 +47,17 @@ Scratch = Words
 abbrev pub scratch_of : Words → Scratch
 scratch_of w = w
 
--- In a loop: the hole is at a place, and a message with an instant and a number is in hand. All other slots but those
--- that the loops work in stay.
+-- In a loop: the hole is at a position, and a message with an instant and a number is in hand. All other slots but
+-- those that the loops work in stay.
 abbrev pub turning : Words → Scratch → ℕ → ℕ → ℕ → Words
-turning w s place instant arming = record s {
+turning w s position instant arming = record s {
   answer = w.answer;
   first = w.first;
   second = w.second;
   third = w.third;
   hand = w.hand;
   count = w.count;
-  hole = place;
+  hole = position;
   place = w.place;
   mask = w.mask;
   instant = instant;

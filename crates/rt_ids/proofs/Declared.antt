@@ -20,7 +20,7 @@ use Rattle.rt_ids.specs.Lists.{AreDifferent}
 use Rattle.rt_ids.specs.Names.{Names, AreNames, irq_of, task_of, resource_of, with_irq, with_task, with_resource}
 use Rattle.rt_ids.specs.Word.{IsName}
 use Rattle.rt_ids.proofs.Lists.{list_any-map, position-map, find_by_position, is_some-position, is_some-find}
-use Rattle.rt_ids.proofs.Lists.{none_from_is_some, all_push, place_pushed, place_taken}
+use Rattle.rt_ids.proofs.Lists.{none_from_is_some, all_push, index_pushed, index_taken}
 
 -- a name that no test finds stands at no index
 nowhere : (names : List (List ℕ)) (name : List ℕ) → list_any (bytes_eq name) names ≡ false → (i : ℕ) → slice_get names i
@@ -48,12 +48,12 @@ nowhere_found (x ∷ xs) name none = by (nowhere_found xs name (λ i at. none (s
 differ_pushed : (names : List (List ℕ)) (name : List ℕ) → list_any (bytes_eq name) names ≡ false → AreDifferent names
     → AreDifferent (names ++ name ∷ [])
 differ_pushed names name none differ i j x a b =
-    elim (place_pushed names name i x a) [
-      | inl first ↦ elim (place_pushed names name j x b) [
+    elim (index_pushed names name i x a) [
+      | inl first ↦ elim (index_pushed names name j x b) [
         | inl second ↦ differ i j x first second
         | inr last ↦ absurd (nowhere names name none i (first ∙ ap Some (sym last.1)))
       ]
-      | inr last ↦ elim (place_pushed names name j x b) [
+      | inr last ↦ elim (index_pushed names name j x b) [
         | inl second ↦ absurd (nowhere names name none j (second ∙ ap Some (sym last.1)))
         | inr also ↦ last.0 ∙ sym also.0
       ]
@@ -63,7 +63,7 @@ differ_pushed names name none differ i j x a b =
 new_next : (names : List (List ℕ)) (n : ℕ) (name : List ℕ) → AreDifferent names → slice_get names n ≡ Some name
     → list_any (bytes_eq name) (take n names) ≡ false
 new_next names n name differ at =
-    nowhere_found (take n names) name (λ i before. let there = place_taken names n i name before in
+    nowhere_found (take n names) name (λ i before. let there = index_taken names n i name before in
     let same : i ≡ n = differ i n name there.1 at in let below = there.0 in absurd (omega arith))
 
 module _ (names : Names) (name : List ℕ) where
@@ -166,9 +166,9 @@ module _ (irqs : List (Vec ℕ Global × ℕ)) (number : ℕ) where
   abbrev numbered : Option (List ℕ × ℕ)
   numbered = find (λ irq. irq.1 == number) (map seen_irq irqs)
 
-  by_place : numbered ≡ option_and_then (slice_get (map seen_irq irqs))
+  by_index : numbered ≡ option_and_then (slice_get (map seen_irq irqs))
       (position (λ n. n == number) (map (λ irq. irq.1) irqs))
-  by_place =
+  by_index =
       let second : List ℕ × ℕ → ℕ = λ irq. irq.1 in
       let same : map second (map seen_irq irqs) ≡ map (λ irq. irq.1) irqs = map-map second seen_irq irqs in
       find_by_position (λ irq. second irq == number) (map seen_irq irqs)
@@ -180,12 +180,12 @@ module _ (irqs : List (Vec ℕ Global × ℕ)) (number : ℕ) where
       → option_map (λ irq. irq.0) numbered ≡ Some (text name)
   irq_found index name n at there =
       ap (option_map (λ irq. irq.0))
-      (by_place ∙ ap (option_and_then (slice_get (map seen_irq irqs))) at ∙ slice_get-map seen_irq irqs index
+      (by_index ∙ ap (option_and_then (slice_get (map seen_irq irqs))) at ∙ slice_get-map seen_irq irqs index
       ∙ ap (option_map seen_irq) there)
 
   pub irq_missing : position (λ n. n == number) (map (λ irq. irq.1) irqs) ≡ None → option_map (λ irq. irq.0) numbered
       ≡ None
-  irq_missing none = ap (option_map (λ irq. irq.0)) (by_place ∙ ap (option_and_then (slice_get (map seen_irq irqs)))
+  irq_missing none = ap (option_map (λ irq. irq.0)) (by_index ∙ ap (option_and_then (slice_get (map seen_irq irqs)))
       none)
 
 abbrev same_text : Vec ℕ Global → Vec ℕ Global → Bool

@@ -60,22 +60,22 @@ all_push P [] x all h = (h, tt)
 all_push P (y ∷ xs) x all h = (all.0, all_push P xs x all.1 h)
 
 -- an index that is taken with one thing more behind
-pub place_pushed : {X : Type 0} (xs : List X) (y : X) (i : ℕ) (x : X) → slice_get (xs ++ y ∷ []) i ≡ Some x
+pub index_pushed : {X : Type 0} (xs : List X) (y : X) (i : ℕ) (x : X) → slice_get (xs ++ y ∷ []) i ≡ Some x
     → (slice_get xs i ≡ Some x) ⊎ ((i ≡ length xs) × (y ≡ x))
-place_pushed [] y zero x at = inr (refl, same_Some y x at)
-place_pushed [] y (suc i) x at = absurd (none-some x at)
-place_pushed (z ∷ xs) y zero x at = inl at
-place_pushed (z ∷ xs) y (suc i) x at = elim (place_pushed xs y i x at)
+index_pushed [] y zero x at = inr (refl, same_Some y x at)
+index_pushed [] y (suc i) x at = absurd (none-some x at)
+index_pushed (z ∷ xs) y zero x at = inl at
+index_pushed (z ∷ xs) y (suc i) x at = elim (index_pushed xs y i x at)
     [ inl here ↦ inl here | inr last ↦ inr (ap suc last.0, last.1) ]
 
 -- an index among the first ones is the same index
-pub place_taken : {X : Type 0} (xs : List X) (n i : ℕ) (x : X) → slice_get (take n xs) i ≡ Some x → (i < n)
+pub index_taken : {X : Type 0} (xs : List X) (n i : ℕ) (x : X) → slice_get (take n xs) i ≡ Some x → (i < n)
     × (slice_get xs i ≡ Some x)
-place_taken [] zero i x at = absurd (none-some x at)
-place_taken [] (suc n) i x at = absurd (none-some x at)
-place_taken (y ∷ xs) zero i x at = absurd (none-some x at)
-place_taken (y ∷ xs) (suc n) zero x at = (omega arith, at)
-place_taken (y ∷ xs) (suc n) (suc i) x at = let rest = place_taken xs n i x at in let below = rest.0 in
+index_taken [] zero i x at = absurd (none-some x at)
+index_taken [] (suc n) i x at = absurd (none-some x at)
+index_taken (y ∷ xs) zero i x at = absurd (none-some x at)
+index_taken (y ∷ xs) (suc n) zero x at = (omega arith, at)
+index_taken (y ∷ xs) (suc n) (suc i) x at = let rest = index_taken xs n i x at in let below = rest.0 in
     (omega arith, rest.1)
 
 -- the first ones and the next one

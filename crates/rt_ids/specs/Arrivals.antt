@@ -16,7 +16,7 @@ holds k bits irq = (irq / 32 == k) && (bit_at bits (irq % 32) == 1)
 
 -- the numbers of the bits of this word that are set and below this index, rising
 abbrev pub arrivals_below : ℕ → ℕ → ℕ → List ℕ
-arrivals_below k bits places = map (λ bit. 32 * k + bit) (filter (λ bit. bit_at bits bit == 1) (numbers_below places))
+arrivals_below k bits count = map (λ bit. 32 * k + bit) (filter (λ bit. bit_at bits bit == 1) (numbers_below count))
 
 -- the interrupts that have a request in this word, rising
 abbrev pub arrivals : ℕ → ℕ → List ℕ

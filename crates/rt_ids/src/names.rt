@@ -175,7 +175,7 @@ impl Names {
     pub fn irq_name(&self, number: Irq) -> Option<&[u8]>
         ensures { option_map (λ name. name.now) result ≡ option_map (λ irq. irq.0) (naming.irq_named self.now number) }
     {
-        let index = place_of(self.irqs.values().as_slice(), number)?;
+        let index = index_of(self.irqs.values().as_slice(), number)?;
         let (name, _) = self.irqs.get_index(index)?;
         Some(name.as_slice())
     }
@@ -193,7 +193,7 @@ impl Names {
 }
 
 /// The first index of an interrupt.
-fn place_of(irqs: &[Irq], irq: Irq) -> Option<usize>
+fn index_of(irqs: &[Irq], irq: Irq) -> Option<usize>
     ensures { result ≡ position (λ n. n == irq) irqs.now }
 {
     irqs.iter().position(|n| *n == irq)

@@ -28,7 +28,7 @@ use Rattle.rt_points.specs.declared.point.Opened.{Opened}
 use Rattle.rt_points.specs.declared.rule.TheConstants.{MOST_OPEN}
 use Rattle.rt_points.specs.Leading.{IsPoint, Begins, Enters, Leads, LeadsTo, owner_after, handler_at, starts_at}
 use Rattle.rt_judge.specs.Inside.Points.{point}
-use Rattle.rt_judge.specs.Inside.Visits.{point_of, place_of}
+use Rattle.rt_judge.specs.Inside.Visits.{point_of, visit_of}
 use Rattle.rt_judge.specs.Inside.Walks.{Table, Has, IsWalked}
 use Rattle.rt_judge.specs.Inside.Finds.{Finds, points_of}
 use Rattle.rt_judge.specs.Inside.Looks.{LooksFrom, LooksBehind, LooksFromEntry, Looks, Looked, LookedBelow, IsThread}
@@ -71,8 +71,8 @@ points_have img owner t ordered sound (e ∷ entries) inside = (
 -- a walk from where an owner begins has all its points
 module _ (img : Image) (owner : Owner) (starts : List Visit) (old new : Findings) (bs : List Visit)
     (looked : LooksFrom img owner starts old new bs) (complete : (p : Point) → IsPoint img p → p.owner ≡ owner
-    → Has looked.table (place_of p)) where
-  of_owner : (p : Point) → p.owner ≡ owner → point_of owner (place_of p) ≡ p
+    → Has looked.table (visit_of p)) where
+  of_owner : (p : Point) → p.owner ≡ owner → point_of owner (visit_of p) ≡ p
   of_owner p same = λ i. record { address = p.address; owner = sym same i; inside = p.inside }
 
   pub looks_of : Looks img (λ o. o ≡ owner) old new
@@ -81,13 +81,13 @@ module _ (img : Image) (owner : Owner) (starts : List Visit) (old new : Findings
     sound = points_have img owner looked.table looked.walked.ordered looked.walked.table.points looked.table.entries
         (λ e is. is);
     all = λ p is mine. subst (Contains (points_of owner looked.table.entries)) (of_owner p mine)
-        (has_points owner looked.table (place_of p) (complete p is mine));
+        (has_points owner looked.table (visit_of p) (complete p is mine));
     one = λ p q is_p is_q mine same at.
         let first : get nat_cmp looked.table p.address ≡ Some p.inside = complete p is_p mine in
         let second : get nat_cmp looked.table q.address ≡ Some q.inside = complete q is_q (sym same ∙ mine) in
         let both : Some p.inside ≡ Some q.inside = sym first ∙ ap (get nat_cmp looked.table) at ∙ second in
         some_of p.inside q.inside both;
-    few = λ p is mine. looked.walked.table.few (place_of p) (complete p is mine);
+    few = λ p is mine. looked.walked.table.few (visit_of p) (complete p is mine);
     finds = looked.finds;
   }
     where
@@ -107,32 +107,32 @@ not_starting i owner e = ⊎_elim (λ same. sym same ∙ e) (λ both. both.0) (s
 module _ (img : Image) (t : Table) (bs : List Visit) (start : Visit)
     (begins : start ≡ record { address = 0; nesting = [] })
     (walked : IsWalked img Starting (start ∷ []) t bs) where
-  pub starting_has : (p : Point) → IsPoint img p → p.owner ≡ Starting → Has t (place_of p)
+  pub starting_has : (p : Point) → IsPoint img p → p.owner ≡ Starting → Has t (visit_of p)
   starting_has p Begins mine = subst (Has t) begins (walked.began start (contains_here start []))
   starting_has p (Enters visit h is) mine = absurd (let e : Handling visit ≡ Starting = mine in cc)
   starting_has s (Leads p q is to) mine =
       let was : p.owner ≡ Starting = not_starting to.line.0 p.owner (sym to.owner ∙ mine) in
-      walked.closed (place_of p) q (starting_has p is was)
+      walked.closed (visit_of p) q (starting_has p is was)
       (subst (λ o. LeadsTo img (point p.address o p.inside) q) was to) mine
 
   -- and those behind it are where the thread begins
   pub thread_starts : (p q : Point) → IsPoint img p → LeadsTo img p q → p.owner ≡ Starting → q.owner ≡ Thread
-      → Contains bs (place_of q)
+      → Contains bs (visit_of q)
   thread_starts p q is to was now =
-      walked.left (place_of p) q (starting_has p is was)
+      walked.left (visit_of p) q (starting_has p is was)
       (subst (λ o. LeadsTo img (point p.address o p.inside) q) was to)
       (λ e. absurd (let both : Thread ≡ Starting = sym now ∙ e in cc))
 
   module _ (u : Table) (cs : List Visit) (behind : IsWalked img Thread bs u cs) where
-    pub thread_has : (p : Point) → IsPoint img p → p.owner ≡ Thread → Has u (place_of p)
+    pub thread_has : (p : Point) → IsPoint img p → p.owner ≡ Thread → Has u (visit_of p)
     thread_has p Begins mine = absurd (let e : Starting ≡ Thread = mine in cc)
     thread_has p (Enters visit h is) mine = absurd (let e : Handling visit ≡ Thread = mine in cc)
     thread_has s (Leads p q is to) mine = ⊎_elim
         (λ same.
         let was : p.owner ≡ Thread = sym same ∙ sym to.owner ∙ mine in
-        behind.closed (place_of p) q (thread_has p is was)
+        behind.closed (visit_of p) q (thread_has p is was)
         (subst (λ o. LeadsTo img (point p.address o p.inside) q) was to) mine)
-        (λ served. behind.began (place_of q) (thread_starts p q is to served.0 mine))
+        (λ served. behind.began (visit_of q) (thread_starts p q is to served.0 mine))
         (serves to.line.0 p.owner)
 
 -- all points of a handler
@@ -140,7 +140,7 @@ module _ (img : Image) (visit : ℕ) (h : Handler) (is : handler_at img visit �
     (start : Visit)
     (begins : start ≡ record { address = h.entry; nesting = [] })
     (walked : IsWalked img (Handling visit) (start ∷ []) t bs) where
-  pub handler_has : (p : Point) → IsPoint img p → p.owner ≡ Handling visit → Has t (place_of p)
+  pub handler_has : (p : Point) → IsPoint img p → p.owner ≡ Handling visit → Has t (visit_of p)
   handler_has p Begins mine = absurd (let e : Starting ≡ Handling visit = mine in cc)
   handler_has p (Enters other g there) mine =
       let same : other ≡ visit = let e : Handling other ≡ Handling visit = mine in cc in
@@ -150,7 +150,7 @@ module _ (img : Image) (visit : ℕ) (h : Handler) (is : handler_at img visit �
   handler_has s (Leads p q from to) mine = ⊎_elim
       (λ same.
       let was : p.owner ≡ Handling visit = sym same ∙ sym to.owner ∙ mine in
-      walked.closed (place_of p) q (handler_has p from was)
+      walked.closed (visit_of p) q (handler_has p from was)
       (subst (λ o. LeadsTo img (point p.address o p.inside) q) was to) mine)
       (λ served. absurd (let both : Thread ≡ Handling visit = sym served.1 ∙ sym to.owner ∙ mine in cc))
       (serves to.line.0 p.owner)

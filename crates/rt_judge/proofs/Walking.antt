@@ -23,7 +23,7 @@ use Rattle.rt_points.specs.declared.point.Opened.{Opened}
 use Rattle.rt_points.specs.Leading.{IsPoint, Leads, LeadsTo, LeadsOn, owner_after}
 use Rattle.rt_points.specs.declared.rule.TheConstants.{MOST_OPEN}
 use Rattle.rt_judge.specs.Inside.Exits.{targets, ends_init}
-use Rattle.rt_judge.specs.Inside.Visits.{point_of, place_of}
+use Rattle.rt_judge.specs.Inside.Visits.{point_of, visit_of}
 use Rattle.rt_judge.specs.Inside.Walks.{Table, Has, IsTable, ArePoints, IsAdded, IsKnown, IsWalking, IsWalked, next}
 use Rattle.rt_judge.specs.Inside.Walks.{next_visits, waits_by, behind_by, waits, goes_behind, if_so}
 use Rattle.rt_judge.specs.declared.walk.Visit.{Visit}
@@ -42,7 +42,7 @@ contains_map f (y ∷ xs) x is = elim (contains_cases y xs x is) [
 ]
 
 leads_next : (img : Image) (owner : Owner) (visit : Visit) (q : Point) (to : LeadsTo img (point_of owner visit) q)
-    → Contains (next_visits to.line visit) (place_of q)
+    → Contains (next_visits to.line visit) (visit_of q)
 leads_next img owner visit q to =
     let there : Contains (next_visits to.line visit) (next to.line visit.nesting q.address) =
     contains_map (next to.line visit.nesting) (targets to.line.0 visit.address) q.address
@@ -93,19 +93,19 @@ behind_are_points img owner visit (Some line) stands point =
 
 -- what a visit leads to waits, or goes on behind
 leads_waits : (img : Image) (owner : Owner) (visit : Visit) (q : Point) → LeadsTo img (point_of owner visit) q
-    → q.owner ≡ owner → Contains (waits img owner visit) (place_of q)
+    → q.owner ≡ owner → Contains (waits img owner visit) (visit_of q)
 leads_waits img owner visit q to mine =
     let same = stays to.line.0 owner (sym to.owner ∙ mine) in
-    subst (λ (line : Option Line). Contains (waits_by line owner visit) (place_of q)) (sym to.stands)
-    (subst (λ b. Contains (if_so (not b) (next_visits to.line visit)) (place_of q)) (sym same)
+    subst (λ (line : Option Line). Contains (waits_by line owner visit) (visit_of q)) (sym to.stands)
+    (subst (λ b. Contains (if_so (not b) (next_visits to.line visit)) (visit_of q)) (sym same)
     (leads_next img owner visit q to))
 
 leads_behind : (img : Image) (owner : Owner) (visit : Visit) (q : Point) → LeadsTo img (point_of owner visit) q
-    → q.owner ≢ owner → Contains (goes_behind img owner visit) (place_of q)
+    → q.owner ≢ owner → Contains (goes_behind img owner visit) (visit_of q)
 leads_behind img owner visit q to other =
     let ended = leaves to.line.0 owner (λ same. other (to.owner ∙ same)) in
-    subst (λ (line : Option Line). Contains (behind_by line owner visit) (place_of q)) (sym to.stands)
-    (subst (λ b. Contains (if_so b (next_visits to.line visit)) (place_of q)) (sym ended)
+    subst (λ (line : Option Line). Contains (behind_by line owner visit) (visit_of q)) (sym to.stands)
+    (subst (λ b. Contains (if_so b (next_visits to.line visit)) (visit_of q)) (sym ended)
     (leads_next img owner visit q to))
 
 all_front : (P : Visit → Type 0) (xs : List Visit) (x : Visit) → AllByRecursion P (xs ++ x ∷ []) → AllByRecursion P xs
@@ -169,7 +169,7 @@ module _ (img : Image) (owner : Owner) (starts : List Visit) (old new : Table) (
         waiting = all_front (λ s. IsPoint img (point_of owner s)) rest visit before.waiting;
         behind = before.behind;
         began = λ s is. known s (before.began s is);
-        closed = λ s q has_s to mine. known (place_of q) (before.closed s q has_s to mine);
+        closed = λ s q has_s to mine. known (visit_of q) (before.closed s q has_s to mine);
         left = before.left;
         short = before.short;
         few = before.few;
@@ -214,16 +214,16 @@ module _ (img : Image) (owner : Owner) (starts : List Visit) (old new : Table) (
           (behind_are_points img owner visit (slice_get img.code visit.address) refl point);
       began = λ s is. known s (before.began s is);
       closed = λ s q has to mine. of_each
-          (λ t. LeadsTo img (point_of owner t) q → IsKnown new (rest ++ waits img owner visit) (place_of q))
-          (λ leads. inr (Contains-append_right rest (waits img owner visit) (place_of q)
+          (λ t. LeadsTo img (point_of owner t) q → IsKnown new (rest ++ waits img owner visit) (visit_of q))
+          (λ leads. inr (Contains-append_right rest (waits img owner visit) (visit_of q)
           (leads_waits img owner visit q leads mine)))
-          (λ t in_old leads. known (place_of q) (before.closed t q in_old leads mine))
+          (λ t in_old leads. known (visit_of q) (before.closed t q in_old leads mine))
           s has to;
       left = λ s q has to other. of_each
-          (λ t. LeadsTo img (point_of owner t) q → Contains (bs ++ goes_behind img owner visit) (place_of q))
-          (λ leads. Contains-append_right bs (goes_behind img owner visit) (place_of q)
+          (λ t. LeadsTo img (point_of owner t) q → Contains (bs ++ goes_behind img owner visit) (visit_of q))
+          (λ leads. Contains-append_right bs (goes_behind img owner visit) (visit_of q)
           (leads_behind img owner visit q leads other))
-          (λ t in_old leads. Contains-append_left bs (goes_behind img owner visit) (place_of q)
+          (λ t in_old leads. Contains-append_left bs (goes_behind img owner visit) (visit_of q)
           (before.left t q in_old leads other))
           s has to;
       short = short_now;
@@ -240,7 +240,7 @@ walked img owner starts t bs walking =
       table = walking.table;
       behind = walking.behind;
       began = λ s is. known s (walking.began s is);
-      closed = λ s q has to mine. known (place_of q) (walking.closed s q has to mine);
+      closed = λ s q has to mine. known (visit_of q) (walking.closed s q has to mine);
       left = walking.left;
       ordered = walking.ordered;
     }

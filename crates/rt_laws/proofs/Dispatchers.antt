@@ -47,12 +47,12 @@ module _ (app : App) (accepted : IsAccepted app) where
       (all_in (λ x. IsIn (services app) x) (services app) (λ x i. i)) at in
       let passes = found_passes (λ (s : Service). is_some_and (λ n. n == irq) (irq_number app s.irq))
       (services app) v at in
-      let place : v.irq ≡ w.irq =
+      let index : v.irq ≡ w.irq =
       sound.numbers_differ v.irq w.irq irq (number_at v.irq irq (some_number (irq_number app v.irq) irq passes))
       (number_at w.irq irq number) in
       let same : there.0 ≡ is.0 =
       sound.services_differ there.0 is.0 w.irq
-      (mapped_at (λ s. s.irq) (services app) there.0 v there.1 ∙ ap Some place)
+      (mapped_at (λ s. s.irq) (services app) there.0 v there.1 ∙ ap Some index)
       (mapped_at (λ s. s.irq) (services app) is.0 w is.1) in
       same_Some v w (sym there.1 ∙ ap (λ i. slice_get (services app) i) same ∙ is.1)
 

@@ -27,7 +27,7 @@ listing resources block = record {
   at = 0;
 }
 
--- a hardware task that binds an interrupt, by its place, at a priority
+-- a hardware task that binds an interrupt, by its index, at a priority
 abbrev pub hardware : List ℕ → ℕ → ℕ → Body → Task
 hardware name i priority body = record {
   name = name;

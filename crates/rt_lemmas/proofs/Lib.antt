@@ -7,4 +7,4 @@ pub mod Texts
 pub mod Options
 pub mod Results
 pub mod Membership
-pub mod Places
+pub mod Indices

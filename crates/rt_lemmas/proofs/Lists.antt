@@ -65,10 +65,11 @@ all_decides view P test each [] = (λ _. tt, λ _. refl)
 all_decides view P test each (x ∷ xs) = Decides-and (test x) (list_all test xs) (each x)
     (all_decides view P test each xs)
 
-pub all_from_places : {X : Type 0} (P : X → Type 0) (xs : List X)
+pub all_from_indices : {X : Type 0} (P : X → Type 0) (xs : List X)
     → ((k : ℕ) (d : X) → k < length xs → P (get_or xs k d)) → AllByRecursion P xs
-all_from_places P [] at = tt
-all_from_places P (x ∷ xs) at = (at 0 x (omega arith), all_from_places P xs (λ k d within. at (suc k) d (omega arith)))
+all_from_indices P [] at = tt
+all_from_indices P (x ∷ xs) at =
+    (at 0 x (omega arith), all_from_indices P xs (λ k d within. at (suc k) d (omega arith)))
 
 pub drop_as_cons : {X : Type 0} (xs : List X) (n : ℕ) (x : X) → n < length xs → x ≡ get_or xs n x → drop n xs ≡ x
     ∷ drop (n + 1) xs
@@ -185,7 +186,7 @@ length-take-drop (suc n) from xs within =
     let all : from + suc n ≤ length xs = within (omega arith) in
     omega (arith, length-take (suc n) (drop from xs), length-drop from xs)
 
--- as many from a place on, all in front
+-- as many from an index on, all in front
 pub take-drop-front : (n from : ℕ) (xs ys : List ℕ) → (0 < n → from + n ≤ length xs) → take n (drop from (xs ++ ys))
     ≡ take n (drop from xs)
 take-drop-front zero from xs ys within = refl
@@ -211,9 +212,9 @@ position_of_key key xs i x at alone =
     let differs : key (get_or xs k x) ≡ key x → k ≡ i = alone k (get_or xs k x)
     (slice_get-get_or xs k x (omega arith)) in
     grind (arith, nat_tests) in
-    let place : position_or_len (λ y. key y == key x) xs ≡ i =
+    let index : position_or_len (λ y. key y == key x) xs ≡ i =
     position_or_len_is (λ y. key y == key x) xs i x (omega arith) before (λ _. rw here (grind (arith, nat_tests))) in
-    rw place (grind (arith, nat_tests))
+    rw index (grind (arith, nat_tests))
 
 -- a fold keeps what each step keeps
 pub fold_keeps : {S A : Type 0} (f : S → A → S) (P : S → Type 0) → ((s : S) (a : A) → P s → P (f s a))
@@ -231,7 +232,7 @@ pub drop-append : (xs ys : List ℕ) → drop (length xs) (xs ++ ys) ≡ ys
 drop-append [] ys = refl
 drop-append (x ∷ xs) ys = drop-append xs ys
 
--- a place within a list is taken, and by the view of what stands there
+-- something stands at an index within a list, and so does its view
 pub some_at : {X : Type 0} (xs : List X) (k : ℕ) → k < length xs → (x : X) × (slice_get xs k ≡ Some x)
 some_at [] k within = absurd (omega arith)
 some_at (x ∷ xs) zero within = (x, refl)

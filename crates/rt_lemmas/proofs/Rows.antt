@@ -4,7 +4,7 @@ use Rattle.std.proofs.Common.{drop, refl, sym, ap, ◌∙◌, arith, append_asso
 use Rattle.std.proofs.lemmas.List.{length-map}
 use mathlib.Core.List.{map-append}
 
--- the row at a place, with those before and behind it
+-- the row at an index, with those before and behind it
 record SplitsAt {A : Type 0} (rows : List A) (i : ℕ) : Type 0 where
   row : A
   here : drop i rows ≡ row ∷ drop (suc i) rows

@@ -22,12 +22,12 @@ use Rattle.rt_ids.specs.Lists.{AreDifferent}
 use Rattle.rt_listing.specs.Numbers.{AreShort, section_numbers}
 use Rattle.rt_listing.proofs.Reading.{word_has_no_blank, literal_before, Shows, number_shows}
 
-abbrev place_of : List (List ℕ) → List ℕ → ℕ
-place_of names w = position_or_len (λ name. bytes_eq name w) names
+abbrev index_of : List (List ℕ) → List ℕ → ℕ
+index_of names w = position_or_len (λ name. bytes_eq name w) names
 
-place_reads : (names : List (List ℕ)) (i : ℕ) → AreDifferent names → i < length names
-    → place_of names (get_or names i []) ≡ i
-place_reads names i distinct below =
+index_reads : (names : List (List ℕ)) (i : ℕ) → AreDifferent names → i < length names
+    → index_of names (get_or names i []) ≡ i
+index_reads names i distinct below =
     let other = λ (k : ℕ) (before : k < i). false_from_ne_true (bytes_eq (get_or names k []) (get_or names i [])) (λ e.
     let same : get_or names k [] ≡ get_or names i [] = (bytes_eq-Decides _ _).0 e in
     let there : k ≡ i = distinct k i _ (slice_get-get_or names k [] (omega arith) ∙ ap Some same)
@@ -35,20 +35,20 @@ place_reads names i distinct below =
     omega (arith, there, before)) in
     position_or_len_is _ names i [] (omega arith) other (λ h. (bytes_eq-Decides (get_or names i []) _).1 refl)
 
--- the name at a place, where all names are plain
+-- the name at an index, where all names are plain
 plain_at : (names : List (List ℕ)) (i : ℕ) → AllByRecursion IsPlain names → i < length names
     → IsPlain (get_or names i [])
 plain_at names i all below = All-from_recursion IsPlain names all i [] below
 
 -- a task
 abbrev pub task_of : Names → List ℕ → ℕ
-task_of names w = place_of names.tasks w
+task_of names w = index_of names.tasks w
 
 pub task_shows : (names : Names) (t : ℕ) → AreWritable names → HasTask names t
     → Shows (task_of names) t (task_name names t)
 task_shows names t good here = record {
   plain = word_has_no_blank _ (plain_at names.tasks t good.tasks here).word;
-  reads = place_reads names.tasks t good.tasks_differ here;
+  reads = index_reads names.tasks t good.tasks_differ here;
 }
 
 -- an interrupt
@@ -56,7 +56,7 @@ abbrev irq_names : Names → List (List ℕ)
 irq_names names = map (λ irq. irq.0) names.irqs
 
 abbrev pub irq_of : Names → List ℕ → ℕ
-irq_of names w = (get_or names.irqs (place_of (irq_names names) w) ([], 0)).1
+irq_of names w = (get_or names.irqs (index_of (irq_names names) w) ([], 0)).1
 
 pub irq_shows : (names : Names) (n : ℕ) → AreWritable names → HasIrq names n → Shows (irq_of names) n (irq_name names n)
 irq_shows names n good here =
@@ -71,13 +71,13 @@ irq_shows names n good here =
     get_or-map name names.irqs first ([], 0) [] below in
     let named : irq_name names n ≡ get_or (irq_names names) first [] = rw (found, at_first) refl in
     let counted : first < length (irq_names names) = omega (arith, length-map names.irqs name) in
-    let place : place_of (irq_names names) (irq_name names n) ≡ first =
-    rw named (place_reads (irq_names names) first good.irqs_differ counted) in
+    let index : index_of (irq_names names) (irq_name names n) ≡ first =
+    rw named (index_reads (irq_names names) first good.irqs_differ counted) in
     record {
       plain = rw (named, at_first)
           (word_has_no_blank _ (All-from_recursion (λ irq. IsPlain irq.0) names.irqs good.irqs first ([], 0)
           below).word);
-      reads = ap (λ (k : ℕ). (get_or names.irqs k ([], 0)).1) place
+      reads = ap (λ (k : ℕ). (get_or names.irqs k ([], 0)).1) index
           ∙ (eqb-true _ n (passes_at_first test names.irqs ([], 0) below));
     }
 
@@ -90,7 +90,7 @@ section_of names w =
     cond (has_dot w)
     (cond (eqb (get_or w 0 0) 102) (section.Free (task_of names (drop 5 w)))
     (cond (eqb (get_or w 0 0) 114) (section.Ready (digits_value 10 (drop 6 w))) section.Timer))
-    (section.Res (place_of names.shared w))
+    (section.Res (index_of names.shared w))
 
 no_dot : (w : List ℕ) → AllByRecursion (λ b. b ≢ 46) w → has_dot w ≡ false
 no_dot [] h = refl
@@ -104,7 +104,7 @@ section_shows names (section.Res r) good here short =
     record {
       plain = word_has_no_blank _ plain.word;
       reads =
-          rw (no_dot _ plain.plain, place_reads names.shared r good.shared_differ here) refl;
+          rw (no_dot _ plain.plain, index_reads names.shared r good.shared_differ here) refl;
     }
 section_shows names (section.Free t) good here short =
     let task = task_shows names t good here in

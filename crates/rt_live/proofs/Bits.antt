@@ -89,7 +89,7 @@ unfolding numbers_below
 none_below k word = refl
 
 -- of a word of 0 nothing arrives
-zero_below : (k places : ℕ) → arrivals_below k 0 places ≡ []
+zero_below : (k count : ℕ) → arrivals_below k 0 count ≡ []
 zero_below k zero = none_below k 0
 zero_below k (suc n) =
     arrivals_more k 0 n

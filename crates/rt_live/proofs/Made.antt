@@ -92,13 +92,13 @@ module _ (words : List ℕ) (irqs : List ℕ) (irq : ℕ) (within : irq / 32 < l
 
 -- the bits of one row more
 module _ (words : List ℕ) (rows : List AccountRow) (i : ℕ) (row : AccountRow) (within : i < length rows)
-    (is : row ≡ get_or rows i row) (n k : ℕ) (same : n ≡ row.irq) (place : k ≡ n / 32) (fits : n / 32 < length words)
+    (is : row ≡ get_or rows i row) (n k : ℕ) (same : n ≡ row.irq) (index : k ≡ n / 32) (fits : n / 32 < length words)
     (may : (j : ℕ) → IsPending words j ↔ Contains (irqs_of (take i rows)) j) where
   abbrev after_row : List ℕ
   after_row = set words k (bit_or (get_or words k 0) (1 * 2 ^ (n % 32) % 2 ^ 32))
 
   as_bit : after_row ≡ bit_in words n
-  as_bit = ap (λ q. set words q (bit_or (get_or words q 0) (1 * 2 ^ (n % 32) % 2 ^ 32))) place
+  as_bit = ap (λ q. set words q (bit_or (get_or words q 0) (1 * 2 ^ (n % 32) % 2 ^ 32))) index
 
   one_irq : irqs_of (take (i + 1) rows) ≡ irqs_of (take i rows) ++ n ∷ []
   one_irq =

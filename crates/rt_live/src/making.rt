@@ -24,8 +24,8 @@ pub fn rows_of(alloc: Global, names: &Names) -> Result<Vec<AccountRow>, NoMemory
 {
     let count = names.irq_count();
     let mut rows = Vec::with_capacity(alloc, count)?;
-    for place in 0..count {
-        let Some(declared) = names.irq_at(place) else {
+    for index in 0..count {
+        let Some(declared) = names.irq_at(index) else {
             unreachable!()
         };
         rows.push(AccountRow {

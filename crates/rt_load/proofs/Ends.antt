@@ -7,7 +7,7 @@ use Rattle.std.proofs.lemmas.List.{take-append-drop}
 use Rattle.std.proofs.lemmas.List.Quantifiers.{position-Some}
 use Rattle.std.proofs.lemmas.Grind.{common_steps}
 use Rattle.rt_lemmas.proofs.Bools.{true_and_false, left_of_none, right_of_none}
-use Rattle.rt_lemmas.proofs.Lists.{all_from_places}
+use Rattle.rt_lemmas.proofs.Lists.{all_from_indices}
 use Rattle.rt_ids.proofs.Lists.{is_some-position}
 use Rattle.rt_load.specs.Inside.Progress.{IsCut}
 use Rattle.std.proofs.lemmas.Bool.{false_from_ne_true, eqb-true}
@@ -64,7 +64,7 @@ feed_cut text k rest e behind =
     record {
       is = sym (take-append-drop k text) ∙ ap (λ t. take k text ++ t) first
           ∙ sym (append_assoc (take k text) (10 ∷ []) rest);
-      own = all_from_places (λ byte. byte ≢ 10) (take k text) (λ j d below.
+      own = all_from_indices (λ byte. byte ≢ 10) (take k text) (λ j d below.
           let short : length (take k text) ≡ k = length_take k text within in
           let before : j < k = omega (arith, below, short) in
           let same : get_or (take k text) j d ≡ get_or text j d = get_or_take k text j d before in

@@ -8,7 +8,7 @@ use Rattle.std.proofs.lemmas.Slice.Eq.{bytes_eq-Decides}
 use Rattle.rt_ids.specs.Lists.{AreDifferent}
 use Rattle.rt_ids.specs.Names.{Names}
 use Rattle.rt_ids.specs.Word.{is_identifier}
-use Rattle.rt_ids.proofs.Lists.{place_pushed, is_some-position}
+use Rattle.rt_ids.proofs.Lists.{index_pushed, is_some-position}
 
 -- tables that go on
 abbrev pub further : Names → List (List ℕ × ℕ) → List (List ℕ) → List (List ℕ) → Names
@@ -35,12 +35,12 @@ nowhere (x ∷ xs) name none (suc i) at = nowhere xs name (later (bytes_eq name 
 pub differ_pushed : (names : List (List ℕ)) (name : List ℕ) → list_any (bytes_eq name) names ≡ false
     → AreDifferent names → AreDifferent (names ++ name ∷ [])
 differ_pushed names name none differ i j x a b =
-    elim (place_pushed names name i x a) [
-      | inl first ↦ elim (place_pushed names name j x b) [
+    elim (index_pushed names name i x a) [
+      | inl first ↦ elim (index_pushed names name j x b) [
         | inl second ↦ differ i j x first second
         | inr last ↦ absurd (nowhere names name none i (first ∙ ap Some (sym last.1)))
       ]
-      | inr last ↦ elim (place_pushed names name j x b) [
+      | inr last ↦ elim (index_pushed names name j x b) [
         | inl second ↦ absurd (nowhere names name none j (second ∙ ap Some (sym last.1)))
         | inr also ↦ last.0 ∙ sym also.0
       ]

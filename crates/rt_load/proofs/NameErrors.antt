@@ -10,7 +10,7 @@ use Rattle.rt_code.specs.declared.instr.Instr.{Instr}
 use Rattle.rt_code.specs.declared.instr.Note.{Note}
 use Rattle.rt_lines.specs.Answers.{and_then, and_make}
 use Rattle.rt_lines.specs.Numbers.{number_below}
-use Rattle.rt_load.specs.Inside.Operand.{number_at, place_or_wrong, first_named, irq_at}
+use Rattle.rt_load.specs.Inside.Operand.{number_at, index_or_wrong, first_named, irq_at}
 use Rattle.rt_load.specs.Inside.Noting.{line_or_wrong}
 use Rattle.rt_load.specs.declared.operand.Wrong.{Wrong}
 use Rattle.rt_load.specs.declared.operand.Wrong.TheVariants as wrong
@@ -67,7 +67,7 @@ make_name (Err w) f e = ap Err (same_err (Err w) w wrong.Name refl e)
 pub irq_unknown : (names : Names) (w : List ℕ) → irq_at names w ≡ Err wrong.Name → (is_identifier w ≡ true)
     × (irq_of names w ≡ None)
 irq_unknown names w e =
-    found_none w (irq_of names w) (first_name (place_or_wrong w (irq_of names w)) (first_named names w)
+    found_none w (irq_of names w) (first_name (index_or_wrong w (irq_of names w)) (first_named names w)
     (λ irq. if_no_name (bytes_eq (irq_name names irq) w) (Ok irq) (Err wrong.Form) (ok_no_name (Ok irq) irq refl)
     (form_no_name (Err wrong.Form) refl)) e)
 

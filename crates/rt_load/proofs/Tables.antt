@@ -21,7 +21,7 @@ use Rattle.rt_lines.specs.Answers.{and_make}
 use Rattle.rt_trace.proofs.Numerals.{number_spelled}
 use Rattle.rt_trace.proofs.Tables.{irq_known, name_at, task_found, resource_found}
 use Rattle.rt_load.specs.Loadable.{IsSectionWithin}
-use Rattle.rt_load.specs.Inside.Operand.{number_at, place_or_wrong, first_named, irq_at, task_at, resource_at, ready_at}
+use Rattle.rt_load.specs.Inside.Operand.{number_at, index_or_wrong, first_named, irq_at, task_at, resource_at, ready_at}
 use Rattle.rt_load.specs.Inside.Operand.{queue_at, section_at, body_at}
 use Rattle.rt_load.specs.declared.operand.Wrong.{Wrong}
 use Rattle.rt_load.specs.declared.operand.Wrong.TheVariants as wrong
@@ -85,7 +85,7 @@ body_back names (body.Task t) are has =
     rw (init, idle) (ap (λ (r : Result ℕ Wrong). and_make r body.Task) (task_back names t are has))
 
 -- what is found of a word that is read
-pub found_ok : (word : List ℕ) (index : Option ℕ) (n : ℕ) → place_or_wrong word index ≡ Ok n
+pub found_ok : (word : List ℕ) (index : Option ℕ) (n : ℕ) → index_or_wrong word index ≡ Ok n
     → (is_identifier word ≡ true) × (index ≡ Some n)
 found_ok word index n e =
     chosen (is_identifier word) (ok_or index wrong.Name) (Err wrong.Form) (Ok n)
@@ -96,28 +96,28 @@ none_or : (index : Option ℕ) → ok_or index wrong.Name ≡ Err wrong.Name →
 none_or None e = refl
 none_or (Some n) e = absurd (cc)
 
-pub found_none : (word : List ℕ) (index : Option ℕ) → place_or_wrong word index ≡ Err wrong.Name
+pub found_none : (word : List ℕ) (index : Option ℕ) → index_or_wrong word index ≡ Err wrong.Name
     → (is_identifier word ≡ true) × (index ≡ None)
 found_none word index e =
     chosen (is_identifier word) (ok_or index wrong.Name) (Err wrong.Form) (Err wrong.Name)
     ((is_identifier word ≡ true) × (index ≡ None)) e
     (λ named is. (named, none_or index is)) (λ _ is. absurd (cc))
 
-place_named : (texts : List (List ℕ)) (word : List ℕ) (i : ℕ) → position (bytes_eq word) texts ≡ Some i
+index_named : (texts : List (List ℕ)) (word : List ℕ) (i : ℕ) → position (bytes_eq word) texts ≡ Some i
     → (word ≡ get_or texts i []) × (i < length texts)
-place_named texts word i e =
+index_named texts word i e =
     let there = position-Some (bytes_eq word) texts i [] e in
     ((bytes_eq-Decides word (get_or texts i [])).0 there.1, there.0)
 
 -- the word is the name of what is read
 pub task_from : (names : Names) (word : List ℕ) (t : ℕ) → task_at names word ≡ Ok t → (word ≡ task_name names t)
     × HasTask names t
-task_from names word t e = let known = found_ok word (task_of names word) t e in place_named names.tasks word t known.1
+task_from names word t e = let known = found_ok word (task_of names word) t e in index_named names.tasks word t known.1
 
 pub resource_from : (names : Names) (word : List ℕ) (r : ℕ) → resource_at names word ≡ Ok r
     → (word ≡ resource_name names r) × (r < length names.shared)
 resource_from names word r e = let known = found_ok word (resource_of names word) r e in
-    place_named names.shared word r known.1
+    index_named names.shared word r known.1
 
 named_irq : (names : Names) (word : List ℕ) (irq : ℕ) (row : Option (List ℕ × ℕ)) → irq_named names irq ≡ row
     → irq_name names irq ≡ word → is_identifier word ≡ true → IsSome row
@@ -129,7 +129,7 @@ named_irq names word irq None is named identifier =
 pub irq_from : (names : Names) (word : List ℕ) (irq : ℕ) → irq_at names word ≡ Ok irq → (word ≡ irq_name names irq)
     × HasIrq names irq
 irq_from names word irq e =
-    let parts = then_ok (place_or_wrong word (irq_of names word)) (first_named names word) irq e in
+    let parts = then_ok (index_or_wrong word (irq_of names word)) (first_named names word) irq e in
     let known = found_ok word (irq_of names word) parts.0 parts.1 in
     chosen (bytes_eq (irq_name names parts.0) word) (Ok parts.0) (Err wrong.Form) (Ok irq)
     ((word ≡ irq_name names irq) × HasIrq names irq) parts.2

@@ -57,7 +57,7 @@ use Rattle.rt_load.proofs.CodedBack.{number32_from}
 use Rattle.rt_load.proofs.Ends.{last_same}
 use Rattle.rt_load.proofs.Fronts.{Stands}
 
--- places in two lists, one behind the other
+-- indices in two lists, one behind the other
 get_left : {X : Type 0} (xs ys : List X) (i : ℕ) (x : X) → slice_get xs i ≡ Some x → slice_get (xs ++ ys) i ≡ Some x
 get_left [] ys i x at = absurd (none-some x at)
 get_left (z ∷ xs) ys zero x at = at

@@ -16,7 +16,7 @@ length-pended (irq ∷ irqs) pending = length-pended irqs (set pending irq true)
 
 -- the bits b of word k below an index hold the interrupt's
 abbrev holds_below : (ℕ → ℕ) → ℕ → ℕ → ℕ → Bool
-holds_below b k places irq = (irq / 32 == k) && (nat_lt (irq % 32) places && (b (irq % 32) == 1))
+holds_below b k below irq = (irq / 32 == k) && (nat_lt (irq % 32) below && (b (irq % 32) == 1))
 
 at_bit : (b : ℕ → ℕ) (k bit irq : ℕ) → bit < 32 → b bit ≡ 1 → irq ≡ 32 * k + bit → holds_below b k (bit + 1) irq ≡ true
 at_bit b k bit irq low h e =
@@ -88,16 +88,16 @@ each_more k bits bit irq pending low inside (yes h) (yes e) before = each_at k b
 each_more k bits bit irq pending low inside (yes h) (no ne) before = each_past k bits bit irq pending low h ne before
 each_more k bits bit irq pending low inside (no h) d before = each_clear k bits bit irq pending h before
 
-each_below : (k bits places irq : ℕ) (pending : List Bool) → places ≤ 32 → irq < length pending
-    → get_or (pending_with (arrivals_below k bits places) pending) irq false
-    ≡ (get_or pending irq false || holds_below (bit_at bits) k places irq)
+each_below : (k bits below irq : ℕ) (pending : List Bool) → below ≤ 32 → irq < length pending
+    → get_or (pending_with (arrivals_below k bits below) pending) irq false
+    ≡ (get_or pending irq false || holds_below (bit_at bits) k below irq)
 each_below k bits zero irq pending low inside =
     ap (λ (l : List Bool). get_or l irq false) (pended_none k bits pending)
     ∙ with_false (get_or pending irq false)
     ∙ ap (λ (b : Bool). get_or pending irq false || b) (sym (none_below (bit_at bits) k irq))
 each_below k bits (suc bit) irq pending low inside =
-    let P : ℕ → Type 0 = λ places. get_or (pending_with (arrivals_below k bits places) pending) irq false
-    ≡ (get_or pending irq false || holds_below (bit_at bits) k places irq) in
+    let P : ℕ → Type 0 = λ below. get_or (pending_with (arrivals_below k bits below) pending) irq false
+    ≡ (get_or pending irq false || holds_below (bit_at bits) k below irq) in
     subst P (add-one bit) (each_more k bits bit irq pending (omega arith) inside (ℕ_discrete (bit_at bits bit) 1)
     (ℕ_discrete irq (32 * k + bit)) (each_below k bits bit irq pending (omega arith) inside))
 

@@ -64,9 +64,9 @@ pub number_of_step : (words : List ℕ) (k w from : ℕ) → w ≡ get_or words 
     → AreNumbers words → 32 * k + from + lowest w from < IRQ_NUMBERS
 number_of_step words k w from e low some are = are (32 * k + from + lowest w from) (set_at words k w from e low some)
 
-pub place_of_step : (words : List ℕ) (k w from : ℕ) → w ≡ get_or words k 0 → w < 2 ^ 32 → w / 2 ^ from ≢ 0 → from
+pub bit_of_step : (words : List ℕ) (k w from : ℕ) → w ≡ get_or words k 0 → w < 2 ^ 32 → w / 2 ^ from ≢ 0 → from
     + (lowest w from + 1) ≤ 32
-place_of_step words k w from e low some = let l = within words k w from e low some in omega arith
+bit_of_step words k w from e low some = let l = within words k w from e low some in omega arith
 
 pub best_of_step : (priorities : List (Option ℕ)) (words : List ℕ) (k w from : ℕ) (kept after : Best) → w
     ≡ get_or words k 0 → w < 2 ^ 32 → w / 2 ^ from ≢ 0

@@ -118,13 +118,13 @@ pub frame_at : (frames : List ℕ) (a b : ℕ) (ts : List code.Task) (n : ℕ) (
 frame_at frames a b ts n t are within is =
     let index : 2 + n ≡ suc (suc n) = omega arith in
     ap (λ fs. get_or fs (2 + n) 0) are ∙ ap (λ k. get_or (a ∷ b ∷ map words (map task_of ts)) k 0) index
-    ∙ at_place ts n t within is
+    ∙ at_index ts n t within is
   where
-    at_place : (ts : List code.Task) (n : ℕ) (t : code.Task) → n < length ts → t ≡ get_or ts n t
+    at_index : (ts : List code.Task) (n : ℕ) (t : code.Task) → n < length ts → t ≡ get_or ts n t
         → get_or (map words (map task_of ts)) n 0 ≡ words (task_of t)
-    at_place [] n t within is = absurd (omega arith)
-    at_place (u ∷ ts) zero t within is = ap (λ v. words (task_of v)) (sym is)
-    at_place (u ∷ ts) (suc n) t within is = at_place ts n t (omega arith) is
+    at_index [] n t within is = absurd (omega arith)
+    at_index (u ∷ ts) zero t within is = ap (λ v. words (task_of v)) (sym is)
+    at_index (u ∷ ts) (suc n) t within is = at_index ts n t (omega arith) is
 
 pub frames_long : (frames : List ℕ) (a b : ℕ) (ts : List code.Task) → frames ≡ a ∷ b ∷ map words (map task_of ts)
     → length frames ≡ 2 + length ts

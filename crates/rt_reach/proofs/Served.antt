@@ -9,7 +9,7 @@ use Rattle.std.proofs.lemmas.Option.{same_Some, none-some}
 use Rattle.rt_lemmas.proofs.Bools.{and_parts, and_both, not_true, or_cases, true_and_false}
 use Rattle.rt_lemmas.proofs.Lists.{found}
 use Rattle.rt_lemmas.proofs.Membership.{all_at, any_one, any_passes, contains_here, contains_at}
-use Rattle.rt_lemmas.proofs.Places.{there_is}
+use Rattle.rt_lemmas.proofs.Indices.{there_is}
 use Rattle.rt_ids.specs.Choice.{IsIn}
 use Rattle.rt_ids.specs.Lists.{is_some_and, then_from, greatest}
 use Rattle.rt_app.specs.declared.app.IrqDecl.{IrqDecl}

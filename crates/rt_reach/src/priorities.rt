@@ -41,7 +41,7 @@ fn greatest_frame(app: &App, frames: &[u32], priority: u8) -> u32
 
 /// The interrupt that the first hardware task of a priority binds whose frame has so many words, by its index in the
 /// order of declaration.
-fn place_bound(app: &App, frames: &[u32], priority: u8, words: u32) -> Option<u8>
+fn index_bound(app: &App, frames: &[u32], priority: u8, words: u32) -> Option<u8>
     requires { frames.now ≡ plan.frames (app_of app.now) }
     ensures { result ≡ then_from
         (find (λ t. stack.is_bound_at priority t && (frame_words t.args t.body == words)) (app_of app.now).tasks)
@@ -73,7 +73,7 @@ fn deepest_irq(app: &App, frames: &[u32], priority: u8) -> Option<Irq>
     ensures { result ≡ spec.deepest_irq (app_of app.now) priority }
 {
     let words = greatest_frame(app, frames, priority);
-    let index = place_bound(app, frames, priority, words)?;
+    let index = index_bound(app, frames, priority, words)?;
     number_at(app, index)
 }
 

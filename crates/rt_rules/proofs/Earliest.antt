@@ -32,16 +32,16 @@ contains_first v xs = (zero, omega arith, refl)
 contains_rest : (x v : Violation) (xs : List Violation) → Contains xs v → Contains (x ∷ xs) v
 contains_rest x v xs h = (suc h.0, omega (arith, h.1), h.2)
 
-place_in : (y v : Violation) (xs : List Violation) (k : ℕ) → k < length (y ∷ xs) → get_or (y ∷ xs) k v ≡ v → (y ≡ v)
+index_in : (y v : Violation) (xs : List Violation) (k : ℕ) → k < length (y ∷ xs) → get_or (y ∷ xs) k v ≡ v → (y ≡ v)
     ⊎ Contains xs v
-place_in y v xs zero h e = inl e
-place_in y v xs (suc k) h e = inr (k, omega arith, e)
+index_in y v xs zero h e = inl e
+index_in y v xs (suc k) h e = inr (k, omega arith, e)
 
 -- the one that is kept of two, with the rest
 kept : (w x v : Violation) (xs : List Violation) (b : Bool) → is_before x w ≡ b → IsFirst ((if b then x else w) ∷ xs) v
     → IsFirst (w ∷ x ∷ xs) v
 kept w x v xs true e first = record {
-  is_one = elim (place_in x v xs first.is_one.0 first.is_one.1 first.is_one.2) [
+  is_one = elim (index_in x v xs first.is_one.0 first.is_one.1 first.is_one.2) [
     | inl same ↦ contains_rest w v (x ∷ xs) (subst (λ y. Contains (y ∷ xs) v) (sym same) (contains_first v xs))
     | inr
         rest ↦ contains_rest w v (x ∷ xs) (contains_rest x v xs rest)
@@ -49,7 +49,7 @@ kept w x v xs true e first = record {
   first = (in_turn v x w first.first.0 (no_later x w e), first.first);
 }
 kept w x v xs false e first = record {
-  is_one = elim (place_in w v xs first.is_one.0 first.is_one.1 first.is_one.2) [
+  is_one = elim (index_in w v xs first.is_one.0 first.is_one.1 first.is_one.2) [
     | inl same ↦ subst (λ y. Contains (y ∷ x ∷ xs) v) (sym same) (contains_first v (x ∷ xs))
     | inr rest ↦
         contains_rest w v (x ∷ xs) (contains_rest x v xs rest)

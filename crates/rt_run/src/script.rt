@@ -142,7 +142,7 @@ fn run_lines<K: Sink>(
 }
 
 /// Runs a script on a core to which no event has come, and writes the text of its trace, with its total of core steps.
-/// The script's events come to the core line by line, the requests of a device at the place of its line. It takes no
+/// The script's events come to the core line by line, the requests of a device at its line. It takes no
 /// memory: lines gather in a buffer of 4 KiB, which goes out where the next line has no room, and at the end, before
 /// the call answers.
 pub fn run_script<K: Sink>(core: &mut Core, script: &Script, out: &mut K) -> Result<(), Failed>

@@ -6,7 +6,7 @@ use Rattle.std.specs.Option.{option_to_list}
 use Rattle.std.proofs.lemmas.Bool.{false≢true, lt-ltb}
 use Rattle.std.proofs.lemmas.Option.{none-some}
 use Rattle.rt_lemmas.proofs.Bools.{and_both}
-use Rattle.rt_lemmas.proofs.Places.{there_is}
+use Rattle.rt_lemmas.proofs.Indices.{there_is}
 use Rattle.rt_ids.specs.declared.ids.BodyId.TheVariants as body
 use Rattle.rt_ids.specs.declared.ids.Section.{Section}
 use Rattle.rt_code.specs.Access.{Access, cell_of, access_of, cells_of}
@@ -28,12 +28,12 @@ use Rattle.rt_points.specs.Rules.{JumpsInThread}
 use Rattle.rt_safe.specs.Inside.Lines.{IsLine, Simply, Anew, Opens, Closes, EndsInit, Returns}
 
 -- slots that are below the words of a frame are in it
-pub slots_there : (places words : List ℕ) (n : ℕ) → n ≡ length words → AllByRecursion (λ index. index < n) places
-    → are_there places words ≡ true
+pub slots_there : (indices words : List ℕ) (n : ℕ) → n ≡ length words → AllByRecursion (λ index. index < n) indices
+    → are_there indices words ≡ true
 slots_there [] words n is all = refl
-slots_there (index ∷ places) words n is all =
-    and_both _ (are_there places words) (lt-ltb index (length words) (subst (λ m. index < m) is all.0))
-    (slots_there places words n is all.1)
+slots_there (index ∷ indices) words n is all =
+    and_both _ (are_there indices words) (lt-ltb index (length words) (subst (λ m. index < m) is all.0))
+    (slots_there indices words n is all.1)
 
 -- an instruction that may be used names the cell that it touches
 pub access_is : (i : Instr) (q : Processor) → is_plain i ≡ true → access_of i q ≡ touched_cell i

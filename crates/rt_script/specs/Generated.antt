@@ -20,8 +20,8 @@ generator_of number stream = started 64 multiplier_64 number (increment_of 64 st
 
 -- a request of one of the interrupts, or a tick where there are none
 abbrev pub request_of : List ℕ → ℕ → Line
-request_of [] place = Ticks 1
-request_of (irq ∷ irqs) place = Pends (slice_index (irq ∷ irqs) (place % length (irq ∷ irqs))) 1
+request_of [] index = Ticks 1
+request_of (irq ∷ irqs) index = Pends (slice_index (irq ∷ irqs) (index % length (irq ∷ irqs))) 1
 
 -- The line of a word, by its rest by 8: up to 64 steps for a rest below 5, up to 16 ticks for 5, and a request for 6
 -- and 7. What is left of the word by 8 says how many, or which interrupt.

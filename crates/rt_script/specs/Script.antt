@@ -40,7 +40,7 @@ HasName names line = Unit {0}
 abbrev pub HasNames : Names → List Line → Type 0
 HasNames names script = AllByRecursion (HasName names) script
 
--- a line expanded; a device's requests arrive at its place
+-- a line expanded; a device's requests arrive at it
 abbrev pub line_events : Line → List Event
 line_events (Steps n) = replicate n Step
 line_events (Ticks n) = replicate n Tick

@@ -10,7 +10,7 @@ use Rattle.std.proofs.lemmas.Option.{same_Some}
 use Rattle.rt_lemmas.proofs.Bools.{true_and_false}
 use Rattle.rt_lemmas.proofs.Lists.{find_has, mapped_at}
 use Rattle.rt_lemmas.proofs.Membership.{all_weaker}
-use Rattle.rt_lemmas.proofs.Places.{there_is}
+use Rattle.rt_lemmas.proofs.Indices.{there_is}
 use Rattle.rt_ids.specs.Lists.{is_some_and, or_zero}
 use Rattle.rt_ids.specs.Choice.{best, better_of}
 use Rattle.rt_ids.specs.Priority.{hardware}
@@ -90,7 +90,7 @@ module _ (app : App) (at : Entries) (few : 3 ≤ app.bits) (many : app.bits ≤ 
   abbrev pub IsServed : IrqRow → Type 0
   IsServed r = r.handler ≡ option_map (handler_row app at) (service_at app r.number)
 
-  -- what serves by place serves by number
+  -- what serves by index serves by number
   by_number : (i : ℕ) (d : IrqDecl) → slice_get app.irqs i ≡ Some d
       → slice_get (service_of app i) 0 ≡ service_at app d.number
   by_number i d is = first_is_found (λ s. s.irq == i) (services app)

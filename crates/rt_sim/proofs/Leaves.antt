@@ -5,7 +5,7 @@ use Rattle.std.proofs.Common.{length, map, drop, slice_get, slice_index, Some, N
 use Rattle.std.specs.List.{AllByRecursion}
 use Rattle.std.proofs.lemmas.Option.{slice_get_within, slice_get-get_or}
 use Rattle.rt_lemmas.proofs.Bools.{true_and_false, or_left}
-use Rattle.rt_lemmas.proofs.Places.{there_is}
+use Rattle.rt_lemmas.proofs.Indices.{there_is}
 use Rattle.rt_ids.specs.Lists.{then_from}
 use Rattle.rt_ids.specs.Holder.{Holder, Guarded}
 use Rattle.rt_ids.specs.Content.{Values, number}

@@ -8,7 +8,7 @@ use Rattle.rt_stack.specs.Region.{Region, used_words, top, below, region_after_p
 use Rattle.rt_stack.specs.Top.{with_top}
 use Rattle.rt_stack.proofs.Loan.{refill-last, refill-same}
 
--- where the last n of m words were lent, from place k on, the region has what is written there
+-- where the last n of m words were lent, from index k on, the region has what is written there
 pub with_top-lent : (m n k size : ℕ) (xs ws : List ℕ) (r : Region) → m ≡ length xs → n ≤ m → k ≡ m - n
     → record { words = xs; size = size } ≡ r
     → record { words = refill m xs (take k xs ++ (ws ++ drop (length ws) (drop k xs))); size = size } ≡ with_top r n ws
@@ -21,13 +21,13 @@ behind r xs ws = record r { words = xs ++ ws }
 
 pub top-behind : (r : Region) (xs ws : List ℕ) (n : ℕ) → length ws ≡ n → top (behind r xs ws) n ≡ ws
 top-behind r xs ws n same =
-    let place : length (xs ++ ws) - n ≡ length xs = omega (arith, length-append xs ws) in
-    ap (λ k. drop k (xs ++ ws)) place ∙ drop-append_seam xs ws
+    let index : length (xs ++ ws) - n ≡ length xs = omega (arith, length-append xs ws) in
+    ap (λ k. drop k (xs ++ ws)) index ∙ drop-append_seam xs ws
 
 pub below-behind : (r : Region) (xs ws : List ℕ) (n : ℕ) → length ws ≡ n → below (behind r xs ws) n ≡ xs
 below-behind r xs ws n same =
-    let place : length (xs ++ ws) - n ≡ length xs = omega (arith, length-append xs ws) in
-    ap (λ k. take k (xs ++ ws)) place ∙ take-append_seam xs ws
+    let index : length (xs ++ ws) - n ≡ length xs = omega (arith, length-append xs ws) in
+    ap (λ k. take k (xs ++ ws)) index ∙ take-append_seam xs ws
 
 pub top-pushed : (r : Region) (n : ℕ) → top (region_after_push r n) n ≡ replicate n 0
 top-pushed r n = top-behind r r.words (replicate n 0) n (length-replicate n 0)

@@ -9,8 +9,8 @@ use Rattle.std.specs.List.{refill}
 pub range-last : (n m k : ℕ) (xs : List ℕ) → m ≡ length xs → n ≤ m → k ≡ m - n
     → slice_range xs k m ≡ drop (length xs - n) xs
 range-last n m k xs long within from =
-    let place : k ≡ length xs - n = omega arith in
-    take_all (m - k) (drop k xs) (omega (arith, length-drop k xs)) ∙ ap (λ j. drop j xs) place
+    let index : k ≡ length xs - n = omega arith in
+    take_all (m - k) (drop k xs) (omega (arith, length-drop k xs)) ∙ ap (λ j. drop j xs) index
 
 -- what is written there leaves all below
 pub refill-from : (m n k : ℕ) (xs ws : List ℕ) → m ≡ length xs → k + n ≡ m
@@ -36,8 +36,8 @@ pub refill-last : (m n k : ℕ) (xs ws : List ℕ) → m ≡ length xs → n ≤
     → refill m xs (take k xs ++ (ws ++ drop (length ws) (drop k xs)))
     ≡ take (length xs - n) xs ++ refill n (drop (length xs - n) xs) ws
 refill-last m n k xs ws long within from =
-    let place : k ≡ length xs - n = omega arith in
-    refill-from m n k xs ws long (omega arith) ∙ ap (λ j. take j xs ++ refill n (drop j xs) ws) place
+    let index : k ≡ length xs - n = omega arith in
+    refill-from m n k xs ws long (omega arith) ∙ ap (λ j. take j xs ++ refill n (drop j xs) ws) index
 
 -- a list of the wanted length stands there as it is
 pub refill-same : (n : ℕ) (xs ws : List ℕ) → length xs ≡ n → length ws ≡ n → refill n xs ws ≡ ws

@@ -88,7 +88,7 @@ module _ (verb : List ℕ) (words : List (Bor (List ℕ))) (d : Bor (List ℕ)) 
         λ is. test ∙ decides.1 (head_of_four (sym t.3 ∙ is.3)),
       )
 
--- two words, by their places
+-- two words, by their indices
 pub pair_of : (words : List (Bor (List ℕ))) (d : Bor (List ℕ)) → 2 ≤ length words → length words < 3
     → texts words ≡ (get_or words 0 d).now ∷ (get_or words 1 d).now ∷ []
 pair_of [] d least most = absurd (omega arith)

@@ -23,7 +23,7 @@ use Rattle.rt_ids.specs.Word.{is_identifier}
 use Rattle.rt_lines.specs.Answers.{and_then, and_make}
 use Rattle.rt_lines.specs.Numbers.{are_digits, has_no_leading_zero, number_below}
 use Rattle.rt_trace.specs.Lined.{IsDeclared, IsTask}
-use Rattle.rt_trace.specs.Operand.{number_at, place_or_wrong, irq_at, task_at, resource_at}
+use Rattle.rt_trace.specs.Operand.{number_at, index_or_wrong, irq_at, task_at, resource_at}
 use Rattle.rt_trace.specs.declared.operand.Wrong.{Wrong}
 use Rattle.rt_trace.specs.declared.operand.Wrong.TheVariants as wrong
 use Rattle.rt_trace.proofs.Tables.{found_passes, found_at}
@@ -87,28 +87,28 @@ number_spelling bound n word few is =
     (sym text ∙ ap decimal same, omega (arith, below, same))
 
 -- what is found of a name
-pub found_ok : (word : List ℕ) (index : Option ℕ) (n : ℕ) → place_or_wrong word index ≡ Ok n
+pub found_ok : (word : List ℕ) (index : Option ℕ) (n : ℕ) → index_or_wrong word index ≡ Ok n
     → (is_identifier word ≡ true) × (index ≡ Some n)
 found_ok word index n e =
     chosen (is_identifier word) (ok_or index wrong.Name) (Err wrong.Form) n
     ((is_identifier word ≡ true) × (index ≡ Some n)) e
     (λ named is. (named, or_ok index wrong.Name n is)) (λ _ is. absurd (cc))
 
-place_named : (texts : List (List ℕ)) (word : List ℕ) (i : ℕ) → position (bytes_eq word) texts ≡ Some i
+index_named : (texts : List (List ℕ)) (word : List ℕ) (i : ℕ) → position (bytes_eq word) texts ≡ Some i
     → (word ≡ get_or texts i []) × (i < length texts)
-place_named texts word i e =
+index_named texts word i e =
     let there = position-Some (bytes_eq word) texts i [] e in
     ((bytes_eq-Decides word (get_or texts i [])).0 there.1, there.0)
 
 pub task_spelling : (names : Names) (word : List ℕ) (t : ℕ) → task_at names word ≡ Ok t → (word ≡ task_name names t)
     × IsTask names t
 task_spelling names word t e = let known = found_ok word (task_of names word) t e in
-    place_named names.tasks word t known.1
+    index_named names.tasks word t known.1
 
 pub resource_spelling : (names : Names) (word : List ℕ) (r : ℕ) → resource_at names word ≡ Ok r
     → (word ≡ resource_name names r) × (r < length names.shared)
 resource_spelling names word r e = let known = found_ok word (resource_of names word) r e in
-    place_named names.shared word r known.1
+    index_named names.shared word r known.1
 
 -- the row of a name is the first of its number, where numbers differ
 row_numbered : (irqs : List (List ℕ × ℕ)) (row : List ℕ × ℕ) (i : ℕ) → AreDifferent (map (λ irq. irq.1) irqs)

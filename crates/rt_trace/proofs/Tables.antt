@@ -41,7 +41,7 @@ pub resource_found : (names : Names) (resource : ℕ) → AreNames names → res
     → resource_of names (resource_name names resource) ≡ Some resource
 resource_found names resource are within = found_first names.shared resource are.shared_differ within
 
--- what is found passes the test, and stands at some place
+-- what is found passes the test, and stands at some index
 pub found_passes : {X : Type 0} (test : X → Bool) (xs : List X) (y : X) → find test xs ≡ Some y → test y ≡ true
 found_passes test [] y is = absurd (none-some y is)
 found_passes test (x ∷ xs) y is = one (found_passes test xs y) (test x) refl is
@@ -51,14 +51,14 @@ found_passes test (x ∷ xs) y is = one (found_passes test xs y) (test x) refl i
     one rest true e is = subst (λ z. test z ≡ true) (same_Some x y is) e
     one rest false e is = rest is
 
-at_place : {X : Type 0} (xs : List X) (index : Option ℕ) (y : X) → option_and_then (slice_get xs) index ≡ Some y
+at_index : {X : Type 0} (xs : List X) (index : Option ℕ) (y : X) → option_and_then (slice_get xs) index ≡ Some y
     → (i : ℕ) × (slice_get xs i ≡ Some y)
-at_place xs None y is = absurd (none-some y is)
-at_place xs (Some i) y is = (i, is)
+at_index xs None y is = absurd (none-some y is)
+at_index xs (Some i) y is = (i, is)
 
 pub found_at : {X : Type 0} (test : X → Bool) (xs : List X) (y : X) → find test xs ≡ Some y → (i : ℕ)
     × (slice_get xs i ≡ Some y)
-found_at test xs y is = at_place xs (position test xs) y (sym (find_by_position test xs) ∙ is)
+found_at test xs y is = at_index xs (position test xs) y (sym (find_by_position test xs) ∙ is)
 
 bare : List ℕ × ℕ → List ℕ
 bare irq = irq.0

@@ -27,20 +27,20 @@ abbrev pub number_at : ℕ → List ℕ → Result ℕ Wrong
 number_at bound word = ok_or (number_below bound word) wrong.Form
 
 -- what a name is found to be, where the word is a name
-abbrev pub place_or_wrong : List ℕ → Option ℕ → Result ℕ Wrong
-place_or_wrong word index = if is_identifier word then ok_or index wrong.Name else Err wrong.Form
+abbrev pub index_or_wrong : List ℕ → Option ℕ → Result ℕ Wrong
+index_or_wrong word index = if is_identifier word then ok_or index wrong.Name else Err wrong.Form
 
 -- the interrupt of this name
 abbrev pub irq_at : Names → List ℕ → Result ℕ Wrong
-irq_at names word = place_or_wrong word (irq_of names word)
+irq_at names word = index_or_wrong word (irq_of names word)
 
 -- the task of this name
 abbrev pub task_at : Names → List ℕ → Result ℕ Wrong
-task_at names word = place_or_wrong word (task_of names word)
+task_at names word = index_or_wrong word (task_of names word)
 
 -- the shared resource of this name
 abbrev pub resource_at : Names → List ℕ → Result ℕ Wrong
-resource_at names word = place_or_wrong word (resource_of names word)
+resource_at names word = index_or_wrong word (resource_of names word)
 
 -- the ready queue of this name
 abbrev pub ready_at : List ℕ → Result Section Wrong

@@ -24,7 +24,7 @@ pub fn line(item: &Item, names: &Names) -> ArrayVec<u8, 160>
     line
 }
 
-// Each function below writes from a place of a text on, and says where that ends: what stands in front of the place
+// Each function below writes from an index of a text on, and says where that ends: what stands in front of the index
 // stays, and behind it stands what was written.
 
 /// Writes the line of an item, with its line feed.

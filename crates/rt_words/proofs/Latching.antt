@@ -15,7 +15,7 @@ use Rattle.rt_words.specs.Ending.{LatchedAreZero}
 use Rattle.rt_words.specs.Inside.Seats.{Seat}
 use Rattle.rt_words.specs.Inside.Steps.{view_after_call, latch_step}
 use Rattle.rt_words.proofs.Lists.{in_push, drop_push}
-use Rattle.rt_words.proofs.Bits.{blank, zero_padding, zero_here, zero_below, zero_pending, get_or_padding, place_of}
+use Rattle.rt_words.proofs.Bits.{blank, zero_padding, zero_here, zero_below, zero_pending, get_or_padding, bit_of_word}
 use Rattle.rt_words.proofs.Histories.{entry, Leads-push}
 use Rattle.rt_words.proofs.Seeing.{prefix_self, seen_more, extends}
 use Rattle.rt_words.proofs.Seats.{know_set, core_knows, seated_latch}
@@ -101,7 +101,7 @@ latches_first may slots k me s kept homes at small =
         λ bit l e.
             subst (λ (m : List ℕ). IsPending m (32 * k + bit))
             (sym (core_knows may kept.0 s.views me.0 st.seated st.same_may))
-            (st.row.within (32 * k + bit) (place_of s.words k bit l ∙ e)),
+            (st.row.within (32 * k + bit) (bit_of_word s.words k bit l ∙ e)),
       ),
     )
 

@@ -1,4 +1,4 @@
--- Lists: what stands in them, and views by their places.
+-- Lists: what stands in them, and views by their indices.
 use Rattle.std.proofs.Common.{◌≡◌, ℕ, zero, suc, ◌<◌, ◌≤◌, ◌⊎◌, List, [], ◌∷◌, ◌++◌, length, map, get_or, drop, refl}
 use Rattle.std.proofs.Common.{sym, ap, subst, inl, inr, ⊎_elim, Contains, arith}
 use mathlib.Core.Option.{some, some-injective, some-ne-none}
@@ -38,7 +38,7 @@ module _ {X : Type 0} where
   drop_whole [] = refl
   drop_whole (x ∷ xs) = drop_whole xs
 
-  -- the last place, or an earlier one
+  -- the last index, or an earlier one
   pub at_push : (l : List X) (a b : X) (j : ℕ) → get_elem? (l ++ a ∷ []) j ≡ some b → (get_elem? l j ≡ some b)
       ⊎ ((j ≡ length l) × (a ≡ b))
   at_push [] a b zero e = inr (refl, some-injective a b e)

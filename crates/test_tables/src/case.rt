@@ -42,8 +42,8 @@ impl Case {
     }
 }
 
-/// The place of the part of a name, which is made where there is none.
-fn place_of(alloc: Global, parts: &mut Vec<Part>, name: &str) -> Result<usize, Unread> {
+/// The index of the part of a name, which is made where there is none.
+fn index_of(alloc: Global, parts: &mut Vec<Part>, name: &str) -> Result<usize, Unread> {
     for (index, part) in parts.iter().enumerate() {
         if part.name.as_str() == name {
             return Ok(index);
@@ -64,7 +64,7 @@ fn extend(
     name: &str,
     piece: Piece<'_>,
 ) -> Result<(), Unread> {
-    let index = place_of(alloc, parts, name)?;
+    let index = index_of(alloc, parts, name)?;
     if let Some(part) = parts.get_mut(index) {
         push_piece(alloc, &mut part.text, piece)?;
     }

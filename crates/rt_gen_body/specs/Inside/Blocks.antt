@@ -77,7 +77,7 @@ module _ (c : Context) where
   abbrev mutual
     pub statement_code : ℕ → ℕ → ℕ → Statement → List Line
     statement_code threshold lock at (Bind x v) = bind_code c threshold at x v
-    statement_code threshold lock at (Assign x e place) = assign_code c x e
+    statement_code threshold lock at (Assign x e offset) = assign_code c x e
     statement_code threshold lock at (Branch e first second) =
         let test : List Line = value_code c e in
         test
@@ -85,7 +85,7 @@ module _ (c : Context) where
         (λ a. block_code threshold lock a second) second
     statement_code threshold lock at (Repeat x first last turn) =
         loop_code at x first last (block_code threshold lock (at + 4) turn)
-    statement_code threshold lock at (Locked r inner place) =
+    statement_code threshold lock at (Locked r inner offset) =
         lock_code threshold lock at r (λ inside slot a. block_code inside slot a inner)
     statement_code threshold lock at (Emit e) = emit_code c e
     statement_code threshold lock at (Pend i) = plain (instr.Post (slice_index c.numbers i)) ∷ []

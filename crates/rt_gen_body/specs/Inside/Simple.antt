@@ -15,10 +15,10 @@ use Rattle.rt_gen_body.specs.Inside.Values.{Context, store, value_code, argument
 
 -- the expressions of a spawn, in the order of the text: its delay, its arguments or its handle
 abbrev pub values_of : Spawn → List Expression
-values_of (Soon n args place) = args
-values_of (After word delay n args place) = delay ∷ args
-values_of (Cancel word n handle place) = handle ∷ []
-values_of (Move word delay n handle place) = delay ∷ handle ∷ []
+values_of (Soon n args offset) = args
+values_of (After word delay n args offset) = delay ∷ args
+values_of (Cancel word n handle offset) = handle ∷ []
+values_of (Move word delay n handle offset) = delay ∷ handle ∷ []
 
 -- the code of a `spawn_after`, a `cancel` and a `reschedule_after`
 abbrev pub timed_lines : Timed → App → ℕ → ℕ → ℕ → ℕ → List Line
@@ -48,10 +48,10 @@ module _ (c : Context) where
 
   -- the code of a spawn whose values are in their slots
   abbrev pub goes_code : ℕ → ℕ → Spawn → List Line
-  goes_code threshold at (Soon n args place) = message_code threshold at n
-  goes_code threshold at (After word delay n args place) = timed_code timed.After threshold at n
-  goes_code threshold at (Cancel word n handle place) = timed_code timed.Cancel threshold at n
-  goes_code threshold at (Move word delay n handle place) = timed_code timed.Move threshold at n
+  goes_code threshold at (Soon n args offset) = message_code threshold at n
+  goes_code threshold at (After word delay n args offset) = timed_code timed.After threshold at n
+  goes_code threshold at (Cancel word n handle offset) = timed_code timed.Cancel threshold at n
+  goes_code threshold at (Move word delay n handle offset) = timed_code timed.Move threshold at n
 
   -- the whole code of a spawn: its values, and then what it does with them
   abbrev pub send_code : ℕ → ℕ → Spawn → List Line
@@ -62,7 +62,7 @@ module _ (c : Context) where
   -- a `let` of a variable
   abbrev pub bind_code : ℕ → ℕ → ℕ → Value → List Line
   bind_code threshold at x (Calc e) = value_code c e ++ plain (instr.Copy x c.expressions) ∷ []
-  bind_code threshold at x (Now place) = plain (instr.Clock x) ∷ []
+  bind_code threshold at x (Now offset) = plain (instr.Clock x) ∷ []
   bind_code threshold at x (Call s) = send_code threshold at s ++ plain (instr.Copy x c.spawns) ∷ []
 
   -- an assignment

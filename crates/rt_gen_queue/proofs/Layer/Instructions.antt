@@ -16,7 +16,7 @@ use Rattle.rt_code.specs.declared.instr.Instr.TheVariants as instr
 use Rattle.rt_code.specs.declared.processor.Request.TheVariants as request
 use Rattle.rt_gen_queue.proofs.Layer.{Correct.Gives, Jobs.Here, Jobs.Setting, Jobs.spot}
 
--- places that are there, one by one
+-- indices that are there, one by one
 pub one_there : (a n : ℕ) → a < n → (nat_lt a n && true) ≡ true
 one_there a n h = rw (lt-ltb a n h) refl
 
@@ -26,7 +26,7 @@ two_there a b n h k = rw (lt-ltb a n h, lt-ltb b n k) refl
 pub three_there : (a b c n : ℕ) → a < n → b < n → c < n → (nat_lt a n && (nat_lt b n && (nat_lt c n && true))) ≡ true
 three_there a b c n h k l = rw (lt-ltb a n h, lt-ltb b n k, lt-ltb c n l) refl
 
--- One place of a list has a value, and the others are as before.
+-- A list has a value at one index, and is as before at the others.
 pub record Wrote (d v : ℕ) (before after : List ℕ) : Type 0 where
   pub here : slice_index after d ≡ v
   pub others : (e : ℕ) → e ≢ d → slice_index after e ≡ slice_index before e

@@ -16,7 +16,7 @@ use Rattle.rt_gen_queue.proofs.Layer.Runs.{word_of}
 use Rattle.rt_gen_queue.proofs.Layer.Window.{Frame, Now, free_there, is_free, window, window_free, window_set}
 use Rattle.rt_gen_queue.proofs.Layer.Window.{window_there}
 
--- The place behind a line that may have changed all but the open sections and the deadlines.
+-- Where the job is behind a line that may have changed all but the open sections and the deadlines.
 abbrev pub behind_line : Here → List Entry → List ℕ → (Holder → List Entry) → Doing Values → Here
 behind_line h places cells queues rest = record h {
   done = suc h.done;

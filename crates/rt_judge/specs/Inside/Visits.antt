@@ -9,5 +9,5 @@ abbrev pub point_of : Owner → Visit → Point
 point_of owner visit = point visit.address owner visit.nesting
 
 -- a point as a visit
-abbrev pub place_of : Point → Visit
-place_of p = record { address = p.address; nesting = p.inside }
+abbrev pub visit_of : Point → Visit
+visit_of p = record { address = p.address; nesting = p.inside }

@@ -16,7 +16,7 @@ use Rattle.rt_points.specs.Leading.{IsPoint, LeadsTo, inside_after}
 use Rattle.rt_points.specs.Rules.{NestsInOneWay}
 use Rattle.rt_points.specs.declared.rule.TheConstants.{MOST_OPEN}
 use Rattle.rt_judge.specs.Inside.Exits.{targets, ends_init}
-use Rattle.rt_judge.specs.Inside.Visits.{point_of, place_of}
+use Rattle.rt_judge.specs.Inside.Visits.{point_of, visit_of}
 use Rattle.rt_judge.specs.declared.walk.Meeting.{Meeting}
 use Rattle.rt_judge.specs.declared.walk.Meeting.TheVariants.{New, Known, Ambiguous}
 use Rattle.rt_judge.specs.declared.walk.Visit.{Visit}
@@ -98,9 +98,9 @@ pub record IsWalking (img : Image) (owner : Owner) (starts : List Visit) (t : Ta
   pub behind : ArePoints img Thread bs
   pub began : (visit : Visit) → Contains starts visit → IsKnown t ws visit
   pub closed : (visit : Visit) (q : Point) → Has t visit → LeadsTo img (point_of owner visit) q → q.owner ≡ owner
-      → IsKnown t ws (place_of q)
+      → IsKnown t ws (visit_of q)
   pub left : (visit : Visit) (q : Point) → Has t visit → LeadsTo img (point_of owner visit) q → q.owner ≢ owner
-      → Contains bs (place_of q)
+      → Contains bs (visit_of q)
   pub short : (visit : Visit) → Has t visit → visit.address < 2 ^ 32
   pub few : btree_map_len t ≤ 2 ^ 32
   pub ordered : IsOrdered nat_cmp t
@@ -111,9 +111,9 @@ pub record IsWalked (img : Image) (owner : Owner) (starts : List Visit) (t : Tab
   pub behind : ArePoints img Thread bs
   pub began : (visit : Visit) → Contains starts visit → Has t visit
   pub closed : (visit : Visit) (q : Point) → Has t visit → LeadsTo img (point_of owner visit) q → q.owner ≡ owner
-      → Has t (place_of q)
+      → Has t (visit_of q)
   pub left : (visit : Visit) (q : Point) → Has t visit → LeadsTo img (point_of owner visit) q → q.owner ≢ owner
-      → Contains bs (place_of q)
+      → Contains bs (visit_of q)
   pub ordered : IsOrdered nat_cmp t
 
 -- a walk is at its end

@@ -25,8 +25,8 @@ abbrev pub word_at : List ℕ → Result ℕ Wrong
 word_at word = number_at (2 ^ 32) word
 
 -- what a name is found to be, where the word is of the form of a name
-abbrev pub place_or_wrong : List ℕ → Option ℕ → Result ℕ Wrong
-place_or_wrong word index = if is_identifier word then ok_or index wrong.Name else Err wrong.Form
+abbrev pub index_or_wrong : List ℕ → Option ℕ → Result ℕ Wrong
+index_or_wrong word index = if is_identifier word then ok_or index wrong.Name else Err wrong.Form
 
 -- the interrupt, where the word is the name that its number is written by
 abbrev pub first_named : Names → List ℕ → ℕ → Result ℕ Wrong
@@ -34,15 +34,15 @@ first_named names word irq = if bytes_eq (irq_name names irq) word then Ok irq e
 
 -- the interrupt of a name
 abbrev pub irq_at : Names → List ℕ → Result ℕ Wrong
-irq_at names word = and_then (place_or_wrong word (irq_of names word)) (first_named names word)
+irq_at names word = and_then (index_or_wrong word (irq_of names word)) (first_named names word)
 
 -- the task of a name
 abbrev pub task_at : Names → List ℕ → Result ℕ Wrong
-task_at names word = place_or_wrong word (task_of names word)
+task_at names word = index_or_wrong word (task_of names word)
 
 -- the shared resource of a name
 abbrev pub resource_at : Names → List ℕ → Result ℕ Wrong
-resource_at names word = place_or_wrong word (resource_of names word)
+resource_at names word = index_or_wrong word (resource_of names word)
 
 -- the ready queue of this name
 abbrev pub ready_at : List ℕ → Result Section Wrong

@@ -1,6 +1,6 @@
 use Rattle.std.proofs.Common.{arith}
 use Rattle.std.proofs.lemmas.List.{length-map}
-use Rattle.rt_lemmas.proofs.Places.{there_is}
+use Rattle.rt_lemmas.proofs.Indices.{there_is}
 use Rattle.rt_app.specs.View.{app_of, task_of}
 use Rattle.rt_build.proofs.Grown.{next_task}
 use Rattle.rt_build.proofs.Abutting.{tasks_added}

@@ -10,7 +10,7 @@ returns-in_err-index c =
     let app = app_of c.args.app.now in
     let by = deepest_by app c.requires.accepted c.requires.form c.args.priority c.greatest_frame-words.result
     c.greatest_frame-words.ensures in
-    c.from_residual.ensures ∙ ap (λ o. then_from o (irq_number app)) (sym c.in_err-index.was ∙ c.place_bound.ensures)
+    c.from_residual.ensures ∙ ap (λ o. then_from o (irq_number app)) (sym c.in_err-index.was ∙ c.index_bound.ensures)
     ∙ by
 
 pub returns : goal.returns
@@ -18,4 +18,4 @@ returns c =
     let app = app_of c.args.app.now in
     let by = deepest_by app c.requires.accepted c.requires.form c.args.priority c.greatest_frame-words.result
     c.greatest_frame-words.ensures in
-    c.number_at.ensures ∙ ap (λ o. then_from o (irq_number app)) (sym c.in_ok-index.was ∙ c.place_bound.ensures) ∙ by
+    c.number_at.ensures ∙ ap (λ o. then_from o (irq_number app)) (sym c.in_ok-index.was ∙ c.index_bound.ensures) ∙ by

@@ -3,7 +3,7 @@ use Rattle.std.specs.List.{AllByRecursion}
 use Rattle.rt_app.specs.View.{app_of}
 use Rattle.rt_app.specs.declared.app.IrqDecl.{IrqDecl}
 use Rattle.rt_code.specs.Image.{Image}
-use Rattle.rt_lemmas.proofs.Lists.{all_from_places}
+use Rattle.rt_lemmas.proofs.Lists.{all_from_indices}
 use Rattle.rt_count.specs.Summary.{summary_of}
 use Rattle.rt_count.specs.declared.summary.Summary.{Summary}
 use Rattle.rt_soak.specs.Soak.{IsSoak, soak_summary}
@@ -18,7 +18,7 @@ total-requires-clause-each g c =
     let parts : List Part = c.in_ok-parts.parts.items in
     let many : length parts ≡ c.args.workers = omega (arith, c.in_ok-parts.ensures.all, c.in_ok-parts.parts.ok.0) in
     subst (AllByRecursion AreFew) (sym c.deref-3.ensures.value)
-    (all_from_places AreFew parts
+    (all_from_indices AreFew parts
     (λ k d within. few_in image c.deref-2.result.now c.args.number c.args.count c.args.workers _ k
     (c.in_ok-parts.ensures.each k d (omega (arith, within, many)))))
 

@@ -1,6 +1,6 @@
 use Rattle.std.proofs.Common.{◌≡◌, ℕ, ◌+◌, ◌*◌, ◌^◌, ◌<◌, get_or, ap, ◌∙◌, arith}
 use Rattle.rt_nvic.proofs.ReadyBits.{scanned_past}
-use Rattle.rt_nvic.proofs.Scanning.{number_of_step, place_of_step, best_of_step, none_from}
+use Rattle.rt_nvic.proofs.Scanning.{number_of_step, bit_of_step, best_of_step, none_from}
 use Rattle.rt_nvic.proofs.best.Best.with_word.Goals as goal
 
 word_of : (c : goal.In-loop-from) → c.from-bits.result ≡ get_or c.args.words.now c.args.k 0
@@ -20,7 +20,7 @@ loop-from-preserved c =
     let e : w ≡ get_or ws c.args.k 0 = c.from-bits.ensures ∙ ap (λ (i : ℕ). get_or ws i 0) c.from.ensures in
     let low : w < 2 ^ 32 = let f = c.type_inv.words c.from.result in let e = c.from-bits.ensures in omega arith in
     record {
-      within = place_of_step ws c.args.k w c.loop-from.from e low c.loop-from-test.true;
+      within = bit_of_step ws c.args.k w c.loop-from.from e low c.loop-from-test.true;
       best = best_of_step c.args.priorities.now ws c.args.k w c.loop-from.from c.loop-from.best
           c.with_number-best.result e low c.loop-from-test.true c.with_number-best.ensures.low
           c.with_number-best.ensures.value c.loop-from.invariant.best;

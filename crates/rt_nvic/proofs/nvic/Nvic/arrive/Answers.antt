@@ -35,5 +35,5 @@ returns-clause-each c = λ irq low.
     let long = sym (ap (λ (n : Nvic). length n.pending) c.self.view_is) ∙ length-flags c.self.inside.pending in
     let all : c.loop-bit.bit ≡ 32 = omega arith in
     ap (λ (n : Nvic). is_pending n irq) c.loop-bit.invariant
-    ∙ ap (λ (places : ℕ). get_or (pending_with (arrivals_below c.args.k c.args.bits places) pending) irq false) all
+    ∙ ap (λ (below : ℕ). get_or (pending_with (arrivals_below c.args.k c.args.bits below) pending) irq false) all
     ∙ each c.args.k c.args.bits irq pending (omega arith)

@@ -3,7 +3,7 @@ use Rattle.std.proofs.Common.{◌≡◌, ◌==◌, ◌&&◌, find, map, take, No
 use Rattle.rt_app.specs.Stack.{is_bound_at}
 use Rattle.rt_app.specs.View.{task_of}
 use Rattle.rt_reach.proofs.Greatest.{words}
-use Rattle.rt_reach.proofs.priorities.place_bound.Given as goal
+use Rattle.rt_reach.proofs.priorities.index_bound.Given as goal
 
 abbrev pub invariant-loop-number : goal.invariant-loop-number
 invariant-loop-number l =

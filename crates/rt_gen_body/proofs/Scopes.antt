@@ -1,4 +1,4 @@
--- What is known of a body, of what its code is generated with and of a place in it, what a statement asks of the frame
+-- What is known of a body, of what its code is generated with and of a point in it, what a statement asks of the frame
 -- there, and what it means that code does what it is to do.
 use Rattle.rt_gen_queue.proofs.Vocabulary.{AllByRecursion, App, AtPriority, BODY_COST, Block, Bool, Contains, Doing}
 use Rattle.rt_gen_queue.proofs.Vocabulary.{Entry}
@@ -71,7 +71,7 @@ listed_by m = map (λ o. o.local) m.body.local
 abbrev pub SavedBetween : ℕ → ℕ → List Held → Type 0
 SavedBetween low high held = AllByRecursion (λ d. (low ≤ d) × (d < high)) (saved_slots held)
 
--- a place with these sections open
+-- a point with these sections open
 pub record Inside (b : Body) (p : Scope) (held : List Held) : Type 0 where
   pub below : (y : ℕ) → Contains p.visible y → y < p.count
   pub fixed : (y : ℕ) → Contains p.fixed y → y < p.count
@@ -166,7 +166,7 @@ pub record Performs (b : Body) (p : Scope) (visible : List ℕ) (lines : ℕ →
   pub runs : {h : Here} {vars : List ℕ} {vs : Values} (later : Later) → Begins b p h (lines h.at) cost vars vs
       → h.rest ≡ doing later vars vs → Behind b p visible h (length (lines h.at)) cost later → S b.z h
 
--- the same place by other names
+-- the same point by other names
 pub named : {z : Setting} {h : Here} {done at : ℕ} {rest : Doing Values} → h.done ≡ done → h.at ≡ at → h.rest ≡ rest
     → S z (record h { done = done; at = at; rest = rest }) → S z h
 named {z = z} {h = h} {done = done} {at = at} done_is at_is rest_is correct =

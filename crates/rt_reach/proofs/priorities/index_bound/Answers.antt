@@ -5,9 +5,9 @@ use Rattle.rt_lemmas.proofs.Bools.{and_both}
 use Rattle.rt_app.specs.Stack.{is_bound_at, thread_frame}
 use Rattle.rt_app.specs.View.{task_of, app_of}
 use Rattle.rt_reach.proofs.Greatest.{words, frame_at, find_here, find_not}
-use Rattle.rt_reach.proofs.priorities.place_bound.Goals as goal
-use Rattle.rt_reach.proofs.priorities.place_bound.Goals.{else-is_bound_at-via-then-is_bound_at+else-frames-number}
-use Rattle.rt_reach.proofs.priorities.place_bound.Goals.{else-is_bound_at-via-else-is_bound_at}
+use Rattle.rt_reach.proofs.priorities.index_bound.Goals as goal
+use Rattle.rt_reach.proofs.priorities.index_bound.Goals.{else-is_bound_at-via-then-is_bound_at+else-frames-number}
+use Rattle.rt_reach.proofs.priorities.index_bound.Goals.{else-is_bound_at-via-else-is_bound_at}
 
 both_fail : (a b : Bool) → b ≡ false → (a && b) ≡ false
 both_fail true b is = is

@@ -1,4 +1,4 @@
--- On what stands at a place of a list that is one behind another.
+-- On what stands at an index of a list that is one behind another.
 use Rattle.std.proofs.Common.{◌≡◌, ◌⊎◌, ℕ, zero, suc, ◌+◌, ◌<◌, List, [], ◌∷◌, ◌++◌, length, map, get_or, Some}
 use Rattle.std.proofs.Common.{slice_get, refl, ap, inl, inr, arith}
 use Rattle.std.proofs.lemmas.Option.{same_Some, none-some}
