@@ -1,22 +1,14 @@
 // Runs in which a gate holds the core and a device, so that it is known which pends meet and when they arrive. A run
 // that does one after the other fails, and so does one that makes its arrivals up: the gate alone knows the step.
 use crate::live::end_of;
+use crate::sides::Sides;
 use anyhow::{Context, Result};
 use rt_ids::Status;
 use std::alloc::Global;
-use std::sync::atomic::Ordering::SeqCst;
-use std::sync::atomic::{AtomicBool, AtomicU64};
-use std::thread;
 use std::thread::Threads;
-use std::time::{Clock, Duration};
+use std::time::Clock;
 use test_commands::{Gate, Outside, run_on};
 use test_tables::Case;
-
-/// How often a hold looks whether it is over, before it gives up.
-const TURNS: u32 = 10_000;
-
-/// How long it waits between two looks, in milliseconds.
-const PAUSE: u64 = 1;
 
 /// Pends of the device that meet before the core goes on; the pend behind them is held.
 const MEET: u64 = 2;
@@ -25,64 +17,23 @@ const MEET: u64 = 2;
 const LATER: u64 = 2;
 
 /// A gate that lets two pends of a device come before one core step, and the third behind the next.
-struct ByTurns<'a, R> {
-    rt: &'a R,
-    /// The core step that is held.
-    step: u64,
-    /// The core steps that have come.
-    steps: AtomicU64,
-    /// The pends that have come.
-    pends: AtomicU64,
-    /// Whether a hold gave up.
-    is_late: AtomicBool,
-}
+struct ByTurns<'a, R>(Sides<'a, R>);
 
 impl<R> Drop for ByTurns<'_, R> {
     fn drop(self) {
-        let ByTurns {
-            rt: _,
-            step: _,
-            steps: _,
-            pends: _,
-            is_late: _,
-        } = self;
-    }
-}
-
-/// Waits until so many have come, and tells whether they have before the hold gives up.
-pub(crate) fn is_in_time<R: Clock>(rt: &R, come: &AtomicU64, wanted: u64) -> bool {
-    for _turn in 0..TURNS {
-        if come.load(SeqCst) >= wanted {
-            return true;
-        }
-        thread::sleep(rt, Duration::from_millis(PAUSE));
-    }
-    false
-}
-
-impl<R: Clock> ByTurns<'_, R> {
-    /// Waits until so many have come.
-    fn hold(&self, come: &AtomicU64, wanted: u64) {
-        if !is_in_time(self.rt, come, wanted) {
-            self.is_late.store(true, SeqCst);
-        }
+        let ByTurns(_) = self;
     }
 }
 
 impl<R: Clock> Gate for ByTurns<'_, R> {
     fn before_step(&self, n: u64) {
-        self.steps.store(n.saturating_add(1), SeqCst);
-        if n == self.step {
-            self.hold(&self.pends, MEET + 1);
-        }
+        self.0.step(n, MEET + 1);
     }
 
     fn before_pend(&self, _device: u8, n: u64) {
-        self.pends.store(n.saturating_add(1), SeqCst);
-        if n == 0 {
-            self.hold(&self.steps, self.step.saturating_add(1));
-        } else if n == MEET {
-            self.hold(&self.steps, self.step.saturating_add(1 + LATER));
+        self.0.pend(n);
+        if n == MEET {
+            self.0.hold_behind(LATER);
         }
     }
 }
@@ -119,16 +70,11 @@ pub fn verdict<R: Threads + Clock + Sync>(
     alloc: Global,
     case: &Case,
 ) -> Result<&'static str> {
-    let gate = ByTurns {
-        rt,
-        step: u64::from(case.number("step").context("no number of a step")?),
-        steps: AtomicU64::new(0),
-        pends: AtomicU64::new(0),
-        is_late: AtomicBool::new(false),
-    };
+    let step = case.number("step").context("no number of a step")?;
+    let gate = ByTurns(Sides::of(rt, u64::from(step)));
     let outside = Outside::of(alloc, case.bytes("app"), case.bytes("second"))?;
     let ran = run_on(rt, alloc, &["live", "app", "script"], outside, &gate);
-    if gate.is_late.load(SeqCst) {
+    if gate.0.is_late() {
         return Ok("a hold gave up");
     }
     if ran.status != Status::Done {

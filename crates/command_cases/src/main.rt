@@ -10,6 +10,7 @@ mod held;
 mod live;
 mod messages;
 mod pairs;
+mod sides;
 mod slow;
 mod soaks;
 mod tokens;

@@ -1,12 +1,10 @@
 // Runs of two cores beside each other. When a request of the other core arrives is free: the output of each core is
 // audited by its own application, its account is compared, and its whole text where all of it is known.
-use crate::held::is_in_time;
 use crate::live::{end_of, is_audited};
+use crate::sides::Sides;
 use anyhow::{Context, Result};
 use rt_ids::Status;
 use std::alloc::Global;
-use std::sync::atomic::Ordering::SeqCst;
-use std::sync::atomic::{AtomicBool, AtomicU64};
 use std::thread::Threads;
 use std::time::Clock;
 use test_commands::{Gate, NoGate, Outside, Ran, run_on};
@@ -20,54 +18,22 @@ const ANSWERED: u64 = 2;
 
 /// A gate that holds the first request of the second core until a step of the first has come, and the first core at
 /// that step until the second core has answered. Cores that run one after the other do not come through it.
-struct Answers<'a, R> {
-    rt: &'a R,
-    /// The step of the first core that is held.
-    step: u64,
-    /// The steps of the first core that have come.
-    steps: AtomicU64,
-    /// The requests of the second core that have come.
-    requests: AtomicU64,
-    /// Whether a hold gave up.
-    is_late: AtomicBool,
-}
+struct Answers<'a, R>(Sides<'a, R>);
 
 impl<R> Drop for Answers<'_, R> {
     fn drop(self) {
-        let Answers {
-            rt: _,
-            step: _,
-            steps: _,
-            requests: _,
-            is_late: _,
-        } = self;
-    }
-}
-
-impl<R: Clock> Answers<'_, R> {
-    /// Waits until so many have come.
-    fn hold(&self, come: &AtomicU64, wanted: u64) {
-        if !is_in_time(self.rt, come, wanted) {
-            self.is_late.store(true, SeqCst);
-        }
+        let Answers(_) = self;
     }
 }
 
 impl<R: Clock> Gate for Answers<'_, R> {
     fn before_step(&self, n: u64) {
-        self.steps.store(n.saturating_add(1), SeqCst);
-        if n == self.step {
-            self.hold(&self.requests, ANSWERED);
-        }
+        self.0.step(n, ANSWERED);
     }
 
     fn before_pend(&self, core: u8, n: u64) {
-        if core != SECOND {
-            return;
-        }
-        self.requests.store(n.saturating_add(1), SeqCst);
-        if n == 0 {
-            self.hold(&self.steps, self.step.saturating_add(1));
+        if core == SECOND {
+            self.0.pend(n);
         }
     }
 }
@@ -174,15 +140,9 @@ pub fn verdict<R: Threads + Clock + Sync>(
         let ran = run_on(rt, alloc, &words, outside, &NoGate);
         return pair_difference(rt, alloc, case, &ran);
     };
-    let gate = Answers {
-        rt,
-        step: u64::from(step),
-        steps: AtomicU64::new(0),
-        requests: AtomicU64::new(0),
-        is_late: AtomicBool::new(false),
-    };
+    let gate = Answers(Sides::of(rt, u64::from(step)));
     let ran = run_on(rt, alloc, &words, outside, &gate);
-    if gate.is_late.load(SeqCst) {
+    if gate.0.is_late() {
         return Ok("a hold gave up");
     }
     pair_difference(rt, alloc, case, &ran)
