@@ -57,28 +57,7 @@ instr_same names (instr.Post irq) are has = ap (λ (r : Result ℕ Wrong). and_m
     (irq_back names irq are has)
 instr_same names (instr.Alarm s irq) are has = ap (λ (r : Result ℕ Wrong). and_make r (instr.Alarm s))
     (irq_back names irq are has)
-instr_same names (instr.Set d v) are has = refl
-instr_same names (instr.Copy d s) are has = refl
-instr_same names (instr.Calc o d a b) are has = refl
-instr_same names (instr.Load d c) are has = refl
-instr_same names (instr.Store c s) are has = refl
-instr_same names (instr.LoadAt d c s) are has = refl
-instr_same names (instr.StoreAt c s a) are has = refl
-instr_same names (instr.Jump l) are has = refl
-instr_same names (instr.JumpZ s l) are has = refl
-instr_same names (instr.Emit s) are has = refl
-instr_same names (instr.Clock d) are has = refl
-instr_same names instr.NoAlarm are has = refl
-instr_same names (instr.Raise d v) are has = refl
-instr_same names (instr.Restore s) are has = refl
-instr_same names (instr.Mask d) are has = refl
-instr_same names (instr.Unmask s) are has = refl
-instr_same names instr.Mark are has = refl
-instr_same names instr.Serve are has = refl
-instr_same names instr.Wait are has = refl
-instr_same names (instr.Call row s) are has = refl
-instr_same names instr.Back are has = refl
-instr_same names instr.Ret are has = refl
+instr_same names i are has = refl
 
 note_same : (names : Names) (n : Note) → AreNames names → HasNote names (Some n) → IsNoteWithin (Some n)
     → note_again names names n ≡ Ok n

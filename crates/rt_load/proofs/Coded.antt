@@ -89,61 +89,15 @@ note_is names (note.End b) = spaced1 (codes "end") (32 ∷ body_name names b)
 -- the first words are clean
 op_test : (o : Op) → list_any is_mark (op_word o) ≡ false
 op_test op.Add = refl
-op_test op.Sub = refl
-op_test op.Mul = refl
-op_test op.Div = refl
-op_test op.Rem = refl
-op_test op.And = refl
-op_test op.Or = refl
-op_test op.Xor = refl
-op_test op.Shl = refl
-op_test op.Shr = refl
-op_test op.Eq = refl
-op_test op.Ne = refl
-op_test op.Lt = refl
-op_test op.Le = refl
-op_test op.Gt = refl
-op_test op.Ge = refl
+op_test o = refl
 
 instr_test : (i : Instr) → list_any is_mark (instr_word i) ≡ false
-instr_test (instr.Set d v) = refl
-instr_test (instr.Copy d s) = refl
 instr_test (instr.Calc o d a b) = op_test o
-instr_test (instr.Load d c) = refl
-instr_test (instr.Store c s) = refl
-instr_test (instr.LoadAt d c s) = refl
-instr_test (instr.StoreAt c s a) = refl
-instr_test (instr.Jump l) = refl
-instr_test (instr.JumpZ s l) = refl
-instr_test (instr.Emit s) = refl
-instr_test (instr.Post irq) = refl
-instr_test (instr.Clock d) = refl
-instr_test (instr.Alarm s irq) = refl
-instr_test instr.NoAlarm = refl
-instr_test (instr.Raise d v) = refl
-instr_test (instr.Restore s) = refl
-instr_test (instr.Mask d) = refl
-instr_test (instr.Unmask s) = refl
-instr_test instr.Mark = refl
-instr_test instr.Serve = refl
-instr_test instr.Wait = refl
-instr_test (instr.Call row s) = refl
-instr_test instr.Back = refl
-instr_test instr.Ret = refl
+instr_test i = refl
 
 note_test : (n : Note) → list_any is_mark (note_word n) ≡ false
 note_test (note.Enter s) = refl
-note_test (note.Leave s) = refl
-note_test (note.Placed t) = refl
-note_test (note.Full t) = refl
-note_test (note.Ready t) = refl
-note_test (note.Start t s) = refl
-note_test (note.Free t) = refl
-note_test (note.Arm t s) = refl
-note_test (note.Fire t) = refl
-note_test (note.Cancel t s) = refl
-note_test (note.Move t s a) = refl
-note_test (note.End b) = refl
+note_test n = refl
 
 pub instr_word_clean : (i : Instr) → IsClean (instr_word i)
 instr_word_clean i = clean_from_test (instr_word i) (instr_test i)
@@ -174,21 +128,7 @@ instr_reads names more (instr.Calc o d a b) h = calc_reads o
     calc_reads : (o : Op) → instr_at names (op_word o ∷ decimal d ∷ decimal a ∷ decimal b ∷ [])
         ≡ Ok (instr.Calc o d a b)
     calc_reads op.Add = rw (number_back d h.0, number_back a h.1.0, number_back b h.1.1.0) refl
-    calc_reads op.Sub = rw (number_back d h.0, number_back a h.1.0, number_back b h.1.1.0) refl
-    calc_reads op.Mul = rw (number_back d h.0, number_back a h.1.0, number_back b h.1.1.0) refl
-    calc_reads op.Div = rw (number_back d h.0, number_back a h.1.0, number_back b h.1.1.0) refl
-    calc_reads op.Rem = rw (number_back d h.0, number_back a h.1.0, number_back b h.1.1.0) refl
-    calc_reads op.And = rw (number_back d h.0, number_back a h.1.0, number_back b h.1.1.0) refl
-    calc_reads op.Or = rw (number_back d h.0, number_back a h.1.0, number_back b h.1.1.0) refl
-    calc_reads op.Xor = rw (number_back d h.0, number_back a h.1.0, number_back b h.1.1.0) refl
-    calc_reads op.Shl = rw (number_back d h.0, number_back a h.1.0, number_back b h.1.1.0) refl
-    calc_reads op.Shr = rw (number_back d h.0, number_back a h.1.0, number_back b h.1.1.0) refl
-    calc_reads op.Eq = rw (number_back d h.0, number_back a h.1.0, number_back b h.1.1.0) refl
-    calc_reads op.Ne = rw (number_back d h.0, number_back a h.1.0, number_back b h.1.1.0) refl
-    calc_reads op.Lt = rw (number_back d h.0, number_back a h.1.0, number_back b h.1.1.0) refl
-    calc_reads op.Le = rw (number_back d h.0, number_back a h.1.0, number_back b h.1.1.0) refl
-    calc_reads op.Gt = rw (number_back d h.0, number_back a h.1.0, number_back b h.1.1.0) refl
-    calc_reads op.Ge = rw (number_back d h.0, number_back a h.1.0, number_back b h.1.1.0) refl
+    calc_reads o = rw (number_back d h.0, number_back a h.1.0, number_back b h.1.1.0) refl
 instr_reads names more (instr.Load d c) h = rw (number_back d h.0, number_back c h.1.0) refl
 instr_reads names more (instr.Store c s) h = rw (number_back c h.0, number_back s h.1.0) refl
 instr_reads names more (instr.LoadAt d c s) h = rw (number_back d h.0, number_back c h.1.0, number_back s h.1.1.0) refl

@@ -24,7 +24,7 @@ use Rattle.rt_code.specs.declared.instr.Instr.{Instr}
 use Rattle.rt_code.specs.declared.instr.Instr.TheVariants as instr
 use Rattle.rt_code.specs.declared.instr.Note.{Note}
 use Rattle.rt_code.specs.declared.instr.Note.TheVariants as note
-use Rattle.rt_listing.specs.Words.{instr_text, note_text, note_words}
+use Rattle.rt_listing.specs.Words.{instr_text, note_text}
 use Rattle.rt_listing.specs.Words as number
 use Rattle.rt_listing.specs.Listing.{form_text, handler_text}
 use Rattle.rt_listing.proofs.Reading.{HasNoBlank, word_has_no_blank}
@@ -88,28 +88,7 @@ irq_words_clean names (instr.Post irq) known has =
     (name_clean (irq_name names irq) (irq_identifier names irq known has), tt)
 irq_words_clean names (instr.Alarm s irq) known has =
     (name_clean (irq_name names irq) (irq_identifier names irq known has), tt)
-irq_words_clean names (instr.Set d v) known has = tt
-irq_words_clean names (instr.Copy d s) known has = tt
-irq_words_clean names (instr.Calc o d a b) known has = tt
-irq_words_clean names (instr.Load d c) known has = tt
-irq_words_clean names (instr.Store c s) known has = tt
-irq_words_clean names (instr.LoadAt d c s) known has = tt
-irq_words_clean names (instr.StoreAt c s a) known has = tt
-irq_words_clean names (instr.Jump l) known has = tt
-irq_words_clean names (instr.JumpZ s l) known has = tt
-irq_words_clean names (instr.Emit s) known has = tt
-irq_words_clean names (instr.Clock d) known has = tt
-irq_words_clean names instr.NoAlarm known has = tt
-irq_words_clean names (instr.Raise d v) known has = tt
-irq_words_clean names (instr.Restore s) known has = tt
-irq_words_clean names (instr.Mask d) known has = tt
-irq_words_clean names (instr.Unmask s) known has = tt
-irq_words_clean names instr.Mark known has = tt
-irq_words_clean names instr.Serve known has = tt
-irq_words_clean names instr.Wait known has = tt
-irq_words_clean names (instr.Call row s) known has = tt
-irq_words_clean names instr.Back known has = tt
-irq_words_clean names instr.Ret known has = tt
+irq_words_clean names i known has = tt
 
 pub instr_words_clean : (names : Names) (i : Instr) → AreKnown names → HasInstr names i
     → AllByRecursion IsClean (instr_word i ∷ instr_words names i)
