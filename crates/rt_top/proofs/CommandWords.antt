@@ -6,7 +6,7 @@ use Rattle.std.specs.Str.Parse.{digits_value}
 use Rattle.std.specs.Borrow.{Bor}
 use Rattle.rt_top.specs.Words.{Command, Run, Check, Fmt, Build, Audit, Live, Soak, Demo, Deepest, Times, Verify, Pair}
 use Rattle.rt_top.specs.Words.{texts, Names, IsCommand}
-use Rattle.rt_top.specs.Inside.Meant.{IsInRange}
+use Rattle.rt_top.specs.Inside.Meant.{IsInRange, IsVerbWithOne, IsVerbWithTwo, IsVerbWithThree}
 
 -- three words are the first, and two more
 pub three : (words : List (Bor (List ℕ))) (d : Bor (List ℕ)) → 3 ≤ length words → length words < 4 → (a : List ℕ)
@@ -24,11 +24,8 @@ head_of e = cc
 -- the test of the first of three words
 module _ (verb : List ℕ) (words : List (Bor (List ℕ))) (d : Bor (List ℕ)) (b : Bool) (least : 3 ≤ length words)
     (most : length words < 4) where
-  abbrev IsLongVerb : Type 0
-  IsLongVerb = (app more : List ℕ) × (texts words ≡ verb ∷ app ∷ more ∷ [])
-
-  pub is_long_verb_by : b ≡ bytes_eq (get_or words 0 d).now verb → (IsTrue b → IsLongVerb) × (IsLongVerb → IsTrue b)
-  is_long_verb_by test =
+  pub with_two_by : b ≡ bytes_eq (get_or words 0 d).now verb → IsTrue b ↔ IsVerbWithTwo (texts words) verb
+  with_two_by test =
       let t = three words d least most in
       let decides = bytes_eq-Decides (get_or words 0 d).now verb in (
         λ yes. (t.0, t.1, t.2 ∙ ap (λ w. w ∷ t.0 ∷ t.1 ∷ []) (decides.0 (sym test ∙ yes))),
@@ -49,11 +46,8 @@ head_of_two e = cc
 -- the test of the first of two words
 module _ (verb : List ℕ) (words : List (Bor (List ℕ))) (d : Bor (List ℕ)) (b : Bool) (least : 2 ≤ length words)
     (most : length words < 3) where
-  abbrev IsVerb : Type 0
-  IsVerb = (app : List ℕ) × (texts words ≡ verb ∷ app ∷ [])
-
-  pub is_verb_by : b ≡ bytes_eq (get_or words 0 d).now verb → (IsTrue b → IsVerb) × (IsVerb → IsTrue b)
-  is_verb_by test =
+  pub with_one_by : b ≡ bytes_eq (get_or words 0 d).now verb → IsTrue b ↔ IsVerbWithOne (texts words) verb
+  with_one_by test =
       let t = two words d least most in
       let decides = bytes_eq-Decides (get_or words 0 d).now verb in (
         λ yes. (t.0, t.1 ∙ ap (λ w. w ∷ t.0 ∷ []) (decides.0 (sym test ∙ yes))),
@@ -76,12 +70,8 @@ head_of_four e = cc
 -- the test of the first of four words
 module _ (verb : List ℕ) (words : List (Bor (List ℕ))) (d : Bor (List ℕ)) (b : Bool) (least : 4 ≤ length words)
     (most : length words < 5) where
-  abbrev IsVerbOfFour : Type 0
-  IsVerbOfFour = (first second script : List ℕ) × (texts words ≡ verb ∷ first ∷ second ∷ script ∷ [])
-
-  pub is_verb_of_four_by : b ≡ bytes_eq (get_or words 0 d).now verb → (IsTrue b → IsVerbOfFour)
-      × (IsVerbOfFour → IsTrue b)
-  is_verb_of_four_by test =
+  pub with_three_by : b ≡ bytes_eq (get_or words 0 d).now verb → IsTrue b ↔ IsVerbWithThree (texts words) verb
+  with_three_by test =
       let t = four words d least most in
       let decides = bytes_eq-Decides (get_or words 0 d).now verb in (
         λ yes. (t.0, t.1, t.2, t.3 ∙ ap (λ w. w ∷ t.0 ∷ t.1 ∷ t.2 ∷ []) (decides.0 (sym test ∙ yes))),
@@ -117,33 +107,27 @@ pub last_of_five : {a b c d e v w x y z : List ℕ} → a ∷ b ∷ c ∷ d ∷ 
 last_of_five is = cc
 
 -- a test that is false refutes what it tests
-refuted : {P : Type 0} (b : Bool) → (IsTrue b ↔ P) → b ≡ false → P → ⊥
+pub refuted : {P : Type 0} (b : Bool) → IsTrue b ↔ P → b ≡ false → P → ⊥
 refuted b both is_false p = let is_true : b ≡ true = both.1 p in cc
 
 -- words that are none of these are no command
-module _ (words : List (List ℕ)) (run check fmt build audit live deepest times verify pair : Bool)
-    (is_run : IsTrue run ↔ Names words Run) (is_check : IsTrue check ↔ Names words Check)
-    (is_fmt : IsTrue fmt ↔ Names words Fmt) (is_build : IsTrue build ↔ Names words Build)
-    (is_audit : IsTrue audit ↔ Names words Audit)
-    (is_live : IsTrue live ↔ Names words Live) (is_deepest : IsTrue deepest ↔ Names words Deepest)
-    (is_times : IsTrue times ↔ Names words Times)
-    (is_verify : IsTrue verify ↔ Names words Verify) (is_pair : IsTrue pair ↔ Names words Pair)
-    (no_run : run ≡ false) (no_check : check ≡ false) (no_fmt : fmt ≡ false) (no_build : build ≡ false)
-    (no_audit : audit ≡ false)
-    (no_live : live ≡ false) (no_deepest : deepest ≡ false) (no_times : times ≡ false) (no_verify : verify ≡ false)
-    (no_pair : pair ≡ false) (no_demo : (n : ℕ) → Names words (Demo n) → ⊥)
+module _ (words : List (List ℕ)) (no_run : Names words Run → ⊥) (no_check : Names words Check → ⊥)
+    (no_fmt : Names words Fmt → ⊥) (no_build : Names words Build → ⊥) (no_audit : Names words Audit → ⊥)
+    (no_live : Names words Live → ⊥) (no_deepest : Names words Deepest → ⊥) (no_times : Names words Times → ⊥)
+    (no_verify : Names words Verify → ⊥) (no_pair : Names words Pair → ⊥)
+    (no_demo : (n : ℕ) → Names words (Demo n) → ⊥)
     (no_soak : (number count workers : ℕ) → Names words (Soak number count workers) → ⊥) where
   none : (c : Command) → Names words c → ⊥
-  none Run named = refuted run is_run no_run named
-  none Check named = refuted check is_check no_check named
-  none Fmt named = refuted fmt is_fmt no_fmt named
-  none Build named = refuted build is_build no_build named
-  none Audit named = refuted audit is_audit no_audit named
-  none Live named = refuted live is_live no_live named
-  none Deepest named = refuted deepest is_deepest no_deepest named
-  none Times named = refuted times is_times no_times named
-  none Verify named = refuted verify is_verify no_verify named
-  none Pair named = refuted pair is_pair no_pair named
+  none Run named = no_run named
+  none Check named = no_check named
+  none Fmt named = no_fmt named
+  none Build named = no_build named
+  none Audit named = no_audit named
+  none Live named = no_live named
+  none Deepest named = no_deepest named
+  none Times named = no_times named
+  none Verify named = no_verify named
+  none Pair named = no_pair named
   none (Soak number count workers) named = no_soak number count workers named
   none (Demo n) named = no_demo n named
 

@@ -1,7 +1,7 @@
 ghost use Rattle.std.specs.Prelude.{◌≡◌, ℕ, ◌↔◌, IsTrue, IfSome, IfNone};
 ghost use Rattle.rt_top.specs.Words as word;
 ghost use Rattle.rt_top.specs.Words.{texts, Names, IsCommand};
-ghost use Rattle.rt_top.specs.Inside.Meant.{command_word};
+ghost use Rattle.rt_top.specs.Inside.Meant.{command_word, IsVerbWithOne, IsVerbWithTwo, IsVerbWithThree};
 
 use crate::number::number_in;
 
@@ -50,25 +50,25 @@ pub(crate) fn command_of(words: &[&str]) -> Option<Command>
     ensures some { IfSome result (λ c. Names (texts words.now) (command_word c)) }
     ensures none { IfNone result (¬ IsCommand (texts words.now)) }
 {
-    if is_run(words) {
+    if is_verb_with_two(words, "run") {
         Some(Command::Run)
-    } else if is_check(words) {
+    } else if is_verb_with_one(words, "check") {
         Some(Command::Check)
-    } else if is_fmt(words) {
+    } else if is_verb_with_one(words, "fmt") {
         Some(Command::Fmt)
-    } else if is_build(words) {
+    } else if is_verb_with_one(words, "build") {
         Some(Command::Build)
-    } else if is_audit(words) {
+    } else if is_verb_with_two(words, "audit") {
         Some(Command::Audit)
-    } else if is_live(words) {
+    } else if is_verb_with_two(words, "live") {
         Some(Command::Live)
-    } else if is_deepest(words) {
+    } else if is_verb_with_one(words, "deepest") {
         Some(Command::Deepest)
-    } else if is_times(words) {
+    } else if is_verb_with_two(words, "times") {
         Some(Command::Times)
-    } else if is_verify(words) {
+    } else if is_verb_with_one(words, "verify") {
         Some(Command::Verify)
-    } else if is_pair(words) {
+    } else if is_verb_with_three(words, "pair") {
         Some(Command::Pair)
     } else if let Some(tasks) = demo_tasks(words) {
         Some(Command::Demo(tasks))
@@ -77,102 +77,32 @@ pub(crate) fn command_of(words: &[&str]) -> Option<Command>
     }
 }
 
-/// Whether the words are `run APP SCRIPT`.
-fn is_run(words: &[&str]) -> bool
-    ensures { IsTrue result ↔ Names (texts words.now) word.Run }
+/// Whether the words are this verb and one behind it.
+fn is_verb_with_one(words: &[&str], verb: &str) -> bool
+    ensures { IsTrue result ↔ IsVerbWithOne (texts words.now) verb.now }
 {
     match words {
-        [verb, _, _] => *verb == "run",
+        [first, _] => *first == verb,
         _ => false,
     }
 }
 
-/// Whether the words are `check APP`.
-fn is_check(words: &[&str]) -> bool
-    ensures { IsTrue result ↔ Names (texts words.now) word.Check }
+/// Whether the words are this verb and two behind it.
+fn is_verb_with_two(words: &[&str], verb: &str) -> bool
+    ensures { IsTrue result ↔ IsVerbWithTwo (texts words.now) verb.now }
 {
     match words {
-        [verb, _] => *verb == "check",
+        [first, _, _] => *first == verb,
         _ => false,
     }
 }
 
-/// Whether the words are `fmt APP`.
-fn is_fmt(words: &[&str]) -> bool
-    ensures { IsTrue result ↔ Names (texts words.now) word.Fmt }
+/// Whether the words are this verb and three behind it.
+fn is_verb_with_three(words: &[&str], verb: &str) -> bool
+    ensures { IsTrue result ↔ IsVerbWithThree (texts words.now) verb.now }
 {
     match words {
-        [verb, _] => *verb == "fmt",
-        _ => false,
-    }
-}
-
-/// Whether the words are `build APP`.
-fn is_build(words: &[&str]) -> bool
-    ensures { IsTrue result ↔ Names (texts words.now) word.Build }
-{
-    match words {
-        [verb, _] => *verb == "build",
-        _ => false,
-    }
-}
-
-/// Whether the words are `audit APP TRACE`.
-fn is_audit(words: &[&str]) -> bool
-    ensures { IsTrue result ↔ Names (texts words.now) word.Audit }
-{
-    match words {
-        [verb, _, _] => *verb == "audit",
-        _ => false,
-    }
-}
-
-/// Whether the words are `live APP SCRIPT`.
-fn is_live(words: &[&str]) -> bool
-    ensures { IsTrue result ↔ Names (texts words.now) word.Live }
-{
-    match words {
-        [verb, _, _] => *verb == "live",
-        _ => false,
-    }
-}
-
-/// Whether the words are `deepest APP`.
-fn is_deepest(words: &[&str]) -> bool
-    ensures { IsTrue result ↔ Names (texts words.now) word.Deepest }
-{
-    match words {
-        [verb, _] => *verb == "deepest",
-        _ => false,
-    }
-}
-
-/// Whether the words are `times APP LIMITS`.
-fn is_times(words: &[&str]) -> bool
-    ensures { IsTrue result ↔ Names (texts words.now) word.Times }
-{
-    match words {
-        [verb, _, _] => *verb == "times",
-        _ => false,
-    }
-}
-
-/// Whether the words are `verify IMAGE`.
-fn is_verify(words: &[&str]) -> bool
-    ensures { IsTrue result ↔ Names (texts words.now) word.Verify }
-{
-    match words {
-        [verb, _] => *verb == "verify",
-        _ => false,
-    }
-}
-
-/// Whether the words are `pair APP1 APP2 SCRIPT`.
-fn is_pair(words: &[&str]) -> bool
-    ensures { IsTrue result ↔ Names (texts words.now) word.Pair }
-{
-    match words {
-        [verb, _, _, _] => *verb == "pair",
+        [first, _, _, _] => *first == verb,
         _ => false,
     }
 }
