@@ -110,11 +110,12 @@ pub(crate) fn put_tick<K: Sink>(
 pub fn put_end<K: Sink>(out: &mut K, held: &mut LineBuffer, total: u64) -> Result<(), Failed>
     requires { total < 2 ^ 32 }
     ensures ok { OnOk result (Took (K.taken out.old) (K.taken out.new) (held.old ++ spec.total_text total)) }
+    ensures none_held { OnOk result (held.new ≡ []) }
     ensures err { OnErr result (TookPrefix (K.taken out.old) (K.taken out.new) (held.old ++ spec.total_text total)) }
     ensures cause { HasCause (K.faults out.old) (K.faults out.new) result }
     ensures quiet { OnOk result (K.faults out.new ≡ K.faults out.old) }
 {
     make_room(out, held)?;
     held.put_total(total);
-    put_all(out, held.bytes())
+    put_held(out, held)
 }

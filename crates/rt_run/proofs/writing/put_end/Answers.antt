@@ -10,21 +10,21 @@ returns-in_err-make_room-clause-err g c =
 
 pub returns-clause-ok : goal.returns-clause-ok
 returns-clause-ok g c =
-    on_ok_weaker c.put_all.result
+    on_ok_weaker c.put_held.result
     (wrote_end _ _ _ c.args.held.now c.make_room.new.held _ _ c.in_ok-make_room.ensures.ok
-    (c.bytes.ensures.value ∙ c.put_total.ensures))
-    c.put_all.ensures.ok
+    c.put_total.ensures)
+    c.put_held.ensures.ok
 
 pub returns-clause-err : goal.returns-clause-err
 returns-clause-err g c =
-    on_err_weaker c.put_all.result
+    on_err_weaker c.put_held.result
     (wrote_end_cut _ _ _ c.args.held.now c.make_room.new.held _ _ c.in_ok-make_room.ensures.ok
-    (c.bytes.ensures.value ∙ c.put_total.ensures))
-    c.put_all.ensures.err
+    c.put_total.ensures)
+    c.put_held.ensures.err
 
 pub returns-clause-cause : goal.returns-clause-cause
-returns-clause-cause g c = cause_on _ _ _ c.put_all.result c.in_ok-make_room.ensures.quiet c.put_all.ensures.cause
+returns-clause-cause g c = cause_on _ _ _ c.put_held.result c.in_ok-make_room.ensures.quiet c.put_held.ensures.cause
 
 pub returns-clause-quiet : goal.returns-clause-quiet
 returns-clause-quiet g c =
-    on_ok_weaker c.put_all.result (λ same. same ∙ c.in_ok-make_room.ensures.quiet) c.put_all.ensures.quiet
+    on_ok_weaker c.put_held.result (λ same. same ∙ c.in_ok-make_room.ensures.quiet) c.put_held.ensures.quiet
