@@ -47,6 +47,7 @@ fn arrive_bit<K: Sink>(
     ensures none_held { OnOk result (held.new ≡ []) }
     ensures err { OnErr result (Breaks (map Arrive (if bit_at found bit == 1 then (32 * word + bit) ∷ [] else []))
         core.old core.new (K.taken out.old) (K.taken out.new)) }
+    ensures none_left { OnErr result (held.new ≡ []) }
     ensures cause { HasCause (K.faults out.old) (K.faults out.new) result }
     ensures quiet { OnOk result (K.faults out.new ≡ K.faults out.old) }
 {
@@ -76,6 +77,7 @@ fn arrive_word<K: Sink>(
     ensures none_held { OnOk result (held.new ≡ []) }
     ensures err { OnErr result
         (Breaks (map Arrive (arrivals word found)) core.old core.new (K.taken out.old) (K.taken out.new)) }
+    ensures none_left { OnErr result (held.new ≡ []) }
     ensures cause { HasCause (K.faults out.old) (K.faults out.new) result }
     ensures quiet { OnOk result (K.faults out.new ≡ K.faults out.old) }
 {
@@ -105,6 +107,7 @@ pub fn look<K: Sink>(
     ensures none_held { OnOk result (held.new ≡ []) }
     ensures err { OnErr result (Stops (Looks ∷ []) line.old.calls line.new.calls core.old core.new
         (K.taken out.old) (K.taken out.new)) }
+    ensures none_left { OnErr result (held.new ≡ []) }
     ensures same { IsSameLine line.old line.new }
     ensures cause { HasCause (K.faults out.old) (K.faults out.new) result }
     ensures quiet { OnOk result (K.faults out.new ≡ K.faults out.old) }

@@ -23,6 +23,7 @@ pub(crate) fn run_step<K: Sink>(
     ensures ok { OnOk result
         (Writes (Step ∷ []) core.old core.new (K.taken out.old) (K.taken out.new) held.old held.new) }
     ensures err { OnErr result (Cut (Step ∷ []) core.old core.new (K.taken out.old) (K.taken out.new) held.old) }
+    ensures none_left { OnErr result (held.new ≡ []) }
     ensures cause { HasCause (K.faults out.old) (K.faults out.new) result }
     ensures quiet { OnOk result (K.faults out.new ≡ K.faults out.old) }
 {
@@ -75,6 +76,7 @@ pub(crate) fn run_tick<K: Sink>(
     ensures ok { OnOk result
         (Writes (Tick ∷ []) core.old core.new (K.taken out.old) (K.taken out.new) held.old held.new) }
     ensures err { OnErr result (Cut (Tick ∷ []) core.old core.new (K.taken out.old) (K.taken out.new) held.old) }
+    ensures none_left { OnErr result (held.new ≡ []) }
     ensures cause { HasCause (K.faults out.old) (K.faults out.new) result }
     ensures quiet { OnOk result (K.faults out.new ≡ K.faults out.old) }
 {
@@ -95,6 +97,7 @@ pub(crate) fn run_pend<K: Sink>(
     ensures ok { OnOk result
         (Writes (Arrive irq ∷ []) core.old core.new (K.taken out.old) (K.taken out.new) held.old held.new) }
     ensures err { OnErr result (Cut (Arrive irq ∷ []) core.old core.new (K.taken out.old) (K.taken out.new) held.old) }
+    ensures none_left { OnErr result (held.new ≡ []) }
     ensures cause { HasCause (K.faults out.old) (K.faults out.new) result }
     ensures quiet { OnOk result (K.faults out.new ≡ K.faults out.old) }
 {

@@ -21,6 +21,7 @@ pub fn send_step<K: Sink>(core: &mut Core, out: &mut K, held: &mut LineBuffer) -
     ensures ok { OnOk result (Sends (Step ∷ []) core.old core.new (K.taken out.old) (K.taken out.new)) }
     ensures none_held { OnOk result (held.new ≡ []) }
     ensures err { OnErr result (Breaks (Step ∷ []) core.old core.new (K.taken out.old) (K.taken out.new)) }
+    ensures none_left { OnErr result (held.new ≡ []) }
     ensures cause { HasCause (K.faults out.old) (K.faults out.new) result }
     ensures quiet { OnOk result (K.faults out.new ≡ K.faults out.old) }
 {
@@ -37,6 +38,7 @@ pub fn send_tick<K: Sink>(core: &mut Core, out: &mut K, held: &mut LineBuffer) -
     ensures ok { OnOk result (Sends (Tick ∷ []) core.old core.new (K.taken out.old) (K.taken out.new)) }
     ensures none_held { OnOk result (held.new ≡ []) }
     ensures err { OnErr result (Breaks (Tick ∷ []) core.old core.new (K.taken out.old) (K.taken out.new)) }
+    ensures none_left { OnErr result (held.new ≡ []) }
     ensures cause { HasCause (K.faults out.old) (K.faults out.new) result }
     ensures quiet { OnOk result (K.faults out.new ≡ K.faults out.old) }
 {
@@ -58,6 +60,7 @@ pub fn send_pend<K: Sink>(
     ensures ok { OnOk result (Sends (Arrive irq ∷ []) core.old core.new (K.taken out.old) (K.taken out.new)) }
     ensures none_held { OnOk result (held.new ≡ []) }
     ensures err { OnErr result (Breaks (Arrive irq ∷ []) core.old core.new (K.taken out.old) (K.taken out.new)) }
+    ensures none_left { OnErr result (held.new ≡ []) }
     ensures cause { HasCause (K.faults out.old) (K.faults out.new) result }
     ensures quiet { OnOk result (K.faults out.new ≡ K.faults out.old) }
 {

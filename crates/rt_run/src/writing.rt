@@ -17,12 +17,13 @@ pub(crate) fn put_held<K: Sink>(out: &mut K, held: &mut LineBuffer) -> Result<()
     ensures ok { OnOk result (Took (K.taken out.old) (K.taken out.new) held.old) }
     ensures none_held { OnOk result (held.new ≡ []) }
     ensures err { OnErr result (TookPrefix (K.taken out.old) (K.taken out.new) held.old) }
+    ensures none_left { OnErr result (held.new ≡ []) }
     ensures cause { HasCause (K.faults out.old) (K.faults out.new) result }
     ensures quiet { OnOk result (K.faults out.new ≡ K.faults out.old) }
 {
-    put_all(out, held.bytes())?;
+    let done = put_all(out, held.bytes());
     held.clear();
-    Ok(())
+    done
 }
 
 /// Makes room for a line: what is held goes out where the buffer has none.
@@ -30,6 +31,7 @@ fn make_room<K: Sink>(out: &mut K, held: &mut LineBuffer) -> Result<(), Failed>
     ensures ok { OnOk result (Wrote (K.taken out.old) (K.taken out.new) held.old held.new []) }
     ensures room { OnOk result (HasRoom held.new) }
     ensures err { OnErr result (TookPrefix (K.taken out.old) (K.taken out.new) held.old) }
+    ensures none_left { OnErr result (held.new ≡ []) }
     ensures cause { HasCause (K.faults out.old) (K.faults out.new) result }
     ensures quiet { OnOk result (K.faults out.new ≡ K.faults out.old) }
 {
@@ -51,6 +53,7 @@ pub(crate) fn put_item<K: Sink>(
         (Wrote (K.taken out.old) (K.taken out.new) held.old held.new (spec.text names.now item.now)) }
     ensures err { OnErr result
         (TookPrefix (K.taken out.old) (K.taken out.new) (held.old ++ spec.text names.now item.now)) }
+    ensures none_left { OnErr result (held.new ≡ []) }
     ensures cause { HasCause (K.faults out.old) (K.faults out.new) result }
     ensures quiet { OnOk result (K.faults out.new ≡ K.faults out.old) }
 {
@@ -74,6 +77,7 @@ pub(crate) fn put_shown<K: Sink>(
         (spec.text names.now (record { step = step; what = what }))) }
     ensures err { OnErr result (TookPrefix (K.taken out.old) (K.taken out.new)
         (held.old ++ spec.text names.now (record { step = step; what = what }))) }
+    ensures none_left { OnErr result (held.new ≡ []) }
     ensures cause { HasCause (K.faults out.old) (K.faults out.new) result }
     ensures quiet { OnOk result (K.faults out.new ≡ K.faults out.old) }
 {
@@ -94,6 +98,7 @@ pub(crate) fn put_tick<K: Sink>(
         (flat_map (spec.text names.now) (items_of step (Ticked ∷ (if came then Rang ∷ [] else []))))) }
     ensures err { OnErr result (TookPrefix (K.taken out.old) (K.taken out.new)
         (held.old ++ flat_map (spec.text names.now) (items_of step (Ticked ∷ (if came then Rang ∷ [] else []))))) }
+    ensures none_left { OnErr result (held.new ≡ []) }
     ensures cause { HasCause (K.faults out.old) (K.faults out.new) result }
     ensures quiet { OnOk result (K.faults out.new ≡ K.faults out.old) }
 {
@@ -112,6 +117,7 @@ pub fn put_end<K: Sink>(out: &mut K, held: &mut LineBuffer, total: u64) -> Resul
     ensures ok { OnOk result (Took (K.taken out.old) (K.taken out.new) (held.old ++ spec.total_text total)) }
     ensures none_held { OnOk result (held.new ≡ []) }
     ensures err { OnErr result (TookPrefix (K.taken out.old) (K.taken out.new) (held.old ++ spec.total_text total)) }
+    ensures none_left { OnErr result (held.new ≡ []) }
     ensures cause { HasCause (K.faults out.old) (K.faults out.new) result }
     ensures quiet { OnOk result (K.faults out.new ≡ K.faults out.old) }
 {
