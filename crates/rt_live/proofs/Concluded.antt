@@ -6,7 +6,8 @@ use Rattle.std.specs.List.{AllByRecursion}
 use Rattle.rt_lemmas.proofs.Membership.{all_has}
 use Rattle.rt_core.specs.Machine.{Machine, IsFresh}
 use Rattle.rt_outside.specs.Bytes.{Took, TookPrefix}
-use Rattle.rt_run.proofs.Taking.{part_on}
+use Rattle.rt_run.proofs.Scripted.{all_done}
+use Rattle.rt_run.proofs.Taking.{part_more, part_on, took_on}
 use Rattle.rt_devices.specs.Work.{interrupt_asked}
 use Rattle.rt_devices.specs.declared.device.Device.{Device}
 use Rattle.rt_script.specs.Script.{HasDeviceInRange, pends}
@@ -22,9 +23,10 @@ use Rattle.rt_live.specs.Devices.{devices}
 use Rattle.rt_live.specs.Going.{LatchedLast}
 use Rattle.rt_live.specs.History.{IsHistory}
 use Rattle.rt_live.specs.Latched.{Halts, Completes}
-use Rattle.rt_live.specs.Output.{IsLiveText, TookPart, Lives, IsBalanced}
+use Rattle.rt_live.specs.Doing.{HasLived, HasWritten, HasWrittenPart}
+use Rattle.rt_live.specs.Output.{IsLiveText, IsBalanced}
 use Rattle.rt_live.specs.Ready.{Prepared, IsReady, IsCounted, irqs_of}
-use Rattle.rt_live.specs.Interleaving.{turns, latches}
+use Rattle.rt_live.specs.Interleaving.{turns, latches, interleaving}
 use Rattle.rt_live.specs.Written.{live_text}
 use Rattle.rt_live.specs.declared.account.AccountRow.{AccountRow}
 use Rattle.rt_live.proofs.Closing.{cut_before, closes_whole}
@@ -32,7 +34,7 @@ use Rattle.rt_live.proofs.Extending.{IsCutHistory, Settles}
 use Rattle.rt_live.proofs.Finishing.{all_zeros}
 use Rattle.rt_live.proofs.Numbered.{not_asked}
 use Rattle.rt_live.proofs.Onward.{led_as_many, zeros}
-use Rattle.rt_live.proofs.Outputs.{live_whole, part_total, part_cut, balanced}
+use Rattle.rt_live.proofs.Outputs.{account_behind, live_whole, part_cut, balanced}
 use Rattle.rt_live.proofs.Settling.{latch_at}
 
 -- the run has ended: the lines of its devices were gathered, and it was closed with these rows
@@ -83,41 +85,73 @@ module _ (ready : Prepared) (is : IsReady ready) (gone : ready.devices ≡ [])
           closed.account
           ∙ ap (account_of (irqs_of ready.rows) (calls_in closed.history)) (none_left all.late)
 
-      -- the trace that was written, and the account
-      pub lives : irqs_of ready.rows ≡ declared_irqs old.image.names → (x y : Option (List ℕ))
-          → Took x y (live_text old.image ready.script all.ends.found) → Lives old.image ready.script x y rows
-      lives irqs x y took = record {
-        found = all.ends.found;
-        many = all.ends.many;
-        whole = all.ends.whole;
-        history = closed.history;
-        is = allowed;
-        took = took;
-        account = account_is ∙ ap (λ ns. account_of ns (calls_in closed.history) (replicate 16 0)) irqs;
+      account_declared : irqs_of ready.rows ≡ declared_irqs old.image.names
+          → rows ≡ account_of (declared_irqs old.image.names) (calls_in closed.history) (replicate 16 0)
+      account_declared irqs = account_is ∙ ap (λ ns. account_of ns (calls_in closed.history) (replicate 16 0)) irqs
+
+      -- the text of the run, with the account behind it
+      abbrev whole_text : IsLiveText old.image ready.script
+          (live_text old.image ready.script all.ends.found ++ account_behind old.image closed.history)
+      whole_text =
+          live_whole old.image ready.script all.ends.found closed.history all.ends.many all.ends.whole allowed
+
+      -- the trace was written
+      pub has_lived : irqs_of ready.rows ≡ declared_irqs old.image.names → (x y : Option (List ℕ))
+          → Took x y (live_text old.image ready.script all.ends.found) → HasLived ready.script old next x y rows
+      has_lived irqs x y took = record {
+        lives = record {
+          found = all.ends.found;
+          many = all.ends.many;
+          whole = all.ends.whole;
+          history = closed.history;
+          is = allowed;
+          took = took;
+          account = account_declared irqs;
+        };
+        leads = all.ends.leads;
       }
 
-      -- the text of the run, and the account behind it
-      pub live_text_is : irqs_of ready.rows ≡ declared_irqs old.image.names
-          → IsLiveText old.image ready.script
-          (live_text old.image ready.script all.ends.found ++ account_text old.image.names rows)
-      live_text_is irqs =
-          let same : rows ≡ account_of (declared_irqs old.image.names) (calls_in closed.history) (replicate 16 0) =
-          account_is ∙ ap (λ ns. account_of ns (calls_in closed.history) (replicate 16 0)) irqs in
-          subst (λ (rs : List AccountRow). IsLiveText old.image ready.script
-          (live_text old.image ready.script all.ends.found ++ account_text old.image.names rs)) (sym same)
-          (live_whole old.image ready.script all.ends.found closed.history all.ends.many all.ends.whole allowed)
+      -- the trace was written, and the account behind it
+      pub has_written : irqs_of ready.rows ≡ declared_irqs old.image.names → (x y z : Option (List ℕ))
+          → Took x y (live_text old.image ready.script all.ends.found)
+          → Took y z (account_text old.image.names rows) → HasWritten ready.script old next x z
+      has_written irqs x y z took then =
+          let text : List ℕ = live_text old.image ready.script all.ends.found in
+          record {
+            bytes = text ++ account_behind old.image closed.history;
+            is = whole_text;
+            took =
+                subst (λ (rs : List AccountRow). Took x z (text ++ account_text old.image.names rs))
+                (account_declared irqs) (took_on x y z text (account_text old.image.names rows) took then);
+            leads = all.ends.leads;
+          }
+
+      -- a fault came in the line of the total
+      pub total_part : (x y : Option (List ℕ)) → TookPrefix x y (live_text old.image ready.script all.ends.found)
+          → HasWrittenPart ready.script old next x y
+      total_part x y part =
+          let text : List ℕ = live_text old.image ready.script all.ends.found in
+          let account : List ℕ = account_behind old.image closed.history in
+          record {
+            part = record { bytes = text ++ account; is = whole_text; took = part_more x y text account part };
+            done = all_done (interleaving (turns ready.script) all.ends.found) old next all.ends.leads;
+          }
 
       -- a fault came in a line of the account
       pub account_part : irqs_of ready.rows ≡ declared_irqs old.image.names → (x y z : Option (List ℕ))
           → Took x y (live_text old.image ready.script all.ends.found)
-          → TookPrefix y z (account_text old.image.names rows) → TookPart old.image ready.script x z
+          → TookPrefix y z (account_text old.image.names rows) → HasWrittenPart ready.script old next x z
       account_part irqs x y z took part =
           let text : List ℕ = live_text old.image ready.script all.ends.found in
-          let account : List ℕ = account_text old.image.names rows in
           record {
-            bytes = text ++ account;
-            is = live_text_is irqs;
-            took = part_on x y z text account took part;
+            part = record {
+              bytes = text ++ account_behind old.image closed.history;
+              is = whole_text;
+              took =
+                  subst (λ (rs : List AccountRow). TookPrefix x z (text ++ account_text old.image.names rs))
+                  (account_declared irqs) (part_on x y z text (account_text old.image.names rows) took part);
+            };
+            done = all_done (interleaving (turns ready.script) all.ends.found) old next all.ends.leads;
           }
 
       low : (rs : List AccountRow) → AllByRecursion (IsCounted ready.line.gathered) rs
@@ -135,7 +169,7 @@ module _ (ready : Prepared) (is : IsReady ready) (gone : ready.devices ≡ [])
 
     -- a fault came in the turns
     pub halted_part : (x y : Option (List ℕ)) → Halts (turns ready.script) ready.line old next x y
-        → TookPart old.image ready.script x y
+        → HasWrittenPart ready.script old next x y
     halted_part x y halts =
         let stops = halts.stops in
         let settles : Settles (turns ready.script) stops.found stops.last closed.left = record {
@@ -151,15 +185,14 @@ module _ (ready : Prepared) (is : IsReady ready) (gone : ready.devices ≡ [])
     pub completed_part : (x y : Option (List ℕ))
         → Completes (turns ready.script) ready.line old next
         (λ found. TookPrefix x y (live_text old.image ready.script found))
-        → TookPart old.image ready.script x y
+        → HasWrittenPart ready.script old next x y
     completed_part x y all =
-        part_total old.image ready.script all.ends.found closed.history all.ends.many all.ends.whole
-        (allowed (λ found. TookPrefix x y (live_text old.image ready.script found)) all) x y all.ends.wrote
+        total_part (λ found. TookPrefix x y (live_text old.image ready.script found)) all x y all.ends.wrote
 
     -- what `go` tells of a fault
     pub failed_part : (x y : Option (List ℕ))
         → Halts (turns ready.script) ready.line old next x y
         ⊎ Completes (turns ready.script) ready.line old next
         (λ found. TookPrefix x y (live_text old.image ready.script found))
-        → TookPart old.image ready.script x y
+        → HasWrittenPart ready.script old next x y
     failed_part x y failed = ⊎_elim (halted_part x y) (completed_part x y) failed

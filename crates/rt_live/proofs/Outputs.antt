@@ -7,10 +7,10 @@ use Rattle.rt_code.specs.Image.{Image}
 use Rattle.rt_core.specs.Core.{Core}
 use Rattle.rt_core.specs.Machine.{Machine, IsFresh}
 use Rattle.rt_core.specs.Trace.{core_after, labels, trace}
-use Rattle.rt_outside.specs.Bytes.{Took, TookPrefix}
+use Rattle.rt_outside.specs.Bytes.{TookPrefix}
 use Rattle.rt_run.specs.Sending.{Breaks, lines_of}
 use Rattle.rt_run.proofs.Advancing.{lines_split}
-use Rattle.rt_run.proofs.Taking.{part_more, part_on}
+use Rattle.rt_run.proofs.Taking.{part_more}
 use Rattle.rt_script.specs.Script.{HasDeviceInRange, core_events}
 use Rattle.rt_script.specs.declared.line.Line.{Line}
 use Rattle.rt_trace.specs.Label.{items_of}
@@ -20,7 +20,8 @@ use Rattle.rt_words.specs.declared.call.Entry.{Entry}
 use Rattle.rt_live.specs.Account.{account_of, account_text, declared_irqs}
 use Rattle.rt_live.specs.Going.{IsWholeLook}
 use Rattle.rt_live.specs.History.{IsHistory}
-use Rattle.rt_live.specs.Output.{IsLiveText, TookPart, IsBalanced}
+use Rattle.rt_live.specs.Doing.{HasWrittenPart}
+use Rattle.rt_live.specs.Output.{IsLiveText, IsBalanced}
 use Rattle.rt_live.specs.Interleaving.{Happens, Looks, looks, turns, look_arrivals, interleaving}
 use Rattle.rt_live.specs.Written.{live_text}
 use Rattle.rt_live.proofs.Woven.{looks-append}
@@ -59,34 +60,15 @@ abbrev pub account_behind : Image → List Entry → List ℕ
 account_behind image history =
     account_text image.names (account_of (declared_irqs image.names) (calls_in history) (replicate 16 0))
 
-module _ (image : Image) (script : List Line) (found : List (List ℕ)) (history : List Entry)
-    (many : length found ≡ looks (turns script)) (whole : AllByRecursion IsWholeLook found)
-    (is : IsHistory script found history) where
-  -- the text of a run whose turns were all done
-  pub live_whole : IsLiveText image script (live_text image script found ++ account_behind image history)
-  live_whole =
-      record { found = found; many = many; whole = whole; history = history; is = is; written = refl }
-
-  module _ (x y : Option (List ℕ)) where
-    -- a fault came at the total
-    pub part_total : TookPrefix x y (live_text image script found) → TookPart image script x y
-    part_total part = record {
-      bytes = live_text image script found ++ account_behind image history;
-      is = live_whole;
-      took = part_more x y (live_text image script found) (account_behind image history) part;
-    }
-
-    -- a fault came at the account
-    pub part_account : (z : Option (List ℕ)) → Took x y (live_text image script found)
-        → TookPrefix y z (account_behind image history) → TookPart image script x z
-    part_account z took part = record {
-      bytes = live_text image script found ++ account_behind image history;
-      is = live_whole;
-      took = part_on x y z (live_text image script found) (account_behind image history) took part;
-    }
+-- the text of a run whose turns were all done
+abbrev pub live_whole : (image : Image) (script : List Line) (found : List (List ℕ)) (history : List Entry)
+    → length found ≡ looks (turns script) → AllByRecursion IsWholeLook found → IsHistory script found history
+    → IsLiveText image script (live_text image script found ++ account_behind image history)
+live_whole image script found history many whole is =
+    record { found = found; many = many; whole = whole; history = history; is = is; written = refl }
 
 -- the text of looks that extend others
-extended_text : (image : Image) (script : List Line) (found : List (List ℕ)) (last : List ℕ)
+abbrev extended_text : (image : Image) (script : List Line) (found : List (List ℕ)) (last : List ℕ)
     (e : Extends script (turns script) found last)
     → IsLiveText image script (live_text image script e.all ++ account_behind image e.history)
 extended_text image script found last e = live_whole image script e.all e.history e.many e.whole e.is
@@ -96,7 +78,8 @@ pub part_cut : (m next : Machine) (script : List Line) (found : List (List ℕ))
     (history : List Entry) (x y : Option (List ℕ)) → IsFresh m → IsCutHistory script found last words history
     → AllByRecursion IsWholeLook found → Settles (turns script) found last words → length last < 16
     → (length found < looks (turns script)) ⊎ ((last ≡ []) × (length found ≤ looks (turns script)))
-    → Breaks (interleaving (turns script) found ++ look_arrivals last) m next x y → TookPart m.image script x y
+    → Breaks (interleaving (turns script) found ++ look_arrivals last) m next x y
+    → HasWrittenPart script m next x y
 part_cut m next script found last words history x y fresh cut whole settles short few breaks =
     let e : Extends script (turns script) found last =
     extend script found last words history cut (turns script) whole settles short few in
@@ -105,13 +88,16 @@ part_cut m next script found last words history x y fresh cut whole settles shor
     let begins = text_begins m script e.all breaks.done (breaks.rest ++ e.behind) fresh all in
     let account : List ℕ = account_behind m.image e.history in
     record {
-      bytes = live_text m.image script e.all ++ account;
-      is = extended_text m.image script found last e;
-      took =
-          subst (TookPrefix x y)
-          (sym (append_assoc (lines_of m breaks.done) begins.0 account)
-          ∙ ap (λ (t : List ℕ). t ++ account) (sym begins.1))
-          (part_more x y (lines_of m breaks.done) (begins.0 ++ account) breaks.took);
+      part = record {
+        bytes = live_text m.image script e.all ++ account;
+        is = extended_text m.image script found last e;
+        took =
+            subst (TookPrefix x y)
+            (sym (append_assoc (lines_of m breaks.done) begins.0 account)
+            ∙ ap (λ (t : List ℕ). t ++ account) (sym begins.1))
+            (part_more x y (lines_of m breaks.done) (begins.0 ++ account) breaks.took);
+      };
+      done = record { done = breaks.done; rest = breaks.rest ++ e.behind; parts = all; leads = breaks.leads };
     }
 
 -- there is a look alone

@@ -1,21 +1,20 @@
 -- What a whole run writes beside the devices, of what `go` and `close` tell.
-use Rattle.std.proofs.Common.{◌≡◌, ◌⊎◌, ℕ, List, [], ◌++◌, Option, subst}
+use Rattle.std.proofs.Common.{◌≡◌, ◌⊎◌, ℕ, List, [], Option, subst}
 use Rattle.std.specs.List.{AllByRecursion}
 use Rattle.rt_core.specs.Machine.{Machine, IsFresh}
 use Rattle.rt_ids.specs.Names.{Names}
 use Rattle.rt_outside.specs.Bytes.{Took, TookPrefix}
-use Rattle.rt_run.proofs.Taking.{took_on}
 use Rattle.rt_script.specs.Script.{HasDeviceInRange}
 use Rattle.rt_script.specs.declared.line.Line.{Line}
 use Rattle.rt_live.specs.Account.{account_text, declared_irqs}
 use Rattle.rt_live.specs.Closed.{Closes}
 use Rattle.rt_live.specs.Latched.{Halts, Completes}
-use Rattle.rt_live.specs.Output.{IsLiveText, TookPart}
+use Rattle.rt_live.specs.Doing.{HasLived, HasWritten, HasWrittenPart}
 use Rattle.rt_live.specs.Ready.{Prepared, IsReady, irqs_of}
 use Rattle.rt_live.specs.Interleaving.{turns}
 use Rattle.rt_live.specs.Written.{live_text}
 use Rattle.rt_live.specs.declared.account.AccountRow.{AccountRow}
-use Rattle.rt_live.proofs.Concluded.{failed_part, live_text_is, account_part}
+use Rattle.rt_live.proofs.Concluded.{failed_part, has_lived, has_written, account_part}
 
 module _ (ready : Prepared) (is : IsReady ready) (gone : ready.devices ≡ []) (script : List Line)
     (same : ready.script ≡ script)
@@ -24,12 +23,24 @@ module _ (ready : Prepared) (is : IsReady ready) (gone : ready.devices ≡ []) (
   -- the sink failed while the core ran
   pub run_part : Halts (turns script) ready.line old next x y
       ⊎ Completes (turns script) ready.line old next (λ found. TookPrefix x y (live_text old.image script found))
-      → TookPart old.image script x y
+      → HasWrittenPart script old next x y
   run_part =
       subst (λ (s : List Line). Halts (turns s) ready.line old next x y
       ⊎ Completes (turns s) ready.line old next (λ found. TookPrefix x y (live_text old.image s found))
-      → TookPart old.image s x y) same
+      → HasWrittenPart s old next x y) same
       (failed_part ready is gone ranges rows closed old next fresh x y)
+
+  -- the trace was written
+  pub run_whole : irqs_of ready.rows ≡ declared_irqs old.image.names
+      → Completes (turns script) ready.line old next (λ found. Took x y (live_text old.image script found))
+      → HasLived script old next x y rows
+  run_whole irqs =
+      subst (λ (s : List Line).
+      Completes (turns s) ready.line old next (λ found. Took x y (live_text old.image s found))
+      → HasLived s old next x y rows) same
+      (λ all.
+      has_lived ready is gone ranges rows closed old next fresh
+      (λ found. Took x y (live_text old.image ready.script found)) all irqs x y all.ends.wrote)
 
   module _ (irqs : irqs_of ready.rows ≡ declared_irqs old.image.names) (names : Names)
       (named : names ≡ next.image.names) (z : Option (List ℕ)) where
@@ -40,24 +51,19 @@ module _ (ready : Prepared) (is : IsReady ready) (gone : ready.devices ≡ []) (
     old_names s all = let led = all.ends.leads.image in cc
 
     -- all was written
-    pub wrote_whole : Whole script → Took y z (account_text names rows)
-        → (bytes : List ℕ) × IsLiveText old.image script bytes × Took x z bytes
+    pub wrote_whole : Whole script → Took y z (account_text names rows) → HasWritten script old next x z
     wrote_whole =
-        subst (λ (s : List Line). Whole s → Took y z (account_text names rows)
-        → (bytes : List ℕ) × IsLiveText old.image s bytes × Took x z bytes) same
-        (λ all took. (
-          live_text old.image ready.script all.ends.found ++ account_text old.image.names rows,
-          live_text_is ready is gone ranges rows closed old next fresh
-              (λ found. Took x y (live_text old.image ready.script found)) all irqs,
-          took_on x y z (live_text old.image ready.script all.ends.found) (account_text old.image.names rows)
-              all.ends.wrote
-              (subst (λ (n : Names). Took y z (account_text n rows)) (old_names ready.script all) took),
-        ))
+        subst (λ (s : List Line). Whole s → Took y z (account_text names rows) → HasWritten s old next x z) same
+        (λ all took.
+        has_written ready is gone ranges rows closed old next fresh
+        (λ found. Took x y (live_text old.image ready.script found)) all irqs x y z all.ends.wrote
+        (subst (λ (n : Names). Took y z (account_text n rows)) (old_names ready.script all) took))
 
     -- the sink failed in a line of the account
-    pub wrote_part : Whole script → TookPrefix y z (account_text names rows) → TookPart old.image script x z
+    pub wrote_part : Whole script → TookPrefix y z (account_text names rows) → HasWrittenPart script old next x z
     wrote_part =
-        subst (λ (s : List Line). Whole s → TookPrefix y z (account_text names rows) → TookPart old.image s x z) same
+        subst (λ (s : List Line). Whole s → TookPrefix y z (account_text names rows) → HasWrittenPart s old next x z)
+        same
         (λ all part.
         account_part ready is gone ranges rows closed old next fresh
         (λ found. Took x y (live_text old.image ready.script found)) all irqs x y z all.ends.wrote

@@ -7,6 +7,7 @@ pub mod Latched
 pub mod History
 pub mod Account
 pub mod Output
+pub mod Doing
 pub mod Ready
 pub mod Closed
 pub mod Inside

@@ -6,6 +6,7 @@ ghost use Rattle.rt_outside.specs.Bytes.{Took};
 ghost use Rattle.rt_outside.specs.Faults.{Rose, HasCause};
 ghost use Rattle.rt_script.specs.Script.{HasNames};
 ghost use Rattle.rt_live.specs.Account.{declared_irqs};
+ghost use Rattle.rt_live.specs.Doing.{HasLived, HasWritten, HasWrittenPart};
 ghost use Rattle.rt_live.specs.Output.{IsLiveText, Lives, TookPart, IsBalanced};
 ghost use Rattle.rt_live.specs.Ready.{irqs_of};
 
@@ -54,6 +55,14 @@ pub fn live<R: Threads + Sync, K: Sink + Send, G: Gate + Sync>(
     ensures none { IsErrOf result LiveFail.NoMemory → Took (K.taken out.old) (K.taken out.new) [] }
     ensures fault { IsErrOf result LiveFail.Fault → Rose (K.faults out.old) (K.faults out.new) }
     ensures quiet { ¬ IsErrOf result LiveFail.Fault → K.faults out.new ≡ K.faults out.old }
+
+    // The core has done the events of the trace that was taken, at a fault the first of them, and none where memory was
+    // not there.
+    ensures all { IfOk result (λ account.
+        HasLived script.now core.old core.new (K.taken out.old) (K.taken out.new) account.rows.items) }
+    ensures begun { IsErrOf result LiveFail.Fault →
+        HasWrittenPart script.now core.old core.new (K.taken out.old) (K.taken out.new) }
+    ensures untouched { IsErrOf result LiveFail.NoMemory → core.new ≡ core.old }
 {
     let _events = script.lines();
     let Ok(mut ready) = Ready::of(alloc, core, script) else {
@@ -87,6 +96,12 @@ pub fn run_beside<R: Threads + Sync, K: Sink + Send, G: Gate + Sync>(
     ensures err { OnErr result (TookPart core.old.image ready.entry.script (K.taken out.old) (K.taken out.new)) }
     ensures cause { HasCause (K.faults out.old) (K.faults out.new) result }
     ensures quiet { OnOk result (K.faults out.new ≡ K.faults out.old) }
+
+    // The core has done the events of the trace that was taken, at a fault the first of them.
+    ensures all { OnOk result
+        (HasWritten ready.entry.script core.old core.new (K.taken out.old) (K.taken out.new)) }
+    ensures begun { OnErr result
+        (HasWrittenPart ready.entry.script core.old core.new (K.taken out.old) (K.taken out.new)) }
 {
     let _events = ready.script.lines();
     let went = ready.go(rt, core, out, gate);

@@ -7,12 +7,13 @@ use Rattle.rt_outside.specs.Bytes.{Took}
 use Rattle.rt_script.specs.Script.{HasDeviceInRange}
 use Rattle.rt_script.specs.declared.line.Line.{Line}
 use Rattle.rt_live.specs.Account.{account_text}
+use Rattle.rt_live.specs.Doing.{HasWritten}
 use Rattle.rt_live.specs.Output.{IsLiveText}
 use Rattle.rt_live.proofs.Together.{run_part, wrote_whole, wrote_part}
 use Rattle.rt_live.proofs.running.run_beside.Goals as goal
 
-pub returns-in_err-went-clause-err : goal.returns-in_err-went-clause-err
-returns-in_err-went-clause-err g c =
+pub returns-in_err-went-clause-begun : goal.returns-in_err-went-clause-begun
+returns-in_err-went-clause-begun g c =
     let same = c.go-went.ensures.script in
     let ranges = subst (λ (s : List Line). AllByRecursion HasDeviceInRange s)
     (ap (λ r. r.script) c.ready.view_is ∙ sym same) c.lines-events.ensures.script.devices in
@@ -22,8 +23,12 @@ returns-in_err-went-clause-err g c =
     c.close-account.result.rows.items c.close-account.ensures.closes c.args.core.now c.go-went.new.core c.requires.fresh
     (g.K.Sink.taken c.args.out.now) (g.K.Sink.taken c.go-went.new.out) c.in_err-went.ensures.err)
 
-pub returns-clause-ok : goal.returns-clause-ok
-returns-clause-ok g c =
+pub returns-in_err-went-clause-err : goal.returns-in_err-went-clause-err
+returns-in_err-went-clause-err g c =
+    on_err_weaker c.from_residual.result (λ begun. begun.part) (returns-in_err-went-clause-begun g c)
+
+pub returns-clause-all : goal.returns-clause-all
+returns-clause-all g c =
     let same = c.go-went.ensures.script in
     let ranges = subst (λ (s : List Line). AllByRecursion HasDeviceInRange s)
     (ap (λ r. r.script) c.ready.view_is ∙ sym same) c.lines-events.ensures.script.devices in
@@ -34,15 +39,23 @@ returns-clause-ok g c =
     let z = g.K.Sink.taken c.put_account.new.out in
     on_ok_weaker c.put_account.result
     (Took y z (account_text c.behind-core.inside.names c.close-account.result.rows.items))
-    ((bytes : List ℕ) × IsLiveText c.args.core.now.image c.args.ready.script bytes × Took x z bytes)
+    (HasWritten c.args.ready.script c.args.core.now c.go-went.new.core x z)
     (wrote_whole c.go-went.new.self c.close-account.ensures.ready c.go-went.ensures.gathered c.args.ready.script same
     ranges
     c.close-account.result.rows.items c.close-account.ensures.closes c.args.core.now c.go-went.new.core c.requires.fresh
     x y
     irqs c.behind-core.inside.names named z c.in_ok-went.ensures.ok) c.put_account.ensures.ok
 
-pub returns-clause-err : goal.returns-clause-err
-returns-clause-err g c =
+pub returns-clause-ok : goal.returns-clause-ok
+returns-clause-ok g c =
+    let x = g.K.Sink.taken c.args.out.now in
+    let z = g.K.Sink.taken c.put_account.new.out in
+    on_ok_weaker c.put_account.result (HasWritten c.args.ready.script c.args.core.now c.go-went.new.core x z)
+    ((bytes : List ℕ) × IsLiveText c.args.core.now.image c.args.ready.script bytes × Took x z bytes)
+    (λ all. (all.bytes, all.is, all.took)) (returns-clause-all g c)
+
+pub returns-clause-begun : goal.returns-clause-begun
+returns-clause-begun g c =
     let same = c.go-went.ensures.script in
     let ranges = subst (λ (s : List Line). AllByRecursion HasDeviceInRange s)
     (ap (λ r. r.script) c.ready.view_is ∙ sym same) c.lines-events.ensures.script.devices in
@@ -57,3 +70,7 @@ returns-clause-err g c =
     c.close-account.result.rows.items c.close-account.ensures.closes c.args.core.now c.go-went.new.core c.requires.fresh
     x y
     irqs c.behind-core.inside.names named z c.in_ok-went.ensures.ok) c.put_account.ensures.err
+
+pub returns-clause-err : goal.returns-clause-err
+returns-clause-err g c =
+    on_err_weaker c.put_account.result (λ begun. begun.part) (returns-clause-begun g c)
