@@ -147,7 +147,7 @@ def read_call(crate, owner, text, place):
         stop = re.compile(r"\n\s*(?:requires|ensures|where)\b|\s*\{|;(?=\s*\n)").search(text, arrow.end())
         answer, place = " ".join(text[arrow.end():stop.start()].split()), stop.start()
     clauses = []
-    while clause := re.compile(r"\s*(requires|ensures)\s*(\*?\w*)\s*(?=\{)").match(text, place):
+    while clause := re.compile(r"\s*(requires|ensures)(?:\s*\*)?\s*(\w*)\s*(?=\{)").match(text, place):
         end = braced(text, clause.end())
         clauses.append(Clause(clause[1], clause[2], " ".join(text[clause.end() + 1:end - 1].split())))
         place = end

@@ -21,6 +21,11 @@ LEFT_UNSAID = {
     "rt_listing push_first_line", "rt_listing push_cell", "rt_listing push_irq", "rt_listing push_body",
     "rt_listing push_line",
 }
+# Arguments of which no clause says what is left: the sink of a text has had lines of it, a buffer may have had bytes,
+# and a judge is done with.
+ARGUMENTS_UNSAID = {
+    ("rt_outside read_lines", "sink"), ("rt_outside Source::read", "buffer"), ("rt_baker Judge::verdict", "self"),
+}
 
 
 def is_law(call):
@@ -37,7 +42,7 @@ def promised(call):
 
 
 def names(clauses):
-    return [clause.name.lstrip("*") or "its clause" for clause in clauses]
+    return [clause.name or "its clause" for clause in clauses]
 
 
 def error_of(call):
@@ -49,6 +54,23 @@ def error_of(call):
 def changes(call):
     """The parameters that a call may change."""
     return [each for each in call.parameters if re.match(r"&(?:'\w+ )?mut |\w+: &(?:'\w+ )?mut ", each)]
+
+
+def name_of(parameter):
+    """The name by which clauses speak of a parameter."""
+    return "self" if parameter.startswith("&") else parameter.split(":")[0].split()[-1]
+
+
+def unsaid(call):
+    """The arguments lent to be changed of which no clause says what is left; of a call with an error, where it fails."""
+    clauses = [clause for clause in promised(call) if not error_of(call) or is_of_failure(clause)]
+    return [name for name in map(name_of, changes(call)) if (key(call), name) not in ARGUMENTS_UNSAID
+            and not any(tells_of(clause, name) for clause in clauses)]
+
+
+def tells_of(clause, name):
+    """Whether a clause speaks of an argument as it is left. What an iterator gives tells of the iterator itself."""
+    return clause.name == "next_gives" or re.search(rf"\b{name}\.(new|entry)\b", clause.text)
 
 
 def causes(call):
@@ -106,8 +128,9 @@ def wrong(call):
     """What a call lacks, or an empty text."""
     if causes(call)[1] is None:
         return f"{key(call)}: no clause says when it answers {causes(call)[0]}"
-    if left(call) is None and key(call) not in LEFT_UNSAID:
-        return f"{key(call)}: no clause says what is left of {', '.join(changes(call))} where it fails"
+    if unsaid(call) and key(call) not in LEFT_UNSAID:
+        when = " where it fails" if error_of(call) else ""
+        return f"{key(call)}: no clause says what is left of {', '.join(unsaid(call))}{when}"
     return ""
 
 

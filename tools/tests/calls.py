@@ -13,12 +13,13 @@ PLAIN = sources.Call("crate", "cut", ["&mut self", "alloc: Global"], "Result<(),
 OK = sources.Clause("ensures", "done", "OnOk result (self.new ≡ [])")
 LEFT = sources.Clause("ensures", "left", "OnErr result (self.new ≡ self.old)")
 WHEN = sources.Clause("ensures", "when", "IsErr result ↔ (self.old ≡ [])")
-NEXT = sources.Clause("ensures", "next", "MatchOption result (self.now ≡ []) (λ t. self.now ≡ t ∷ [])")
+TWO = ["first: &mut Core", "second: &mut Core"]
+NEXT = sources.Clause("ensures", "next", "MatchOption result (self.old ≡ []) (λ t. self.old ≡ t ∷ self.new)")
 
 
-def lacks(answer, *clauses):
+def lacks(answer, *clauses, parameters=PLAIN.parameters):
     """Whether a call with an answer and clauses is told to lack one."""
-    return bool(table.wrong(PLAIN._replace(answer=answer, clauses=list(clauses))))
+    return bool(table.wrong(PLAIN._replace(answer=answer, clauses=list(clauses), parameters=parameters)))
 
 
 def main():
@@ -31,7 +32,10 @@ def main():
         ("None without a cause", lacks("Option<u8>"), True),
         ("None where nothing is left", lacks("Option<u8>", NEXT), False),
         ("false without a cause", lacks("bool", LEFT._replace(text="self.new ≡ self.old")), True),
-        ("a call that always answers", lacks("u32"), False),
+        ("a call that always answers", lacks("u32", parameters=["&self"]), False),
+        ("a call that leaves something unsaid", lacks("u32"), True),
+        ("want of memory that leaves the second argument unsaid",
+         lacks("Result<(), NoMemory>", LEFT._replace(text="OnErr result (first.new ≡ first.old)"), parameters=TWO), True),
         ("a row that is missing", "| `Core::step` |" in table.table()[0], True),
     ]
     wrong = [name for name, is_told, wanted in tried if is_told != wanted]
