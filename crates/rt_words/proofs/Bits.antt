@@ -20,8 +20,8 @@ pub with_bit_other : (n bit i : ℕ) → i ≢ bit → bit_at (with_bit n bit) i
 with_bit_other n bit i ne = let h = bit_at_or n (2 ^ bit) i in let e = bit_at-pow_other bit i ne in omega arith
 
 -- two interrupts with one word and one bit are one
-pub one_bit : (a b : ℕ) → a / 32 ≡ b / 32 → a % 32 ≡ b % 32 → a ≡ b
-one_bit a b e f = omega arith
+pub same_bit : (a b : ℕ) → a / 32 ≡ b / 32 → a % 32 ≡ b % 32 → a ≡ b
+same_bit a b e f = omega arith
 
 -- a new value of the word k, and the bit of an interrupt in another word
 pub bit_elsewhere : (words : List ℕ) (k n irq : ℕ) → irq / 32 ≢ k → pending_bit (set words k n) irq
@@ -43,7 +43,7 @@ pend_other_by : (words : List ℕ) (irq other : ℕ) → (other / 32 ≡ irq / 3
     → pending_bit (set words (irq / 32) (with_bit (get_or words (irq / 32) 0) (irq % 32))) other
     ≡ pending_bit words other
 pend_other_by words irq other l ne (yes e) = bit_here words (irq / 32) _ other (l e) e
-    ∙ with_bit_other (get_or words (irq / 32) 0) (irq % 32) (other % 32) (λ f. ne (one_bit other irq e f))
+    ∙ with_bit_other (get_or words (irq / 32) 0) (irq % 32) (other % 32) (λ f. ne (same_bit other irq e f))
     ∙ ap (λ i. bit_at (get_or words i 0) (other % 32)) (sym e)
 pend_other_by words irq other l ne (no h) = bit_elsewhere words (irq / 32) _ other h
 

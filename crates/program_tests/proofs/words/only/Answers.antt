@@ -5,7 +5,7 @@ use Rattle.std.proofs.lemmas.Nat.Bits.{bit_at-pow_same, bit_at-pow_other, bit_at
 use mathlib.Core.Logic.{dite}
 use native.Mathlib.Decide.{ℕ_discrete}
 use Rattle.rt_words.specs.Object.{IsPending, pending_bit}
-use Rattle.rt_words.proofs.Bits.{blank, blank_long, zeros, bit_here, bit_elsewhere, one_place}
+use Rattle.rt_words.proofs.Bits.{blank, blank_long, zeros, bit_here, bit_elsewhere, same_bit}
 use Rattle.program_tests.proofs.words.only.Goals as goal
 
 abbrev one_bit : ℕ → List ℕ
@@ -20,7 +20,7 @@ here irq l = bit_here (blank 16) (irq / 32) (2 ^ (irq % 32)) irq (within irq l) 
 alone : (irq n : ℕ) → irq < 512 → IsPending (one_bit irq) n → n ≡ irq
 alone irq n l h = dite (ℕ_discrete n irq) (λ e. e) (λ ne. dite (ℕ_discrete (n / 32) (irq / 32))
     (λ e.
-    let other : n % 32 ≢ irq % 32 = λ f. ne (one_place n irq e f) in
+    let other : n % 32 ≢ irq % 32 = λ f. ne (same_bit n irq e f) in
     let z : pending_bit (one_bit irq) n ≡ 0 = bit_here (blank 16) (irq / 32) (2 ^ (irq % 32)) n (within irq l) e
     ∙ bit_at-pow_other (irq % 32) (n % 32) other in
     absurd (omega arith))
