@@ -17,6 +17,7 @@ mod expression;
 mod faults;
 mod listing;
 mod lookup;
+mod naming;
 pub mod resolved;
 mod scope;
 mod twice;

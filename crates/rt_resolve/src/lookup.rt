@@ -8,9 +8,10 @@ ghost use Rattle.rt_resolve.specs.Scope as named;
 ghost use Rattle.rt_resolve.specs.Misnamed as wrong;
 ghost use Rattle.rt_resolve.specs.Inside.NamesView.{names_of, IsCounted};
 
+use crate::naming::Named;
 use crate::scope::{Names, is_named};
 use rt_app::{Atom, UNKNOWN};
-use rt_ast::{AppTree, Ident, IrqTree, LocalTree, SharedTree, TaskTree};
+use rt_ast::{AppTree, Ident};
 use rt_ids::ResId;
 
 /// The index of what is found in its table, which has at most 255 rows.
@@ -24,12 +25,12 @@ fn index(found: Option<usize>) -> Option<u8>
     }
 }
 
-/// The index of the first interrupt of this name.
-fn irq_position(irqs: &[IrqTree], name: &[u8]) -> Option<usize>
-    ensures index { result ≡ position (λ d. named.is_named name.now d.name) irqs.now }
-    ensures within { IfSome result (λ n. n < length irqs.now) }
+/// The index of the first of these that has this name.
+fn position_of<T: Named>(declared: &[T], name: &[u8]) -> Option<usize>
+    ensures index { result ≡ position (λ d. named.is_named name.now (T.ident d)) declared.now }
+    ensures within { IfSome result (λ n. n < length declared.now) }
 {
-    irqs.iter().position(|d| is_named(&d.name, name))
+    declared.iter().position(|d| is_named(d.ident(), name))
 }
 
 /// The index of the interrupt of this name, where it is declared.
@@ -37,15 +38,7 @@ pub(crate) fn irq_named(app: &AppTree, name: &[u8]) -> Option<u8>
     requires { IsCounted (app_of app.now) }
     ensures { result ≡ named.irq_named (app_of app.now) name.now }
 {
-    index(irq_position(&app.irqs, name))
-}
-
-/// The index of the first task of this name.
-fn task_position(tasks: &[TaskTree], name: &[u8]) -> Option<usize>
-    ensures index { result ≡ position (λ t. named.is_named name.now t.name) tasks.now }
-    ensures within { IfSome result (λ n. n < length tasks.now) }
-{
-    tasks.iter().position(|t| is_named(&t.name, name))
+    index(position_of(&app.irqs, name))
 }
 
 /// The index of the task of this name, where it is declared.
@@ -53,15 +46,7 @@ pub(crate) fn task_named(app: &AppTree, name: &[u8]) -> Option<u8>
     requires { IsCounted (app_of app.now) }
     ensures { result ≡ named.task_named (app_of app.now) name.now }
 {
-    index(task_position(&app.tasks, name))
-}
-
-/// The index of the first shared resource of this name.
-fn shared_position(shared: &[SharedTree], name: &[u8]) -> Option<usize>
-    ensures index { result ≡ position (λ r. named.is_named name.now r.name) shared.now }
-    ensures within { IfSome result (λ n. n < length shared.now) }
-{
-    shared.iter().position(|r| is_named(&r.name, name))
+    index(position_of(&app.tasks, name))
 }
 
 /// The index of the shared resource of this name, where it is declared.
@@ -69,15 +54,7 @@ pub(crate) fn shared_resource_named(app: &AppTree, name: &[u8]) -> Option<u8>
     requires { IsCounted (app_of app.now) }
     ensures { result ≡ named.shared_resource_named (app_of app.now) name.now }
 {
-    index(shared_position(&app.shared, name))
-}
-
-/// The index of the first local resource of this name.
-fn local_position(locals: &[LocalTree], name: &[u8]) -> Option<usize>
-    ensures index { result ≡ position (λ r. named.is_named name.now r.name) locals.now }
-    ensures within { IfSome result (λ n. n < length locals.now) }
-{
-    locals.iter().position(|r| is_named(&r.name, name))
+    index(position_of(&app.shared, name))
 }
 
 /// The index of the local resource of this name, where it is declared.
@@ -85,7 +62,7 @@ pub(crate) fn local_named(app: &AppTree, name: &[u8]) -> Option<u8>
     requires { IsCounted (app_of app.now) }
     ensures { result ≡ named.local_named (app_of app.now) name.now }
 {
-    index(local_position(&app.locals, name))
+    index(position_of(&app.locals, name))
 }
 
 /// The number of what is found, and 255 where nothing is.

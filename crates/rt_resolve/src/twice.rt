@@ -5,9 +5,10 @@ ghost use Rattle.rt_resolve.specs.Scope as named;
 ghost use Rattle.rt_resolve.specs.NameRules.{declared_twice, declaration_faults};
 
 use crate::faults::push_when;
+use crate::naming::Named;
 use crate::scope::is_named;
 use rt_app::Violation;
-use rt_ast::{AppTree, Ident, IrqTree, LocalTree, SharedTree, TaskTree};
+use rt_ast::{AppTree, Ident, TaskTree};
 use rt_ids::{NoMemory, Rule};
 use std::alloc::Global;
 
@@ -29,35 +30,13 @@ fn push_declared_twice(faults: &mut Vec<Violation>, idents: &[&Ident]) -> Result
     Ok(())
 }
 
-/// Appends the names of interrupts.
-fn push_irqs<'a>(idents: &mut Vec<&'a Ident>, irqs: &'a [IrqTree]) -> Result<(), NoMemory>
+/// Appends the names of what is declared.
+fn push_names<'a, T: Named>(idents: &mut Vec<&'a Ident>, declared: &'a [T]) -> Result<(), NoMemory>
     ensures { OnOk result (map (λ x. x.now) idents.new.items ≡
-        map (λ x. x.now) idents.old.items ++ map (λ d. d.name) irqs.now) }
+        map (λ x. x.now) idents.old.items ++ map T.ident declared.now) }
 {
-    for d in irqs {
-        idents.push(&d.name)?;
-    }
-    Ok(())
-}
-
-/// Appends the names of shared resources.
-fn push_shared<'a>(idents: &mut Vec<&'a Ident>, shared: &'a [SharedTree]) -> Result<(), NoMemory>
-    ensures { OnOk result (map (λ x. x.now) idents.new.items ≡
-        map (λ x. x.now) idents.old.items ++ map (λ r. r.name) shared.now) }
-{
-    for r in shared {
-        idents.push(&r.name)?;
-    }
-    Ok(())
-}
-
-/// Appends the names of local resources.
-fn push_locals<'a>(idents: &mut Vec<&'a Ident>, locals: &'a [LocalTree]) -> Result<(), NoMemory>
-    ensures { OnOk result (map (λ x. x.now) idents.new.items ≡
-        map (λ x. x.now) idents.old.items ++ map (λ r. r.name) locals.now) }
-{
-    for r in locals {
-        idents.push(&r.name)?;
+    for d in declared {
+        idents.push(d.ident())?;
     }
     Ok(())
 }
@@ -67,10 +46,7 @@ fn push_tasks<'a>(idents: &mut Vec<&'a Ident>, tasks: &'a [TaskTree]) -> Result<
     ensures { OnOk result (map (λ x. x.now) idents.new.items ≡
         map (λ x. x.now) idents.old.items ++ map (λ t. t.name) (map written.task_of tasks.now)) }
 {
-    for t in tasks {
-        idents.push(&t.name)?;
-    }
-    Ok(())
+    push_names(idents, tasks)
 }
 
 /// Appends the faults of the names that are declared twice: interrupts, resources of both kinds together, and tasks
@@ -83,11 +59,11 @@ pub(crate) fn push_declaration_faults(
     ensures { OnOk result (faults.new.items ≡ faults.old.items ++ declaration_faults (written.app_of app.now)) }
 {
     let mut irqs = Vec::new(alloc);
-    push_irqs(&mut irqs, &app.irqs)?;
+    push_names(&mut irqs, &app.irqs)?;
     push_declared_twice(faults, &irqs)?;
     let mut resources = Vec::new(alloc);
-    push_shared(&mut resources, &app.shared)?;
-    push_locals(&mut resources, &app.locals)?;
+    push_names(&mut resources, &app.shared)?;
+    push_names(&mut resources, &app.locals)?;
     push_declared_twice(faults, &resources)?;
     let mut tasks = Vec::new(alloc);
     push_tasks(&mut tasks, &app.tasks)?;

@@ -1,7 +1,0 @@
--- The names so far.
-use Rattle.std.proofs.Common.{◌≡◌, ◌++◌, map, take}
-use Rattle.rt_resolve.proofs.twice.push_irqs.Given as goal
-
-abbrev pub invariant-loop-d : goal.invariant-loop-d
-invariant-loop-d l = map (λ x. x.now) l.idents.items ≡ map (λ x. x.now) l.fn.idents.items
-    ++ map (λ x. x.name) (take l.d-index l.irqs)
