@@ -14,6 +14,7 @@ use Rattle.rt_app.specs.BodyCost.{timer_section_cost}
 use Rattle.rt_app.specs.Sending.{act, act_all, leave_timer, arm_actions, capacity_of, dispatcher_number}
 use Rattle.rt_app.specs.Sending.{ready_actions}
 use Rattle.rt_app.specs.Meaning.{Later}
+use Rattle.rt_baker_work.specs.declared.action.Action.{Action}
 use Rattle.rt_baker_work.specs.declared.action.Action.TheVariants as action
 use Rattle.rt_baker_work.specs.declared.todo.Todo.{Todo}
 use Rattle.rt_baker_work.specs.declared.todo.Todo.TheVariants as todo
@@ -170,67 +171,57 @@ sent_after app variable delay ticks m old new is p =
     (λ later vars vs. ap (λ (o : Option ℕ). send_message app o m (λ value. give_answer variable value later vars) vs)
     is) p
 
--- a place is taken where one is left
-pub place_taken : (app : App) (variable delay : Option ℕ) (m : Message) (n : ℕ) (old b new : Work) (s : Store)
-    (out capacity : ℕ)
-    → n ≡ m.task → out ≡ number (contents s (Guarded (section.Free n))) → capacity ≡ capacity_of app n → out < capacity
-    → Pushes app (λ later vars. send_message app delay m (λ value. give_answer variable value later vars)) old b
-    → new ≡ with_todos b (todo.Act (action.Leave (section.Free n)) ∷ todo.Act (action.Place n) ∷ [])
-    → Becomes app (place_message app variable delay m) old s new s
+-- an action, and the end of the section in which it stands
+leaving_pushed : (app : App) (a : Action) (n : ℕ) (old new : Work)
+    → new ≡ with_todos old (todo.Act (action.Leave (section.Free n)) ∷ todo.Act a ∷ [])
+    → Pushes app (λ later vars vs. act_all (action_of a ∷ action_of (action.Leave (section.Free n)) ∷ []) (later vars)
+    vs) old new
 unfolding behind
-place_taken app variable delay m n old b new s out capacity task counted has room sends grown =
-    let is : nat_lt (number (contents s (Guarded (section.Free n)))) (capacity_of app n) ≡ true = rw (
-      ← counted,
-      ←
-          has,
-    ) (grind (arith, nat_tests)) in
-    let p : Pushes app _ b new =
-    all_pushed app (λ later vars vs. act_all (action_of (action.Place n) ∷ action_of (action.Leave (section.Free
-    n)) ∷ []) (later vars) vs) b new _ grown (λ later vars vs. refl) in
-    let q = then_pushed app _ _ old b new sends p in
-    pushes_become app _ (place_message app variable delay m) old new s
-    (λ later.
-    ap (λ (k : ℕ). place_message app variable delay (record { task = k; args = m.args }) later old.vars (contents s))
-    (sym
-    task)
-    ∙ ap (λ (b : Bool). (if b then act_all (action_of (action.Place n) ∷ action_of (action.Leave (section.Free n))
-    ∷ []) (send_message app delay (record { task = n; args = m.args })
-    (λ value. give_answer variable value later old.vars)) (contents
-    s)
-    else act_all (action_of (action.Full n) ∷ action_of (action.Leave (section.Free n)) ∷ []) (give_answer variable 0
-    later old.vars) (contents s))) is
-    ∙ ap (λ (k : ℕ). act_all (action_of (action.Place n) ∷ action_of (action.Leave (section.Free n)) ∷ []) (send_message
-    app delay (record { task = k; args = m.args }) (λ value. give_answer variable value later old.vars)) (contents s))
-    task) q
+leaving_pushed app a n old new grown =
+    all_pushed app (λ later vars vs. act_all (action_of a ∷ action_of (action.Leave (section.Free n)) ∷ []) (later vars)
+    vs) old new _ grown (λ later vars vs. refl)
 
-pub place_refused : (app : App) (variable delay : Option ℕ) (m : Message) (n : ℕ) (old a new : Work) (s : Store)
-    (out capacity : ℕ)
-    → n ≡ m.task → out ≡ number (contents s (Guarded (section.Free n))) → capacity ≡ capacity_of app n → capacity ≤ out
-    → Pushes app (give_answer variable 0) old a
-    → new ≡ with_todos a (todo.Act (action.Leave (section.Free n)) ∷ todo.Act (action.Full n) ∷ [])
-    → Becomes app (place_message app variable delay m) old s new s
-unfolding behind
-place_refused app variable delay m n old a new s out capacity task counted has full told grown =
-    let is : nat_lt (number (contents s (Guarded (section.Free n)))) (capacity_of app n) ≡ false = rw (
-      ← counted,
-      ←
-          has,
-    ) (grind (arith, nat_tests)) in
-    let p : Pushes app _ a new =
-    all_pushed app (λ later vars vs. act_all (action_of (action.Full n) ∷ action_of (action.Leave (section.Free
-    n)) ∷ []) (later vars) vs) a new _ grown (λ later vars vs. refl) in
-    let q = then_pushed app _ _ old a new told p in
-    pushes_become app _ (place_message app variable delay m) old new s
-    (λ later.
-    ap (λ (k : ℕ). place_message app variable delay (record { task = k; args = m.args }) later old.vars (contents s))
-    (sym
-    task)
-    ∙ ap (λ (b : Bool). (if b then act_all (action_of (action.Place n) ∷ action_of (action.Leave (section.Free n))
-    ∷ []) (send_message app delay (record { task = n; args = m.args })
-    (λ value. give_answer variable value later old.vars)) (contents
-    s)
-    else act_all (action_of (action.Full n) ∷ action_of (action.Leave (section.Free n)) ∷ []) (give_answer variable 0
-    later old.vars) (contents s))) is) q
+-- a message of this task, of whose places so many are taken
+module _ (app : App) (variable delay : Option ℕ) (m : Message) (n : ℕ) (old : Work) (s : Store) (out capacity : ℕ)
+    (task : n ≡ m.task) (counted : out ≡ number (contents s (Guarded (section.Free n))))
+    (has : capacity ≡ capacity_of app n) where
+  -- what comes with a place, and without one
+  abbrev chosen : Bool → ℕ → Later → Later
+  chosen is_left k later vars vs =
+      if is_left
+      then act_all (action_of (action.Place k) ∷ action_of (action.Leave (section.Free k)) ∷ [])
+      (send_message app delay m (λ value. give_answer variable value later vars)) vs
+      else act_all (action_of (action.Full k) ∷ action_of (action.Leave (section.Free k)) ∷ [])
+      (give_answer variable 0 later vars) vs
+
+  place_chosen : (is_left : Bool) → nat_lt out capacity ≡ is_left → (later : Later)
+      → place_message app variable delay m later old.vars (contents s) ≡ chosen is_left n later old.vars (contents s)
+  place_chosen is_left is later =
+      let test : nat_lt (number (contents s (Guarded (section.Free n)))) (capacity_of app n) ≡ is_left = rw (
+        ← counted,
+        ← has,
+      ) is in
+      ap (λ (k : ℕ). chosen (nat_lt (number (contents s (Guarded (section.Free k)))) (capacity_of app k)) k later
+      old.vars (contents s)) (sym task)
+      ∙ ap (λ (is_left : Bool). chosen is_left n later old.vars (contents s)) test
+
+  -- a place is taken where one is left
+  pub place_taken : (b new : Work) → out < capacity
+      → Pushes app (λ later vars. send_message app delay m (λ value. give_answer variable value later vars)) old b
+      → new ≡ with_todos b (todo.Act (action.Leave (section.Free n)) ∷ todo.Act (action.Place n) ∷ [])
+      → Becomes app (place_message app variable delay m) old s new s
+  place_taken b new room sends grown =
+      pushes_become app _ (place_message app variable delay m) old new s
+      (place_chosen true (grind (arith, nat_tests)))
+      (then_pushed app _ _ old b new sends (leaving_pushed app (action.Place n) n b new grown))
+
+  pub place_refused : (a new : Work) → capacity ≤ out → Pushes app (give_answer variable 0) old a
+      → new ≡ with_todos a (todo.Act (action.Leave (section.Free n)) ∷ todo.Act (action.Full n) ∷ [])
+      → Becomes app (place_message app variable delay m) old s new s
+  place_refused a new full told grown =
+      pushes_become app _ (place_message app variable delay m) old new s
+      (place_chosen false (grind (arith, nat_tests)))
+      (then_pushed app _ _ old a new told (leaving_pushed app (action.Full n) n a new grown))
 
 -- a variable holds the handle that was given last
 pub handle_told : (app : App) (x h : ℕ) (old new : Work) (s : Store)
