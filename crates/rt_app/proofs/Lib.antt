@@ -26,7 +26,7 @@ pub mod Arranged
 pub mod ArmedPlaces
 pub mod TimerCeilings
 pub mod Spelling
-mod RowParts
+pub mod RowParts
 mod RowsActions
 mod RowsMessages
 mod RowsHandles

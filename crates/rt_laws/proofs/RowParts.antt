@@ -1,64 +1,13 @@
--- Short forms for the worked examples: applications without offsets, and what Baker's machine gives step by step.
-use Rattle.std.proofs.Common.{ℕ, zero, suc, true, false, List, [], ◌∷◌, map, Option, Some, None}
+-- Short forms for the worked examples: what Baker's machine gives step by step.
+use Rattle.std.proofs.Common.{ℕ, zero, suc, List, [], ◌∷◌, map, Option, Some, None}
 use Rattle.rt_trace.specs.Label.{Label, Stepped}
 use Rattle.rt_trace.specs.declared.item.What.{What}
 use Rattle.rt_trace.specs.declared.item.What.TheVariants as what
-use Rattle.rt_app.specs.Tree.{App, Task, Body, Block, Statement, Then, Empty}
-use Rattle.rt_app.specs.declared.app.IrqDecl.{IrqDecl}
-use Rattle.rt_app.specs.declared.app.Shared.{Shared}
+use Rattle.rt_app.specs.Tree.{App}
 use Rattle.rt_laws.specs.State.{State, Job}
 use Rattle.rt_laws.specs.Preemption.{system_ceiling, candidate}
 use Rattle.rt_laws.specs.Giving.{gives}
 use Rattle.rt_laws.specs.Allowed.{after}
-
-abbrev pub irq : List ℕ → ℕ → IrqDecl
-irq name number = record { name = name; number = number; at = 0; number_at = 0 }
-
-abbrev pub shared : List ℕ → ℕ → Shared
-shared name first = record { name = name; first = first; lock_free = false }
-
--- a body that lists these shared resources
-abbrev pub listing : List ℕ → Block → Body
-listing resources block = record {
-  shared =
-      map (λ r. record { resource = r; by_ref = false; at = 0 }) resources;
-  local = [];
-  block = block;
-  at = 0;
-}
-
--- a hardware task that binds an interrupt, by its index, at a priority
-abbrev pub hardware : List ℕ → ℕ → ℕ → Body → Task
-hardware name i priority body = record {
-  name = name;
-  at = 0;
-  binds = Some i;
-  binds_at = 0;
-  priority = priority;
-  priority_at = 0;
-  capacity = 1;
-  has_capacity = false;
-  args = 0;
-  body = body;
-}
-
--- a software task of a level with a capacity and so many arguments
-abbrev pub software : List ℕ → ℕ → ℕ → ℕ → Body → Task
-software name priority capacity args body = record {
-  name = name;
-  at = 0;
-  binds = None;
-  binds_at = 0;
-  priority = priority;
-  priority_at = 0;
-  capacity = capacity;
-  has_capacity = true;
-  args = args;
-  body = body;
-}
-
-abbrev pub last : Statement → Block
-last s = Then s Empty
 
 -- what the machine is at: its system ceiling, the interrupt that is to be taken, and the item of the running job's next
 -- action

@@ -9,9 +9,10 @@ use Rattle.rt_trace.specs.Label.{Arrived}
 use Rattle.rt_trace.specs.declared.item.What.TheVariants as what
 use Rattle.rt_app.specs.declared.expr.Atom.TheVariants as atom
 use Rattle.rt_app.specs.Tree.{Expression, Num, Read, Oper, Bind, Call, Emit, After, Cancel, Move, Then, App}
+use Rattle.rt_app.proofs.RowParts.{irq, body_listing, hardware, software, last}
 use Rattle.rt_laws.specs.State.{first}
 use Rattle.rt_laws.specs.Allowed.{after}
-use Rattle.rt_laws.proofs.RowParts.{irq, listing, hardware, software, last, play}
+use Rattle.rt_laws.proofs.RowParts.{play}
 
 abbrev var : ℕ → Expression
 var x = Read (atom.Var x) 0
@@ -39,13 +40,13 @@ undo = record {
   locals = [];
   init = None;
   idle = None;
-  tasks = hardware (codes "a") 0 1 (listing [] (Then (Bind 0 (Call (After 0 (Num 5) 1 (Num 1 ∷ []) 0))) (Then
+  tasks = hardware (codes "a") 0 1 (body_listing [] (Then (Bind 0 (Call (After 0 (Num 5) 1 (Num 1 ∷ []) 0))) (Then
       (Bind 1 (Call (After 0 (Num 5) 1 (Num 2 ∷ []) 0))) (Then
       (Bind 2 (Call (Move 0 (Num 9) 1 (var 0) 0))) (Then
       (Bind 3 (Call (Cancel 0 1 (var 1) 0))) (Then
       (Bind 4 (Call (Cancel 0 1 (var 1) 0)))
       (last (Emit told))))))))
-      ∷ software (codes "t") 2 2 1 (listing [] (last (Emit (Read (atom.Var 0) 0))))
+      ∷ software (codes "t") 2 2 1 (body_listing [] (last (Emit (Read (atom.Var 0) 0))))
       ∷ [];
   name_at = 0;
 }

@@ -8,11 +8,12 @@ use Rattle.rt_trace.specs.declared.item.What.TheVariants as what
 use Rattle.rt_app.specs.declared.expr.Atom.TheVariants as atom
 use Rattle.rt_app.specs.Tree.{Num, Read, Oper, Assign, Locked, Emit, Then, App}
 use Rattle.rt_app.specs.Waiting.{waiting_bound}
+use Rattle.rt_app.proofs.RowParts.{irq, shared, body_listing, hardware, last}
 use Rattle.rt_laws.specs.State.{first}
 use Rattle.rt_laws.specs.ByItems.{after_all, silent}
 use Rattle.rt_laws.specs.Observer.{Seen, first_sight, sees_all}
 use Rattle.rt_laws.specs.Waiting.{steppers, lower, is_take}
-use Rattle.rt_laws.proofs.RowParts.{irq, shared, listing, hardware, last, Moment, moment, shows, lefts_of}
+use Rattle.rt_laws.proofs.RowParts.{Moment, moment, shows, lefts_of}
 
 -- interrupts { LO = 0, MID = 1, HI = 2 }  shared { s = 5 }
 -- task lo(binds = LO, priority = 1, shared = [s]) { lock s { s = s + 1; } emit 9; }
@@ -29,11 +30,11 @@ locks = record {
   locals = [];
   init = None;
   idle = None;
-  tasks = hardware (codes "lo") 0 1 (listing (0 ∷ [])
+  tasks = hardware (codes "lo") 0 1 (body_listing (0 ∷ [])
       (Then (Locked 0 (last (Assign (atom.Shared 0) (Oper op.Add (Read (atom.Shared 0) 0) (Num 1)) 0)) 0)
       (last (Emit (Num 9)))))
-      ∷ hardware (codes "mid") 1 2 (listing [] (last (Emit (Num 7))))
-      ∷ hardware (codes "hi") 2 3 (listing (0 ∷ []) (last (Locked 0 (last (Emit (Read (atom.Shared 0) 0))) 0)))
+      ∷ hardware (codes "mid") 1 2 (body_listing [] (last (Emit (Num 7))))
+      ∷ hardware (codes "hi") 2 3 (body_listing (0 ∷ []) (last (Locked 0 (last (Emit (Read (atom.Shared 0) 0))) 0)))
       ∷ [];
   name_at = 0;
 }

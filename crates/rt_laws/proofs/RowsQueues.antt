@@ -9,10 +9,11 @@ use Rattle.rt_trace.specs.declared.item.What.{What}
 use Rattle.rt_trace.specs.declared.item.What.TheVariants as what
 use Rattle.rt_app.specs.declared.expr.Atom.TheVariants as atom
 use Rattle.rt_app.specs.Tree.{Num, Read, Emit, Spawns, Soon, After, Then, App}
+use Rattle.rt_app.proofs.RowParts.{irq, body_listing, hardware, software, last}
 use Rattle.rt_laws.specs.State.{State, first}
 use Rattle.rt_laws.specs.Allowed.{after}
 use Rattle.rt_laws.specs.ByItems.{after_all}
-use Rattle.rt_laws.proofs.RowParts.{irq, listing, hardware, software, last, play, labels_of}
+use Rattle.rt_laws.proofs.RowParts.{play, labels_of}
 
 -- app one(bits = 4, dispatchers = [D])  interrupts { A = 0, D = 1 }
 -- task a(binds = A, priority = 2) { spawn t(7); spawn t(8); }
@@ -29,8 +30,8 @@ one = record {
   init = None;
   idle = None;
   tasks = hardware (codes "a") 0 2
-      (listing [] (Then (Spawns (Soon 1 (Num 7 ∷ []) 0)) (last (Spawns (Soon 1 (Num 8 ∷ []) 0)))))
-      ∷ software (codes "t") 1 1 1 (listing [] (last (Emit (Read (atom.Var 0) 0))))
+      (body_listing [] (Then (Spawns (Soon 1 (Num 7 ∷ []) 0)) (last (Spawns (Soon 1 (Num 8 ∷ []) 0)))))
+      ∷ software (codes "t") 1 1 1 (body_listing [] (last (Emit (Read (atom.Var 0) 0))))
       ∷ [];
   name_at = 0;
 }
@@ -62,8 +63,8 @@ timed = record {
   locals = [];
   init = None;
   idle = None;
-  tasks = hardware (codes "a") 0 1 (listing [] (last (Spawns (After 0 (Num 2) 1 (Num 5 ∷ []) 0))))
-      ∷ software (codes "t") 2 1 1 (listing [] (last (Emit (Read (atom.Var 0) 0))))
+  tasks = hardware (codes "a") 0 1 (body_listing [] (last (Spawns (After 0 (Num 2) 1 (Num 5 ∷ []) 0))))
+      ∷ software (codes "t") 2 1 1 (body_listing [] (last (Emit (Read (atom.Var 0) 0))))
       ∷ [];
   name_at = 0;
 }
