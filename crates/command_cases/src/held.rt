@@ -1,6 +1,6 @@
 // Runs in which a gate holds the core and a device, so that it is known which pends meet and when they arrive. A run
 // that does one after the other fails, and so does one that makes its arrivals up: the gate alone knows the step.
-use crate::live::end_of;
+use crate::account::end_of;
 use crate::sides::Sides;
 use anyhow::{Context, Result};
 use rt_ids::Status;

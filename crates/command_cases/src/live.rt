@@ -1,44 +1,12 @@
 // Runs beside device threads. When a pend arrives is free, and so is the code of most applications: of the output the
 // total and the account are compared, and the whole of it is audited.
+use crate::account::{end_of, is_account};
 use anyhow::{Context, Result};
 use rt_ids::Status;
 use std::alloc::Global;
 use std::thread::Threads;
 use test_commands::{NoGate, Outside, run_on};
 use test_tables::Case;
-
-/// The total and the lines of the account, behind the items of a trace.
-pub(crate) fn end_of(output: &str) -> Option<(&str, &str)> {
-    let (_items, end) = output.split_once("\ntotal ")?;
-    end.split_once('\n')
-}
-
-/// Whether a line of an account is one of an interrupt that devices pended so often: each pend raised it or was
-/// merged, one at least raised it where there was any, it was latched as often as it was raised, and it is not left.
-fn is_row(line: &str, irq: &str, pends: u64) -> Option<bool> {
-    let row = line
-        .strip_prefix("account ")?
-        .strip_prefix(irq)?
-        .strip_prefix(" ")?;
-    let (raised, rest) = row.split_once(' ')?;
-    let (merged, rest) = rest.split_once(' ')?;
-    let (latched, left) = rest.split_once(' ')?;
-    let count = raised.parse::<u64>().ok()?;
-    let sum = count.checked_add(merged.parse::<u64>().ok()?)?;
-    Some(sum == pends && (count == 0) == (pends == 0) && latched == raised && left == "0")
-}
-
-/// Whether an account has just the lines of some interrupts in order, each given with the number of its pends.
-fn is_account(account: &str, pends: &str) -> Option<bool> {
-    let mut rows = account.lines();
-    for line in pends.lines() {
-        let (irq, count) = line.split_once(' ')?;
-        if !is_row(rows.next()?, irq, count.parse::<u64>().ok()?)? {
-            return Some(false);
-        }
-    }
-    Some(rows.next().is_none())
-}
 
 /// Whether `audit` says yes to an output.
 pub(crate) fn is_audited<R: Threads + Sync>(
@@ -58,7 +26,7 @@ fn told_of_end(output: &str, case: &Case) -> Option<&'static str> {
     if total.parse::<u32>().ok() != case.number("total") {
         return Some("the total differs");
     }
-    Some(if is_account(account, case.text("pends")?)? {
+    Some(if is_account(account, case.text("pends")?, 0)? {
         "ok"
     } else {
         "the account differs"

@@ -3,6 +3,7 @@
 // independent implementation.
 #![tactic(auto)]
 
+mod account;
 mod cuts;
 mod demos;
 mod failing;

@@ -1,6 +1,7 @@
 // Runs of two cores beside each other. When a request of the other core arrives is free: the output of each core is
 // audited by its own application, its account is compared, and its whole text where all of it is known.
-use crate::live::{end_of, is_audited};
+use crate::account::{end_of, is_account};
+use crate::live::is_audited;
 use crate::sides::Sides;
 use anyhow::{Context, Result};
 use rt_ids::Status;
@@ -15,6 +16,9 @@ const SECOND: u8 = 2;
 
 /// Requests of the second core that have to come before the first core goes on.
 const ANSWERED: u64 = 2;
+
+/// Requests of an interrupt that may be left when a core ends.
+const MOST_LEFT: u64 = 1;
 
 /// A gate that holds the first request of the second core until a step of the first has come, and the first core at
 /// that step until the second core has answered. Cores that run one after the other do not come through it.
@@ -38,35 +42,6 @@ impl<R: Clock> Gate for Answers<'_, R> {
     }
 }
 
-/// Whether a line of an account is one of an interrupt that the other core requested so often: each request raised it
-/// or was merged, and what was raised was latched or is left.
-fn is_row(line: &str, irq: &str, requests: u64) -> Option<bool> {
-    let row = line
-        .strip_prefix("account ")?
-        .strip_prefix(irq)?
-        .strip_prefix(" ")?;
-    let (raised, rest) = row.split_once(' ')?;
-    let (merged, rest) = rest.split_once(' ')?;
-    let (latched, left) = rest.split_once(' ')?;
-    let raised = raised.parse::<u64>().ok()?;
-    let sum = raised.checked_add(merged.parse::<u64>().ok()?)?;
-    let left = left.parse::<u64>().ok()?;
-    let found = latched.parse::<u64>().ok()?.checked_add(left)?;
-    Some(sum == requests && (raised == 0) == (requests == 0) && found == raised && left <= 1)
-}
-
-/// Whether an account has just the lines of some interrupts in order, each given with the number of its requests.
-fn is_account(account: &str, requests: &str) -> Option<bool> {
-    let mut rows = account.lines();
-    for line in requests.lines() {
-        let (irq, count) = line.split_once(' ')?;
-        if !is_row(rows.next()?, irq, count.parse::<u64>().ok()?)? {
-            return Some(false);
-        }
-    }
-    Some(rows.next().is_none())
-}
-
 /// What is told of the text of a core: `ok`, or what differs.
 fn told_of_core<R: Threads + Sync>(
     rt: &R,
@@ -80,7 +55,7 @@ fn told_of_core<R: Threads + Sync>(
         return Ok("the audit says no");
     }
     let (_total, account) = end_of(text).context("no account")?;
-    if !is_account(account, requests).unwrap_or(false) {
+    if !is_account(account, requests, MOST_LEFT).unwrap_or(false) {
         return Ok("the account differs");
     }
     if !whole.is_empty() && text.trim_end() != whole.trim_end() {
