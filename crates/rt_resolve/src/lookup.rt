@@ -97,7 +97,8 @@ fn owned_local_named(names: &Names, name: &[u8]) -> Option<u8>
 fn resource_named(names: &Names, name: &[u8]) -> Option<Atom>
     requires { IsCounted (names_of names.now).app }
     ensures { let n = names_of names.now in result ≡
-        option_or (option_map atom.Shared (named.shared_resource_named n.app name.now)) (named.owned_local_named n name.now) }
+        option_or (option_map atom.Shared (named.shared_resource_named n.app name.now))
+        (named.owned_local_named n name.now) }
 {
     match shared_resource_named(names.app, name) {
         Some(shared) => Some(Atom::Shared(ResId(shared))),
