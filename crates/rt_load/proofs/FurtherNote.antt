@@ -1,5 +1,5 @@
 -- A note that names an unknown task or resource is one over tables with that name more.
-use Rattle.std.proofs.Common.{◌≡◌, inl, inr, ◌<◌, ◌^◌, ℕ, true, false, List, [], ◌∷◌, ◌++◌, length, drop, take, decimal}
+use Rattle.std.proofs.Common.{◌≡◌, inl, inr, ◌<◌, ◌^◌, ℕ, true, List, [], ◌∷◌, ◌++◌, length, drop, take, decimal}
 use Rattle.std.proofs.Common.{codes, bytes_eq, nat_eq, find, Option, Some, None, Ok, Err, if◌then◌else◌, refl, ap, sym}
 use Rattle.std.proofs.Common.{◌∙◌, subst, arith, append-nil, length-append}
 use Rattle.std.specs.List.{starts_with}
