@@ -1,3 +1,4 @@
 -- What serves the contracts of private functions alone.
 pub mod Choices
 pub mod Calls
+pub mod Templates

@@ -52,7 +52,6 @@ impl Emitter {
         lines.append(&take(&armed.target, threshold, first, full))?;
         fill(&armed.target, threshold, first, lines)?;
         self.push_arm(armed, threshold, at + (12 + args), lines)?;
-        lines.append(&self.full(armed, threshold, full + 2))?;
-        Ok(())
+        lines.append(&self.full(armed, threshold, full + 2))
     }
 }

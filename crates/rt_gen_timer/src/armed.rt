@@ -1,4 +1,4 @@
-ghost use Rattle.std.specs.Prelude.{◌≡◌, ◌≤◌, ◌*◌, slice_get, true};
+ghost use Rattle.std.specs.Prelude.{◌≡◌, ◌≤◌, ◌*◌, ◌-◌, slice_get, true};
 ghost use Rattle.rt_ids.specs.Lists.{is_some_and};
 ghost use Rattle.rt_ids.specs.declared.limits.TheConstants.{CAPACITY};
 ghost use Rattle.rt_app.specs.Accepted.{IsAccepted};
@@ -11,6 +11,7 @@ use rt_app::Plan;
 use rt_frames::ArmedRows;
 use rt_gen_queue::{Target, find_target};
 use rt_ids::TaskId;
+use rt_ids::limits::CAPACITY;
 
 /// A task whose messages may be armed, as code finds it.
 #[derive(Clone, Copy)]
@@ -21,6 +22,16 @@ pub struct ArmedTask {
     pub first: u32,
     /// How many rows it has: its capacity, and 0 where no message of it is ever armed.
     pub rows: u32,
+}
+
+impl ArmedTask {
+    /// How much more the word of a message of the task is than its row.
+    pub(crate) fn word_offset(&self) -> u32
+        requires before { self.now.first ≤ CAPACITY * self.now.target.task }
+        ensures { result ≡ CAPACITY * self.now.target.task - self.now.first }
+    {
+        CAPACITY * u32::from(self.target.task.0) - self.first
+    }
 }
 
 /// A software task, as the code that arms, cancels and moves its messages finds it.

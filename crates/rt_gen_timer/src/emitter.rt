@@ -1,10 +1,16 @@
-ghost use Rattle.std.specs.Prelude.{◌≡◌, ◌+◌, ◌<◌, ◌^◌};
+ghost use Rattle.std.specs.Prelude.{◌≡◌, true, ◌+◌, ◌*◌, ◌<◌, ◌≤◌, ◌^◌, IfSome, OnOk};
+ghost use Rattle.std.specs.List.{list_all};
+ghost use Rattle.rt_ids.specs.declared.limits.TheConstants.{CAPACITY, TASKS};
 ghost use Rattle.rt_app.specs.declared.costs.TheConstants.{TIMER_QUEUE_WORDS};
-ghost use Rattle.rt_gen_timer.specs.TimerLines as spec;
+ghost use Rattle.rt_gen_queue.specs.Making.{Appends};
+ghost use Rattle.rt_gen_timer.specs.Inside.Templates as spec;
 
 use crate::queue::TimerQueue;
-use rt_code::{Instr, Line};
-use rt_ids::Op;
+use crate::slots::{HAND, HOLE, MASK};
+use crate::template::{Column, Part, Template};
+use rt_code::{Instr, Note};
+use rt_gen_queue::Lines;
+use rt_ids::{NoMemory, Section};
 
 /// What writes code for a timer queue, in 24 slots of a frame.
 #[derive(Clone, Copy)]
@@ -15,84 +21,88 @@ pub(crate) struct Emitter {
 }
 
 impl Emitter {
-    /// A slot becomes a value.
-    pub(crate) fn set(&self, to: u32, value: u32) -> Line
-        requires there { to < TIMER_QUEUE_WORDS }
+    /// The instruction of a template, whose jump counts from an address. There is none where the jump leads to
+    /// no address of 32 bits.
+    fn instr(&self, template: &Template, at: u32) -> Option<Instr>
+        requires few { self.now.queue.messages ≤ CAPACITY * TASKS }
         requires slots { self.now.slot + TIMER_QUEUE_WORDS < 2 ^ 32 }
-        ensures { result ≡ spec.set self.now.queue self.now.slot to value }
+        requires fits { spec.fits template.now ≡ true }
+        ensures { IfSome result (λ instr. instr ≡ spec.instr_of self.now at template.now) }
     {
-        (Instr::Set(self.slot + to, value), None)
+        let (queue, slot) = (self.queue, self.slot);
+        Some(match *template {
+            Template::Set(to, value) => Instr::Set(slot + to, value),
+            Template::Copy(to, from) => Instr::Copy(slot + to, slot + from),
+            Template::Calc(op, to, left, right) => {
+                Instr::Calc(op, slot + to, slot + left, slot + right)
+            }
+            Template::Load(to, column) => Instr::Load(slot + to, queue.cell(column)),
+            Template::Store(column, from) => Instr::Store(queue.cell(column), slot + from),
+            Template::LoadAt(to, column, index) => {
+                Instr::LoadAt(slot + to, queue.cell(column), slot + index)
+            }
+            Template::StoreAt(column, index, from) => {
+                Instr::StoreAt(queue.cell(column), slot + index, slot + from)
+            }
+            Template::Jump(to) => Instr::Jump(at.checked_add(to)?),
+            Template::Again => Instr::Jump(at),
+            Template::JumpZero(tested, to) => Instr::JumpZ(slot + tested, at.checked_add(to)?),
+            Template::Clock(to) => Instr::Clock(slot + to),
+            Template::Alarm(instant) => Instr::Alarm(slot + instant, queue.irq),
+            Template::NoAlarm => Instr::NoAlarm,
+            Template::Ret => Instr::Ret,
+        })
     }
 
-    /// A slot becomes another slot.
-    pub(crate) fn copy(&self, to: u32, from: u32) -> Line
-        requires to { to < TIMER_QUEUE_WORDS }
-        requires from { from < TIMER_QUEUE_WORDS }
+    /// Appends the lines of templates, whose jumps count from an address.
+    fn push_code(&self, code: &[Template], at: u32, lines: &mut Lines) -> Result<(), NoMemory>
+        requires few { self.now.queue.messages ≤ CAPACITY * TASKS }
         requires slots { self.now.slot + TIMER_QUEUE_WORDS < 2 ^ 32 }
-        ensures { result ≡ spec.copy self.now.queue self.now.slot to from }
+        requires fit { list_all spec.fits code.now ≡ true }
+        ensures { OnOk result (Appends lines.old lines.new (spec.code_of self.now at code.now)) }
     {
-        (Instr::Copy(self.slot + to, self.slot + from), None)
+        for template in code {
+            lines.push(self.instr(template, at).ok_or(NoMemory)?)?;
+        }
+        Ok(())
     }
 
-    /// A slot becomes what an operation gives on two slots.
-    pub(crate) fn calc(&self, op: Op, to: u32, left: u32, right: u32) -> Line
-        requires to { to < TIMER_QUEUE_WORDS }
-        requires left { left < TIMER_QUEUE_WORDS }
-        requires right { right < TIMER_QUEUE_WORDS }
+    /// Appends the lines of a part.
+    fn push_part(&self, part: &Part<'_, '_>, lines: &mut Lines) -> Result<(), NoMemory>
+        requires few { self.now.queue.messages ≤ CAPACITY * TASKS }
         requires slots { self.now.slot + TIMER_QUEUE_WORDS < 2 ^ 32 }
-        ensures { result ≡ spec.calc self.now.queue self.now.slot op to left right }
+        requires fits { spec.part_fits part.now ≡ true }
+        ensures { OnOk result (Appends lines.old lines.new (spec.lines_of self.now part.now)) }
     {
-        let instr = Instr::Calc(op, self.slot + to, self.slot + left, self.slot + right);
-        (instr, None)
+        let (slot, guard) = (self.slot, self.queue.guard);
+        match *part {
+            Part::Code(code, at) => self.push_code(code, at, lines),
+            Part::Enter(threshold) => {
+                let opening = guard.opening_instr(threshold, slot + MASK);
+                lines.push_noted(opening, Note::Enter(Section::Timer))
+            }
+            Part::Leave(threshold) => {
+                let closing = guard.closing_instr(threshold, slot + MASK);
+                lines.push_noted(closing, Note::Leave(Section::Timer))
+            }
+            Part::Settle(note) => {
+                let heap = self.queue.cell(Column::Heap);
+                lines.push_noted(Instr::StoreAt(heap, slot + HOLE, slot + HAND), note)
+            }
+            Part::Lines(others) => lines.append(others),
+        }
     }
 
-    /// A slot becomes a cell.
-    pub(crate) fn load(&self, to: u32, cell: u32) -> Line
-        requires there { to < TIMER_QUEUE_WORDS }
+    /// Appends the lines of parts, one behind the other.
+    pub(crate) fn push(&self, parts: &[Part<'_, '_>], lines: &mut Lines) -> Result<(), NoMemory>
+        requires few { self.now.queue.messages ≤ CAPACITY * TASKS }
         requires slots { self.now.slot + TIMER_QUEUE_WORDS < 2 ^ 32 }
-        ensures { result ≡ spec.load self.now.queue self.now.slot to cell }
+        requires fit { list_all spec.part_fits parts.now ≡ true }
+        ensures { OnOk result (Appends lines.old lines.new (spec.all_lines self.now parts.now)) }
     {
-        (Instr::Load(self.slot + to, cell), None)
-    }
-
-    /// A cell becomes a slot.
-    pub(crate) fn store(&self, cell: u32, from: u32) -> Line
-        requires there { from < TIMER_QUEUE_WORDS }
-        requires slots { self.now.slot + TIMER_QUEUE_WORDS < 2 ^ 32 }
-        ensures { result ≡ spec.store self.now.queue self.now.slot cell from }
-    {
-        (Instr::Store(cell, self.slot + from), None)
-    }
-
-    /// A slot becomes the cell behind another, as far as a slot tells.
-    pub(crate) fn load_at(&self, to: u32, cell: u32, index: u32) -> Line
-        requires to { to < TIMER_QUEUE_WORDS }
-        requires index { index < TIMER_QUEUE_WORDS }
-        requires slots { self.now.slot + TIMER_QUEUE_WORDS < 2 ^ 32 }
-        ensures { result ≡ spec.load_at self.now.queue self.now.slot to cell index }
-    {
-        (Instr::LoadAt(self.slot + to, cell, self.slot + index), None)
-    }
-
-    /// The cell behind another, as far as a slot tells, becomes a slot.
-    pub(crate) fn store_at(&self, cell: u32, index: u32, from: u32) -> Line
-        requires index { index < TIMER_QUEUE_WORDS }
-        requires from { from < TIMER_QUEUE_WORDS }
-        requires slots { self.now.slot + TIMER_QUEUE_WORDS < 2 ^ 32 }
-        ensures { result ≡ spec.store_at self.now.queue self.now.slot cell index from }
-    {
-        (
-            Instr::StoreAt(cell, self.slot + index, self.slot + from),
-            None,
-        )
-    }
-
-    /// A jump where a slot is 0.
-    pub(crate) fn jump_zero(&self, slot: u32, to: u32) -> Line
-        requires there { slot < TIMER_QUEUE_WORDS }
-        requires slots { self.now.slot + TIMER_QUEUE_WORDS < 2 ^ 32 }
-        ensures { result ≡ spec.jump_zero self.now.queue self.now.slot slot to }
-    {
-        (Instr::JumpZ(self.slot + slot, to), None)
+        for part in parts {
+            self.push_part(part, lines)?;
+        }
+        Ok(())
     }
 }

@@ -1,85 +1,60 @@
-ghost use Rattle.std.specs.Prelude.{◌≡◌, ◌+◌, ◌*◌, ◌<◌, ◌≤◌, ◌^◌, ◌++◌, OnOk};
-ghost use Rattle.rt_ids.specs.declared.limits.TheConstants.{CAPACITY, TASKS};
-ghost use Rattle.rt_app.specs.declared.costs.TheConstants.{TIMER_QUEUE_WORDS};
-ghost use Rattle.rt_gen_timer.specs.TimerLines as spec;
-
-use crate::emitter::Emitter;
 use crate::slots::{
     COUNT, EQUAL, HOLE, INSTANT, LESS, NUMBER, ONE, OTHER, OTHER_INSTANT, OTHER_NUMBER, OTHER_ROW,
     RIGHT, RIGHT_INSTANT, RIGHT_NUMBER, RIGHT_ROW, TWO, WORK,
 };
-use rt_code::{Instr, Line};
+use crate::template::{Column, Template};
 use rt_ids::Op;
 
-impl Emitter {
-    /// The lines by which the message in hand goes up from the hole.
-    pub(crate) fn rise(&self, at: u32) -> [Line; 15]
-        requires few { self.now.queue.messages ≤ CAPACITY * TASKS }
-        requires slots { self.now.slot + TIMER_QUEUE_WORDS < 2 ^ 32 }
-        requires room { at + 15 < 2 ^ 32 }
-        ensures { result ≡ spec.rise_lines self.now.queue self.now.slot at }
-    {
-        let queue = self.queue;
-        [
-            self.jump_zero(HOLE, at + 15),
-            self.calc(Op::Sub, OTHER, HOLE, ONE),
-            self.calc(Op::Div, OTHER, OTHER, TWO),
-            self.load_at(OTHER_ROW, queue.heap(), OTHER),
-            self.load_at(OTHER_INSTANT, queue.instants(), OTHER_ROW),
-            self.load_at(OTHER_NUMBER, queue.numbers(), OTHER_ROW),
-            self.calc(Op::Lt, LESS, INSTANT, OTHER_INSTANT),
-            self.calc(Op::Eq, EQUAL, INSTANT, OTHER_INSTANT),
-            self.calc(Op::Lt, WORK, NUMBER, OTHER_NUMBER),
-            self.calc(Op::And, EQUAL, EQUAL, WORK),
-            self.calc(Op::Or, LESS, LESS, EQUAL),
-            self.jump_zero(LESS, at + 15),
-            self.store_at(queue.heap(), HOLE, OTHER_ROW),
-            self.copy(HOLE, OTHER),
-            (Instr::Jump(at), None),
-        ]
-    }
+/// The message in hand goes up from the hole.
+pub(crate) const RISE: [Template; 15] = [
+    Template::JumpZero(HOLE, 15),
+    Template::Calc(Op::Sub, OTHER, HOLE, ONE),
+    Template::Calc(Op::Div, OTHER, OTHER, TWO),
+    Template::LoadAt(OTHER_ROW, Column::Heap, OTHER),
+    Template::LoadAt(OTHER_INSTANT, Column::Instants, OTHER_ROW),
+    Template::LoadAt(OTHER_NUMBER, Column::Numbers, OTHER_ROW),
+    Template::Calc(Op::Lt, LESS, INSTANT, OTHER_INSTANT),
+    Template::Calc(Op::Eq, EQUAL, INSTANT, OTHER_INSTANT),
+    Template::Calc(Op::Lt, WORK, NUMBER, OTHER_NUMBER),
+    Template::Calc(Op::And, EQUAL, EQUAL, WORK),
+    Template::Calc(Op::Or, LESS, LESS, EQUAL),
+    Template::JumpZero(LESS, 15),
+    Template::StoreAt(Column::Heap, HOLE, OTHER_ROW),
+    Template::Copy(HOLE, OTHER),
+    Template::Again,
+];
 
-    /// The lines by which the message in hand goes down from the hole.
-    pub(crate) fn sink(&self, at: u32) -> [Line; 31]
-        requires few { self.now.queue.messages ≤ CAPACITY * TASKS }
-        requires slots { self.now.slot + TIMER_QUEUE_WORDS < 2 ^ 32 }
-        requires room { at + 31 < 2 ^ 32 }
-        ensures { result ≡ spec.sink_lines self.now.queue self.now.slot at }
-    {
-        let queue = self.queue;
-        let (heap, instants, numbers) = (queue.heap(), queue.instants(), queue.numbers());
-        [
-            self.calc(Op::Add, OTHER, HOLE, HOLE),
-            self.calc(Op::Add, OTHER, OTHER, ONE),
-            self.calc(Op::Lt, RIGHT, OTHER, COUNT),
-            self.jump_zero(RIGHT, at + 31),
-            self.calc(Op::Add, RIGHT, OTHER, ONE),
-            self.calc(Op::Lt, RIGHT, RIGHT, COUNT),
-            self.calc(Op::Add, RIGHT, OTHER, RIGHT),
-            self.load_at(OTHER_ROW, heap, OTHER),
-            self.load_at(OTHER_INSTANT, instants, OTHER_ROW),
-            self.load_at(OTHER_NUMBER, numbers, OTHER_ROW),
-            self.load_at(RIGHT_ROW, heap, RIGHT),
-            self.load_at(RIGHT_INSTANT, instants, RIGHT_ROW),
-            self.load_at(RIGHT_NUMBER, numbers, RIGHT_ROW),
-            self.calc(Op::Lt, LESS, RIGHT_INSTANT, OTHER_INSTANT),
-            self.calc(Op::Eq, EQUAL, RIGHT_INSTANT, OTHER_INSTANT),
-            self.calc(Op::Lt, WORK, RIGHT_NUMBER, OTHER_NUMBER),
-            self.calc(Op::And, EQUAL, EQUAL, WORK),
-            self.calc(Op::Or, LESS, LESS, EQUAL),
-            self.calc(Op::Add, OTHER, OTHER, LESS),
-            self.load_at(OTHER_ROW, heap, OTHER),
-            self.load_at(OTHER_INSTANT, instants, OTHER_ROW),
-            self.load_at(OTHER_NUMBER, numbers, OTHER_ROW),
-            self.calc(Op::Lt, LESS, OTHER_INSTANT, INSTANT),
-            self.calc(Op::Eq, EQUAL, OTHER_INSTANT, INSTANT),
-            self.calc(Op::Lt, WORK, OTHER_NUMBER, NUMBER),
-            self.calc(Op::And, EQUAL, EQUAL, WORK),
-            self.calc(Op::Or, LESS, LESS, EQUAL),
-            self.jump_zero(LESS, at + 31),
-            self.store_at(heap, HOLE, OTHER_ROW),
-            self.copy(HOLE, OTHER),
-            (Instr::Jump(at), None),
-        ]
-    }
-}
+/// The message in hand goes down from the hole.
+pub(crate) const SINK: [Template; 31] = [
+    Template::Calc(Op::Add, OTHER, HOLE, HOLE),
+    Template::Calc(Op::Add, OTHER, OTHER, ONE),
+    Template::Calc(Op::Lt, RIGHT, OTHER, COUNT),
+    Template::JumpZero(RIGHT, 31),
+    Template::Calc(Op::Add, RIGHT, OTHER, ONE),
+    Template::Calc(Op::Lt, RIGHT, RIGHT, COUNT),
+    Template::Calc(Op::Add, RIGHT, OTHER, RIGHT),
+    Template::LoadAt(OTHER_ROW, Column::Heap, OTHER),
+    Template::LoadAt(OTHER_INSTANT, Column::Instants, OTHER_ROW),
+    Template::LoadAt(OTHER_NUMBER, Column::Numbers, OTHER_ROW),
+    Template::LoadAt(RIGHT_ROW, Column::Heap, RIGHT),
+    Template::LoadAt(RIGHT_INSTANT, Column::Instants, RIGHT_ROW),
+    Template::LoadAt(RIGHT_NUMBER, Column::Numbers, RIGHT_ROW),
+    Template::Calc(Op::Lt, LESS, RIGHT_INSTANT, OTHER_INSTANT),
+    Template::Calc(Op::Eq, EQUAL, RIGHT_INSTANT, OTHER_INSTANT),
+    Template::Calc(Op::Lt, WORK, RIGHT_NUMBER, OTHER_NUMBER),
+    Template::Calc(Op::And, EQUAL, EQUAL, WORK),
+    Template::Calc(Op::Or, LESS, LESS, EQUAL),
+    Template::Calc(Op::Add, OTHER, OTHER, LESS),
+    Template::LoadAt(OTHER_ROW, Column::Heap, OTHER),
+    Template::LoadAt(OTHER_INSTANT, Column::Instants, OTHER_ROW),
+    Template::LoadAt(OTHER_NUMBER, Column::Numbers, OTHER_ROW),
+    Template::Calc(Op::Lt, LESS, OTHER_INSTANT, INSTANT),
+    Template::Calc(Op::Eq, EQUAL, OTHER_INSTANT, INSTANT),
+    Template::Calc(Op::Lt, WORK, OTHER_NUMBER, NUMBER),
+    Template::Calc(Op::And, EQUAL, EQUAL, WORK),
+    Template::Calc(Op::Or, LESS, LESS, EQUAL),
+    Template::JumpZero(LESS, 31),
+    Template::StoreAt(Column::Heap, HOLE, OTHER_ROW),
+    Template::Copy(HOLE, OTHER),
+    Template::Again,
+];

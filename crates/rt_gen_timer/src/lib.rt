@@ -15,6 +15,7 @@ mod laws;
 pub mod queue;
 mod section;
 pub mod slots;
+mod template;
 pub mod timer;
 
 pub use generate::{gen_after, gen_cancel, gen_move};

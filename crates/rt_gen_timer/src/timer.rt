@@ -115,8 +115,7 @@ fn generate(
     let emitter = emitter_of(plan, rows, 0, entry)?;
     emitter.push_front(threshold, entry, lines)?;
     push_tasks(plan, rows, &emitter, threshold, lines)?;
-    lines.push(Instr::Jump(entry + IDLE_OFFSET))?;
-    Ok(())
+    lines.push(Instr::Jump(entry + IDLE_OFFSET))
 }
 
 /// Appends the code of the timer handler to code, and answers the address where it begins. Its lines name only what the

@@ -1,7 +1,14 @@
-use Rattle.rt_gen_queue.proofs.Placing.{four_appended}
+use Rattle.rt_gen_queue.proofs.Vocabulary.{refl}
+use Rattle.std.proofs.lemmas.Result.{on_ok_weaker}
+use Rattle.rt_gen_timer.proofs.Appending.{last, then}
 use Rattle.rt_gen_timer.proofs.emitter.Emitter.push_after.Goals as goal
 
 pub returns : goal.returns
 returns c =
-    rw (c.in_ok-append-2.ensures, c.in_ok-push_arm.ensures, c.in_ok-fill.ensures, c.in_ok-append.ensures)
-    (rw (c.full.ensures, c.take.ensures, c.from-args.ensures, four_appended))
+    on_ok_weaker c.append-2.result
+    (λ appended.
+    then c.args.lines.now _ c.in_ok-append.ensures (rw c.from-args.ensures at c.take.ensures)
+    (then c.append.new.self _ c.in_ok-fill.ensures refl
+    (then c.fill.new.lines _ (rw c.from-args.ensures at c.in_ok-push_arm.ensures) refl
+    (last c.push_arm.new.lines appended (rw c.from-args.ensures at c.full.ensures)))))
+    c.append-2.ensures

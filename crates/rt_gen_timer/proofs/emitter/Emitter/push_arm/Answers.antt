@@ -1,13 +1,4 @@
-use Rattle.rt_gen_queue.proofs.Vocabulary.{[], ap, ◌∷◌}
-use Rattle.rt_gen_timer.proofs.Appending.{last, then}
 use Rattle.rt_gen_timer.proofs.emitter.Emitter.push_arm.Goals as goal
 
 pub returns : goal.returns
-returns c =
-    then _ _ c.in_ok-append.ensures (ap (λ line. line ∷ []) c.enter.ensures)
-    (then _ _ c.in_ok-append-2.ensures c.time.ensures
-    (then _ _ c.in_ok-append-3.ensures c.row.ensures
-    (then _ _ c.in_ok-append-4.ensures c.rise.ensures
-    (then _ _ c.in_ok-append-5.ensures (ap (λ line. line ∷ []) c.settle.ensures)
-    (then _ _ c.in_ok-append-6.ensures c.alarm.ensures
-    (last _ c.in_ok-append-7.ensures (ap (λ line. line ∷ []) c.leave.ensures)))))))
+returns c = rw c.word_offset-offset.ensures at c.push.ensures

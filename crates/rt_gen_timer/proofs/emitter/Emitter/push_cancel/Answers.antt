@@ -1,13 +1,12 @@
 use Rattle.rt_gen_queue.proofs.Vocabulary.{refl}
-use Rattle.rt_gen_timer.proofs.Appending.{last, then}
+use Rattle.std.proofs.lemmas.Result.{on_ok_weaker}
+use Rattle.rt_gen_timer.proofs.Appending.{then}
 use Rattle.rt_gen_timer.proofs.emitter.Emitter.push_cancel.Goals as goal
 
 pub returns : goal.returns
 returns c =
+    on_ok_weaker c.push.result
+    (λ appended.
     then c.args.lines.now _ c.in_ok-push_find.ensures refl
-    (then c.push_find.new.lines _ c.in_ok-push_remove.ensures refl
-    (then c.push_remove.new.lines _ c.in_ok-append.ensures refl
-    (then _ _ c.in_ok-append-2.ensures c.alarm.ensures
-    (then _ _ c.in_ok-append-3.ensures c.place.ensures
-    (then _ _ c.in_ok-append-4.ensures c.free.ensures
-    (last _ c.in_ok-append-5.ensures c.missing_lines.ensures))))))
+    (then c.push_find.new.lines _ c.in_ok-push_remove.ensures refl appended))
+    (rw c.free.ensures at c.push.ensures)
