@@ -48,8 +48,9 @@ pub(crate) fn emitter_of(
     ensures slots { OnOk result (slot + TIMER_QUEUE_WORDS < 2 ^ 32) }
     ensures room { OnOk result (entry + MANY_LINES < 2 ^ 32) }
 {
-    slot.checked_add(TIMER_QUEUE_WORDS).ok_or(NoMemory)?;
-    entry.checked_add(MANY_LINES).ok_or(NoMemory)?;
+    if slot.checked_add(TIMER_QUEUE_WORDS).is_none() || entry.checked_add(MANY_LINES).is_none() {
+        return Err(NoMemory);
+    }
     let mono = plan.app.mono.unwrap();
     let queue = queue_of(plan, rows, mono);
     Ok(Emitter { queue, slot })
