@@ -6,6 +6,10 @@ use Rattle.rt_gen_queue.proofs.Vocabulary.{irq_number, is_of_level, is_some, len
 use Rattle.rt_gen_queue.proofs.Vocabulary.{nat_lt, option_map, or_zero, position, queue_at, ready_at, refl, slice_get}
 use Rattle.rt_gen_queue.proofs.Vocabulary.{slice_get-get_or, slice_index, suc, sum_by, sum_by-cons, task_of, then_from}
 use Rattle.rt_gen_queue.proofs.Vocabulary.{true, ℕ, ◌+◌, ◌<◌, ◌==◌, ◌^◌, ◌∙◌, ◌∷◌, ◌≡◌, ◌≤◌}
+use Rattle.rt_gen_queue.proofs.Vocabulary.{AllByRecursion, all_at, le-ltb, length-map, list_any, lt-ltb, none-some}
+use Rattle.rt_gen_queue.proofs.Vocabulary.{same_Some, slice_get_within, subst, zero, ◌-◌}
+use Rattle.rt_app.specs.declared.costs.TheConstants.{PRIORITIES}
+use Rattle.rt_app.proofs.Rising.{IsRising, above, those_rise}
 use Rattle.std.{proofs.lemmas.Bool.cases_Bool, proofs.lemmas.List.Sums.passes_at_first, specs.List.position_or_len}
 use Rattle.rt_lemmas.proofs.{Membership.any_contained, Indices.read_at}
 use Rattle.rt_ids.proofs.Lists.{is_some-position, position-map}
@@ -67,15 +71,34 @@ ceiling_at_level app p ps is =
     ap (λ o. or_zero (option_map (λ r. r.ceiling) o))
     (mapped_at (row app) ps (place_in (map (row app) ps) p) p (position_there app p ps is))
 
--- as many are above as levels are
-pub above_is : (app : App) (p : ℕ) (ps : List ℕ)
-    → length (filter (λ r. nat_lt p r.level) (map (row app) ps)) ≡ length (filter (nat_lt p) ps)
-above_is app p [] = refl
-above_is app p (q ∷ ps) =
-    elim (cases_Bool (nat_lt p q)) [
-      | inl passes ↦ rw passes (ap suc (above_is app p ps))
-      | inr fails ↦ rw fails (above_is app p ps)
-    ]
+-- all are above a lesser number
+all_above : (p : ℕ) (ps : List ℕ) → AllByRecursion (λ q. p < q) ps → above p ps ≡ length ps
+all_above p [] all = refl
+all_above p (q ∷ ps) all =
+    ap (λ b. length (if b then q ∷ filter (nat_lt p) ps else filter (nat_lt p) ps)) (lt-ltb p q all.0)
+    ∙ ap suc (all_above p ps all.1)
+
+-- those behind one are above it
+pub above_place : (ps : List ℕ) (k p : ℕ) → IsRising ps → slice_get ps k ≡ Some p → above p ps ≡ length ps - 1 - k
+above_place [] k p rising at = absurd (none-some p at)
+above_place (q ∷ ps) zero p rising at =
+    let same : q ≡ p = same_Some q p at in
+    let own : nat_lt p q ≡ false = le-ltb p q (omega arith) in
+    let rest : above p ps ≡ length ps = all_above p ps (subst (λ r. AllByRecursion (λ s. r < s) ps) same rising.0) in
+    ap (λ b. length (if b then q ∷ filter (nat_lt p) ps else filter (nat_lt p) ps)) own ∙ omega (arith, rest)
+above_place (q ∷ ps) (suc k) p rising at =
+    let less : q < p = all_at (λ s. q < s) ps k p rising.0 at in
+    let own : nat_lt p q ≡ false = le-ltb p q (omega arith) in
+    let within : k < length ps = slice_get_within ps k p at in
+    ap (λ b. length (if b then q ∷ filter (nat_lt p) ps else filter (nat_lt p) ps)) own
+    ∙ omega (arith, above_place ps k p rising.1 at)
+
+-- so many are behind a level in the tables
+pub above_is : (app : App) (p : ℕ) (ps : List ℕ) → IsRising ps → Contains ps p
+    → length (map (row app) ps) - 1 - place_in (map (row app) ps) p ≡ above p ps
+above_is app p ps rising is =
+    let behind = above_place ps (place_in (map (row app) ps) p) p rising (position_there app p ps is) in
+    omega (arith, behind, length-map ps (row app))
 
 -- what the tables have for a level
 abbrev pub queue_read : Plan → ℕ → ReadyQueue
@@ -86,7 +109,7 @@ queue_read plan p = record {
   guard = guard_of_ceiling plan.app.now.bits (top_in plan.ceil.ready p);
   irq = or_zero (then_from
       (option_map (λ d. d.irq)
-      (slice_get (app_of plan.app.now).dispatchers (length (filter (λ r. nat_lt p r.level) plan.ceil.ready))))
+      (slice_get (app_of plan.app.now).dispatchers (length plan.ceil.ready - 1 - place_in plan.ceil.ready p)))
       (irq_number (app_of plan.app.now)));
 }
 
@@ -106,12 +129,19 @@ module _ (plan : Plan) (p : ℕ) (planned : IsPlan plan) (level : Contains (leve
       (accepted_are_sound of_plan accepted).ceilings (section.Ready p) level in
       omega (arith, top_at, most)
 
+  pub place_there : place_in plan.ceil.ready p < length plan.ceil.ready
+  place_there =
+      let within = slice_get_within (levels of_plan) (place_in (map (row of_plan) (levels of_plan)) p) p
+      (position_there of_plan p (levels of_plan) level) in
+      rw listed (omega (arith, within, length-map (levels of_plan) (row of_plan)))
+
   -- what is read of the plan's tables is the queue of the level
   pub queue_made : queue_read plan p ≡ queue_at of_plan p
   queue_made =
       let cells : plan.lay.ready ≡ map (ready_at of_plan) (levels of_plan) =
       ap (λ (l : Layout). l.ready) planned.layout in
       let at = made_at_level of_plan p (ready_at of_plan) (levels of_plan) level in
-      let above = above_is of_plan p (levels of_plan) in
+      let rising = those_rise (λ q. list_any (is_of_level q) of_plan.tasks) PRIORITIES in
+      let above = above_is of_plan p (levels of_plan) rising level in
       let top = ceiling_at_level of_plan p (levels of_plan) level in
       rw (cells, listed, at, top, above)

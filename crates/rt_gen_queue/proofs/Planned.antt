@@ -4,12 +4,32 @@ use Rattle.rt_gen_queue.proofs.Vocabulary.{Plan, Some, Task, [], ap, app_of, ari
 use Rattle.rt_gen_queue.proofs.Vocabulary.{if◌then◌else◌, inputs_at, is_software, layout, lt-ltb, nat_lt, none-some}
 use Rattle.rt_gen_queue.proofs.Vocabulary.{or_zero, queue_at, same_Some, slice_get, slice_index, suc, sym, then_from}
 use Rattle.rt_gen_queue.proofs.Vocabulary.{true, zero, ℕ, ◌&&◌, ◌+◌, ◌<◌, ◌^◌, ◌∙◌, ◌∷◌, ◌≡◌, ◌≤◌}
+use Rattle.rt_gen_queue.proofs.Vocabulary.{get_or, is_some_and, length, length-map, map, mapped_at, refl, task_of}
+use Rattle.rt_gen_queue.proofs.Vocabulary.{slice_get_read, slice_get_within}
+use Rattle.rt_app.specs.declared.app.Task as code
 use Rattle.rt_ids.{proofs.Hardware.tells_priorities, specs.Priority.hardware}
 use Rattle.rt_ids.specs.declared.ids.Section.TheVariants as section
 use Rattle.rt_app.specs.{Ceiling.free_ceilings, Layout.has_inputs, Layout.numbers_of}
 use Rattle.rt_gen_queue.proofs.Facts.{Spawned, arguments, few_arguments, free_top, priority}
 use Rattle.rt_gen_queue.specs.SpawnCode as spec
 use Rattle.rt_gen_queue.specs.declared.target.Target.{Target}
+
+-- a software task of a number is there
+pub task_within : (items : List code.Task) (n : ℕ) → is_some_and is_software (slice_get (map task_of items) n) ≡ true
+    → n < length items
+task_within items n software = go (slice_get (map task_of items) n) refl software
+  where
+    go : (o : Option Task) → slice_get (map task_of items) n ≡ o → is_some_and is_software o ≡ true → n < length items
+    go None at is = absurd cc
+    go (Some t) at is = omega (arith, slice_get_within (map task_of items) n t at, length-map items task_of)
+
+-- and it is what is read
+pub task_read : (items : List code.Task) (i n : ℕ) (d : code.Task) → i ≡ n
+    → is_some_and is_software (slice_get (map task_of items) n) ≡ true → d ≡ get_or items i d
+    → slice_get (map task_of items) n ≡ Some (task_of d)
+task_read items i n d same software is =
+    let at = ap (λ (k : ℕ). get_or items k d) same in
+    mapped_at task_of items n d (slice_get_read items (length items) n d refl (task_within items n software) (is ∙ at))
 
 -- the number of a task that passes
 pub number_at : (test : Task → Bool) (at : ℕ → ℕ) (n : ℕ) (ts : List Task) (i : ℕ) (t : Task)

@@ -1,33 +1,31 @@
-ghost use Rattle.std.specs.Prelude.{◌≡◌, ◌∷◌, [], ◌<◌, length, slice_set, IfOk, OnOk};
+ghost use Rattle.std.specs.Prelude.{◌≡◌, ◌∷◌, [], ◌<◌, ◌++◌, length, slice_set, IfOk, OnErr, OnOk};
 ghost use Rattle.rt_gen_queue.specs.Line.{plain, line_with_note};
 ghost use Rattle.rt_gen_queue.specs.Making.{next_address, Appends};
 
-use crate::entry::next_entry;
 use rt_code::{Instr, Line, Note};
 use rt_ids::NoMemory;
 use std::alloc::Global;
 use std::marker::Model;
 
-/// A line without a note.
-pub fn plain(instr: Instr) -> Line
-    ensures { result ≡ plain instr }
+/// Appends lines to code. An error tells that memory is used up, and leaves the code as it was.
+pub fn append_lines(code: &mut Vec<Line>, lines: &[Line]) -> Result<(), NoMemory>
+    ensures code { OnOk result (code.new.items ≡ code.old.items ++ lines.now) }
+    ensures left { OnErr result (code.new.items ≡ code.old.items) }
 {
-    (instr, None)
-}
-
-/// A line with a note.
-pub fn line_with_note(instr: Instr, note: Note) -> Line
-    ensures { result ≡ line_with_note instr note }
-{
-    (instr, Some(note))
+    code.extend_from_slice(lines).ok().ok_or(NoMemory)
 }
 
 /// Lines of code as they are generated, one behind the other.
-#[derive(Drop)]
 pub struct Lines {
     /// The address of the first one.
     pub entry: u32,
     pub lines: Vec<Line>,
+}
+
+impl Drop for Lines {
+    fn drop(self) {
+        let Lines { entry: _, lines: _ } = self;
+    }
 }
 
 impl Model for Lines {
@@ -60,32 +58,31 @@ impl Lines {
     pub fn next_address(&self) -> Result<u32, NoMemory>
         ensures { IfOk result (λ at. at ≡ next_address self.now) }
     {
-        let count = next_entry(&self.lines)?;
-        self.entry.checked_add(count).ok_or(NoMemory)
+        match u32::try_from(self.lines.len()) {
+            Ok(count) => self.entry.checked_add(count).ok_or(NoMemory),
+            Err(_) => Err(NoMemory),
+        }
     }
 
     /// One more, without a note. An error tells that memory is used up.
     pub fn push(&mut self, instr: Instr) -> Result<(), NoMemory>
         ensures { OnOk result (Appends self.old self.new (plain instr ∷ [])) }
     {
-        self.lines.push((instr, None))?;
-        Ok(())
+        self.append(&[(instr, None)])
     }
 
     /// One more, with a note. An error tells that memory is used up.
     pub fn push_noted(&mut self, instr: Instr, note: Note) -> Result<(), NoMemory>
         ensures { OnOk result (Appends self.old self.new (line_with_note instr note ∷ [])) }
     {
-        self.lines.push((instr, Some(note)))?;
-        Ok(())
+        self.append(&[(instr, Some(note))])
     }
 
     /// Some more, in their order. An error tells that memory is used up.
     pub fn append(&mut self, lines: &[Line]) -> Result<(), NoMemory>
         ensures { OnOk result (Appends self.old self.new lines.now) }
     {
-        self.lines.extend_from_slice(lines)?;
-        Ok(())
+        append_lines(&mut self.lines, lines)
     }
 
     /// Another instruction in place of one that stands there without a note.

@@ -1,13 +1,37 @@
-ghost use Rattle.std.specs.Prelude.{◌≡◌, ◌+◌, ◌<◌, ◌≤◌, ◌^◌, OnOk};
+ghost use Rattle.std.specs.Prelude.{◌≡◌, ◌∷◌, [], ◌+◌, ◌<◌, ◌≤◌, ◌^◌, OnOk};
 ghost use Rattle.rt_app.specs.declared.costs.TheConstants.{SPAWN_WORDS};
+ghost use Rattle.rt_code.specs.declared.instr.Instr.TheVariants as instr;
+ghost use Rattle.rt_gen_queue.specs.Guards.{enter_line, leave_line};
+ghost use Rattle.rt_gen_queue.specs.Line.{plain};
 ghost use Rattle.rt_gen_queue.specs.SpawnLines as spec;
 ghost use Rattle.rt_gen_queue.specs.Making.{Appends};
 
-use crate::lines::{Lines, line_with_note, plain};
+use crate::guard::Guard;
+use crate::lines::Lines;
 use crate::target::Target;
 use rt_code::{Instr, Line, Note};
 use rt_ids::limits::CAPACITY;
 use rt_ids::{NoMemory, Op, Prio, Section};
+
+/// The line that opens a section at a preemption threshold, with a slot for what the mask was.
+fn enter_line(guard: Guard, threshold: u8, slot: u32, section: Section) -> Line
+    ensures { result ≡ enter_line section guard threshold slot }
+{
+    (
+        guard.opening_instr(threshold, slot),
+        Some(Note::Enter(section)),
+    )
+}
+
+/// The line that closes it.
+fn leave_line(guard: Guard, threshold: u8, slot: u32, section: Section) -> Line
+    ensures { result ≡ leave_line section guard threshold slot }
+{
+    (
+        guard.closing_instr(threshold, slot),
+        Some(Note::Leave(section)),
+    )
+}
 
 /// The lines that take a place of the task, in a body at a preemption threshold, or lead to the address `full` where
 /// none is left. The place comes into the seventh of the slots from one on; the fifth, the eighth and the ninth are
@@ -20,23 +44,30 @@ pub fn take(target: &Target, threshold: u8, slot: u32, full: u32) -> [Line; 8]
     let free = u32::from(target.free);
     let (count, place, one, mask) = (slot + 4, slot + 6, slot + 7, slot + 8);
     [
-        line_with_note(
-            guard.opening_instr(threshold, mask),
-            Note::Enter(Section::Free(target.task)),
-        ),
-        plain(Instr::Load(count, free)),
-        plain(Instr::JumpZ(count, full)),
-        plain(Instr::Set(one, 1)),
-        plain(Instr::Calc(Op::Sub, count, count, one)),
-        plain(Instr::Store(free, count)),
-        line_with_note(
+        enter_line(guard, threshold, mask, Section::Free(target.task)),
+        (Instr::Load(count, free), None),
+        (Instr::JumpZ(count, full), None),
+        (Instr::Set(one, 1), None),
+        (Instr::Calc(Op::Sub, count, count, one), None),
+        (Instr::Store(free, count), None),
+        (
             Instr::LoadAt(place, free + 1, count),
-            Note::Placed(target.task),
+            Some(Note::Placed(target.task)),
         ),
-        line_with_note(
-            guard.closing_instr(threshold, mask),
-            Note::Leave(Section::Free(target.task)),
-        ),
+        leave_line(guard, threshold, mask, Section::Free(target.task)),
+    ]
+}
+
+/// The lines that put a number into the eighth of the slots from one on, and then into another slot what an operation
+/// gives on the place in the seventh and that number.
+fn with_place(op: Op, to: u32, number: u32, slot: u32) -> [Line; 2]
+    requires slots { slot + SPAWN_WORDS < 2 ^ 32 }
+    ensures { result ≡ plain (instr.Set (slot + 7) number)
+        ∷ plain (instr.Calc op to (slot + 6) (slot + 7)) ∷ [] }
+{
+    [
+        (Instr::Set(slot + 7, number), None),
+        (Instr::Calc(op, to, slot + 6, slot + 7), None),
     ]
 }
 
@@ -63,12 +94,11 @@ pub fn fill(target: &Target, threshold: u8, slot: u32, lines: &mut Lines) -> Res
     requires few { target.now.args ≤ 4 }
     ensures { OnOk result (Appends lines.old lines.new (spec.fill_lines target.now threshold slot)) }
 {
-    let (place, factor) = (slot + 6, slot + 7);
-    lines.push(Instr::Set(factor, u32::from(target.args)))?;
-    lines.push(Instr::Calc(Op::Mul, factor, place, factor))?;
+    let args = u32::from(target.args);
+    let places = CAPACITY * u32::from(target.task.0);
+    lines.append(&with_place(Op::Mul, slot + 7, args, slot))?;
     store(target, slot, lines)?;
-    lines.push(Instr::Set(factor, CAPACITY * u32::from(target.task.0)))?;
-    lines.push(Instr::Calc(Op::Add, place, place, factor))
+    lines.append(&with_place(Op::Add, slot + 6, places, slot))
 }
 
 /// The lines that put the message whose word stands in the seventh of the slots from one on into the ring of its level,
@@ -77,29 +107,26 @@ pub fn ready(target: &Target, threshold: u8, slot: u32) -> [Line; 12]
     requires slots { slot + SPAWN_WORDS < 2 ^ 32 }
     ensures { result ≡ spec.ready_lines target.now threshold slot }
 {
-    let ring = target.queue.level;
+    let level = target.queue.level;
     let guard = target.queue.guard;
     let head = u32::from(target.queue.at);
     let (count, index, word, size, mask) = (slot + 4, slot + 5, slot + 6, slot + 7, slot + 8);
     [
-        line_with_note(
-            guard.opening_instr(threshold, mask),
-            Note::Enter(Section::Ready(Prio(ring))),
+        enter_line(guard, threshold, mask, Section::Ready(Prio(level))),
+        (Instr::Load(count, head + 1), None),
+        (Instr::Load(index, head), None),
+        (Instr::Calc(Op::Add, index, index, count), None),
+        (Instr::Set(size, target.queue.room), None),
+        (Instr::Calc(Op::Rem, index, index, size), None),
+        (Instr::StoreAt(head + 2, index, word), None),
+        (Instr::Set(size, 1), None),
+        (Instr::Calc(Op::Add, count, count, size), None),
+        (
+            Instr::Store(head + 1, count),
+            Some(Note::Ready(target.task)),
         ),
-        plain(Instr::Load(count, head + 1)),
-        plain(Instr::Load(index, head)),
-        plain(Instr::Calc(Op::Add, index, index, count)),
-        plain(Instr::Set(size, target.queue.room)),
-        plain(Instr::Calc(Op::Rem, index, index, size)),
-        plain(Instr::StoreAt(head + 2, index, word)),
-        plain(Instr::Set(size, 1)),
-        plain(Instr::Calc(Op::Add, count, count, size)),
-        line_with_note(Instr::Store(head + 1, count), Note::Ready(target.task)),
-        plain(Instr::Post(target.queue.irq)),
-        line_with_note(
-            guard.closing_instr(threshold, mask),
-            Note::Leave(Section::Ready(Prio(ring))),
-        ),
+        (Instr::Post(target.queue.irq), None),
+        leave_line(guard, threshold, mask, Section::Ready(Prio(level))),
     ]
 }
 
@@ -108,11 +135,15 @@ pub(crate) fn answer(target: &Target, threshold: u8, slot: u32, end: u32) -> [Li
     requires slots { slot + SPAWN_WORDS < 2 ^ 32 }
     ensures { result ≡ spec.end_lines target.now threshold slot end }
 {
-    let closing = target.guard.closing_instr(threshold, slot + 8);
     [
-        plain(Instr::Set(slot, 1)),
-        plain(Instr::Jump(end)),
-        line_with_note(Instr::Set(slot, 0), Note::Full(target.task)),
-        line_with_note(closing, Note::Leave(Section::Free(target.task))),
+        (Instr::Set(slot, 1), None),
+        (Instr::Jump(end), None),
+        (Instr::Set(slot, 0), Some(Note::Full(target.task))),
+        leave_line(
+            target.guard,
+            threshold,
+            slot + 8,
+            Section::Free(target.task),
+        ),
     ]
 }

@@ -1,4 +1,4 @@
-ghost use Rattle.std.specs.Prelude.{◌≡◌, ◌<◌, ◌≤◌, ◌==◌, if◌then◌else◌, nat_lt, length, map, filter, position};
+ghost use Rattle.std.specs.Prelude.{◌≡◌, ◌<◌, ◌≤◌, ◌==◌, if◌then◌else◌, length, map, filter, position};
 ghost use Rattle.std.specs.Prelude.{sum_by, slice_get, slice_index, option_map, Contains};
 ghost use Rattle.rt_ids.specs.Lists.{or_zero, then_from};
 ghost use Rattle.rt_ids.specs.declared.limits.TheConstants.{TASKS};
@@ -64,11 +64,11 @@ fn ceiling_at(queues: &[ReadyCeiling], index: usize) -> u8
     }
 }
 
-/// How many levels are above a level.
-fn levels_above(queues: &[ReadyCeiling], level: u8) -> usize
-    ensures { result ≡ length (filter (λ r. nat_lt level r.level) queues.now) }
+/// The number of an interrupt that is not declared.
+fn no_number() -> Irq
+    ensures { result ≡ 0 }
 {
-    queues.iter().filter(|queue| queue.level > level).count()
+    Irq::new(0).unwrap()
 }
 
 /// The number of an interrupt, by its index, and 0 where it is not declared.
@@ -77,7 +77,7 @@ pub fn irq_number(irqs: &[IrqDecl], irq: u8) -> Irq
 {
     match irqs.get(usize::from(irq)) {
         Some(declared) => declared.number,
-        None => Irq::new(0).unwrap(),
+        None => no_number(),
     }
 }
 
@@ -88,7 +88,7 @@ fn dispatcher_number(app: &App, index: usize) -> Irq
 {
     match app.dispatchers.get(index) {
         Some(dispatcher) => irq_number(&app.irqs, dispatcher.irq),
-        None => Irq::new(0).unwrap(),
+        None => no_number(),
     }
 }
 
@@ -124,12 +124,14 @@ pub fn queue_of(plan: &Plan<'_>, level: u8) -> ReadyQueue
     ensures { result ≡ queue_at (app_of plan.now.app.now) level }
 {
     let app = plan.app;
-    let index = index_of(&plan.ceil.ready, level);
+    let queues = plan.ceil.ready.as_slice();
+    let index = index_of(queues, level);
+    let above = queues.len() - 1 - index;
     ReadyQueue {
         level,
         at: cell_at(&plan.lay.ready, index),
         room: ready_room(&app.tasks, level),
-        guard: Guard::of(app.bits, ceiling_at(&plan.ceil.ready, index)),
-        irq: dispatcher_number(app, levels_above(&plan.ceil.ready, level)),
+        guard: Guard::of(app.bits, ceiling_at(queues, index)),
+        irq: dispatcher_number(app, above),
     }
 }

@@ -13,7 +13,7 @@ ghost use Rattle.rt_gen_queue.specs.SpawnLines.{spawn_lines};
 ghost use Rattle.rt_gen_queue.specs.SpawnCode.{spawn_code};
 ghost use Rattle.rt_gen_queue.specs.Making.{Appends};
 
-use crate::lines::Lines;
+use crate::lines::{Lines, append_lines};
 use crate::parts::{answer, fill, ready, take};
 use crate::target::{Target, find_target};
 use rt_app::Plan;
@@ -25,10 +25,15 @@ use std::alloc::Global;
 /// Lines of a spawn, beside one for each argument.
 const SPAWN_LINES: u32 = 28;
 
-/// The address behind the lines of a spawn, by the address where they begin.
-fn next_end(target: &Target, entry: u32) -> Result<u32, NoMemory>
-    ensures { IfOk result (λ end. end ≡ entry + (28 + target.now.args)) }
+/// The address behind the lines of a spawn, by the address where they begin. Where that or the slots from one on have
+/// no 32 bits there is no memory for so much code either.
+fn next_end(target: &Target, slot: u32, entry: u32) -> Result<u32, NoMemory>
+    ensures end { IfOk result (λ end. end ≡ entry + (28 + target.now.args)) }
+    ensures slots { OnOk result (slot + SPAWN_WORDS < 2 ^ 32) }
 {
+    if slot > u32::MAX - SPAWN_WORDS {
+        return Err(NoMemory);
+    }
     entry
         .checked_add(SPAWN_LINES + u32::from(target.args))
         .ok_or(NoMemory)
@@ -45,13 +50,11 @@ fn append_spawn(
     requires few { target.now.args ≤ 4 }
     ensures { OnOk result (Appends lines.old lines.new (spawn_lines target.now threshold slot entry)) }
 {
-    slot.checked_add(SPAWN_WORDS).ok_or(NoMemory)?;
-    let end = next_end(target, entry)?;
+    let end = next_end(target, slot, entry)?;
     lines.append(&take(target, threshold, slot, end - 2))?;
     fill(target, threshold, slot, lines)?;
     lines.append(&ready(target, threshold, slot))?;
-    lines.append(&answer(target, threshold, slot, end))?;
-    Ok(())
+    lines.append(&answer(target, threshold, slot, end))
 }
 
 /// Appends the code of a spawn of a software task, at a static preemption threshold, whose arguments stand in the slots
@@ -81,6 +84,5 @@ pub fn gen_spawn(
     let target = find_target(plan, task);
     let mut lines = Lines::new(alloc, entry);
     append_spawn(&target, threshold, slot, entry, &mut lines)?;
-    code.extend_from_slice(lines.as_slice())?;
-    Ok(())
+    append_lines(code, lines.as_slice())
 }

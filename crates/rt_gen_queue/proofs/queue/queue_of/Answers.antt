@@ -1,23 +1,34 @@
-use Rattle.rt_gen_queue.proofs.Vocabulary.{Plan, ap, ◌∙◌}
-use Rattle.rt_gen_queue.proofs.Levels.{queue_made, top_small}
+use Rattle.rt_gen_queue.proofs.Vocabulary.{List, Plan, ap, arith, length, ◌∙◌}
+use Rattle.rt_gen_queue.proofs.Levels.{place_in, place_there, queue_made, top_small}
+use Rattle.rt_app.specs.declared.ceilings.ReadyCeiling.{ReadyCeiling}
 use Rattle.rt_gen_queue.proofs.queue.queue_of.Goals as goal
+
+pub overflow_sub-above : goal.overflow_sub-above
+overflow_sub-above c =
+    let queues = c.as_slice-queues.ensures.value ∙ ap (λ (p : Plan). p.ceil.ready) c.plan.view_is in
+    let there = place_there c.args.plan.now c.args.level c.requires.planned c.requires.software in
+    omega (arith, ap (λ (qs : List ReadyCeiling). length qs) queues, there)
+
+pub overflow_sub-above-2 : goal.overflow_sub-above-2
+overflow_sub-above-2 c =
+    let queues = c.as_slice-queues.ensures.value ∙ ap (λ (p : Plan). p.ceil.ready) c.plan.view_is in
+    let there = place_there c.args.plan.now c.args.level c.requires.planned c.requires.software in
+    let index = c.index_of-index.ensures ∙ ap (λ (qs : List ReadyCeiling). place_in qs c.args.level) queues in
+    omega (arith, ap (λ (qs : List ReadyCeiling). length qs) queues, there, index)
 
 pub of-requires-clause-greatest : goal.of-requires-clause-greatest
 of-requires-clause-greatest c =
     let bits = ap (λ (p : Plan). p.app.now.bits) c.plan.view_is in
-    let first = c.deref.ensures.value ∙ ap (λ (p : Plan). p.ceil.ready) c.plan.view_is in
-    let second = c.deref-4.ensures.value ∙ ap (λ (p : Plan). p.ceil.ready) c.plan.view_is in
-    rw (c.ceiling_at.ensures, c.index_of-index.ensures, bits, first, second)
+    let queues = c.as_slice-queues.ensures.value ∙ ap (λ (p : Plan). p.ceil.ready) c.plan.view_is in
+    rw (c.ceiling_at.ensures, c.index_of-index.ensures, bits, queues)
     (top_small c.args.plan.now c.args.level c.requires.planned c.requires.software c.requires.accepted)
 
 pub returns : goal.returns
 returns c =
     let app = ap (λ (p : Plan). p.app.now) c.plan.view_is in
-    let first = c.deref.ensures.value ∙ ap (λ (p : Plan). p.ceil.ready) c.plan.view_is in
-    let second = c.deref-5.ensures.value ∙ ap (λ (p : Plan). p.ceil.ready) c.plan.view_is in
-    let third = c.deref-4.ensures.value ∙ ap (λ (p : Plan). p.ceil.ready) c.plan.view_is in
-    let cells = c.deref-2.ensures.value ∙ ap (λ (p : Plan). p.lay.ready) c.plan.view_is in
-    let tasks = c.deref-3.ensures.value ∙ ap (λ (p : Plan). p.app.now.tasks.items) c.plan.view_is in
+    let queues = c.as_slice-queues.ensures.value ∙ ap (λ (p : Plan). p.ceil.ready) c.plan.view_is in
+    let cells = c.deref.ensures.value ∙ ap (λ (p : Plan). p.lay.ready) c.plan.view_is in
+    let tasks = c.deref-2.ensures.value ∙ ap (λ (p : Plan). p.app.now.tasks.items) c.plan.view_is in
     rw (c.cell_at.ensures, c.ready_room.ensures, c.of.ensures, c.dispatcher_number.ensures, c.ceiling_at.ensures)
-    (rw (c.levels_above.ensures, c.index_of-index.ensures, app, first, second, third, cells, tasks)
+    (rw (c.index_of-index.ensures, app, queues, cells, tasks)
     (queue_made c.args.plan.now c.args.level c.requires.planned c.requires.software))

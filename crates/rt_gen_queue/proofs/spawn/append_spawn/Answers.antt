@@ -5,7 +5,16 @@ use Rattle.rt_gen_queue.proofs.spawn.append_spawn.Goals as goal
 pub returns : goal.returns
 returns c =
     let full : ℕ = c.args.entry + (26 + c.args.target.now.args) in
-    let first : c.in_ok-end.end - 2 ≡ full = omega (arith, c.in_ok-end.ensures) in
-    let last : c.in_ok-end.end ≡ full + 2 = omega (arith, c.in_ok-end.ensures) in
-    rw (c.in_ok-append-3.ensures, c.in_ok-append-2.ensures, c.in_ok-fill.ensures, c.in_ok-append.ensures)
-    (rw (c.answer.ensures, c.ready.ensures, c.take.ensures, first, last, four_appended))
+    let first : c.in_ok-end.end - 2 ≡ full = omega (arith, c.in_ok-end.ensures.end) in
+    let last : c.in_ok-end.end ≡ full + 2 = omega (arith, c.in_ok-end.ensures.end) in
+    rw (
+      c.in_ok-append-2.ensures,
+      c.in_ok-fill.ensures,
+      c.in_ok-append.ensures,
+      c.answer.ensures,
+      c.ready.ensures,
+      c.take.ensures,
+      first,
+      last,
+      four_appended,
+    ) at c.append-3.ensures
