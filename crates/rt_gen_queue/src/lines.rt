@@ -1,4 +1,4 @@
-ghost use Rattle.std.specs.Prelude.{◌≡◌, ◌∷◌, [], ◌<◌, ◌++◌, length, slice_set, IfOk, OnErr, OnOk};
+ghost use Rattle.std.specs.Prelude.{◌≡◌, ◌∷◌, [], ◌<◌, ◌≤◌, ◌^◌, ◌++◌, length, slice_set, IfOk, OnErr, OnOk};
 ghost use Rattle.rt_gen_queue.specs.Line.{plain, line_with_note};
 ghost use Rattle.rt_gen_queue.specs.Making.{next_address, Appends};
 
@@ -56,7 +56,8 @@ impl Lines {
 
     /// The address of the next line. Where it has no 32 bits there is no memory for so much code either.
     pub fn next_address(&self) -> Result<u32, NoMemory>
-        ensures { IfOk result (λ at. at ≡ next_address self.now) }
+        ensures at { IfOk result (λ at. at ≡ next_address self.now) }
+        ensures cause { OnErr result (2 ^ 32 ≤ next_address self.now) }
     {
         match u32::try_from(self.lines.len()) {
             Ok(count) => self.entry.checked_add(count).ok_or(NoMemory),
@@ -64,23 +65,26 @@ impl Lines {
         }
     }
 
-    /// One more, without a note. An error tells that memory is used up.
+    /// One more, without a note. An error tells that memory is used up, and leaves the lines as they were.
     pub fn push(&mut self, instr: Instr) -> Result<(), NoMemory>
-        ensures { OnOk result (Appends self.old self.new (plain instr ∷ [])) }
+        ensures lines { OnOk result (Appends self.old self.new (plain instr ∷ [])) }
+        ensures left { OnErr result (self.new ≡ self.old) }
     {
         self.append(&[(instr, None)])
     }
 
-    /// One more, with a note. An error tells that memory is used up.
+    /// One more, with a note. An error tells that memory is used up, and leaves the lines as they were.
     pub fn push_noted(&mut self, instr: Instr, note: Note) -> Result<(), NoMemory>
-        ensures { OnOk result (Appends self.old self.new (line_with_note instr note ∷ [])) }
+        ensures lines { OnOk result (Appends self.old self.new (line_with_note instr note ∷ [])) }
+        ensures left { OnErr result (self.new ≡ self.old) }
     {
         self.append(&[(instr, Some(note))])
     }
 
-    /// Some more, in their order. An error tells that memory is used up.
+    /// Some more, in their order. An error tells that memory is used up, and leaves the lines as they were.
     pub fn append(&mut self, lines: &[Line]) -> Result<(), NoMemory>
-        ensures { OnOk result (Appends self.old self.new lines.now) }
+        ensures lines { OnOk result (Appends self.old self.new lines.now) }
+        ensures left { OnErr result (self.new ≡ self.old) }
     {
         append_lines(&mut self.lines, lines)
     }

@@ -13,9 +13,9 @@ returns c =
     (λ last. rw (
       last,
       c.in_ok-store.ensures,
-      c.in_ok-append.ensures,
+      c.in_ok-append.ensures.lines,
       c.with_place.ensures,
       c.with_place-2.ensures,
       args,
       task,
-    ) (simp append_assoc)) c.append-2.ensures
+    ) (simp append_assoc)) c.append-2.ensures.lines

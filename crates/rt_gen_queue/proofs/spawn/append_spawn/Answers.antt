@@ -8,13 +8,13 @@ returns c =
     let first : c.in_ok-end.end - 2 ≡ full = omega (arith, c.in_ok-end.ensures.end) in
     let last : c.in_ok-end.end ≡ full + 2 = omega (arith, c.in_ok-end.ensures.end) in
     rw (
-      c.in_ok-append-2.ensures,
+      c.in_ok-append-2.ensures.lines,
       c.in_ok-fill.ensures,
-      c.in_ok-append.ensures,
+      c.in_ok-append.ensures.lines,
       c.answer.ensures,
       c.ready.ensures,
       c.take.ensures,
       first,
       last,
       four_appended,
-    ) at c.append-3.ensures
+    ) at c.append-3.ensures.lines

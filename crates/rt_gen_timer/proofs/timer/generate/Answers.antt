@@ -15,7 +15,7 @@ returns c =
     c.in_ok-push_front.ensures
     ∙ (λ i. record old {
       lines = old.lines ++ front_lines (c.in_ok-emitter.ensures.queue i) (c.in_ok-emitter.ensures.slot i)
-          c.args.threshold (c.in_ok-entry.ensures i);
+          c.args.threshold (c.in_ok-entry.ensures.at i);
     }) in
     let place : next_address c.push_front.new.lines ≡ next_address old + 73 =
     omega (arith, ap (λ (m : Made). next_address m) begins, length-append old.lines front) in
@@ -24,5 +24,5 @@ returns c =
     then old _ begins refl
     (then _ _ c.in_ok-push_tasks.ensures (ap (λ a. choices_code app c.args.threshold a 0 app.tasks) place)
     (last c.push_tasks.new.lines appended
-    (ap (λ (at : ℕ). plain (instr.Jump (at + 10)) ∷ []) c.in_ok-entry.ensures))))
-    c.push.ensures
+    (ap (λ (at : ℕ). plain (instr.Jump (at + 10)) ∷ []) c.in_ok-entry.ensures.at))))
+    c.push.ensures.lines

@@ -21,7 +21,13 @@ block-loop-stmt-preserved t c =
 
 pub choose_one-returns : goal.choose_one-returns
 choose_one-returns t c =
-    rw (c.replace.ensures, c.len-over.ensures, c.in_ok-end.ensures, c.in_ok-block.ensures, c.in_ok-push.ensures)
+    rw (
+      c.replace.ensures,
+      c.len-over.ensures,
+      c.in_ok-end.ensures.at,
+      c.in_ok-block.ensures,
+      c.in_ok-push.ensures.lines,
+    )
     (simp (behind_at, append_assoc, set-append_seam))
 
 pub choose_first-returns-clause-lines : goal.choose_first-returns-clause-lines
@@ -29,18 +35,18 @@ choose_first-returns-clause-lines t c =
     rw (
       c.replace.ensures,
       c.len-over.ensures,
-      c.in_ok-to.ensures,
-      c.in_ok-push-2.ensures,
+      c.in_ok-to.ensures.at,
+      c.in_ok-push-2.ensures.lines,
       c.in_ok-block.ensures,
-      c.in_ok-push.ensures,
+      c.in_ok-push.ensures.lines,
     ) (simp (behind_at, append_assoc, set-append_seam))
 
 pub lock-returns : goal.lock-returns
 lock-returns t c =
     rw (
-      c.in_ok-push_noted-2.ensures,
+      c.in_ok-push_noted-2.ensures.lines,
       c.in_ok-block.ensures,
-      c.in_ok-push_noted.ensures,
+      c.in_ok-push_noted.ensures.lines,
       c.opening_instr.ensures,
       c.closing_instr.ensures,
       c.max.ensures,
@@ -53,11 +59,11 @@ repeat-returns t c =
     rw (
       c.replace.ensures,
       c.len-over.ensures,
-      c.in_ok-end.ensures,
+      c.in_ok-end.ensures.at,
       c.in_ok-loop_tail.ensures,
-      c.in_ok-entry.ensures,
+      c.in_ok-entry.ensures.at,
       c.in_ok-block.ensures,
-      c.in_ok-push.ensures,
+      c.in_ok-push.ensures.lines,
       c.in_ok-loop_head.ensures,
       behind_loop,
       behind_four,
@@ -146,11 +152,11 @@ statement-lock-requires t c =
 
 pub choose_one-replace-requires : goal.choose_one-replace-requires
 choose_one-replace-requires t c =
-    rw (c.len-over.ensures, c.in_ok-block.ensures, c.in_ok-push.ensures) (simp length-append (omega arith))
+    rw (c.len-over.ensures, c.in_ok-block.ensures, c.in_ok-push.ensures.lines) (simp length-append (omega arith))
 
 pub choose_first-replace-requires : goal.choose_first-replace-requires
 choose_first-replace-requires t c =
-    rw (c.len-over.ensures, c.in_ok-push-2.ensures, c.in_ok-block.ensures, c.in_ok-push.ensures)
+    rw (c.len-over.ensures, c.in_ok-push-2.ensures.lines, c.in_ok-block.ensures, c.in_ok-push.ensures.lines)
     (simp length-append (omega arith))
 
 pub repeat-replace-requires : goal.repeat-replace-requires
@@ -159,5 +165,5 @@ repeat-replace-requires t c =
       c.len-over.ensures,
       c.in_ok-loop_tail.ensures,
       c.in_ok-block.ensures,
-      c.in_ok-push.ensures,
+      c.in_ok-push.ensures.lines,
     ) (simp length-append (omega arith))
