@@ -47,8 +47,8 @@ level_declared app task t facts =
     dispatcher_named app (task_priority app task) facts.accepted
     (subst (λ q. Contains (levels app) q) (sym (priority app task t facts)) (known app task t facts))
 
-pub fill_claimed : (names : Names) (c : Target) (threshold slot : ℕ) → AreClaimed names (fill_lines c threshold slot)
-fill_claimed names c threshold slot =
+pub fill_claimed : (names : Names) (c : Target) (slot : ℕ) → AreClaimed names (fill_lines c slot)
+fill_claimed names c slot =
     claimed_both names (store_code c.args c.inputs slot 0)
     (plain (instr.Set (slot + 7) (16 * c.task)) ∷ plain (instr.Calc op.Add (slot + 6) (slot + 6) (slot + 7)) ∷ [])
     (claimed_each names (λ j. plain (instr.StoreAt (c.inputs + j) (slot + 7) (slot + j))) (range_with_len 0 c.args)
@@ -66,8 +66,8 @@ spawn_claimed app task t facts threshold slot at =
     let into = enter_named (names_of app) ready c.queue.guard threshold (slot + 8) tt in
     let out_of = leave_named (names_of app) ready c.queue.guard threshold (slot + 8) tt in
     let last =
-    claimed_both (names_of app) (fill_lines c threshold slot)
+    claimed_both (names_of app) (fill_lines c slot)
     (ready_lines c threshold slot ++ end_lines c threshold slot (at + (26 + c.args) + 2))
-    (fill_claimed (names_of app) c threshold slot)
+    (fill_claimed (names_of app) c slot)
     (into, (record { instr = tt; note = has }, (irq, (out_of, (record { instr = tt; note = has }, (leave, tt))))))
     in (enter, (record { instr = tt; note = has }, (leave, last)))

@@ -35,7 +35,7 @@ module _ (app : App) where
 
   -- the lines that write the arguments into the cells of the place, and make the word of the message
   abbrev pub fill_code : ℕ → ℕ → List Line
-  fill_code task slot = fill_lines (target_of task) 0 slot
+  fill_code task slot = fill_lines (target_of task) slot
 
   -- the lines that put the message last into the ring of a level, and pend the level's dispatcher
   abbrev pub ready_code : ℕ → ℕ → ℕ → ℕ → List Line

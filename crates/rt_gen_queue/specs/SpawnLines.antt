@@ -17,6 +17,14 @@ abbrev pub store_code : ℕ → ℕ → ℕ → ℕ → List Line
 store_code count cell slot from =
     map (λ j. plain (instr.StoreAt (cell + j) (slot + 7) (slot + j))) (range_with_len from count)
 
+-- the arguments go into the cells of the place, and the word of the message is made, in the slots below
+abbrev pub fill_lines : Target → ℕ → List Line
+fill_lines c slot =
+    plain (instr.Set (slot + 7) c.args)
+    ∷ plain (instr.Calc op.Mul (slot + 7) (slot + 6) (slot + 7))
+    ∷ (store_code c.args c.inputs slot 0
+    ++ plain (instr.Set (slot + 7) (16 * c.task)) ∷ plain (instr.Calc op.Add (slot + 6) (slot + 6) (slot + 7)) ∷ [])
+
 -- The slots after the arguments: a number of places or of messages, an index in the ring, the place that is taken and
 -- then its message as a word, a number beside these, and what the mask was.
 module _ (c : Target) (threshold slot : ℕ) where
@@ -31,14 +39,6 @@ module _ (c : Target) (threshold slot : ℕ) where
       ∷ plain (instr.Store c.free (slot + 4))
       ∷ line_with_note (instr.LoadAt (slot + 6) (c.free + 1) (slot + 4)) (note.Placed c.task)
       ∷ leave_line (section.Free c.task) c.guard threshold (slot + 8) ∷ []
-
-  -- the arguments go into the cells of the place, and the word of the message is made
-  abbrev pub fill_lines : List Line
-  fill_lines =
-      plain (instr.Set (slot + 7) c.args)
-      ∷ plain (instr.Calc op.Mul (slot + 7) (slot + 6) (slot + 7))
-      ∷ (store_code c.args c.inputs slot 0
-      ++ plain (instr.Set (slot + 7) (16 * c.task)) ∷ plain (instr.Calc op.Add (slot + 6) (slot + 6) (slot + 7)) ∷ [])
 
   -- the message goes into the ring, after those that are ready, and the dispatcher is pended
   abbrev pub ready_lines : List Line
@@ -68,4 +68,4 @@ module _ (c : Target) (threshold slot : ℕ) where
   abbrev pub spawn_lines : ℕ → List Line
   spawn_lines at =
       let full : ℕ = at + (26 + c.args) in
-      take_lines full ++ (fill_lines ++ (ready_lines ++ end_lines (full + 2)))
+      take_lines full ++ (fill_lines c slot ++ (ready_lines ++ end_lines (full + 2)))

@@ -89,10 +89,10 @@ fn store(target: &Target, slot: u32, lines: &mut Lines) -> Result<(), NoMemory>
 /// Appends the lines that store the arguments, which stand in the slots from one on, in the cells of the place in the
 /// seventh of these, and leave the word of its message there. The eighth is used beside. An error tells that memory is
 /// used up; then some of the lines may have been appended.
-pub fn fill(target: &Target, threshold: u8, slot: u32, lines: &mut Lines) -> Result<(), NoMemory>
+pub fn fill(target: &Target, slot: u32, lines: &mut Lines) -> Result<(), NoMemory>
     requires slots { slot + SPAWN_WORDS < 2 ^ 32 }
     requires few { target.now.args ≤ 4 }
-    ensures { OnOk result (Appends lines.old lines.new (spec.fill_lines target.now threshold slot)) }
+    ensures { OnOk result (Appends lines.old lines.new (spec.fill_lines target.now slot)) }
 {
     let args = u32::from(target.args);
     let places = CAPACITY * u32::from(target.task.0);

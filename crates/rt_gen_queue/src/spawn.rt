@@ -52,7 +52,7 @@ fn append_spawn(
 {
     let end = next_end(target, slot, entry)?;
     lines.append(&take(target, threshold, slot, end - 2))?;
-    fill(target, threshold, slot, lines)?;
+    fill(target, slot, lines)?;
     lines.append(&ready(target, threshold, slot))?;
     lines.append(&answer(target, threshold, slot, end))
 }

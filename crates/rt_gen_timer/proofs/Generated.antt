@@ -124,9 +124,9 @@ module _ (app : App) (irq : HasIrq (names_of app) (queue_of app).irq) (slot thre
         ++ lines.full_lines (queue_of app) slot threshold a (at + (59 + c.args) + 2) in
         let armed : Claimed arm = assumption (enters, irq, leaves, has, leaves_free (slot + MASK)) in
         let mask : ℕ = slot + ARGUMENTS + 8 in
-        let filled : Claimed (fill_lines c threshold (slot + ARGUMENTS) ++ arm) =
-        claimed_both (names_of app) (fill_lines c threshold (slot + ARGUMENTS)) arm
-        (fill_claimed (names_of app) c threshold (slot + ARGUMENTS)) armed in
+        let filled : Claimed (fill_lines c (slot + ARGUMENTS) ++ arm) =
+        claimed_both (names_of app) (fill_lines c (slot + ARGUMENTS)) arm
+        (fill_claimed (names_of app) c (slot + ARGUMENTS)) armed in
         assumption (enters_free mask, has, leaves_free mask, filled)
 
     pub cancel_claimed : (at : ℕ) → Claimed (cancel_code app task threshold slot at)

@@ -277,7 +277,7 @@ module _ (q : TimerQueue) (slot : ℕ) where
     after_lines a at =
         let full : ℕ = at + (59 + a.target.args) in
         take_lines a.target threshold (slot + ARGUMENTS) full
-        ++ (fill_lines a.target threshold (slot + ARGUMENTS)
+        ++ (fill_lines a.target (slot + ARGUMENTS)
         ++ (arm_lines a (at + (12 + a.target.args)) ++ full_lines a (full + 2)))
 
     -- the place in a slot becomes free again. 6 lines.

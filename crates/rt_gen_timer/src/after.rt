@@ -50,7 +50,7 @@ impl Emitter {
         let first = self.slot + ARGUMENTS;
         let full = at + (59 + args);
         lines.append(&take(&armed.target, threshold, first, full))?;
-        fill(&armed.target, threshold, first, lines)?;
+        fill(&armed.target, first, lines)?;
         self.push_arm(armed, threshold, at + (12 + args), lines)?;
         lines.append(&self.full(armed, threshold, full + 2))
     }

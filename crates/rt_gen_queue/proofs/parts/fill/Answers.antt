@@ -9,7 +9,7 @@ returns c =
     let task = c.from-places.ensures ∙ ap (λ (t : Target). t.task) c.target.view_is in
     on_ok_weaker c.append-2.result
     (Appends c.store.new.lines c.append-2.new.self c.with_place-2.result)
-    (Appends c.args.lines.now c.append-2.new.self (fill_lines c.args.target.now c.args.threshold c.args.slot))
+    (Appends c.args.lines.now c.append-2.new.self (fill_lines c.args.target.now c.args.slot))
     (λ last. rw (
       last,
       c.in_ok-store.ensures,
