@@ -14,6 +14,7 @@ use Rattle.rt_core.specs.Machine.{Machine, IsFresh}
 use Rattle.rt_core.specs.Trace.{labels, trace}
 use Rattle.rt_devices.specs.Work.{interrupt_asked}
 use Rattle.rt_listing.specs.Listing.{listing}
+use Rattle.rt_outside.specs.Bytes.{Took}
 use Rattle.rt_run.specs.Done.{Leads}
 use Rattle.rt_run.specs.Sending.{shown_items, lines_of}
 use Rattle.rt_script.specs.declared.line.Line.{Line}
@@ -31,6 +32,7 @@ use Rattle.rt_live.specs.Ready.{irqs_of}
 use Rattle.rt_live.specs.Interleaving.{latches, interleaving}
 use Rattle.rt_live.specs.declared.account.AccountRow.{AccountRow}
 use Rattle.rt_dual.specs.Course.{Course, IsCourse, turns, course_events, course_items, first_events, second_events}
+use Rattle.rt_dual.specs.Doing.{HasPaired}
 use Rattle.rt_dual.specs.Forwarded.{forward, forward_of, forwarded_irqs}
 use Rattle.rt_dual.specs.Output.{IsPairText, account, core_text, course_text}
 use Rattle.rt_dual.specs.Inside.Both.{IsBefore, AreBefore, HaveEnded, IsWritten}
@@ -132,9 +134,9 @@ module _ (core_id : CoreId) (other : Image) (es : List Event) (m n : Machine) (h
       ∙ sym (append_assoc head told (account m.image course))
 
 -- both of them
-pub pair_text : (script : List Line) (a a' b b' : Machine) (old new : Both) (bytes : List ℕ) → IsFresh a → IsFresh b
-    → AreBefore a.image b.image old → HaveEnded script a a' b b' old new → IsWritten a.image b.image new bytes
-    → IsPairText a.image b.image script bytes
+abbrev pub pair_text : (script : List Line) (a a' b b' : Machine) (old new : Both) (bytes : List ℕ) → IsFresh a
+    → IsFresh b → AreBefore a.image b.image old → HaveEnded script a a' b b' old new
+    → IsWritten a.image b.image new bytes → IsPairText a.image b.image script bytes
 pair_text script a a' b b' old new bytes fresh_a fresh_b before ended written =
     let one : Course = record {
       found = ended.left.found;
@@ -178,6 +180,18 @@ pair_text script a a' b b' old new bytes fresh_a fresh_b before ended written =
           (core_written Second a.image (second_events script) b b' old.two new.two old.right new.right old.left new.left
           fresh_b before.two ended.two ended.right written.two written.two_settled);
     }
+
+-- and each core has done the events of its trace in it
+pub has_paired : (script : List Line) (a a' b b' : Machine) (old new : Both) (bytes : List ℕ) → IsFresh a → IsFresh b
+    → AreBefore a.image b.image old → HaveEnded script a a' b b' old new → IsWritten a.image b.image new bytes
+    → (x y : Option (List ℕ)) → Took x y bytes → HasPaired script a a' b b' x y
+has_paired script a a' b b' old new bytes fresh_a fresh_b before ended written x y took = record {
+  bytes = bytes;
+  is = pair_text script a a' b b' old new bytes fresh_a fresh_b before ended written;
+  took = took;
+  one_leads = ended.left.leads;
+  two_leads = ended.right.leads;
+}
 
 -- the text of a core, part by part
 pub same_text : (f f' t t' : List ℕ) (n n' : Names) (rows : List AccountRow) → f ≡ f' → t ≡ t' → n ≡ n'

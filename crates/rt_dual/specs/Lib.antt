@@ -1,4 +1,5 @@
 pub mod Forwarded
 pub mod Course
 pub mod Output
+pub mod Doing
 pub mod Inside

@@ -4,7 +4,7 @@ use Rattle.rt_script.specs.declared.line.Line.{Line}
 use Rattle.rt_dual.specs.Course.{turns, first_events, second_events}
 use Rattle.rt_dual.specs.Inside.Both.{AreBefore, HaveEnded, IsWritten}
 use Rattle.rt_dual.proofs.Beforehand.{can_write}
-use Rattle.rt_dual.proofs.Coursing.{pair_text, where_ok}
+use Rattle.rt_dual.proofs.Coursing.{has_paired, pair_text, where_ok}
 use Rattle.rt_dual.proofs.Cutting.{none_begun}
 use Rattle.rt_dual.proofs.pairing.pair.Goals as goal
 
@@ -31,8 +31,8 @@ put_both-requires g c =
     (sym c.is_err.ensures.value ∙ c.if-is_err.false) c.run_both.ensures.ok) in
     can_write c.args.script.now a x b y old new c.lines-lines.ensures.script before ended
 
-pub returns-in-Ok-put_both-clause-ok : goal.returns-in-Ok-put_both-clause-ok
-returns-in-Ok-put_both-clause-ok g c =
+pub returns-in-Ok-put_both-clause-all : goal.returns-in-Ok-put_both-clause-all
+returns-in-Ok-put_both-clause-all g c =
     let a = c.args.first.now in
     let b = c.args.second.now in
     let x = c.run_both.new.first in
@@ -50,12 +50,13 @@ returns-in-Ok-put_both-clause-ok g c =
     let written : IsWritten a.image b.image new wrote.0 =
     subst (λ (i : Image). IsWritten i b.image new wrote.0) (c.image-3.ensures ∙ ended.left.leads.image)
     (subst (λ (i : Image). IsWritten c.image-3.result.now i new wrote.0) (c.image-4.ensures ∙ ended.right.leads.image)
-    wrote.1) in (
-      wrote.0,
-      pair_text c.args.script.now a x b y old new wrote.0 c.requires.first_fresh c.requires.second_fresh before ended
-          written,
-      wrote.2,
-    )
+    wrote.1) in
+    has_paired c.args.script.now a x b y old new wrote.0 c.requires.first_fresh c.requires.second_fresh before ended
+    written (g.K.Sink.taken c.args.out.now) (g.K.Sink.taken c.put_both.new.out) wrote.2
+
+pub returns-in-Ok-put_both-clause-ok : goal.returns-in-Ok-put_both-clause-ok
+returns-in-Ok-put_both-clause-ok g c =
+    let all = returns-in-Ok-put_both-clause-all g c in (all.bytes, all.is, all.took)
 
 pub returns-in-Err-clause-part : goal.returns-in-Err-clause-part
 returns-in-Err-clause-part g c =
