@@ -24,12 +24,12 @@ fn frames_stand_on_each_other(rt: HostRuntime) -> Result<(), Fail> {
     for (words, at, value, left) in [(2, 1, 5, 10), (8, 0, 6, 2), (2, 0, 7, 0)] {
         assert!(rt; region.fits(words));
         region.push(words);
-        assert!(rt; region.used() >= words);
+        assert!(rt; region.used_words() >= words);
         write(&mut region, words, at, value);
         let fits = (region.fits(left), region.fits(left + 1));
         assert_same(&rt, &fits, &(true, false), "what is left");
     }
-    assert_eq!(rt; region.used(), 12);
+    assert_eq!(rt; region.used_words(), 12);
     let whole = [0, 5, 6, 0, 0, 0, 0, 0, 0, 0, 7, 0];
     assert_same(
         &rt,

@@ -8,7 +8,7 @@ use Rattle.std.proofs.lemmas.Option.{slice_get-map, slice_get_within}
 use Rattle.std.proofs.lemmas.List.{length-append}
 use Rattle.rt_lemmas.proofs.Membership.{all_append, all_at}
 use Rattle.rt_lemmas.proofs.Indices.{at_front, at_back, at_either, at_read, read_at, there_is}
-use Rattle.rt_ids.specs.Holder.{Guarded, Own}
+use Rattle.rt_ids.specs.Location.{Guarded, Own}
 use Rattle.rt_ids.specs.Storage.{Home, At, In, Nowhere}
 use Rattle.rt_ids.specs.declared.ids.Section.TheVariants as section
 use Rattle.rt_app.specs.declared.app.Shared.{Shared}

@@ -1,12 +1,12 @@
--- What the cells of all holders spell after reset: resources their first values, no place is out, and no message is
--- ready.
+-- What the cells of all locations represent after reset: resources their first values, no place is out, and no message
+-- is ready.
 use Rattle.std.proofs.Common.{◌≡◌, ℕ, zero, suc, ◌+◌, ◌-◌, ◌*◌, ◌<◌, IsSome, true, List, [], length, map, Some}
 use Rattle.std.proofs.Common.{option_map, slice_get, get_or, Contains, refl, sym, ap, subst, ◌∙◌, arith}
 use Rattle.std.specs.List.{AllByRecursion, range_with_len}
 use Rattle.std.proofs.lemmas.Option.{same_Some, none-some, slice_get_within}
 use Rattle.rt_lemmas.proofs.Indices.{read_at, there_is}
 use Rattle.rt_ids.specs.Lists.{or_zero}
-use Rattle.rt_ids.specs.Holder.{Holder, Guarded, Own}
+use Rattle.rt_ids.specs.Location.{Location, Guarded, Own}
 use Rattle.rt_ids.specs.Content.{Content, Number, Messages, Delays, nothing_armed}
 use Rattle.rt_ids.specs.Entry.{Entry}
 use Rattle.rt_ids.specs.declared.ids.Section.TheVariants as section
@@ -15,28 +15,28 @@ use Rattle.rt_app.specs.Level.{is_software, levels, armed_messages}
 use Rattle.rt_app.specs.Sending.{capacity_of}
 use Rattle.rt_app.specs.Layout.{Cell, memory, resource_at, local_at, free_at, ready_at, timer_at, armings_at}
 use Rattle.rt_app.specs.Layout.{handle_count_at}
-use Rattle.rt_app.specs.Holding.{SpellsFree, SpellsReady, SpellsTimer, Spells, IsHeld}
+use Rattle.rt_app.specs.Holding.{RepresentsFree, RepresentsReady, RepresentsTimer, Represents, IsHeld}
 use Rattle.rt_app.proofs.Laid.{resource_cell, local_cell, resource_lies, local_lies}
 use Rattle.rt_app.proofs.LaidQueues.{many, mapped, capacity_is, free_count_lies, free_place_lies, ready_head_lies}
 use Rattle.rt_app.proofs.LaidQueues.{ready_count_lies}
 use Rattle.rt_app.proofs.LaidTimer.{timer_cell_lies}
-use Rattle.rt_app.proofs.Spelling.{the_task}
+use Rattle.rt_app.proofs.Representing.{the_task}
 
--- Cells after reset, the places in each queue, and what they spell. A place with a greater number is taken first.
+-- Cells after reset, the places in each queue, and what they represent. A place with a greater number is taken first.
 abbrev pub first_cells : App → ℕ → ℕ
 first_cells app c = get_or (map (λ cell. cell.first) (memory app)) c 0
 
 abbrev pub first_places : ℕ → ℕ → List Entry
 first_places n capacity = map (λ k. record { task = n; place = capacity - 1 - k }) (range_with_len 0 capacity)
 
-abbrev pub first_queues : App → Holder → List Entry
+abbrev pub first_queues : App → Location → List Entry
 first_queues app (Guarded (section.Res r)) = []
 first_queues app (Guarded (section.Free n)) = first_places n (capacity_of app n)
 first_queues app (Guarded (section.Ready p)) = []
 first_queues app (Guarded section.Timer) = []
 first_queues app (Own n) = []
 
-abbrev pub first_contents : App → Holder → Content
+abbrev pub first_contents : App → Location → Content
 first_contents app (Guarded (section.Res r)) = Number (or_zero (option_map (λ s. s.first) (slice_get app.shared r)))
 first_contents app (Guarded (section.Free n)) = Number 0
 first_contents app (Guarded (section.Ready p)) = Messages []
@@ -59,7 +59,7 @@ module _ (app : App) where
   first_at c cell at = read_at (λ cell. cell.first) (memory app) c cell 0 at
 
   free_first : (n : ℕ) (t : Task) → slice_get app.tasks n ≡ Some t → is_software t ≡ true
-      → SpellsFree app (first_cells app) n (first_places n (capacity_of app n)) (Number 0)
+      → RepresentsFree app (first_cells app) n (first_places n (capacity_of app n)) (Number 0)
   free_first n t at software =
       let capacity : capacity_of app n ≡ t.capacity = capacity_is app n t at in
       let entry : ℕ → Entry = λ k. record { task = n; place = capacity_of app n - 1 - k } in
@@ -80,7 +80,7 @@ module _ (app : App) where
             (free_place_lies app n t at software place (omega arith)) ∙ ap (λ (e : Entry). e.place) same));
       }
 
-  ready_first : (p : ℕ) → Contains (levels app) p → SpellsReady app (first_cells app) p [] (Messages [])
+  ready_first : (p : ℕ) → Contains (levels app) p → RepresentsReady app (first_cells app) p [] (Messages [])
   ready_first p is =
       let head : first_cells app (ready_at app p) ≡ 0 = first_at (ready_at app p) _ (ready_head_lies app p is) in
       record {
@@ -99,7 +99,7 @@ module _ (app : App) where
       let one = timer_cell_lies app timed j within in
       ap (first_cells app) is ∙ (first_at (timer_at app + j) one.0 one.1 ∙ one.2.0)
 
-  timer_first : IsSome app.mono → SpellsTimer app (first_cells app) [] (Delays nothing_armed)
+  timer_first : IsSome app.mono → RepresentsTimer app (first_cells app) [] (Delays nothing_armed)
   timer_first timed = record {
     timed = nothing_armed;
     is = refl;
@@ -121,17 +121,17 @@ module _ (app : App) where
     };
   }
 
-  pub spelled_first : (h : Holder) → IsHeld app h → Spells app (first_cells app) h (first_queues app h)
+  pub represented_first : (h : Location) → IsHeld app h → Represents app (first_cells app) h (first_queues app h)
       (first_contents app h)
-  spelled_first (Guarded (section.Res r)) has =
+  represented_first (Guarded (section.Res r)) has =
       let one = there_is app.shared r has in
       ap (λ o. Number (or_zero (option_map (λ s. s.first) o))) one.1
       ∙ ap Number (sym (first_at (resource_at app r) (resource_cell r one.0) (resource_lies app r one.0 one.1)))
-  spelled_first (Guarded (section.Free n)) has = let task = the_task is_software app n has in
+  represented_first (Guarded (section.Free n)) has = let task = the_task is_software app n has in
       free_first n task.0 task.1 task.2
-  spelled_first (Guarded (section.Ready p)) has = ready_first p has
-  spelled_first (Guarded section.Timer) has = timer_first has
-  spelled_first (Own n) has =
+  represented_first (Guarded (section.Ready p)) has = ready_first p has
+  represented_first (Guarded section.Timer) has = timer_first has
+  represented_first (Own n) has =
       let one = there_is app.locals n has in
       ap (λ o. Number (or_zero (option_map (λ l. l.first) o))) one.1
       ∙ ap Number (sym (first_at (local_at app n) (local_cell n one.0) (local_lies app n one.0 one.1)))

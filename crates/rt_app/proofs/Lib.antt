@@ -25,7 +25,7 @@ pub mod Counting
 pub mod Arranged
 pub mod ArmedPlaces
 pub mod TimerCeilings
-pub mod Spelling
+pub mod Representing
 pub mod RowParts
 mod RowsActions
 mod RowsMessages

@@ -1,6 +1,6 @@
 -- Worked examples: what bodies come to is what a person worked out from the language's rules. Bodies with locks.
 use Rattle.std.proofs.Common.{◌≡◌, false, [], ◌∷◌, refl, codes, None}
-use Rattle.rt_ids.specs.Holder.{Guarded}
+use Rattle.rt_ids.specs.Location.{Guarded}
 use Rattle.rt_ids.specs.Content.{Number}
 use Rattle.rt_ids.specs.Action.{Enters, Leaves, Emits, Posts, Returns}
 use Rattle.rt_ids.specs.declared.op.Op.TheVariants as op

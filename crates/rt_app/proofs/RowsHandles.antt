@@ -2,7 +2,7 @@
 -- that are taken back or put off by their handles.
 use Rattle.std.proofs.Common.{◌≡◌, ℕ, false, [], ◌∷◌, refl, codes, Some, None}
 use Rattle.rt_ids.specs.Lists.{those_below}
-use Rattle.rt_ids.specs.Holder.{Guarded}
+use Rattle.rt_ids.specs.Location.{Guarded}
 use Rattle.rt_ids.specs.Content.{Values, Number, Delays}
 use Rattle.rt_ids.specs.Action.{Enters, Leaves, Emits, Posts, Clocks, Places, Readies, Frees, Arms, Fires, Cancels}
 use Rattle.rt_ids.specs.Action.{Moves, SetsAlarm, Returns}

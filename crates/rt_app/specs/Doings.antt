@@ -3,7 +3,7 @@
 -- message ready an entry, is this project's own.
 use Rattle.std.specs.Prelude.{ℕ, nat_le, List, [], ◌∷◌, ◌++◌, replicate, slice_get, Option, Some, None, if◌then◌else◌}
 use Rattle.rt_ids.specs.Lists.{is_empty, then_from}
-use Rattle.rt_ids.specs.Holder.{Guarded}
+use Rattle.rt_ids.specs.Location.{Guarded}
 use Rattle.rt_ids.specs.Content.{Message, Armed, messages, delays, least}
 use Rattle.rt_ids.specs.Action.{Enters, Leaves, Posts, Clocks, Starts, Frees, Fires, SetsAlarm, Ends, Returns}
 use Rattle.rt_ids.specs.Doing.{over, does}

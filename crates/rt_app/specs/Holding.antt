@@ -1,11 +1,11 @@
--- How memory spells what resources and queues hold, who keeps what without a section, and all of it as the storage over
--- which code is correct. That a job reaches a resource in its critical section alone is RTIC's (the RTIC 1 book,
+-- How memory represents what resources and queues hold, who keeps what without a section, and all of it as the storage
+-- over which code is correct. That a job reaches a resource in its critical section alone is RTIC's (the RTIC 1 book,
 -- resources); how queues lie in cells is this project's own.
 use Rattle.std.specs.Prelude.{◌≡◌, ℕ, ◌+◌, ◌-◌, ◌*◌, ◌%◌, ◌==◌, ◌<◌, ◌≤◌, nat_lt, Bool, true, false, not, ◌&&◌, List}
 use Rattle.std.specs.Prelude.{length, map, slice_get, Some, option_map, Contains, IsSome}
 use Rattle.std.specs.List.{AllByRecursion, list_any, range_with_len}
 use Rattle.rt_ids.specs.Lists.{is_some_and, or_zero, then_from}
-use Rattle.rt_ids.specs.Holder.{Holder, Guarded, Own}
+use Rattle.rt_ids.specs.Location.{Location, Guarded, Own}
 use Rattle.rt_ids.specs.Content.{Content, Number, Messages, Delays, Message, Armed, Timed}
 use Rattle.rt_ids.specs.Entry.{Entry}
 use Rattle.rt_ids.specs.Priority.{hardware}
@@ -45,9 +45,9 @@ module _ (app : App) (cells : ℕ → ℕ) where
       let first : ℕ = inputs_at app e.task + e.place * arguments_of app e.task in
       record { task = e.task; args = map cells (range_with_len first (arguments_of app e.task)) }
 
-  -- The cells spell the free places of a task, the one that is taken next first; the other places of its capacity are
-  -- out.
-  pub record SpellsFree (n : ℕ) (entries : List Entry) (content : Content) : Type 0 where
+  -- The cells represent the free places of a task, the one that is taken next first; the other places of its capacity
+  -- are out.
+  pub record RepresentsFree (n : ℕ) (entries : List Entry) (content : Content) : Type 0 where
     pub out : content ≡ Number (capacity_of app n - length entries)
     pub room : length entries ≤ capacity_of app n
     pub places : AllByRecursion (λ e. (e.task ≡ n) × (e.place < capacity_of app n)) entries
@@ -55,8 +55,8 @@ module _ (app : App) (cells : ℕ → ℕ) where
     pub stack : (i : ℕ) (e : Entry) → slice_get entries i ≡ Some e → cells (free_at app n + (length entries - i))
         ≡ e.place
 
-  -- the cells spell the ready messages of a level, the oldest first
-  pub record SpellsReady (p : ℕ) (entries : List Entry) (content : Content) : Type 0 where
+  -- the cells represent the ready messages of a level, the oldest first
+  pub record RepresentsReady (p : ℕ) (entries : List Entry) (content : Content) : Type 0 where
     pub messages : content ≡ Messages (map message_at entries)
     pub room : length entries ≤ ready_room app p
     pub places : AllByRecursion
@@ -83,8 +83,9 @@ module _ (app : App) (cells : ℕ → ℕ) where
   abbrev pub arming_of_entry : Entry → Armed
   arming_of_entry e = record { instant = instant_at e; message = message_at e; handle = handle_at e }
 
-  -- The cells spell the armed messages, in order of their last arming. Their rows lie as a heap, by instant and arming.
-  pub record SpellsTimer (entries : List Entry) (content : Content) : Type 0 where
+  -- The cells represent the armed messages, in order of their last arming. Their rows lie as a heap, by instant and
+  -- arming.
+  pub record RepresentsTimer (entries : List Entry) (content : Content) : Type 0 where
     pub timed : Timed
     pub is : content ≡ Delays timed
     pub messages : timed.armed ≡ map arming_of_entry entries
@@ -101,13 +102,13 @@ module _ (app : App) (cells : ℕ → ℕ) where
     pub column : (i : ℕ) (e : Entry) → slice_get heap i ≡ Some e → cells (heap_at app + i) ≡ armed_place app e
     pub arranged : IsArranged instant_at arming_at (timed.given + timed.moved) heap entries
 
-  -- the cells spell this content of a holder, where the messages of these places are in its queue
-  abbrev pub Spells : Holder → List Entry → Content → Type 0
-  Spells (Guarded (section.Res r)) entries content = content ≡ Number (cells (resource_at app r))
-  Spells (Own n) entries content = content ≡ Number (cells (local_at app n))
-  Spells (Guarded (section.Free n)) entries content = SpellsFree n entries content
-  Spells (Guarded (section.Ready p)) entries content = SpellsReady p entries content
-  Spells (Guarded section.Timer) entries content = SpellsTimer entries content
+  -- the cells represent this content of a location, where the messages of these places are in its queue
+  abbrev pub Represents : Location → List Entry → Content → Type 0
+  Represents (Guarded (section.Res r)) entries content = content ≡ Number (cells (resource_at app r))
+  Represents (Own n) entries content = content ≡ Number (cells (local_at app n))
+  Represents (Guarded (section.Free n)) entries content = RepresentsFree n entries content
+  Represents (Guarded (section.Ready p)) entries content = RepresentsReady p entries content
+  Represents (Guarded section.Timer) entries content = RepresentsTimer entries content
 
 module _ (app : App) where
   -- whether a body that runs at a priority, `init` aside, passes
@@ -117,21 +118,21 @@ module _ (app : App) where
   -- What a runner keeps from its start to its end: `init` every resource and the local ones that it lists, a priority
   -- the local resources and the `lock_free` ones that its bodies list. At most one job of a priority has started at a
   -- time.
-  abbrev pub is_kept : Runner → Holder → Bool
+  abbrev pub is_kept : Runner → Location → Bool
   is_kept Starting (Guarded (section.Res r)) = nat_lt r (length app.shared)
   is_kept Starting (Own n) = list_any (λ m. is_init m.id && owns n m) (members app)
   is_kept (AtPriority p) (Guarded (section.Res r)) = is_lock_free app r && is_some_at (lists r) p
   is_kept (AtPriority p) (Own n) = is_some_at (owns n) p
-  is_kept runner holder = false
+  is_kept runner location = false
 
   -- once `init` has ended nobody changes a resource that is listed as `&name`
-  abbrev pub is_constant : Runner → Holder → Bool
+  abbrev pub is_constant : Runner → Location → Bool
   is_constant (AtPriority p) (Guarded (section.Res r)) =
       list_any (λ l. (l.listed.resource == r) && l.listed.by_ref) (listings app)
-  is_constant runner holder = false
+  is_constant runner location = false
 
-  -- A holder of the application: what it keeps has cells. A hardware task has no places.
-  abbrev pub IsHeld : Holder → Type 0
+  -- A location of the application: what it keeps has cells. A hardware task has no places.
+  abbrev pub IsHeld : Location → Type 0
   IsHeld (Guarded (section.Res r)) = r < length app.shared
   IsHeld (Guarded (section.Free n)) = is_some_and is_software (slice_get app.tasks n) ≡ true
   IsHeld (Guarded (section.Ready p)) = Contains (levels app) p
@@ -142,7 +143,7 @@ module _ (app : App) where
   unfoldable pub storage : Storage
   storage = record {
     home = home_of app;
-    Spells = λ holder cells entries content. IsHeld holder × Spells app cells holder entries content;
+    Represents = λ location cells entries content. IsHeld location × Represents app cells location entries content;
     ceiling = ceiling app;
     value = hardware app.bits;
     is_kept = is_kept;

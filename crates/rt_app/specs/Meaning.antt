@@ -5,7 +5,7 @@
 use Rattle.std.specs.Prelude.{ℕ, zero, suc, ◌-◌, ◌==◌, if◌then◌else◌, List, slice_index, slice_set}
 use Rattle.rt_ids.specs.Lists.{or_zero}
 use Rattle.rt_ids.specs.Operation.{operate}
-use Rattle.rt_ids.specs.Holder.{Guarded, Own}
+use Rattle.rt_ids.specs.Location.{Guarded, Own}
 use Rattle.rt_ids.specs.Content.{Values, Number, number, values_with}
 use Rattle.rt_ids.specs.Action.{Enters, Leaves, Emits, Posts, Clocks}
 use Rattle.rt_ids.specs.Doing.{does}

@@ -5,7 +5,7 @@
 use Rattle.std.specs.Prelude.{ℕ, ◌+◌, min, nat_lt, Bool, List, [], ◌∷◌, map, slice_get, option_map, is_some}
 use Rattle.std.specs.Prelude.{if◌then◌else◌}
 use Rattle.rt_ids.specs.Lists.{or_zero, then_from}
-use Rattle.rt_ids.specs.Holder.{Guarded}
+use Rattle.rt_ids.specs.Location.{Guarded}
 use Rattle.rt_ids.specs.Content.{Message, Values, number, timer_content, delays, message_of_handle}
 use Rattle.rt_ids.specs.Action.{Action, Enters, Leaves, Posts, Clocks, Places, FindsFull, Readies, Frees, Arms, Cancels}
 use Rattle.rt_ids.specs.Action.{Moves, SetsAlarm}
@@ -45,8 +45,8 @@ module _ (app : App) where
   has_place n vs = nat_lt (number (vs (Guarded (section.Free n)))) (capacity_of n)
 
   -- a place of a task is taken, and then the rest is the first; or there is none, and it is the second
-  abbrev pub take_place : ℕ → Rest → Rest → Rest
-  take_place n granted refused =
+  abbrev pub place_actions : ℕ → Rest → Rest → Rest
+  place_actions n granted refused =
       act (Enters (section.Free n) FREE_COST)
       (λ vs. if has_place n vs then act_all (Places n ∷ Leaves (section.Free n) ∷ []) granted vs
       else act_all (FindsFull n ∷ Leaves (section.Free n) ∷ []) refused vs)
@@ -102,10 +102,10 @@ module _ (app : App) where
   abbrev pub spawn_actions : (Expression → ℕ) → Spawn → (ℕ → Rest) → Rest
   spawn_actions value (Soon n args at) rest =
       let message : Message = record { task = n; args = map value args } in
-      take_place n (act_all (ready_actions (task_priority app n) message) (rest 1)) (rest 0)
+      place_actions n (act_all (ready_actions (task_priority app n) message) (rest 1)) (rest 0)
   spawn_actions value (After word delay n args at) rest =
       let message : Message = record { task = n; args = map value args } in
-      take_place n (arm_actions (timer_section_cost app) (value delay) message rest) (rest 0)
+      place_actions n (arm_actions (timer_section_cost app) (value delay) message rest) (rest 0)
   spawn_actions value (Cancel word n handle at) rest =
       cancel_actions (handle_section_cost app) n (value handle) (rest 0) (rest 1)
   spawn_actions value (Move word delay n handle at) rest =

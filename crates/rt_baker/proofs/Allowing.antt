@@ -18,12 +18,12 @@ use Rattle.rt_laws.specs.ByItems.{label_of, after_all, silent}
 use Rattle.rt_laws.specs.Silent.{HasSteps, MaySpend, jobs_after_steps}
 use Rattle.rt_laws.proofs.Silent.{silent_steps_by_cost}
 use Rattle.rt_baker_work.specs.Work.{IsSettled}
-use Rattle.rt_baker_moves.specs.State.{Held, StateIs, IsEarly}
+use Rattle.rt_baker_moves.specs.State.{AuditorState, StateIs, IsEarly}
 use Rattle.rt_baker_moves.proofs.Early.{all_settled, early_held}
 use Rattle.rt_baker.specs.Inside.Judging.{IsTurn, MayGoOn, Came, Judges, Passes}
 
 -- what a state stands for owes an alarm where the one that is kept does
-pub owes_as : (app : App) (s : Held) (t : laws.State) (b : Bool) → StateIs app s t → s.owing ≡ b → t.owing ≡ b
+pub owes_as : (app : App) (s : AuditorState) (t : laws.State) (b : Bool) → StateIs app s t → s.owing ≡ b → t.owing ≡ b
 owes_as app s t b h owing = ap (λ (u : laws.State). u.owing) h.is ∙ owing
 
 -- silent steps
@@ -33,7 +33,7 @@ no_steps k none app t = ap (λ (n : ℕ). after_all app t (silent n)) none
 none_run : (k : ℕ) → k ≡ 0 → (app : App) (t : laws.State) → RunsOn app t (silent k)
 none_run k none app t = subst (λ (n : ℕ). RunsOn app t (silent n)) (sym none) tt
 
-pub pass_none : (app : App) (s : Held) (k : ℕ) → k ≡ 0 → Passes app true s s k
+pub pass_none : (app : App) (s : AuditorState) (k : ℕ) → k ≡ 0 → Passes app true s s k
 unfolding Passes
 pass_none app s k none = λ t h. record {
   runs = none_run k none app t;
@@ -45,7 +45,7 @@ steps_need : (k : ℕ) → 0 < k → (app : App) (t : laws.State) → RunsOn app
 steps_need zero some app t runs = absurd (omega (arith, some))
 steps_need (suc k) some app t runs = silent_steps_by_cost.needs app t k runs
 
-pub pass_owing : (app : App) (s new : Held) (k : ℕ) → 0 < k → s.owing ≡ true → Passes app false s new k
+pub pass_owing : (app : App) (s new : AuditorState) (k : ℕ) → 0 < k → s.owing ≡ true → Passes app false s new k
 unfolding Passes
 pass_owing app s new k some owing = λ t h runs.
     let need = steps_need k some app t runs in
@@ -53,14 +53,14 @@ pass_owing app s new k some owing = λ t h runs.
     let owed : t.owing ≡ true = owes_as app s t true h owing in
     absurd cc
 
-pub pass_stopped : (app : App) (s new : Held) (k : ℕ) → 0 < k
+pub pass_stopped : (app : App) (s new : AuditorState) (k : ℕ) → 0 < k
     → ((t : laws.State) → StateIs app s t → preemption.candidate app t ≡ None → MaySpend k t.jobs → ⊥)
     → Passes app false s new k
 unfolding Passes
 pass_stopped app s new k some stops = λ t h runs.
     let need = steps_need k some app t runs in stops t h need.1 need.2
 
-pub pass_some : (app : App) (s new : Held) (k : ℕ) → s.owing ≡ false
+pub pass_some : (app : App) (s new : AuditorState) (k : ℕ) → s.owing ≡ false
     → ((t : laws.State) → StateIs app s t → (preemption.candidate app t ≡ None) × MaySpend k t.jobs)
     → ((a : App) (t : laws.State) → StateIs a s t → StateIs a new (record t { jobs = jobs_after_steps k t.jobs }))
     → Passes app true s new k
@@ -71,7 +71,7 @@ pass_some app s new k owing may spends = λ t h. record {
 }
 
 -- an item whose label is this
-came : (app : App) (t : laws.State) (w : What) (new : Held) (l : Label) → label_of t.owing w ≡ l → May app t l
+came : (app : App) (t : laws.State) (w : What) (new : AuditorState) (l : Label) → label_of t.owing w ≡ l → May app t l
     → StateIs app new (after app t l) → Came app t w new
 came app t w new l is may h = record {
   may = subst (λ (m : Label). May app t m) (sym is) may;
@@ -82,7 +82,7 @@ alarm_owed : (b : Bool) (w : What) → b ≡ true → w ≡ what.Alarm → label
 alarm_owed b w owed is =
     ap (λ (v : What). label_of b v) is ∙ ap (λ (c : Bool). if c then Rang else Stepped (Some what.Alarm)) owed
 
-pub rang : (app : App) (s new : Held) (w : What) → s.owing ≡ true → w ≡ what.Alarm
+pub rang : (app : App) (s new : AuditorState) (w : What) → s.owing ≡ true → w ≡ what.Alarm
     → ((t : laws.State) → StateIs app s t → StateIs app new (after app t Rang)) → Judges app true s new w
 unfolding Judges
 rang app s new w owing is rings = λ t h.
@@ -97,12 +97,12 @@ only_rings app t b what.Alarm owed other may = other refl
 only_rings app t b (what.Take irq depth) owed other may = let free : t.owing ≡ false = may.0 in cc
 only_rings app t b w owed other may = let free : t.owing ≡ false = may.0.not_owing in cc
 
-pub not_rung : (app : App) (s new : Held) (w : What) → s.owing ≡ true → (w ≡ what.Alarm → ⊥)
+pub not_rung : (app : App) (s new : AuditorState) (w : What) → s.owing ≡ true → (w ≡ what.Alarm → ⊥)
     → Judges app false s new w
 unfolding Judges
 not_rung app s new w owing other = λ t h may. only_rings app t t.owing w (owes_as app s t true h owing) other may
 
-pub arrived : (app : App) (s new : Held) (irq n : ℕ) → s.owing ≡ false → n ≡ irq → is_declared app n ≡ true
+pub arrived : (app : App) (s new : AuditorState) (irq n : ℕ) → s.owing ≡ false → n ≡ irq → is_declared app n ≡ true
     → ((t : laws.State) → StateIs app s t → StateIs app new (state_after_pend n t))
     → Judges app true s new (what.Pend irq)
 unfolding Judges
@@ -111,14 +111,14 @@ arrived app s new irq n owing same declared arrives = λ t h.
     (owes_as app s t false h owing, ap (is_declared app) (sym same) ∙ declared)
     (subst (λ (i : ℕ). StateIs app new (state_after_pend i t)) same (arrives t h))
 
-pub not_declared : (app : App) (s new : Held) (irq n : ℕ) → n ≡ irq → is_declared app n ≡ false
+pub not_declared : (app : App) (s new : AuditorState) (irq n : ℕ) → n ≡ irq → is_declared app n ≡ false
     → Judges app false s new (what.Pend irq)
 unfolding Judges
 not_declared app s new irq n same none = λ t h may.
     let is : is_declared app irq ≡ true = may.1 in
     let is_not : is_declared app irq ≡ false = ap (is_declared app) (sym same) ∙ none in cc
 
-pub ticked : (app : App) (s new : Held) (w : What) → s.owing ≡ false → w ≡ what.Tick
+pub ticked : (app : App) (s new : AuditorState) (w : What) → s.owing ≡ false → w ≡ what.Tick
     → ((a : App) (t : laws.State) → StateIs a s t → StateIs a new (after a t Ticked))
     → Judges app true s new w
 unfolding Judges
@@ -126,13 +126,13 @@ ticked app s new w owing is ticks = λ t h.
     came app t w new Ticked (ap (label_of t.owing) is) (owes_as app s t false h owing) (ticks app t h)
 
 -- what a state is known of that may go on
-pub kept_early : (app : App) (s : Held) → MayGoOn app s → IsEarly s
+pub kept_early : (app : App) (s : AuditorState) → MayGoOn app s → IsEarly s
 kept_early app s h = early_held app s h.state h.count h.is h.within h.few
 
-pub kept_settled : (app : App) (s : Held) → MayGoOn app s → AllByRecursion (λ j. IsSettled j.work.todos) s.jobs
+pub kept_settled : (app : App) (s : AuditorState) → MayGoOn app s → AllByRecursion (λ j. IsSettled j.work.todos) s.jobs
 kept_settled app s h = all_settled app s.jobs h.state.jobs h.is.jobs
 
-pub taken : (app : App) (s new : Held) (irq n : ℕ) (o : Option ℕ) → s.owing ≡ false → n ≡ irq → o ≡ Some n
+pub taken : (app : App) (s new : AuditorState) (irq n : ℕ) (o : Option ℕ) → s.owing ≡ false → n ≡ irq → o ≡ Some n
     → ((t : laws.State) → StateIs app s t → o ≡ preemption.candidate app t)
     → ((depth : ℕ) (t : laws.State) → StateIs app s t → StateIs app new (after app t (Stepped (Some (what.Take n
     depth)))))
@@ -143,7 +143,7 @@ taken app s new irq n o owing same chosen finds takes depth = λ t h.
     (owes_as app s t false h owing, sym (finds t h) ∙ chosen ∙ ap (λ (i : ℕ). Some i) same)
     (subst (λ (i : ℕ). StateIs app new (after app t (Stepped (Some (what.Take i depth))))) same (takes depth t h))
 
-pub not_taken : (app : App) (s new : Held) (irq n : ℕ) (o : Option ℕ) → n ≡ irq → (o ≡ Some n → ⊥)
+pub not_taken : (app : App) (s new : AuditorState) (irq n : ℕ) (o : Option ℕ) → n ≡ irq → (o ≡ Some n → ⊥)
     → ((t : laws.State) → StateIs app s t → o ≡ preemption.candidate app t)
     → (depth : ℕ) → Judges app false s new (what.Take irq depth)
 unfolding Judges
@@ -207,7 +207,7 @@ step_needs : (js : List laws.Job) → MayStep js → MaySpend 1 js
 step_needs [] may = absurd may
 step_needs (j ∷ js) may = (steps_of_one j.role j.left may.0, lefts_of_one j.lefts may.1)
 
-pub turned : (app : App) (s new : Held) (w : What) → s.owing ≡ false → IsTurn w
+pub turned : (app : App) (s new : AuditorState) (w : What) → s.owing ≡ false → IsTurn w
     → ((t : laws.State) → StateIs app s t → (preemption.candidate app t ≡ None) × MaySpend 1 t.jobs)
     → ((a : App) (t : laws.State) → StateIs a s t → gives t ≡ Some w)
     → ((t : laws.State) → StateIs app s t → StateIs app new (state_after_item app t t.jobs))
@@ -220,13 +220,13 @@ turned app s new w owing is may gave acts = λ t h.
     (record { not_owing = free; quiet = (may t h).0; step = may_step t.jobs (may t h).1 }) (gave app t h))
     (subst (λ (u : laws.State). StateIs app new u) (turn_after app t w is) (acts t h))
 
-may_turn : (app : App) (s : Held) (w : What) (t : laws.State) → s.owing ≡ false → IsTurn w → StateIs app s t
+may_turn : (app : App) (s : AuditorState) (w : What) (t : laws.State) → s.owing ≡ false → IsTurn w → StateIs app s t
     → May app t (label_of t.owing w) → Turn app t × (gives t ≡ Some w)
 may_turn app s w t owing is h may =
     turn_needs app t w is
     (subst (λ (l : Label). May app t l) (turn_label t.owing w (owes_as app s t false h owing) is) may)
 
-pub turn_stopped : (app : App) (s new : Held) (w : What) → s.owing ≡ false → IsTurn w
+pub turn_stopped : (app : App) (s new : AuditorState) (w : What) → s.owing ≡ false → IsTurn w
     → ((t : laws.State) → StateIs app s t → preemption.candidate app t ≡ None → MaySpend 1 t.jobs → ⊥)
     → Judges app false s new w
 unfolding Judges
@@ -234,7 +234,7 @@ turn_stopped app s new w owing is stops = λ t h may.
     let turn = may_turn app s w t owing is h may in
     stops t h turn.0.quiet (step_needs t.jobs turn.0.step)
 
-pub turn_other : (app : App) (s new : Held) (w : What) → s.owing ≡ false → IsTurn w
+pub turn_other : (app : App) (s new : AuditorState) (w : What) → s.owing ≡ false → IsTurn w
     → ((a : App) (t : laws.State) → StateIs a s t → gives t ≡ Some w → ⊥)
     → Judges app false s new w
 unfolding Judges

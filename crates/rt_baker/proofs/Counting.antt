@@ -13,7 +13,7 @@ use Rattle.rt_laws.specs.ByItems.{label_of, steps_after, after_all, silent, Come
 use Rattle.rt_laws.specs.Counts.{AreWithin}
 use Rattle.rt_laws.proofs.ByItems.{runs_append, after_append}
 use Rattle.rt_laws.proofs.Counting.{counts_rise_by_one}
-use Rattle.rt_baker.specs.Judge.{state_behind, AllCome}
+use Rattle.rt_baker.specs.Judge.{state_after, AllCome}
 
 module _ (app : App) where
   -- a run from the start leads to the state
@@ -46,7 +46,7 @@ module _ (app : App) where
         (subst (λ (u : State). AreWithin n u) (sym r.leads) within))
 
     come_within : (items : List Item) (s : State) (d n : ℕ) → Reaches s → AreWithin n s → AllCome app s d items
-        → AreWithin (n + length items) (state_behind app s d items)
+        → AreWithin (n + length items) (state_after app s d items)
     come_within [] s d n r within all =
         let same : n ≡ n + 0 = omega arith in subst (λ (m : ℕ). AreWithin m s) same within
     come_within (item ∷ items) s d n r within all =
@@ -56,14 +56,14 @@ module _ (app : App) where
         let mid : State = after_all app s (silent k) in
         let there : Reaches mid = further s (silent k) r comes.quiet in
         let more : suc n + length items ≡ n + length (item ∷ items) = omega arith in
-        subst (λ (m : ℕ). AreWithin m (state_behind app s d (item ∷ items))) more
+        subst (λ (m : ℕ). AreWithin m (state_after app s d (item ∷ items))) more
         (come_within items (after app mid label) (steps_after item.step label) (suc n)
         (further mid (label ∷ []) there (comes.allowed, tt))
         (raised mid label n there (silent_within k n s within)) all.1)
 
     pub behind_within : (items : List Item) → AllCome app (first app) 0 items
-        → AreWithin (length items) (state_behind app (first app) 0 items)
+        → AreWithin (length items) (state_after app (first app) 0 items)
     behind_within items all =
         let same : 0 + length items ≡ length items = omega arith in
-        subst (λ (m : ℕ). AreWithin m (state_behind app (first app) 0 items)) same
+        subst (λ (m : ℕ). AreWithin m (state_after app (first app) 0 items)) same
         (come_within items (first app) 0 0 from_start (counts_rise_by_one.start app accepted) all)

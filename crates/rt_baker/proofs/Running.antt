@@ -6,7 +6,7 @@ use Rattle.rt_laws.specs.State as laws
 use Rattle.rt_laws.specs.Run.{RunsOn}
 use Rattle.rt_laws.specs.ByItems.{label_of, steps_after, after_all, silent, Comes, after_item, RunsByItems}
 use Rattle.rt_laws.proofs.Silent.{silent_steps_by_cost}
-use Rattle.rt_baker.specs.Judge.{state_behind, steps_done_behind, AllCome}
+use Rattle.rt_baker.specs.Judge.{state_after, steps_done_after, AllCome}
 
 module _ (app : App) where
   pub silent_owing : (k : ℕ) (s : laws.State) → (after_all app s (silent k)).owing ≡ s.owing
@@ -14,26 +14,26 @@ module _ (app : App) where
 
   -- one item more
   pub come_more : (xs : List Item) (s : laws.State) (n : ℕ) (x : Item) → AllCome app s n xs
-      → Comes app (state_behind app s n xs) (steps_done_behind app s n xs) x → AllCome app s n (xs ++ x ∷ [])
+      → Comes app (state_after app s n xs) (steps_done_after app s n xs) x → AllCome app s n (xs ++ x ∷ [])
   come_more [] s n x all comes = (comes, tt)
   come_more (y ∷ xs) s n x all comes =
       (all.0, come_more xs (after_item app s n y) (steps_after y.step (label_of s.owing y.what)) x all.1 comes)
 
   pub come_last : (xs : List Item) (s : laws.State) (n : ℕ) (x : Item) → AllCome app s n (xs ++ x ∷ [])
-      → Comes app (state_behind app s n xs) (steps_done_behind app s n xs) x
+      → Comes app (state_after app s n xs) (steps_done_after app s n xs) x
   come_last [] s n x all = all.0
   come_last (y ∷ xs) s n x all =
       come_last xs (after_item app s n y) (steps_after y.step (label_of s.owing y.what)) x all.1
 
   pub state_more : (xs : List Item) (s : laws.State) (n : ℕ) (x : Item)
-      → state_behind app s n (xs ++ x ∷ [])
-      ≡ after_item app (state_behind app s n xs) (steps_done_behind app s n xs) x
+      → state_after app s n (xs ++ x ∷ [])
+      ≡ after_item app (state_after app s n xs) (steps_done_after app s n xs) x
   state_more [] s n x = refl
   state_more (y ∷ xs) s n x =
       state_more xs (after_item app s n y) (steps_after y.step (label_of s.owing y.what)) x
 
   pub done_more : (xs : List Item) (s : laws.State) (n : ℕ) (x : Item)
-      → steps_done_behind app s n (xs ++ x ∷ []) ≡ steps_after x.step (label_of (state_behind app s n xs).owing x.what)
+      → steps_done_after app s n (xs ++ x ∷ []) ≡ steps_after x.step (label_of (state_after app s n xs).owing x.what)
   done_more [] s n x = refl
   done_more (y ∷ xs) s n x = done_more xs (after_item app s n y) (steps_after y.step (label_of s.owing y.what)) x
 
@@ -47,8 +47,8 @@ module _ (app : App) where
 
   -- a run of items
   pub run_from : (xs : List Item) (s : laws.State) (n total : ℕ) → AllCome app s n xs
-      → steps_done_behind app s n xs ≤ total
-      → RunsOn app (state_behind app s n xs) (silent (total - steps_done_behind app s n xs))
+      → steps_done_after app s n xs ≤ total
+      → RunsOn app (state_after app s n xs) (silent (total - steps_done_after app s n xs))
       → RunsByItems app s n xs total
   run_from [] s n total all le quiet = (le, quiet)
   run_from (x ∷ xs) s n total all le quiet = (
@@ -62,8 +62,8 @@ module _ (app : App) where
       (runs.0, run_comes xs (after_item app s n x) (steps_after x.step (label_of s.owing x.what)) total runs.1)
 
   pub run_ends : (xs : List Item) (s : laws.State) (n total : ℕ) → RunsByItems app s n xs total
-      → (steps_done_behind app s n xs ≤ total)
-      × RunsOn app (state_behind app s n xs) (silent (total - steps_done_behind app s n xs))
+      → (steps_done_after app s n xs ≤ total)
+      × RunsOn app (state_after app s n xs) (silent (total - steps_done_after app s n xs))
   run_ends [] s n total runs = runs
   run_ends (x ∷ xs) s n total runs =
       run_ends xs (after_item app s n x) (steps_after x.step (label_of s.owing x.what)) total runs.1

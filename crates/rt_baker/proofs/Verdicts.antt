@@ -17,12 +17,12 @@ use Rattle.rt_laws.specs.ByItems.{label_of, steps_after, after_all, silent, Come
 use Rattle.rt_laws.proofs.ByItems.{runs_are_by_items}
 use Rattle.rt_laws.proofs.Keeping.{judged_traces_keep_laws}
 use Rattle.rt_laws.proofs.AllMoments.{runs_keep_messages}
-use Rattle.rt_baker_moves.specs.State.{Held, StateIs}
+use Rattle.rt_baker_moves.specs.State.{AuditorState, StateIs}
 use Rattle.rt_baker.specs.declared.done.Done.{Done}
 use Rattle.rt_baker.specs.declared.judge.Judge.{Judge}
 use Rattle.rt_baker.specs.declared.verdict.Verdict.{Verdict}
 use Rattle.rt_baker.specs.Audit.{front, IsRight, IsWrongAt, IsVerdict}
-use Rattle.rt_baker.specs.Judge.{steps_done, state_behind, steps_done_behind, AreRight, Follows, FailsAt, Stands}
+use Rattle.rt_baker.specs.Judge.{steps_done, state_after, steps_done_after, AreRight, Follows, FailsAt, Stands}
 use Rattle.rt_baker.specs.Judge.{HasJudged}
 use Rattle.rt_baker.specs.Judge.{MayTake}
 use Rattle.rt_baker.specs.Inside.Judging.{MayGoOn, Judges, Passes, Behind, ItemComes, ItemJudged, Ends, TotalJudged}
@@ -32,18 +32,20 @@ use Rattle.rt_baker.proofs.Running.{silent_owing, come_more, come_last, state_mo
 use Rattle.rt_baker.proofs.Running.{done_more, come_front, run_from, run_comes, run_ends, run_here}
 
 -- an item with the silent steps in front of it
-pub item_disordered : (app : App) (old new : Held) (n : ℕ) (x : Item) → x.step < n → ItemComes app None old new n x
+pub item_disordered : (app : App) (old new : AuditorState) (n : ℕ) (x : Item) → x.step < n
+    → ItemComes app None old new n x
 unfolding ItemComes
 item_disordered app old new n x less = λ t h comes. absurd (omega (arith, less, comes.in_order))
 
-pub item_stopped : (app : App) (old new : Held) (n k : ℕ) (x : Item) → k ≡ x.step - n → Passes app false old new k
+pub item_stopped : (app : App) (old new : AuditorState) (n k : ℕ) (x : Item) → k ≡ x.step - n
+    → Passes app false old new k
     → ItemComes app None old new n x
 unfolding ItemComes Passes
 item_stopped app old new n k x is stops = λ t h comes.
     stops t h (subst (λ (m : ℕ). RunsOn app t (silent m)) (sym is) comes.quiet)
 
 -- the state behind the silent steps, and what is kept of it
-pub still_early : (app : App) (old mid : Held) (k : ℕ) → MayGoOn app old → Passes app true old mid k
+pub still_early : (app : App) (old mid : AuditorState) (k : ℕ) → MayGoOn app old → Passes app true old mid k
     → MayGoOn app mid
 unfolding Passes
 still_early app old mid k h passes = record {
@@ -54,7 +56,7 @@ still_early app old mid k h passes = record {
   few = h.few;
 }
 
-pub item_refused : (app : App) (old mid new : Held) (n k : ℕ) (x : Item) → k ≡ x.step - n
+pub item_refused : (app : App) (old mid new : AuditorState) (n k : ℕ) (x : Item) → k ≡ x.step - n
     → Passes app true old mid k → Judges app false mid new x.what → ItemComes app None old new n x
 unfolding ItemComes Passes Judges
 item_refused app old mid new n k x is passes refuses = λ t h comes.
@@ -64,7 +66,7 @@ item_refused app old mid new n k x is passes refuses = λ t h comes.
     (subst (λ (b : Bool). May app (after_all app t (silent (x.step - n))) (label_of b x.what))
     (sym (silent_owing app k t)) comes.allowed))
 
-pub item_comes : (app : App) (old mid new : Held) (n k : ℕ) (x : Item) (d : Done) → n ≤ x.step → k ≡ x.step - n
+pub item_comes : (app : App) (old mid new : AuditorState) (n k : ℕ) (x : Item) (d : Done) → n ≤ x.step → k ≡ x.step - n
     → Passes app true old mid k → Judges app true mid new x.what
     → steps_done d ≡ steps_after x.step (label_of mid.owing x.what)
     → ItemComes app (Some d) old new n x
@@ -92,12 +94,12 @@ item_comes app old mid new n k x d le is passes judges counts = λ t h.
     }
 
 -- and the stack bound
-pub item_beyond : (app : App) (old new : Held) (n : ℕ) (x : Item) → (IsWithinStack app x.what → ⊥)
+pub item_beyond : (app : App) (old new : AuditorState) (n : ℕ) (x : Item) → (IsWithinStack app x.what → ⊥)
     → ItemJudged app None old new n x
 unfolding ItemJudged
 item_beyond app old new n x beyond = λ t h within comes. beyond within
 
-pub item_within : (app : App) (o : Option Done) (old new : Held) (n : ℕ) (x : Item) → IsWithinStack app x.what
+pub item_within : (app : App) (o : Option Done) (old new : AuditorState) (n : ℕ) (x : Item) → IsWithinStack app x.what
     → ItemComes app o old new n x → ItemJudged app o old new n x
 unfolding ItemJudged ItemComes
 item_within app None old new n x within comes = λ t h also. comes t h
@@ -122,7 +124,7 @@ all_front app (suc k) [] all = tt
 all_front app (suc k) (x ∷ xs) all = (all.0, all_front app k xs all.1)
 
 right_more : (app : App) (xs : List Item) (x : Item) → AreRight app xs
-    → Comes app (state_behind app (first app) 0 xs) (steps_done_behind app (first app) 0 xs) x
+    → Comes app (state_after app (first app) 0 xs) (steps_done_after app (first app) 0 xs) x
     → IsWithinStack app x.what → AreRight app (xs ++ x ∷ [])
 right_more app xs x right comes within = record {
   come = come_more app xs (first app) 0 x right.come comes;
@@ -140,14 +142,15 @@ right_less app n m xs le right =
     subst (λ (ys : List Item). AreRight app ys) (take-take n m xs le) (right_front app n (take m xs) right)
 
 -- of items that follow one another, the next one follows too, or it is the first that fails
-follows_more : (app : App) (xs : List Item) (n : ℕ) (x : Item) (old new : Held) (d : Done) → Follows app xs old n
+follows_more : (app : App) (xs : List Item) (n : ℕ) (x : Item) (old new : AuditorState) (d : Done)
+    → Follows app xs old n
     → ItemJudged app (Some d) old new n x → Follows app (xs ++ x ∷ []) new (steps_done d)
 unfolding ItemJudged
 follows_more app xs n x old new d h judged =
-    let b : Behind app (state_behind app (first app) 0 xs) (steps_done_behind app (first app) 0 xs) x new
+    let b : Behind app (state_after app (first app) 0 xs) (steps_done_after app (first app) 0 xs) x new
     (steps_done d) =
-    subst (λ (m : ℕ). Behind app (state_behind app (first app) 0 xs) m x new (steps_done d)) h.steps
-    (judged.1 (state_behind app (first app) 0 xs) h.is) in
+    subst (λ (m : ℕ). Behind app (state_after app (first app) 0 xs) m x new (steps_done d)) h.steps
+    (judged.1 (state_after app (first app) 0 xs) h.is) in
     record {
       right = right_more app xs x h.right b.comes judged.0;
       is = subst (λ (u : laws.State). StateIs app new u) (sym (state_more app xs (first app) 0 x)) b.is;
@@ -159,7 +162,7 @@ take_last xs x =
     let n : suc (length xs) ≡ length xs + 1 = omega arith in
     ap (λ (k : ℕ). take k (xs ++ x ∷ [])) n ∙ take-append-add xs (x ∷ []) 1
 
-fails_here : (app : App) (xs : List Item) (n : ℕ) (x : Item) (old new : Held) → Follows app xs old n
+fails_here : (app : App) (xs : List Item) (n : ℕ) (x : Item) (old new : AuditorState) → Follows app xs old n
     → ItemJudged app None old new n x → FailsAt app (xs ++ x ∷ []) (length xs)
 unfolding ItemJudged
 fails_here app xs n x old new h judged = record {
@@ -167,8 +170,8 @@ fails_here app xs n x old new h judged = record {
   right = subst (λ (ys : List Item). AreRight app ys) (sym (take-append_seam xs (x ∷ []))) h.right;
   wrong = λ right.
       let all : AreRight app (xs ++ x ∷ []) = subst (λ (ys : List Item). AreRight app ys) (take_last xs x) right in
-      judged (state_behind app (first app) 0 xs) h.is (all_last app xs x all.depths)
-      (subst (λ (m : ℕ). Comes app (state_behind app (first app) 0 xs) m x) (sym h.steps)
+      judged (state_after app (first app) 0 xs) h.is (all_last app xs x all.depths)
+      (subst (λ (m : ℕ). Comes app (state_after app (first app) 0 xs) m x) (sym h.steps)
       (come_last app xs (first app) 0 x all.come));
 }
 
@@ -185,7 +188,8 @@ fails app xs j index is h =
     let s : Stands app xs j.state j.done (Some index) =
     subst (λ (o : Option ℕ). Stands app xs j.state j.done o) is h.stands in s
 
-pub judged_none : (app : App) (s : Held) (stack : ℕ) (d : Done) → stack ≡ stack_bytes app → StateIs app s (first app)
+pub judged_none : (app : App) (s : AuditorState) (stack : ℕ) (d : Done) → stack ≡ stack_bytes app
+    → StateIs app s (first app)
     → steps_done d ≡ 0 → HasJudged app [] (record { state = s; stack = stack; done = d; items = 0; wrong = None })
 judged_none app s stack d bound is none = record {
   counted = refl;
@@ -197,7 +201,7 @@ pub judge_early : (app : App) (j : Judge) → IsAccepted app → j.wrong ≡ Non
 judge_early app j accepted is may =
     let h : Follows app may.items j.state (steps_done j.done) = follows app may.items j is may.judged in
     record {
-      state = state_behind app (first app) 0 may.items;
+      state = state_after app (first app) 0 may.items;
       is = h.is;
       count = length may.items;
       within = behind_within app accepted may.items h.right.come;
@@ -209,7 +213,7 @@ one_more : (app : App) (x : Item) (j : Judge) (n : ℕ) → n ≡ j.items + 1 �
 one_more app x j n more xs h = omega (arith, more, h.counted, length-append xs (x ∷ []))
 
 -- the first wrong one came
-pub judged_wrong : (app : App) (x : Item) (j : Judge) (n : ℕ) (new : Held) (o : Option Done) → n ≡ j.items + 1
+pub judged_wrong : (app : App) (x : Item) (j : Judge) (n : ℕ) (new : AuditorState) (o : Option Done) → n ≡ j.items + 1
     → j.wrong ≡ None → o ≡ None → ItemJudged app o j.state new (steps_done j.done) x
     → (xs : List Item) → HasJudged app xs j
     → HasJudged app (xs ++ x ∷ []) (record j { state = new; items = n; wrong = Some j.items })
@@ -225,7 +229,7 @@ judged_wrong app x j n new o more is none judged xs h =
     }
 
 -- another right one came
-pub judged_right : (app : App) (x : Item) (j : Judge) (n : ℕ) (new : Held) (o : Option Done) (d : Done)
+pub judged_right : (app : App) (x : Item) (j : Judge) (n : ℕ) (new : AuditorState) (o : Option Done) (d : Done)
     → n ≡ j.items + 1 → j.wrong ≡ None → o ≡ Some d → ItemJudged app o j.state new (steps_done j.done) x
     → (xs : List Item) → HasJudged app xs j
     → HasJudged app (xs ++ x ∷ []) (record j { state = new; done = d; items = n })
@@ -247,18 +251,19 @@ judged_all app xs i j all h =
     subst (λ (ys : List Item). HasJudged app ys j) (ap (λ (k : ℕ). take k xs) all ∙ take-length xs) h
 
 -- the end
-pub ends_any : (app : App) (s : Held) (n : ℕ) (o : Option ℕ) → o ≡ None → TotalJudged app true s n o
+pub ends_any : (app : App) (s : AuditorState) (n : ℕ) (o : Option ℕ) → o ≡ None → TotalJudged app true s n o
 unfolding TotalJudged
 ends_any app s n o is = λ t h. subst (λ (p : Option ℕ). Ends app t n p) (sym is) tt
 
-pub total_less : (app : App) (s : Held) (n total : ℕ) (o : Option ℕ) → o ≡ Some total → total < n
+pub total_less : (app : App) (s : AuditorState) (n total : ℕ) (o : Option ℕ) → o ≡ Some total → total < n
     → TotalJudged app false s n o
 unfolding TotalJudged
 total_less app s n total o is less = λ t h ends.
     let e : Ends app t n (Some total) = subst (λ (p : Option ℕ). Ends app t n p) is ends in
     absurd (omega (arith, less, e.0))
 
-pub total_passes : (app : App) (b : Bool) (s new : Held) (n k total : ℕ) (o : Option ℕ) → o ≡ Some total → n ≤ total
+pub total_passes : (app : App) (b : Bool) (s new : AuditorState) (n k total : ℕ) (o : Option ℕ) → o ≡ Some total → n
+    ≤ total
     → k ≡ total - n → Passes app b s new k → TotalJudged app b s n o
 unfolding TotalJudged Passes
 total_passes app true s new n k total o is le more passes = λ t h.
@@ -270,15 +275,15 @@ total_passes app false s new n k total o is le more stops = λ t h ends.
 
 -- the verdict
 judged_items : (app : App) (xs : List Item) (o : Option ℕ) → AreRight app xs
-    → Ends app (state_behind app (first app) 0 xs) (steps_done_behind app (first app) 0 xs) o
+    → Ends app (state_after app (first app) 0 xs) (steps_done_after app (first app) 0 xs) o
     → Judged app (record { items = xs; total = o })
 judged_items app xs None right ends =
-    let m : ℕ = steps_done_behind app (first app) 0 xs in
+    let m : ℕ = steps_done_after app (first app) 0 xs in
     record {
       total = m;
       told = tt;
       run = runs_are_by_items.of_items app xs m
-          (run_from app xs (first app) 0 m right.come (le_refl m) (run_here app (state_behind app (first app) 0 xs) m));
+          (run_from app xs (first app) 0 m right.come (le_refl m) (run_here app (state_after app (first app) 0 xs) m));
       depths = right.depths;
     }
 judged_items app xs (Some total) right ends = record {
@@ -302,12 +307,12 @@ told_ends app t n (Some k) total told le runs =
     subst (λ (m : ℕ). Ends app t n (Some m)) (sym told) (le, runs)
 
 right_ends : (app : App) (trace : Trace) → Judged app trace
-    → Ends app (state_behind app (first app) 0 trace.items) (steps_done_behind app (first app) 0 trace.items)
+    → Ends app (state_after app (first app) 0 trace.items) (steps_done_after app (first app) 0 trace.items)
     trace.total
 right_ends app trace judged =
     let ends = run_ends app trace.items (first app) 0 judged.total
     (runs_are_by_items.by_items app trace.items judged.total judged.run) in
-    told_ends app (state_behind app (first app) 0 trace.items) (steps_done_behind app (first app) 0 trace.items)
+    told_ends app (state_after app (first app) 0 trace.items) (steps_done_after app (first app) 0 trace.items)
     trace.total
     judged.total judged.told ends.0 ends.1
 
@@ -316,13 +321,13 @@ judged_fronts : (app : App) (trace : Trace) (m n : ℕ) → AreRight app (take m
 judged_fronts app trace m n right le =
     judged_items app (take n trace.items) None (right_less app n m trace.items le right) tt
 
-is_right : (app : App) (trace : Trace) (s : Held) (n : ℕ) → IsAccepted app → Follows app trace.items s n
+is_right : (app : App) (trace : Trace) (s : AuditorState) (n : ℕ) → IsAccepted app → Follows app trace.items s n
     → TotalJudged app true s n trace.total → IsRight app trace
 unfolding TotalJudged
 is_right app trace s n accepted h ends =
     let judged : Judged app trace = judged_items app trace.items trace.total h.right
-    (subst (λ (m : ℕ). Ends app (state_behind app (first app) 0 trace.items) m trace.total) h.steps
-    (ends (state_behind app (first app) 0 trace.items) h.is)) in
+    (subst (λ (m : ℕ). Ends app (state_after app (first app) 0 trace.items) m trace.total) h.steps
+    (ends (state_after app (first app) 0 trace.items) h.is)) in
     record {
       judged = judged;
       laws = judged_traces_keep_laws app trace accepted judged;
@@ -339,7 +344,7 @@ is_wrong_at app trace i number is h = record {
   not_judged = λ judged. h.wrong (right_front app (suc i) trace.items (right_items app trace judged));
 }
 
-is_wrong_total : (app : App) (trace : Trace) (s : Held) (n number : ℕ) → number ≡ length trace.items + 1
+is_wrong_total : (app : App) (trace : Trace) (s : AuditorState) (n number : ℕ) → number ≡ length trace.items + 1
     → Follows app trace.items s n → TotalJudged app false s n trace.total → IsWrongAt app trace number
 unfolding TotalJudged
 is_wrong_total app trace s n number is h wrong = record {
@@ -349,8 +354,8 @@ is_wrong_total app trace s n number is h wrong = record {
       judged_items app (take k trace.items) None (right_front app k trace.items h.right) tt;
   wrong = inr refl;
   not_judged = λ judged.
-      wrong (state_behind app (first app) 0 trace.items) h.is
-      (subst (λ (m : ℕ). Ends app (state_behind app (first app) 0 trace.items) m trace.total) (sym h.steps)
+      wrong (state_after app (first app) 0 trace.items) h.is
+      (subst (λ (m : ℕ). Ends app (state_after app (first app) 0 trace.items) m trace.total) (sym h.steps)
       (right_ends app trace judged));
 }
 

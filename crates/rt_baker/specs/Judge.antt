@@ -10,7 +10,7 @@ use Rattle.rt_app.specs.Tree.{App}
 use Rattle.rt_laws.specs.State as laws
 use Rattle.rt_laws.specs.Run.{IsWithinStack}
 use Rattle.rt_laws.specs.ByItems.{label_of, steps_after, Comes, after_item}
-use Rattle.rt_baker_moves.specs.State.{Held, StateIs}
+use Rattle.rt_baker_moves.specs.State.{AuditorState, StateIs}
 use Rattle.rt_baker.specs.declared.done.Done.{Done}
 use Rattle.rt_baker.specs.declared.judge.Judge.{Judge}
 
@@ -20,16 +20,16 @@ steps_done d = if d.is_step then suc d.step else d.step
 
 module _ (app : App) where
   -- the state after items, from a state on in which n core steps are done
-  abbrev pub state_behind : laws.State → ℕ → List Item → laws.State
-  state_behind t n [] = t
-  state_behind t n (item ∷ items) =
-      state_behind (after_item app t n item) (steps_after item.step (label_of t.owing item.what)) items
+  abbrev pub state_after : laws.State → ℕ → List Item → laws.State
+  state_after t n [] = t
+  state_after t n (item ∷ items) =
+      state_after (after_item app t n item) (steps_after item.step (label_of t.owing item.what)) items
 
   -- the core steps that are done after items, likewise
-  abbrev pub steps_done_behind : laws.State → ℕ → List Item → ℕ
-  steps_done_behind t n [] = n
-  steps_done_behind t n (item ∷ items) =
-      steps_done_behind (after_item app t n item) (steps_after item.step (label_of t.owing item.what)) items
+  abbrev pub steps_done_after : laws.State → ℕ → List Item → ℕ
+  steps_done_after t n [] = n
+  steps_done_after t n (item ∷ items) =
+      steps_done_after (after_item app t n item) (steps_after item.step (label_of t.owing item.what)) items
 
   -- each of these items comes where those before it have led
   abbrev pub AllCome : laws.State → ℕ → List Item → Type 0
@@ -43,10 +43,10 @@ module _ (app : App) where
     pub depths : AllByRecursion (λ item. IsWithinStack app item.what) items
 
   -- The items are right, and this is kept of the state after them, where so many steps are done.
-  pub record Follows (items : List Item) (s : Held) (done : ℕ) : Type 0 where
+  pub record Follows (items : List Item) (s : AuditorState) (done : ℕ) : Type 0 where
     pub right : AreRight items
-    pub is : StateIs app s (state_behind (laws.first app) 0 items)
-    pub steps : done ≡ steps_done_behind (laws.first app) 0 items
+    pub is : StateIs app s (state_after (laws.first app) 0 items)
+    pub steps : done ≡ steps_done_after (laws.first app) 0 items
 
   -- The items before this index are right, and with the item there they are not.
   pub record FailsAt (items : List Item) (index : ℕ) : Type 0 where
@@ -55,7 +55,7 @@ module _ (app : App) where
     pub wrong : AreRight (take (suc index) items) → ⊥
 
   -- No item is wrong, or the one at this index is the first that is.
-  abbrev pub Stands : List Item → Held → Done → Option ℕ → Type 0
+  abbrev pub Stands : List Item → AuditorState → Done → Option ℕ → Type 0
   Stands items s done None = Follows items s (steps_done done)
   Stands items s done (Some index) = FailsAt items index
 

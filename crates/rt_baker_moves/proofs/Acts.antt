@@ -1,7 +1,7 @@
 -- What the running job does is what Baker's machine has it do.
 use Rattle.std.proofs.Common.{◌≡◌, ◌≢◌, ℕ, Bool, true, false, Option, None, if◌then◌else◌, List, [], ◌∷◌, ◌++◌}
 use Rattle.std.proofs.Common.{refl, ap, ◌∙◌, sym, subst}
-use Rattle.rt_ids.specs.Holder.{Guarded}
+use Rattle.rt_ids.specs.Location.{Guarded}
 use Rattle.rt_ids.specs.Content.{Values, delays, least_instant}
 use Rattle.rt_ids.specs.declared.ids.Section.TheVariants as section
 use Rattle.rt_ids.specs.Action.{Action, Enters, Leaves, Emits, Posts, Clocks, Places, FindsFull, Readies, Starts}
@@ -26,8 +26,8 @@ use Rattle.rt_baker_work.specs.Store.{Store, contents}
 use Rattle.rt_baker_work.specs.Todo.{meaning, behind}
 use Rattle.rt_baker_work.specs.Work.{Work, is_seen, IsSettled}
 use Rattle.rt_baker_work.proofs.Walks.{with_todos, behind_more}
-use Rattle.rt_baker_moves.specs.Job.{Kept, finish, rest_of, with_rest, JobIs}
-use Rattle.rt_baker_moves.specs.State.{Held, with_jobs, JobsAre, StateIs}
+use Rattle.rt_baker_moves.specs.Job.{AuditorJob, finish, rest_of, with_rest, JobIs}
+use Rattle.rt_baker_moves.specs.State.{AuditorState, with_jobs, JobsAre, StateIs}
 use Rattle.rt_baker_moves.specs.Waiting.{waiting_irqs}
 use Rattle.rt_baker_moves.specs.Inside.Acts.{kept_after_action, IsPerformed, held_with_job, with_work, before}
 use Rattle.rt_baker_moves.specs.Inside.Acts.{held_after_pend, held_alarm, beyond}
@@ -35,7 +35,7 @@ use Rattle.rt_baker_moves.specs.Inside.Acts.{Resumes}
 use Rattle.rt_baker_moves.proofs.Pending.{pended_stands}
 
 -- work with a thing on top is at that thing
-pub on_top : (app : App) (j : Kept) (w : Work) (t : Todo) (vs : Values) → j.work ≡ with_todos w (t ∷ [])
+pub on_top : (app : App) (j : AuditorJob) (w : Work) (t : Todo) (vs : Values) → j.work ≡ with_todos w (t ∷ [])
     → rest_of app j vs ≡ meaning app t (behind app w.todos (finish j.role)) w.vars vs
 unfolding behind
 on_top app j w t vs is =
@@ -100,7 +100,7 @@ machine_beyond app (Posts irq) instant t = state_after_pend irq t
 machine_beyond app SetsAlarm instant t = alarm_set app instant t
 machine_beyond app a instant t = t
 
-plain_changes : (a : Action) → IsPlain a → (app : App) (t : laws.State) (j : Kept) (old : Doing Values) (ks : List
+plain_changes : (a : Action) → IsPlain a → (app : App) (t : laws.State) (j : AuditorJob) (old : Doing Values) (ks : List
     laws.Job) (vs : Values) (rest : Doing Values)
     → state_after_action app t (with_rest app j old) ks a vs rest ≡ machine_beyond app a (next_instant t) (with_first t
     (with_rest app (kept_after_action a j) rest) ks (reached_values rest vs))
@@ -125,13 +125,13 @@ plain_changes (Ends (body.Task n)) plain app t j old ks vs rest = refl
 plain_changes Returns plain app t j old ks vs rest = absurd plain
 
 -- the work is no part of what an action tracks
-tracks_work : (app : App) (a : Action) (j : Kept) (w : Work) (rest : Doing Values)
+tracks_work : (app : App) (a : Action) (j : AuditorJob) (w : Work) (rest : Doing Values)
     → with_rest app (kept_after_action a j) rest ≡ with_rest app (kept_after_action a (with_work j w)) rest
 tracks_work app (Enters x cost) j w rest = refl
 tracks_work app (Leaves x) j w rest = refl
 tracks_work app _ j w rest = refl
 
-tracks_role : (a : Action) (j : Kept) → (kept_after_action a j).role ≡ j.role
+tracks_role : (a : Action) (j : AuditorJob) → (kept_after_action a j).role ≡ j.role
 tracks_role (Enters x cost) j = refl
 tracks_role (Leaves x) j = refl
 tracks_role _ j = refl
@@ -141,18 +141,18 @@ no_end [] t e = cc
 no_end (u ∷ ts) t e = cc
 
 -- a job with a thing on top does not wait
-pub is_busy : (app : App) (j : Kept) (k : laws.Job) (w : Work) (t : Todo) → JobIs app j k
+pub is_busy : (app : App) (j : AuditorJob) (k : laws.Job) (w : Work) (t : Todo) → JobIs app j k
     → j.work ≡ with_todos w (t ∷ []) → j.role ≢ laws.Waiting
 is_busy app j k w t h top waiting = no_end w.todos t (sym (ap (λ (v : Work). v.todos) top) ∙ h.waits waiting)
 
 -- the job that stands for the first, and the others
-pub first_of : (app : App) (j : Kept) (js : List Kept) (ks : List laws.Job) → JobsAre app (j ∷ js) ks
+pub first_of : (app : App) (j : AuditorJob) (js : List AuditorJob) (ks : List laws.Job) → JobsAre app (j ∷ js) ks
     → (k : laws.Job) × (others : List laws.Job) × (ks ≡ k ∷ others) × JobIs app j k × JobsAre app js others
 first_of app j js [] h = absurd h
 first_of app j js (k ∷ ks) h = (k, ks, refl, h.0, h.1)
 
 -- what the machine changes as its running job does a plain action of its work
-pub plain_given : (app : App) (a : code.Action) (t : laws.State) (j : Kept) (k : laws.Job) (ks : List laws.Job) (w
+pub plain_given : (app : App) (a : code.Action) (t : laws.State) (j : AuditorJob) (k : laws.Job) (ks : List laws.Job) (w
     : Work) → IsPlain (action_of a) → JobIs app j k
     → j.work ≡ with_todos w (todo.Act a ∷ [])
     → state_after_doing app t k ks k.rest
@@ -168,11 +168,11 @@ plain_given app a t j k ks w plain h top =
     (rest_of app (with_work j w) (effect (action_of a) t.values))
 
 -- a job that did a plain action is the job that the machine has then, and has made its values
-pub record Stands (app : App) (new : Kept) (is : Store) (k : laws.Job) (vs : Values) : Type 0 where
+pub record Stands (app : App) (new : AuditorJob) (is : Store) (k : laws.Job) (vs : Values) : Type 0 where
   pub job : JobIs app new k
   pub values : vs ≡ contents is
 
-pub job_stands : (app : App) (a : Action) (j new : Kept) (w : Work) (was is : Store) (vs : Values)
+pub job_stands : (app : App) (a : Action) (j new : AuditorJob) (w : Work) (was is : Store) (vs : Values)
     → j.role ≢ laws.Waiting → vs ≡ contents was → IsPerformed app a (with_work j w) was new is
     → Stands app new is (with_rest app (kept_after_action a j) (rest_of app (with_work j w) (effect a vs)))
     (reached_values (rest_of
@@ -198,8 +198,9 @@ job_stands app a j new w was is vs busy alike p =
           p.settled (finish_reaches new.role new.work.vars (contents is) (effect a vs) works);
     }
 
-pub moved_stands : (app : App) (s : Held) (t : laws.State) (k : laws.Job) (ks : List laws.Job) (vs : Values) (j new
-    : Kept) (is : Store)
+pub moved_stands : (app : App) (s : AuditorState) (t : laws.State) (k : laws.Job) (ks : List laws.Job) (vs : Values)
+    (j new
+    : AuditorJob) (is : Store)
     → t ≡ with_jobs (held_with_job s j s.store) t.jobs → s.waiting ≡ waiting_irqs app s.pending → Stands app new is k vs
     → JobsAre app s.jobs ks → StateIs app (held_with_job s new is) (with_first t k ks vs)
 moved_stands app s t k ks vs j new is held waiting stands others = record {
@@ -210,10 +211,10 @@ moved_stands app s t k ks vs j new is held waiting stands others = record {
 }
 
 -- the alarm is set to another instant
-abbrev pub with_alarm : Option ℕ → Held → Held
+abbrev pub with_alarm : Option ℕ → AuditorState → AuditorState
 with_alarm i s = record s { alarm = i }
 
-alarm_stands : (app : App) (i : Option ℕ) (s : Held) (t : laws.State) → StateIs app s t
+alarm_stands : (app : App) (i : Option ℕ) (s : AuditorState) (t : laws.State) → StateIs app s t
     → StateIs app (with_alarm i s) (record t { alarm = i })
 alarm_stands app i s t h = record {
   jobs = h.jobs;
@@ -221,7 +222,7 @@ alarm_stands app i s t h = record {
   waiting = h.waiting;
 }
 
-set_stands : (app : App) → IsAccepted app → (i : Option ℕ) (s : Held) (t : laws.State) → StateIs app s t
+set_stands : (app : App) → IsAccepted app → (i : Option ℕ) (s : AuditorState) (t : laws.State) → StateIs app s t
     → StateIs app (held_alarm app i s) (alarm_set app i t)
 set_stands app accepted i s t h =
     subst (λ (n : ℕ). StateIs app (held_alarm app i s) (if is_due n i then state_after_pend (timer_number app)
@@ -238,15 +239,16 @@ set_stands app accepted i s t h =
         None s t h)
     go false = alarm_stands app i s t h
 
-pub beyond_stands : (app : App) → IsAccepted app → (a : Action) (i : Option ℕ) (s : Held) (t : laws.State)
+pub beyond_stands : (app : App) → IsAccepted app → (a : Action) (i : Option ℕ) (s : AuditorState) (t : laws.State)
     → StateIs app s t → StateIs app (beyond app a i s) (machine_beyond app a i t)
 beyond_stands app accepted (Posts irq) i s t h = pended_stands app accepted irq s t h
 beyond_stands app accepted SetsAlarm i s t h = set_stands app accepted i s t h
 beyond_stands app accepted _ i s t h = h
 
 -- the running job does an action of its work, which stood on top
-pub plain_acts : (app : App) → IsAccepted app → (a : code.Action) (i : Option ℕ) (s new : Held) (t : laws.State) (job
-    : Kept) → IsPlain (action_of a) → Resumes app (action_of a) job s new
+pub plain_acts : (app : App) → IsAccepted app → (a : code.Action) (i : Option ℕ) (s new : AuditorState) (t : laws.State)
+    (job
+    : AuditorJob) → IsPlain (action_of a) → Resumes app (action_of a) job s new
     → StateIs app (before a job s) t → i ≡ least_instant (delays (contents s.store (Guarded section.Timer)))
     → StateIs app (beyond app (action_of a) i new) (state_after_item app t t.jobs)
 plain_acts app accepted a i s new t job plain r h early =
@@ -270,7 +272,7 @@ plain_acts app accepted a i s new t job plain r h early =
     (moved_stands app s t
     _ parts.1 _ j r.after r.store h.is h.waiting st parts.4) in
     subst (λ (u : laws.State). StateIs app (beyond app (action_of a) i new) u) (sym gives)
-    (subst (λ (n : Held). StateIs app (beyond app (action_of a) i n) (machine_beyond app (action_of a)
+    (subst (λ (n : AuditorState). StateIs app (beyond app (action_of a) i n) (machine_beyond app (action_of a)
     (next_instant t) moved_to)) (sym r.is)
     (subst (λ (o : Option ℕ). StateIs app (beyond app (action_of a) o (held_with_job s r.after r.store)) (machine_beyond
     app (action_of a) (next_instant t) moved_to)) (sym same) after))
@@ -293,7 +295,8 @@ is_plain act.SetAlarm = tt
 is_plain (act.End n) = tt
 
 -- an action that makes nothing pending changes nothing else
-pub nothing_beyond : (app : App) (a : code.Action) (i : Option ℕ) (s : Held) → ((irq : ℕ) → a ≡ act.Post irq → ⊥)
+pub nothing_beyond : (app : App) (a : code.Action) (i : Option ℕ) (s : AuditorState)
+    → ((irq : ℕ) → a ≡ act.Post irq → ⊥)
     → (a ≡ act.SetAlarm → ⊥) → s ≡ beyond app (action_of a) i s
 nothing_beyond app (act.Enter x cost) i s posts sets = refl
 nothing_beyond app (act.Leave x) i s posts sets = refl
@@ -311,11 +314,12 @@ nothing_beyond app (act.Move n h instant) i s posts sets = refl
 nothing_beyond app act.SetAlarm i s posts sets = absurd (sets refl)
 nothing_beyond app (act.End n) i s posts sets = refl
 
-pub acted_by : (app : App) → IsAccepted app → (a b : code.Action) (i : Option ℕ) (s mid new : Held) (t : laws.State)
-    (job : Kept) → a ≡ b → Resumes app (action_of b) job s mid
+pub acted_by : (app : App) → IsAccepted app → (a b : code.Action) (i : Option ℕ) (s mid new : AuditorState)
+    (t : laws.State)
+    (job : AuditorJob) → a ≡ b → Resumes app (action_of b) job s mid
     → new ≡ beyond app (action_of b) i mid → i ≡ least_instant (delays (contents s.store (Guarded section.Timer)))
     → StateIs app (before a job s) t → StateIs app new (state_after_item app t t.jobs)
 acted_by app accepted a b i s mid new t job same r is early h =
-    subst (λ (n : Held). StateIs app n (state_after_item app t t.jobs)) (sym is)
+    subst (λ (n : AuditorState). StateIs app n (state_after_item app t t.jobs)) (sym is)
     (plain_acts app accepted b i s mid t job (is_plain b) r (subst (λ (c : code.Action). StateIs app (before c job s)
     t) same h) early)

@@ -14,14 +14,15 @@ use Rattle.rt_baker_work.specs.declared.todo.Reading.{Reading}
 use Rattle.rt_baker_work.specs.Store.{Store, contents}
 use Rattle.rt_baker_work.specs.Todo.{use_clock, behind}
 use Rattle.rt_baker_work.specs.Work.{Work, Becomes}
-use Rattle.rt_baker_moves.specs.Job.{Kept, finish, rest_of, with_rest, JobIs}
-use Rattle.rt_baker_moves.specs.State.{Held, StateIs}
+use Rattle.rt_baker_moves.specs.Job.{AuditorJob, finish, rest_of, with_rest, JobIs}
+use Rattle.rt_baker_moves.specs.State.{AuditorState, StateIs}
 use Rattle.rt_baker_moves.specs.Inside.Acts.{kept_after_action, held_with_job, with_work, Resumes}
 use Rattle.rt_baker_moves.specs.Inside.Moves.{with_next, Advances, IsIdling}
 use Rattle.rt_baker_moves.proofs.Acts.{with_first, first_of, is_busy, on_top, Stands, job_stands, moved_stands}
 
 -- what the machine changes as its running job reads the clock, where its work is this from then on
-clock_given : (app : App) (r : Reading) (t : laws.State) (job : Kept) (k : laws.Job) (ks : List laws.Job) (w : Work)
+clock_given : (app : App) (r : Reading) (t : laws.State) (job : AuditorJob) (k : laws.Job) (ks : List laws.Job)
+    (w : Work)
     (s : Store) → JobIs app (with_next (todo.Clock r) job) k → t.values ≡ contents s
     → Becomes app (use_clock app r t.time) job.work s w s
     → state_after_doing app t k ks k.rest ≡ with_first t
@@ -39,13 +40,13 @@ clock_given app r t job k ks w s h held answers =
     ∙ answers.same (finish job.role)
     ∙ ap (λ (vs : Values). rest_of app (with_work job w) vs) (sym held))
 
-pub clock_read : (app : App) (r : Reading) (s new : Held) (job mid : Kept) (old w : Work) (time : ℕ)
+pub clock_read : (app : App) (r : Reading) (s new : AuditorState) (job mid : AuditorJob) (old w : Work) (time : ℕ)
     → time ≡ s.time → old ≡ job.work → mid ≡ with_work job w
     → ((u : Store) → Becomes app (use_clock app r time) old u w u)
     → Resumes app Clocks mid s new → Advances app (held_with_job s (with_next (todo.Clock r) job) s.store) new
 clock_read app r s new job mid old w time now is made answers resumes t h =
     let p : Resumes app Clocks (with_work job w) s new =
-    subst (λ (j : Kept). Resumes app Clocks j s new) made resumes in
+    subst (λ (j : AuditorJob). Resumes app Clocks j s new) made resumes in
     let j = with_next (todo.Clock r) job in
     let parts = first_of app j s.jobs t.jobs h.jobs in
     let busy = is_busy app j parts.0 job.work (todo.Clock r) parts.3 refl in
@@ -57,19 +58,19 @@ clock_read app r s new job mid old w time now is made answers resumes t h =
     (subst (λ (n : ℕ). Becomes app (use_clock app r n) old s.store w s.store) alike (answers s.store)) in
     let gives = ap (λ (l : List laws.Job). state_after_item app t l) parts.2
     ∙ clock_given app r t job parts.0 parts.1 w s.store parts.3 values told in
-    subst (λ (n : Held). StateIs app n (state_after_item app t t.jobs)) (sym p.is)
+    subst (λ (n : AuditorState). StateIs app n (state_after_item app t t.jobs)) (sym p.is)
     (subst (λ (u : laws.State). StateIs app (held_with_job s p.after p.store) u) (sym gives)
     (moved_stands app s t _ parts.1 _ j p.after p.store h.is h.waiting st parts.4))
 
 -- a job that has done all its work stands at its last action
-at_end : (app : App) (j : Kept) (k : laws.Job) (h : JobIs app j k) → j.work.todos ≡ []
+at_end : (app : App) (j : AuditorJob) (k : laws.Job) (h : JobIs app j k) → j.work.todos ≡ []
     → k ≡ with_rest app j (finish j.role j.work.vars h.values)
 unfolding behind
 at_end app j k h none =
     h.is ∙ ap (λ (ts : List Todo). with_rest app j (behind app ts (finish j.role) j.work.vars h.values)) none
 
 -- what the machine does then
-ended : (app : App) (t : laws.State) (j : Kept) (k : laws.Job) (ks : List laws.Job) (r : laws.Role)
+ended : (app : App) (t : laws.State) (j : AuditorJob) (k : laws.Job) (ks : List laws.Job) (r : laws.Role)
     (h : JobIs app j k) → j.work.todos ≡ [] → j.role ≡ r
     → state_after_doing app t k ks k.rest ≡ state_after_doing app t (with_rest app j (finish r j.work.vars h.values)) ks
     (finish r
@@ -85,7 +86,8 @@ IsThread laws.Init = Unit {0}
 IsThread laws.Idle = Unit {0}
 IsThread r = ⊥
 
-thread_acts : (app : App) (t : laws.State) (j : Kept) (ks : List laws.Job) (r : laws.Role) (vs : Values) → IsThread r
+thread_acts : (app : App) (t : laws.State) (j : AuditorJob) (ks : List laws.Job) (r : laws.Role) (vs : Values)
+    → IsThread r
     → state_after_doing app t (with_rest app j (finish r j.work.vars vs)) ks (finish r j.work.vars vs)
     ≡ with_first t (idle_job app t.values app.idle) ks (reached_values (idle_job app t.values app.idle).rest t.values)
 thread_acts app t j ks laws.Init vs thread = refl
@@ -94,7 +96,8 @@ thread_acts app t j ks laws.Waiting vs thread = absurd thread
 thread_acts app t j ks (laws.Serving irq) vs thread = absurd thread
 
 -- the thread begins `idle`
-pub idles : (app : App) (s new : Held) (job : Kept) (r : laws.Role) → IsThread r → job.role ≡ r → IsIdling app s new
+pub idles : (app : App) (s new : AuditorState) (job : AuditorJob) (r : laws.Role) → IsThread r → job.role ≡ r
+    → IsIdling app s new
     → job.work.todos ≡ [] → Advances app (held_with_job s job s.store) new
 idles app s new job r thread role begins none t h =
     let parts = first_of app job s.jobs t.jobs h.jobs in
@@ -108,22 +111,24 @@ idles app s new job r thread role begins none t h =
     let gives = ap (λ (l : List laws.Job). state_after_item app t l) parts.2
     ∙ ended app t job parts.0 parts.1 r parts.3 none role
     ∙ thread_acts app t job parts.1 r parts.3.values thread in
-    subst (λ (n : Held). StateIs app n (state_after_item app t t.jobs)) (sym begins.is)
+    subst (λ (n : AuditorState). StateIs app n (state_after_item app t t.jobs)) (sym begins.is)
     (subst (λ (u : laws.State). StateIs app (held_with_job s begins.job begins.store) u) (sym gives)
     (moved_stands app s t _ parts.1 _ job begins.job begins.store h.is h.waiting st parts.4))
 
 -- the thread that waits has nothing to do
-pub still_waits : (app : App) (s new : Held) (job : Kept) → job.role ≡ laws.Waiting → new ≡ held_with_job s job s.store
+pub still_waits : (app : App) (s new : AuditorState) (job : AuditorJob) → job.role ≡ laws.Waiting → new
+    ≡ held_with_job s job s.store
     → job.work.todos ≡ [] → Advances app (held_with_job s job s.store) new
 still_waits app s new job role is none t h =
     let parts = first_of app job s.jobs t.jobs h.jobs in
     let gives : state_after_item app t t.jobs ≡ t = ap (λ (l : List laws.Job). state_after_item app t l) parts.2
     ∙ ended app t job parts.0 parts.1 laws.Waiting parts.3 none role in
-    subst (λ (n : Held). StateIs app n (state_after_item app t t.jobs)) (sym is)
+    subst (λ (n : AuditorState). StateIs app n (state_after_item app t t.jobs)) (sym is)
     (subst (λ (u : laws.State). StateIs app (held_with_job s job s.store) u) (sym gives) h)
 
 -- a handler returns
-pub returned : (app : App) (s : Held) (job : Kept) (irq : ℕ) → job.role ≡ laws.Serving irq → job.work.todos ≡ []
+pub returned : (app : App) (s : AuditorState) (job : AuditorJob) (irq : ℕ) → job.role ≡ laws.Serving irq
+    → job.work.todos ≡ []
     → Advances app (held_with_job s job s.store) s
 returned app s job irq role none t h =
     let parts = first_of app job s.jobs t.jobs h.jobs in

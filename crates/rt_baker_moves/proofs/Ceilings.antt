@@ -103,8 +103,8 @@ module _ (app : App) (p : ℕ) (none : list_any (is_of_level p) app.tasks ≡ fa
   and_not true b h = h
   and_not false b h = refl
 
-  no_holder : (test : Spawn → Bool) → ((s : Spawn) → test s ≡ false) → (m : Member) → holds test m ≡ false
-  no_holder test fails m = none_any test (spawns m.body.block) fails
+  no_location : (test : Spawn → Bool) → ((s : Spawn) → test s ≡ false) → (m : Member) → holds test m ≡ false
+  no_location test fails m = none_any test (spawns m.body.block) fails
 
   all_members : (test : Member → Bool) (ms : List Member) → ((m : Member) → test m ≡ false)
       → AllByRecursion (λ m. test m ≡ false) ms
@@ -114,14 +114,15 @@ module _ (app : App) (p : ℕ) (none : list_any (is_of_level p) app.tasks ≡ fa
   not_readied : greatest_priority (holds (readies app p)) app ≡ 0
   not_readied =
       greatest_none (holds (readies app p)) (members app) (all_members (holds (readies app p)) (members app)
-      (no_holder (readies app p) (λ s. and_not (makes_ready s) (is_some_and (is_of_level p) (slice_get app.tasks (target
+      (no_location (readies app p)
+      (λ s. and_not (makes_ready s) (is_some_and (is_of_level p) (slice_get app.tasks (target
       s))) (not_at (target s)))))
 
   not_moved : (o : Option Mono) → mover_priority app p o ≡ 0
   not_moved None = refl
   not_moved (Some mono) =
       ap (λ (b : Bool). if b then mono.priority else 0) (none_any (holds (arms_level app p)) (members app)
-      (no_holder (arms_level app p) (λ s. and_not (arms_message s) (is_some_and (is_of_level p) (slice_get app.tasks
+      (no_location (arms_level app p) (λ s. and_not (arms_message s) (is_some_and (is_of_level p) (slice_get app.tasks
       (target s))) (not_at (target s)))))
 
   level_alone : ready_ceiling app p ≡ p

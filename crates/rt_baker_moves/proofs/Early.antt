@@ -1,7 +1,7 @@
 -- Counts that can rise, and things to do that others can see: what the moves require, and what their callers know.
 use Rattle.std.proofs.Common.{◌≡◌, ℕ, ◌+◌, ◌-◌, ◌^◌, ◌<◌, ◌≤◌, true, List, [], ◌∷◌, ◌++◌, ap, subst, arith}
 use Rattle.std.specs.List.{AllByRecursion}
-use Rattle.rt_ids.specs.Holder.{Guarded}
+use Rattle.rt_ids.specs.Location.{Guarded}
 use Rattle.rt_ids.specs.Content.{Values, number, timer_content}
 use Rattle.rt_ids.specs.Action.{Action, Arms, effect}
 use Rattle.rt_ids.specs.declared.ids.Section.TheVariants as section
@@ -12,8 +12,8 @@ use Rattle.rt_laws.specs.Counts.{AreWithin}
 use Rattle.rt_baker_work.specs.declared.todo.Todo.{Todo}
 use Rattle.rt_baker_work.specs.Store.{Store, contents, HasRoom}
 use Rattle.rt_baker_work.specs.Work.{is_seen, IsSettled}
-use Rattle.rt_baker_moves.specs.Job.{Kept}
-use Rattle.rt_baker_moves.specs.State.{Held, JobsAre, StateIs, IsEarly}
+use Rattle.rt_baker_moves.specs.Job.{AuditorJob}
+use Rattle.rt_baker_moves.specs.State.{AuditorState, JobsAre, StateIs, IsEarly}
 use Rattle.rt_baker_moves.specs.Inside.Moves.{with_next}
 
 -- an action gives one handle at most
@@ -46,12 +46,12 @@ seen_last [] t settled = settled
 seen_last (u ∷ []) t settled = settled
 seen_last (u ∷ v ∷ ts) t settled = seen_last (v ∷ ts) t settled
 
-pub seen_next : (old new : Kept) (t : Todo) → old ≡ with_next t new → IsSettled old.work.todos → is_seen t ≡ true
+pub seen_next : (old new : AuditorJob) (t : Todo) → old ≡ with_next t new → IsSettled old.work.todos → is_seen t ≡ true
 seen_next old new t is settled =
-    seen_last new.work.todos t (subst (λ (j : Kept). IsSettled j.work.todos) is settled)
+    seen_last new.work.todos t (subst (λ (j : AuditorJob). IsSettled j.work.todos) is settled)
 
 -- what a caller knows of a state that stands for one of the machine
-pub all_settled : (app : App) (js : List Kept) (ks : List laws.Job) → JobsAre app js ks
+pub all_settled : (app : App) (js : List AuditorJob) (ks : List laws.Job) → JobsAre app js ks
     → AllByRecursion (λ j. IsSettled j.work.todos) js
 all_settled app [] [] h = tt
 all_settled app [] (k ∷ ks) h = absurd h
@@ -59,7 +59,8 @@ all_settled app (j ∷ js) [] h = absurd h
 all_settled app (j ∷ js) (k ∷ ks) h = (h.0.settled, all_settled app js ks h.1)
 
 -- and that its counts are few
-pub early_held : (app : App) (s : Held) (t : laws.State) (n : ℕ) → StateIs app s t → AreWithin n t → n < 2 ^ 32 - 1
+pub early_held : (app : App) (s : AuditorState) (t : laws.State) (n : ℕ) → StateIs app s t → AreWithin n t → n
+    < 2 ^ 32 - 1
     → IsEarly s
 unfolding contents
 early_held app s t n is within few = record {

@@ -20,13 +20,14 @@ use Rattle.rt_baker_work.specs.Store.{Store, contents}
 use Rattle.rt_baker_work.specs.Todo.{behind}
 use Rattle.rt_baker_work.specs.Work.{Work, Becomes, IsSettled}
 use Rattle.rt_baker_work.proofs.Walks.{made}
-use Rattle.rt_baker_moves.specs.Job.{Kept, finish}
+use Rattle.rt_baker_moves.specs.Job.{AuditorJob, finish}
 use Rattle.rt_baker_moves.specs.Inside.Moves.{IsBegun}
 use Rattle.rt_baker_moves.proofs.Acts.{settled_reaches, finish_reaches}
 use Rattle.rt_baker_moves.proofs.Jobs.{kept}
 
 -- `idle` ran as far as its first action
-pub idle_begun : (app : App) (cost left : ℕ) (b : Body) (block : Bor (List Stmt)) (new : Kept) (w v : Work) (was is
+pub idle_begun : (app : App) (cost left : ℕ) (b : Body) (block : Bor (List Stmt)) (new : AuditorJob) (w v : Work)
+    (was is
     : Store) → left ≡ cost → b.block ≡ block_of block.now
     → w ≡ made (todo.Run block ∷ []) (replicate (variables (block_of block.now)) 0)
     → Becomes app (λ later. later) w was v is → IsSettled v.todos → new ≡ kept laws.Idle 0 v left [] []
@@ -34,7 +35,7 @@ pub idle_begun : (app : App) (cost left : ℕ) (b : Body) (block : Bor (List Stm
     was))) was new is
 unfolding behind
 idle_begun app cost left b block new w v was is paid text begins runs settles made_so =
-    subst (λ (j : Kept). IsBegun app (laws.new_job laws.Idle 0 cost first) was j is) (sym made_so)
+    subst (λ (j : AuditorJob). IsBegun app (laws.new_job laws.Idle 0 cost first) was j is) (sym made_so)
     (record {
       job = record {
         values = contents is;
@@ -67,12 +68,12 @@ work_begun old w args block empty none is =
     ∙ ap (λ (xs : List ℕ). made (todo.Run block ∷ []) (xs ++ replicate (variables (block_of block.now)) 0)) none
 
 -- without `idle` the thread waits
-pub waits_without : (app : App) (s : Store) (new : Kept) (w : Work) → app.idle ≡ None → w ≡ made [] []
+pub waits_without : (app : App) (s : Store) (new : AuditorJob) (w : Work) → app.idle ≡ None → w ≡ made [] []
     → new ≡ kept laws.Waiting 0 w 0 [] [] → IsBegun app (idle_job app (contents s) app.idle) s new s
 unfolding behind
 waits_without app s new w none empty made_so =
     subst (λ (o : Option Body). IsBegun app (idle_job app (contents s) o) s new s) (sym none)
-    (subst (λ (j : Kept). IsBegun app (idle_job app (contents s) None) s j s) (sym (made_so
+    (subst (λ (j : AuditorJob). IsBegun app (idle_job app (contents s) None) s j s) (sym (made_so
     ∙ ap (λ (u : Work). kept laws.Waiting 0 u 0 [] []) empty))
     (record {
       job = record { values = contents s; is = refl; settled = tt; waits = λ waiting. refl };

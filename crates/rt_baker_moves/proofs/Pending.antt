@@ -23,7 +23,7 @@ use Rattle.rt_laws.specs.Preemption.{goes_before}
 use Rattle.rt_laws.specs.Services.{service_at, priority_of, timer_number}
 use Rattle.rt_laws.specs.State as laws
 use Rattle.rt_laws.proofs.Pending.{found_passes, some_number, made_number}
-use Rattle.rt_baker_moves.specs.State.{Held, with_jobs, StateIs}
+use Rattle.rt_baker_moves.specs.State.{AuditorState, with_jobs, StateIs}
 use Rattle.rt_baker_moves.specs.Waiting.{insert_before, chosen_in_order, waits, waiting_irqs}
 use Rattle.rt_baker_moves.specs.Inside.Acts.{held_after_pend}
 use Rattle.rt_baker_moves.specs.Inside.Starts.{held_after_take}
@@ -142,7 +142,7 @@ module _ (app : App) where
   none_waiting n = none_ordered n numbers
 
 -- an interrupt comes to be pending in the state that is kept
-pub pended_stands : (app : App) → IsAccepted app → (irq : ℕ) (s : Held) (t : laws.State) → StateIs app s t
+pub pended_stands : (app : App) → IsAccepted app → (irq : ℕ) (s : AuditorState) (t : laws.State) → StateIs app s t
     → StateIs app (held_after_pend app irq s) (state_after_pend irq t)
 pended_stands app accepted irq s t h = go (slice_index_or s.pending irq true) refl
   where
@@ -167,7 +167,7 @@ pended_stands app accepted irq s t h = go (slice_index_or s.pending irq true) re
 abbrev pub taken_from : ℕ → laws.State → laws.State
 taken_from irq t = record t { pending = slice_set t.pending irq false }
 
-pub taken_stands : (app : App) → IsAccepted app → (irq : ℕ) (s : Held) (t : laws.State) → StateIs app s t
+pub taken_stands : (app : App) → IsAccepted app → (irq : ℕ) (s : AuditorState) (t : laws.State) → StateIs app s t
     → StateIs app (held_after_take irq s) (taken_from irq t)
 taken_stands app accepted irq s t h = record {
   jobs = h.jobs;
@@ -176,10 +176,10 @@ taken_stands app accepted irq s t h = record {
 }
 
 -- the alarm of a tick has come
-abbrev pub silenced : Held → Held
+abbrev pub silenced : AuditorState → AuditorState
 silenced s = record s { alarm = None; owing = false }
 
-pub rung : (app : App) → IsAccepted app → (s old new : Held) (n : ℕ) → old ≡ s → n ≡ timer_number app
+pub rung : (app : App) → IsAccepted app → (s old new : AuditorState) (n : ℕ) → old ≡ s → n ≡ timer_number app
     → new ≡ held_after_pend app n (silenced old) → (t : laws.State) → StateIs app s t
     → StateIs app new (after app t Rang)
 rung app accepted s old new n view timer is t h =
@@ -188,7 +188,7 @@ rung app accepted s old new n view timer is t h =
       is = ap (λ (u : laws.State). record u { alarm = None; owing = false }) h.is;
       waiting = h.waiting;
     } in
-    subst (λ (k : Held). StateIs app k (after app t Rang))
-    (sym (is ∙ ap (λ (k : Held). held_after_pend app n (silenced k))
+    subst (λ (k : AuditorState). StateIs app k (after app t Rang))
+    (sym (is ∙ ap (λ (k : AuditorState). held_after_pend app n (silenced k))
     view ∙ ap (λ (m : ℕ). held_after_pend app m (silenced s)) timer))
     (pended_stands app accepted (timer_number app) (silenced s) (record t { alarm = None; owing = false }) silent)

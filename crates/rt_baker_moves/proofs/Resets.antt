@@ -3,7 +3,7 @@ use Rattle.std.proofs.Common.{◌≡◌, ℕ, zero, suc, List, [], ◌∷◌, �
 use Rattle.std.proofs.Common.{refl, ap, ◌∙◌}
 use Rattle.std.specs.List.{slice_get}
 use Rattle.rt_ids.specs.Lists.{or_zero}
-use Rattle.rt_ids.specs.Holder.{Holder, Guarded, Own}
+use Rattle.rt_ids.specs.Location.{Location, Guarded, Own}
 use Rattle.rt_ids.specs.Content.{Message, Number, Messages, Delays, nothing_armed}
 use Rattle.rt_ids.specs.declared.ids.Section.TheVariants as section
 use Rattle.rt_app.specs.Tree.{App}
@@ -30,7 +30,7 @@ pub reset_contents : (app : App) (s : Store) (n : ℕ)
 unfolding contents
 reset_contents app s n shared locals out ready timed = λ i h. each h i
   where
-    each : (h : Holder) → contents s h ≡ first_values app h
+    each : (h : Location) → contents s h ≡ first_values app h
     each (Guarded (section.Res r)) =
         ap Number (ap (λ (l : List ℕ). get_or l r 0) shared ∙ padded_read (λ r. r.first) app.shared n r)
     each (Guarded (section.Free t)) = ap Number (ap (λ (l : List ℕ). get_or l t 0) out ∙ copies_read 0 n t)

@@ -15,12 +15,12 @@ use Rattle.rt_baker_work.specs.declared.todo.Todo.TheVariants as todo
 use Rattle.rt_baker_work.specs.Actions.{action_of}
 use Rattle.rt_baker_work.specs.Todo.{meaning, behind}
 use Rattle.rt_baker_work.specs.Work.{is_seen, IsSettled, next_todo}
-use Rattle.rt_baker_moves.specs.Job.{Kept, finish, JobIs}
-use Rattle.rt_baker_moves.specs.State.{Held, with_jobs, JobsAre, StateIs}
+use Rattle.rt_baker_moves.specs.Job.{AuditorJob, finish, JobIs}
+use Rattle.rt_baker_moves.specs.State.{AuditorState, with_jobs, JobsAre, StateIs}
 use Rattle.rt_baker_moves.specs.Inside.Shown.{action_item, end_item, todo_item, job_item, jobs_item, held_item}
 
 -- an item that is compared with the one that an action gives
-pub shown_by : (s : Held) (a b : code.Action) (i w : What) (r : Bool) → a ≡ b
+pub shown_by : (s : AuditorState) (a b : code.Action) (i w : What) (r : Bool) → a ≡ b
     → item_of (with_jobs s []) laws.Waiting (action_of b) ≡ Some i → (IsTrue r ↔ (w ≡ i))
     → IsTrue r ↔ (action_item s a ≡ Some w)
 unfolding action_item
@@ -29,7 +29,7 @@ shown_by s a b i w r same is h = (
   λ gives. h.1 (sym (same_Some i w (sym is ∙ sym (ap (action_item s) same) ∙ gives))),
 )
 
-module _ (app : App) (s : Held) (js : List laws.Job) (r : laws.Role) where
+module _ (app : App) (s : AuditorState) (js : List laws.Job) (r : laws.Role) where
   item_alike : (a : code.Action) → item_of (with_jobs s js) r (action_of a) ≡ action_item s a
   unfolding action_item
   item_alike (act.Enter x cost) = refl
@@ -69,41 +69,45 @@ module _ (app : App) (s : Held) (js : List laws.Job) (r : laws.Role) where
   any_item t [] later vars vs settled = seen_item t later vars vs settled
   any_item t (u ∷ ts) later vars vs settled = any_item u ts (meaning app t later) vars vs settled
 
-end_shown : (s : Held) (js : List laws.Job) (r : laws.Role) (vars : List ℕ) (vs : Values)
+end_shown : (s : AuditorState) (js : List laws.Job) (r : laws.Role) (vars : List ℕ) (vs : Values)
     → next_item (with_jobs s js) r (finish r vars vs) ≡ end_item r
 end_shown s js laws.Init vars vs = refl
 end_shown s js laws.Idle vars vs = refl
 end_shown s js laws.Waiting vars vs = refl
 end_shown s js (laws.Serving irq) vars vs = refl
 
-work_item : (app : App) (s : Held) (js : List laws.Job) (r : laws.Role) (ts : List Todo) (vars : List ℕ) (vs : Values)
+work_item : (app : App) (s : AuditorState) (js : List laws.Job) (r : laws.Role) (ts : List Todo) (vars : List ℕ)
+    (vs : Values)
     → IsSettled ts
     → next_item (with_jobs s js) r (behind app ts (finish r) vars vs) ≡ todo_item s r (next_todo ts)
 unfolding behind
 work_item app s js r [] vars vs settled = end_shown s js r vars vs
 work_item app s js r (t ∷ ts) vars vs settled = any_item app s js r t ts (finish r) vars vs settled
 
-job_shows : (app : App) (s : Held) (js : List laws.Job) (j : Kept) (k : laws.Job) → JobIs app j k
+job_shows : (app : App) (s : AuditorState) (js : List laws.Job) (j : AuditorJob) (k : laws.Job) → JobIs app j k
     → next_item (with_jobs s js) k.role k.rest ≡ job_item s j
 job_shows app s js j k h =
     ap (λ (l : laws.Job). next_item (with_jobs s js) l.role l.rest) h.is
     ∙ work_item app s js j.role j.work.todos j.work.vars h.values h.settled
 
-jobs_show : (app : App) (s : Held) (us : List laws.Job) (js : List Kept) (ks : List laws.Job) → JobsAre app js ks
+jobs_show : (app : App) (s : AuditorState) (us : List laws.Job) (js : List AuditorJob) (ks : List laws.Job)
+    → JobsAre app js ks
     → item_given (with_jobs s us) ks ≡ jobs_item s js
 jobs_show app s us [] [] h = refl
 jobs_show app s us [] (k ∷ ks) h = absurd h
 jobs_show app s us (j ∷ js) [] h = absurd h
 jobs_show app s us (j ∷ js) (k ∷ ks) h = job_shows app s us j k h.0
 
-pub gives_shown : (app : App) (s : Held) (t : laws.State) → StateIs app s t → gives t ≡ held_item s
+pub gives_shown : (app : App) (s : AuditorState) (t : laws.State) → StateIs app s t → gives t ≡ held_item s
 gives_shown app s t h = ap (λ (u : laws.State). item_given u t.jobs) h.is ∙ jobs_show app s t.jobs s.jobs t.jobs h.jobs
 
-pub shows_right : (s : Held) (w : What) (r : Bool) → (IsTrue r ↔ (held_item s ≡ Some w)) → IsTrue r → (app : App)
+pub shows_right : (s : AuditorState) (w : What) (r : Bool) → (IsTrue r ↔ (held_item s ≡ Some w)) → IsTrue r
+    → (app : App)
     (t : laws.State) → StateIs app s t → gives t ≡ Some w
 shows_right s w r h holds app t is = gives_shown app s t is ∙ h.0 holds
 
-pub shows_wrong : (s : Held) (w : What) (r : Bool) → (IsTrue r ↔ (held_item s ≡ Some w)) → IsFalse r → (app : App)
+pub shows_wrong : (s : AuditorState) (w : What) (r : Bool) → (IsTrue r ↔ (held_item s ≡ Some w)) → IsFalse r
+    → (app : App)
     (t : laws.State) → StateIs app s t → gives t ≡ Some w → ⊥
 shows_wrong s w r h fails app t is gave =
     let holds : r ≡ true = h.1 (sym (gives_shown app s t is) ∙ gave) in absurd cc

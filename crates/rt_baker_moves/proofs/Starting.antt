@@ -3,7 +3,7 @@ use Rattle.std.proofs.Common.{◌≡◌, ◌≢◌, ◌^◌, ℕ, Bool, false, L
 use Rattle.std.proofs.Common.{replicate, Option, Some, None}
 use Rattle.std.proofs.Common.{if◌then◌else◌, refl, ap, ◌∙◌, sym, subst}
 use Rattle.rt_ids.specs.Lists.{is_empty}
-use Rattle.rt_ids.specs.Holder.{Guarded}
+use Rattle.rt_ids.specs.Location.{Guarded}
 use Rattle.rt_ids.specs.Content.{Message, Armed, Values, messages, delays}
 use Rattle.rt_ids.specs.Action.{Enters, Leaves, Posts, Clocks, Starts, Frees, Ends, Returns}
 use Rattle.rt_ids.specs.Doing.{Doing, over, does}
@@ -31,10 +31,10 @@ use Rattle.rt_baker_work.specs.Work.{Work, no_work, Becomes, IsSettled}
 use Rattle.rt_baker_work.specs.Handlers.{run_handler}
 use Rattle.rt_baker_moves.specs.declared.machine.Served.{Served}
 use Rattle.rt_baker_moves.specs.Machine.{IsServed}
-use Rattle.rt_baker_moves.specs.Job.{Kept, finish, rest_of, with_rest}
-use Rattle.rt_baker_moves.specs.State.{Held, StateIs}
+use Rattle.rt_baker_moves.specs.Job.{AuditorJob, finish, rest_of, with_rest}
+use Rattle.rt_baker_moves.specs.State.{AuditorState, StateIs}
 use Rattle.rt_baker_moves.specs.Inside.Acts.{held_with_job}
-use Rattle.rt_baker_moves.specs.Inside.Starts.{held_after_take, Begins, Launches}
+use Rattle.rt_baker_moves.specs.Inside.Starts.{held_after_take, IsViablePrefix, Launches}
 use Rattle.rt_baker_moves.proofs.Jobs.{kept}
 use Rattle.rt_baker_moves.proofs.Pending.{none_waiting, taken_from, taken_stands}
 use Rattle.rt_baker_moves.proofs.Acts.{settled_reaches, finish_reaches, Stands, with_first, moved_stands}
@@ -83,13 +83,13 @@ init_is app None vs = refl
 init_is app (Some b) vs = refl
 
 -- a job that is made of settled work
-pub job_begins : (app : App) (r : laws.Role) (p cost : ℕ) (j : Kept) (w v : Work) (was is : Store)
+pub job_begins : (app : App) (r : laws.Role) (p cost : ℕ) (j : AuditorJob) (w v : Work) (was is : Store)
     → Becomes app (λ later. later) w was v is → IsSettled v.todos → j ≡ kept r p v cost [] []
     → (first : Later → Later) (start : Work) → start ≡ no_work → Becomes app first start was w was
-    → Begins app r p cost first was j is
+    → IsViablePrefix app r p cost first was j is
 unfolding behind
 job_begins app r p cost j w v was is runs settles made_so first start empty becomes =
-    subst (λ (k : Kept). Begins app r p cost first was k is) (sym made_so)
+    subst (λ (k : AuditorJob). IsViablePrefix app r p cost first was k is) (sym made_so)
     (record {
       job = λ rest. refl;
       rest = sym
@@ -98,9 +98,10 @@ job_begins app r p cost j w v was is runs settles made_so first start empty beco
       settled = settles;
     })
 
-pub begins_as : (app : App) (r : laws.Role) (p q cost n : ℕ) (first : Later → Later) (was : Store) (j : Kept) (is :
+pub begins_as : (app : App) (r : laws.Role) (p q cost n : ℕ) (first : Later → Later) (was : Store) (j : AuditorJob)
+    (is :
     Store) → p ≡ q → cost ≡ n
-    → Begins app r p cost first was j is → Begins app r q n first was j is
+    → IsViablePrefix app r p cost first was j is → IsViablePrefix app r q n first was j is
 begins_as app r p q cost n first was j is at takes b = record {
   job = λ rest.
       b.job rest ∙ ap (λ (k : ℕ). laws.new_job r k cost rest) at ∙ ap (λ (k : ℕ). laws.new_job r q k rest) takes;
@@ -109,7 +110,7 @@ begins_as app r p q cost n first was j is at takes b = record {
 }
 
 -- with other jobs and other contents
-abbrev pub with_more : Held → List Kept → Store → Held
+abbrev pub with_more : AuditorState → List AuditorJob → Store → AuditorState
 with_more s jobs is = record {
   jobs = jobs;
   pending = s.pending;
@@ -121,21 +122,24 @@ with_more s jobs is = record {
 }
 
 -- it comes first of a state's jobs
-pub launched : (app : App) (r : laws.Role) (p q cost : ℕ) (first : Later → Later) (o s : Held) (j : Kept) (is : Store)
-    (js : List Kept) → o ≡ s → p ≡ q → js ≡ j ∷ o.jobs → Begins app r p cost first o.store j is
+pub launched : (app : App) (r : laws.Role) (p q cost : ℕ) (first : Later → Later) (o s : AuditorState) (j : AuditorJob)
+    (is : Store)
+    (js : List AuditorJob) → o ≡ s → p ≡ q → js ≡ j ∷ o.jobs → IsViablePrefix app r p cost first o.store j is
     → Launches app r q cost first s (with_more o js is)
 launched app r p q cost first o s j is js view at grown b = record {
   after = j;
   store = is;
-  begins = subst (λ (h : Held). Begins app r q cost first h.store j is) view (begins_as app r p q cost cost first
+  begins = subst (λ (h : AuditorState). IsViablePrefix app r q cost first h.store j is) view
+      (begins_as app r p q cost cost first
       o.store j is at refl b);
-  is = ap (λ (ks : List Kept). with_more o ks is) grown ∙ ap (λ (h : Held). held_with_job h j is) view;
+  is = ap (λ (ks : List AuditorJob). with_more o ks is) grown ∙ ap (λ (h : AuditorState). held_with_job h j is) view;
 }
 
 -- it is a job that the machine begins
-begins_stand : (app : App) (r : laws.Role) (p cost : ℕ) (first : Later → Later) (was is : Store) (j : Kept) (rest :
+begins_stand : (app : App) (r : laws.Role) (p cost : ℕ) (first : Later → Later) (was is : Store) (j : AuditorJob)
+    (rest :
     Doing Values) (us : Values)
-    → r ≢ laws.Waiting → Begins app r p cost first was j is → rest ≡ first (finish r) [] (contents was)
+    → r ≢ laws.Waiting → IsViablePrefix app r p cost first was j is → rest ≡ first (finish r) [] (contents was)
     → Stands app j is (laws.new_job r p cost rest) (reached_values rest us)
 begins_stand app r p cost first was is j rest us busy b alike =
     let role : j.role ≡ r = ap (λ (l : laws.Job). l.role) (b.job over) in
@@ -155,7 +159,7 @@ begins_stand app r p cost first was is j rest us busy b alike =
     }
 
 -- the state after reset
-abbrev pub held : List Kept → List Bool → List ℕ → Store → Held
+abbrev pub held : List AuditorJob → List Bool → List ℕ → Store → AuditorState
 held jobs pending waiting store = record {
   jobs = jobs;
   pending = pending;
@@ -166,22 +170,23 @@ held jobs pending waiting store = record {
   owing = false;
 }
 
-abbrev pub reset : List Kept → Store → Held
+abbrev pub reset : List AuditorJob → Store → AuditorState
 reset jobs store = held jobs (replicate IRQ_NUMBERS false) [] store
 
-pub reset_is : (j : Kept) (jobs none : List Kept) (pending : List Bool) (waiting : List ℕ) (store : Store)
+pub reset_is : (j : AuditorJob) (jobs none : List AuditorJob) (pending : List Bool) (waiting : List ℕ) (store : Store)
     → jobs ≡ none ++ j ∷ [] → none ≡ [] → pending ≡ replicate IRQ_NUMBERS false → waiting ≡ []
     → held jobs pending waiting store ≡ reset (j ∷ []) store
 reset_is j jobs none pending waiting store grown empty quiet free =
     ap (λ (ps : List Bool). held jobs ps waiting store) quiet
     ∙ ap (λ (irqs : List ℕ). held jobs (replicate IRQ_NUMBERS false) irqs store) free
-    ∙ ap (λ (js : List Kept). reset js store) (grown ∙ ap (λ (js : List Kept). js ++ j ∷ []) empty)
+    ∙ ap (λ (js : List AuditorJob). reset js store) (grown ∙ ap (λ (js : List AuditorJob). js ++ j ∷ []) empty)
 
 init_works : laws.Init ≢ laws.Waiting
 init_works e = cc
 
-pub first_stands : (app : App) (was is : Store) (j : Kept) (s : Held)
-    → Begins app laws.Init (2 ^ app.bits) (cost_of (cost_measure app) app.init) (enter_body app app.init []) was j is
+pub first_stands : (app : App) (was is : Store) (j : AuditorJob) (s : AuditorState)
+    → IsViablePrefix app laws.Init (2 ^ app.bits) (cost_of (cost_measure app) app.init) (enter_body app app.init []) was
+    j is
     → contents was ≡ first_values app → s ≡ reset (j ∷ []) is → StateIs app s (laws.first app)
 first_stands app was is j s b fills made_so =
     let rest : Doing Values = init_doing app (first_values app) in
@@ -189,7 +194,7 @@ first_stands app was is j s b fills made_so =
     app.init []) was is j rest (first_values app) init_works b
     (init_is app app.init (first_values app)
     ∙ ap (λ (vs : Values). enter_body app app.init [] (finish laws.Init) [] vs) (sym fills)) in
-    subst (λ (h : Held). StateIs app h (laws.first app)) (sym made_so)
+    subst (λ (h : AuditorState). StateIs app h (laws.first app)) (sym made_so)
     (record {
       jobs = (stands.job, tt);
       is = ap (λ (vs : Values). record {
@@ -207,7 +212,7 @@ first_stands app was is j s b fills made_so =
 serving_works : (irq : ℕ) → laws.Serving irq ≢ laws.Waiting
 serving_works irq e = cc
 
-handler_stands : (app : App) (irq p cost : ℕ) (h : Handler) (v : Service) (s new : Held) (t : laws.State)
+handler_stands : (app : App) (irq p cost : ℕ) (h : Handler) (v : Service) (s new : AuditorState) (t : laws.State)
     → h ≡ v.handler → p ≡ v.priority → cost ≡ handler_cost app v.handler
     → Launches app (laws.Serving irq) p cost (run_handler app h) s new → StateIs app s t
     → StateIs app new (machine.state_after_start app t irq (Some v))
@@ -222,7 +227,7 @@ handler_stands app irq p cost h v s new t does_it at takes l held =
     ∙ ap (λ (u : laws.State). run_handler app h (finish (laws.Serving irq)) [] u.values) held.is) in
     let moves = moved_stands app s t _ t.jobs _ l.after l.after l.store held.is held.waiting stands
     held.jobs in
-    subst (λ (k : Held). StateIs app k (machine.state_after_start app t irq (Some v))) (sym l.is)
+    subst (λ (k : AuditorState). StateIs app k (machine.state_after_start app t irq (Some v))) (sym l.is)
     (subst (λ (n : ℕ). StateIs app (held_with_job s l.after l.store) (with_first t (laws.new_job (laws.Serving irq) n
     (handler_cost app v.handler) rest) t.jobs (reached_values rest t.values))) at
     (subst (λ (n : ℕ). StateIs app (held_with_job s l.after l.store)
@@ -230,7 +235,7 @@ handler_stands app irq p cost h v s new t does_it at takes l held =
     t.jobs (reached_values rest t.values))) takes moves))
 
 -- an interrupt is taken: nothing serves it, or its handler starts
-pub none_taken : (app : App) → IsAccepted app → (irq : ℕ) (o : Option Served) (s mid : Held)
+pub none_taken : (app : App) → IsAccepted app → (irq : ℕ) (o : Option Served) (s mid : AuditorState)
     → IsServed app o (service_at app irq) → o ≡ None → mid ≡ held_after_take irq s → (depth : ℕ) (t : laws.State)
     → StateIs app s t → StateIs app mid (machine.after app t (Stepped (Some (what.Take irq depth))))
 none_taken app accepted irq o s mid serves none cleared depth t h = go (service_at app irq) (subst (λ (x : Option
@@ -239,10 +244,12 @@ none_taken app accepted irq o s mid serves none cleared depth t h = go (service_
     go : (v : Option Service) → IsServed app None v → StateIs app mid
         (machine.state_after_start app (taken_from irq t) irq v)
     go None is =
-        subst (λ (k : Held). StateIs app k (taken_from irq t)) (sym cleared) (taken_stands app accepted irq s t h)
+        subst (λ (k : AuditorState). StateIs app k (taken_from irq t)) (sym cleared)
+        (taken_stands app accepted irq s t h)
     go (Some v) is = absurd is
 
-pub one_taken : (app : App) → IsAccepted app → (irq : ℕ) (o : Option Served) (served : Served) (s mid new : Held)
+pub one_taken : (app : App) → IsAccepted app
+    → (irq : ℕ) (o : Option Served) (served : Served) (s mid new : AuditorState)
     → IsServed app o (service_at app irq) → o ≡ Some served → mid ≡ held_after_take irq s
     → Launches app (laws.Serving irq) served.priority served.cost (run_handler app (handler_of served.handler)) mid new
     → (depth : ℕ) (t : laws.State) → StateIs app s t
@@ -256,4 +263,5 @@ one_taken app accepted irq o served s mid new serves one cleared l depth t h = g
     go (Some v) is =
         handler_stands app irq served.priority served.cost (handler_of served.handler) v mid new (taken_from irq t) is.0
         is.1 is.2 l
-        (subst (λ (k : Held). StateIs app k (taken_from irq t)) (sym cleared) (taken_stands app accepted irq s t h))
+        (subst (λ (k : AuditorState). StateIs app k (taken_from irq t)) (sym cleared)
+        (taken_stands app accepted irq s t h))

@@ -8,8 +8,8 @@ use Rattle.rt_lemmas.proofs.Bools.{and_parts, and_both, true_and_false}
 use Rattle.rt_app.specs.Tree.{App}
 use Rattle.rt_laws.specs.Silent.{HasSteps, MaySpend}
 use Rattle.rt_laws.specs.State as laws
-use Rattle.rt_baker_moves.specs.Job.{Kept, rest_of, with_rest}
-use Rattle.rt_baker_moves.specs.State.{Held, JobsAre, StateIs}
+use Rattle.rt_baker_moves.specs.Job.{AuditorJob, rest_of, with_rest}
+use Rattle.rt_baker_moves.specs.State.{AuditorState, JobsAre, StateIs}
 use Rattle.rt_baker_moves.specs.Inside.SystemCeiling.{has_steps, may_spend, first_may_spend}
 
 steps_there : (r : laws.Role) (left k : ℕ) → has_steps r left k ≡ true → HasSteps r left k
@@ -38,7 +38,7 @@ abbrev MaySpendOne : ℕ → laws.Job → Type 0
 MaySpendOne k job = HasSteps job.role job.left k × AllByRecursion (λ n. k ≤ n) job.lefts
 
 module _ (app : App) (k : ℕ) where
-  spends : (js : List Kept) (ks : List laws.Job) → JobsAre app js ks → first_may_spend k js ≡ true → MaySpend k ks
+  spends : (js : List AuditorJob) (ks : List laws.Job) → JobsAre app js ks → first_may_spend k js ≡ true → MaySpend k ks
   spends [] ks h e = absurd cc
   spends (j ∷ js) [] h e = absurd h
   spends (j ∷ js) (job ∷ others) h e =
@@ -48,7 +48,7 @@ module _ (app : App) (k : ℕ) where
         all_there k j.lefts parts.1,
       )
 
-  told : (js : List Kept) (ks : List laws.Job) → JobsAre app js ks → MaySpend k ks → first_may_spend k js ≡ true
+  told : (js : List AuditorJob) (ks : List laws.Job) → JobsAre app js ks → MaySpend k ks → first_may_spend k js ≡ true
   told [] [] h may = absurd may
   told [] (job ∷ others) h may = absurd h
   told (j ∷ js) [] h may = absurd h
@@ -58,20 +58,20 @@ module _ (app : App) (k : ℕ) where
       and_both (has_steps j.role j.left k) (list_all (nat_le k) j.lefts) (steps_told j.role j.left k own.0) (all_told
       k j.lefts own.1)
 
-  pub may : (s : Held) (b : Bool) → b ≡ first_may_spend k s.jobs → b ≡ true → (t : laws.State) → StateIs app s t
+  pub may : (s : AuditorState) (b : Bool) → b ≡ first_may_spend k s.jobs → b ≡ true → (t : laws.State) → StateIs app s t
       → MaySpend k t.jobs
   may s b is holds t h = spends s.jobs t.jobs h.jobs (sym is ∙ holds)
 
-  pub may_not : (s : Held) (b : Bool) → b ≡ first_may_spend k s.jobs → b ≡ false → (t : laws.State)
+  pub may_not : (s : AuditorState) (b : Bool) → b ≡ first_may_spend k s.jobs → b ≡ false → (t : laws.State)
       → StateIs app s t → MaySpend k t.jobs → ⊥
   may_not s b is fails t h spends = true_and_false b (is ∙ told s.jobs t.jobs h.jobs spends) fails
 
 -- the job that stands first runs
-pub first_there : (k : ℕ) (js all : List Kept) (j : Kept) → js ≡ all → slice_get js 0 ≡ Some j
+pub first_there : (k : ℕ) (js all : List AuditorJob) (j : AuditorJob) → js ≡ all → slice_get js 0 ≡ Some j
     → may_spend k j ≡ first_may_spend k all
 first_there k js all j same at =
-    sym (of_first js at) ∙ ap (λ (is : List Kept). first_may_spend k is) same
+    sym (of_first js at) ∙ ap (λ (is : List AuditorJob). first_may_spend k is) same
   where
-    of_first : (is : List Kept) → slice_get is 0 ≡ Some j → first_may_spend k is ≡ may_spend k j
+    of_first : (is : List AuditorJob) → slice_get is 0 ≡ Some j → first_may_spend k is ≡ may_spend k j
     of_first [] at = absurd (none-some j at)
-    of_first (i ∷ is) at = ap (λ (l : Kept). may_spend k l) (same_Some i j at)
+    of_first (i ∷ is) at = ap (λ (l : AuditorJob). may_spend k l) (same_Some i j at)

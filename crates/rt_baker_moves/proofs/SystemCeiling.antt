@@ -11,14 +11,14 @@ use Rattle.rt_app.specs.Tree.{App}
 use Rattle.rt_laws.specs.Preemption.{greatest_ceiling, system_ceiling, goes_before, candidate}
 use Rattle.rt_laws.specs.Services.{priority_of}
 use Rattle.rt_laws.specs.State as laws
-use Rattle.rt_baker_moves.specs.Job.{Kept}
-use Rattle.rt_baker_moves.specs.State.{Held, JobsAre, StateIs}
+use Rattle.rt_baker_moves.specs.Job.{AuditorJob}
+use Rattle.rt_baker_moves.specs.State.{AuditorState, JobsAre, StateIs}
 use Rattle.rt_baker_moves.specs.Waiting.{waits, waiting_irqs}
 use Rattle.rt_baker_moves.specs.Inside.SystemCeiling.{job_threshold, kept_ceiling}
 use Rattle.rt_baker_moves.specs.Inside.Waiting.{if_above}
 use Rattle.rt_baker_moves.proofs.Waiting.{first_ordered, over_best}
 
-pub ceiling_is : (app : App) (js : List Kept) (ks : List laws.Job) → JobsAre app js ks → system_ceiling app ks
+pub ceiling_is : (app : App) (js : List AuditorJob) (ks : List laws.Job) → JobsAre app js ks → system_ceiling app ks
     ≡ kept_ceiling app js
 ceiling_is app [] [] h = refl
 ceiling_is app [] (k ∷ ks) h = absurd h
@@ -42,14 +42,15 @@ pub sections_next : (app : App) (p : ℕ) (xs ys : List Section) (i : ℕ) (x : 
 sections_next app p xs ys i x most c u new same within is so_far here wide step =
     let more = greatest_next (ceiling app) xs ys i x same within is in omega arith
 
-pub jobs_next : (app : App) (js ks : List Kept) (i : ℕ) (j : Kept) (most here new : ℕ) → ks ≡ js → i < length ks
+pub jobs_next : (app : App) (js ks : List AuditorJob) (i : ℕ) (j : AuditorJob) (most here new : ℕ) → ks ≡ js → i
+    < length ks
     → j ≡ get_or ks i j → most ≡ kept_ceiling app (take i js) → here ≡ job_threshold app j → new ≡ max most here
     → new ≡ kept_ceiling app (take (i + 1) js)
 jobs_next app js ks i j most here new same within is so_far own step =
     let more = greatest_next (job_threshold app) js ks i j same within is in omega arith
 
 -- the first of those that wait, where it is above the system ceiling
-pub candidate_is : (app : App) (s : Held) (t : laws.State) (o : Option ℕ) → StateIs app s t
+pub candidate_is : (app : App) (s : AuditorState) (t : laws.State) (o : Option ℕ) → StateIs app s t
     → o ≡ if_above (priority_of app) (kept_ceiling app s.jobs) (slice_get s.waiting 0) → o ≡ candidate app t
 unfolding waiting_irqs
 candidate_is app s t o h is =

@@ -23,7 +23,7 @@ role_of role.Waiting = laws.Waiting
 role_of (role.Serving irq) = laws.Serving irq
 
 -- what an auditor keeps of a job
-pub record Kept : Type 0 where
+pub record AuditorJob : Type 0 where
   pub role : laws.Role
   pub priority : ℕ
   pub work : Work
@@ -40,11 +40,11 @@ finish (laws.Serving irq) vars = act Returns (λ vs. over)
 
 module _ (app : App) where
   -- what it has left to do, from these values on
-  abbrev pub rest_of : Kept → Values → Doing Values
+  abbrev pub rest_of : AuditorJob → Values → Doing Values
   rest_of j vs = behind app j.work.todos (finish j.role) j.work.vars vs
 
   -- the job that is kept, where this is left to do
-  abbrev pub with_rest : Kept → Doing Values → laws.Job
+  abbrev pub with_rest : AuditorJob → Doing Values → laws.Job
   with_rest j rest = record {
     role = j.role;
     priority = j.priority;
@@ -56,7 +56,7 @@ module _ (app : App) where
   }
 
   -- The job that is kept. It came to its action with some values, which others may have changed since.
-  pub record JobIs (j : Kept) (k : laws.Job) : Type 0 where
+  pub record JobIs (j : AuditorJob) (k : laws.Job) : Type 0 where
     pub values : Values
     pub is : k ≡ with_rest j (rest_of j values)
     pub settled : IsSettled j.work.todos

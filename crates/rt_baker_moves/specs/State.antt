@@ -4,13 +4,13 @@ use Rattle.std.specs.Prelude.{◌≡◌, ℕ, ◌-◌, ◌^◌, ◌<◌, Bool, L
 use Rattle.rt_app.specs.Tree.{App}
 use Rattle.rt_laws.specs.State as laws
 use Rattle.rt_baker_work.specs.Store.{Store, contents, HasRoom}
-use Rattle.rt_baker_moves.specs.Job.{Kept, JobIs}
+use Rattle.rt_baker_moves.specs.Job.{AuditorJob, JobIs}
 use Rattle.rt_baker_moves.specs.Waiting.{waiting_irqs}
 
 -- what an auditor keeps of a state
-pub record Held : Type 0 where
+pub record AuditorState : Type 0 where
   -- the last started first
-  pub jobs : List Kept
+  pub jobs : List AuditorJob
   -- by interrupt number
   pub pending : List Bool
   -- the pending interrupts that something serves, by their numbers, in the order in which they would be taken
@@ -21,12 +21,12 @@ pub record Held : Type 0 where
   pub owing : Bool
 
 -- No count is so great that it could not rise.
-pub record IsEarly (s : Held) : Type 0 where
+pub record IsEarly (s : AuditorState) : Type 0 where
   pub time : s.time < 2 ^ 32 - 1
   pub store : HasRoom s.store
 
 -- a state with these jobs
-abbrev pub with_jobs : Held → List laws.Job → laws.State
+abbrev pub with_jobs : AuditorState → List laws.Job → laws.State
 with_jobs s jobs = record {
   jobs = jobs;
   pending = s.pending;
@@ -38,14 +38,14 @@ with_jobs s jobs = record {
 }
 
 -- these jobs are kept, one by one
-abbrev pub JobsAre : App → List Kept → List laws.Job → Type 0
+abbrev pub JobsAre : App → List AuditorJob → List laws.Job → Type 0
 JobsAre app [] [] = Unit {0}
 JobsAre app [] (k ∷ ks) = ⊥
 JobsAre app (j ∷ js) [] = ⊥
 JobsAre app (j ∷ js) (k ∷ ks) = JobIs app j k × JobsAre app js ks
 
 -- a state is the one that is kept: job by job, with all else equal, and with the interrupts that wait in order
-pub record StateIs (app : App) (s : Held) (t : laws.State) : Type 0 where
+pub record StateIs (app : App) (s : AuditorState) (t : laws.State) : Type 0 where
   pub jobs : JobsAre app s.jobs t.jobs
   pub is : t ≡ with_jobs s t.jobs
   pub waiting : s.waiting ≡ waiting_irqs app s.pending

@@ -40,11 +40,11 @@ pub(crate) struct Job<'a> {
 }
 
 impl<'a> Model for Job<'a> {
-    ghost use Rattle.rt_baker_moves.specs.Job.{Kept, role_of};
+    ghost use Rattle.rt_baker_moves.specs.Job.{AuditorJob, role_of};
     ghost use Rattle.rt_app.specs.contracts.stmt.Stmt as stmt;
     ghost use Rattle.std.specs.Coded.{codes};
 
-    ghost Value = { Kept };
+    ghost Value = { AuditorJob };
 
     ghost coded = { Prim.hlevel (codes, stmt.the_row.coded) };
 

@@ -40,11 +40,11 @@ pub struct State<'a> {
 }
 
 impl<'a> Model for State<'a> {
-    ghost use Rattle.rt_baker_moves.specs.State.{Held};
+    ghost use Rattle.rt_baker_moves.specs.State.{AuditorState};
     ghost use Rattle.rt_app.specs.contracts.stmt.Stmt as stmt;
     ghost use Rattle.std.specs.Coded.{codes};
 
-    ghost Value = { Held };
+    ghost Value = { AuditorState };
 
     ghost coded = { Prim.hlevel (codes, stmt.the_row.coded) };
 

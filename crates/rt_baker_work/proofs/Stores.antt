@@ -10,7 +10,7 @@ use Rattle.std.specs.List.{position_or_len, remove, slice_get}
 use Rattle.std.specs.Option.{option_and_then}
 use Rattle.rt_ids.proofs.Lists.{find_by_position}
 use Rattle.rt_lemmas.proofs.Lists.{mapped_read}
-use Rattle.rt_ids.specs.Holder.{Holder, Guarded, Own}
+use Rattle.rt_ids.specs.Location.{Location, Guarded, Own}
 use Rattle.rt_ids.specs.Content.{Message, Armed, Timed, Content, Number, Messages, Delays, Values, values_with}
 use Rattle.rt_ids.specs.Content.{timer_content}
 use Rattle.rt_ids.specs.Content.{without_least, has_handle, without_handle, postponed_message, message_of_handle}
@@ -32,7 +32,7 @@ pub set_shared : (s : Store) (r n : ℕ) → r < length s.shared
 unfolding contents
 set_shared s r n within = λ i h. each h i
   where
-    each : (h : Holder) → contents (record s { shared = set s.shared r n }) h ≡ values_with (contents s) (Guarded
+    each : (h : Location) → contents (record s { shared = set s.shared r n }) h ≡ values_with (contents s) (Guarded
         (section.Res r)) (Number n) h
     each (Guarded (section.Res a)) = at_index Number s.shared r a n 0 within
     each (Guarded (section.Free a)) = refl
@@ -45,7 +45,8 @@ pub set_local : (s : Store) (r n : ℕ) → r < length s.locals
 unfolding contents
 set_local s r n within = λ i h. each h i
   where
-    each : (h : Holder) → contents (record s { locals = set s.locals r n }) h ≡ values_with (contents s) (Own r) (Number
+    each : (h : Location) → contents (record s { locals = set s.locals r n }) h
+        ≡ values_with (contents s) (Own r) (Number
         n) h
     each (Guarded (section.Res a)) = refl
     each (Guarded (section.Free a)) = refl
@@ -78,7 +79,7 @@ pub set_out : (s : Store) (r n : ℕ) → r < length s.out
 unfolding contents
 set_out s r n within = λ i h. each h i
   where
-    each : (h : Holder) → contents (record s { out = set s.out r n }) h ≡ values_with (contents s) (Guarded
+    each : (h : Location) → contents (record s { out = set s.out r n }) h ≡ values_with (contents s) (Guarded
         (section.Free r)) (Number n) h
     each (Guarded (section.Res a)) = refl
     each (Guarded (section.Free a)) = at_index Number s.out r a n 0 within
@@ -92,7 +93,7 @@ pub set_ready : (s : Store) (p : ℕ) (ms : List Message) → p < length s.ready
 unfolding contents
 set_ready s p ms within = λ i h. each h i
   where
-    each : (h : Holder) → contents (record s { ready = set s.ready p ms }) h ≡ values_with (contents s) (Guarded
+    each : (h : Location) → contents (record s { ready = set s.ready p ms }) h ≡ values_with (contents s) (Guarded
         (section.Ready p)) (Messages ms) h
     each (Guarded (section.Res a)) = refl
     each (Guarded (section.Free a)) = refl
@@ -105,7 +106,7 @@ pub set_timed : (s : Store) (t : Timed)
 unfolding contents
 set_timed s t = λ i h. each h i
   where
-    each : (h : Holder) → contents (record s { timed = t }) h ≡ values_with (contents s) (Guarded section.Timer)
+    each : (h : Location) → contents (record s { timed = t }) h ≡ values_with (contents s) (Guarded section.Timer)
         (Delays t) h
     each (Guarded (section.Res a)) = refl
     each (Guarded (section.Free a)) = refl

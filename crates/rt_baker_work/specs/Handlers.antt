@@ -2,7 +2,7 @@
 -- definitions (`rt_app`) the return of a handler is a part of what it does; here it comes after all that there is to
 -- do.
 use Rattle.std.specs.Prelude.{[]}
-use Rattle.rt_ids.specs.Holder.{Guarded}
+use Rattle.rt_ids.specs.Location.{Guarded}
 use Rattle.rt_ids.specs.Content.{messages}
 use Rattle.rt_ids.specs.Action.{Enters, Clocks}
 use Rattle.rt_ids.specs.Doing.{does}

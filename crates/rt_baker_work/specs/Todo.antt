@@ -4,7 +4,7 @@
 use Rattle.std.specs.Prelude.{ℕ, ◌-◌, List, [], ◌∷◌, ◌++◌, replicate, slice_get, slice_set, Option, Some}
 use Rattle.std.specs.Prelude.{None, if◌then◌else◌}
 use Rattle.rt_ids.specs.Lists.{is_empty, then_from}
-use Rattle.rt_ids.specs.Holder.{Guarded}
+use Rattle.rt_ids.specs.Location.{Guarded}
 use Rattle.rt_ids.specs.Content.{Message, Armed, messages, timer_content, delays}
 use Rattle.rt_ids.specs.Action.{Enters, Leaves, Posts, Clocks, Places, FindsFull, Starts, Frees, Arms, Fires}
 use Rattle.rt_ids.specs.Action.{Cancels, Moves, SetsAlarm, Ends}

@@ -1,7 +1,7 @@
 ghost use Rattle.std.specs.Prelude.{◌≡◌, ◌≤◌, ◌++◌, OnOk, drop, is_some, length, map, slice_index};
 ghost use Rattle.rt_ids.specs.Action.{effect, Places, Frees, Readies, Starts, Arms, Fires, Cancels, Moves};
 ghost use Rattle.rt_ids.specs.Content as content;
-ghost use Rattle.rt_ids.specs.Holder.{Guarded, Own};
+ghost use Rattle.rt_ids.specs.Location.{Guarded, Own};
 ghost use Rattle.rt_ids.specs.Content.{Number, number, messages, timer_content, delays, nothing_armed, values_with};
 ghost use Rattle.rt_ids.specs.Content.{message_of_handle, postponed_message, without_handle};
 ghost use Rattle.rt_ids.specs.declared.ids.Section.TheVariants as section;
@@ -175,7 +175,7 @@ impl Store {
     }
 
     /// A place of a task is taken.
-    pub(crate) fn take_place(&mut self, task: TaskId)
+    pub(crate) fn place_one(&mut self, task: TaskId)
         requires { HasRoom self.old }
         ensures { contents self.new ≡ effect (Places task) (contents self.old) }
     {
@@ -185,7 +185,7 @@ impl Store {
     }
 
     /// A place of a task is given back.
-    pub(crate) fn give_back(&mut self, task: TaskId)
+    pub(crate) fn free_one(&mut self, task: TaskId)
         ensures { contents self.new ≡ effect (Frees task) (contents self.old) }
     {
         let index = usize::from(task.0);
@@ -268,7 +268,7 @@ impl Store {
             Action::Emit(_value) => Ok(()),
             Action::Post(_irq) => Ok(()),
             Action::Place(task) => {
-                self.take_place(task);
+                self.place_one(task);
                 Ok(())
             }
             Action::Full(_task) => Ok(()),
@@ -281,7 +281,7 @@ impl Store {
                 Ok(())
             }
             Action::Free(task) => {
-                self.give_back(task);
+                self.free_one(task);
                 Ok(())
             }
             Action::Arm(instant, message) => {

@@ -6,11 +6,12 @@ use Rattle.rt_ids.specs.Storage.{Storage, Runner}
 use Rattle.rt_ids.specs.declared.ids.BodyId.{BodyId}
 use Rattle.rt_ids.specs.declared.ids.BodyId.TheVariants as body
 use Rattle.rt_ids.specs.declared.ids.Section.{Section}
-use Rattle.rt_code.specs.Owning.{Spot}
+use Rattle.rt_code.specs.Owning.{Configuration}
 use Rattle.rt_code.specs.Acting.{Acts, SetsTheAlarm, Noted}
-use Rattle.rt_code.specs.Masking.{GoesIn, ComesOut}
+use Rattle.rt_code.specs.Masking.{EntersSection, LeavesSection}
 use Rattle.rt_code.specs.Processor.{Effect, Traps, Leads}
-use Rattle.rt_code.specs.Standing.{Finishes, Calls, ComesBack, EndsBody, Asks, Goes, Does, Fits, LineFits, spot_behind}
+use Rattle.rt_code.specs.Standing.{Finishes, Calls, ComesBack, EndsBody, Asks, Goes, Does, Fits, LineFits}
+use Rattle.rt_code.specs.Standing.{configuration_after}
 use Rattle.rt_code.specs.declared.image.BodyRow.{BodyRow}
 use Rattle.rt_code.specs.declared.instr.Instr.{Instr}
 use Rattle.rt_code.specs.declared.instr.Note.{Note}
@@ -24,12 +25,13 @@ pub record Serves (R : List ℕ → List ℕ → Type 0) : Type 0 where
   pub fewer : (ls ms : List ℕ) → R ls ms → R (drop 1 ls) (drop 1 ms)
 
 -- what held of a place holds of it with other `lefts`
-abbrev pub Carries : (List ℕ → List ℕ → Type 0) → (Spot → Type 0) → (Spot → Type 0) → Type 0
-Carries R later other = (s : Spot) (lefts : List ℕ) → R s.lefts lefts → later s → other (record s { lefts = lefts })
+abbrev pub Carries : (List ℕ → List ℕ → Type 0) → (Configuration → Type 0) → (Configuration → Type 0) → Type 0
+Carries R later other = (s : Configuration) (lefts : List ℕ) → R s.lefts lefts → later s
+    → other (record s { lefts = lefts })
 
 module _ (st : Storage) (bodies : List BodyRow) (who : Runner) (R : List ℕ → List ℕ → Type 0) (serves : Serves R)
-    (later other : Spot → Type 0) (carry : Carries R later other) where
-  pub acts_later : (action : Action) (answer : ℕ) (s : Spot) (lefts : List ℕ) → R s.lefts lefts
+    (later other : Configuration → Type 0) (carry : Carries R later other) where
+  pub acts_later : (action : Action) (answer : ℕ) (s : Configuration) (lefts : List ℕ) → R s.lefts lefts
       → Acts st bodies who action answer s later → Acts st bodies who action answer (record s { lefts = lefts }) other
   acts_later action answer s lefts r a = record {
     values = a.values;
@@ -38,7 +40,7 @@ module _ (st : Storage) (bodies : List BodyRow) (who : Runner) (R : List ℕ →
     on = λ vs same. carry (record s { rest = a.follows answer (effect action vs) }) lefts r (a.on vs same);
   }
 
-  pub alarm_later : (instant : Option ℕ) (s : Spot) (lefts : List ℕ) → R s.lefts lefts
+  pub alarm_later : (instant : Option ℕ) (s : Configuration) (lefts : List ℕ) → R s.lefts lefts
       → SetsTheAlarm st bodies who instant s later → SetsTheAlarm st bodies who instant (record s { lefts = lefts })
       other
   unfolding acts_later
@@ -49,7 +51,8 @@ module _ (st : Storage) (bodies : List BodyRow) (who : Runner) (R : List ℕ →
         a.least;
   }
 
-  pub noted_later : (told : Note) (s : Spot) (lefts : List ℕ) → R s.lefts lefts → Noted st bodies who told s later
+  pub noted_later : (told : Note) (s : Configuration) (lefts : List ℕ) → R s.lefts lefts
+      → Noted st bodies who told s later
       → Noted st bodies who told (record s { lefts = lefts }) other
   noted_later (note.Placed t) s lefts r a = record {
     entry = a.entry;
@@ -137,8 +140,9 @@ module _ (st : Storage) (bodies : List BodyRow) (who : Runner) (R : List ℕ →
   }
   noted_later told s lefts r a = absurd a
 
-  pub enters_later : (x : Section) (i : Instr) (s : Spot) (lefts : List ℕ) → R s.lefts lefts → GoesIn st who x i s later
-      → GoesIn st who x i (record s { lefts = lefts }) other
+  pub enters_later : (x : Section) (i : Instr) (s : Configuration) (lefts : List ℕ) → R s.lefts lefts
+      → EntersSection st who x i s later
+      → EntersSection st who x i (record s { lefts = lefts }) other
   enters_later x i s lefts r g = record {
     cost = g.cost;
     values = g.values;
@@ -155,14 +159,14 @@ module _ (st : Storage) (bodies : List BodyRow) (who : Runner) (R : List ℕ →
         (g.on saved vs cells queues (record {
           agree = over.agree;
           same = record { long = over.same.long; touched = over.same.touched; queued = over.same.queued };
-          spelled = over.spelled;
+          represented = over.represented;
           once = over.once;
           few = over.few;
         }));
   }
 
-  pub leaves_later : (x : Section) (i : Instr) (s : Spot) (lefts : List ℕ) → R s.lefts lefts
-      → ComesOut st who x i s later → ComesOut st who x i (record s { lefts = lefts }) other
+  pub leaves_later : (x : Section) (i : Instr) (s : Configuration) (lefts : List ℕ) → R s.lefts lefts
+      → LeavesSection st who x i s later → LeavesSection st who x i (record s { lefts = lefts }) other
   leaves_later x i s lefts r g = record {
     values = g.values;
     follows = g.follows;
@@ -171,13 +175,14 @@ module _ (st : Storage) (bodies : List BodyRow) (who : Runner) (R : List ℕ →
     outer = g.outer;
     innermost = g.innermost;
     closes = g.closes;
-    spelled = g.spelled;
+    represented = g.represented;
     on = λ vs same. carry _ (drop 1 lefts) (serves.fewer s.lefts lefts r) (g.on vs same);
   }
 
   -- the code that a line stands in is not read by the line
   module _ (code more : List (Instr × Option Note)) (thread : ℕ) where
-    pub finishes_later : (action : Action) (s : Spot) (lefts : List ℕ) → Finishes st code bodies thread who action s
+    pub finishes_later : (action : Action) (s : Configuration) (lefts : List ℕ)
+        → Finishes st code bodies thread who action s
         → Finishes st more bodies thread who action (record s { lefts = lefts })
     finishes_later action s lefts f = record {
       values = f.values;
@@ -186,10 +191,10 @@ module _ (st : Storage) (bodies : List BodyRow) (who : Runner) (R : List ℕ →
       closed = f.closed;
       empty = f.empty;
       own_frame = f.own_frame;
-      spelled = f.spelled;
+      represented = f.represented;
     }
 
-    pub calls_later : (row from : ℕ) (s : Spot) (lefts : List ℕ) → R s.lefts lefts
+    pub calls_later : (row from : ℕ) (s : Configuration) (lefts : List ℕ) → R s.lefts lefts
         → Calls st code bodies thread who row from s later → Calls st more bodies thread who row from
         (record s { lefts = lefts }) other
     calls_later row from s lefts r c = record {
@@ -201,7 +206,7 @@ module _ (st : Storage) (bodies : List BodyRow) (who : Runner) (R : List ℕ →
       on = carry _ lefts r c.on;
     }
 
-    pub back_later : (t : ℕ) (s : Spot) (lefts : List ℕ) → R s.lefts lefts
+    pub back_later : (t : ℕ) (s : Configuration) (lefts : List ℕ) → R s.lefts lefts
         → ComesBack st code bodies thread who t s later → ComesBack st more bodies thread who t
         (record s { lefts = lefts }) other
     back_later t s lefts r c = record {
@@ -212,14 +217,14 @@ module _ (st : Storage) (bodies : List BodyRow) (who : Runner) (R : List ℕ →
           acts_later _ 0 _ lefts r c.acts;
     }
 
-    pub ends_later : (b : BodyId) (i : Instr) (s : Spot) (lefts : List ℕ) → R s.lefts lefts
+    pub ends_later : (b : BodyId) (i : Instr) (s : Configuration) (lefts : List ℕ) → R s.lefts lefts
         → EndsBody st code bodies thread who b i s later → EndsBody st more bodies thread who b i
         (record s { lefts = lefts }) other
     ends_later body.Init i s lefts r (serve, starts, on, f) = (serve, starts, on, finishes_later _ s lefts f)
     ends_later body.Idle i s lefts r (jump, idle, f) = (jump, idle, finishes_later _ s lefts f)
     ends_later (body.Task t) i s lefts r (back, c) = (back, back_later t s lefts r c)
 
-    pub asks_later : (asked : Request) (told : Option Note) (s : Spot) (lefts : List ℕ) → R s.lefts lefts
+    pub asks_later : (asked : Request) (told : Option Note) (s : Configuration) (lefts : List ℕ) → R s.lefts lefts
         → Asks st code bodies thread who asked told s later → Asks st more bodies thread who asked told
         (record s { lefts = lefts }) other
     asks_later request.Nothing None s lefts r a = carry s lefts r a
@@ -234,15 +239,16 @@ module _ (st : Storage) (bodies : List BodyRow) (who : Runner) (R : List ℕ →
     asks_later request.Back None s lefts r a = absurd a
     asks_later asked (Some told) s lefts r a = absurd a
 
-    pub goes_later : (told : Option Note) (basepri : ℕ) (primask : Bool) (e : Effect) (s : Spot) (lefts : List ℕ)
+    pub goes_later : (told : Option Note) (basepri : ℕ) (primask : Bool) (e : Effect) (s : Configuration)
+        (lefts : List ℕ)
         → R s.lefts lefts
         → Goes st code bodies thread who told basepri primask s later e
         → Goes st more bodies thread who told basepri primask (record s { lefts = lefts }) other e
     goes_later told basepri primask (Traps t) s lefts r g = g
     goes_later told basepri primask (Leads p asked) s lefts r (base, mask, saved, a) =
-        (base, mask, saved, asks_later asked told (spot_behind s p) lefts r a)
+        (base, mask, saved, asks_later asked told (configuration_after s p) lefts r a)
 
-    pub does_later : (i : Instr) (told : Option Note) (s : Spot) (lefts : List ℕ) → R s.lefts lefts
+    pub does_later : (i : Instr) (told : Option Note) (s : Configuration) (lefts : List ℕ) → R s.lefts lefts
         → Does st code bodies thread who i told s later → Does st more bodies thread who i told
         (record s { lefts = lefts }) other
     does_later i told s lefts r d = record {
@@ -251,7 +257,7 @@ module _ (st : Storage) (bodies : List BodyRow) (who : Runner) (R : List ℕ →
           (d.goes time basepri primask early);
     }
 
-    pub fits_later : (i : Instr) (told : Option Note) (s : Spot) (lefts : List ℕ) → R s.lefts lefts
+    pub fits_later : (i : Instr) (told : Option Note) (s : Configuration) (lefts : List ℕ) → R s.lefts lefts
         → Fits st code bodies thread who i told s later → Fits st more bodies thread who i told
         (record s { lefts = lefts }) other
     fits_later i (Some (note.Enter x)) s lefts r f = enters_later x i s lefts r f
@@ -259,7 +265,7 @@ module _ (st : Storage) (bodies : List BodyRow) (who : Runner) (R : List ℕ →
     fits_later i (Some (note.End b)) s lefts r f = ends_later b i s lefts r f
     fits_later i told s lefts r f = does_later i told s lefts r f
 
-    pub line_later : (line : Option (Instr × Option Note)) (s : Spot) (lefts : List ℕ) → R s.lefts lefts
+    pub line_later : (line : Option (Instr × Option Note)) (s : Configuration) (lefts : List ℕ) → R s.lefts lefts
         → LineFits st code bodies thread who line s later → LineFits st more bodies thread who line
         (record s { lefts = lefts }) other
     line_later None s lefts r f = f

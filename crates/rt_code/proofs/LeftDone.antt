@@ -3,11 +3,11 @@ use Rattle.std.proofs.Common.{◌≡◌, ◌≢◌, ℕ, zero, suc, ◌==◌, �
 use Rattle.std.proofs.Common.{slice_get, slice_index, Option, Some, None, refl, sym, ap, subst, ◌∙◌, arith}
 use Rattle.std.proofs.lemmas.Bool.Decides.{eqb_tells}
 use Rattle.rt_ids.specs.Entry.{Entry}
-use Rattle.rt_ids.specs.Holder.{Holder}
+use Rattle.rt_ids.specs.Location.{Location}
 use Rattle.rt_ids.specs.Storage.{Storage, Runner}
 use Rattle.rt_code.specs.Access.{Access, Loads, Stores, access_of, access_with}
 use Rattle.rt_code.specs.Effect.{effect}
-use Rattle.rt_code.specs.Owning.{Spot, MayLoad, MayAccess, LeavesMine}
+use Rattle.rt_code.specs.Owning.{Configuration, MayLoad, MayAccess, LeavesMine}
 use Rattle.rt_code.specs.Processor.{Processor, Effect, Traps, Leads}
 use Rattle.rt_code.specs.Standing.{processor_of}
 use Rattle.rt_code.specs.declared.instr.Instr.{Instr}
@@ -59,7 +59,7 @@ of_access (Leads p asked) a k h = h
 
 module _ (st : Storage) (who : Runner) where
   -- it may touch the same
-  pub access_left : (s : Spot) (cells : List ℕ) (queues : Holder → List Entry) (a : Option Access)
+  pub access_left : (s : Configuration) (cells : List ℕ) (queues : Location → List Entry) (a : Option Access)
       → LeavesMine st who s cells queues
       → MayAccess st who s a → MayAccess st who (record s { cells = cells; queues = queues }) a
   access_left s cells queues None over may = tt
@@ -69,21 +69,21 @@ module _ (st : Storage) (who : Runner) where
   access_left s cells queues (Some (Stores c)) over may = may
 
   -- what an instruction loads is as it was
-  pub load_left : (s : Spot) (cells : List ℕ) (queues : Holder → List Entry) (a : Option Access)
+  pub load_left : (s : Configuration) (cells : List ℕ) (queues : Location → List Entry) (a : Option Access)
       → LeavesMine st who s cells queues → MayAccess st who s a
       → HaveLoad a cells s.cells
   load_left s cells queues a over may k loads =
       get_same cells s.cells k over.long (over.touched k (subst (λ a. MayAccess st who s a) loads may))
 
   -- the parts of what an instruction leaves
-  pub record SameDone (s : Spot) (cells : List ℕ) (one other : Effect) : Type 0 where
+  pub record SameDone (s : Configuration) (cells : List ℕ) (one other : Effect) : Type 0 where
     pub alike : aside other ≡ aside one
     pub long : length (cells_after other cells) ≡ length (cells_after one s.cells)
     pub touched : (c : ℕ) → MayLoad st who s (st.home c) → slice_index (cells_after other cells) c
         ≡ slice_index (cells_after one s.cells) c
 
-  pub same_done : (i : Instr) (time basepri : ℕ) (primask : Bool) (s : Spot) (cells : List ℕ)
-      (queues : Holder → List Entry) → LeavesMine st who s cells queues
+  pub same_done : (i : Instr) (time basepri : ℕ) (primask : Bool) (s : Configuration) (cells : List ℕ)
+      (queues : Location → List Entry) → LeavesMine st who s cells queues
       → MayAccess st who s (access_of i (processor_of s 0 false))
       → SameDone s cells (effect i time (processor_of s basepri primask))
       (effect i time (with_memory (processor_of s basepri primask) cells))

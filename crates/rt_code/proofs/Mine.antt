@@ -5,12 +5,12 @@ use Rattle.std.proofs.Common.{[], ◌∷◌, sum_by, refl, ap, arith}
 use Rattle.std.proofs.lemmas.Bool.{eqb-true, eq-eqb, or_left, or_right, or_cases}
 use Rattle.std.proofs.lemmas.List.Sums.{sum_by-cons}
 use Rattle.rt_ids.specs.Entry.{Entry, count}
-use Rattle.rt_ids.specs.Holder.{Holder, Guarded, Own, is_same_section}
+use Rattle.rt_ids.specs.Location.{Location, Guarded, Own, is_same_section}
 use Rattle.rt_ids.specs.Storage.{Storage, Runner, Home, At, In, Nowhere}
 use Rattle.rt_ids.specs.declared.ids.Section.{Section}
 use Rattle.rt_ids.specs.declared.ids.Section.TheVariants as section
 use Rattle.rt_code.specs.Acting.{with_queue}
-use Rattle.rt_code.specs.Owning.{Held, Spot, is_open, mine, owns, reads, MayLoad}
+use Rattle.rt_code.specs.Owning.{OpenSection, Configuration, is_open, mine, owns, reads, MayLoad}
 
 -- sections that pass for one are one
 pub one_section : (a b : Section) → is_same_section a b ≡ true → a ≡ b
@@ -21,15 +21,16 @@ one_section section.Timer section.Timer same = refl
 one_section a b same = absurd (cc)
 
 -- the places in the queues of open sections
-abbrev pub queued : (Holder → List Entry) → Entry → List Held → ℕ
+abbrev pub queued : (Location → List Entry) → Entry → List OpenSection → ℕ
 queued queues e held = sum_by (λ h. count e (queues (Guarded h.section))) held
 
-pub queued_more : (queues : Holder → List Entry) (e : Entry) (h : Held) (held : List Held)
+pub queued_more : (queues : Location → List Entry) (e : Entry) (h : OpenSection) (held : List OpenSection)
     → queued queues e (h ∷ held) ≡ count e (queues (Guarded h.section)) + queued queues e held
 queued_more queues e h held = sum_by-cons (λ h. count e (queues (Guarded h.section))) h held
 
 -- an open section's queue is among them
-pub queue_counts : (queues : Holder → List Entry) (e : Entry) (x : Section) (held : List Held) → is_open held x ≡ true
+pub queue_counts : (queues : Location → List Entry) (e : Entry) (x : Section) (held : List OpenSection) → is_open held x
+    ≡ true
     → count e (queues (Guarded x)) ≤ queued queues e held
 queue_counts queues e x [] inside = absurd (cc)
 queue_counts queues e x (h ∷ held) inside =
@@ -52,7 +53,7 @@ same_section (section.Ready n) = eq-eqb n n refl
 same_section section.Timer = refl
 
 -- the queues of open sections as they were
-pub queues_same : (one other : Holder → List Entry) (e : Entry) (held : List Held)
+pub queues_same : (one other : Location → List Entry) (e : Entry) (held : List OpenSection)
     → ((x : Section) → is_open held x ≡ true → other (Guarded x) ≡ one (Guarded x)) → queued other e held
     ≡ queued one e held
 queues_same one other e [] same = refl
@@ -75,7 +76,8 @@ one_of true e entries others some = inl some
 one_of false e entries others some = inr some
 
 -- where the queue of a section is another, a place in the queues of open sections is in that one, or was in one of them
-pub queued_with : (queues : Holder → List Entry) (x : Section) (entries : List Entry) (e : Entry) (held : List Held)
+pub queued_with : (queues : Location → List Entry) (x : Section) (entries : List Entry) (e : Entry)
+    (held : List OpenSection)
     → 0 < queued (with_queue queues x entries) e held → (0 < count e entries) ⊎ (0 < queued queues e held)
 queued_with queues x entries e [] some = absurd (omega arith)
 queued_with queues x entries e (h ∷ held) some =
@@ -102,7 +104,7 @@ queued_with queues x entries e (h ∷ held) some =
     two first rest (inr there) = wider (rest there) (omega (arith, queued_more queues e h held))
 
 -- a place that is a job's own, once a queue of an open section and its hands are others, was so before
-pub mine_moved : (s : Spot) (x : Section) (places entries : List Entry) (e : Entry) → is_open s.held x ≡ true
+pub mine_moved : (s : Configuration) (x : Section) (places entries : List Entry) (e : Entry) → is_open s.held x ≡ true
     → (0 < count e places + count e entries → 0 < count e s.places + count e (s.queues (Guarded x)))
     → 0 < mine (record s { places = places; queues = with_queue s.queues x entries }) e → 0 < mine s e
 mine_moved s x places entries e inside before some =
@@ -121,19 +123,19 @@ mine_moved s x places entries e inside before some =
 
 module _ (st : Storage) (who : Runner) where
   -- what it owns it reads
-  pub owns_reads : (held : List Held) (h : Holder) → owns st who held h ≡ true → reads st who held h ≡ true
+  pub owns_reads : (held : List OpenSection) (h : Location) → owns st who held h ≡ true → reads st who held h ≡ true
   owns_reads held h own = or_left (owns st who held h) (st.is_constant who h) own
 
-  pub owns_open : (held : List Held) (x : Section) → is_open held x ≡ true → owns st who held (Guarded x) ≡ true
+  pub owns_open : (held : List OpenSection) (x : Section) → is_open held x ≡ true → owns st who held (Guarded x) ≡ true
   owns_open held x inside = or_left (is_open held x) (st.is_kept who (Guarded x)) inside
 
-  pub owns_kept : (held : List Held) (h : Holder) → st.is_kept who h ≡ true → owns st who held h ≡ true
+  pub owns_kept : (held : List OpenSection) (h : Location) → st.is_kept who h ≡ true → owns st who held h ≡ true
   owns_kept held (Guarded x) kept = or_right (is_open held x) (st.is_kept who (Guarded x)) kept
   owns_kept held (Own n) kept = kept
 
   -- with one more section open it owns and reads no less
-  pub owns_more : (h : Held) (outer : List Held) (holder : Holder) → owns st who outer holder ≡ true
-      → owns st who (h ∷ outer) holder ≡ true
+  pub owns_more : (h : OpenSection) (outer : List OpenSection) (location : Location) → owns st who outer location ≡ true
+      → owns st who (h ∷ outer) location ≡ true
   owns_more h outer (Guarded x) own = two (or_cases (is_open outer x) (st.is_kept who (Guarded x)) own)
     where
       two : (is_open outer x ≡ true) ⊎ (st.is_kept who (Guarded x) ≡ true) → owns st who (h ∷ outer) (Guarded x) ≡ true
@@ -141,17 +143,20 @@ module _ (st : Storage) (who : Runner) where
       two (inr kept) = owns_kept (h ∷ outer) (Guarded x) kept
   owns_more h outer (Own n) own = own
 
-  pub reads_more : (h : Held) (outer : List Held) (holder : Holder) → reads st who outer holder ≡ true
-      → reads st who (h ∷ outer) holder ≡ true
-  reads_more h outer holder may = two (or_cases (owns st who outer holder) (st.is_constant who holder) may)
+  pub reads_more : (h : OpenSection) (outer : List OpenSection) (location : Location) → reads st who outer location
+      ≡ true
+      → reads st who (h ∷ outer) location ≡ true
+  reads_more h outer location may = two (or_cases (owns st who outer location) (st.is_constant who location) may)
     where
-      two : (owns st who outer holder ≡ true) ⊎ (st.is_constant who holder ≡ true) → reads st who (h ∷ outer) holder
+      two : (owns st who outer location ≡ true) ⊎ (st.is_constant who location ≡ true)
+          → reads st who (h ∷ outer) location
           ≡ true
-      two (inl own) = owns_reads (h ∷ outer) holder (owns_more h outer holder own)
-      two (inr constant) = or_right (owns st who (h ∷ outer) holder) (st.is_constant who holder) constant
+      two (inl own) = owns_reads (h ∷ outer) location (owns_more h outer location own)
+      two (inr constant) = or_right (owns st who (h ∷ outer) location) (st.is_constant who location) constant
 
   -- what it may load goes by the sections that are open and by what is its own
-  pub may_load : (s t : Spot) (home : Home) → ((h : Holder) → reads st who s.held h ≡ true → reads st who t.held h
+  pub may_load : (s t : Configuration) (home : Home)
+      → ((h : Location) → reads st who s.held h ≡ true → reads st who t.held h
       ≡ true)
       → ((e : Entry) → 0 < mine s e → 0 < mine t e) → MayLoad st who s home → MayLoad st who t home
   may_load s t (At h) read own may = read h may

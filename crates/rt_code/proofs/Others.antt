@@ -5,7 +5,7 @@ use Rattle.std.proofs.Common.{Option, Some, None, sym, ap, subst, ◌∙◌, ari
 use Rattle.std.proofs.lemmas.Bool.{or_left, false≢true}
 use Rattle.rt_ids.specs.Action.{Action, effect}
 use Rattle.rt_ids.specs.Entry.{Entry, count}
-use Rattle.rt_ids.specs.Holder.{Holder, Guarded, is_same_section}
+use Rattle.rt_ids.specs.Location.{Location, Guarded, is_same_section}
 use Rattle.rt_ids.specs.Storage.{Storage, Runner}
 use Rattle.rt_ids.specs.declared.ids.BodyId.{BodyId}
 use Rattle.rt_ids.specs.declared.ids.BodyId.TheVariants as body
@@ -14,12 +14,12 @@ use Rattle.rt_ids.specs.declared.ids.Section.TheVariants as section
 use Rattle.rt_code.specs.Access.{access_of}
 use Rattle.rt_code.specs.Acting.{Acts, SetsTheAlarm, Noted, with_queue}
 use Rattle.rt_code.specs.Effect as instruction
-use Rattle.rt_code.specs.Masking.{GoesIn, ComesOut}
-use Rattle.rt_code.specs.Owning.{Spot, is_open, MayAccess, LeavesMine}
+use Rattle.rt_code.specs.Masking.{EntersSection, LeavesSection}
+use Rattle.rt_code.specs.Owning.{Configuration, is_open, MayAccess, LeavesMine}
 use Rattle.rt_code.specs.Processor.{Processor, Effect, Traps, Leads}
 use Rattle.rt_code.specs.Standing.{Finishes, Calls, ComesBack, EndsBody, Asks, Goes, Does, Fits, LineFits, Stands}
-use Rattle.rt_code.specs.Standing.{spot_behind, spot_after_step, processor_of}
-use Rattle.rt_code.specs.StandingLaws.{SpellsByItsOwn, StandsWhateverOthersDo}
+use Rattle.rt_code.specs.Standing.{configuration_after, spend_step, processor_of}
+use Rattle.rt_code.specs.StandingLaws.{RepresentsByItsOwn, StandsWhateverOthersDo}
 use Rattle.rt_code.specs.declared.image.BodyRow.{BodyRow}
 use Rattle.rt_code.specs.declared.instr.Instr.{Instr}
 use Rattle.rt_code.specs.declared.instr.Note.{Note}
@@ -27,20 +27,22 @@ use Rattle.rt_code.specs.declared.instr.Note.TheVariants as note
 use Rattle.rt_code.specs.declared.processor.Request.{Request}
 use Rattle.rt_code.specs.declared.processor.Request.TheVariants as request
 use Rattle.rt_code.proofs.Mine.{same_section, queue_counts, owns_open, owns_kept}
-use Rattle.rt_code.proofs.Left.{queue_left, leaves_moved, leaves_twice, leaves_outer, spells_left}
+use Rattle.rt_code.proofs.Left.{queue_left, leaves_moved, leaves_twice, leaves_outer, represents_left}
 use Rattle.rt_code.proofs.Left.{taken, put_last, put_first, taken_out, put_behind}
 use Rattle.rt_code.proofs.LeftDone.{SameDone, same_done, access_left}
 use Rattle.rt_code.proofs.Standing.{stands_step, stands_left, stands_fits, stands_none}
 use Rattle.rt_code.proofs.Touching.{with_memory, access_same}
 
 -- what holds of a place holds of it whatever others did to what is not the job's own
-abbrev pub Keeps : Storage → Runner → (Spot → Type 0) → Type 0
-Keeps st who later = (s : Spot) (cells : List ℕ) (queues : Holder → List Entry) → LeavesMine st who s cells queues
+abbrev pub Keeps : Storage → Runner → (Configuration → Type 0) → Type 0
+Keeps st who later = (s : Configuration) (cells : List ℕ) (queues : Location → List Entry)
+    → LeavesMine st who s cells queues
     → later s → later (record s { cells = cells; queues = queues })
 
-module _ (st : Storage) (by_own : SpellsByItsOwn st) (bodies : List BodyRow) (who : Runner) (later : Spot → Type 0)
+module _ (st : Storage) (by_own : RepresentsByItsOwn st) (bodies : List BodyRow) (who : Runner) (later : Configuration
+    → Type 0)
     (keep : Keeps st who later) where
-  pub acts_others : (action : Action) (answer : ℕ) (s : Spot) (cells : List ℕ) (queues : Holder → List Entry)
+  pub acts_others : (action : Action) (answer : ℕ) (s : Configuration) (cells : List ℕ) (queues : Location → List Entry)
       → LeavesMine st who s cells queues
       → Acts st bodies who action answer s later → Acts st bodies who action answer
       (record s { cells = cells; queues = queues }) later
@@ -52,7 +54,7 @@ module _ (st : Storage) (by_own : SpellsByItsOwn st) (bodies : List BodyRow) (wh
         (record { long = over.long; touched = over.touched; queued = over.queued }) (a.on vs same);
   }
 
-  pub alarm_others : (instant : Option ℕ) (s : Spot) (cells : List ℕ) (queues : Holder → List Entry)
+  pub alarm_others : (instant : Option ℕ) (s : Configuration) (cells : List ℕ) (queues : Location → List Entry)
       → LeavesMine st who s cells queues
       → SetsTheAlarm st bodies who instant s later → SetsTheAlarm st bodies who instant
       (record s { cells = cells; queues = queues }) later
@@ -65,7 +67,7 @@ module _ (st : Storage) (by_own : SpellsByItsOwn st) (bodies : List BodyRow) (wh
   }
 
   -- an action that moves a place
-  acts_moved : (action : Action) (s : Spot) (cells : List ℕ) (queues : Holder → List Entry) (x : Section)
+  acts_moved : (action : Action) (s : Configuration) (cells : List ℕ) (queues : Location → List Entry) (x : Section)
       (places : List Entry) (change : List Entry → List Entry)
       → is_open s.held x ≡ true
       → ((e : Entry) → 0 < count e places + count e (change (s.queues (Guarded x))) → 0 < count e s.places
@@ -96,7 +98,7 @@ module _ (st : Storage) (by_own : SpellsByItsOwn st) (bodies : List BodyRow) (wh
       }) cells (with_queue queues x (change (s.queues (Guarded x))))
       (leaves_moved st who s cells queues x places (change (s.queues (Guarded x))) inside before over) a)
 
-  pub noted_others : (told : Note) (s : Spot) (cells : List ℕ) (queues : Holder → List Entry)
+  pub noted_others : (told : Note) (s : Configuration) (cells : List ℕ) (queues : Location → List Entry)
       → LeavesMine st who s cells queues
       → Noted st bodies who told s later → Noted st bodies who told (record s { cells = cells; queues = queues }) later
   noted_others (note.Placed t) s cells queues over a = record {
@@ -203,9 +205,9 @@ module _ (st : Storage) (by_own : SpellsByItsOwn st) (bodies : List BodyRow) (wh
   }
   noted_others told s cells queues over a = absurd a
 
-  pub enters_others : (x : Section) (i : Instr) (s : Spot) (cells : List ℕ) (queues : Holder → List Entry)
+  pub enters_others : (x : Section) (i : Instr) (s : Configuration) (cells : List ℕ) (queues : Location → List Entry)
       → LeavesMine st who s cells queues
-      → GoesIn st who x i s later → GoesIn st who x i (record s { cells = cells; queues = queues }) later
+      → EntersSection st who x i s later → EntersSection st who x i (record s { cells = cells; queues = queues }) later
   enters_others x i s cells queues over g = record {
     cost = g.cost;
     values = g.values;
@@ -221,15 +223,15 @@ module _ (st : Storage) (by_own : SpellsByItsOwn st) (bodies : List BodyRow) (wh
     on = λ saved vs other others again. g.on saved vs other others (record {
       agree = again.agree;
       same = leaves_twice st who s cells other queues others over again.same;
-      spelled = again.spelled;
+      represented = again.represented;
       once = again.once;
       few = again.few;
     });
   }
 
-  pub leaves_others : (x : Section) (i : Instr) (s : Spot) (cells : List ℕ) (queues : Holder → List Entry)
+  pub leaves_others : (x : Section) (i : Instr) (s : Configuration) (cells : List ℕ) (queues : Location → List Entry)
       → LeavesMine st who s cells queues
-      → ComesOut st who x i s later → ComesOut st who x i (record s { cells = cells; queues = queues }) later
+      → LeavesSection st who x i s later → LeavesSection st who x i (record s { cells = cells; queues = queues }) later
   leaves_others x i s cells queues over g =
       let inside : is_open s.held x ≡ true =
       subst (λ hs. is_open hs x ≡ true) (sym g.innermost)
@@ -241,9 +243,9 @@ module _ (st : Storage) (by_own : SpellsByItsOwn st) (bodies : List BodyRow) (wh
         outer = g.outer;
         innermost = g.innermost;
         closes = g.closes;
-        spelled = spells_left st who by_own s cells queues (Guarded x) (g.values (Guarded x)) over
+        represented = represents_left st who by_own s cells queues (Guarded x) (g.values (Guarded x)) over
             (owns_open st who s.held x inside)
-            (λ e free some. let least = queue_counts s.queues e x s.held inside in omega arith) g.spelled;
+            (λ e free some. let least = queue_counts s.queues e x s.held inside in omega arith) g.represented;
         on = λ vs same. keep (record s {
           held = g.outer;
           lefts = drop 1 s.lefts;
@@ -257,7 +259,7 @@ module _ (st : Storage) (by_own : SpellsByItsOwn st) (bodies : List BodyRow) (wh
       }
 
   module _ (code : List (Instr × Option Note)) (thread : ℕ) where
-    pub finishes_others : (action : Action) (s : Spot) (cells : List ℕ) (queues : Holder → List Entry)
+    pub finishes_others : (action : Action) (s : Configuration) (cells : List ℕ) (queues : Location → List Entry)
         → LeavesMine st who s cells queues
         → Finishes st code bodies thread who action s → Finishes st code bodies thread who action
         (record s { cells = cells; queues = queues })
@@ -268,11 +270,12 @@ module _ (st : Storage) (by_own : SpellsByItsOwn st) (bodies : List BodyRow) (wh
       closed = f.closed;
       empty = f.empty;
       own_frame = f.own_frame;
-      spelled = λ h kept. spells_left st who by_own s cells queues h (f.values h) over (owns_kept st who s.held h kept)
-          (λ e free some. absurd (false≢true (sym (free who) ∙ kept))) (f.spelled h kept);
+      represented = λ h kept. represents_left st who by_own s cells queues h (f.values h) over
+          (owns_kept st who s.held h kept)
+          (λ e free some. absurd (false≢true (sym (free who) ∙ kept))) (f.represented h kept);
     }
 
-    pub calls_others : (row from : ℕ) (s : Spot) (cells : List ℕ) (queues : Holder → List Entry)
+    pub calls_others : (row from : ℕ) (s : Configuration) (cells : List ℕ) (queues : Location → List Entry)
         → LeavesMine st who s cells queues
         → Calls st code bodies thread who row from s later → Calls st code bodies thread who row from
         (record s { cells = cells; queues = queues }) later
@@ -285,7 +288,7 @@ module _ (st : Storage) (by_own : SpellsByItsOwn st) (bodies : List BodyRow) (wh
       on = keep _ cells queues (record { long = over.long; touched = over.touched; queued = over.queued }) c.on;
     }
 
-    pub back_others : (t : ℕ) (s : Spot) (cells : List ℕ) (queues : Holder → List Entry)
+    pub back_others : (t : ℕ) (s : Configuration) (cells : List ℕ) (queues : Location → List Entry)
         → LeavesMine st who s cells queues
         → ComesBack st code bodies thread who t s later → ComesBack st code bodies thread who t
         (record s { cells = cells; queues = queues }) later
@@ -297,7 +300,7 @@ module _ (st : Storage) (by_own : SpellsByItsOwn st) (bodies : List BodyRow) (wh
           c.acts;
     }
 
-    pub ends_others : (b : BodyId) (i : Instr) (s : Spot) (cells : List ℕ) (queues : Holder → List Entry)
+    pub ends_others : (b : BodyId) (i : Instr) (s : Configuration) (cells : List ℕ) (queues : Location → List Entry)
         → LeavesMine st who s cells queues
         → EndsBody st code bodies thread who b i s later → EndsBody st code bodies thread who b i
         (record s { cells = cells; queues = queues }) later
@@ -306,7 +309,8 @@ module _ (st : Storage) (by_own : SpellsByItsOwn st) (bodies : List BodyRow) (wh
     ends_others body.Idle i s cells queues over (jump, idle, f) = (jump, idle, finishes_others _ s cells queues over f)
     ends_others (body.Task t) i s cells queues over (back, c) = (back, back_others t s cells queues over c)
 
-    pub asks_others : (asked : Request) (told : Option Note) (s : Spot) (cells : List ℕ) (queues : Holder → List Entry)
+    pub asks_others : (asked : Request) (told : Option Note) (s : Configuration) (cells : List ℕ) (queues : Location
+        → List Entry)
         → LeavesMine st who s cells queues
         → Asks st code bodies thread who asked told s later → Asks st code bodies thread who asked told
         (record s { cells = cells; queues = queues }) later
@@ -324,8 +328,8 @@ module _ (st : Storage) (by_own : SpellsByItsOwn st) (bodies : List BodyRow) (wh
     asks_others asked (Some told) s cells queues over a = absurd a
 
     -- two processors that are the same but for their cells
-    led_others : (told : Option Note) (basepri : ℕ) (primask : Bool) (s : Spot) (cells : List ℕ)
-        (queues : Holder → List Entry) (p other : Processor) (asked : Request)
+    led_others : (told : Option Note) (basepri : ℕ) (primask : Bool) (s : Configuration) (cells : List ℕ)
+        (queues : Location → List Entry) (p other : Processor) (asked : Request)
         → LeavesMine st who s cells queues → with_memory other [] ≡ with_memory p []
         → SameDone st who s cells (Leads p asked) (Leads other asked)
         → Goes st code bodies thread who told basepri primask s later (Leads p asked)
@@ -338,12 +342,12 @@ module _ (st : Storage) (by_own : SpellsByItsOwn st) (bodies : List BodyRow) (wh
           base,
           mask,
           saved,
-          asks_others asked told (spot_behind s p) other.cells queues
+          asks_others asked told (configuration_after s p) other.cells queues
               (record { long = done.long; touched = done.touched; queued = over.queued }) a,
         )
 
-    goes_others : (told : Option Note) (basepri : ℕ) (primask : Bool) (s : Spot) (cells : List ℕ)
-        (queues : Holder → List Entry) (one other : Effect)
+    goes_others : (told : Option Note) (basepri : ℕ) (primask : Bool) (s : Configuration) (cells : List ℕ)
+        (queues : Location → List Entry) (one other : Effect)
         → LeavesMine st who s cells queues → SameDone st who s cells one other
         → Goes st code bodies thread who told basepri primask s later one
         → Goes st code bodies thread who told basepri primask (record s { cells = cells; queues = queues }) later other
@@ -359,7 +363,7 @@ module _ (st : Storage) (by_own : SpellsByItsOwn st) (bodies : List BodyRow) (wh
         (led_others told basepri primask s cells queues p q asked over same
         (subst (λ a. SameDone st who s cells (Leads p asked) (Leads q a)) also_asked done) g)
 
-    does_others : (i : Instr) (told : Option Note) (s : Spot) (cells : List ℕ) (queues : Holder → List Entry)
+    does_others : (i : Instr) (told : Option Note) (s : Configuration) (cells : List ℕ) (queues : Location → List Entry)
         → LeavesMine st who s cells queues
         → Does st code bodies thread who i told s later → Does st code bodies thread who i told
         (record s { cells = cells; queues = queues }) later
@@ -372,7 +376,7 @@ module _ (st : Storage) (by_own : SpellsByItsOwn st) (bodies : List BodyRow) (wh
           (same_done st who i time basepri primask s cells queues over d.touches) (d.goes time basepri primask early);
     }
 
-    fits_others : (i : Instr) (told : Option Note) (s : Spot) (cells : List ℕ) (queues : Holder → List Entry)
+    fits_others : (i : Instr) (told : Option Note) (s : Configuration) (cells : List ℕ) (queues : Location → List Entry)
         → LeavesMine st who s cells queues
         → Fits st code bodies thread who i told s later → Fits st code bodies thread who i told
         (record s { cells = cells; queues = queues }) later
@@ -381,7 +385,8 @@ module _ (st : Storage) (by_own : SpellsByItsOwn st) (bodies : List BodyRow) (wh
     fits_others i (Some (note.End b)) s cells queues over f = ends_others b i s cells queues over f
     fits_others i told s cells queues over f = does_others i told s cells queues over f
 
-    pub line_others : (line : Option (Instr × Option Note)) (s : Spot) (cells : List ℕ) (queues : Holder → List Entry)
+    pub line_others : (line : Option (Instr × Option Note)) (s : Configuration) (cells : List ℕ) (queues : Location
+        → List Entry)
         → LeavesMine st who s cells queues
         → LineFits st code bodies thread who line s later → LineFits st code bodies thread who line
         (record s { cells = cells; queues = queues }) later
@@ -389,7 +394,7 @@ module _ (st : Storage) (by_own : SpellsByItsOwn st) (bodies : List BodyRow) (wh
     line_others (Some line) s cells queues over f = fits_others line.0 line.1 s cells queues over f
 
 -- The law: whatever others do to what is not the job's own, its code stands.
-pub stands_others : (st : Storage) (bodies : List BodyRow) (thread : ℕ) (who : Runner) → SpellsByItsOwn st
+pub stands_others : (st : Storage) (bodies : List BodyRow) (thread : ℕ) (who : Runner) → RepresentsByItsOwn st
     → StandsWhateverOthersDo st bodies thread who
 stands_others st bodies thread who by_own code zero s cells queues over stands =
     absurd (stands_none st code bodies thread who s stands)
@@ -398,6 +403,6 @@ stands_others st bodies thread who by_own code (suc n) s cells queues over stand
     (stands_left st code bodies thread who n s stands)
     (line_others st by_own bodies who (Stands st code bodies thread who n)
     (λ t others lists. stands_others st bodies thread who by_own code n t others lists) code thread
-    (slice_get code s.address) (spot_after_step s) cells queues
+    (slice_get code s.address) (spend_step s) cells queues
     (record { long = over.long; touched = over.touched; queued = over.queued })
     (stands_fits st code bodies thread who n s stands))

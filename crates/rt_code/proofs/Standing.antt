@@ -4,8 +4,8 @@ use Rattle.std.proofs.Common.{None, refl, ap, subst, sym, arith}
 use Rattle.std.proofs.lemmas.Option.{none-some}
 use Rattle.std.specs.List.{AllByRecursion}
 use Rattle.rt_ids.specs.Storage.{Storage, Runner}
-use Rattle.rt_code.specs.Owning.{Spot}
-use Rattle.rt_code.specs.Standing.{Stands, LineFits, spot_after_step}
+use Rattle.rt_code.specs.Owning.{Configuration}
+use Rattle.rt_code.specs.Standing.{Stands, LineFits, spend_step}
 use Rattle.rt_code.specs.StandingLaws.{AreAtLeast, StandsBeforeMore, StandsWithMore}
 use Rattle.rt_code.specs.declared.image.BodyRow.{BodyRow}
 use Rattle.rt_code.specs.declared.instr.Instr.{Instr}
@@ -13,33 +13,33 @@ use Rattle.rt_code.specs.declared.instr.Note.{Note}
 use Rattle.rt_code.proofs.Later.{Serves, Carries, line_later}
 
 module _ (st : Storage) (code : List (Instr × Option Note)) (bodies : List BodyRow) (thread : ℕ) (who : Runner) where
-  pub stands_step : (n : ℕ) (s : Spot) → AllByRecursion (λ n. 0 < n) s.lefts
-      → LineFits st code bodies thread who (slice_get code s.address) (spot_after_step s)
+  pub stands_step : (n : ℕ) (s : Configuration) → AllByRecursion (λ n. 0 < n) s.lefts
+      → LineFits st code bodies thread who (slice_get code s.address) (spend_step s)
       (Stands st code bodies thread who n)
       → Stands st code bodies thread who (suc n) s
   unfolding Stands
   stands_step n s left fits = (left, fits)
 
-  pub stands_left : (n : ℕ) (s : Spot) → Stands st code bodies thread who (suc n) s
+  pub stands_left : (n : ℕ) (s : Configuration) → Stands st code bodies thread who (suc n) s
       → AllByRecursion (λ n. 0 < n) s.lefts
   unfolding Stands
   stands_left n s stands = stands.0
 
-  pub stands_fits : (n : ℕ) (s : Spot) → Stands st code bodies thread who (suc n) s
-      → LineFits st code bodies thread who (slice_get code s.address) (spot_after_step s)
+  pub stands_fits : (n : ℕ) (s : Configuration) → Stands st code bodies thread who (suc n) s
+      → LineFits st code bodies thread who (slice_get code s.address) (spend_step s)
       (Stands st code bodies thread who n)
   unfolding Stands
   stands_fits n s stands = stands.1
 
   -- no job stands with no step left
-  pub stands_none : (s : Spot) → Stands st code bodies thread who 0 s → ⊥
+  pub stands_none : (s : Configuration) → Stands st code bodies thread who 0 s → ⊥
   unfolding Stands
   stands_none s stands = stands
 
 -- a line with a weaker wish for what comes later
 pub line_weaker : (st : Storage) (code : List (Instr × Option Note)) (bodies : List BodyRow) (thread : ℕ) (who : Runner)
-    (later other : Spot → Type 0)
-    → ((s : Spot) → later s → other s) → (line : Option (Instr × Option Note)) (s : Spot)
+    (later other : Configuration → Type 0)
+    → ((s : Configuration) → later s → other s) → (line : Option (Instr × Option Note)) (s : Configuration)
     → LineFits st code bodies thread who line s later → LineFits st code bodies thread who line s other
 line_weaker st code bodies thread who later other weaker line s fits =
     line_later st bodies who (λ ls ms. ls ≡ ms)
@@ -87,7 +87,7 @@ has_front code more = record { at = λ k line h. front_index code more k line h 
 
 module _ (st : Storage) (bodies : List BodyRow) (thread : ℕ) (who : Runner)
     (code more : List (Instr × Option Note)) where
-  line_there : (a b : Option (Instr × Option Note)) (s : Spot) (later : Spot → Type 0)
+  line_there : (a b : Option (Instr × Option Note)) (s : Configuration) (later : Configuration → Type 0)
       → ((line : Instr × Option Note) → a ≡ Some line → b ≡ Some line)
       → LineFits st more bodies thread who a s later → LineFits st more bodies thread who b s later
   line_there None b s later there fits = absurd fits
@@ -95,7 +95,8 @@ module _ (st : Storage) (bodies : List BodyRow) (thread : ℕ) (who : Runner)
       (sym (there line refl)) fits
 
   -- code with the same lines and more, more steps and greater `lefts` serve
-  pub stands_more : HasLines code more → (n m : ℕ) (s : Spot) (lefts : List ℕ) → n ≤ m → AreAtLeast s.lefts lefts
+  pub stands_more : HasLines code more → (n m : ℕ) (s : Configuration) (lefts : List ℕ) → n ≤ m
+      → AreAtLeast s.lefts lefts
       → Stands st code bodies thread who n s → Stands st more bodies thread who m (record s { lefts = lefts })
   stands_more has zero m s lefts steps least stands = absurd (stands_none st code bodies thread who s stands)
   stands_more has (suc n) zero s lefts steps least stands = absurd (omega arith)
@@ -107,7 +108,7 @@ module _ (st : Storage) (bodies : List BodyRow) (thread : ℕ) (who : Runner)
       (least_left s.lefts lefts least (stands_left st code bodies thread who n s stands))
       (line_there (slice_get code s.address) (slice_get more s.address) _ _ (has.at s.address)
       (line_later st bodies who AreAtLeast least_serves _ _ carry code more thread (slice_get code s.address)
-      (spot_after_step s) (map (λ n. n - 1) lefts)
+      (spend_step s) (map (λ n. n - 1) lefts)
       (least_passed s.lefts lefts least) (stands_fits st code bodies thread who n s stands)))
 
 -- The laws: further code behind it changes nothing of code that stands, and more steps and greater `lefts` serve.

@@ -7,11 +7,11 @@ use Rattle.rt_ids.specs.Storage.{Storage, Runner}
 use Rattle.rt_ids.specs.declared.ids.BodyId.TheVariants as body
 use Rattle.rt_code.specs.Access.{access_of}
 use Rattle.rt_code.specs.Effect.{effect}
-use Rattle.rt_code.specs.Owning.{Spot, MayAccess, saved_slots}
+use Rattle.rt_code.specs.Owning.{Configuration, MayAccess, saved_slots}
 use Rattle.rt_code.specs.Processor.{Processor}
-use Rattle.rt_code.specs.Standing.{Stands, Asks, Goes, Fits, LineFits, Calls, Finishes, KeepsSaved, spot_behind}
-use Rattle.rt_code.specs.Standing.{spot_after_step, processor_of}
-use Rattle.rt_code.specs.StandingLaws.{SpellsByItsOwn, StandingLaws}
+use Rattle.rt_code.specs.Standing.{Stands, Asks, Goes, Fits, LineFits, Calls, Finishes, KeepsSaved, configuration_after}
+use Rattle.rt_code.specs.Standing.{spend_step, processor_of}
+use Rattle.rt_code.specs.StandingLaws.{RepresentsByItsOwn, StandingLaws}
 use Rattle.rt_code.specs.Leading.{LeadsTo, is_plain, is_of_section}
 use Rattle.rt_code.specs.StandingSteps.{StepLaw, MaskLaw, FrameLaw, EndLaw}
 use Rattle.rt_code.specs.declared.image.BodyRow.{BodyRow}
@@ -31,15 +31,15 @@ kept_alike slots [] = tt
 kept_alike slots (d ∷ ds) = (refl, kept_alike slots ds)
 
 module _ (st : Storage) (code : List (Instr × Option Note)) (bodies : List BodyRow) (thread : ℕ) (who : Runner) (n : ℕ)
-    (s : Spot) (stands : Stands st code bodies thread who (suc n) s) where
-  -- the line at the spot fits
+    (s : Configuration) (stands : Stands st code bodies thread who (suc n) s) where
+  -- the line at the configuration fits
   fits_at : (i : Instr) (told : Option Note) → slice_get code s.address ≡ Some (i, told)
-      → Fits st code bodies thread who i told (spot_after_step s) (Stands st code bodies thread who n)
-  fits_at i told is = subst (λ o. LineFits st code bodies thread who o (spot_after_step s)
+      → Fits st code bodies thread who i told (spend_step s) (Stands st code bodies thread who n)
+  fits_at i told is = subst (λ o. LineFits st code bodies thread who o (spend_step s)
       (Stands st code bodies thread who n)) is (stands_fits st code bodies thread who n s stands)
 
   some_line : (o : Option (Instr × Option Note)) → slice_get code s.address ≡ o
-      → LineFits st code bodies thread who o (spot_after_step s) (Stands st code bodies thread who n)
+      → LineFits st code bodies thread who o (spend_step s) (Stands st code bodies thread who n)
       → StepLaw st code bodies thread who n s
   some_line None is f = absurd f
   some_line (Some line) is f = record {
@@ -54,7 +54,7 @@ module _ (st : Storage) (code : List (Instr × Option Note)) (bodies : List Body
           → MayAccess st who s (access_of i (processor_of s 0 false))
       none i is = subst (λ a. MayAccess st who s a) (sym is) tt
 
-      touches : (i : Instr) (told : Option Note) → Fits st code bodies thread who i told (spot_after_step s)
+      touches : (i : Instr) (told : Option Note) → Fits st code bodies thread who i told (spend_step s)
           (Stands st code bodies thread who n) → MayAccess st who s (access_of i (processor_of s 0 false))
       touches i (Some (note.Enter x)) f = none i (ap (λ j. access_of j (processor_of s 0 false)) f.opens
           ∙ opening_touches (st.value (st.ceiling x)) f.kind (processor_of s 0 false))
@@ -65,10 +65,10 @@ module _ (st : Storage) (code : List (Instr × Option Note)) (bodies : List Body
       touches i (Some (note.End (body.Task t))) f = none i (ap (λ j. access_of j (processor_of s 0 false)) f.0)
       touches i told f = f.touches
 
-      goes : (i : Instr) (told : Option Note) → Fits st code bodies thread who i told (spot_after_step s)
+      goes : (i : Instr) (told : Option Note) → Fits st code bodies thread who i told (spend_step s)
           (Stands st code bodies thread who n) → is_plain told ≡ true → (time basepri : ℕ) (primask : Bool)
           → time < 2 ^ 31
-          → Goes st code bodies thread who told basepri primask (spot_after_step s) (Stands st code bodies thread who n)
+          → Goes st code bodies thread who told basepri primask (spend_step s) (Stands st code bodies thread who n)
           (effect i time (processor_of s basepri primask))
       goes i (Some (note.Enter x)) f plain time basepri primask early = absurd (cc)
       goes i (Some (note.Leave x)) f plain time basepri primask early = absurd (cc)
@@ -82,8 +82,8 @@ module _ (st : Storage) (code : List (Instr × Option Note)) (bodies : List Body
   asks_plainly : (i : Instr) (told : Option Note) (time basepri : ℕ) (primask : Bool) (p : Processor) (asked : Request)
       → LeadsTo s i time basepri primask p asked
       → (asked ≡ request.Nothing → ⊥) → (asked ≡ request.Back → ⊥) → Fits st code bodies thread who i told
-      (spot_after_step s) (Stands st code bodies thread who n)
-      → Asks st code bodies thread who asked told (spot_behind (spot_after_step s) p)
+      (spend_step s) (Stands st code bodies thread who n)
+      → Asks st code bodies thread who asked told (configuration_after (spend_step s) p)
       (Stands st code bodies thread who n)
   asks_plainly i (Some (note.Enter x)) time basepri primask p asked (early, leads) some other f =
       absurd (some (opening_asks (st.value (st.ceiling x)) f.kind time (processor_of s basepri primask) p asked
@@ -98,47 +98,48 @@ module _ (st : Storage) (code : List (Instr × Option Note)) (bodies : List Body
   asks_plainly i (Some (note.End (body.Task t))) time basepri primask p asked (early, leads) some other f =
       absurd (other (let e = ap (λ j. effect j time (processor_of s basepri primask)) (sym f.0) ∙ leads in cc))
   asks_plainly i told time basepri primask p asked (early, leads) some other f =
-      (subst (λ e. Goes st code bodies thread who told basepri primask (spot_after_step s)
+      (subst (λ e. Goes st code bodies thread who told basepri primask (spend_step s)
       (Stands st code bodies thread who n) e) leads (f.goes time basepri primask early)).3
 
-  calls_told : (told : Option Note) (row from : ℕ) (t : Spot) → Asks st code bodies thread who (request.Call row from)
+  calls_told : (told : Option Note) (row from : ℕ) (t : Configuration)
+      → Asks st code bodies thread who (request.Call row from)
       told t (Stands st code bodies thread who n)
       → Calls st code bodies thread who row from t (Stands st code bodies thread who n)
   calls_told None row from t a = a
   calls_told (Some told) row from t a = absurd a
 
-  ends_told : (told : Option Note) (t : Spot) → Asks st code bodies thread who request.Return told t
+  ends_told : (told : Option Note) (t : Configuration) → Asks st code bodies thread who request.Return told t
       (Stands st code bodies thread who n) → Finishes st code bodies thread who Returns t
   ends_told None t a = a
   ends_told (Some told) t a = absurd a
 
-  -- a return, and a call, at the spot where it stands
+  -- a return, and a call, at the configuration where it stands
   returns_at : (i : Instr) (told : Option Note) → slice_get code s.address ≡ Some (i, told)
       → (time basepri : ℕ) (primask : Bool) (p : Processor)
       → LeadsTo s i time basepri primask p request.Return → Finishes st code bodies thread who Returns
-      (spot_after_step s)
+      (spend_step s)
   returns_at i told is time basepri primask p (early, leads) =
-      subst (λ q. Finishes st code bodies thread who Returns (spot_behind (spot_after_step s) q))
+      subst (λ q. Finishes st code bodies thread who Returns (configuration_after (spend_step s) q))
       (return_stays i time (processor_of s basepri primask) p leads)
-      (ends_told told (spot_behind (spot_after_step s) p)
+      (ends_told told (configuration_after (spend_step s) p)
       (asks_plainly i told time basepri primask p request.Return (early, leads) (λ e. cc) (λ e. cc)
       (fits_at i told is)))
 
   calls_at : (i : Instr) (told : Option Note) → slice_get code s.address ≡ Some (i, told)
       → (time basepri row from : ℕ) (primask : Bool) (p : Processor)
       → LeadsTo s i time basepri primask p (request.Call row from) → Calls st code bodies thread who row from
-      (spot_after_step s) (Stands st code bodies thread who n)
+      (spend_step s) (Stands st code bodies thread who n)
   calls_at i told is time basepri row from primask p (early, leads) =
-      subst (λ q. Calls st code bodies thread who row from (spot_behind (spot_after_step s) q)
+      subst (λ q. Calls st code bodies thread who row from (configuration_after (spend_step s) q)
       (Stands st code bodies thread who n)) (call_stays i time row from (processor_of s basepri primask) p leads)
-      (calls_told told row from (spot_behind (spot_after_step s) p)
+      (calls_told told row from (configuration_after (spend_step s) p)
       (asks_plainly i told time basepri primask p (request.Call row from) (early, leads) (λ e. cc) (λ e. cc)
       (fits_at i told is)))
 
   -- a line that asks for the way back is a body's end
   backs_at : (i : Instr) (told : Option Note) (time basepri : ℕ) (primask : Bool) (p : Processor)
       → LeadsTo s i time basepri primask p request.Back
-      → Fits st code bodies thread who i told (spot_after_step s) (Stands st code bodies thread who n) → (t : ℕ)
+      → Fits st code bodies thread who i told (spend_step s) (Stands st code bodies thread who n) → (t : ℕ)
       × (told ≡ Some (note.End (body.Task t)))
   backs_at i (Some (note.Enter x)) time basepri primask p (early, leads) f =
       absurd (let e = opening_asks (st.value (st.ceiling x)) f.kind time (processor_of s basepri primask) p request.Back
@@ -152,10 +153,11 @@ module _ (st : Storage) (code : List (Instr × Option Note)) (bodies : List Body
       absurd (let e = ap (λ j. effect j time (processor_of s basepri primask)) (sym f.0) ∙ leads in cc)
   backs_at i (Some (note.End (body.Task t))) time basepri primask p leads f = (t, refl)
   backs_at i told time basepri primask p (early, leads) f =
-      absurd (none told (subst (λ e. Goes st code bodies thread who told basepri primask (spot_after_step s)
+      absurd (none told (subst (λ e. Goes st code bodies thread who told basepri primask (spend_step s)
       (Stands st code bodies thread who n) e) leads (f.goes time basepri primask early)).3)
     where
-      none : (told : Option Note) → Asks st code bodies thread who request.Back told (spot_behind (spot_after_step s) p)
+      none : (told : Option Note)
+          → Asks st code bodies thread who request.Back told (configuration_after (spend_step s) p)
           (Stands st code bodies thread who n) → ⊥
       none None a = a
       none (Some told) a = a
@@ -167,7 +169,7 @@ module _ (st : Storage) (code : List (Instr × Option Note)) (bodies : List Body
 
   mask_kept : (i : Instr) (told : Option Note) → is_of_section told ≡ false
       → (time basepri : ℕ) (primask : Bool) (p : Processor) (asked : Request)
-      → LeadsTo s i time basepri primask p asked → Fits st code bodies thread who i told (spot_after_step s)
+      → LeadsTo s i time basepri primask p asked → Fits st code bodies thread who i told (spend_step s)
       (Stands st code bodies thread who n) → Keeps told basepri primask p
   mask_kept i (Some (note.Enter x)) plain time basepri primask p asked leads f = absurd (cc)
   mask_kept i (Some (note.Leave x)) plain time basepri primask p asked leads f = absurd (cc)
@@ -187,7 +189,7 @@ module _ (st : Storage) (code : List (Instr × Option Note)) (bodies : List Body
       subst (λ q. Keeps (Some (note.End (body.Task t))) basepri primask q) same
       (kept_alike s.slots (saved_slots s.held), refl, inl refl)
   mask_kept i told plain time basepri primask p asked (early, leads) f =
-      let g = subst (λ e. Goes st code bodies thread who told basepri primask (spot_after_step s)
+      let g = subst (λ e. Goes st code bodies thread who told basepri primask (spend_step s)
       (Stands st code bodies thread who n) e) leads (f.goes time basepri primask early) in
       (g.2, g.0, inl g.1)
 
@@ -219,7 +221,7 @@ module _ (st : Storage) (code : List (Instr × Option Note)) (bodies : List Body
   }
 
 -- The laws: of all code that stands with a storage whose contents go by their own cells.
-pub standing_laws : (st : Storage) → SpellsByItsOwn st → StandingLaws st
+pub standing_laws : (st : Storage) → RepresentsByItsOwn st → StandingLaws st
 standing_laws st by_own = record {
   appending = λ bodies thread who. stands_before_more st bodies thread who;
   more_steps = λ bodies thread who. stands_with_more st bodies thread who;

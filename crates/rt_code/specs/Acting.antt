@@ -2,7 +2,7 @@
 -- it, whatever others did to what is not the job's. Places of messages move from list to list, and are nowhere copied.
 use Rattle.std.specs.Prelude.{◌≡◌, ℕ, ◌+◌, ◌≤◌, true, List, [], ◌∷◌, ◌++◌, length, take, drop, slice_get, Option, Some}
 use Rattle.std.specs.Prelude.{if◌then◌else◌}
-use Rattle.rt_ids.specs.Holder.{Holder, Guarded, is_same_holder}
+use Rattle.rt_ids.specs.Location.{Location, Guarded, is_same_location}
 use Rattle.rt_ids.specs.Content.{Message, Values, delays, least_instant}
 use Rattle.rt_ids.specs.Entry.{Entry}
 use Rattle.rt_ids.specs.Action.{Action, Places, FindsFull, Readies, Starts, Frees, Arms, Fires, Cancels, Moves}
@@ -12,19 +12,19 @@ use Rattle.rt_ids.specs.Doing.{Doing, does}
 use Rattle.rt_ids.specs.Storage.{Storage, Runner}
 use Rattle.rt_ids.specs.declared.ids.Section.{Section}
 use Rattle.rt_ids.specs.declared.ids.Section.TheVariants as section
-use Rattle.rt_code.specs.Owning.{Spot, is_open, Agree}
+use Rattle.rt_code.specs.Owning.{Configuration, is_open, Agree}
 use Rattle.rt_code.specs.Tables.{arguments_in}
 use Rattle.rt_code.specs.declared.image.BodyRow.{BodyRow}
 use Rattle.rt_code.specs.declared.instr.Note.{Note}
 use Rattle.rt_code.specs.declared.instr.Note.TheVariants as note
 
 -- the queues with this list for the queue of a section
-abbrev pub with_queue : (Holder → List Entry) → Section → List Entry → Holder → List Entry
-with_queue queues x entries holder = if is_same_holder (Guarded x) holder then entries else queues holder
+abbrev pub with_queue : (Location → List Entry) → Section → List Entry → Location → List Entry
+with_queue queues x entries location = if is_same_location (Guarded x) location then entries else queues location
 
 module _ (st : Storage) (bodies : List BodyRow) (who : Runner) where
   -- The next action is this one, and then the job goes on, by the answer and by the values after it.
-  pub record Acts (action : Action) (answer : ℕ) (s : Spot) (later : Spot → Type 0) : Type 0 where
+  pub record Acts (action : Action) (answer : ℕ) (s : Configuration) (later : Configuration → Type 0) : Type 0 where
     pub values : Values
     pub follows : ℕ → Values → Doing Values
     pub is : s.rest ≡ does action values follows
@@ -33,13 +33,13 @@ module _ (st : Storage) (bodies : List BodyRow) (who : Runner) where
 
   -- The next action sets the alarm, inside the section of the timer queue, to the least armed instant, or to none where
   -- nothing is armed.
-  pub record SetsTheAlarm (instant : Option ℕ) (s : Spot) (later : Spot → Type 0) : Type 0 where
+  pub record SetsTheAlarm (instant : Option ℕ) (s : Configuration) (later : Configuration → Type 0) : Type 0 where
     pub acts : Acts SetsAlarm 0 s later
     pub inside : is_open s.held section.Timer ≡ true
     pub least : least_instant (delays (acts.values (Guarded section.Timer))) ≡ instant
 
   -- a place of a task is taken into the job's hands
-  pub record PlacesMessage (t : ℕ) (s : Spot) (later : Spot → Type 0) : Type 0 where
+  pub record PlacesMessage (t : ℕ) (s : Configuration) (later : Configuration → Type 0) : Type 0 where
     pub entry : Entry
     pub others : List Entry
     pub inside : is_open s.held (section.Free t) ≡ true
@@ -49,12 +49,12 @@ module _ (st : Storage) (bodies : List BodyRow) (who : Runner) where
         (record s { places = entry ∷ s.places; queues = with_queue s.queues (section.Free t) others }) later
 
   -- the job finds no place of a task free, inside the section of its free places
-  pub record FindsTaskFull (t : ℕ) (s : Spot) (later : Spot → Type 0) : Type 0 where
+  pub record FindsTaskFull (t : ℕ) (s : Configuration) (later : Configuration → Type 0) : Type 0 where
     pub inside : is_open s.held (section.Free t) ≡ true
     pub acts : Acts (FindsFull t) 0 s later
 
   -- the message in the job's hands goes last into the ready queue of a level
-  pub record ReadiesMessage (t : ℕ) (s : Spot) (later : Spot → Type 0) : Type 0 where
+  pub record ReadiesMessage (t : ℕ) (s : Configuration) (later : Configuration → Type 0) : Type 0 where
     pub level : ℕ
     pub message : Message
     pub entry : Entry
@@ -70,7 +70,7 @@ module _ (st : Storage) (bodies : List BodyRow) (who : Runner) where
         later
 
   -- the message in the job's hands goes last into the timer queue, for the instant in a slot
-  pub record ArmsMessage (t slot : ℕ) (s : Spot) (later : Spot → Type 0) : Type 0 where
+  pub record ArmsMessage (t slot : ℕ) (s : Configuration) (later : Configuration → Type 0) : Type 0 where
     pub instant : ℕ
     pub message : Message
     pub entry : Entry
@@ -86,7 +86,7 @@ module _ (st : Storage) (bodies : List BodyRow) (who : Runner) where
         }) later
 
   -- the oldest ready message of a level starts, with its arguments in the slots from one on
-  pub record StartsMessage (t from : ℕ) (s : Spot) (later : Spot → Type 0) : Type 0 where
+  pub record StartsMessage (t from : ℕ) (s : Configuration) (later : Configuration → Type 0) : Type 0 where
     pub level : ℕ
     pub message : Message
     pub entry : Entry
@@ -100,7 +100,7 @@ module _ (st : Storage) (bodies : List BodyRow) (who : Runner) where
         (record s { places = entry ∷ s.places; queues = with_queue s.queues (section.Ready level) others }) later
 
   -- an armed message comes into the job's hands; the others stay in order
-  pub record FiresMessage (t : ℕ) (s : Spot) (later : Spot → Type 0) : Type 0 where
+  pub record FiresMessage (t : ℕ) (s : Configuration) (later : Configuration → Type 0) : Type 0 where
     pub message : Message
     pub entry : Entry
     pub before : List Entry
@@ -112,7 +112,7 @@ module _ (st : Storage) (bodies : List BodyRow) (who : Runner) where
         (record s { places = entry ∷ s.places; queues = with_queue s.queues section.Timer (before ++ behind) }) later
 
   -- an armed message, whose handle is in a slot, comes into the job's hands; the others stay in order
-  pub record CancelsMessage (t slot : ℕ) (s : Spot) (later : Spot → Type 0) : Type 0 where
+  pub record CancelsMessage (t slot : ℕ) (s : Configuration) (later : Configuration → Type 0) : Type 0 where
     pub handle : ℕ
     pub entry : Entry
     pub before : List Entry
@@ -125,7 +125,7 @@ module _ (st : Storage) (bodies : List BodyRow) (who : Runner) where
         (record s { places = entry ∷ s.places; queues = with_queue s.queues section.Timer (before ++ behind) }) later
 
   -- an armed message, whose handle is in a slot, goes last, for the instant in another slot
-  pub record MovesMessage (t slot from : ℕ) (s : Spot) (later : Spot → Type 0) : Type 0 where
+  pub record MovesMessage (t slot from : ℕ) (s : Configuration) (later : Configuration → Type 0) : Type 0 where
     pub handle : ℕ
     pub instant : ℕ
     pub entry : Entry
@@ -140,7 +140,7 @@ module _ (st : Storage) (bodies : List BodyRow) (who : Runner) where
         (record s { queues = with_queue s.queues section.Timer (before ++ (behind ++ entry ∷ [])) }) later
 
   -- the place in the job's hands is free again, and is taken next
-  pub record FreesPlace (t : ℕ) (s : Spot) (later : Spot → Type 0) : Type 0 where
+  pub record FreesPlace (t : ℕ) (s : Configuration) (later : Configuration → Type 0) : Type 0 where
     pub entry : Entry
     pub others : List Entry
     pub inside : is_open s.held (section.Free t) ≡ true
@@ -153,7 +153,7 @@ module _ (st : Storage) (bodies : List BodyRow) (who : Runner) where
         }) later
 
   -- what a note on a plain instruction says is done; the notes of sections and ends are on instructions of their own
-  abbrev pub Noted : Note → Spot → (Spot → Type 0) → Type 0
+  abbrev pub Noted : Note → Configuration → (Configuration → Type 0) → Type 0
   Noted (note.Placed t) s later = PlacesMessage t s later
   Noted (note.Full t) s later = FindsTaskFull t s later
   Noted (note.Ready t) s later = ReadiesMessage t s later

@@ -2,7 +2,7 @@
 -- project's own.
 use Rattle.std.specs.Prelude.{◌≡◌, ℕ, ◌^◌, ◌<◌, Bool, true, false, Option, Some}
 use Rattle.rt_code.specs.Effect.{effect}
-use Rattle.rt_code.specs.Owning.{Spot}
+use Rattle.rt_code.specs.Owning.{Configuration}
 use Rattle.rt_code.specs.Processor.{Processor, Leads}
 use Rattle.rt_code.specs.Standing.{processor_of}
 use Rattle.rt_code.specs.declared.instr.Instr.{Instr}
@@ -25,6 +25,6 @@ is_plain told = true
 
 -- with these masks, at a time below 2^31, an instruction leads from where a job is to this processor, and asks this of
 -- the core
-abbrev pub LeadsTo : Spot → Instr → ℕ → ℕ → Bool → Processor → Request → Type 0
+abbrev pub LeadsTo : Configuration → Instr → ℕ → ℕ → Bool → Processor → Request → Type 0
 LeadsTo s i time basepri primask p asked =
     (time < 2 ^ 31) × (effect i time (processor_of s basepri primask) ≡ Leads p asked)

@@ -6,14 +6,15 @@ use Rattle.std.specs.Prelude.{◌≡◌, ℕ, suc, ◌-◌, ◌<◌, ◌≤◌, 
 use Rattle.std.specs.Prelude.{slice_set, Contains}
 use Rattle.std.specs.List.{AllByRecursion}
 use Rattle.rt_ids.specs.Lists.{greatest}
-use Rattle.rt_ids.specs.Holder.{Holder, Guarded}
+use Rattle.rt_ids.specs.Location.{Location, Guarded}
 use Rattle.rt_ids.specs.Content.{Values, MayArm}
 use Rattle.rt_ids.specs.Entry.{Entry}
 use Rattle.rt_ids.specs.Action.{Enters, Leaves}
 use Rattle.rt_ids.specs.Doing.{Doing, does}
 use Rattle.rt_ids.specs.Storage.{Storage, Runner, Starting, AtPriority}
 use Rattle.rt_ids.specs.declared.ids.Section.{Section}
-use Rattle.rt_code.specs.Owning.{Kind, Marked, Raised, Masked, Held, Spot, is_open, saved_slot, saved_slots, mine}
+use Rattle.rt_code.specs.Owning.{Kind, Marked, Raised, Masked, OpenSection, Configuration, is_open, saved_slot}
+use Rattle.rt_code.specs.Owning.{saved_slots, mine}
 use Rattle.rt_code.specs.Owning.{Agree, LeavesMine}
 use Rattle.rt_code.specs.declared.instr.Instr.{Instr}
 use Rattle.rt_code.specs.declared.instr.Instr.TheVariants as instr
@@ -45,7 +46,7 @@ module _ (st : Storage) (who : Runner) where
 
   -- the kind that a section asks for: in `init`, which holds off all, a mark; elsewhere by the preemption threshold,
   -- the greatest of the runner's priority and of the ceilings of its open sections
-  abbrev pub IsKindFor : Runner → List Held → Section → Kind → Type 0
+  abbrev pub IsKindFor : Runner → List OpenSection → Section → Kind → Type 0
   IsKindFor Starting held x kind = kind ≡ Marked
   IsKindFor (AtPriority p) held x kind =
       IsMask (st.ceiling x) (max p (greatest (map (λ h. st.ceiling h.section) held))) kind
@@ -62,7 +63,8 @@ module _ (st : Storage) (who : Runner) where
       (q : ℕ) → (st.is_kept (AtPriority q) (Guarded x) ≡ false) × (st.is_constant (AtPriority q) (Guarded x) ≡ false)
 
   -- where the job is after the opening of a section, with memory and queues as they then are
-  abbrev pub inside : Section → Kind → ℕ → ℕ → Doing Values → List ℕ → (Holder → List Entry) → Spot → Spot
+  abbrev pub inside : Section → Kind → ℕ → ℕ → Doing Values → List ℕ → (Location → List Entry) → Configuration
+      → Configuration
   inside x kind saved cost rest cells queues s = record s {
     held = record { section = x; kind = kind } ∷ s.held;
     lefts = (cost - 1) ∷ s.lefts;
@@ -74,18 +76,18 @@ module _ (st : Storage) (who : Runner) where
   }
 
   -- What a section guards is taken over as the others left it, with no place of a message twice among the job's own.
-  pub record TakesOver (x : Section) (s : Spot) (values vs : Values) (cells : List ℕ)
-      (queues : Holder → List Entry) : Type 0 where
+  pub record TakesOver (x : Section) (s : Configuration) (values vs : Values) (cells : List ℕ)
+      (queues : Location → List Entry) : Type 0 where
     pub agree : Agree st who s.held vs values
     pub same : LeavesMine st who s cells queues
-    pub spelled : st.Spells (Guarded x) (slice_index cells) (queues (Guarded x)) (vs (Guarded x))
+    pub represented : st.Represents (Guarded x) (slice_index cells) (queues (Guarded x)) (vs (Guarded x))
     pub once : (e : Entry) → mine (inside x Marked 0 0 s.rest cells queues s) e ≤ 1
     -- where it is the timer queue, one more message may be armed: armings are numbered
     pub few : MayArm (vs (Guarded x))
 
   -- The job's next action enters a section, and the instruction opens it. Then the job has what the section guards, as
   -- others left it.
-  pub record GoesIn (x : Section) (i : Instr) (s : Spot) (later : Spot → Type 0) : Type 0 where
+  pub record EntersSection (x : Section) (i : Instr) (s : Configuration) (later : Configuration → Type 0) : Type 0 where
     pub cost : ℕ
     pub values : Values
     pub follows : ℕ → Values → Doing Values
@@ -98,20 +100,20 @@ module _ (st : Storage) (who : Runner) where
     pub within : IsWithin who x
     pub once : is_open s.held x ≡ false
     pub shared : NobodyKeeps who x
-    pub on : (saved : ℕ) (vs : Values) (cells : List ℕ) (queues : Holder → List Entry)
+    pub on : (saved : ℕ) (vs : Values) (cells : List ℕ) (queues : Location → List Entry)
         → TakesOver x s values vs cells queues
         → later (inside x kind saved cost (follows 0 vs) cells queues s)
 
   -- The job's next action leaves the innermost section, and the instruction closes it. What the section guards is given
-  -- back as it then is: its cells spell its value.
-  pub record ComesOut (x : Section) (i : Instr) (s : Spot) (later : Spot → Type 0) : Type 0 where
+  -- back as it then is: its cells represent its value.
+  pub record LeavesSection (x : Section) (i : Instr) (s : Configuration) (later : Configuration → Type 0) : Type 0 where
     pub values : Values
     pub follows : ℕ → Values → Doing Values
     pub is : s.rest ≡ does (Leaves x) values follows
     pub kind : Kind
-    pub outer : List Held
+    pub outer : List OpenSection
     pub innermost : s.held ≡ record { section = x; kind = kind } ∷ outer
     pub closes : i ≡ closing_instr kind
-    pub spelled : st.Spells (Guarded x) (slice_index s.cells) (s.queues (Guarded x)) (values (Guarded x))
+    pub represented : st.Represents (Guarded x) (slice_index s.cells) (s.queues (Guarded x)) (values (Guarded x))
     pub on : (vs : Values) → Agree st who outer vs values
         → later (record s { held = outer; lefts = drop 1 s.lefts; address = suc s.address; rest = follows 0 vs })

@@ -5,7 +5,7 @@
 use Rattle.std.specs.Prelude.{◌≡◌, ℕ, zero, suc, ◌-◌, ◌^◌, ◌<◌, Bool, true, false, ◌||◌, List, [], ◌∷◌, length, map}
 use Rattle.std.specs.Prelude.{slice_get, slice_index, Option, Some, None}
 use Rattle.std.specs.List.{AllByRecursion}
-use Rattle.rt_ids.specs.Holder.{Holder}
+use Rattle.rt_ids.specs.Location.{Location}
 use Rattle.rt_ids.specs.Content.{Values}
 use Rattle.rt_ids.specs.Entry.{Entry}
 use Rattle.rt_ids.specs.Action.{Emits, Posts, Clocks, Returns}
@@ -15,8 +15,8 @@ use Rattle.rt_code.specs.Access.{access_of}
 use Rattle.rt_code.specs.Acting.{Acts, SetsTheAlarm, Noted}
 use Rattle.rt_code.specs.Effect as instruction
 pub use Rattle.rt_code.specs.Ending.{Finishes, Calls, ComesBack, EndsBody}
-use Rattle.rt_code.specs.Masking.{GoesIn, ComesOut}
-use Rattle.rt_code.specs.Owning.{Held, Spot, saved_slots, MayAccess}
+use Rattle.rt_code.specs.Masking.{EntersSection, LeavesSection}
+use Rattle.rt_code.specs.Owning.{OpenSection, Configuration, saved_slots, MayAccess}
 use Rattle.rt_code.specs.Processor.{Processor, Effect, Traps, Leads}
 use Rattle.rt_code.specs.declared.image.BodyRow.{BodyRow}
 use Rattle.rt_code.specs.declared.instr.Instr.{Instr}
@@ -25,17 +25,17 @@ use Rattle.rt_code.specs.declared.instr.Note.TheVariants as note
 use Rattle.rt_code.specs.declared.processor.Request.{Request}
 use Rattle.rt_code.specs.declared.processor.Request.TheVariants as request
 
--- the processor at a job's spot, with these masks
-abbrev pub processor_of : Spot → ℕ → Bool → Processor
+-- the processor at a job's configuration, with these masks
+abbrev pub processor_of : Configuration → ℕ → Bool → Processor
 processor_of s basepri primask =
     record { address = s.address; basepri = basepri; primask = primask; slots = s.slots; cells = s.cells }
 
 -- where a job is after an instruction of its own
-abbrev pub spot_behind : Spot → Processor → Spot
-spot_behind s p = record s { address = p.address; slots = p.slots; cells = p.cells }
+abbrev pub configuration_after : Configuration → Processor → Configuration
+configuration_after s p = record s { address = p.address; slots = p.slots; cells = p.cells }
 
 -- what its open sections saved is not touched
-abbrev pub KeepsSaved : List Held → List ℕ → List ℕ → Type 0
+abbrev pub KeepsSaved : List OpenSection → List ℕ → List ℕ → Type 0
 KeepsSaved held slots after = AllByRecursion (λ d. slice_index after d ≡ slice_index slots d) (saved_slots held)
 
 -- a step is left to the job and to each of its open sections
@@ -43,14 +43,14 @@ abbrev pub HaveLeft : List ℕ → Type 0
 HaveLeft lefts = AllByRecursion (λ n. 0 < n) lefts
 
 -- where the job is, with a step less left to it and to each of its open sections
-abbrev pub spot_after_step : Spot → Spot
-spot_after_step s = record s { lefts = map (λ n. n - 1) s.lefts }
+abbrev pub spend_step : Configuration → Configuration
+spend_step s = record s { lefts = map (λ n. n - 1) s.lefts }
 
 -- code for a runner, beside the rows of the bodies that it may call, where the thread goes on at an address once `init`
 -- or `idle` ends
 module _ (st : Storage) (code : List (Instr × Option Note)) (bodies : List BodyRow) (thread : ℕ) (who : Runner) where
   -- what an instruction asks of the core; one that asks nothing is silent, or does what its note says
-  abbrev pub Asks : Request → Option Note → Spot → (Spot → Type 0) → Type 0
+  abbrev pub Asks : Request → Option Note → Configuration → (Configuration → Type 0) → Type 0
   Asks request.Nothing None s later = later s
   Asks request.Nothing (Some told) s later = Noted st bodies who told s later
   Asks (request.Emit value) None s later = Acts st bodies who (Emits value) 0 s later
@@ -66,46 +66,47 @@ module _ (st : Storage) (code : List (Instr × Option Note)) (bodies : List Body
 
   -- an instruction with this effect does not trap, leaves the masks and what sections saved, and asks what the job has
   -- to do next
-  abbrev pub Goes : Option Note → ℕ → Bool → Spot → (Spot → Type 0) → Effect → Type 0
+  abbrev pub Goes : Option Note → ℕ → Bool → Configuration → (Configuration → Type 0) → Effect → Type 0
   Goes told basepri primask s later (Traps trap) = ⊥
   Goes told basepri primask s later (Leads p asked) =
       (p.basepri ≡ basepri) × (p.primask ≡ primask) × KeepsSaved s.held s.slots p.slots
-      × Asks asked told (spot_behind s p) later
+      × Asks asked told (configuration_after s p) later
 
   -- an instruction that neither opens nor closes a section, nor ends a body: it touches what the job may touch, and
   -- with any masks and at any time below 2^31 it goes on as it should
-  pub record Does (i : Instr) (told : Option Note) (s : Spot) (later : Spot → Type 0) : Type 0 where
+  pub record Does (i : Instr) (told : Option Note) (s : Configuration) (later : Configuration → Type 0) : Type 0 where
     pub touches : MayAccess st who s (access_of i (processor_of s 0 false))
     pub goes : (time basepri : ℕ) (primask : Bool) → time < 2 ^ 31
         → Goes told basepri primask s later (instruction.effect i time (processor_of s basepri primask))
 
   -- an instruction with its note does what the job has to do: those of sections and of ends in ways of their own, and
   -- any other
-  abbrev pub Fits : Instr → Option Note → Spot → (Spot → Type 0) → Type 0
-  Fits i (Some (note.Enter x)) s later = GoesIn st who x i s later
-  Fits i (Some (note.Leave x)) s later = ComesOut st who x i s later
+  abbrev pub Fits : Instr → Option Note → Configuration → (Configuration → Type 0) → Type 0
+  Fits i (Some (note.Enter x)) s later = EntersSection st who x i s later
+  Fits i (Some (note.Leave x)) s later = LeavesSection st who x i s later
   Fits i (Some (note.End b)) s later = EndsBody st code bodies thread who b i s later
   Fits i told s later = Does i told s later
 
   -- there is a line, and its instruction fits with its note
-  abbrev pub LineFits : Option (Instr × Option Note) → Spot → (Spot → Type 0) → Type 0
+  abbrev pub LineFits : Option (Instr × Option Note) → Configuration → (Configuration → Type 0) → Type 0
   LineFits None s later = ⊥
   LineFits (Some line) s later = Fits line.0 line.1 s later
 
   -- The code is correct where the job is: within so many steps of its own the job comes to its end, each step is that
   -- of the line at its address, and no count of steps that are left runs out before.
-  unfoldable pub Stands : ℕ → Spot → Type 0
+  unfoldable pub Stands : ℕ → Configuration → Type 0
   Stands zero s = ⊥
-  Stands (suc n) s = HaveLeft s.lefts × LineFits (slice_get code s.address) (spot_after_step s) (Stands n)
+  Stands (suc n) s = HaveLeft s.lefts × LineFits (slice_get code s.address) (spend_step s) (Stands n)
 
   -- Code is correct at an entry, as a whole body or handler: from every frame of so many words, whatever it holds, and
-  -- every memory that spells what its runner keeps or may read at any time, it does what is to be done, within its
+  -- every memory that represents what its runner keeps or may read at any time, it does what is to be done, within its
   -- cost.
   abbrev pub StandsFrom : ℕ → ℕ → ℕ → ℕ → (Values → Doing Values) → Type 0
   StandsFrom memory words entry cost doing =
-      (slots cells : List ℕ) (queues : Holder → List Entry) (vs : Values) → length slots ≡ words → length cells ≡ memory
-      → ((h : Holder) → (st.is_kept who h || st.is_constant who h) ≡ true
-      → st.Spells h (slice_index cells) (queues h) (vs h))
+      (slots cells : List ℕ) (queues : Location → List Entry) (vs : Values) → length slots ≡ words → length cells
+      ≡ memory
+      → ((h : Location) → (st.is_kept who h || st.is_constant who h) ≡ true
+      → st.Represents h (slice_index cells) (queues h) (vs h))
       → Stands cost (record {
         held = [];
         lefts = cost ∷ [];

@@ -10,11 +10,11 @@ use Rattle.rt_ids.specs.declared.ids.Section.{Section}
 use Rattle.rt_code.specs.Access.{access_of}
 use Rattle.rt_code.specs.Effect.{effect}
 use Rattle.rt_code.specs.Leading.{LeadsTo, is_of_section, is_plain}
-use Rattle.rt_code.specs.Masking.{GoesIn, ComesOut, IsKindFor, opening_instr, closing_instr}
-use Rattle.rt_code.specs.Owning.{Kind, Held, Spot, saved_slot, saved_slots, MayAccess}
+use Rattle.rt_code.specs.Masking.{EntersSection, LeavesSection, IsKindFor, opening_instr, closing_instr}
+use Rattle.rt_code.specs.Owning.{Kind, OpenSection, Configuration, saved_slot, saved_slots, MayAccess}
 use Rattle.rt_code.specs.Processor.{Processor}
 use Rattle.rt_code.specs.Standing.{Stands, Goes, Calls, ComesBack, Finishes}
-use Rattle.rt_code.specs.Standing.{HaveLeft, KeepsSaved, spot_after_step, processor_of}
+use Rattle.rt_code.specs.Standing.{HaveLeft, KeepsSaved, spend_step, processor_of}
 use Rattle.rt_code.specs.declared.image.BodyRow.{BodyRow}
 use Rattle.rt_code.specs.declared.instr.Instr.{Instr}
 use Rattle.rt_code.specs.declared.instr.Instr.TheVariants as instr
@@ -24,13 +24,13 @@ use Rattle.rt_code.specs.declared.processor.Request.{Request}
 use Rattle.rt_code.specs.declared.processor.Request.TheVariants as request
 
 module _ (st : Storage) (code : List (Instr × Option Note)) (bodies : List BodyRow) (thread : ℕ) (who : Runner)
-    (n : ℕ) (s : Spot) where
+    (n : ℕ) (s : Configuration) where
   -- the line at the job's address is this instruction with this note
   abbrev pub IsLine : Instr → Option Note → Type 0
   IsLine i told = slice_get code s.address ≡ Some (i, told)
 
-  -- the code stands at a spot, within so many steps
-  abbrev pub Later : Spot → Type 0
+  -- the code stands at a configuration, within so many steps
+  abbrev pub Later : Configuration → Type 0
   Later t = Stands st code bodies thread who n t
 
   -- Step: a step is left to the job and to each open section, and the line touches what the job may touch. A plain line
@@ -41,7 +41,7 @@ module _ (st : Storage) (code : List (Instr × Option Note)) (bodies : List Body
     pub there : IsLine line.0 line.1
     pub touches : MayAccess st who s (access_of line.0 (processor_of s 0 false))
     pub goes : is_plain line.1 ≡ true → (time basepri : ℕ) (primask : Bool) → time < 2 ^ 31
-        → Goes st code bodies thread who line.1 basepri primask (spot_after_step s) Later
+        → Goes st code bodies thread who line.1 basepri primask (spend_step s) Later
         (effect line.0 time (processor_of s basepri primask))
 
   -- a section opens by the kind that is asked for, with a slot of the frame that keeps no other mask
@@ -54,7 +54,7 @@ module _ (st : Storage) (code : List (Instr × Option Note)) (bodies : List Body
   -- the innermost section closes by the kind that it opened by
   pub record ClosesByKind (x : Section) (i : Instr) : Type 0 where
     pub kind : Kind
-    pub outer : List Held
+    pub outer : List OpenSection
     pub innermost : s.held ≡ record { section = x; kind = kind } ∷ outer
     pub closes : i ≡ closing_instr kind
 
@@ -77,9 +77,9 @@ module _ (st : Storage) (code : List (Instr × Option Note)) (bodies : List Body
     pub call : (i : Instr) (told : Option Note) → IsLine i told
         → (time basepri row from : ℕ) (primask : Bool) (p : Processor)
         → LeadsTo s i time basepri primask p (request.Call row from)
-        → Calls st code bodies thread who row from (spot_after_step s) Later
+        → Calls st code bodies thread who row from (spend_step s) Later
     pub back : (t : ℕ) (i : Instr) → IsLine i (Some (note.End (body.Task t)))
-        → (i ≡ instr.Back) × ComesBack st code bodies thread who t (spot_after_step s) Later
+        → (i ≡ instr.Back) × ComesBack st code bodies thread who t (spend_step s) Later
     pub off : (i : Instr) (told : Option Note) → IsLine i told
         → (time basepri : ℕ) (primask : Bool) (p : Processor) → LeadsTo s i time basepri primask p request.Back
         → (t : ℕ) × (told ≡ Some (note.End (body.Task t)))
@@ -89,22 +89,23 @@ module _ (st : Storage) (code : List (Instr × Option Note)) (bodies : List Body
 
   -- Taking over: at the opening of a section what it guards, as others left it.
   abbrev pub TakingOver : Type 0
-  TakingOver = (x : Section) (i : Instr) → IsLine i (Some (note.Enter x)) → GoesIn st who x i (spot_after_step s) Later
+  TakingOver = (x : Section) (i : Instr) → IsLine i (Some (note.Enter x))
+      → EntersSection st who x i (spend_step s) Later
 
-  -- Giving back: at its closing what it guards, spelled by its cells.
+  -- Giving back: at its closing what it guards, represented by its cells.
   abbrev pub GivingBack : Type 0
   GivingBack = (x : Section) (i : Instr) → IsLine i (Some (note.Leave x))
-      → ComesOut st who x i (spot_after_step s) Later
+      → LeavesSection st who x i (spend_step s) Later
 
   -- Ends: `init`, `idle` and a job end with nothing open or in hands, and give back what their runner keeps; the
   -- thread goes on at its address.
   pub record EndLaw : Type 0 where
     pub init : (i : Instr) → IsLine i (Some (note.End body.Init))
         → (i ≡ instr.Serve) × (who ≡ Starting) × (suc s.address ≡ thread)
-        × Finishes st code bodies thread who (Ends body.Init) (spot_after_step s)
+        × Finishes st code bodies thread who (Ends body.Init) (spend_step s)
     pub idle : (i : Instr) → IsLine i (Some (note.End body.Idle))
         → (i ≡ instr.Jump thread) × (who ≡ AtPriority 0)
-        × Finishes st code bodies thread who (Ends body.Idle) (spot_after_step s)
+        × Finishes st code bodies thread who (Ends body.Idle) (spend_step s)
     pub job : (i : Instr) (told : Option Note) → IsLine i told
         → (time basepri : ℕ) (primask : Bool) (p : Processor) → LeadsTo s i time basepri primask p request.Return
-        → Finishes st code bodies thread who Returns (spot_after_step s)
+        → Finishes st code bodies thread who Returns (spend_step s)

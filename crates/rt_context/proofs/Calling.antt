@@ -17,7 +17,7 @@ use Rattle.rt_code.specs.Stack.{words_of, last_slot, arguments_fit}
 use Rattle.rt_context.specs.Frames.{Frames, words_below}
 use Rattle.rt_context.specs.Moves.{has_room, may_call, call_fits, frames_after_call}
 use Rattle.rt_ids.specs.Lists.{is_empty}
-use Rattle.rt_context.specs.Inside.Parts.{Spells}
+use Rattle.rt_context.specs.Inside.Parts.{Represents}
 use Rattle.rt_context.proofs.Running.{top_is, below_is}
 
 -- the slots of a caller and of a body above it, with the arguments copied
@@ -116,15 +116,15 @@ tested f row from may fits =
       room = parts.1;
     }
 
-pub spells_called : (f : Frames) (c d : Inside) (row : BodyRow) (from args address : ℕ) → Spells f c
+pub represents_called : (f : Frames) (c d : Inside) (row : BodyRow) (from args address : ℕ) → Represents f c
     → MayCall f row from → args ≡ row.args
     → d.region ≡ record c.region {
       words = below c.region c.frame ++ called_with from args row.frame
           (set (top c.region c.frame) (c.frame - 1) address);
     }
     → d.entry ≡ c.entry → d.frame ≡ row.frame → d.caller ≡ Some c.frame → d.callers ≡ c.callers
-    → Spells (frames_after_call f row from address) d
-spells_called f c d row from args address s may args_are region entry frame caller callers =
+    → Represents (frames_after_call f row from address) d
+represents_called f c d row from args address s may args_are region entry frame caller callers =
     let slots : List ℕ = set f.slots (last_slot f.slots) address in
     let long : length slots ≡ length f.slots = length-set f.slots (last_slot f.slots) address in
     let body : List ℕ = take row.args (drop from slots) ++ replicate (row.frame - row.args) 0 in
@@ -137,7 +137,7 @@ spells_called f c d row from args address s may args_are region entry frame call
     ap (λ (r : Region). r.words) region
     ∙ (λ i. under i ++ called_with from (args_are i) row.frame (set (top_is f c s i) (s.frame i - 1) address)) in
     record {
-      spelled = all;
+      represented = all;
       size = ap (λ (r : Region). r.size) region ∙ s.size;
       entry = entry ∙ s.entry;
       frame = frame ∙ omega (arith, both, long, length-append slots body);

@@ -6,7 +6,7 @@ use Rattle.rt_ids.specs.declared.exception.TheConstants.{BASIC_FRAME_WORDS}
 use Rattle.rt_code.specs.Stack.{words_of}
 use Rattle.rt_context.specs.Frames.{Saved, Frames, exception_frame, words_below, words, saved_words, frames_in_use}
 use Rattle.rt_context.specs.Frames.{depth}
-use Rattle.rt_context.proofs.Spelling.{length-exception_frame}
+use Rattle.rt_context.proofs.Representing.{length-exception_frame}
 
 length-words_below : (entry : ℕ) → BASIC_FRAME_WORDS ≤ entry → (below : List Saved)
     → length (words_below entry below) ≡ sum_by (saved_words entry) below

@@ -1,4 +1,4 @@
--- What fields spell in the thread, and after exception entry.
+-- What fields represent in the thread, and after exception entry.
 use Rattle.std.proofs.Common.{◌≡◌, ℕ, ◌+◌, ◌-◌, ◌^◌, ◌≤◌, min, IsTrue, [], ◌∷◌, ◌++◌, length, replicate, reverse, None}
 use Rattle.std.proofs.Common.{sym, ap, ◌∙◌, arith, append_assoc, length-append}
 use Rattle.std.proofs.lemmas.List.{length-replicate, reverse-append}
@@ -8,12 +8,12 @@ use Rattle.rt_context.specs.declared.sizes.TheConstants.{STACK_WORDS}
 use Rattle.rt_context.specs.declared.frames.Frames.TheInside.{Inside}
 use Rattle.rt_context.specs.Frames.{Saved, Frames, exception_frame}
 use Rattle.rt_context.specs.Moves.{has_room, thread, frames_after_entry}
-use Rattle.rt_context.specs.Inside.Parts.{Spells}
-use Rattle.rt_context.proofs.Spelling.{length-exception_frame}
+use Rattle.rt_context.specs.Inside.Parts.{Represents}
+use Rattle.rt_context.proofs.Representing.{length-exception_frame}
 use Rattle.rt_context.proofs.Running.{top_is, fits_from_room}
 
 -- exception entry, where the code's sum may stop at the largest number
-pub entry_fits : (f : Frames) (c : Inside) (words n : ℕ) → Spells f c → n ≡ min (c.entry + words) (2 ^ 32 - 1)
+pub entry_fits : (f : Frames) (c : Inside) (words n : ℕ) → Represents f c → n ≡ min (c.entry + words) (2 ^ 32 - 1)
     → IsTrue (has_room f n)
     → Fits c.region (c.entry + words)
 entry_fits f c words n s stopped is =
@@ -23,7 +23,7 @@ entry_fits f c words n s stopped is =
     omega arith
 
 -- with the architecture's frame pushed, the handler's frame fits
-pub frame_fits : (f : Frames) (c : Inside) (r : Region) (x : Saved) (words : ℕ) → Spells f c
+pub frame_fits : (f : Frames) (c : Inside) (r : Region) (x : Saved) (words : ℕ) → Represents f c
     → r ≡ record c.region { words = c.region.words ++ exception_frame c.entry x } → Fits c.region (c.entry + words)
     → Fits r words
 frame_fits f c r x words s region fits =
@@ -33,19 +33,19 @@ frame_fits f c r x words s region fits =
     let all = length-append c.region.words (exception_frame c.entry x) in
     let pushed = length-exception_frame c.entry basic x in omega (arith, long, size, fits, all, pushed)
 
-pub spells_entered : (f : Frames) (c d : Inside) (number address n : ℕ) → Spells f c
+pub represents_entered : (f : Frames) (c d : Inside) (number address n : ℕ) → Represents f c
     → d.region ≡ record c.region {
       words = (c.region.words ++ exception_frame c.entry
           (record { number = number; address = address; slots = top c.region c.frame; caller = None }))
           ++ replicate n 0;
     }
     → d.entry ≡ c.entry → d.frame ≡ n → d.caller ≡ None → d.callers.items ≡ c.callers.items ++ c.caller ∷ []
-    → Spells (frames_after_entry f number address n) d
-spells_entered f c d number address n s region entry frame caller callers =
+    → Represents (frames_after_entry f number address n) d
+represents_entered f c d number address n s region entry frame caller callers =
     record {
-      spelled =
+      represented =
           ap (λ (r : Region). r.words) region
-          ∙ (λ i. (s.spelled i ++ exception_frame (s.entry i)
+          ∙ (λ i. (s.represented i ++ exception_frame (s.entry i)
           (record { number = number; address = address; slots = top_is f c s i; caller = None })) ++ replicate n 0)
           ∙ simp append_assoc;
       size = ap (λ (r : Region). r.size) region ∙ s.size;
@@ -61,13 +61,13 @@ spells_entered f c d number address n s region entry frame caller callers =
     }
 
 -- the thread's frame alone
-pub spells_thread : (size entry n : ℕ) (d : Inside) → size ≤ STACK_WORDS → BASIC_FRAME_WORDS ≤ entry
+pub represents_thread : (size entry n : ℕ) (d : Inside) → size ≤ STACK_WORDS → BASIC_FRAME_WORDS ≤ entry
     → d.region ≡ region_after_push (empty size) n → d.entry ≡ entry → d.frame ≡ n → d.caller ≡ None → d.callers.items
     ≡ []
-    → Spells (thread size entry n) d
-spells_thread size entry n d small basic region entry_is frame caller callers =
+    → Represents (thread size entry n) d
+represents_thread size entry n d small basic region entry_is frame caller callers =
     record {
-      spelled = ap (λ (r : Region). r.words) region;
+      represented = ap (λ (r : Region). r.words) region;
       size = ap (λ (r : Region). r.size) region;
       entry = entry_is;
       frame = frame ∙ sym (length-replicate n 0);

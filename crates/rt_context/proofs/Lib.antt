@@ -1,4 +1,4 @@
-pub mod Spelling
+pub mod Representing
 pub mod Counting
 pub mod Running
 pub mod Entering

@@ -1,4 +1,4 @@
--- What fields spell after a return.
+-- What fields represent after a return.
 use Rattle.std.proofs.Common.{◌≡◌, ℕ, ◌+◌, ◌-◌, ◌≤◌, List, [], ◌∷◌, ◌++◌, slice_index, length, reverse, Option, Some}
 use Rattle.std.proofs.Common.{None, option_map, refl, sym, ap, subst, ◌∙◌, arith, append_assoc, append-nil}
 use Rattle.std.proofs.Common.{length-append, length-take}
@@ -11,30 +11,31 @@ use Rattle.rt_context.specs.declared.frames.Frames.TheInside.{Inside}
 use Rattle.rt_code.specs.Stack.{words_of, interrupted_context}
 use Rattle.rt_context.specs.Frames.{Saved, Frames, exception_frame, words_below, words}
 use Rattle.rt_context.specs.Moves.{frames_after_resuming, frames_after_return, back}
-use Rattle.rt_context.specs.Inside.Parts.{frames, caller_size, HasReturn, Spells, IsSpelled}
-use Rattle.rt_context.proofs.Spelling.{last_of-append, without-append, length-exception_frame, sizes_of, spelled, kept}
+use Rattle.rt_context.specs.Inside.Parts.{frames, caller_size, HasReturn, Represents, IsRepresented}
+use Rattle.rt_context.proofs.Representing.{last_of-append, without-append, length-exception_frame, sizes_of}
+use Rattle.rt_context.proofs.Representing.{represented, kept}
 use Rattle.rt_context.proofs.Running.{below_is, used_is, popped_is}
 
--- A return, by its definition, leads to frames that the fields spell.
+-- A return, by its definition, leads to frames that the fields represent.
 pub record Leads (returned : Option (Frames × ℕ)) (d : Inside) (address : ℕ) : Type 0 where
   pub after : Frames
   pub is : returned ≡ Some (after, address)
-  pub spells : Spells after d
+  pub represents : Represents after d
 
-pub leads_kept : (o : Option (Frames × ℕ)) (d : Inside) (address : ℕ) → Leads o d address → IsSpelled d
-leads_kept o d address l = kept l.after d l.spells
+pub leads_kept : (o : Option (Frames × ℕ)) (d : Inside) (address : ℕ) → Leads o d address → IsRepresented d
+leads_kept o d address l = kept l.after d l.represents
 
 -- as the contract says it, of the number that the code answers
 pub leads_view : (o : Option (Frames × ℕ)) (d : Inside) (address : ℕ) → Leads o d address → (a : ℕ) → Some address
     ≡ Some a → o ≡ Some (frames d, a)
 leads_view o d address l a same =
     let e : address ≡ a = cc in
-    l.is ∙ (λ i. Some (sym (spelled l.after d l.spells) i, e i))
+    l.is ∙ (λ i. Some (sym (represented l.after d l.represents) i, e i))
 
 -- A body's return.
 back_by : (size entry : ℕ) (slots : List ℕ) (handler : Option (List ℕ)) (saved : List Saved) (c d : Inside)
     (n address : ℕ)
-    → Spells (record { size = size; entry = entry; slots = slots; caller = handler; below = saved }) c → c.caller
+    → Represents (record { size = size; entry = entry; slots = slots; caller = handler; below = saved }) c → c.caller
     ≡ Some n
     → d.region ≡ region_after_pop c.region c.frame → d.entry ≡ c.entry → d.frame ≡ n → d.caller ≡ None → d.callers
     ≡ c.callers → address ≡ slice_index (top d.region n) (n - 1)
@@ -59,8 +60,8 @@ back_by size entry slots (Some own) saved c d n address s calls region entry_is 
     read ∙ (λ i. slice_index (on_top i) (same i - 1)) in record {
       after = after;
       is = ap (λ a. Some (after, a)) (sym answer);
-      spells = record {
-        spelled = ap (λ (r : Region). r.words) under;
+      represents = record {
+        represented = ap (λ (r : Region). r.words) under;
         size = ap (λ (r : Region). r.size) under;
         entry = entry_is ∙ s.entry;
         frame = frame ∙ same;
@@ -73,7 +74,7 @@ back_by size entry slots (Some own) saved c d n address s calls region entry_is 
       };
     }
 
-pub back_leads : (f : Frames) (c d : Inside) (n address : ℕ) → Spells f c → c.caller ≡ Some n
+pub back_leads : (f : Frames) (c d : Inside) (n address : ℕ) → Represents f c → c.caller ≡ Some n
     → d.region ≡ region_after_pop c.region c.frame → d.entry ≡ c.entry → d.frame ≡ n → d.caller ≡ None → d.callers
     ≡ c.callers → address ≡ slice_index (top d.region n) (n - 1)
     → Leads (back f) d address
@@ -98,7 +99,7 @@ finds_by f None (last ∷ others) caller callers is below none sizes =
 
 -- where the fields say that no called body runs, and what the last of the sizes is
 pub finds : (f : Frames) (c : Inside) (caller : Option ℕ) (callers : List (Option ℕ))
-    → Spells f c → c.caller ≡ None → c.callers.items ≡ callers ++ caller ∷ [] → Finds f caller (reverse callers)
+    → Represents f c → c.caller ≡ None → c.callers.items ≡ callers ++ caller ∷ [] → Finds f caller (reverse callers)
 finds f c caller callers s none items =
     let sizes : caller ∷ reverse callers ≡ sizes_of f.below =
     sym (ap reverse items ∙ reverse-append callers (caller ∷ [])) ∙ s.callers in
@@ -108,7 +109,7 @@ abbrev after : Frames → Saved → List Saved → Frames
 after f last others = record f { slots = last.slots; caller = last.caller; below = others }
 
 -- An exception return.
-module _ (f : Frames) (c : Inside) (caller : Option ℕ) (callers : List (Option ℕ)) (s : Spells f c)
+module _ (f : Frames) (c : Inside) (caller : Option ℕ) (callers : List (Option ℕ)) (s : Represents f c)
     (found : Finds f caller callers) where
   -- below the running frame are the words of the frames to come, and the architecture's frame
   under_words : words_below f.entry f.below ++ words_of f.caller ≡ words (after f found.last found.others)
@@ -146,8 +147,8 @@ module _ (f : Frames) (c : Inside) (caller : Option ℕ) (callers : List (Option
         is =
             (λ i. option_map (frames_after_resuming f) (interrupted_context (found.handler i) (found.below i)))
             ∙ ap (λ a. Some (after f found.last found.others, a)) (sym answer);
-        spells = record {
-          spelled = left_words;
+        represents = record {
+          represented = left_words;
           size = ap (λ (r : Region). r.size) region ∙ s.size;
           entry = entry_is ∙ s.entry;
           frame = frame ∙ ap (λ ws. slice_index ws LINK) on_top;

@@ -1,21 +1,21 @@
--- What fields spell after words are written in the running frame.
+-- What fields represent after words are written in the running frame.
 use Rattle.std.proofs.Common.{◌≡◌, ℕ, List, ◌++◌, length, reverse, sym, ap, ◌∙◌, append_assoc}
 use Rattle.rt_stack.specs.Region.{Region, below}
 use Rattle.rt_context.specs.declared.frames.Frames.TheInside.{Inside}
 use Rattle.rt_code.specs.Stack.{words_of}
 use Rattle.rt_context.specs.Frames.{Frames, words_below}
-use Rattle.rt_context.specs.Inside.Parts.{Spells}
+use Rattle.rt_context.specs.Inside.Parts.{Represents}
 use Rattle.rt_context.proofs.Running.{below_is}
 
 abbrev pub written : Frames → List ℕ → Frames
 written f ws = record f { slots = ws }
 
-pub spells_written : (f : Frames) (c d : Inside) (ws : List ℕ) → Spells f c → length ws ≡ c.frame
+pub represents_written : (f : Frames) (c d : Inside) (ws : List ℕ) → Represents f c → length ws ≡ c.frame
     → d.region ≡ record c.region { words = below c.region c.frame ++ ws } → d.entry ≡ c.entry → d.frame ≡ c.frame
-    → d.caller ≡ c.caller → d.callers ≡ c.callers → Spells (written f ws) d
-spells_written f c d ws s long region entry frame caller callers =
+    → d.caller ≡ c.caller → d.callers ≡ c.callers → Represents (written f ws) d
+represents_written f c d ws s long region entry frame caller callers =
     record {
-      spelled = ap (λ (r : Region). r.words) region ∙ ap (λ rest. rest ++ ws) (below_is f c s)
+      represented = ap (λ (r : Region). r.words) region ∙ ap (λ rest. rest ++ ws) (below_is f c s)
           ∙ append_assoc (words_below f.entry f.below) (words_of f.caller) ws;
       size = ap (λ (r : Region). r.size) region ∙ s.size;
       entry = entry ∙ s.entry;

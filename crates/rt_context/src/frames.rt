@@ -36,11 +36,11 @@ impl Model for Frames {
 
     ghost Value = { Frames };
 
-    ghost use Rattle.rt_context.specs.Inside.Parts.{frames, IsSpelled};
+    ghost use Rattle.rt_context.specs.Inside.Parts.{frames, IsRepresented};
 
     ghost view = { frames };
 
-    ghost invariant = { IsSpelled };
+    ghost invariant = { IsRepresented };
 }
 
 impl Frames {
@@ -74,7 +74,7 @@ impl Frames {
         requires fits { thread_words ≤ self.old.size }
         ensures { self.new ≡ moves.thread self.old.size self.old.entry thread_words }
     {
-        self.region.pop(self.region.used());
+        self.region.pop(self.region.used_words());
         self.region.push(thread_words);
         self.frame = thread_words;
         self.caller = None;
@@ -86,7 +86,7 @@ impl Frames {
         ensures bytes { result ≡ spec.depth self.now }
         ensures within { result ≤ 4 * self.now.size }
     {
-        4 * self.region.used()
+        4 * self.region.used_words()
     }
 
     /// The words of the running frame.
@@ -100,7 +100,7 @@ impl Frames {
     pub fn words(&self) -> &[u32]
         ensures { result.now ≡ spec.words self.now }
     {
-        let used = self.region.used();
+        let used = self.region.used_words();
         self.region.top_ref(used)
     }
 

@@ -6,14 +6,14 @@ use Rattle.rt_lemmas.proofs.Membership.{all_from_members}
 use Rattle.rt_ids.specs.Content.{Values}
 use Rattle.rt_ids.specs.Doing.{Doing}
 use Rattle.rt_ids.specs.Entry.{Entry}
-use Rattle.rt_ids.specs.Holder.{Holder}
+use Rattle.rt_ids.specs.Location.{Location}
 use Rattle.rt_ids.specs.Storage.{Storage, Runner}
 use Rattle.rt_ids.specs.declared.ids.Section.{Section}
 use Rattle.rt_code.specs.Masking.{inside}
-use Rattle.rt_code.specs.Owning.{Kind, Marked, Raised, Masked, Held, Spot, saved_slot, saved_slots}
+use Rattle.rt_code.specs.Owning.{Kind, Marked, Raised, Masked, OpenSection, Configuration, saved_slot, saved_slots}
 use Rattle.rt_code.specs.Processor.{Processor}
 use Rattle.rt_code.specs.Stack as stack
-use Rattle.rt_code.specs.Standing.{KeepsSaved, spot_behind, spot_after_step}
+use Rattle.rt_code.specs.Standing.{KeepsSaved, configuration_after, spend_step}
 use Rattle.rt_code.specs.declared.image.BodyRow.{BodyRow}
 use Rattle.rt_core.specs.Core.{Core}
 use Rattle.rt_core.specs.Leading.{IsAt, with_processor, in_frame}
@@ -21,17 +21,18 @@ use Rattle.rt_core.specs.Masks.{mask_of, processor_after_opening, processor_afte
 use Rattle.rt_core.specs.Transfer.{core_after_call}
 
 -- behind a plain instruction; what is left to do, places and queues do not count
-pub at_plain : (c : Core) (s : Spot) (p : Processor) (places : List Entry) (queues : Holder → List Entry)
+pub at_plain : (c : Core) (s : Configuration) (p : Processor) (places : List Entry) (queues : Location → List Entry)
     (rest : Doing Values) → IsAt c s
-    → IsAt (with_processor c p) (record (spot_behind (spot_after_step s) p)
+    → IsAt (with_processor c p) (record (configuration_after (spend_step s) p)
     { places = places; queues = queues; rest = rest })
 at_plain c s p places queues rest at = record { address = refl; slots = refl; cells = refl; caller = at.caller }
 
 -- where a section has opened
-pub at_inside : (st : Storage) (who : Runner) (c : Core) (s : Spot) (x : Section) (kind : Kind) (value cost : ℕ)
-    (rest : Doing Values) (queues : Holder → List Entry) → IsAt c s
+pub at_inside : (st : Storage) (who : Runner) (c : Core) (s : Configuration) (x : Section) (kind : Kind)
+    (value cost : ℕ)
+    (rest : Doing Values) (queues : Location → List Entry) → IsAt c s
     → IsAt (with_processor c (processor_after_opening c.processor value kind))
-    (inside st who x kind (mask_of c.processor kind) cost rest c.processor.cells queues (spot_after_step s))
+    (inside st who x kind (mask_of c.processor kind) cost rest c.processor.cells queues (spend_step s))
 at_inside st who c s x Marked value cost rest queues at =
     record { address = ap suc at.address; slots = at.slots; cells = refl; caller = at.caller }
 at_inside st who c s x (Raised slot) value cost rest queues at =
@@ -52,7 +53,8 @@ at_inside st who c s x (Masked slot) value cost rest queues at =
     }
 
 -- where a section has closed
-pub at_outer : (c : Core) (s : Spot) (kind : Kind) (held : List Held) (lefts : List ℕ) (rest : Doing Values) → IsAt c s
+pub at_outer : (c : Core) (s : Configuration) (kind : Kind) (held : List OpenSection) (lefts : List ℕ)
+    (rest : Doing Values) → IsAt c s
     → IsAt (with_processor c (processor_after_closing c.processor kind))
     (record s { held = held; lefts = lefts; address = suc s.address; rest = rest })
 at_outer c s Marked held lefts rest at = record {
@@ -77,9 +79,9 @@ at_outer c s (Masked slot) held lefts rest at = record {
 }
 
 -- in a called body
-pub at_called : (c : Core) (s : Spot) (b : BodyRow) (from : ℕ) → IsAt c s
+pub at_called : (c : Core) (s : Configuration) (b : BodyRow) (from : ℕ) → IsAt c s
     → IsAt (core_after_call c b from) (let frame = stack.caller_frame s.slots (suc s.address) in
-    record (spot_after_step s) { address = b.entry; slots = stack.body_frame frame b from; caller = Some frame })
+    record (spend_step s) { address = b.entry; slots = stack.body_frame frame b from; caller = Some frame })
 at_called c s b from at =
     let same = ap (λ xs. stack.caller_frame xs (suc c.processor.address)) at.slots
     ∙ ap (λ a. stack.caller_frame s.slots (suc a)) at.address in
@@ -92,8 +94,8 @@ at_called c s b from at =
     }
 
 -- back in the handler's frame
-pub at_back : (c : Core) (s : Spot) (frame : List ℕ) (rest : Doing Values) → IsAt c s
-    → IsAt (in_frame c frame) (record (spot_after_step s) {
+pub at_back : (c : Core) (s : Configuration) (frame : List ℕ) (rest : Doing Values) → IsAt c s
+    → IsAt (in_frame c frame) (record (spend_step s) {
       address = stack.return_address frame;
       slots = frame;
       caller = None;
@@ -113,7 +115,7 @@ opened_long p value Marked = refl
 opened_long p value (Raised slot) = length-set p.slots slot p.basepri
 opened_long p value (Masked slot) = length-set p.slots slot (mask_of p (Masked slot))
 
-pub opened_keeps : (p : Processor) (value : ℕ) (kind : Kind) (held : List Held)
+pub opened_keeps : (p : Processor) (value : ℕ) (kind : Kind) (held : List OpenSection)
     → AllByRecursion (λ d. ¬ Contains (saved_slots held) d) (saved_slot kind)
     → KeepsSaved held p.slots (processor_after_opening p value kind).slots
 opened_keeps p value Marked held free = all_from_members _ (saved_slots held) (λ d is. refl)

@@ -16,12 +16,12 @@ use Rattle.rt_code.specs.Access.{Access, access_of, access_with}
 use Rattle.rt_code.specs.Acting.{Acts, Noted}
 use Rattle.rt_code.specs.Effect.{effect}
 use Rattle.rt_code.specs.Image.{Image}
-use Rattle.rt_code.specs.Masking.{GoesIn, ComesOut}
-use Rattle.rt_code.specs.Owning.{Kind, Marked, Raised, Masked, Spot, MayAccess, saved_slot}
+use Rattle.rt_code.specs.Masking.{EntersSection, LeavesSection}
+use Rattle.rt_code.specs.Owning.{Kind, Marked, Raised, Masked, Configuration, MayAccess, saved_slot}
 use Rattle.rt_code.specs.Processor.{Processor, Effect, Traps, Leads}
 use Rattle.rt_code.specs.Stack as stack
 use Rattle.rt_code.specs.Standing.{Finishes, Calls, EndsBody, Asks, Goes, Does, Fits, LineFits, Stands, KeepsSaved}
-use Rattle.rt_code.specs.Standing.{spot_behind, spot_after_step, processor_of}
+use Rattle.rt_code.specs.Standing.{configuration_after, spend_step, processor_of}
 use Rattle.rt_code.specs.Tables.{arguments_in}
 use Rattle.rt_code.specs.Cells.{resource_value}
 use Rattle.rt_code.specs.declared.image.BodyRow.{BodyRow}
@@ -51,8 +51,8 @@ use Rattle.rt_core.specs.Transfer.{exception_return}
 use Rattle.rt_core.proofs.Happening.{steps_by_cause}
 use Rattle.rt_core.proofs.Leading.{opening_leads, closing_leads}
 
--- the core's processor is that of the spot
-pub processor_at : (c : Core) (s : Spot) → IsAt c s → processor_of s c.processor.basepri c.processor.primask
+-- the core's processor is that of the configuration
+pub processor_at : (c : Core) (s : Configuration) → IsAt c s → processor_of s c.processor.basepri c.processor.primask
     ≡ c.processor
 processor_at c s at =
     let p = c.processor in
@@ -61,12 +61,12 @@ processor_at c s at =
     ∙ ap (λ x. record p { cells = x }) (sym at.cells)
 
 -- where an instruction leaves the processor as it was, the job is where it was
-pub stays_at : (c : Core) (s : Spot) → IsAt c s → spot_behind (spot_after_step s) c.processor ≡ spot_after_step s
+pub stays_at : (c : Core) (s : Configuration) → IsAt c s → configuration_after (spend_step s) c.processor ≡ spend_step s
 stays_at c s at =
-    ap (λ a. record (spot_after_step s) { address = a; slots = c.processor.slots; cells = c.processor.cells })
+    ap (λ a. record (spend_step s) { address = a; slots = c.processor.slots; cells = c.processor.cells })
     at.address
-    ∙ ap (λ x. record (spot_after_step s) { slots = x; cells = c.processor.cells }) at.slots
-    ∙ ap (λ x. record (spot_after_step s) { cells = x }) at.cells
+    ∙ ap (λ x. record (spend_step s) { slots = x; cells = c.processor.cells }) at.slots
+    ∙ ap (λ x. record (spend_step s) { cells = x }) at.cells
 
 -- a call of a body that is there, where its frame has room
 call_done : (img : Image) (c : Core) (row : ℕ) (b : BodyRow) (from : ℕ) → c.caller ≡ None → is_empty c.below ≡ false
@@ -101,13 +101,14 @@ value_left img c x Marked = value_kept img c x (processor_after_closing c.proces
 value_left img c x (Raised slot) = value_kept img c x (processor_after_closing c.processor (Raised slot)) refl
 value_left img c x (Masked slot) = value_kept img c x (processor_after_closing c.processor (Masked slot)) refl
 
-module _ (img : Image) (st : Storage) (thread : ℕ) (who : Runner) (c : Core) (s : Spot) (later : Spot → Type 0)
+module _ (img : Image) (st : Storage) (thread : ℕ) (who : Runner) (c : Core) (s : Configuration) (later : Configuration
+    → Type 0)
     (at : IsAt c s) (early : c.time < 2 ^ 31) where
   -- the item of a note
-  note_shows : (p : Processor) (told : Note) (a : Noted st img.bodies who told (spot_behind (spot_after_step s) p)
+  note_shows : (p : Processor) (told : Note) (a : Noted st img.bodies who told (configuration_after (spend_step s) p)
       later)
       → settle (outcome_of_note (with_processor c p) (item_of_note img (with_processor c p) told))
-      ≡ (with_processor c p, Some (item_of st img.bodies who later told (spot_behind (spot_after_step s) p) a))
+      ≡ (with_processor c p, Some (item_of st img.bodies who later told (configuration_after (spend_step s) p) a))
   note_shows p (note.Placed n) a = refl
   note_shows p (note.Full n) a = refl
   note_shows p (note.Ready n) a = refl
@@ -142,7 +143,7 @@ module _ (img : Image) (st : Storage) (thread : ℕ) (who : Runner) (c : Core) (
     asks : (p : Processor) (asked : Request) (told : Option Note) → effect i c.time c.processor ≡ Leads p asked
         → GoesPlainly s c.processor p
         → step img c ≡ settle (go_on img c told (Leads p asked)) → Asks st img.code img.bodies thread who asked told
-        (spot_behind (spot_after_step s) p) later
+        (configuration_after (spend_step s) p) later
         → StepsBy img st thread who c s later
     asks p request.Nothing None is plain by a = BySilence p plain by a
     asks p request.Nothing (Some told) is plain by a = ByNote p plain told a (by ∙ note_shows p told a)
@@ -151,14 +152,14 @@ module _ (img : Image) (st : Storage) (thread : ℕ) (who : Runner) (c : Core) (
     asks p (request.Clock time) None is plain by a =
         let same = clock_time i c.time time c.processor p is in
         ByClock p plain (subst (λ t. step img c ≡ (with_processor c p, Some (what.Clock t))) same by)
-        (subst (λ t. Acts st img.bodies who Clocks t (spot_behind (spot_after_step s) p) later) same a)
+        (subst (λ t. Acts st img.bodies who Clocks t (configuration_after (spend_step s) p) later) same a)
     asks p (request.Alarm instant irq) None is plain by (timer, a) = ByAlarm p plain instant irq timer by a
     asks p request.NoAlarm None is plain by a = ByNoAlarm p plain by a
     asks p (request.Call row from) None is plain by a =
         let same = call_stays i c.time row from c.processor p is in
-        let calls : Calls st img.code img.bodies thread who row from (spot_after_step s) later =
+        let calls : Calls st img.code img.bodies thread who row from (spend_step s) later =
         subst (λ t. Calls st img.code img.bodies thread who row from t later)
-        (ap (spot_behind (spot_after_step s)) same ∙ stays_at c s at) a in
+        (ap (configuration_after (spend_step s)) same ∙ stays_at c s at) a in
         ByCall row from calls (λ below room. subst (λ q. step img c ≡ settle (call img (with_processor c q) row from))
         same by
         ∙ ap settle (call_done img c row calls.called from (at.caller ∙ calls.may_call.0) below
@@ -166,9 +167,9 @@ module _ (img : Image) (st : Storage) (thread : ℕ) (who : Runner) (c : Core) (
         (subst (λ xs. stack.arguments_fit xs calls.called from ≡ true) (sym at.slots) calls.fits) room))
     asks p request.Return None is plain by a =
         let same = return_stays i c.time c.processor p is in
-        let ends : Finishes st img.code img.bodies thread who Returns (spot_after_step s) =
+        let ends : Finishes st img.code img.bodies thread who Returns (spend_step s) =
         subst (λ t. Finishes st img.code img.bodies thread who Returns t)
-        (ap (spot_behind (spot_after_step s)) same ∙ stays_at c s at) a in
+        (ap (configuration_after (spend_step s)) same ∙ stays_at c s at) a in
         ByReturn ends (λ x others below. subst (λ q. step img c ≡ settle (exception_return (with_processor c q))) same
         by
         ∙ ap (λ o. settle (outcome_of_return c o)) (ap (λ o. stack.interrupted_context o c.below)
@@ -177,7 +178,7 @@ module _ (img : Image) (st : Storage) (thread : ℕ) (who : Runner) (c : Core) (
     asks p asked (Some told) is plain by a = absurd a
 
     led : (e : Effect) (told : Option Note) → effect i c.time c.processor ≡ e → step img c ≡ settle (go_on img c told e)
-        → Goes st img.code img.bodies thread who told c.processor.basepri c.processor.primask (spot_after_step s) later
+        → Goes st img.code img.bodies thread who told c.processor.basepri c.processor.primask (spend_step s) later
         e → StepsBy img st thread who c s later
     led (Traps t) told is by g = absurd g
     led (Leads p asked) told is by (base, mask, saved, a) = asks p asked told is (record {
@@ -191,15 +192,15 @@ module _ (img : Image) (st : Storage) (thread : ℕ) (who : Runner) (c : Core) (
     }) by a
 
     does : (told : Option Note) → step img c ≡ settle (go_on img c told (effect i c.time c.processor))
-        → Does st img.code img.bodies thread who i told (spot_after_step s) later
+        → Does st img.code img.bodies thread who i told (spend_step s) later
         → StepsBy img st thread who c s later
     does told by d = led (effect i c.time c.processor) told refl by
         (subst (λ p. Goes st img.code img.bodies thread who told c.processor.basepri c.processor.primask
-        (spot_after_step s) later (effect i c.time p)) (processor_at c s at)
+        (spend_step s) later (effect i c.time p)) (processor_at c s at)
         (d.goes c.time c.processor.basepri c.processor.primask early))
 
     enters : (x : Section) → step img c ≡ settle (go_on img c (Some (note.Enter x)) (effect i c.time c.processor))
-        → GoesIn st who x i (spot_after_step s) later
+        → EntersSection st who x i (spend_step s) later
         → StepsBy img st thread who c s later
     enters x by g = ByEnter x i g (by ∙ ap (λ e. settle (go_on img c (Some (note.Enter x)) e))
         (ap (λ j. effect j c.time c.processor) g.opens
@@ -208,7 +209,7 @@ module _ (img : Image) (st : Storage) (thread : ℕ) (who : Runner) (c : Core) (
         (all_weaker _ (λ d. d < length s.slots) (λ d h. h.0) (saved_slot g.kind) g.slot))))
 
     leaves : (x : Section) → step img c ≡ settle (go_on img c (Some (note.Leave x)) (effect i c.time c.processor))
-        → ComesOut st who x i (spot_after_step s) later
+        → LeavesSection st who x i (spend_step s) later
         → StepsBy img st thread who c s later
     leaves x by g = ByLeave x i g (λ can. by ∙ ap (λ e. settle (go_on img c (Some (note.Leave x)) e))
         (ap (λ j. effect j c.time c.processor) g.closes ∙ closing_leads g.kind c.time c.processor can)
@@ -216,7 +217,7 @@ module _ (img : Image) (st : Storage) (thread : ℕ) (who : Runner) (c : Core) (
         (value_left img c x g.kind))
 
     ends : (b : BodyId) → step img c ≡ settle (go_on img c (Some (note.End b)) (effect i c.time c.processor))
-        → EndsBody st img.code img.bodies thread who b i (spot_after_step s) later
+        → EndsBody st img.code img.bodies thread who b i (spend_step s) later
         → StepsBy img st thread who c s later
     ends body.Init by (serve, starts, on, f) = ByEndOfInit starts f
         (by ∙ ap (λ j. settle (go_on img c (Some (note.End body.Init)) (effect j c.time c.processor))) serve
@@ -229,7 +230,7 @@ module _ (img : Image) (st : Storage) (thread : ℕ) (who : Runner) (c : Core) (
         ∙ ap (λ o. settle (with_note img (Some (note.End (body.Task t))) (back_to c o))) (at.caller ∙ b.caller))
 
     fits : (told : Option Note) → step img c ≡ settle (go_on img c told (effect i c.time c.processor))
-        → Fits st img.code img.bodies thread who i told (spot_after_step s) later
+        → Fits st img.code img.bodies thread who i told (spend_step s) later
         → StepsBy img st thread who c s later
     fits (Some (note.Enter x)) by f = enters x by f
     fits (Some (note.Leave x)) by f = leaves x by f
@@ -257,7 +258,7 @@ module _ (img : Image) (st : Storage) (thread : ℕ) (who : Runner) (c : Core) (
         some_at (Leads p asked) a may = may
 
     -- what the line touches is what the job may touch
-    touches : (told : Option Note) → Fits st img.code img.bodies thread who i told (spot_after_step s) later
+    touches : (told : Option Note) → Fits st img.code img.bodies thread who i told (spend_step s) later
         → MayAccess st who s (access_with (effect i c.time c.processor) (access_of i c.processor))
     touches (Some (note.Enter x)) f = touches_none (ap (λ j. access_of j c.processor) f.opens
         ∙ opening_touches (st.value (st.ceiling x)) f.kind c.processor)
@@ -269,10 +270,11 @@ module _ (img : Image) (st : Storage) (thread : ℕ) (who : Runner) (c : Core) (
     touches told f = touches_some f.touches
 
 -- the line that the core is at
-module _ (img : Image) (st : Storage) (thread : ℕ) (who : Runner) (c : Core) (s : Spot) (later : Spot → Type 0) where
+module _ (img : Image) (st : Storage) (thread : ℕ) (who : Runner) (c : Core) (s : Configuration) (later : Configuration
+    → Type 0) where
   line_leads : (o : Option (Instr × Option Note)) → c.stopped ≡ false → pick img c ≡ None → c.time < 2 ^ 31 → IsAt c s
       → AllByRecursion (λ n. 0 < n) s.lefts → slice_get img.code c.processor.address ≡ o
-      → LineFits st img.code img.bodies thread who o (spot_after_step s) later
+      → LineFits st img.code img.bodies thread who o (spend_step s) later
       → StepsAsStands img st thread who c s later
   line_leads None runs none early at left is f = absurd f
   line_leads (Some line) runs none early at left is f = record {
@@ -290,6 +292,6 @@ standing_leads st img thread who c s n runs none early at stands =
     line_leads img st thread who c s (Stands st img.code img.bodies thread who n)
     (slice_get img.code c.processor.address) runs none early at
     (stands_left st img.code img.bodies thread who n s stands) refl
-    (subst (λ a. LineFits st img.code img.bodies thread who (slice_get img.code a) (spot_after_step s)
+    (subst (λ a. LineFits st img.code img.bodies thread who (slice_get img.code a) (spend_step s)
     (Stands st img.code img.bodies thread who n)) (sym at.address)
     (stands_fits st img.code img.bodies thread who n s stands))

@@ -3,7 +3,7 @@
 use Rattle.std.specs.Prelude.{◌≡◌, ℕ, false, List, length, None}
 use Rattle.rt_ids.specs.Storage.{Storage, Runner}
 use Rattle.rt_code.specs.Acting.{Noted}
-use Rattle.rt_code.specs.Owning.{Spot}
+use Rattle.rt_code.specs.Owning.{Configuration}
 use Rattle.rt_code.specs.Processor.{Processor}
 use Rattle.rt_code.specs.Stack as stack
 use Rattle.rt_code.specs.Standing.{KeepsSaved}
@@ -15,7 +15,7 @@ use Rattle.rt_trace.specs.declared.item.What.TheVariants as what
 use Rattle.rt_core.specs.Core.{Core, Context}
 
 -- the core is where the job is
-pub record IsAt (c : Core) (s : Spot) : Type 0 where
+pub record IsAt (c : Core) (s : Configuration) : Type 0 where
   pub address : c.processor.address ≡ s.address
   pub slots : c.processor.slots ≡ s.slots
   pub cells : c.processor.cells ≡ s.cells
@@ -23,7 +23,7 @@ pub record IsAt (c : Core) (s : Spot) : Type 0 where
 
 -- After a plain instruction the masks are as they were, the frame and memory are as long, and the slots in which open
 -- sections saved masks are as they were.
-pub record GoesPlainly (s : Spot) (before after : Processor) : Type 0 where
+pub record GoesPlainly (s : Configuration) (before after : Processor) : Type 0 where
   pub basepri : after.basepri ≡ before.basepri
   pub primask : after.primask ≡ before.primask
   pub frame : length after.slots ≡ length before.slots
@@ -57,9 +57,9 @@ in_context c x others = record c {
   below = others;
 }
 
-module _ (st : Storage) (bodies : List BodyRow) (who : Runner) (later : Spot → Type 0) where
+module _ (st : Storage) (bodies : List BodyRow) (who : Runner) (later : Configuration → Type 0) where
   -- the item of a note, with the arguments, the handle or the instant as the job knows them
-  abbrev pub item_of : (told : Note) (t : Spot) → Noted st bodies who told t later → What
+  abbrev pub item_of : (told : Note) (t : Configuration) → Noted st bodies who told t later → What
   item_of (note.Placed n) t noted = what.Placed n
   item_of (note.Full n) t noted = what.Full n
   item_of (note.Ready n) t noted = what.Ready n

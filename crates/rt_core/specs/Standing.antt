@@ -9,10 +9,10 @@ use Rattle.rt_ids.specs.declared.ids.BodyId.TheVariants as body
 use Rattle.rt_ids.specs.declared.ids.Section.{Section}
 use Rattle.rt_code.specs.Acting.{Acts, SetsTheAlarm, Noted}
 use Rattle.rt_code.specs.Image.{Image}
-use Rattle.rt_code.specs.Masking.{GoesIn, ComesOut}
-use Rattle.rt_code.specs.Owning.{Spot, MayAccess}
+use Rattle.rt_code.specs.Masking.{EntersSection, LeavesSection}
+use Rattle.rt_code.specs.Owning.{Configuration, MayAccess}
 use Rattle.rt_code.specs.Processor.{Processor}
-use Rattle.rt_code.specs.Standing.{Finishes, Calls, ComesBack, HaveLeft, Stands, spot_behind, spot_after_step}
+use Rattle.rt_code.specs.Standing.{Finishes, Calls, ComesBack, HaveLeft, Stands, configuration_after, spend_step}
 use Rattle.rt_code.specs.declared.instr.Instr.{Instr}
 use Rattle.rt_code.specs.declared.instr.Note.{Note}
 use Rattle.rt_trace.specs.declared.item.What.{What}
@@ -28,30 +28,31 @@ use Rattle.rt_core.specs.Priority.{pick}
 use Rattle.rt_core.specs.Stepping.{step}
 use Rattle.rt_core.specs.Transfer.{core_after_pend, core_after_call, has_room, set_alarm}
 
-module _ (img : Image) (st : Storage) (thread : ℕ) (who : Runner) (c : Core) (s : Spot) (later : Spot → Type 0) where
+module _ (img : Image) (st : Storage) (thread : ℕ) (who : Runner) (c : Core) (s : Configuration) (later : Configuration
+    → Type 0) where
   -- a core step leads to this core, and gives this item
   abbrev pub Gives : Core → Option What → Type 0
   Gives after shown = step img c ≡ (after, shown)
 
   -- the job does its next action by an instruction that leads to this processor
   abbrev pub ActsBehind : Processor → Action → ℕ → Type 0
-  ActsBehind p action answer = Acts st img.bodies who action answer (spot_behind (spot_after_step s) p) later
+  ActsBehind p action answer = Acts st img.bodies who action answer (configuration_after (spend_step s) p) later
 
   -- this action ends the job here, with no section open and nothing in its hands
   abbrev pub EndsHere : Action → Type 0
-  EndsHere action = Finishes st img.code img.bodies thread who action (spot_after_step s)
+  EndsHere action = Finishes st img.code img.bodies thread who action (spend_step s)
 
   -- By what kind of instruction the core steps. A plain one leads the processor to another state, a step nearer to each
   -- end.
   pub data StepsBy : Type 0 where
     -- a silent step
     BySilence : (p : Processor) → GoesPlainly s c.processor p → Gives (with_processor c p) None
-        → later (spot_behind (spot_after_step s) p) → StepsBy
+        → later (configuration_after (spend_step s) p) → StepsBy
     -- what a note says: a place of a message moves, or none is found
     ByNote : (p : Processor) → GoesPlainly s c.processor p → (told : Note)
-        → (noted : Noted st img.bodies who told (spot_behind (spot_after_step s) p) later)
+        → (noted : Noted st img.bodies who told (configuration_after (spend_step s) p) later)
         → Gives (with_processor c p)
-        (Some (item_of st img.bodies who later told (spot_behind (spot_after_step s) p) noted)) → StepsBy
+        (Some (item_of st img.bodies who later told (configuration_after (spend_step s) p) noted)) → StepsBy
     ByEmit : (p : Processor) → GoesPlainly s c.processor p → (value : ℕ)
         → Gives (with_processor c p) (Some (what.Emit value)) → ActsBehind p (Emits value) 0 → StepsBy
     ByPost : (p : Processor) → GoesPlainly s c.processor p → (irq : ℕ)
@@ -60,28 +61,28 @@ module _ (img : Image) (st : Storage) (thread : ℕ) (who : Runner) (c : Core) (
         → Gives (with_processor c p) (Some (what.Clock c.time)) → ActsBehind p Clocks c.time → StepsBy
     ByAlarm : (p : Processor) → GoesPlainly s c.processor p → (instant irq : ℕ) → st.timer ≡ Some irq
         → step img c ≡ settle (set_alarm (with_processor c p) instant irq)
-        → SetsTheAlarm st img.bodies who (Some instant) (spot_behind (spot_after_step s) p) later → StepsBy
+        → SetsTheAlarm st img.bodies who (Some instant) (configuration_after (spend_step s) p) later → StepsBy
     ByNoAlarm : (p : Processor) → GoesPlainly s c.processor p
         → Gives (record c { processor = p; alarm = None }) (Some what.AlarmSet)
-        → SetsTheAlarm st img.bodies who None (spot_behind (spot_after_step s) p) later → StepsBy
+        → SetsTheAlarm st img.bodies who None (configuration_after (spend_step s) p) later → StepsBy
     -- a section opens: its mask is set, and what it was is saved
-    ByEnter : (x : Section) (i : Instr) → (goes : GoesIn st who x i (spot_after_step s) later)
+    ByEnter : (x : Section) (i : Instr) → (goes : EntersSection st who x i (spend_step s) later)
         → Gives (with_processor c (processor_after_opening c.processor (st.value (st.ceiling x)) goes.kind))
         (Some (what.Enter x))
         → StepsBy
     -- a section closes: its mask is put back
-    ByLeave : (x : Section) (i : Instr) → (comes : ComesOut st who x i (spot_after_step s) later)
+    ByLeave : (x : Section) (i : Instr) → (comes : LeavesSection st who x i (spend_step s) later)
         → (CanPutBack comes.kind c.processor.slots
         → Gives (with_processor c (processor_after_closing c.processor comes.kind))
         (Some (what.Leave x (left_value img c x))))
         → StepsBy
     -- a handler calls a body, where the body's frame has room
-    ByCall : (row from : ℕ) → (calls : Calls st img.code img.bodies thread who row from (spot_after_step s) later)
+    ByCall : (row from : ℕ) → (calls : Calls st img.code img.bodies thread who row from (spend_step s) later)
         → (is_empty c.below ≡ false → has_room img c calls.called.frame ≡ true
         → Gives (core_after_call c calls.called from) None)
         → StepsBy
     -- and the body's end leads back to the handler
-    ByBack : (t : ℕ) → (back : ComesBack st img.code img.bodies thread who t (spot_after_step s) later)
+    ByBack : (t : ℕ) → (back : ComesBack st img.code img.bodies thread who t (spend_step s) later)
         → Gives (in_frame c back.frame) (Some (what.End (body.Task t))) → StepsBy
     -- the thread goes on at its address, at the end of `init` with interrupts served
     ByEndOfInit : who ≡ Starting → EndsHere (Ends body.Init)
@@ -102,7 +103,7 @@ module _ (img : Image) (st : Storage) (thread : ℕ) (who : Runner) (c : Core) (
 
 -- Where the core is at a job whose code stands, a step of the core is one of these, and the code stands after it.
 abbrev pub StandingLeads : Storage → Type 0
-StandingLeads st = (img : Image) (thread : ℕ) (who : Runner) (c : Core) (s : Spot) (n : ℕ)
+StandingLeads st = (img : Image) (thread : ℕ) (who : Runner) (c : Core) (s : Configuration) (n : ℕ)
     → c.stopped ≡ false → pick img c ≡ None → c.time < 2 ^ 31 → IsAt c s
     → Stands st img.code img.bodies thread who (suc n) s
     → StepsAsStands img st thread who c s (Stands st img.code img.bodies thread who n)

@@ -1,13 +1,13 @@
 -- The code of every block stands, with that of sections round blocks: it does what the block means, within its steps.
 use Rattle.rt_gen_queue.proofs.Vocabulary.{AllByRecursion, App, Assign, BODY_COST, Bind, Block, Branch, Calc, Call}
-use Rattle.rt_gen_queue.proofs.Vocabulary.{Contains, Emit, Empty, Guarded, HasCode, Held, HoldsOff, IsKindFor}
+use Rattle.rt_gen_queue.proofs.Vocabulary.{Contains, Emit, Empty, Guarded, HasCode, OpenSection, HoldsOff, IsKindFor}
 use Rattle.rt_gen_queue.proofs.Vocabulary.{IsSoundLock, Kind, Leaves, Line, List, Locked, Now, Pend, Repeat, Spawns}
 use Rattle.rt_gen_queue.proofs.Vocabulary.{Statement, Then, Values, [], accepted_are_sound, act, all_append, all_has}
 use Rattle.rt_gen_queue.proofs.Vocabulary.{all_weaker, ap, arith, block_steps, cap_steps, contains_cases}
 use Rattle.rt_gen_queue.proofs.Vocabulary.{contains_there, cost_measure, false_from_ne_true, guard_of, has_loop, inl}
 use Rattle.rt_gen_queue.proofs.Vocabulary.{inr, kind_of, leave_line, length, length-append, list_any, max}
 use Rattle.rt_gen_queue.proofs.Vocabulary.{opening_instr}
-use Rattle.rt_gen_queue.proofs.Vocabulary.{or_left, or_right, spot_after_step, refl, run, run_block, saved_slot}
+use Rattle.rt_gen_queue.proofs.Vocabulary.{or_left, or_right, spend_step, refl, run, run_block, saved_slot}
 use Rattle.rt_gen_queue.proofs.Vocabulary.{saved_slots}
 use Rattle.rt_gen_queue.proofs.Vocabulary.{slots_with_mask, slice_index, spawns, statement_steps, storage, subst, suc}
 use Rattle.rt_gen_queue.proofs.Vocabulary.{sym}
@@ -22,13 +22,15 @@ use Rattle.rt_app.specs.Accepted.{IsBlockPlaced, IsStatementPlaced, behind}
 use Rattle.rt_app.specs.Cost.{block_cost, capped_cost, lock_cost}
 use Rattle.rt_gen_queue.proofs.{Entering.kind_fits, Masks.of_kinds, Masks.saved_beside, Owning.reads_inside}
 use Rattle.rt_gen_queue.proofs.{Placing.code_behind, Placing.code_front}
-use Rattle.rt_gen_queue.proofs.Layer.{Here, MayOpen, enters_here, leaves_here, spot}
+use Rattle.rt_gen_queue.proofs.Layer.{Here, MayOpen, enters_here, leaves_here, configuration}
 use Rattle.rt_gen_queue.specs.declared.guard.Guard.{Guard}
 use Rattle.rt_gen_body.proofs.{Sending.binds_sent, Sending.sends, Storing.guard_is}
 use Rattle.rt_gen_body.proofs.Expressions.{Sets, assigns, binds_time, emits_value, pends, sets_variable}
 use Rattle.rt_gen_body.proofs.Loops.{BlockPerforms, chooses, in_loop, loops}
-use Rattle.rt_gen_body.proofs.Owning.{open_as, resource_cell, spelled_agreed, spelled_inside, spelled_outside}
-use Rattle.rt_gen_body.proofs.Scopes.{Begins, Body, Fits, Inside, Performs, Scope, block_needs, fewer_visible, front_of}
+use Rattle.rt_gen_body.proofs.Owning.{open_as, resource_cell, represented_agreed, represented_inside}
+use Rattle.rt_gen_body.proofs.Owning.{represented_outside}
+use Rattle.rt_gen_body.proofs.Scopes.{IsViablePrefix, Body, Fits, Inside, Performs, Scope, block_needs, fewer_visible}
+use Rattle.rt_gen_body.proofs.Scopes.{front_of}
 use Rattle.rt_gen_body.proofs.Scopes.{goes_behind, inside_as, threshold_inside, listed_by, named, needs, part_fits}
 use Rattle.rt_gen_body.proofs.Scopes.{sooner}
 use Rattle.rt_gen_body.specs.Inside.Blocks.{block_code, guard_at, statement_code}
@@ -61,7 +63,7 @@ module _ (b : Body) (p : Scope) (r offset : ℕ) (inner : Block) (sound : IsSoun
   abbrev kind : Kind
   kind = kind_of (guard_at b.c r) p.threshold p.lock
 
-  abbrev open_now : Held
+  abbrev open_now : OpenSection
   open_now = record { section = section.Res r; kind = kind }
 
   -- its guard is the section's
@@ -73,7 +75,8 @@ module _ (b : Body) (p : Scope) (r offset : ℕ) (inner : Block) (sound : IsSoun
   unfolding storage
   opens = ap (λ (g : Guard). opening_instr g.value kind) guard
 
-  may_open : {h : Here} {lines : List Line} {cost : ℕ} {vars : List ℕ} {vs : Values} → Begins b p h lines cost vars vs
+  may_open : {h : Here} {lines : List Line} {cost : ℕ} {vars : List ℕ} {vs : Values}
+      → IsViablePrefix b p h lines cost vars vs
       → MayOpen b.z h (section.Res r) kind
   may_open {h = h} begins = record {
     mask = subst (λ (g : Guard). IsKindFor (storage b.z.app) b.z.who b.z.who h.held (section.Res r)
@@ -94,7 +97,7 @@ module _ (b : Body) (p : Scope) (r offset : ℕ) (inner : Block) (sound : IsSoun
     nobody = b.facts.shared p.locked r sound;
   }
 
-  inside_lock : {held : List Held} → Inside b p held → Inside b (in_lock b p r) (open_now ∷ held)
+  inside_lock : {held : List OpenSection} → Inside b p held → Inside b (in_lock b p r) (open_now ∷ held)
   inside_lock {held = held} inside =
       let next : next_slot p.lock ≡ p.lock + 1 = omega (arith, fits.masks, b.spawns, b.word) in
       record {
@@ -142,7 +145,7 @@ module _ (b : Body) (p : Scope) (r offset : ℕ) (inner : Block) (sound : IsSoun
             in_slots = λ y here.
                 same saved y (omega (arith, begins.inside.below y here, begins.inside.room))
                 ∙ begins.known.in_slots y here;
-            in_cells = spelled_inside open_now (spot_after_step (spot b.z h)) taken begins.known.in_cells;
+            in_cells = represented_inside open_now (spend_step (configuration b.z h)) taken begins.known.in_cells;
             long = taken.same.long ∙ begins.known.long;
             frame = (saved_beside (guard_at b.c r) p.threshold p.lock saved h.slots).long ∙ begins.known.frame;
             variables = begins.known.variables;
@@ -166,7 +169,7 @@ module _ (b : Body) (p : Scope) (r offset : ℕ) (inner : Block) (sound : IsSoun
               (λ us agree.
               goes_behind behind (omega (arith, length-append code last)) (omega arith) (record {
                 in_slots = known.in_slots;
-                in_cells = spelled_agreed agree (spelled_outside open_now known.in_cells);
+                in_cells = represented_agreed agree (represented_outside open_now known.in_cells);
                 long = known.long;
                 frame = known.frame;
                 variables = known.variables;

@@ -1,7 +1,8 @@
 -- The code of an expression leaves its value in a slot, and statements without blocks do their action, or change their
 -- variable or resource, within their steps.
 use Rattle.rt_gen_queue.proofs.Vocabulary.{Agree, Assign, Bool, Clocks, Contains, Emit, Expression, Guarded, HasCode}
-use Rattle.rt_gen_queue.proofs.Vocabulary.{Held, Holder, Instr, IsChangeable, Line, List, Num, Number, Oper, Own, Pend}
+use Rattle.rt_gen_queue.proofs.Vocabulary.{OpenSection, Location, Instr, IsChangeable, Line, List, Num, Number, Oper}
+use Rattle.rt_gen_queue.proofs.Vocabulary.{Own, Pend}
 use Rattle.rt_gen_queue.proofs.Vocabulary.{Read, Some, Values, [], ap, arith, does, eqb-true, expression_steps, false}
 use Rattle.rt_gen_queue.proofs.Vocabulary.{get_or-set_other, get_or-set_same, inl, inr, length, length-append}
 use Rattle.rt_gen_queue.proofs.Vocabulary.{length-set, nat_tests, number, operate, or_left, owns, plain, values_with}
@@ -17,9 +18,9 @@ use Rattle.rt_code.specs.declared.instr.Instr.TheVariants as instr
 use Rattle.rt_gen_queue.proofs.Layer.{Gives, Here, IsFree, S, calc_gives, clocks_here, copy_gives, emits_here, goes}
 use Rattle.rt_gen_queue.proofs.Layer.{load_gives, posts_here, set_gives, store_gives}
 use Rattle.rt_gen_queue.proofs.Placing.{code_behind}
-use Rattle.rt_gen_body.proofs.Owning.{HasCell, OpenAre, local_cell, reads_cell, resource_cell, spelled_agreed}
-use Rattle.rt_gen_body.proofs.Owning.{spelled_put, writes_cell}
-use Rattle.rt_gen_body.proofs.Scopes.{Begins, Behind, Body, Inside, Knows, Performs, Scope, free_slot, front_of}
+use Rattle.rt_gen_body.proofs.Owning.{HasCell, OpenAre, local_cell, reads_cell, resource_cell, represented_agreed}
+use Rattle.rt_gen_body.proofs.Owning.{represented_put, writes_cell}
+use Rattle.rt_gen_body.proofs.Scopes.{IsViablePrefix, Behind, Body, Inside, Knows, Performs, Scope, free_slot, front_of}
 use Rattle.rt_gen_body.proofs.Scopes.{goes_behind, listed_by, named, sooner, still_behind}
 use Rattle.rt_gen_body.proofs.Storing.{local_owned, number_is, resource_owned, resource_read}
 use Rattle.rt_gen_body.specs.Inside.Simple.{assign_code, emit_code}
@@ -87,7 +88,7 @@ module _ {b : Body} {p : Scope} {h : Here} {lines : List Line} {cost : ℕ} {var
   -- What is known is known still, where slots differ where nothing in scope is.
   pub still_known : {after : List ℕ} → length after ≡ length h.slots
       → ((x : ℕ) → x < b.c.expressions → slice_index after x ≡ slice_index h.slots x)
-      → Begins b p h lines cost vars vs → Knows b h.held p.visible after h.cells vars vs
+      → IsViablePrefix b p h lines cost vars vs → Knows b h.held p.visible after h.cells vars vs
   still_known long same begins = record {
     in_slots = λ x here.
         same x (omega (arith, begins.inside.below x here, begins.inside.room)) ∙ begins.known.in_slots x here;
@@ -101,8 +102,8 @@ module _ {b : Body} {p : Scope} {h : Here} {lines : List Line} {cost : ℕ} {var
   pub next_begins : {few done at : ℕ} {after : List ℕ} {more : List Line} → HasCode b.z.code at more
       → done + few ≤ h.done + cost → length after ≡ length h.slots
       → ((x : ℕ) → x < b.c.expressions → slice_index after x ≡ slice_index h.slots x)
-      → Begins b p h lines cost vars vs
-      → Begins b p (record h { done = done; slots = after; at = at }) more few vars vs
+      → IsViablePrefix b p h lines cost vars vs
+      → IsViablePrefix b p (record h { done = done; slots = after; at = at }) more few vars vs
   next_begins has less long same begins = record {
     has = has;
     time = sooner less begins;
@@ -112,7 +113,7 @@ module _ {b : Body} {p : Scope} {h : Here} {lines : List Line} {cost : ℕ} {var
 
 module _ {b : Body} {p : Scope} {h : Here} {vars : List ℕ} {vs : Values} where
   -- an expression of one line
-  one_line : {i : Instr} {slot free value : ℕ} → Target b p slot free → Begins b p h (plain i ∷ []) 1 vars vs
+  one_line : {i : Instr} {slot free value : ℕ} → Target b p slot free → IsViablePrefix b p h (plain i ∷ []) 1 vars vs
       → (slot < length h.slots → IsFree h.held slot
       → Gives b.z h i (slice_set h.slots slot value) (suc h.at) h.cells) → Follows b h 1 1 slot free value → S b.z h
   one_line {slot = slot} {value = value} t begins gives on =
@@ -123,7 +124,7 @@ module _ {b : Body} {p : Scope} {h : Here} {vars : List ℕ} {vs : Values} where
 pub evaluates : {b : Body} {p : Scope} (e : Expression) {h : Here} {vars : List ℕ} {vs : Values} {slot free : ℕ}
     → Target b p slot free → free + depth e ≤ suc b.top → AreReached b.z.app b.m p.locked e
     → AreMeant b.z.app (listed_by b.m) p.visible e
-    → Begins b p h (expression_code b.c e slot free) (expression_steps e) vars vs
+    → IsViablePrefix b p h (expression_code b.c e slot free) (expression_steps e) vars vs
     → Follows b h (expression_steps e) (length (expression_code b.c e slot free)) slot free (value_in vars vs e)
     → S b.z h
 evaluates (Num v) t deep reached meant begins on = one_line t begins (λ there free. set_gives there free) on
@@ -191,10 +192,10 @@ valued b h e slots =
 -- It comes there, and the lines behind it begin.
 pub with_value : {b : Body} {p : Scope} {visible : List ℕ} {h : Here} {lines : List Line} {vars : List ℕ} {vs : Values}
     {total : ℕ} {later : Later} (e : Expression) (cost : ℕ) → expression_steps e + cost ≤ total → Sound b p e
-    → Begins b p h (value_code b.c e ++ lines) total vars vs
+    → IsViablePrefix b p h (value_code b.c e ++ lines) total vars vs
     → Behind b p visible h (length (value_code b.c e ++ lines)) total later
     → ((slots : List ℕ) → b.c.expressions < length slots → slice_index slots b.c.expressions ≡ value_in vars vs e
-    → Begins b p (valued b h e slots) lines cost vars vs
+    → IsViablePrefix b p (valued b h e slots) lines cost vars vs
     → Behind b p visible (valued b h e slots) (length lines) cost later → S b.z (valued b h e slots)) → S b.z h
 with_value {b = b} {p = p} {h = h} {lines = lines} e cost less sound begins behind on =
     let test : List Line = value_code b.c e in
@@ -229,7 +230,7 @@ both_set slots vars x v y in_slots in_vars other = go (x == y) refl
         get_or-set_other slots x y v 0 differ ∙ other differ ∙ sym (get_or-set_other vars x y v 0 differ)
 
 -- a variable and its slot get a value
-pub variable_set : {b : Body} {held : List Held} {visible slots cells vars : List ℕ} {vs : Values} (x v : ℕ)
+pub variable_set : {b : Body} {held : List OpenSection} {visible slots cells vars : List ℕ} {vs : Values} (x v : ℕ)
     (more : List ℕ) → x < b.c.expressions → ((y : ℕ) → Contains more y → (x ≡ y) ⊎ Contains visible y)
     → Knows b held visible slots cells vars vs → Knows b held more (slice_set slots x v) cells (slice_set vars x v) vs
 variable_set {b = b} {slots = slots} {vars = vars} x v more small cases known = record {
@@ -244,12 +245,12 @@ variable_set {b = b} {slots = slots} {vars = vars} x v more small cases known = 
 }
 
 -- values that agree in what may be read
-pub known_agreed : {b : Body} {held : List Held} {visible slots cells vars : List ℕ} {vs ws : Values}
+pub known_agreed : {b : Body} {held : List OpenSection} {visible slots cells vars : List ℕ} {vs ws : Values}
     → Agree (storage b.z.app) b.z.who held ws vs → Knows b held visible slots cells vars vs
     → Knows b held visible slots cells vars ws
 known_agreed agree known = record {
   in_slots = known.in_slots;
-  in_cells = spelled_agreed agree known.in_cells;
+  in_cells = represented_agreed agree known.in_cells;
   long = known.long;
   frame = known.frame;
   variables = known.variables;
@@ -257,8 +258,8 @@ known_agreed agree known = record {
 
 -- A variable may be set, and then these are in scope: it has a slot, and no loop has it.
 pub record Sets (b : Body) (p : Scope) (x : ℕ) (more : List ℕ) : Type 0 where
-  pub small : {held : List Held} → Inside b p held → x < b.c.expressions
-  pub free : {held : List Held} → Inside b p held → ¬ Contains p.fixed x
+  pub small : {held : List OpenSection} → Inside b p held → x < b.c.expressions
+  pub free : {held : List OpenSection} → Inside b p held → ¬ Contains p.fixed x
   pub cases : (y : ℕ) → Contains more y → (x ≡ y) ⊎ Contains p.visible y
 
 pub kept_set : (b : Body) (p : Scope) (slots : List ℕ) (x v y : ℕ) → ¬ Contains p.fixed x → Contains p.fixed y
@@ -296,11 +297,11 @@ module _ {b : Body} {p : Scope} where
   }
 
   -- a resource, which has a cell, gets a value
-  stores_value : (e : Expression) (cell : ℕ) (holder : Holder) → Sound b p e → HasCell b.z.app holder cell
-      → ((held : List Held) → OpenAre held p.locked → owns (storage b.z.app) b.z.who held holder ≡ true)
+  stores_value : (e : Expression) (cell : ℕ) (location : Location) → Sound b p e → HasCell b.z.app location cell
+      → ((held : List OpenSection) → OpenAre held p.locked → owns (storage b.z.app) b.z.who held location ≡ true)
       → Performs b p p.visible (λ at. value_code b.c e ++ plain (instr.Store cell b.c.expressions) ∷ [])
-      (expression_steps e + 1) (λ later vars vs. later vars (values_with vs holder (Number (value_in vars vs e))))
-  stores_value e cell holder sound has own = record {
+      (expression_steps e + 1) (λ later vars vs. later vars (values_with vs location (Number (value_in vars vs e))))
+  stores_value e cell location sound has own = record {
     runs = λ {h} {vars} {vs} later begins is behind.
         with_value e 1 (omega arith) sound begins behind
         (λ slots there result begins1 behind1.
@@ -310,7 +311,7 @@ module _ {b : Body} {p : Scope} where
         (store_gives value there result (writes_cell has (own h.held begins.inside.are) known.long))
         (named refl refl is (goes_behind behind1 (omega arith) (omega arith) (record {
           in_slots = known.in_slots;
-          in_cells = spelled_put value has known.long known.in_cells;
+          in_cells = represented_put value has known.long known.in_cells;
           long = length-set h.cells cell value ∙ known.long;
           frame = known.frame;
           variables = known.variables;

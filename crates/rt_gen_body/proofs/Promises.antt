@@ -1,14 +1,15 @@
 -- What is promised of the code of each kind of body: it stands, from its entry through its blocks to its end.
 use Rattle.rt_gen_queue.proofs.Vocabulary.{Action, App, AtPriority, BODY_COST, Body as AppBody, BodyId, BodyRow, Bool}
-use Rattle.rt_gen_queue.proofs.Vocabulary.{Contains, Doing, Ends, Entry, HasCode, Holder, HoldsOff, IsAccepted, IsIn}
+use Rattle.rt_gen_queue.proofs.Vocabulary.{Contains, Doing, Ends, Entry, HasCode, Location, HoldsOff, IsAccepted, IsIn}
 use Rattle.rt_gen_queue.proofs.Vocabulary.{IsSound, Line, List, Member, None, Option, Rest, Returns, Runner, Some}
-use Rattle.rt_gen_queue.proofs.Vocabulary.{Spawn, Spot, Stands, StandsFrom, Starting, Task, Values, [], act, all_at, ap}
+use Rattle.rt_gen_queue.proofs.Vocabulary.{Spawn, Configuration, Stands, StandsFrom, Starting, Task, Values, [], act}
+use Rattle.rt_gen_queue.proofs.Vocabulary.{all_at, ap}
 use Rattle.rt_gen_queue.proofs.Vocabulary.{append_assoc, arith, block_steps, body_cost, calm, cap_steps, contains_none}
 use Rattle.rt_gen_queue.proofs.Vocabulary.{cost_measure, false, first_lock_slot, frame_words, get_or-take}
 use Rattle.rt_gen_queue.proofs.Vocabulary.{get_or_append_left, greatest, has_body, has_loop, if◌then◌else◌, is_software}
 use Rattle.rt_gen_queue.proofs.Vocabulary.{length, length-append, length-replicate, length-take-le, map, max, member_at}
 use Rattle.rt_gen_queue.proofs.Vocabulary.{members, memory, none-some, line_with_note, nothing, option_map, or_left}
-use Rattle.rt_gen_queue.proofs.Vocabulary.{spot_after_step}
+use Rattle.rt_gen_queue.proofs.Vocabulary.{spend_step}
 use Rattle.rt_gen_queue.proofs.Vocabulary.{plain, range_with_len, refl, replicate, row_for, same_Some, slice_get}
 use Rattle.rt_gen_queue.proofs.Vocabulary.{slice_index, spawn_words, spawns, stands_with_more, storage, subst, suc, sym}
 use Rattle.rt_gen_queue.proofs.Vocabulary.{take, true, variables, zero, ℕ, ◌++◌, ◌+◌, ◌-◌, ◌<◌, ◌^◌, ◌∙◌, ◌∷◌, ◌≡◌, ◌≤◌}
@@ -20,14 +21,14 @@ use Rattle.rt_app.specs.Frame.{block_depth, first_expression_slot, first_spawn_s
 use Rattle.rt_code.specs.{Stack.return_address, Standing.Finishes}
 use Rattle.rt_code.specs.declared.instr.Instr.TheVariants as instr
 use Rattle.rt_code.specs.declared.instr.Note.TheVariants as note
-use Rattle.rt_gen_queue.proofs.Layer.{Here, Lasts, S, Setting, begins, begun, by_line, returns_here, spot}
+use Rattle.rt_gen_queue.proofs.Layer.{Here, Lasts, S, Setting, begins, begun, by_line, returns_here, configuration}
 use Rattle.rt_gen_queue.proofs.Placing.{code_behind, code_front, code_there}
 use Rattle.rt_gen_queue.specs.Called.{CalledBodyStands}
 use Rattle.rt_gen_body.proofs.{Blocks.block_stands, Storing.facts_for}
-use Rattle.rt_gen_body.proofs.Owning.{AllSpelled, all_agreed, known_of, spelled}
+use Rattle.rt_gen_body.proofs.Owning.{AllRepresented, all_agreed, known_of, represented}
 use Rattle.rt_gen_body.proofs.Scopes.{Body, Facts, Scope, State, then_at}
 use Rattle.rt_gen_body.specs.{Bodies.BodyStands, Form.end_line, Inside.Blocks.block_code}
-use Rattle.rt_gen_body.specs.Inside.Whole.{blocks_of, code_of, context_of, level_of}
+use Rattle.rt_gen_body.specs.Inside.Whole.{blocks_of, code_of, context_of, threshold_of}
 
 -- a cost that is short is the steps and the end
 pub cost_is : (app : App) (b : AppBody) → block_steps (cost_measure app) b.block + 1 ≤ BODY_COST
@@ -57,7 +58,7 @@ contains_range args y (k, within, is) =
 
 -- the lines of a body's blocks from an address on
 abbrev pub lines_of : App → Member → ℕ → List Line
-lines_of app m at = block_code (context_of app m) (level_of app m) (first_lock_slot m.args m.body) at m.body.block
+lines_of app m at = block_code (context_of app m) (threshold_of app m) (first_lock_slot m.args m.body) at m.body.block
 
 -- the runner of a body, and its preemption threshold at its start
 abbrev pub runner_if : Bool → ℕ → Runner
@@ -82,7 +83,7 @@ record Given (z : Setting) (m : Member) (words entry : ℕ) (s : State) : Type 0
   has : HasCode z.code entry (lines_of z.app m entry)
   long : length s.slots ≡ words
   all : length s.cells ≡ length (memory z.app)
-  known : AllSpelled z s.cells s.queues s.vs
+  known : AllRepresented z s.cells s.queues s.vs
 
 -- a job with no section open and nothing in its hands, with so many steps for all and for what is told of the code
 abbrev pub job : (until left at : ℕ) → State → Doing Values → Here
@@ -100,9 +101,9 @@ module _ {z : Setting} {m : Member} {words : ℕ} (w : IsBody z m words) where
       subst (λ (who : Runner). Facts z.app who m (context_of z.app m)) (sym w.runs)
       (facts_for z.app w.accepted w.sound m (has_body z.app w.accepted m.id m w.is).is_one (is_init m.id) refl)
 
-  off : HoldsOff z.app z.who z.who [] (level_of z.app m)
+  off : HoldsOff z.app z.who z.who [] (threshold_of z.app m)
   off =
-      subst (λ (who : Runner). HoldsOff z.app who who [] (level_of z.app m)) (sym w.runs)
+      subst (λ (who : Runner). HoldsOff z.app who who [] (threshold_of z.app m)) (sym w.runs)
       (threshold_at_start z.app (is_init m.id) m.priority)
 
   masks_room : first_spawn_slot m.args m.body ≤ words
@@ -128,7 +129,7 @@ module _ {z : Setting} {m : Member} {words : ℕ} (w : IsBody z m words) where
     fixed = [];
     locked = [];
     count = m.args;
-    threshold = level_of z.app m;
+    threshold = threshold_of z.app m;
     lock = first_lock_slot m.args m.body;
   }
 
@@ -136,7 +137,7 @@ module _ {z : Setting} {m : Member} {words : ℕ} (w : IsBody z m words) where
   blocks_stand : (until left entry : ℕ) (rest : Rest) (s : State)
       → Lasts (block_steps (cost_measure z.app) m.body.block) (until ∷ left ∷ []) → Given z m words entry s
       → ((t : State) → t.done ≤ block_steps (cost_measure z.app) m.body.block → length t.cells ≡ length (memory z.app)
-      → AllSpelled z t.cells t.queues t.vs
+      → AllRepresented z t.cells t.queues t.vs
       → S z (job until left (entry + length (lines_of z.app m entry)) t (rest t.vs)))
       → Stands (storage z.app) z.code z.bodies z.thread z.who until
       (calm left s.slots z.caller entry s.cells s.queues (body_doing z.app m.body (take m.args s.slots) rest s.vs))
@@ -146,7 +147,7 @@ module _ {z : Setting} {m : Member} {words : ℕ} (w : IsBody z m words) where
       let zeros : List ℕ = replicate (variables m.body.block) 0 in
       let vars : List ℕ = take m.args s.slots ++ zeros in
       let there : m.args ≤ length s.slots = omega arith in
-      let start : Spot =
+      let start : Configuration =
       calm left s.slots z.caller entry s.cells s.queues (body_doing z.app m.body (take m.args s.slots) rest s.vs) in
       begins {z = z} start until
       ((block_stands in_frame m.body.block scope
@@ -192,7 +193,7 @@ module _ {z : Setting} {m : Member} {words : ℕ} (w : IsBody z m words) where
       (record {
         on = λ t within settled.
             on t (omega (arith, within)) settled.known.long
-            (spelled s.cells s.queues s.vs given.known settled.known.in_cells t.queues);
+            (represented s.cells s.queues s.vs given.known settled.known.in_cells t.queues);
       }))
     where
       most : (ps : List Spawn) (p : Spawn) → IsIn ps p → spawn_words p ≤ greatest (map spawn_words ps)
@@ -204,7 +205,7 @@ module _ {z : Setting} {m : Member} {words : ℕ} (w : IsBody z m words) where
 -- the last line of a body, at an address, ends it by this action
 abbrev pub Ending : Setting → ℕ → Action → Type 0
 Ending z at action =
-    (until left : ℕ) (t : State) → Lasts (suc t.done) (until ∷ left ∷ []) → AllSpelled z t.cells t.queues t.vs
+    (until left : ℕ) (t : State) → Lasts (suc t.done) (until ∷ left ∷ []) → AllRepresented z t.cells t.queues t.vs
     → S z (job until left at t (act action nothing t.vs))
 
 -- a body of the thread or of a hardware task has a frame of its own
@@ -212,9 +213,9 @@ abbrev pub alone : Setting → Setting
 alone z = record z { caller = None }
 
 -- with all given back it is over
-finishes : (z : Setting) (until left at : ℕ) (action : Action) (t : State) → AllSpelled z t.cells t.queues t.vs
+finishes : (z : Setting) (until left at : ℕ) (action : Action) (t : State) → AllRepresented z t.cells t.queues t.vs
     → Finishes (storage z.app) z.code z.bodies z.thread z.who action
-    (spot_after_step (spot (alone z) (job until left at t (act action nothing t.vs))))
+    (spend_step (configuration (alone z) (job until left at t (act action nothing t.vs))))
 finishes z until left at action t known = record {
   values = t.vs;
   follows = λ answer. nothing;
@@ -222,7 +223,8 @@ finishes z until left at action t known = record {
   closed = refl;
   empty = refl;
   own_frame = refl;
-  spelled = λ h kept. known h (or_left ((storage z.app).is_kept z.who h) ((storage z.app).is_constant z.who h) kept);
+  represented = λ h kept. known h
+      (or_left ((storage z.app).is_kept z.who h) ((storage z.app).is_constant z.who h) kept);
 }
 
 -- what such a body promises: it does what it means, and then ends
@@ -231,7 +233,7 @@ Whole z words entry cost doing =
     StandsFrom (storage z.app) z.code z.bodies z.thread z.who (length (memory z.app)) words entry cost doing
 
 -- where memory and queues are so, and nothing is done
-abbrev begun_with : (slots cells : List ℕ) → (Holder → List Entry) → Values → State
+abbrev begun_with : (slots cells : List ℕ) → (Location → List Entry) → Values → State
 begun_with slots cells queues vs =
     record { done = 0; slots = slots; cells = cells; vars = []; queues = queues; vs = vs }
 
@@ -406,7 +408,7 @@ module _ {app : App} (accepted : IsAccepted app) (sound : IsSound app) where
         (blocks_stand w (cost + steps) left entry (act (Ends (body.Task n)) behind) (begun_with slots cells queues vs)
         (omega arith, (omega arith, tt))
         (record { has = there.blocks; long = long; all = known.long; known = known.each })
-        (λ s within kept spelled.
+        (λ s within kept represented.
         by_line instr.Back (Some (note.End (body.Task n))) (last_is true software) (omega arith, (omega arith, tt)) (
           refl,
           record {
@@ -423,7 +425,7 @@ module _ {app : App} (accepted : IsAccepted app) (sound : IsSound app) where
                   (calm (left - s.done - 1) frame None (return_address frame) s.cells s.queues (behind us))
                   ((left - s.done - 1) ∷ []) (omega arith) (omega arith, tt)
                   (goes (left - s.done - 1) s.cells s.queues us (omega arith)
-                  (record { long = kept; each = all_agreed z s.cells s.queues agree spelled }));
+                  (record { long = kept; each = all_agreed z s.cells s.queues agree represented }));
             };
           },
         ))))

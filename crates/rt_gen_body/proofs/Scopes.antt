@@ -2,7 +2,8 @@
 -- there, and what it means that code does what it is to do.
 use Rattle.rt_gen_queue.proofs.Vocabulary.{AllByRecursion, App, AtPriority, BODY_COST, Block, Bool, Contains, Doing}
 use Rattle.rt_gen_queue.proofs.Vocabulary.{Entry}
-use Rattle.rt_gen_queue.proofs.Vocabulary.{Guarded, HasCode, Held, Holder, HoldsOff, IsAccepted, IsChangeable, IsIn}
+use Rattle.rt_gen_queue.proofs.Vocabulary.{Guarded, HasCode, OpenSection, Location, HoldsOff, IsAccepted, IsChangeable}
+use Rattle.rt_gen_queue.proofs.Vocabulary.{IsIn}
 use Rattle.rt_gen_queue.proofs.Vocabulary.{IsSoundLock, IsWithin, Line, List, Member, NobodyKeeps, Own, Runner, Section}
 use Rattle.rt_gen_queue.proofs.Vocabulary.{Spawn, Starting, Statement, Values, [], all_weaker, arith, block_steps}
 use Rattle.rt_gen_queue.proofs.Vocabulary.{ceiling, cost_measure, has_loop, inl, inr, is_constant, is_kept, length, map}
@@ -16,11 +17,11 @@ use Rattle.rt_app.specs.Statements.{is_free, is_init}
 use Rattle.rt_app.specs.declared.expr.Atom.TheVariants as atom
 use Rattle.rt_gen_queue.proofs.Layer.{Here, InTime, IsFree, S, Setting, lasts_less}
 use Rattle.rt_gen_queue.proofs.Placing.{code_front}
-use Rattle.rt_gen_body.proofs.Owning.{IsSpelled, OpenAre}
+use Rattle.rt_gen_body.proofs.Owning.{IsRepresented, OpenAre}
 use Rattle.rt_gen_body.specs.Inside.{Values.Context, Whole.context_of}
 
 -- a section that opens raises the level that is held off
-pub threshold_inside : (app : App) (who : Runner) (held : List Held) (threshold : ℕ) (h : Held)
+pub threshold_inside : (app : App) (who : Runner) (held : List OpenSection) (threshold : ℕ) (h : OpenSection)
     → HoldsOff app who who held threshold → HoldsOff app who who (h ∷ held) (max threshold (ceiling app h.section))
 threshold_inside app Starting held threshold h off = omega (arith, off)
 threshold_inside app (AtPriority p) held threshold h off = omega (arith, off)
@@ -68,11 +69,11 @@ abbrev pub listed_by : Member → List ℕ
 listed_by m = map (λ o. o.local) m.body.local
 
 -- the slots that open sections saved masks in are among these
-abbrev pub SavedBetween : ℕ → ℕ → List Held → Type 0
+abbrev pub SavedBetween : ℕ → ℕ → List OpenSection → Type 0
 SavedBetween low high held = AllByRecursion (λ d. (low ≤ d) × (d < high)) (saved_slots held)
 
 -- a point with these sections open
-pub record Inside (b : Body) (p : Scope) (held : List Held) : Type 0 where
+pub record Inside (b : Body) (p : Scope) (held : List OpenSection) : Type 0 where
   pub below : (y : ℕ) → Contains p.visible y → y < p.count
   pub fixed : (y : ℕ) → Contains p.fixed y → y < p.count
   pub room : p.count ≤ b.c.expressions
@@ -83,7 +84,7 @@ pub record Inside (b : Body) (p : Scope) (held : List Held) : Type 0 where
   pub off : HoldsOff b.z.app b.z.who b.z.who held p.threshold
 
 -- further on, with more variables in scope, or more of loops
-pub inside_as : {b : Body} {p : Scope} {held : List Held} (visible fixed : List ℕ) (n : ℕ)
+pub inside_as : {b : Body} {p : Scope} {held : List OpenSection} (visible fixed : List ℕ) (n : ℕ)
     → ((y : ℕ) → Contains visible y → y < p.count + n) → ((y : ℕ) → Contains fixed y → y < p.count + n)
     → p.count + n ≤ b.c.expressions → Inside b p held
     → Inside b (record p { visible = visible; fixed = fixed; count = p.count + n }) held
@@ -99,7 +100,7 @@ inside_as visible fixed n below loops room inside = record {
 }
 
 -- a slot below those for masks, or above them, keeps none
-pub free_slot : {b : Body} {p : Scope} {held : List Held} (d : ℕ) → (d < b.top) ⊎ (p.lock ≤ d) → Inside b p held
+pub free_slot : {b : Body} {p : Scope} {held : List OpenSection} (d : ℕ) → (d < b.top) ⊎ (p.lock ≤ d) → Inside b p held
     → IsFree held d
 free_slot {b = b} {p = p} {held = held} d apart inside =
     all_weaker (λ e. (b.top ≤ e) × (e < p.lock)) (λ e. e ≢ d) (λ e between. differ e between.0 between.1 apart)
@@ -110,15 +111,15 @@ free_slot {b = b} {p = p} {held = held} d apart inside =
     differ e low high (inr above) = omega arith
 
 -- What is known of values: those of variables in scope are in their slots, those of resources in cells.
-pub record Knows (b : Body) (held : List Held) (visible slots cells vars : List ℕ) (vs : Values) : Type 0 where
+pub record Knows (b : Body) (held : List OpenSection) (visible slots cells vars : List ℕ) (vs : Values) : Type 0 where
   pub in_slots : (x : ℕ) → Contains visible x → slice_index slots x ≡ slice_index vars x
-  pub in_cells : IsSpelled b.z held cells vs
+  pub in_cells : IsRepresented b.z held cells vs
   pub long : length cells ≡ length (memory b.z.app)
   pub frame : length slots ≡ b.words
   pub variables : length vars ≡ b.c.expressions
 
 -- less is known of fewer variables
-pub fewer_visible : {b : Body} {held : List Held} {visible fewer slots cells vars : List ℕ} {vs : Values}
+pub fewer_visible : {b : Body} {held : List OpenSection} {visible fewer slots cells vars : List ℕ} {vs : Values}
     → ((x : ℕ) → Contains fewer x → Contains visible x) → Knows b held visible slots cells vars vs
     → Knows b held fewer slots cells vars vs
 fewer_visible within known = record {
@@ -130,7 +131,7 @@ fewer_visible within known = record {
 }
 
 -- before some lines that take so many steps: they are in the code, and there is time for them
-pub record Begins (b : Body) (p : Scope) (h : Here) (lines : List Line) (cost : ℕ) (vars : List ℕ) (vs : Values)
+pub record IsViablePrefix (b : Body) (p : Scope) (h : Here) (lines : List Line) (cost : ℕ) (vars : List ℕ) (vs : Values)
     : Type 0 where
   pub has : HasCode b.z.code h.at lines
   pub time : InTime (h.done + cost) h
@@ -143,7 +144,7 @@ pub record State : Type 0 where
   pub slots : List ℕ
   pub cells : List ℕ
   pub vars : List ℕ
-  pub queues : Holder → List Entry
+  pub queues : Location → List Entry
   pub vs : Values
 
 -- behind them, with these variables in scope: the variables of loops are in their slots as before
@@ -163,7 +164,7 @@ pub record Behind (b : Body) (p : Scope) (visible : List ℕ) (h : Here) (size c
 -- lines, which depend on where they begin, do what is to be done before anything later
 pub record Performs (b : Body) (p : Scope) (visible : List ℕ) (lines : ℕ → List Line) (cost : ℕ)
     (doing : Later → Later) : Type 0 where
-  pub runs : {h : Here} {vars : List ℕ} {vs : Values} (later : Later) → Begins b p h (lines h.at) cost vars vs
+  pub runs : {h : Here} {vars : List ℕ} {vs : Values} (later : Later) → IsViablePrefix b p h (lines h.at) cost vars vs
       → h.rest ≡ doing later vars vs → Behind b p visible h (length (lines h.at)) cost later → S b.z h
 
 -- the same point by other names
@@ -176,7 +177,7 @@ named {z = z} {h = h} {done = done} {at = at} done_is at_is rest_is correct =
 
 -- behind some lines the code is correct, wherever they have led by another name
 pub goes_behind : {b : Body} {p : Scope} {h : Here} {visible slots cells vars : List ℕ} {size cost done at : ℕ}
-    {queues : Holder → List Entry} {vs : Values} {later : Later} → Behind b p visible h size cost later
+    {queues : Location → List Entry} {vs : Values} {later : Later} → Behind b p visible h size cost later
     → at ≡ h.at + size → done ≤ h.done + cost → Knows b h.held visible slots cells vars vs
     → ((x : ℕ) → Contains p.fixed x → slice_index slots x ≡ slice_index h.slots x)
     → S b.z (record h {
@@ -194,7 +195,7 @@ goes_behind {slots = slots} {cells = cells} {vars = vars} {done = done} {queues 
 
 -- so what is behind them is behind their last ones, which begin where loops' variables are as before
 pub still_behind : {b : Body} {p : Scope} {h : Here} {visible slots cells : List ℕ} {size few cost steps done at : ℕ}
-    {queues : Holder → List Entry} {rest : Doing Values} {later : Later} → Behind b p visible h size cost later
+    {queues : Location → List Entry} {rest : Doing Values} {later : Later} → Behind b p visible h size cost later
     → at + few ≡ h.at + size → done + steps ≤ h.done + cost
     → ((x : ℕ) → Contains p.fixed x → slice_index slots x ≡ slice_index h.slots x)
     → Behind b p visible
@@ -206,12 +207,12 @@ still_behind behind at_is less kept = record {
 
 module _ {b : Body} {p : Scope} {h : Here} {lines : List Line} {cost : ℕ} {vars : List ℕ} {vs : Values} where
   -- there is time for so many of the steps
-  pub sooner : {k : ℕ} → k ≤ h.done + cost → Begins b p h lines cost vars vs → InTime k h
+  pub sooner : {k : ℕ} → k ≤ h.done + cost → IsViablePrefix b p h lines cost vars vs → InTime k h
   sooner {k = k} less begins = lasts_less k (h.done + cost) (h.until ∷ h.deadlines) less begins.time
 
 -- the first of the lines
 pub front_of : {b : Body} {p : Scope} {h : Here} {few cost : ℕ} {vars : List ℕ} {vs : Values} (front back : List Line)
-    → few ≤ cost → Begins b p h (front ++ back) cost vars vs → Begins b p h front few vars vs
+    → few ≤ cost → IsViablePrefix b p h (front ++ back) cost vars vs → IsViablePrefix b p h front few vars vs
 front_of {b = b} {h = h} front back less begins = record {
   has = code_front b.z.code h.at front back begins.has;
   time = sooner (omega arith) begins;

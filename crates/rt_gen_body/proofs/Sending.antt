@@ -17,11 +17,12 @@ use Rattle.rt_app.specs.declared.costs.TheConstants.{HANDLE_MESSAGE_COST, MESSAG
 use Rattle.rt_code.specs.StandingLaws.{AreAtLeast}
 use Rattle.rt_code.specs.declared.instr.Instr.TheVariants as instr
 use Rattle.rt_gen_queue.proofs.{Facts.Spawned, Facts.few_arguments, Placing.code_behind, Whole.spawn_stands}
-use Rattle.rt_gen_queue.proofs.Layer.{Here, S, copy_gives, goes, lasts_left, left_at, spot}
+use Rattle.rt_gen_queue.proofs.Layer.{Here, S, copy_gives, goes, lasts_left, left_at, configuration}
 use Rattle.rt_gen_queue.specs.Spawning.{CallSite}
 use Rattle.rt_gen_body.proofs.Expressions.{Sets, Sound, evaluates, kept_set, next_begins, variable_set}
-use Rattle.rt_gen_body.proofs.Owning.{not_open, spelled_left}
-use Rattle.rt_gen_body.proofs.Scopes.{Begins, Body, Performs, Scope, Settled, State, free_slot, front_of, goes_behind}
+use Rattle.rt_gen_body.proofs.Owning.{not_open, represented_left}
+use Rattle.rt_gen_body.proofs.Scopes.{IsViablePrefix, Body, Performs, Scope, Settled, State, free_slot, front_of}
+use Rattle.rt_gen_body.proofs.Scopes.{goes_behind}
 use Rattle.rt_gen_body.proofs.Scopes.{listed_by, named, sooner, then_at}
 use Rattle.rt_gen_body.specs.Inside.Simple.{bind_code, goes_code, send_code, values_of}
 use Rattle.rt_gen_body.specs.Inside.Values.{Context, arguments_code, expression_code, next_slot}
@@ -72,7 +73,7 @@ code_called b lines needs n t has there software =
     rw (ap (λ (c : Context). c.app) b.facts.is, has, there, software) refl
 
 module _ {b : Body} {p : Scope} {h : Here} {vars : List ℕ} {vs : Values} (q : Spawn) (rest : ℕ → Rest)
-    (begins : Begins b p h (goes_code b.c p.threshold h.at q) (goes_steps b.z.app q) vars vs)
+    (begins : IsViablePrefix b p h (goes_code b.c p.threshold h.at q) (goes_steps b.z.app q) vars vs)
     (on : Answered b p h (length (goes_code b.c p.threshold h.at q)) (goes_steps b.z.app q) vars rest) where
   abbrev left : ℕ
   left = h.until - h.done - goes_steps b.z.app q
@@ -80,7 +81,7 @@ module _ {b : Body} {p : Scope} {h : Here} {vars : List ℕ} {vs : Values} (q : 
   -- it goes by its law, since what is behind its lines is correct in as many steps as are left
   by_law : {lines : List Line} → goes_code b.c p.threshold h.at q ≡ lines
       → (HasCode b.z.code h.at lines → StandsBefore b.z.app b.z.who b.z.code b.z.bodies b.z.thread
-      (goes_steps b.z.app q) b.c.spawns lines rest left (spot b.z h) vs) → S b.z h
+      (goes_steps b.z.app q) b.c.spawns lines rest left (configuration b.z h) vs) → S b.z h
   by_law {lines = lines} lines_are law = record {
     stands = law (subst (λ (ls : List Line). HasCode b.z.code h.at ls) lines_are begins.has)
         (λ answer used k slots cells queues ws less gone.
@@ -89,7 +90,7 @@ module _ {b : Body} {p : Scope} {h : Here} {vars : List ℕ} {vs : Values} (q : 
         let same : (x : ℕ) → x < p.count → slice_index slots x ≡ slice_index h.slots x =
         λ x low. gone.kept x (inl (omega (arith, begins.inside.room, b.floor, b.masks))) in
         stands_with_more (storage b.z.app) b.z.bodies b.z.thread b.z.who b.z.code (h.until - done) k
-        (spot b.z (then_at h (h.at + length lines) t (rest answer ws)))
+        (configuration b.z (then_at h (h.at + length lines) t (rest answer ws)))
         (map (λ n. n - used) (left_at h.done h.deadlines)) (omega arith)
         (least_left h.done used (goes_steps b.z.app q) h.deadlines gone.in_time)
         (subst (λ (ls : List Line). S b.z (then_at h (h.at + length ls) t (rest answer ws))) lines_are
@@ -97,7 +98,7 @@ module _ {b : Body} {p : Scope} {h : Here} {vars : List ℕ} {vs : Values} (q : 
         (record {
           known = record {
             in_slots = λ x here. same x (begins.inside.below x here) ∙ begins.known.in_slots x here;
-            in_cells = spelled_left (spot b.z h) gone.own gone.agree begins.known.in_cells;
+            in_cells = represented_left (configuration b.z h) gone.own gone.agree begins.known.in_cells;
             long = gone.own.long ∙ begins.known.long;
             frame = gone.frame ∙ begins.known.frame;
             variables = begins.known.variables;
@@ -114,7 +115,7 @@ module _ {b : Body} {p : Scope} {h : Here} {vars : List ℕ} {vs : Values} (q : 
 
   -- it may use the timer queue, and the places of a task
   may_use : b.c.spawns + TIMER_QUEUE_WORDS ≤ b.words → b.m.priority ≤ ceiling b.z.app section.Timer
-      → MayUseTimer b.z.app b.z.who (goes_steps b.z.app q) p.threshold b.c.spawns (spot b.z h)
+      → MayUseTimer b.z.app b.z.who (goes_steps b.z.app q) p.threshold b.c.spawns (configuration b.z h)
   may_use words within = record {
     cells = begins.known.long;
     frame = omega (arith, begins.known.frame);
@@ -126,7 +127,7 @@ module _ {b : Body} {p : Scope} {h : Here} {vars : List ℕ} {vs : Values} (q : 
   }
 
   may_take : (task : ℕ) → b.m.priority ≤ ceiling b.z.app (section.Free task)
-      → MayUsePlaces b.z.app b.z.who task (spot b.z h)
+      → MayUsePlaces b.z.app b.z.who task (configuration b.z h)
   may_take task within = record {
     closed = not_open h.held p.locked (section.Free task) (λ r. refl) begins.inside.are;
     within = b.facts.enters (section.Free task) within;
@@ -140,7 +141,7 @@ site b p h vs task t rest = record {
   bodies = b.z.bodies;
   thread = b.z.thread;
   who = b.z.who;
-  spot = spot b.z h;
+  configuration = configuration b.z h;
   threshold = p.threshold;
   task = task;
   t = t;
@@ -151,7 +152,7 @@ site b p h vs task t rest = record {
 
 -- the code of what goes does its actions, once the values are in their slots
 goes_on : {b : Body} {p : Scope} {h : Here} {vars : List ℕ} {vs : Values} (q : Spawn) (rest : ℕ → Rest)
-    → SoundSpawn b p q → Begins b p h (goes_code b.c p.threshold h.at q) (goes_steps b.z.app q) vars vs
+    → SoundSpawn b p q → IsViablePrefix b p h (goes_code b.c p.threshold h.at q) (goes_steps b.z.app q) vars vs
     → take (length (values_of q)) (drop b.c.spawns h.slots) ≡ map (value_in vars vs) (values_of q)
     → h.rest ≡ spawn_actions b.z.app (value_in vars vs) q rest vs
     → Answered b p h (length (goes_code b.c p.threshold h.at q)) (goes_steps b.z.app q) vars rest → S b.z h
@@ -324,7 +325,7 @@ record Come (b : Body) (slot : ℕ) (given before slots : List ℕ) : Type 0 whe
 
 arguments_come : {b : Body} {p : Scope} (es : List Expression) {h : Here} {vars : List ℕ} {vs : Values} {slot : ℕ}
     → AllByRecursion (Sound b p) es → (b.c.spawns ≤ slot) × (slot + length es ≤ b.words)
-    → Begins b p h (arguments_code b.c es slot) (expressions_steps es) vars vs
+    → IsViablePrefix b p h (arguments_code b.c es slot) (expressions_steps es) vars vs
     → ((done at : ℕ) (slots : List ℕ) → done ≡ h.done + expressions_steps es
     → at ≡ h.at + length (arguments_code b.c es slot) → Come b slot (map (value_in vars vs) es) h.slots slots
     → S b.z (record h { done = done; slots = slots; at = at }))
@@ -365,7 +366,7 @@ arguments_come {b = b} {p = p} (e ∷ es) {h = h} {vars = vars} {vs = vs} {slot 
 -- a spawn, and what follows by its answer
 sends_on : {b : Body} {p : Scope} {h : Here} {vars : List ℕ} {vs : Values} (q : Spawn) (rest : ℕ → Rest)
     → SoundSpawn b p q
-    → Begins b p h (send_code b.c p.threshold h.at q) (spawn_steps (cost_measure b.z.app) q) vars vs
+    → IsViablePrefix b p h (send_code b.c p.threshold h.at q) (spawn_steps (cost_measure b.z.app) q) vars vs
     → h.rest ≡ spawn_actions b.z.app (value_in vars vs) q rest vs
     → Answered b p h (length (send_code b.c p.threshold h.at q)) (spawn_steps (cost_measure b.z.app) q) vars rest
     → S b.z h

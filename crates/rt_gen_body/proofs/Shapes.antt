@@ -36,7 +36,7 @@ use Rattle.rt_gen_body.specs.Inside.Blocks.{block_code, branch_code, guard_at, l
 use Rattle.rt_gen_body.specs.Inside.Simple.{goes_code, is_timed, send_code, values_code, values_of}
 use Rattle.rt_gen_body.specs.Inside.Values.{Context, arguments_code, expression_code, load, next_slot, store}
 use Rattle.rt_gen_body.specs.Inside.Values.{value_code}
-use Rattle.rt_gen_body.specs.Inside.Whole.{blocks_of, code_of, context_of, level_of}
+use Rattle.rt_gen_body.specs.Inside.Whole.{blocks_of, code_of, context_of, threshold_of}
 use Rattle.rt_gen_timer.proofs.Generated.{after_claimed, after_short, cancel_claimed, move_claimed, timer_named}
 use Rattle.rt_gen_timer.specs.TimerCode.{queue_of}
 
@@ -259,7 +259,7 @@ module _ (app : App) (accepted : IsAccepted app) where
       fewer
       (both (block_fine m accepted m.body.block
       (record { listed = map (λ o. o.local) m.body.local; count = m.args; visible = range_with_len 0 m.args })
-      (level_of app m) (first_lock_slot m.args m.body) entry (has_body app accepted id m is).placed.block)
+      (threshold_of app m) (first_lock_slot m.args m.body) entry (has_body app accepted id m is).placed.block)
       (end_fine id entry)) (uncapped id m is)
 
   -- the body of a member is the body
@@ -325,7 +325,7 @@ module _ (app : App) where
       go true none fixed =
           let args : m.args ≡ 0 = eqb-true m.args 0 none in
           let both =
-          block_fixed app (context_of app m) (level_of app m) (first_lock_slot m.args m.body) at m.body.block
+          block_fixed app (context_of app m) (threshold_of app m) (first_lock_slot m.args m.body) at m.body.block
           (λ irq. number_is app irq app.irqs) fixed in
           both.1 (omega (arith, args, both.0))
       go false none fixed = absurd (none-some lines fixed)

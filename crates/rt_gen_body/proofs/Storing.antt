@@ -1,5 +1,6 @@
 -- What a body of an application may do.
-use Rattle.rt_gen_queue.proofs.Vocabulary.{App, AtPriority, Bool, Contains, Guarded, Held, IsAccepted, IsChangeable}
+use Rattle.rt_gen_queue.proofs.Vocabulary.{App, AtPriority, Bool, Contains, Guarded, OpenSection, IsAccepted}
+use Rattle.rt_gen_queue.proofs.Vocabulary.{IsChangeable}
 use Rattle.rt_gen_queue.proofs.Vocabulary.{IsIn}
 use Rattle.rt_gen_queue.proofs.Vocabulary.{IsSound, List, Member, None, Option, Own, Runner, Some, Starting, []}
 use Rattle.rt_gen_queue.proofs.Vocabulary.{and_both, and_left, any_passes, ap, arith, eq-eqb, eqb-true, false}
@@ -64,7 +65,7 @@ exclusive here ref free is = absurd cc
 
 module _ (app : App) (m : Member) where
   -- a resource that it reaches: its section is open, or it needs none
-  open_or : (held : List Held) (locked : List ℕ) (r : ℕ) → OpenAre held locked
+  open_or : (held : List OpenSection) (locked : List ℕ) (r : ℕ) → OpenAre held locked
       → (is_init m.id ≡ true) ⊎ ((is_free app m r ≡ true) ⊎ ((is_lockable app m r ≡ true) × Contains locked r))
       → (is_open held (section.Res r) ≡ true) ⊎ ((is_init m.id ≡ true) ⊎ (is_free app m r ≡ true))
   open_or held locked r are (inl starts) = inr (inl starts)
@@ -74,7 +75,7 @@ module _ (app : App) (m : Member) where
 
 -- what it may read and change
 module _ {app : App} {who : Runner} {m : Member} {c : Context} (facts : Facts app who m c) where
-  pub resource_read : (held : List Held) (locked : List ℕ) (r : ℕ) → OpenAre held locked
+  pub resource_read : (held : List OpenSection) (locked : List ℕ) (r : ℕ) → OpenAre held locked
       → IsReached app m locked (atom.Shared r) → reads (storage app) who held (Guarded (section.Res r)) ≡ true
   unfolding storage
   resource_read held locked r are reached =
@@ -83,7 +84,7 @@ module _ {app : App} {who : Runner} {m : Member} {c : Context} (facts : Facts ap
         | inr other ↦ or_assoc (is_open held (section.Res r)) _ _ ∙ or_right _ _ (facts.free r reached.0 other)
       ]
 
-  pub resource_owned : (held : List Held) (locked fixed : List ℕ) (r : ℕ) → OpenAre held locked
+  pub resource_owned : (held : List OpenSection) (locked fixed : List ℕ) (r : ℕ) → OpenAre held locked
       → IsReached app m locked (atom.Shared r) → IsChangeable app m fixed (atom.Shared r)
       → owns (storage app) who held (Guarded (section.Res r)) ≡ true
   unfolding storage
@@ -93,7 +94,7 @@ module _ {app : App} {who : Runner} {m : Member} {c : Context} (facts : Facts ap
         | inr other ↦ or_right (is_open held (section.Res r)) _ (facts.change r reached.0 other changes)
       ]
 
-  pub local_owned : (held : List Held) (locked : List ℕ) (n : ℕ) → IsReached app m locked (atom.Local n)
+  pub local_owned : (held : List OpenSection) (locked : List ℕ) (n : ℕ) → IsReached app m locked (atom.Local n)
       → owns (storage app) who held (Own n) ≡ true
   unfolding storage
   local_owned held locked n reached =

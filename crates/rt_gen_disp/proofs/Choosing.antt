@@ -1,5 +1,5 @@
 -- The task of the oldest message is looked for among the tasks of its level, and its message is run.
-use Rattle.rt_gen_queue.proofs.Vocabulary.{Bool, Entry, HasCode, Holder, KeepsTaskLimits, Line, List, Message, None}
+use Rattle.rt_gen_queue.proofs.Vocabulary.{Bool, Entry, HasCode, Location, KeepsTaskLimits, Line, List, Message, None}
 use Rattle.rt_gen_queue.proofs.Vocabulary.{Section, Some, Task, Values, [], all_at, all_from, and_left, ap, arith}
 use Rattle.rt_gen_queue.proofs.Vocabulary.{body_cost, capacity_is, capacity_of, cost_measure, count, count_more, drop}
 use Rattle.rt_gen_queue.proofs.Vocabulary.{eqb-true, false, filter, greatest, guard_of, if◌then◌else◌, input_is_home}
@@ -17,7 +17,7 @@ use Rattle.rt_code.specs.declared.instr.Instr.TheVariants as instr
 use Rattle.rt_gen_queue.proofs.{Numbers.steps_and, Placing.code_behind, Placing.code_front, Planned.lines_by_layout}
 use Rattle.rt_gen_queue.proofs.Entering.{enter_fits, enter_placed, leave_fits, leave_placed}
 use Rattle.rt_gen_queue.proofs.Layer.{Here, S, Saves, Straight, all_fit, calculates, ends, jumps_off, placed, sets}
-use Rattle.rt_gen_queue.proofs.Layer.{spot, stays}
+use Rattle.rt_gen_queue.proofs.Layer.{configuration, stays}
 use Rattle.rt_gen_queue.specs.declared.queue.ReadyQueue.{ReadyQueue}
 use Rattle.rt_gen_disp.proofs.{Generated.none_behind, Kept.open_here, Loading.AreLoaded, Loading.Spread}
 use Rattle.rt_gen_disp.proofs.{Loading.all_load, Running.Chosen, Running.IsOldest, Running.start_run, Sizes.IsTask}
@@ -65,7 +65,7 @@ pub record HasTime (d : Dispatcher) (k done until deadline : ℕ) : Type 0 where
   pub job : 3 * k + (19 + most d) + done ≤ until
   pub section : done + 3 * k + 21 ≤ deadline
 
-module _ {d : Dispatcher} {cells : List ℕ} {queues : Holder → List Entry} {vs : Values} {o : Entry} {es : List Entry}
+module _ {d : Dispatcher} {cells : List ℕ} {queues : Location → List Entry} {vs : Values} {o : Entry} {es : List Entry}
     (oldest : IsOldest d cells queues vs o es) where
   -- where the dispatcher is once it has taken the oldest message off the queue
   abbrev pub chosen : (done until deadline at : ℕ) → List ℕ → Here
@@ -78,7 +78,7 @@ module _ {d : Dispatcher} {cells : List ℕ} {queues : Holder → List Entry} {v
   saves = only_mask _ (guard_of d.app (section.Ready d.level)) d.level (inr refl)
 
   -- its place is the job's own
-  mine_queued : 0 < mine (spot (job d) (chosen 0 0 0 0 [])) o
+  mine_queued : 0 < mine (configuration (job d) (chosen 0 0 0 0 [])) o
   mine_queued =
       let x : Section = section.Ready d.level in
       let least = queue_counts queues o x (alone d x) (open_here d x) in
@@ -160,7 +160,7 @@ module _ {d : Dispatcher} {cells : List ℕ} {queues : Holder → List Entry} {v
         (record {
           few = few;
           homes = λ j small. input_is_home d.app o.task t is.at software o.place j less small;
-          long = oldest.spelled.long;
+          long = oldest.represented.long;
           own = mine_queued;
           all = omega arith;
           free = λ k small. only_mask (λ e. e ≢ k) (guard_of d.app (section.Ready d.level)) d.level (omega arith);

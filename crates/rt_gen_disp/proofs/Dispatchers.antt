@@ -1,5 +1,6 @@
 -- A dispatcher of an accepted application, and where it is while its code runs.
-use Rattle.rt_gen_queue.proofs.Vocabulary.{App, AtPriority, BodyRow, Contains, Doing, Entry, Guarded, Held, Holder}
+use Rattle.rt_gen_queue.proofs.Vocabulary.{App, AtPriority, BodyRow, Contains, Doing, Entry, Guarded, OpenSection}
+use Rattle.rt_gen_queue.proofs.Vocabulary.{Location}
 use Rattle.rt_gen_queue.proofs.Vocabulary.{IsAccepted, Line, List, None, Section, Some, Task, Values, [], is_of_level}
 use Rattle.rt_gen_queue.proofs.Vocabulary.{levels, row_for, rows_for, slice_get, slice_index, storage, true, ℕ, ◌∷◌}
 use Rattle.rt_gen_queue.proofs.Vocabulary.{◌≡◌}
@@ -34,7 +35,7 @@ job d = record {
 }
 
 -- a section, open alone
-abbrev pub alone : Dispatcher → Section → List Held
+abbrev pub alone : Dispatcher → Section → List OpenSection
 alone d x = opened (job d) own x d.level ∷ []
 
 -- what changes while it runs, beside its frame, whose words are told apart, and what it has left to do
@@ -43,7 +44,7 @@ pub record Moment : Type 0 where
   pub until : ℕ
   pub at : ℕ
   pub cells : List ℕ
-  pub queues : Holder → List Entry
+  pub queues : Location → List Entry
 
 -- where it is with no section open, and with these places in its hands
 abbrev pub outside : Moment → List Entry → Doing Values → Here
@@ -65,7 +66,7 @@ abbrev pub within : Dispatcher → Section → ℕ → Moment → List Entry →
 within d x deadline m hands rest =
     record (outside m hands rest) { held = alone d x; deadlines = deadline ∷ m.until ∷ [] }
 
--- what a section guards is spelled by these cells
-abbrev pub Spelled : Dispatcher → Section → List ℕ → (Holder → List Entry) → Values → Type 0
-Spelled d x cells queues vs =
-    (storage d.app).Spells (Guarded x) (slice_index cells) (queues (Guarded x)) (vs (Guarded x))
+-- what a section guards is represented by these cells
+abbrev pub Represented : Dispatcher → Section → List ℕ → (Location → List Entry) → Values → Type 0
+Represented d x cells queues vs =
+    (storage d.app).Represents (Guarded x) (slice_index cells) (queues (Guarded x)) (vs (Guarded x))

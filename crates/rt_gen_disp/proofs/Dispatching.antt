@@ -1,6 +1,7 @@
 -- The code of a dispatcher stands.
-use Rattle.rt_gen_queue.proofs.Vocabulary.{AreSpelled, At, AtPriority, BodyRow, Doing, Entry, Guarded, HasCode, Holder}
-use Rattle.rt_gen_queue.proofs.Vocabulary.{KeepsTaskLimits, Line, List, Messages, None, Rest, Section, SpellsReady}
+use Rattle.rt_gen_queue.proofs.Vocabulary.{AreRepresented, At, AtPriority, BodyRow, Doing, Entry, Guarded, HasCode}
+use Rattle.rt_gen_queue.proofs.Vocabulary.{Location}
+use Rattle.rt_gen_queue.proofs.Vocabulary.{KeepsTaskLimits, Line, List, Messages, None, Rest, Section, RepresentsReady}
 use Rattle.rt_gen_queue.proofs.Vocabulary.{StandsFrom, Values, [], accepted_are_sound, all_at, ap, arith, calm}
 use Rattle.rt_gen_queue.proofs.Vocabulary.{capacity_is, drop, home_of, is_of_level, length, map, memory, message_at}
 use Rattle.rt_gen_queue.proofs.Vocabulary.{message_word, messages, or_left, queue_at, ready_is_home, refl, slice_index}
@@ -9,7 +10,7 @@ use Rattle.rt_gen_queue.proofs.Vocabulary.{◌≡◌, ◌≤◌}
 use Rattle.rt_ids.specs.declared.ids.Section.TheVariants as section
 use Rattle.rt_app.specs.{BodyCost.dispatcher_cost, Doings.dispatcher_doing}
 use Rattle.rt_app.specs.{declared.costs.TheConstants.DISPATCHER_WORDS}
-use Rattle.rt_gen_queue.proofs.{Owning.ready_spelled, Places.few_places, Placing.code_behind, Placing.code_front}
+use Rattle.rt_gen_queue.proofs.{Owning.ready_represented, Places.few_places, Placing.code_behind, Placing.code_front}
 use Rattle.rt_gen_queue.proofs.Entering.{enter_fits, enter_placed, enters, leave_fits, leave_placed, leaves}
 use Rattle.rt_gen_queue.proofs.Layer.{Here, Now, S, Straight, all_fit, begins, calculates, ends, loads, loads_at}
 use Rattle.rt_gen_queue.proofs.Layer.{next_in_time, placed, reads_open, returns_here, sets, skips, skips_off, stays}
@@ -17,8 +18,8 @@ use Rattle.rt_gen_queue.proofs.Layer.{stores, writes_open}
 use Rattle.rt_gen_queue.proofs.Numbers.{added, one_less, rest_of, steps_and}
 use Rattle.rt_gen_queue.specs.declared.queue.ReadyQueue.{ReadyQueue}
 use Rattle.rt_gen_disp.proofs.{Choosing.HasTime, Choosing.choices_run, Choosing.tasks_of, Running.IsOldest}
-use Rattle.rt_gen_disp.proofs.Dispatchers.{Dispatcher, Moment, Spelled, job, outside, rows, within}
-use Rattle.rt_gen_disp.proofs.Kept.{may_enter, open_here, spelled_agreed, spelled_taken, spelled_written}
+use Rattle.rt_gen_disp.proofs.Dispatchers.{Dispatcher, Moment, Represented, job, outside, rows, within}
+use Rattle.rt_gen_disp.proofs.Kept.{may_enter, open_here, represented_agreed, represented_taken, represented_written}
 use Rattle.rt_gen_disp.proofs.Rings.{HasOldest, IsTaken, at_of, head_less, head_of, next_of, oldest, ring_home, room_of}
 use Rattle.rt_gen_disp.proofs.Rings.{taken}
 use Rattle.rt_gen_disp.proofs.Words.{Words, own, place_in, task_in, words, words_are, words_of}
@@ -46,19 +47,19 @@ module _ (d : Dispatcher) (at : ℕ) (choices : HasCode d.code (at + 18) (choice
   abbrev lines : List Line
   lines = front_lines (queue_at d.app d.level) at
 
-  -- its messages are what its cells spell
+  -- its messages are what its cells represent
   abbrev ready_doing : List ℕ → List Entry → Rest
   ready_doing cells es = start_doing d.app d.level (map (message_at d.app (slice_index cells)) es)
 
   -- nothing is ready
-  none_run : {m : Moment} {w : Words} {vs : Values} {deadline : ℕ} → AreSpelled d.app d.level m.cells m.queues vs
-      → Spelled d x m.cells m.queues vs
+  none_run : {m : Moment} {w : Words} {vs : Values} {deadline : ℕ} → AreRepresented d.app d.level m.cells m.queues vs
+      → Represented d x m.cells m.queues vs
       → Straight (job d) own (drop 4 lines) (within d x deadline m [] (start_doing d.app d.level [] vs)) (words w)
-  none_run spelled spells =
-      leaves d.level refl refl refl spells
+  none_run represented represents =
+      leaves d.level refl refl refl represents
       (λ ws agree. record {
         runs = λ run has. returns_here has.0 (next_in_time run) refl refl refl refl
-            (λ holder kept. (spelled_agreed [] spelled agree).each holder (or_left _ _ kept));
+            (λ location kept. (represented_agreed [] represented agree).each location (or_left _ _ kept));
       })
 
   -- the moment and the words behind its taking
@@ -77,13 +78,13 @@ module _ (d : Dispatcher) (at : ℕ) (choices : HasCode d.code (at + 18) (choice
   }
 
   -- its place is below 16
-  small_place : {cells : List ℕ} {queues : Holder → List Entry} {vs : Values} {o : Entry} {es : List Entry}
+  small_place : {cells : List ℕ} {queues : Location → List Entry} {vs : Values} {o : Entry} {es : List Entry}
       → HasOldest d cells queues vs o es → o.place < 16
   small_place {o = o} ring =
-      let task = the_task (is_of_level d.level) d.app o.task ring.spells.places.0.0 in
+      let task = the_task (is_of_level d.level) d.app o.task ring.represents.places.0.0 in
       let limits : KeepsTaskLimits task.0 =
       all_at KeepsTaskLimits d.app.tasks o.task task.0 d.accepted.limits.tasks task.1 in
-      omega (arith, ring.spells.places.0.1, limits.most_capacity, capacity_is d.app o.task task.0 task.1)
+      omega (arith, ring.represents.places.0.1, limits.most_capacity, capacity_is d.app o.task task.0 task.1)
 
   -- the oldest message is taken off
   take_run : {m : Moment} {vs : Values} {deadline : ℕ} {rest : Doing Values} {o : Entry}
@@ -93,12 +94,12 @@ module _ (d : Dispatcher) (at : ℕ) (choices : HasCode d.code (at + 18) (choice
       → Straight (job d) own (drop 6 lines) (within d x deadline m [] rest)
       (words (record w { left = suc (length es) }))
   take_run {m = m} {o = o} {es = es} w ring on =
-      let long = ring.spelled.long in
+      let long = ring.represented.long in
       let head : ℕ = head_of d m.cells in
       let room : ℕ = room_of d in
       let few : room ≤ 1024 = few_places d.app d.level d.accepted.limits.tasks d.accepted.limits.few_tasks in
       let less : head < room = head_less ring in
-      let room_of_all = ring.spells.room in
+      let room_of_all = ring.represents.room in
       let below = small_place ring in
       let head_home = ring_home ring (at_of d) 0 (omega arith) (omega arith) in
       let count_home = ring_home ring (at_of d + 1) 1 refl (omega arith) in
@@ -125,10 +126,17 @@ module _ (d : Dispatcher) (at : ℕ) (choices : HasCode d.code (at + 18) (choice
       (words (record w { left = suc (length es) }))
   some_run {m = m} {vs = vs} {deadline = deadline} {o = o} {es = es} w at_is time ring =
       take_run w ring (λ stored is.
-      let kept = spelled_written x tt ring.spelled is.long is.elsewhere in
-      let now = ring.spells.messages ∙ ap Messages is.messages in
+      let kept = represented_written x tt ring.represented is.long is.elsewhere in
+      let now = ring.represents.messages ∙ ap Messages is.messages in
       let oldest : IsOldest d stored m.queues vs o es =
-      record { spelled = kept; queue = ring.queue; content = now; rest = is.spells; placed = ring.spells.places.0 } in
+      record {
+        represented = kept;
+        queue = ring.queue;
+        content = now;
+        rest = is.represents;
+        placed =
+            ring.represents.places.0;
+      } in
       let to : at + 18 ≡ steps_and 12 m.at = omega (arith, at_is) in
       subst (λ ms. S (job d) (Now own (within d x deadline (behind_taking m stored) []
       (start_doing d.app d.level ms vs)) (words (taken_words w m.cells o es)))) (sym is.messages)
@@ -139,12 +147,12 @@ module _ (d : Dispatcher) (at : ℕ) (choices : HasCode d.code (at + 18) (choice
 
   -- whatever is ready
   entered_run : {m : Moment} {w : Words} {vs : Values} {deadline : ℕ} → m.at ≡ suc at
-      → HasTime d (tasks_of d) (15 + m.done) m.until deadline → AreSpelled d.app d.level m.cells m.queues vs
-      → Spelled d x m.cells m.queues vs → Straight (job d) own (drop 1 lines)
+      → HasTime d (tasks_of d) (15 + m.done) m.until deadline → AreRepresented d.app d.level m.cells m.queues vs
+      → Represented d x m.cells m.queues vs → Straight (job d) own (drop 1 lines)
       (within d x deadline m [] (start_doing d.app d.level (messages (vs (Guarded x))) vs)) (words w)
-  entered_run {m = m} {w = w} {vs = vs} {deadline = deadline} at_is time spelled spells =
+  entered_run {m = m} {w = w} {vs = vs} {deadline = deadline} at_is time represented represents =
       let ready =
-      ready_spelled d.app d.level (slice_index m.cells) (m.queues (Guarded x)) (vs (Guarded x)) spells in
+      ready_represented d.app d.level (slice_index m.cells) (m.queues (Guarded x)) (vs (Guarded x)) represents in
       subst (λ ms. Straight (job d) own (drop 1 lines)
       (within d x deadline m [] (start_doing d.app d.level ms vs)) (words w)) (sym (ap messages ready.messages))
       (by_queue (m.queues (Guarded x)) refl ready)
@@ -153,29 +161,29 @@ module _ (d : Dispatcher) (at : ℕ) (choices : HasCode d.code (at + 18) (choice
       count_home = ready_is_home d.app d.level d.is 1 (omega arith)
 
       by_queue : (es : List Entry) → m.queues (Guarded x) ≡ es
-          → SpellsReady d.app (slice_index m.cells) d.level es (vs (Guarded x))
+          → RepresentsReady d.app (slice_index m.cells) d.level es (vs (Guarded x))
           → Straight (job d) own (drop 1 lines) (within d x deadline m [] (ready_doing m.cells es vs)) (words w)
       by_queue [] queue ready =
           loads 0
-          (reads_open (record { opens = open_here d x; long = spelled.long; home = count_home }) ready.count)
-          (skips_off 1 (omega (arith, at_is)) refl (none_run spelled spells))
+          (reads_open (record { opens = open_here d x; long = represented.long; home = count_home }) ready.count)
+          (skips_off 1 (omega (arith, at_is)) refl (none_run represented represents))
       by_queue (o ∷ es) queue ready =
           loads (suc (length es))
-          (reads_open (record { opens = open_here d x; long = spelled.long; home = count_home }) ready.count)
+          (reads_open (record { opens = open_here d x; long = represented.long; home = count_home }) ready.count)
           (stays (omega arith)
           (skips 2 (omega (arith, at_is))
           (some_run w refl (record { job = omega (arith, time.job); section = omega (arith, time.section) })
-          (record { spelled = spelled; queue = queue; spells = ready }))))
+          (record { represented = represented; queue = queue; represents = ready }))))
 
   front_run : {m : Moment} {w : Words} {vs : Values} → m.at ≡ at → m.done ≡ 0
-      → m.until ≡ dispatcher_cost d.app d.level → AreSpelled d.app d.level m.cells m.queues vs
+      → m.until ≡ dispatcher_cost d.app d.level → AreRepresented d.app d.level m.cells m.queues vs
       → Straight (job d) own lines (outside m [] (dispatcher_doing d.app d.level vs)) (words w)
-  front_run at_is none until_is spelled =
+  front_run at_is none until_is represented =
       enters (may_enter d x refl tt ((accepted_are_sound d.app d.accepted).ceilings x d.is) (omega arith))
       (omega arith) refl
       (λ v ws others queues taken.
       entered_run (omega arith) (record { job = omega (arith, until_is); section = omega (arith, none) })
-      (spelled_taken x taken spelled) taken.spelled)
+      (represented_taken x taken represented) taken.represented)
 
   dispatches : HasCode d.code at lines → (bodies : List BodyRow) → bodies ≡ rows d
       → StandsFrom (storage d.app) d.code bodies d.thread (AtPriority d.level) (length (memory d.app)) DISPATCHER_WORDS

@@ -6,7 +6,7 @@ use Rattle.rt_gen_queue.proofs.Vocabulary.{slice_set, storage, subst, suc, sym, 
 use Rattle.rt_gen_queue.proofs.Vocabulary.{◌≡◌, ◌≤◌}
 use Rattle.std.proofs.Math.Seq.{take-suc-set}
 use Rattle.rt_code.specs.declared.instr.Instr.TheVariants as instr
-use Rattle.rt_gen_queue.proofs.Layer.{Here, InTime, IsFree, Reads, S, goes, lasts_less, load_at_gives, spot}
+use Rattle.rt_gen_queue.proofs.Layer.{Here, InTime, IsFree, Reads, S, goes, lasts_less, load_at_gives, configuration}
 use Rattle.rt_gen_queue.proofs.Owning.{home_as, place_in_memory}
 use Rattle.rt_gen_disp.proofs.Dispatchers.{Dispatcher, job}
 
@@ -24,7 +24,7 @@ pub record MayLoadAll (d : Dispatcher) (s : Spread) (h : Here) (more from : ℕ)
   pub few : s.count ≤ 4
   pub homes : (j : ℕ) → j < s.count → home_of d.app (first_of d s + j) ≡ In s.entry
   pub long : length h.cells ≡ length (memory d.app)
-  pub own : 0 < mine (spot (job d) h) s.entry
+  pub own : 0 < mine (configuration (job d) h) s.entry
   pub all : from + more ≡ s.count
   pub free : (k : ℕ) → k < 4 → IsFree h.held k
   pub slots : 7 < length h.slots
@@ -57,7 +57,7 @@ module _ (d : Dispatcher) (s : Spread) where
       let there = place_in_memory d.app (first_of d s + from) s.entry (may.homes from less) in
       record {
         may =
-            subst (λ (home : Home). MayLoad (storage d.app) (job d).who (spot (job d) h) home)
+            subst (λ (home : Home). MayLoad (storage d.app) (job d).who (configuration (job d) h) home)
             (sym (home_as d.app _ ∙ ap (home_of d.app) is ∙ may.homes from less)) may.own;
         there = omega (arith, may.long);
         is = ap (slice_index h.cells) is;

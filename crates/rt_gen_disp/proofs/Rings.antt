@@ -1,6 +1,6 @@
 -- The ready queue of a level with an oldest message, and without it once its count and its head have been stored.
-use Rattle.rt_gen_queue.proofs.Vocabulary.{AreSpelled, At, Entry, Guarded, Holder, In, List, Messages, Some}
-use Rattle.rt_gen_queue.proofs.Vocabulary.{SpellsReady, Values, ap, arith, home_of, length, map, message_at}
+use Rattle.rt_gen_queue.proofs.Vocabulary.{AreRepresented, At, Entry, Guarded, Location, In, List, Messages, Some}
+use Rattle.rt_gen_queue.proofs.Vocabulary.{RepresentsReady, Values, ap, arith, home_of, length, map, message_at}
 use Rattle.rt_gen_queue.proofs.Vocabulary.{message_word, ready_at, ready_is_home, ready_room, refl, slice_get}
 use Rattle.rt_gen_queue.proofs.Vocabulary.{slice_index, suc, sym, ℕ, ◌%◌, ◌+◌, ◌<◌, ◌∙◌, ◌∷◌, ◌≡◌, ◌≢◌}
 use Rattle.std.proofs.{Math.Nat.mod-add-mod, lemmas.Nat.mod_below}
@@ -21,11 +21,11 @@ head_of d cells = slice_index cells (at_of d)
 abbrev pub next_of : Dispatcher → List ℕ → ℕ
 next_of d cells = (head_of d cells + 1) % room_of d
 
-pub record HasOldest (d : Dispatcher) (cells : List ℕ) (queues : Holder → List Entry) (vs : Values) (o : Entry)
+pub record HasOldest (d : Dispatcher) (cells : List ℕ) (queues : Location → List Entry) (vs : Values) (o : Entry)
     (es : List Entry) : Type 0 where
-  pub spelled : AreSpelled d.app d.level cells queues vs
+  pub represented : AreRepresented d.app d.level cells queues vs
   pub queue : queues (Guarded (section.Ready d.level)) ≡ o ∷ es
-  pub spells : SpellsReady d.app (slice_index cells) d.level (o ∷ es) (vs (Guarded (section.Ready d.level)))
+  pub represents : RepresentsReady d.app (slice_index cells) d.level (o ∷ es) (vs (Guarded (section.Ready d.level)))
 
 -- the queue without it, by the cells behind two stores
 pub record IsTaken (d : Dispatcher) (cells stored : List ℕ) (o : Entry) (es : List Entry) : Type 0 where
@@ -34,13 +34,13 @@ pub record IsTaken (d : Dispatcher) (cells stored : List ℕ) (o : Entry) (es : 
       → slice_index stored c ≡ slice_index cells c
   pub messages : map (message_at d.app (slice_index cells)) (o ∷ es)
       ≡ map (message_at d.app (slice_index stored)) (o ∷ es)
-  pub spells : SpellsReady d.app (slice_index stored) d.level es
+  pub represents : RepresentsReady d.app (slice_index stored) d.level es
       (Messages (map (message_at d.app (slice_index stored)) es))
 
-module _ {d : Dispatcher} {cells : List ℕ} {queues : Holder → List Entry} {vs : Values} {o : Entry} {es : List Entry}
+module _ {d : Dispatcher} {cells : List ℕ} {queues : Location → List Entry} {vs : Values} {o : Entry} {es : List Entry}
     (ring : HasOldest d cells queues vs o es) where
   pub head_less : head_of d cells < room_of d
-  head_less = let room = ring.spells.room in let head = ring.spells.head in omega arith
+  head_less = let room = ring.represents.room in let head = ring.represents.head in omega arith
 
   pub ring_home : (c j : ℕ) → c ≡ at_of d + j → j < 2 + room_of d
       → home_of d.app c ≡ At (Guarded (section.Ready d.level))
@@ -52,7 +52,7 @@ module _ {d : Dispatcher} {cells : List ℕ} {queues : Holder → List Entry} {v
       let first : head_of d cells + 0 ≡ head_of d cells = omega arith in
       let small = small_rest (head_of d cells) (room_of d) head_less in
       ap (λ k. slice_index cells (at_of d + 2 + k)) (sym (ap (λ k. k % room_of d) first ∙ small))
-      ∙ ring.spells.ring 0 o refl
+      ∙ ring.represents.ring 0 o refl
 
   pub taken : (counted stored : List ℕ) → Wrote (at_of d + 1) (length es) cells counted
       → Wrote (at_of d) (next_of d cells) counted stored → IsTaken d cells stored o es
@@ -60,12 +60,12 @@ module _ {d : Dispatcher} {cells : List ℕ} {queues : Holder → List Entry} {v
     long = second.long ∙ first.long;
     elsewhere = elsewhere;
     messages =
-        messages_alike d.app d.level (slice_index cells) (slice_index stored) (o ∷ es) ring.spells.places
+        messages_alike d.app d.level (slice_index cells) (slice_index stored) (o ∷ es) ring.represents.places
         (λ f c of. sym (elsewhere c (λ is. let e : At (Guarded (section.Ready d.level)) ≡ In f = sym is ∙ of in cc)));
-    spells = record {
+    represents = record {
       messages = refl;
-      room = let room = ring.spells.room in omega arith;
-      places = ring.spells.places.1;
+      room = let room = ring.represents.room in omega arith;
+      places = ring.represents.places.1;
       head = let next = mod_below (head_of d cells + 1) (room_of d) some in omega (arith, second.here);
       count = second.others (at_of d + 1) (omega arith) ∙ first.here;
       ring = rest_of_ring;
@@ -97,4 +97,4 @@ module _ {d : Dispatcher} {cells : List ℕ} {queues : Holder → List Entry} {v
           ap (λ h. (h + i) % room_of d) second.here ∙ mod-add-mod (head_of d cells + 1) (room_of d) i
           ∙ ap (λ k. k % room_of d) next in
           ap (λ k. slice_index stored (at_of d + 2 + k)) e ∙ other (at_of d + 2 + j) (omega arith) (omega arith)
-          ∙ ring.spells.ring (suc i) f at
+          ∙ ring.represents.ring (suc i) f at

@@ -1,9 +1,11 @@
 -- What a dispatcher does once the oldest message is that of one of its tasks: it starts the message, gives its place
 -- back, calls the body and returns.
-use Rattle.rt_gen_queue.proofs.Vocabulary.{AreSpelled, AtPriority, BodyRow, Content, Ends, Enters, Entry, FREE_COST}
+use Rattle.rt_gen_queue.proofs.Vocabulary.{AreRepresented, AtPriority, BodyRow, Content, Ends, Enters, Entry, FREE_COST}
 use Rattle.rt_gen_queue.proofs.Vocabulary.{Frees}
-use Rattle.rt_gen_queue.proofs.Vocabulary.{Guarded, Holder, Leaves, Line, List, Marked, Message, Messages, None, Number}
-use Rattle.rt_gen_queue.proofs.Vocabulary.{Option, Posts, Rest, Returns, Section, Some, SpellsFree, SpellsReady, Stands}
+use Rattle.rt_gen_queue.proofs.Vocabulary.{Guarded, Location, Leaves, Line, List, Marked, Message, Messages, None}
+use Rattle.rt_gen_queue.proofs.Vocabulary.{Number}
+use Rattle.rt_gen_queue.proofs.Vocabulary.{Option, Posts, Rest, Returns, Section, Some, RepresentsFree, RepresentsReady}
+use Rattle.rt_gen_queue.proofs.Vocabulary.{Stands}
 use Rattle.rt_gen_queue.proofs.Vocabulary.{Task, Values, [], act, act_all, and_left, and_right, ap, arith, body_cost}
 use Rattle.rt_gen_queue.proofs.Vocabulary.{body_frame, caller_frame, calm, cost_measure, count, dispatcher_number, drop}
 use Rattle.rt_gen_queue.proofs.Vocabulary.{effect as action_effect, eq-eqb, eqb-true, false, free_at, inl, inr}
@@ -28,13 +30,13 @@ use Rattle.rt_gen_queue.proofs.Facts.{Spawned, capacity, few_arguments, few_free
 use Rattle.rt_gen_queue.proofs.Layer.{Here, Now, Straight, acts_later, begins, by_noted, calculates, calls_here, loads}
 use Rattle.rt_gen_queue.proofs.Layer.{mark_gives, next_in_time, posts, reads_open, returns_here, skips_off, stays}
 use Rattle.rt_gen_queue.proofs.Layer.{stores_at, writes_open}
-use Rattle.rt_gen_queue.proofs.Owning.{free_back, free_spelled, put_here, queue_here}
+use Rattle.rt_gen_queue.proofs.Owning.{free_back, free_represented, put_here, queue_here}
 use Rattle.rt_gen_queue.proofs.Returning.{Returned, free_home, frees, given_back, room_left}
 use Rattle.rt_gen_queue.specs.Called.{CalledAtLevel, CalledTaskStands}
 use Rattle.rt_gen_disp.{proofs.Sizes.IsTask, specs.Code.callee_of, specs.Code.start_lines}
-use Rattle.rt_gen_disp.proofs.Dispatchers.{Dispatcher, Moment, Spelled, alone, job, outside, rows, within}
-use Rattle.rt_gen_disp.proofs.Kept.{for_ready, may_enter, open_here, reads_here, spelled_agreed, spelled_put}
-use Rattle.rt_gen_disp.proofs.Kept.{spelled_taken, spelled_written}
+use Rattle.rt_gen_disp.proofs.Dispatchers.{Dispatcher, Moment, Represented, alone, job, outside, rows, within}
+use Rattle.rt_gen_disp.proofs.Kept.{for_ready, may_enter, open_here, reads_here, represented_agreed, represented_put}
+use Rattle.rt_gen_disp.proofs.Kept.{represented_taken, represented_written}
 use Rattle.rt_gen_disp.proofs.Words.{Words, firsts, frame_begins, frame_fits, frame_long, own, words}
 
 -- how many arguments a software task takes, as the rows of bodies tell it
@@ -53,12 +55,13 @@ arguments_from entry n (suc k) (u ∷ ts) t at software =
     ]
 
 -- the oldest message of a level as memory has it
-pub record IsOldest (d : Dispatcher) (cells : List ℕ) (queues : Holder → List Entry) (vs : Values) (o : Entry)
+pub record IsOldest (d : Dispatcher) (cells : List ℕ) (queues : Location → List Entry) (vs : Values) (o : Entry)
     (es : List Entry) : Type 0 where
-  pub spelled : AreSpelled d.app d.level cells queues vs
+  pub represented : AreRepresented d.app d.level cells queues vs
   pub queue : queues (Guarded (section.Ready d.level)) ≡ o ∷ es
   pub content : vs (Guarded (section.Ready d.level)) ≡ Messages (map (message_at d.app (slice_index cells)) (o ∷ es))
-  pub rest : SpellsReady d.app (slice_index cells) d.level es (Messages (map (message_at d.app (slice_index cells)) es))
+  pub rest : RepresentsReady d.app (slice_index cells) d.level es
+      (Messages (map (message_at d.app (slice_index cells)) es))
   pub placed : IsPlaceOf d.app d.level o
 
 -- the task of the oldest message, and the message's place and arguments
@@ -102,7 +105,7 @@ module _ {d : Dispatcher} (c : Chosen d) where
   ready = section.Ready d.level
 
   abbrev Kept : Moment → Values → Type 0
-  Kept m vs = AreSpelled d.app d.level m.cells m.queues vs
+  Kept m vs = AreRepresented d.app d.level m.cells m.queues vs
 
   -- what is left to do behind the start of a message
   abbrev behind : Rest
@@ -134,7 +137,7 @@ module _ {d : Dispatcher} (c : Chosen d) where
   -- the body runs, and the dispatcher returns
   call_run : {m : Moment} {w : Words} {vs : Values} → 2 + cost_of_body + m.done ≤ m.until → HoldsIn w → Kept m vs
       → Straight (job d) own (drop 10 (own_lines 0)) (outside m [] (body_rest vs)) (words w)
-  call_run {m = m} {w = w} {vs = vs} enough holds spelled = record {
+  call_run {m = m} {w = w} {vs = vs} enough holds represented = record {
     runs = λ run has.
         let called : BodyRow = row_for d.entry c.number c.task in
         let back : List ℕ = caller_frame (words w) (suc m.at) in
@@ -155,24 +158,24 @@ module _ {d : Dispatcher} (c : Chosen d) where
         (calm left inner (Some back) called.entry m.cells m.queues
         (task_doing d.app c.number given (act (Ends (body.Task c.number)) behind) vs))) args_are
         (body_stands (rows d) d.thread steps back behind
-        (λ left cells queues vs less spelled.
+        (λ left cells queues vs less represented.
         begins (calm left back None (suc m.at) cells queues (behind vs)) steps
         (returns_here has.1.0 (omega arith, (omega arith, tt)) refl refl refl refl
-        (λ holder kept. spelled.each holder (or_left _ _ kept))))
-        left inner m.cells m.queues vs (omega arith) (frame_long w called few fits (suc m.at)) spelled)));
+        (λ location kept. represented.each location (or_left _ _ kept))))
+        left inner m.cells m.queues vs (omega arith) (frame_long w called few fits (suc m.at)) represented)));
   }
 
   -- in the section of the free places the place is given back
   give_run : {m : Moment} {w : Words} {vs : Values} {deadline : ℕ} → 7 + cost_of_body + m.done ≤ m.until → HoldsIn w
-      → Kept m vs → Spelled d free m.cells m.queues vs
+      → Kept m vs → Represented d free m.cells m.queues vs
       → ((y : Entry) → count y (entry_of ∷ []) + count y (m.queues (Guarded free)) ≤ 1)
       → Straight (job d) own (drop 5 (own_lines 0)) (within d free deadline m (entry_of ∷ []) (give_rest vs)) (words w)
-  give_run {m = m} {w = w} {vs = vs} enough holds spelled spells once =
+  give_run {m = m} {w = w} {vs = vs} enough holds represented represents once =
       let entries : List Entry = m.queues (Guarded free) in
       let was : Content = vs (Guarded free) in
-      let its = free_spelled d.app c.number (slice_index m.cells) entries was spells in
+      let its = free_represented d.app c.number (slice_index m.cells) entries was represents in
       let known : Returned d.app c.number c.task m.cells entries c.place =
-      record { task = facts; long = spelled.long; content = was; spells = its; less = c.less; once = once } in
+      record { task = facts; long = represented.long; content = was; represents = its; less = c.less; once = once } in
       let room = room_left known in
       let few = few_free d.app c.number c.task facts in
       let count_home = free_home known (free_at d.app c.number) 0 (omega arith) (omega arith) in
@@ -180,58 +183,60 @@ module _ {d : Dispatcher} (c : Chosen d) where
       free_home known (free_at d.app c.number + 1 + length entries) (suc (length entries)) (omega arith) room in
       let few_entries : suc (length entries) ≤ 16 = omega (arith, capacity d.app c.number c.task facts) in
       loads (length entries)
-      (reads_open (record { opens = open_here d free; long = spelled.long; home = count_home }) known.spells.count)
+      (reads_open (record { opens = open_here d free; long = represented.long; home = count_home })
+      known.represents.count)
       (stores_at (length entries) c.place refl holds.place
-      (writes_open (record { opens = open_here d free; long = spelled.long; home = place_home }))
+      (writes_open (record { opens = open_here d free; long = represented.long; home = place_home }))
       (λ placed first.
       calculates (suc (length entries))
       (ap (operate op.Add (length entries)) holds.one ∙ added (length entries) 1 (suc (length entries)) (omega arith)
       (omega arith))
       (frees (suc (length entries)) refl
-      (writes_open (record { opens = open_here d free; long = first.long ∙ spelled.long; home = count_home }))
+      (writes_open (record { opens = open_here d free; long = first.long ∙ represented.long; home = count_home }))
       (record { opens = open_here d free; hands = refl; of_task = refl; doing = refl })
       (λ given ws second agree.
       let is = given_back known placed given first second in
-      let later : Holder → List Entry = with_queue m.queues free (entry_of ∷ entries) in
+      let later : Location → List Entry = with_queue m.queues free (entry_of ∷ entries) in
       let us : Values = action_effect (Frees c.number) ws in
       let content : us (Guarded free) ≡ Number (number (vs (Guarded free)) - 1) =
       put_here d.app (AtPriority d.level) ws free (Number (number (ws (Guarded free)) - 1))
       ∙ ap (λ c. Number (number c - 1)) (agree (Guarded free) (reads_here d free)) in
-      let kept : AreSpelled d.app d.level given later us =
-      spelled_put free (Number (number (ws (Guarded free)) - 1)) tt
-      (spelled_agreed (alone d free) (spelled_written free tt spelled is.long is.elsewhere) agree) in
+      let kept : AreRepresented d.app d.level given later us =
+      represented_put free (Number (number (ws (Guarded free)) - 1)) tt
+      (represented_agreed (alone d free) (represented_written free tt represented is.long is.elsewhere) agree) in
       leaves d.level refl refl refl
-      (subst (λ es. (storage d.app).Spells (Guarded free) (slice_index given) es (us (Guarded free)))
+      (subst (λ es. (storage d.app).Represents (Guarded free) (slice_index given) es (us (Guarded free)))
       (sym (queue_here d.app (AtPriority d.level) m.queues free (entry_of ∷ entries)))
-      (free_back (slice_index m.cells) entries (vs (Guarded free)) spells
-      (subst (λ c'. SpellsFree d.app (slice_index given) c.number (entry_of ∷ entries) c') (sym content) is.spells)))
-      (λ zs agree_too. call_run (omega arith) holds (spelled_agreed [] kept agree_too))))))
+      (free_back (slice_index m.cells) entries (vs (Guarded free)) represents
+      (subst (λ c'. RepresentsFree d.app (slice_index given) c.number (entry_of ∷ entries) c')
+      (sym content) is.represents)))
+      (λ zs agree_too. call_run (omega arith) holds (represented_agreed [] kept agree_too))))))
 
   free_run : {m : Moment} {w : Words} {vs : Values} → 8 + cost_of_body + m.done ≤ m.until → HoldsIn w → Kept m vs
       → Straight (job d) own (drop 4 (own_lines 0))
       (outside m (entry_of ∷ []) (act (Enters free FREE_COST) give_rest vs)) (words w)
-  free_run enough holds spelled =
+  free_run enough holds represented =
       enters
       (may_enter d free refl tt (free_top d.app c.number c.task facts)
       (omega (arith, own_priority d.app c.number c.task facts, level_is)))
       (omega arith) refl
       (λ v ws others queues taken.
-      give_run (omega arith) holds (spelled_taken free taken spelled) taken.spelled
+      give_run (omega arith) holds (represented_taken free taken represented) taken.represented
       (λ y. omega (arith, taken.once y, queued_more queues y (record { section = free; kind = Marked }) [])))
 
   -- out of the section of the ready queue
   leave_run : {m : Moment} {w : Words} {vs : Values} {deadline : ℕ} → 9 + cost_of_body + m.done ≤ m.until → HoldsIn w
-      → Kept m vs → Spelled d ready m.cells m.queues vs → Straight (job d) own (drop 3 (own_lines 0))
+      → Kept m vs → Represented d ready m.cells m.queues vs → Straight (job d) own (drop 3 (own_lines 0))
       (within d ready deadline m (entry_of ∷ []) (leave_rest vs)) (words w)
-  leave_run enough holds spelled spells =
-      leaves d.level refl refl refl spells
-      (λ ws agree. free_run (omega arith) holds (spelled_agreed [] spelled agree))
+  leave_run enough holds represented represents =
+      leaves d.level refl refl refl represents
+      (λ ws agree. free_run (omega arith) holds (represented_agreed [] represented agree))
 
   -- it starts, and the lines behind go on with its place in the hands
   started : {m : Moment} {w : Words} {vs : Values} {deadline : ℕ} {es : List Entry} {lines : List Line}
       (rest : Rest) → IsOldest d m.cells m.queues vs entry_of es → HoldsIn w
-      → ((ws : Values) (queues : Holder → List Entry) → AreSpelled d.app d.level m.cells queues ws
-      → Spelled d ready m.cells queues ws → Straight (job d) own lines
+      → ((ws : Values) (queues : Location → List Entry) → AreRepresented d.app d.level m.cells queues ws
+      → Represented d ready m.cells queues ws → Straight (job d) own lines
       (within d ready deadline (record m { done = suc m.done; at = suc m.at; queues = queues })
       (entry_of ∷ []) (rest ws)) (words w))
       → Straight (job d) own (line_with_note instr.Mark (note.Start c.number 0) ∷ lines)
@@ -241,7 +246,7 @@ module _ {d : Dispatcher} (c : Chosen d) where
       let few : c.task.args ≤ 4 = few_arguments d.app c.number c.task facts in
       let known : arguments_in (rows d) c.number ≡ c.task.args =
       rw zero-add at (arguments_from d.entry 0 c.number d.app.tasks c.task c.is.at facts.software) in
-      let later : Holder → List Entry = with_queue m.queues ready es in
+      let later : Location → List Entry = with_queue m.queues ready es in
       by_noted (λ run has. asks {h = h} (Some (note.Start c.number 0)) mark_gives (record {
         level = d.level;
         message = message_of;
@@ -262,11 +267,11 @@ module _ {d : Dispatcher} (c : Chosen d) where
             put_here d.app (AtPriority d.level) ws ready (first_off ws)
             ∙ ap (λ c. Messages (drop 1 (messages c))) was in
             on us later
-            (spelled_put ready (first_off ws) tt (spelled_agreed (alone d ready) oldest.spelled agree))
-            (subst (λ xs. (storage d.app).Spells (Guarded ready) (slice_index m.cells) xs (us (Guarded ready)))
+            (represented_put ready (first_off ws) tt (represented_agreed (alone d ready) oldest.represented agree))
+            (subst (λ xs. (storage d.app).Represents (Guarded ready) (slice_index m.cells) xs (us (Guarded ready)))
             (sym (queue_here d.app (AtPriority d.level) m.queues ready es))
             (for_ready d (slice_index m.cells) es (us (Guarded ready))
-            (subst (λ c'. SpellsReady d.app (slice_index m.cells) d.level es c') (sym content) oldest.rest))));
+            (subst (λ c'. RepresentsReady d.app (slice_index m.cells) d.level es c') (sym content) oldest.rest))));
       }))
 
   -- and where more are ready the dispatcher is pended again
@@ -277,14 +282,15 @@ module _ {d : Dispatcher} (c : Chosen d) where
       (start_doing d.app d.level (message_of ∷ map (message_at d.app (slice_index m.cells)) es) vs)) (words w)
   start_run [] enough oldest holds left =
       started leave_rest oldest holds
-      (λ ws queues spelled spells. skips_off 1 (omega arith) left (leave_run (omega arith) holds spelled spells))
+      (λ ws queues represented represents. skips_off 1 (omega arith) left
+      (leave_run (omega arith) holds represented represents))
   start_run {m = m} (o ∷ es) enough oldest holds left =
       started (act (Posts (dispatcher_number d.app d.level)) leave_rest) oldest holds
-      (λ ws queues spelled spells.
+      (λ ws queues represented represents.
       stays (omega (arith, left))
       (posts refl
       (λ zs agree.
-      leave_run (omega arith) holds (spelled_agreed (alone d ready) spelled agree)
-      (subst (λ content. (storage d.app).Spells (Guarded ready) (slice_index m.cells)
+      leave_run (omega arith) holds (represented_agreed (alone d ready) represented agree)
+      (subst (λ content. (storage d.app).Represents (Guarded ready) (slice_index m.cells)
       (queues (Guarded ready)) content)
-      (sym (agree (Guarded ready) (reads_here d ready))) spells))))
+      (sym (agree (Guarded ready) (reads_here d ready))) represents))))

@@ -1,6 +1,7 @@
 -- Sections of queues: how they open and close, by their ceilings, at any preemption threshold, on any window.
 use Rattle.rt_gen_queue.proofs.Vocabulary.{Agree, AllByRecursion, App, At, AtPriority, Bool, Contains, Content, Doing}
-use Rattle.rt_gen_queue.proofs.Vocabulary.{Enters, Entry, Guarded, HasCode, Held, Holder, HoldsOff, IsKindFor, IsMask}
+use Rattle.rt_gen_queue.proofs.Vocabulary.{Enters, Entry, Guarded, HasCode, OpenSection, Location, HoldsOff, IsKindFor}
+use Rattle.rt_gen_queue.proofs.Vocabulary.{IsMask}
 use Rattle.rt_gen_queue.proofs.Vocabulary.{IsWithin, Leaves, LeavesMine, Line, List, Marked, Masked, NobodyKeeps}
 use Rattle.rt_gen_queue.proofs.Vocabulary.{Raised, Runner, Section, Some, Starting, TakesOver, Values, [], all_append}
 use Rattle.rt_gen_queue.proofs.Vocabulary.{all_behind, all_has, all_weaker, and_both, and_left, and_right, ap, arith}
@@ -8,20 +9,20 @@ use Rattle.rt_gen_queue.proofs.Vocabulary.{ceiling, closing_instr, does, enter, 
 use Rattle.rt_gen_queue.proofs.Vocabulary.{if◌then◌else◌, inl, inr, is_open, kind_at, kind_of, le-leb, leave}
 use Rattle.rt_gen_queue.proofs.Vocabulary.{leave_line, length, length-set, map, map-append, nat_le, line_with_note}
 use Rattle.rt_gen_queue.proofs.Vocabulary.{opening_instr}
-use Rattle.rt_gen_queue.proofs.Vocabulary.{spot_after_step, values_with, reads, refl, saved_slot, saved_slots}
+use Rattle.rt_gen_queue.proofs.Vocabulary.{spend_step, values_with, reads, refl, saved_slot, saved_slots}
 use Rattle.rt_gen_queue.proofs.Vocabulary.{slots_with_mask, slice_index}
 use Rattle.rt_gen_queue.proofs.Vocabulary.{slice_set, storage, subst, suc, sym, true, with_queue, ℕ, ◌++◌, ◌+◌, ◌<◌}
 use Rattle.rt_gen_queue.proofs.Vocabulary.{◌==◌, ◌^◌, ◌∙◌, ◌∷◌, ◌≡◌, ◌≤◌, ◌⊎◌}
 use Rattle.std.proofs.lemmas.List.{set-get_or}
 use Rattle.rt_code.specs.declared.instr.Note.TheVariants as note
 use Rattle.rt_gen_queue.proofs.Layer.{Frame, Here, InTime, Now, S, Saves, Setting, Straight, all_fit, enters_here, fits}
-use Rattle.rt_gen_queue.proofs.Layer.{lasts_less, leaves_here, next_in_time, placed, spot, window, window_set}
+use Rattle.rt_gen_queue.proofs.Layer.{lasts_less, leaves_here, next_in_time, placed, configuration, window, window_set}
 use Rattle.rt_gen_queue.proofs.Layer.{window_there}
 use Rattle.rt_gen_queue.proofs.Masks.{mask_of, of_kinds, saves_in}
 use Rattle.rt_gen_queue.proofs.Owning.{IsQueue, agree_out, leaves_out, reads_inside, unread}
 use Rattle.rt_gen_queue.specs.{Guards.value_of, declared.guard.Guard.Guard}
 
-pub kind_fits : (app : App) (who : Runner) (held : List Held) (x : Section) (threshold slot : ℕ)
+pub kind_fits : (app : App) (who : Runner) (held : List OpenSection) (x : Section) (threshold slot : ℕ)
     → HoldsOff app who who held threshold → ceiling app x ≤ 2 ^ app.bits
     → IsKindFor (storage app) who who held x (kind_at app x threshold slot)
 unfolding storage
@@ -56,7 +57,7 @@ not_kept saved slot mask below has =
     let less : slot + mask < slot = all_has (λ d. d < slot) saved (slot + mask) below has in omega arith
 
 -- a section behind the line that opens it, whose own deadline is its cost from there
-abbrev pub within : Here → Held → (cost : ℕ) → List ℕ → (Holder → List Entry) → Doing Values → Here
+abbrev pub within : Here → OpenSection → (cost : ℕ) → List ℕ → (Location → List Entry) → Doing Values → Here
 within h o cost cells queues rest = record h {
   held = o ∷ h.held;
   done = suc h.done;
@@ -78,7 +79,7 @@ module _ {size mask : ℕ} where
       (slice_index ws mask, ap (window f) (sym (set-get_or ws mask 0))) (saved, window_set f ws mask saved there)
       (saved, window_set f ws mask saved there)
 
-  abbrev pub opened : Setting → Frame size mask → Section → ℕ → Held
+  abbrev pub opened : Setting → Frame size mask → Section → ℕ → OpenSection
   opened z f x threshold = record { section = x; kind = kind_at z.app x threshold (f.slot + mask) }
 
   -- what is asked for to enter the section of a queue
@@ -92,7 +93,8 @@ module _ {size mask : ℕ} where
     pub nobody : NobodyKeeps (storage z.app) z.who z.who x
 
   -- masks that are kept below a window are none that it works with
-  pub saves_below : (f : Frame size mask) (held : List Held) → AllByRecursion (λ d. d < f.slot) (saved_slots held)
+  pub saves_below : (f : Frame size mask) (held : List OpenSection)
+      → AllByRecursion (λ d. d < f.slot) (saved_slots held)
       → Saves f held
   saves_below f held masks =
       all_weaker (λ e. e < f.slot) (λ e. (e < f.slot) ⊎ (e ≡ f.slot + mask)) (λ e less. inl less) _ masks
@@ -109,8 +111,8 @@ module _ {size mask : ℕ} where
   module _ {z : Setting} {f : Frame size mask} {lines : List Line} {h : Here} {ws : List ℕ} {x : Section} where
     pub enters : {threshold cost : ℕ} {values : Values} {rest : Values → Doing Values} → MayEnter z f h x threshold
         → length lines < cost → h.rest ≡ does (Enters x cost) values (λ answer. rest)
-        → ((m : ℕ) (vs : Values) (cells : List ℕ) (queues : Holder → List Entry)
-        → TakesOver (storage z.app) z.who x (spot_after_step (spot z h)) values vs cells queues
+        → ((m : ℕ) (vs : Values) (cells : List ℕ) (queues : Location → List Entry)
+        → TakesOver (storage z.app) z.who x (spend_step (configuration z h)) values vs cells queues
         → Straight z f lines (within h (opened z f x threshold) cost cells queues (rest vs)) (slice_set ws mask m))
         → Straight z f (enter z.app x threshold mask ∷ lines) h ws
     unfolding storage
@@ -144,7 +146,7 @@ module _ {size mask : ℕ} where
           (record {
             agree = taken.agree;
             same = record { long = taken.same.long; touched = taken.same.touched; queued = taken.same.queued };
-            spelled = taken.spelled;
+            represented = taken.represented;
             once = taken.once;
             few = taken.few;
           })).runs
@@ -157,19 +159,21 @@ module _ {size mask : ℕ} where
     }
 
     -- out of it: the deadlines are those around it
-    pub leaves : {outer : List Held} {deadline : ℕ} {around : List ℕ} {values : Values} {rest : Values → Doing Values}
+    pub leaves : {outer : List OpenSection} {deadline : ℕ} {around : List ℕ} {values : Values} {rest : Values
+        → Doing Values}
         (threshold : ℕ) → h.held ≡ opened z f x threshold ∷ outer → h.deadlines ≡ deadline ∷ around
         → h.rest ≡ does (Leaves x) values (λ answer. rest)
-        → (storage z.app).Spells (Guarded x) (slice_index h.cells) (h.queues (Guarded x)) (values (Guarded x))
+        → (storage z.app).Represents (Guarded x) (slice_index h.cells) (h.queues (Guarded x)) (values (Guarded x))
         → ((vs : Values) → Agree (storage z.app) z.who outer vs values
         → Straight z f lines
         (record h { held = outer; done = suc h.done; deadlines = around; at = suc h.at; rest = rest vs }) ws)
         → Straight z f (leave z.app x threshold mask ∷ lines) h ws
-    leaves {outer = outer} {deadline = deadline} {around = around} threshold innermost last is spelled on = record {
+    leaves {outer = outer} {deadline = deadline} {around = around} threshold innermost last is represented on = record {
       runs = λ run has.
           leaves_here (kind_at z.app x threshold (f.slot + mask))
           (record { outer = outer; deadline = deadline; around = around; innermost = innermost; last = last })
-          (has.0 ∙ ap Some (leave_placed x (guard_of z.app x) threshold mask f.slot)) refl (next_in_time run) is spelled
+          (has.0 ∙ ap Some (leave_placed x (guard_of z.app x) threshold mask f.slot)) refl
+          (next_in_time run) is represented
           (λ vs agree.
           let inside = rw last at run.time.1 in
           let masks = rw innermost at run.saves in
@@ -228,23 +232,23 @@ section_stands {size = size} {mask = mask} {z = z} {f = f} {h = h} {x = x} {thre
 
 -- what is so behind the section of a queue, from what was taken over in it
 module _ {size mask : ℕ} {z : Setting} {f : Frame size mask} {h : Here} {x : Section} {threshold : ℕ} {vs ws : Values}
-    {cells : List ℕ} {queues : Holder → List Entry} (queue : IsQueue x) (may : MayEnter z f h x threshold)
-    (taken : TakesOver (storage z.app) z.who x (spot_after_step (spot z h)) vs ws cells queues) where
+    {cells : List ℕ} {queues : Location → List Entry} (queue : IsQueue x) (may : MayEnter z f h x threshold)
+    (taken : TakesOver (storage z.app) z.who x (spend_step (configuration z h)) vs ws cells queues) where
   pub reads_it : reads (storage z.app) z.who (opened z f x threshold ∷ h.held) (Guarded x) ≡ true
   reads_it = reads_inside z.app z.who h.held (opened z f x threshold) x refl
 
   pub own_left : (entries : List Entry) (left : List ℕ) → length left ≡ length cells
       → ((c : ℕ) → ¬ (home_of z.app c ≡ At (Guarded x)) → slice_index left c ≡ slice_index cells c)
-      → LeavesMine (storage z.app) z.who (spot z h) left (with_queue queues x entries)
+      → LeavesMine (storage z.app) z.who (configuration z h) left (with_queue queues x entries)
   own_left entries left long kept =
-      leaves_out z (spot z h) x entries (unread z.app z.who h.held x queue may.closed)
+      leaves_out z (configuration z h) x entries (unread z.app z.who h.held x queue may.closed)
       (record { long = taken.same.long; touched = taken.same.touched; queued = taken.same.queued }) long kept
 
   pub agree_left : {us after : Values} (content : Content)
       → Agree (storage z.app) z.who h.held after (values_with us (Guarded x) content)
       → Agree (storage z.app) z.who (opened z f x threshold ∷ h.held) us ws
       → Agree (storage z.app) z.who h.held after vs
-  agree_left content last inner holder may_read =
+  agree_left content last inner location may_read =
       agree_out z h.held (opened z f x threshold) x content (unread z.app z.who h.held x queue may.closed) last inner
-      holder
-      may_read ∙ taken.agree holder may_read
+      location
+      may_read ∙ taken.agree location may_read

@@ -10,7 +10,7 @@ pub mod Sections
 pub mod Noted
 pub mod Skips
 pub use Jobs.{Here, InTime, Lasts, Setting, ahead, has_left, lasts_left, lasts_less, left_at, left_none, left_passed}
-pub use Jobs.{spot}
+pub use Jobs.{configuration}
 pub use Correct.{Gives, Later, S, at_passed, begins, begun, by_line, does, given, goes, moved}
 pub use Instructions.{IsFree, Reads, Writes, Wrote, calc_gives, copy_gives, jump_by_gives, jump_gives, kept_free}
 pub use Instructions.{kept_same, load_at_gives, load_gives, mark_gives, one_there, set_gives, shows, store_at_gives}

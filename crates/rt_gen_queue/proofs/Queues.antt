@@ -1,6 +1,8 @@
--- What the cells of a queue spell once a place is taken from the stack of free ones, and once a message is in the ring.
+-- What the cells of a queue represent once a place is taken from the stack of free ones, and once a message is in the
+-- ring.
 use Rattle.rt_gen_queue.proofs.Vocabulary.{AllByRecursion, App, At, Contains, Content, Entry, Guarded, In, List}
-use Rattle.rt_gen_queue.proofs.Vocabulary.{Messages, Number, Some, SpellsFree, SpellsReady, Task, [], all_append}
+use Rattle.rt_gen_queue.proofs.Vocabulary.{Messages, Number, Some, RepresentsFree, RepresentsReady, Task, []}
+use Rattle.rt_gen_queue.proofs.Vocabulary.{all_append}
 use Rattle.rt_gen_queue.proofs.Vocabulary.{and_left, ap, arguments_of, arith, capacity_is, capacity_of, ext_get_or}
 use Rattle.rt_gen_queue.proofs.Vocabulary.{free_at, get_or-map-range_with_len, home_of, inl, input_is_home, inputs_at}
 use Rattle.rt_gen_queue.proofs.Vocabulary.{inr, is_of_level, is_software, length, length-append}
@@ -16,15 +18,16 @@ use Rattle.rt_gen_queue.proofs.{Layer.Instructions.Wrote, Numbers.apart, Places.
 
 -- the first free place is taken, and the count is one less
 pub free_taken : {app : App} {n : ℕ} {e : Entry} {others : List Entry} {content : Content} {before after : List ℕ}
-    → SpellsFree app (slice_index before) n (e ∷ others) content → Wrote (free_at app n) (length others) before after
-    → SpellsFree app (slice_index after) n others (Number (number content + 1))
-free_taken {app = app} {n = n} {others = others} {before = before} spells wrote =
-    let room = spells.room in
+    → RepresentsFree app (slice_index before) n (e ∷ others) content
+    → Wrote (free_at app n) (length others) before after
+    → RepresentsFree app (slice_index after) n others (Number (number content + 1))
+free_taken {app = app} {n = n} {others = others} {before = before} represents wrote =
+    let room = represents.room in
     let out : (capacity_of app n - suc (length others)) + 1 ≡ capacity_of app n - length others = omega arith in
     record {
-      out = ap (λ c. Number (number c + 1)) spells.out ∙ ap Number out;
+      out = ap (λ c. Number (number c + 1)) represents.out ∙ ap Number out;
       room = omega arith;
-      places = spells.places.1;
+      places = represents.places.1;
       count = wrote.here;
       stack = λ i x at.
           let within = slice_get_within others i x at in
@@ -32,7 +35,7 @@ free_taken {app = app} {n = n} {others = others} {before = before} spells wrote 
           let same : free_at app n + (length others - i) ≡ free_at app n + (suc (length others) - suc i) =
           omega arith in
           wrote.others (free_at app n + (length others - i)) other ∙ ap (slice_index before) same
-          ∙ spells.stack (suc i) x at;
+          ∙ represents.stack (suc i) x at;
     }
 
 -- what a function gives of so many numbers from one on is a list that has it
@@ -81,7 +84,7 @@ at_not_in app c d x e at in_ same =
 pub record PutsReady (app : App) (p : ℕ) (entries : List Entry) (e : Entry) (content : Content)
     (before mid after : List ℕ) : Type 0 where
   pub is : Contains (levels app) p
-  pub spells : SpellsReady app (slice_index before) p entries content
+  pub represents : RepresentsReady app (slice_index before) p entries content
   pub room : length entries < ready_room app p
   pub place : IsPlaceOf app p e
   pub ring : Wrote (ready_at app p + 2 + (slice_index before (ready_at app p) + length entries) % ready_room app p)
@@ -126,7 +129,7 @@ module _ {app : App} {p : ℕ} {entries : List Entry} {e : Entry} {content : Con
       let size : ℕ = ready_room app p in
       let c : ℕ = ready_at app p + 2 + (head + i) % size in
       let no_count : c ≢ ready_at app p + 1 = omega arith in
-      let start : head < size = omega (arith, puts.spells.head, puts.room) in
+      let start : head < size = omega (arith, puts.represents.head, puts.room) in
       puts.count.others c no_count
       ∙ elim (at_either entries (e ∷ []) i x at) [
         | inl front ↦
@@ -134,7 +137,7 @@ module _ {app : App} {p : ℕ} {entries : List Entry} {e : Entry} {content : Con
             apart head i (length entries) size start front.0 puts.room in
             let no_ring : c ≢ ring_cell =
             (λ (same : c ≡ ring_cell). differ (omega (arith, same))) in
-            puts.ring.others c no_ring ∙ puts.spells.ring i x front.1)
+            puts.ring.others c no_ring ∙ puts.represents.ring i x front.1)
         | inr back ↦ last back.0 back.1 back.2
       ]
     where
@@ -149,20 +152,20 @@ module _ {app : App} {p : ℕ} {entries : List Entry} {e : Entry} {content : Con
           same ∙ puts.ring.here ∙ ap message_word (same_Some e x here)
       last (suc k) is here = absurd (none-some x here)
 
-  pub ready_put : SpellsReady app (slice_index after) p (entries ++ e ∷ [])
+  pub ready_put : RepresentsReady app (slice_index after) p (entries ++ e ∷ [])
       (Messages (messages content ++ message_at app (slice_index before) e ∷ []))
   ready_put =
       let long = length-append entries (e ∷ []) in
-      let placed = all_append (IsPlaceOf app p) entries (e ∷ []) puts.spells.places (puts.place, tt) in
+      let placed = all_append (IsPlaceOf app p) entries (e ∷ []) puts.represents.places (puts.place, tt) in
       record {
         messages =
-            ap (λ c. Messages (messages c ++ message_at app (slice_index before) e ∷ [])) puts.spells.messages
+            ap (λ c. Messages (messages c ++ message_at app (slice_index before) e ∷ [])) puts.represents.messages
             ∙ ap Messages (sym (map-append (message_at app (slice_index before)) entries (e ∷ []))
             ∙ messages_alike app p (slice_index before) (slice_index after) (entries ++ e ∷ []) placed
             (λ x c. left c x));
         room = omega (arith, long, puts.room);
         places = placed;
-        head = omega (arith, head_is, puts.spells.head);
+        head = omega (arith, head_is, puts.represents.head);
         count = puts.count.here ∙ omega (arith, long);
         ring = λ i x at.
             ap (λ h. slice_index after (ready_at app p + 2 + (h + i) % ready_room app p)) head_is ∙ ring_is i x at;

@@ -1,6 +1,6 @@
--- A place of a task goes back among those that are free: the line that does so, and what the cells spell behind it.
+-- A place of a task goes back among those that are free: the line that does so, and what the cells represent behind it.
 use Rattle.rt_gen_queue.proofs.Vocabulary.{Agree, AllByRecursion, App, At, Content, Doing, Entry, Frees, Guarded, Line}
-use Rattle.rt_gen_queue.proofs.Vocabulary.{List, Number, Some, SpellsFree, Task, Values, [], ap, arith, capacity_is}
+use Rattle.rt_gen_queue.proofs.Vocabulary.{List, Number, Some, RepresentsFree, Task, Values, [], ap, arith, capacity_is}
 use Rattle.rt_gen_queue.proofs.Vocabulary.{capacity_of, count, count_more, does, effect, free_at, free_is_home, home_of}
 use Rattle.rt_gen_queue.proofs.Vocabulary.{is_open, length, memory, line_with_note, number, refl, same_Some, slice_get}
 use Rattle.rt_gen_queue.proofs.Vocabulary.{slice_get_within, slice_index, slice_set, storage, subst, suc, true}
@@ -47,7 +47,7 @@ pub record Returned (app : App) (n : ℕ) (t : Task) (cells : List ℕ) (entries
   pub task : Spawned app n t
   pub long : length cells ≡ length (memory app)
   pub content : Content
-  pub spells : SpellsFree app (slice_index cells) n entries content
+  pub represents : RepresentsFree app (slice_index cells) n entries content
   pub less : place < t.capacity
   pub once : (x : Entry) → count x (entry_at n place ∷ []) + count x entries ≤ 1
 
@@ -56,7 +56,7 @@ pub record IsGiven (app : App) (n : ℕ) (cells given : List ℕ) (entries : Lis
   pub long : length given ≡ length cells
   pub elsewhere : (c : ℕ) → ¬ (home_of app c ≡ At (Guarded (section.Free n)))
       → slice_index given c ≡ slice_index cells c
-  pub spells : SpellsFree app (slice_index given) n entries (Number (number content - 1))
+  pub represents : RepresentsFree app (slice_index given) n entries (Number (number content - 1))
 
 module _ {app : App} {n : ℕ} {t : Task} {cells : List ℕ} {entries : List Entry} {place : ℕ}
     (known : Returned app n t cells entries place) where
@@ -71,7 +71,7 @@ module _ {app : App} {n : ℕ} {t : Task} {cells : List ℕ} {entries : List Ent
   room_left =
       places_few n t.capacity (entry_at n place ∷ entries) (
         (refl, known.less),
-        subst (λ (c : ℕ). AllByRecursion (λ e. (e.task ≡ n) × (e.place < c)) entries) capacity known.spells.places,
+        subst (λ (c : ℕ). AllByRecursion (λ e. (e.task ≡ n) × (e.place < c)) entries) capacity known.represents.places,
       )
       (λ x. omega (arith, known.once x, count_more x (entry_at n place) entries, count_more x (entry_at n place) []))
 
@@ -83,10 +83,10 @@ module _ {app : App} {n : ℕ} {t : Task} {cells : List ℕ} {entries : List Ent
     elsewhere = λ c differ.
         other c (λ same. differ (free_home c 0 (omega (arith, same)) (omega arith)))
         (λ same. differ (free_home c (suc (length entries)) (omega (arith, same)) room_left));
-    spells = record {
+    represents = record {
       out = ap Number out_is;
       room = omega (arith, room_left, capacity);
-      places = ((refl, omega (arith, capacity, known.less)), known.spells.places);
+      places = ((refl, omega (arith, capacity, known.less)), known.represents.places);
       count = second.here;
       stack = stack;
     };
@@ -98,7 +98,7 @@ module _ {app : App} {n : ℕ} {t : Task} {cells : List ℕ} {entries : List Ent
 
       out_is : number known.content - 1 ≡ capacity_of app n - length (entry_at n place ∷ entries)
       out_is =
-          let was : number known.content ≡ capacity_of app n - length entries = ap number known.spells.out in
+          let was : number known.content ≡ capacity_of app n - length entries = ap number known.represents.out in
           omega (arith, was)
 
       stack : (i : ℕ) (e : Entry) → slice_get (entry_at n place ∷ entries) i ≡ Some e
@@ -111,4 +111,4 @@ module _ {app : App} {n : ℕ} {t : Task} {cells : List ℕ} {entries : List Ent
           let within : i < length entries = slice_get_within entries i e is in
           let d : free_at app n + (suc (length entries) - suc i) ≡ free_at app n + (length entries - i) = omega arith in
           ap (slice_index given) d ∙ other (free_at app n + (length entries - i)) (omega arith) (omega arith)
-          ∙ known.spells.stack i e is
+          ∙ known.represents.stack i e is

@@ -1,5 +1,5 @@
 -- The code by which a spawn stores the arguments in the cells of its place, and makes the word of its message.
-use Rattle.rt_gen_queue.proofs.Vocabulary.{Entry, Guarded, HasCode, Holder, Home, In, LeavesMine, Line, List, MayLoad}
+use Rattle.rt_gen_queue.proofs.Vocabulary.{Entry, Guarded, HasCode, Location, Home, In, LeavesMine, Line, List, MayLoad}
 use Rattle.rt_gen_queue.proofs.Vocabulary.{Task, [], ap, arguments_of, arith, capacity_of, cases_lt, count, count_more}
 use Rattle.rt_gen_queue.proofs.Vocabulary.{drop, fill_code, get_or-take, get_or_append_left, home_of, inl}
 use Rattle.rt_gen_queue.proofs.Vocabulary.{input_is_home, inputs_at, inr, length, length-append}
@@ -15,7 +15,7 @@ use Rattle.rt_gen_queue.proofs.{Owning.place_in_memory, Owning.stores_place, Pla
 use Rattle.rt_gen_queue.proofs.{Words.Arguments, Words.Scratch, Words.listed, Words.words}
 use Rattle.rt_gen_queue.proofs.Facts.{Spawned, arguments, capacity, few_arguments, few_free, small}
 use Rattle.rt_gen_queue.proofs.Layer.{Frame, Here, InTime, Now, S, Saves, Setting, Straight, ahead, all_fit, calculates}
-use Rattle.rt_gen_queue.proofs.Layer.{ends, moved, placed, sets, spot, stores_at}
+use Rattle.rt_gen_queue.proofs.Layer.{ends, moved, placed, sets, configuration, stores_at}
 
 -- the cell of an argument of a place
 abbrev pub argument_at : Setting → ℕ → Entry → ℕ → ℕ
@@ -98,7 +98,7 @@ module _ {z : Setting} {f : Frame 9 8} {h : Here} {task : ℕ} {t : Task} {e : E
       ap (slice_index (words a base)) zeroth ∙ get_or_append_left (listed a) (drop 4 (words a base)) 0 from low in
       stores_at (e.place * args_of) (slice_index (listed a) from) refl shown
       (record {
-        may = stores_place z.app z.who (spot z (Now f g (words a base))) c e home some;
+        may = stores_place z.app z.who (configuration z (Now f g (words a base))) c e home some;
         there = omega (arith, long, place_in_memory z.app c e home);
       })
       (λ cells wrote.
@@ -187,30 +187,31 @@ message_is {z = z} {task = task} {t = t} {e = e} {values = values} {after = afte
 
 -- With a place in its hands that was nobody's, whose cells alone it changes, a job leaves its own as it was.
 pub own_filled : {z : Setting} {task : ℕ} {e : Entry} {values mid after last : List ℕ}
-    {queues more : Holder → List Entry} (h : Here) → mine (spot z h) e ≡ 0
-    → LeavesMine (storage z.app) z.who (spot z h) mid queues → Filled z task e values 0 mid after
+    {queues more : Location → List Entry} (h : Here) → mine (configuration z h) e ≡ 0
+    → LeavesMine (storage z.app) z.who (configuration z h) mid queues → Filled z task e values 0 mid after
     → LeavesMine (storage z.app) z.who
-    (spot z (record h { places = e ∷ h.places; cells = after; queues = queues })) last more
-    → LeavesMine (storage z.app) z.who (spot z h) last more
+    (configuration z (record h { places = e ∷ h.places; cells = after; queues = queues })) last more
+    → LeavesMine (storage z.app) z.who (configuration z h) last more
 own_filled {z = z} {e = e} {mid = mid} {after = after} {queues = queues} h none first filled second = record {
   long = second.long ∙ filled.long ∙ first.long;
   touched = λ c may.
       second.touched c
-      (may_load (storage z.app) z.who (spot z h) (spot z holding) ((storage z.app).home c) (λ holder read. read)
+      (may_load (storage z.app) z.who (configuration z h) (configuration z holding) ((storage z.app).home c)
+      (λ location read. read)
       more_mine may)
-      ∙ filled.others c (λ is. not_mine (subst (λ (home : Home). MayLoad (storage z.app) z.who (spot z h) home)
+      ∙ filled.others c (λ is. not_mine (subst (λ (home : Home). MayLoad (storage z.app) z.who (configuration z h) home)
       (home_as z.app c ∙ is) may))
       ∙ first.touched c may;
-  queued = λ holder own. second.queued holder own ∙ first.queued holder own;
+  queued = λ location own. second.queued location own ∙ first.queued location own;
 }
   where
     holding : Here
     holding = record h { places = e ∷ h.places; cells = after; queues = queues }
 
-    not_mine : 0 < mine (spot z h) e → ⊥
+    not_mine : 0 < mine (configuration z h) e → ⊥
     not_mine some = omega (arith, some, none)
 
-    more_mine : (y : Entry) → 0 < mine (spot z h) y → 0 < mine (spot z holding) y
+    more_mine : (y : Entry) → 0 < mine (configuration z h) y → 0 < mine (configuration z holding) y
     more_mine y some =
         let same : queued queues y h.held ≡ queued h.queues y h.held =
         queues_same h.queues queues y h.held

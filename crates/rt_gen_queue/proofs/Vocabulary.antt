@@ -38,7 +38,7 @@ pub use Rattle.rt_ids.specs.Content.{message_of_handle}
 pub use Rattle.rt_ids.specs.Content.{delays, least, least_instant, messages, number, values_with, timer_content}
 pub use Rattle.rt_ids.specs.Content.{with_armed}
 pub use Rattle.rt_ids.specs.Content.{with_moved, without_handle, without_least}
-pub use Rattle.rt_ids.specs.Holder.{Guarded, Holder, Own, is_same_holder, is_same_section}
+pub use Rattle.rt_ids.specs.Location.{Guarded, Location, Own, is_same_location, is_same_section}
 pub use Rattle.rt_ids.specs.Lists.{greatest, is_some_and, or_zero, then_from}
 pub use Rattle.rt_ids.specs.Storage.{At, AtPriority, Home, In, Runner, Starting, Storage}
 -- an application
@@ -60,12 +60,13 @@ pub use Rattle.rt_app.specs.{Plan.IsPlan, Sound.IsChangeable, Sound.IsSoundLock}
 pub use Rattle.rt_app.specs.Layout.{Layout, armings_at, free_at, handle_count_at, handles_at, heap_at, home_of}
 pub use Rattle.rt_app.specs.Layout.{inputs_at}
 pub use Rattle.rt_app.specs.Layout.{instants_at, layout, memory, numbers_at, ready_at, ready_room, timer_at}
-pub use Rattle.rt_app.specs.Holding.{SpellsFree, SpellsReady, SpellsTimer, arguments_of, arming_of_entry, armed_place}
+pub use Rattle.rt_app.specs.Holding.{RepresentsFree, RepresentsReady, RepresentsTimer, arguments_of, arming_of_entry}
+pub use Rattle.rt_app.specs.Holding.{armed_place}
 pub use Rattle.rt_app.specs.Holding.{arming_at, handle_at, instant_at, is_constant, is_kept, message_at, message_word}
 unfoldable pub use Rattle.rt_app.specs.Holding.{storage}
 pub use Rattle.rt_app.specs.Heap.{IsArranged, IsHeap, above, at, key_of, keys}
 pub use Rattle.rt_app.specs.Sending.{Rest, act, act_all, arm_actions, capacity_of, dispatcher_number, is_armed_as}
-pub use Rattle.rt_app.specs.Sending.{leave_timer, ready_actions, spawn_actions, take_place}
+pub use Rattle.rt_app.specs.Sending.{leave_timer, ready_actions, spawn_actions, place_actions}
 pub use Rattle.rt_app.specs.{Doings.nothing, Doings.start_doing, Meaning.run, Meaning.run_block, Meaning.value_in}
 -- costs and sizes
 pub use Rattle.rt_app.specs.BodyCost.{body_cost, cost_measure, handle_section_cost, timer_cost}
@@ -73,8 +74,9 @@ pub use Rattle.rt_app.specs.Frame.{first_lock_slot, frame_words, has_loop, spawn
 pub use Rattle.rt_app.specs.Steps.{block_steps, expression_steps, statement_steps}
 -- lemmas on applications
 pub use Rattle.rt_app.proofs.{ArmedPlaces.few_before, ArmedPlaces.few_messages, Capping.cap_steps, Laid.local_is_home}
-pub use Rattle.rt_app.proofs.{Laid.resource_is_home, Members.has_body, Sound.accepted_are_sound, Spelling.IsTimedPlace}
-pub use Rattle.rt_app.proofs.{Spelling.the_task}
+pub use Rattle.rt_app.proofs.{Laid.resource_is_home, Members.has_body, Sound.accepted_are_sound}
+pub use Rattle.rt_app.proofs.{Representing.IsTimedPlace}
+pub use Rattle.rt_app.proofs.{Representing.the_task}
 pub use Rattle.rt_app.proofs.Counting.{all_counted, count_more, counted, one, one_itself, same_entry}
 pub use Rattle.rt_app.proofs.LaidQueues.{capacity_is, free_is_home, input_is_home, many, ready_is_home}
 -- code, and that it stands
@@ -82,19 +84,19 @@ pub use Rattle.rt_code.specs.{Acting.with_queue, Listable.HasIrq, Processor.Lead
 pub use Rattle.rt_code.specs.{declared.image.BodyRow.BodyRow, declared.instr.Instr.Instr, declared.instr.Note.Note}
 pub use Rattle.rt_code.specs.Masking.{IsKindFor, IsMask, IsWithin, NobodyKeeps, TakesOver, closing_instr, opening_instr}
 pub use Rattle.rt_code.specs.Masking.{slots_with_mask}
-pub use Rattle.rt_code.specs.Owning.{Agree, Held, Kind, LeavesMine, Marked, Masked, MayAccess, MayLoad, MayStore}
-pub use Rattle.rt_code.specs.Owning.{Raised, Spot, is_open, mine, owns, reads, saved_slot, saved_slots}
-pub use Rattle.rt_code.specs.Standing.{Asks, Goes, KeepsSaved, LineFits, Stands, StandsFrom, spot_after_step}
+pub use Rattle.rt_code.specs.Owning.{Agree, OpenSection, Kind, LeavesMine, Marked, Masked, MayAccess, MayLoad, MayStore}
+pub use Rattle.rt_code.specs.Owning.{Raised, Configuration, is_open, mine, owns, reads, saved_slot, saved_slots}
+pub use Rattle.rt_code.specs.Standing.{Asks, Goes, KeepsSaved, LineFits, Stands, StandsFrom, spend_step}
 pub use Rattle.rt_code.specs.Standing.{processor_of}
 pub use Rattle.rt_code.proofs.Mine.{may_load, one_section, owns_open, owns_reads, queued, queued_more, queues_same}
 pub use Rattle.rt_code.proofs.Mine.{reads_more, same_section}
 pub use Rattle.rt_code.proofs.Standing.{stands_with_more}
 -- lines, guards, queues and spawns, as code has them
-pub use Rattle.rt_gen_queue.specs.Called.{AreSpelled, calm, row_for, rows_for}
+pub use Rattle.rt_gen_queue.specs.Called.{AreRepresented, calm, row_for, rows_for}
 pub use Rattle.rt_gen_queue.specs.Guards.{enter, enter_line, guard_of, guard_of_ceiling, kind_at, kind_of, leave}
 pub use Rattle.rt_gen_queue.specs.Guards.{leave_line}
 pub use Rattle.rt_gen_queue.specs.Line.{HasCode, IsNameable, Line, line_with_note, plain}
 pub use Rattle.rt_gen_queue.specs.Making.{Appends, Made, next_address}
 pub use Rattle.rt_gen_queue.specs.{Queue.queue_at, SpawnLines.store_code}
 pub use Rattle.rt_gen_queue.specs.{Spawning.HoldsOff}
-pub use Rattle.rt_gen_queue.specs.SpawnCode.{end_code, fill_code, ready_code, spawn_code, take_code, target_of}
+pub use Rattle.rt_gen_queue.specs.SpawnCode.{end_code, fill_code, ready_code, spawn_code, place_code, target_of}

@@ -1,9 +1,9 @@
 -- The code of a whole spawn stands: a place is taken, filled and handed on, or none is left.
-use Rattle.rt_gen_queue.proofs.Vocabulary.{Agree, Entry, HasCode, Holder, LeavesMine, Line, List, Message, Rest, Some}
+use Rattle.rt_gen_queue.proofs.Vocabulary.{Agree, Entry, HasCode, Location, LeavesMine, Line, List, Message, Rest, Some}
 use Rattle.rt_gen_queue.proofs.Vocabulary.{Values, [], act_all, ap, arguments_of, arith, count_more, drop, end_code}
 use Rattle.rt_gen_queue.proofs.Vocabulary.{fill_code, inl, inr, length, map, one_itself, plain, ready_actions}
 use Rattle.rt_gen_queue.proofs.Vocabulary.{ready_code, refl, slice_index, spawn_code, storage, subst, sym, take}
-use Rattle.rt_gen_queue.proofs.Vocabulary.{take-append-le, take_code, task_priority, ℕ, ◌++◌, ◌+◌, ◌-◌, ◌<◌, ◌∙◌, ◌∷◌}
+use Rattle.rt_gen_queue.proofs.Vocabulary.{take-append-le, place_code, task_priority, ℕ, ◌++◌, ◌+◌, ◌-◌, ◌<◌, ◌∙◌, ◌∷◌}
 use Rattle.rt_gen_queue.proofs.Vocabulary.{◌≡◌, ◌≤◌, ◌⊎◌}
 use Rattle.rt_ids.specs.declared.ids.Section.TheVariants as section
 use Rattle.rt_code.specs.declared.instr.Instr.TheVariants as instr
@@ -13,7 +13,8 @@ use Rattle.rt_gen_queue.proofs.Facts.{Spawned, arguments, few_arguments, few_rea
 use Rattle.rt_gen_queue.proofs.Facts.{ready_top}
 use Rattle.rt_gen_queue.proofs.Granting.{HasTaken, MayTake, refused_stands, take_begins, with_place}
 use Rattle.rt_gen_queue.proofs.Layer.{Frame, Here, InTime, Now, S, Setting, Straight, ahead, begins, begun, frame_at}
-use Rattle.rt_gen_queue.proofs.Layer.{framed, jumps, lasts_less, moved, read_behind, sets, spot, window, window_long}
+use Rattle.rt_gen_queue.proofs.Layer.{framed, jumps, lasts_less, moved, read_behind, sets, configuration, window}
+use Rattle.rt_gen_queue.proofs.Layer.{window_long}
 use Rattle.rt_gen_queue.proofs.Layer.{window_outside, window_read}
 use Rattle.rt_gen_queue.proofs.Placing.{code_behind, code_front, fill_long, spawn_long}
 use Rattle.rt_gen_queue.proofs.Words.{Arguments, Scratch, listed, words}
@@ -30,7 +31,7 @@ spawn_stands c named q n k fuel on =
     moved _ end refl (sym end_at ∙ omega arith)
     (ends_at 0 5 r vs (omega arith) (omega arith) own agree)))))
   where
-    open c use {app, code, bodies, thread, who, spot as s, threshold, task, t, slot, vs, rest}
+    open c use {app, code, bodies, thread, who, configuration as s, threshold, task, t, slot, vs, rest}
     open named use {accepted, is_there, software}
     open q use {value, args, has, may, arguments as words_are, is}
 
@@ -75,7 +76,7 @@ spawn_stands c named q n k fuel on =
 
     has_fill : HasCode code (steps_and 8 s.address) (fill_code app task slot ++ (readying ++ ending))
     has_fill =
-        code_behind code s.address (steps_and 8 s.address) (take_code app task threshold slot full)
+        code_behind code s.address (steps_and 8 s.address) (place_code app task threshold slot full)
         (fill_code app task slot ++ (readying ++ ending)) (omega arith) has
 
     filled_to : ℕ
@@ -127,8 +128,8 @@ spawn_stands c named q n k fuel on =
     readies = act_all (ready_actions app (task_priority app task) message) (rest 1)
 
     -- behind all of it
-    ends_at : {cells : List ℕ} {queues : Holder → List Entry} (granted used : ℕ) (r : Scratch) (us : Values)
-        → granted ≤ 1 → used ≤ 32 → LeavesMine (storage app) who (spot z h) cells queues
+    ends_at : {cells : List ℕ} {queues : Location → List Entry} (granted used : ℕ) (r : Scratch) (us : Values)
+        → granted ≤ 1 → used ≤ 32 → LeavesMine (storage app) who (configuration z h) cells queues
         → Agree (storage app) who s.held us vs
         → S z (Now f (record h { done = used; at = end; cells = cells; queues = queues; rest = rest granted us })
         (words (record a { first = granted }) r))
@@ -158,7 +159,7 @@ spawn_stands c named q n k fuel on =
     may_take : MayTake z f h task threshold full t
     may_take = record {
       facts = facts;
-      code = code_front code s.address (take_code app task threshold slot full)
+      code = code_front code s.address (place_code app task threshold slot full)
           (fill_code app task slot ++ (readying ++ ending)) has;
       time = lasts 8 (omega arith);
       long = may.cells;
@@ -174,7 +175,7 @@ spawn_stands c named q n k fuel on =
     }
 
     -- with a place in the hands
-    granted : (e : Entry) (r : Scratch) (cells : List ℕ) (queues : Holder → List Entry) (us : Values)
+    granted : (e : Entry) (r : Scratch) (cells : List ℕ) (queues : Location → List Entry) (us : Values)
         → HasTaken z h task vs e cells queues us
         → S z (Now f (with_place h e cells queues (readies us)) (words a (record r { word = e.place })))
     granted e r cells queues us taken =
@@ -229,7 +230,7 @@ spawn_stands c named q n k fuel on =
         (ends_at 1 (steps_and 14 (steps_and (4 + count) 8)) r3 us3 (omega arith) (omega (arith, soon, few))
         (own_filled h taken.none taken.own filled
         (record { long = readied.own.long; touched = readied.own.touched; queued = readied.own.queued }))
-        (λ holder read. readied.agree holder read ∙ taken.agree holder read)))) in
+        (λ location read. readied.agree location read ∙ taken.agree location read)))) in
         let zeroth : slot ≡ slot + 0 = omega arith in
         let time = lasts (steps_and 12 (steps_and (4 + count) 8) + 2) (omega (arith, soon, few)) in
         run.runs

@@ -3,7 +3,7 @@
 -- frame says, is this project's own.
 use Rattle.std.specs.Prelude.{◌≡◌, ℕ, ◌+◌, ◌≤◌, ◌||◌, true, List, [], ◌∷◌, ◌++◌, length, take, slice_get}
 use Rattle.std.specs.Prelude.{slice_index, Option, Some, None, if◌then◌else◌}
-use Rattle.rt_ids.specs.Holder.{Holder}
+use Rattle.rt_ids.specs.Location.{Location}
 use Rattle.rt_ids.specs.Content.{Values}
 use Rattle.rt_ids.specs.Entry.{Entry}
 use Rattle.rt_ids.specs.Action.{Ends}
@@ -18,7 +18,7 @@ use Rattle.rt_app.specs.Layout.{memory}
 use Rattle.rt_app.specs.Holding.{storage}
 use Rattle.rt_app.specs.Sending.{Rest, act}
 use Rattle.rt_app.specs.Doings.{task_doing}
-use Rattle.rt_code.specs.Owning.{Spot}
+use Rattle.rt_code.specs.Owning.{Configuration}
 use Rattle.rt_code.specs.Stack.{return_address}
 use Rattle.rt_code.specs.Standing.{Stands}
 use Rattle.rt_code.specs.declared.image.BodyRow.{BodyRow}
@@ -35,7 +35,7 @@ rows_for entry n (t ∷ more) = (if is_software t then row_for entry n t ∷ [] 
 
 -- a job with no section open and nothing in its hands, which has so many steps left, in a frame that may be a called
 -- body's
-abbrev pub calm : ℕ → List ℕ → Option (List ℕ) → ℕ → List ℕ → (Holder → List Entry) → Doing Values → Spot
+abbrev pub calm : ℕ → List ℕ → Option (List ℕ) → ℕ → List ℕ → (Location → List Entry) → Doing Values → Configuration
 calm left slots caller at cells queues rest = record {
   held = [];
   lefts = left ∷ [];
@@ -48,13 +48,14 @@ calm left slots caller at cells queues rest = record {
   rest = rest;
 }
 
--- memory spells all that the jobs of a level keep, or may read at any time
-pub record AreSpelled (app : App) (level : ℕ) (cells : List ℕ) (queues : Holder → List Entry) (vs : Values) : Type 0
+-- memory represents all that the jobs of a level keep, or may read at any time
+pub record AreRepresented (app : App) (level : ℕ) (cells : List ℕ) (queues : Location → List Entry)
+    (vs : Values) : Type 0
   where
     pub long : length cells ≡ length (memory app)
-    pub each : (h : Holder)
+    pub each : (h : Location)
         → ((storage app).is_kept (AtPriority level) h || (storage app).is_constant (AtPriority level) h) ≡ true
-        → (storage app).Spells h (slice_index cells) (queues h) (vs h)
+        → (storage app).Represents h (slice_index cells) (queues h) (vs h)
 
 -- A called body of a task of a level stands. Suppose that what is to be done after its end stands within so many steps,
 -- at the address that the handler's frame keeps and in that frame. Then the whole body and that stand at the body's
@@ -63,13 +64,13 @@ pub record AreSpelled (app : App) (level : ℕ) (cells : List ℕ) (queues : Hol
 abbrev pub CalledAtLevel : App → ℕ → ℕ → Task → List Line → BodyRow → Type 0
 CalledAtLevel app n level t code row =
     (bodies : List BodyRow) (thread steps : ℕ) (frame : List ℕ) (behind : Rest)
-    → ((left : ℕ) (cells : List ℕ) (queues : Holder → List Entry) (vs : Values) → steps ≤ left
-    → AreSpelled app level cells queues vs
+    → ((left : ℕ) (cells : List ℕ) (queues : Location → List Entry) (vs : Values) → steps ≤ left
+    → AreRepresented app level cells queues vs
     → Stands (storage app) code bodies thread (AtPriority level) steps
     (calm left frame None (return_address frame) cells queues (behind vs)))
-    → (left : ℕ) (slots cells : List ℕ) (queues : Holder → List Entry) (vs : Values)
+    → (left : ℕ) (slots cells : List ℕ) (queues : Location → List Entry) (vs : Values)
     → body_cost (cost_measure app) t.body + steps ≤ left → length slots ≡ row.frame
-    → AreSpelled app level cells queues vs
+    → AreRepresented app level cells queues vs
     → Stands (storage app) code bodies thread (AtPriority level) (body_cost (cost_measure app) t.body + steps)
     (calm left slots (Some frame) row.entry cells queues
     (task_doing app n (take row.args slots) (act (Ends (body.Task n)) behind) vs))

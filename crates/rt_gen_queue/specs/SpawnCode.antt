@@ -10,7 +10,7 @@ use Rattle.rt_app.specs.Holding.{arguments_of}
 use Rattle.rt_gen_queue.specs.Line.{Line}
 use Rattle.rt_gen_queue.specs.Guards.{guard_of}
 use Rattle.rt_gen_queue.specs.Queue.{queue_at}
-use Rattle.rt_gen_queue.specs.SpawnLines.{take_lines, fill_lines, ready_lines, end_lines, spawn_lines}
+use Rattle.rt_gen_queue.specs.SpawnLines.{place_lines, fill_lines, ready_lines, end_lines, spawn_lines}
 use Rattle.rt_gen_queue.specs.declared.target.Target.{Target}
 
 module _ (app : App) where
@@ -30,8 +30,8 @@ module _ (app : App) where
   target_of task = target_at task (task_priority app task)
 
   -- the lines that take a place of the task, or jump where none is left
-  abbrev pub take_code : ℕ → ℕ → ℕ → ℕ → List Line
-  take_code task threshold slot full = take_lines (target_of task) threshold slot full
+  abbrev pub place_code : ℕ → ℕ → ℕ → ℕ → List Line
+  place_code task threshold slot full = place_lines (target_of task) threshold slot full
 
   -- the lines that write the arguments into the cells of the place, and make the word of the message
   abbrev pub fill_code : ℕ → ℕ → List Line

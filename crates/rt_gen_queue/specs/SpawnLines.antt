@@ -29,8 +29,8 @@ fill_lines c slot =
 -- then its message as a word, a number beside these, and what the mask was.
 module _ (c : Target) (threshold slot : ℕ) where
   -- a place of the task is taken, or a jump where none is left
-  abbrev pub take_lines : ℕ → List Line
-  take_lines full =
+  abbrev pub place_lines : ℕ → List Line
+  place_lines full =
       enter_line (section.Free c.task) c.guard threshold (slot + 8)
       ∷ plain (instr.Load (slot + 4) c.free)
       ∷ plain (instr.JumpZ (slot + 4) full)
@@ -68,4 +68,4 @@ module _ (c : Target) (threshold slot : ℕ) where
   abbrev pub spawn_lines : ℕ → List Line
   spawn_lines at =
       let full : ℕ = at + (26 + c.args) in
-      take_lines full ++ (fill_lines c slot ++ (ready_lines ++ end_lines (full + 2)))
+      place_lines full ++ (fill_lines c slot ++ (ready_lines ++ end_lines (full + 2)))

@@ -5,7 +5,7 @@ use Rattle.std.specs.Prelude.{◌≡◌, ℕ, ◌+◌, ◌-◌, ◌^◌, ◌<◌
 use Rattle.std.specs.Prelude.{slice_get, slice_index, Some}
 use Rattle.std.specs.List.{AllByRecursion}
 use Rattle.rt_ids.specs.Lists.{greatest}
-use Rattle.rt_ids.specs.Holder.{Holder}
+use Rattle.rt_ids.specs.Location.{Location}
 use Rattle.rt_ids.specs.Content.{Values}
 use Rattle.rt_ids.specs.Entry.{Entry}
 use Rattle.rt_ids.specs.Storage.{Runner, Starting, AtPriority}
@@ -19,7 +19,7 @@ use Rattle.rt_app.specs.Layout.{memory}
 use Rattle.rt_app.specs.Holding.{storage}
 use Rattle.rt_app.specs.Accepted.{IsAccepted}
 use Rattle.rt_code.specs.Masking.{IsWithin}
-use Rattle.rt_code.specs.Owning.{Held, Spot, is_open, saved_slots, Agree, LeavesMine}
+use Rattle.rt_code.specs.Owning.{OpenSection, Configuration, is_open, saved_slots, Agree, LeavesMine}
 use Rattle.rt_code.specs.Standing.{Stands}
 use Rattle.rt_code.specs.declared.image.BodyRow.{BodyRow}
 use Rattle.rt_gen_queue.specs.Line.{Line, HasCode}
@@ -28,13 +28,13 @@ use Rattle.rt_gen_queue.specs.SpawnCode.{spawn_code}
 module _ (app : App) (who : Runner) where
   -- The preemption threshold of what runs, with these sections open: `init` holds off all, another runner all up to the
   -- greatest of its priority and the ceilings of its open sections.
-  abbrev pub HoldsOff : Runner → List Held → ℕ → Type 0
+  abbrev pub HoldsOff : Runner → List OpenSection → ℕ → Type 0
   HoldsOff Starting held threshold = 2 ^ app.bits ≤ threshold
   HoldsOff (AtPriority p) held threshold = threshold ≡ max p (greatest (map (λ h. ceiling app h.section) held))
 
   -- A job may spawn a task from here: all its memory is there, sixteen slots of its frame keep no mask, it is in
   -- neither of the two sections, and each may be entered by what runs; and there are the steps of a spawn.
-  pub record MaySpawn (task : ℕ) (t : Task) (threshold slot : ℕ) (s : Spot) : Type 0 where
+  pub record MaySpawn (task : ℕ) (t : Task) (threshold slot : ℕ) (s : Configuration) : Type 0 where
     pub cells : length s.cells ≡ length (memory app)
     pub frame : slot + SPAWN_WORDS ≤ length s.slots
     pub masks : AllByRecursion (λ d. d < slot) (saved_slots s.held)
@@ -46,8 +46,8 @@ module _ (app : App) (who : Runner) where
 
   -- After the spawn: the answer is in the first slot; other slots, what the job may read, and its cells and queues are
   -- as they were.
-  pub record HasSpawned (slot : ℕ) (s : Spot) (vs : Values) (granted used : ℕ) (slots cells : List ℕ)
-      (queues : Holder → List Entry) (ws : Values) : Type 0 where
+  pub record HasSpawned (slot : ℕ) (s : Configuration) (vs : Values) (granted used : ℕ) (slots cells : List ℕ)
+      (queues : Location → List Entry) (ws : Values) : Type 0 where
     pub answer : (granted ≤ 1) × (slice_index slots slot ≡ granted)
     pub frame : length slots ≡ length s.slots
     pub kept : (d : ℕ) → (d < slot) ⊎ (slot + SPAWN_WORDS ≤ d) → slice_index slots d ≡ slice_index s.slots d
@@ -56,7 +56,8 @@ module _ (app : App) (who : Runner) where
     pub agree : Agree (storage app) who s.held ws vs
 
   -- where a job is after these lines of a spawn, with this left to do
-  abbrev pub behind : Spot → List Line → ℕ → List ℕ → List ℕ → (Holder → List Entry) → Rest → Values → Spot
+  abbrev pub behind : Configuration → List Line → ℕ → List ℕ → List ℕ → (Location → List Entry) → Rest → Values
+      → Configuration
   behind s lines used slots cells queues rest ws = record s {
     lefts = map (λ n. n - used) s.lefts;
     slots = slots;
@@ -75,7 +76,7 @@ pub record CallSite : Type 0 where
   pub bodies : List BodyRow
   pub thread : ℕ
   pub who : Runner
-  pub spot : Spot
+  pub configuration : Configuration
   pub threshold : ℕ
   pub task : ℕ
   pub t : Task
@@ -95,18 +96,19 @@ pub record SpawnAt (c : CallSite) : Type 0 where
   pub value : Expression → ℕ
   pub args : List Expression
   pub offset : ℕ
-  pub has : HasCode c.code c.spot.address (spawn_code c.app c.task c.threshold c.slot c.spot.address)
-  pub may : MaySpawn c.app c.who c.task c.t c.threshold c.slot c.spot
-  pub arguments : take c.t.args (drop c.slot c.spot.slots) ≡ map value args
-  pub is : c.spot.rest ≡ spawn_actions c.app value (Soon c.task args offset) c.rest c.vs
+  pub has : HasCode c.code c.configuration.address (spawn_code c.app c.task c.threshold c.slot c.configuration.address)
+  pub may : MaySpawn c.app c.who c.task c.t c.threshold c.slot c.configuration
+  pub arguments : take c.t.args (drop c.slot c.configuration.slots) ≡ map value args
+  pub is : c.configuration.rest ≡ spawn_actions c.app value (Soon c.task args offset) c.rest c.vs
 
 -- The code of a spawn stands for its actions and for any rest, where the code after it stands for that rest.
 abbrev pub SpawnsStand : Type 0
 SpawnsStand =
     (c : CallSite) → NamesTask c → SpawnAt c → (n k : ℕ) → SPAWN_COST + n ≤ k
-    → ((granted used m : ℕ) (slots cells : List ℕ) (queues : Holder → List Entry) (ws : Values) → n ≤ m
-    → HasSpawned c.app c.who c.slot c.spot c.vs granted used slots cells queues ws
+    → ((granted used m : ℕ) (slots cells : List ℕ) (queues : Location → List Entry) (ws : Values) → n ≤ m
+    → HasSpawned c.app c.who c.slot c.configuration c.vs granted used slots cells queues ws
     → Stands (storage c.app) c.code c.bodies c.thread c.who m
-    (behind c.app c.who c.spot (spawn_code c.app c.task c.threshold c.slot c.spot.address) used slots cells queues
+    (behind c.app c.who c.configuration (spawn_code c.app c.task c.threshold c.slot c.configuration.address) used slots
+    cells queues
     (c.rest granted) ws))
-    → Stands (storage c.app) c.code c.bodies c.thread c.who k c.spot
+    → Stands (storage c.app) c.code c.bodies c.thread c.who k c.configuration

@@ -36,9 +36,9 @@ fn leave_line(guard: Guard, threshold: u8, slot: u32, section: Section) -> Line
 /// The lines that take a place of the task, in a body at a preemption threshold, or lead to the address `full` where
 /// none is left. The place comes into the seventh of the slots from one on; the fifth, the eighth and the ninth are
 /// used beside.
-pub fn take(target: &Target, threshold: u8, slot: u32, full: u32) -> [Line; 8]
+pub fn place(target: &Target, threshold: u8, slot: u32, full: u32) -> [Line; 8]
     requires slots { slot + SPAWN_WORDS < 2 ^ 32 }
-    ensures { result ≡ spec.take_lines target.now threshold slot full }
+    ensures { result ≡ spec.place_lines target.now threshold slot full }
 {
     let guard = target.guard;
     let free = u32::from(target.free);

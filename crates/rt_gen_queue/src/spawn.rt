@@ -14,7 +14,7 @@ ghost use Rattle.rt_gen_queue.specs.SpawnCode.{spawn_code};
 ghost use Rattle.rt_gen_queue.specs.Making.{Appends};
 
 use crate::lines::{Lines, append_lines};
-use crate::parts::{answer, fill, ready, take};
+use crate::parts::{answer, fill, place, ready};
 use crate::target::{Target, find_target};
 use rt_app::Plan;
 use rt_app::costs::SPAWN_WORDS;
@@ -51,7 +51,7 @@ fn append_spawn(
     ensures { OnOk result (Appends lines.old lines.new (spawn_lines target.now threshold slot entry)) }
 {
     let end = next_end(target, slot, entry)?;
-    lines.append(&take(target, threshold, slot, end - 2))?;
+    lines.append(&place(target, threshold, slot, end - 2))?;
     fill(target, slot, lines)?;
     lines.append(&ready(target, threshold, slot))?;
     lines.append(&answer(target, threshold, slot, end))

@@ -1,5 +1,5 @@
 -- Runs of lines on the window of the timer's code, and the cells of the timer queue while its section is open.
-use Rattle.rt_gen_queue.proofs.Vocabulary.{At, Guarded, HasCode, Held, Line, List, [], ap, arith, drop, home_of}
+use Rattle.rt_gen_queue.proofs.Vocabulary.{At, Guarded, HasCode, OpenSection, Line, List, [], ap, arith, drop, home_of}
 use Rattle.rt_gen_queue.proofs.Vocabulary.{is_open, length, map, memory, refl, subst, suc, take, true, zero, ℕ, ◌*◌}
 use Rattle.rt_gen_queue.proofs.Vocabulary.{◌+◌, ◌<◌, ◌∙◌, ◌∷◌, ◌≡◌, ◌≤◌}
 use Rattle.rt_ids.specs.declared.ids.Section.TheVariants as section
@@ -10,7 +10,7 @@ use Rattle.rt_gen_timer.specs.TimerLines.{armings_of, handle_count_of, handles_o
 use Rattle.rt_gen_timer.specs.declared.queue.TimerQueue.{TimerQueue}
 
 -- Each end is so many steps away, and masks are kept where the window keeps them.
-pub record Lasting (f : Slots) (steps : ℕ) (held : List Held) (ends : List ℕ) : Type 0 where
+pub record Lasting (f : Slots) (steps : ℕ) (held : List OpenSection) (ends : List ℕ) : Type 0 where
   pub time : Lasts steps ends
   pub saves : Saves f held
 
@@ -18,7 +18,7 @@ pub record Lasting (f : Slots) (steps : ℕ) (held : List Held) (ends : List ℕ
 abbrev pub Runs : Slots → ℕ → Here → Type 0
 Runs f steps h = Lasting f steps h.held (h.until ∷ h.deadlines)
 
-pub sooner : {f : Slots} {j k : ℕ} {held : List Held} {ends : List ℕ} → Lasting f k held ends → j ≤ k
+pub sooner : {f : Slots} {j k : ℕ} {held : List OpenSection} {ends : List ℕ} → Lasting f k held ends → j ≤ k
     → Lasting f j held ends
 sooner {j = j} {k = k} {ends = ends} runs less = record {
   time = lasts_less j k ends less runs.time;
@@ -59,13 +59,14 @@ pub code_part : (code : List Line) (at : ℕ) (lines : List Line) (k n : ℕ) �
 code_part code at lines k n has = code_first code n (at + k) (drop k lines) (code_from code k at lines has)
 
 -- The section of the timer queue is open, and its cells are there: the counts, and the columns by row or by position.
-pub record Columns (z : Setting) (q : TimerQueue) (held : List Held) (cells : List ℕ) : Type 0 where
+pub record Columns (z : Setting) (q : TimerQueue) (held : List OpenSection) (cells : List ℕ) : Type 0 where
   pub opens : is_open held section.Timer ≡ true
   pub long : length cells ≡ length (memory z.app)
   pub homes : (j : ℕ) → j < 3 + 4 * q.messages → home_of z.app (q.at + j) ≡ At (Guarded section.Timer)
 
 -- as many cells are there behind a write
-pub columns_on : {z : Setting} {q : TimerQueue} {held : List Held} {cells after : List ℕ} → Columns z q held cells
+pub columns_on : {z : Setting} {q : TimerQueue} {held : List OpenSection} {cells after : List ℕ}
+    → Columns z q held cells
     → length after ≡ length cells → Columns z q held after
 columns_on columns long = record { opens = columns.opens; long = long ∙ columns.long; homes = columns.homes }
 

@@ -1,6 +1,6 @@
 -- The code of a whole `spawn_after`: a place is taken and filled, and in the section of the timer queue its message is
 -- armed, with the handle for an answer; or none is left, and the answer is 0.
-use Rattle.rt_gen_queue.proofs.Vocabulary.{Arms, Content, Entry, Guarded, HasCode, Held, Holder, Home}
+use Rattle.rt_gen_queue.proofs.Vocabulary.{Arms, Content, Entry, Guarded, HasCode, OpenSection, Location, Home}
 use Rattle.rt_gen_queue.proofs.Vocabulary.{IsTimedPlace, Leaves, Line, List, Marked, MayLoad, Message, FindsFull}
 use Rattle.rt_gen_queue.proofs.Vocabulary.{Rest, Section, Some, TakesOver, Timed, Values, [], act}
 use Rattle.rt_gen_queue.proofs.Vocabulary.{act_all, all_weaker, and_both, ap, arguments_of, arith, arm_actions}
@@ -8,10 +8,10 @@ use Rattle.rt_gen_queue.proofs.Vocabulary.{capacities_before, armed_messages, ar
 use Rattle.rt_gen_queue.proofs.Vocabulary.{drop}
 use Rattle.rt_gen_queue.proofs.Vocabulary.{enter, few_before, few_messages, fill_code, guard_of, is_armed, is_software}
 use Rattle.rt_gen_queue.proofs.Vocabulary.{is_some_and, kind_at, leave, leave_timer, length, length-append, length_push}
-use Rattle.rt_gen_queue.proofs.Vocabulary.{message_at, message_word, mine, line_with_note, one_itself, spot_after_step}
+use Rattle.rt_gen_queue.proofs.Vocabulary.{message_at, message_word, mine, line_with_note, one_itself, spend_step}
 use Rattle.rt_gen_queue.proofs.Vocabulary.{plain}
 use Rattle.rt_gen_queue.proofs.Vocabulary.{queued_more, reads_more, refl, slice_get, slice_index, storage, subst, suc}
-use Rattle.rt_gen_queue.proofs.Vocabulary.{sym, take, take-append-le, take_code, take_place, timer_content, true}
+use Rattle.rt_gen_queue.proofs.Vocabulary.{sym, take, take-append-le, place_code, place_actions, timer_content, true}
 use Rattle.rt_gen_queue.proofs.Vocabulary.{with_armed, ℕ}
 use Rattle.rt_gen_queue.proofs.Vocabulary.{◌&&◌, ◌++◌, ◌+◌, ◌<◌, ◌^◌, ◌∙◌, ◌∷◌, ◌≡◌, ◌≤◌}
 use Rattle.rt_ids.specs.declared.ids.Section.TheVariants as section
@@ -23,8 +23,8 @@ use Rattle.rt_gen_queue.proofs.Entering.{opened, saves_below, saves_inside}
 use Rattle.rt_gen_queue.proofs.Facts.{arguments, few_arguments, few_free, free_top, place_of, small as small_words}
 use Rattle.rt_gen_queue.proofs.Granting.{HasTaken, MayTake, at_full, take_begins}
 use Rattle.rt_gen_queue.proofs.Layer.{Frame, Here, InTime, Now, S, Straight, all_fit, ends, fits, inner}
-use Rattle.rt_gen_queue.proofs.Layer.{inner_window, jumps, moved, read_behind, spot, writes_open}
-use Rattle.rt_gen_queue.proofs.Owning.{home_as, is_inside, nobody_keeps, reads_inside, timer_spelled}
+use Rattle.rt_gen_queue.proofs.Layer.{inner_window, jumps, moved, read_behind, configuration, writes_open}
+use Rattle.rt_gen_queue.proofs.Owning.{home_as, is_inside, nobody_keeps, reads_inside, timer_represented}
 use Rattle.rt_gen_queue.proofs.Placing.{code_behind, code_front, fill_long}
 use Rattle.rt_gen_queue.proofs.Storing.{Filled, fill_stands, message_is, own_filled}
 use Rattle.rt_gen_queue.proofs.Words.{Arguments, Scratch as Work, listed, words as nine_words}
@@ -32,15 +32,15 @@ use Rattle.rt_gen_timer.proofs.{Alone.instant_in, Alone.number_in, Alone.timed_r
 use Rattle.rt_gen_timer.proofs.{Comparing.in_hand, Delaying.at_address, Delaying.delayed, Delaying.time_stands}
 use Rattle.rt_gen_timer.proofs.{Lasting.last_alone, Marking.arms, Moves.settled_risen, Opening.MayOpen}
 use Rattle.rt_gen_timer.proofs.{Opening.may_enter, Order.above_less, Rowing.HasRow, Rowing.row_stands, Rowing.with_row}
-use Rattle.rt_gen_timer.proofs.{Sifting.IsReady, Sifting.IsRisen, Sifting.rises_stand, Spelled.few_armings}
+use Rattle.rt_gen_timer.proofs.{Sifting.IsReady, Sifting.IsRisen, Sifting.rises_stand, Represented.few_armings}
 use Rattle.rt_gen_timer.proofs.{Turning.AreTurns, Turning.arm_steps, Turning.turns_for}
 use Rattle.rt_gen_timer.proofs.Acting.{Lasting, Runs, code_first, code_part, heap_open, run_stands, sooner}
-use Rattle.rt_gen_timer.proofs.Calling.{AgreeInside, Begins, Call, HasCalled, Inside, IsInside, Left, at_work}
+use Rattle.rt_gen_timer.proofs.Calling.{AgreeInside, IsViablePrefix, Call, HasCalled, Inside, IsInside, Left, at_work}
 use Rattle.rt_gen_timer.proofs.Calling.{behind_call, call_of, columns_now, entries, f, leaving_code, leaving_fits}
 use Rattle.rt_gen_timer.proofs.Calling.{on_window, queue_now, settles, stands_called, task_of, w}
 use Rattle.rt_gen_timer.proofs.Hollow.{IsBeside, beside_more, beside_one_position, hollow_filled}
 use Rattle.rt_gen_timer.proofs.Pushing.{MayPush, are, armings_before, counts, hole_begins, hollow_begins, is_row}
-use Rattle.rt_gen_timer.proofs.Pushing.{longer, room, size, spelled_more}
+use Rattle.rt_gen_timer.proofs.Pushing.{longer, room, size, represented_more}
 use Rattle.rt_gen_timer.proofs.Window.{Scratch, Words, scratch_of, words}
 use Rattle.rt_gen_timer.specs.TimerCalls.{AftersStand, MayUsePlaces, after_steps}
 use Rattle.rt_gen_timer.specs.TimerCode.{after_code, armed_task, queue_of}
@@ -59,12 +59,12 @@ worked v r = record v { count = r.count; hole = r.index; place = r.word; work = 
 
 -- a message is to be sent later
 record SendsLater (c : Call) (cost delay : ℕ) (args : List ℕ) (h : Here) : Type 0 where
-  pub call : Begins c (after_steps c.z.app) (after_code c.z.app c.task c.threshold c.slot h.at)
-      (take_place c.z.app c.task (arm_actions c.z.app cost delay (record { task = c.task; args = args }) c.rest)
+  pub call : IsViablePrefix c (after_steps c.z.app) (after_code c.z.app c.task c.threshold c.slot h.at)
+      (place_actions c.z.app c.task (arm_actions c.z.app cost delay (record { task = c.task; args = args }) c.rest)
       (c.rest 0)) h
   pub armed : is_armed c.z.app c.task ≡ true
   pub turns : AreTurns c.z.app cost
-  pub places : MayUsePlaces c.z.app c.z.who c.task (spot c.z h)
+  pub places : MayUsePlaces c.z.app c.z.who c.task (configuration c.z h)
   pub delay_is : slice_index h.slots c.slot ≡ delay
   pub args_are : take c.t.args (drop (suc c.slot) h.slots) ≡ args
 
@@ -107,7 +107,7 @@ module _ {c : Call} {cost delay : ℕ} {args : List ℕ} {h : Here} (k : SendsLa
 
   has_fill : HasCode code (h.at + 8) (filling ++ (arming slot ++ ending))
   has_fill =
-      code_behind code h.at (h.at + 8) (take_code app task threshold (slot + 1) full)
+      code_behind code h.at (h.at + 8) (place_code app task threshold (slot + 1) full)
       (filling ++ (arming slot ++ ending))
       refl has
 
@@ -162,22 +162,23 @@ module _ {c : Call} {cost delay : ℕ} {args : List ℕ} {h : Here} (k : SendsLa
   abbrev may_take : MayTake z (nine (w may)) h task threshold full t
   may_take = record {
     facts = may.facts;
-    code = code_front code h.at (take_code app task threshold (slot + 1) full) (filling ++ (arming slot ++ ending)) has;
+    code = code_front code h.at (place_code app task threshold (slot + 1) full) (filling
+        ++ (arming slot ++ ending)) has;
     time = lasts 8 (omega arith);
     long = may.cells;
     enter = enter_places (nine (w may)) (omega arith) (omega arith);
   }
 
   -- no place is left: the section closes, and the answer is 0
-  none_stands : (r : Work) (cells : List ℕ) (queues : Holder → List Entry) (us : Values)
-      → TakesOver (storage app) who place_section (spot_after_step (spot z h)) values us cells queues
+  none_stands : (r : Work) (cells : List ℕ) (queues : Location → List Entry) (us : Values)
+      → TakesOver (storage app) who place_section (spend_step (configuration z h)) values us cells queues
       → S z (Now (nine (w may)) (at_full h (opened z (nine (w may)) place_section threshold) full cells queues
       (act_all (FindsFull task ∷ Leaves place_section ∷ []) (rest 0) us)) (nine_words (arguments_in (w may)) r))
   none_stands r cells queues us taken =
       let x : Section = place_section in
-      let o : Held = opened z (f may) x threshold in
+      let o : OpenSection = opened z (f may) x threshold in
       let e : slot + 9 ≡ slot + 1 + 8 = omega arith in
-      let g : Held → Here =
+      let g : OpenSection → Here =
       λ o. at_full h o full cells queues (act_all (FindsFull task ∷ Leaves x ∷ []) (rest 0) us) in
       let all = lasts 8 (omega arith) in
       subst (λ n. S z (Now (nine (w may)) (g (record { section = x; kind = kind_at app x threshold n }))
@@ -193,8 +194,8 @@ module _ {c : Call} {cost delay : ℕ} {args : List ℕ} {h : Here} (k : SendsLa
       (refuses (is_inside app who h.held o x refl) refl
       (λ us2 agree.
       leaves threshold refl refl refl
-      (subst (λ (c : Content). (storage app).Spells (Guarded x) (slice_index cells) (queues (Guarded x)) c)
-      (sym (agree (Guarded x) (reads_inside app who h.held o x refl))) taken.spelled)
+      (subst (λ (c : Content). (storage app).Represents (Guarded x) (slice_index cells) (queues (Guarded x)) c)
+      (sym (agree (Guarded x) (reads_inside app who h.held o x refl))) taken.represented)
       (λ us3 later.
       ends
       (moved (steps_and 5 h.done) (h.at + length lines) refl (omega (arith, ends_at))
@@ -204,12 +205,12 @@ module _ {c : Call} {cost delay : ℕ} {args : List ℕ} {h : Here} (k : SendsLa
         answered = refl;
         in_time = omega arith;
         own = record { long = taken.same.long; touched = taken.same.touched; queued = taken.same.queued };
-        agree = λ holder read.
-            later holder read ∙ agree holder (reads_more (storage app) who o h.held holder read)
-            ∙ taken.agree holder read;
+        agree = λ location read.
+            later location read ∙ agree location (reads_more (storage app) who o h.held location read)
+            ∙ taken.agree location read;
       }))))))))
 
-  module _ {e : Entry} {cells : List ℕ} {queues : Holder → List Entry} {us : Values}
+  module _ {e : Entry} {cells : List ℕ} {queues : Location → List Entry} {us : Values}
       (taken : HasTaken z h task values e cells queues us) where
     -- a place of the task is one of a task whose messages may be armed
     timed_place : IsTimedPlace app e
@@ -271,11 +272,11 @@ module _ {c : Call} {cost delay : ℕ} {args : List ℕ} {h : Here} (k : SendsLa
             in_time = omega (arith, armed.in_time, k.turns.few, few_args);
             own = own_filled h taken.none taken.own filled
                 (record { long = armed.own.long; touched = armed.own.touched; queued = armed.own.queued });
-            agree = λ holder read. armed.agree holder read ∙ taken.agree holder read;
+            agree = λ location read. armed.agree location read ∙ taken.agree location read;
           }))))
 
-      module _ {ws : Values} {inside : List ℕ} {queued : Holder → List Entry}
-          (took : TakesOver (storage app) who section.Timer (spot_after_step (spot z g)) us ws inside queued) where
+      module _ {ws : Values} {inside : List ℕ} {queued : Location → List Entry}
+          (took : TakesOver (storage app) who section.Timer (spend_step (configuration z g)) us ws inside queued) where
         abbrev i : Inside
         i = record {
           z = z;
@@ -294,18 +295,20 @@ module _ {c : Call} {cost delay : ℕ} {args : List ℕ} {h : Here} (k : SendsLa
           may = opens;
           long = filled.long ∙ taken.own.long ∙ may.cells;
           taken = took;
-          spells = timer_spelled app (slice_index inside) (entries i) (ws (Guarded section.Timer)) took.spelled;
+          represents = timer_represented app (slice_index inside) (entries i)
+              (ws (Guarded section.Timer)) took.represented;
         }
 
         -- its arguments are as they were stored
         message_inside : message_at app (slice_index inside) e ≡ message
         message_inside =
-            let some : 0 < mine (spot_after_step (spot z g)) e = omega (arith, count_more e e h.places, one_itself e) in
+            let some : 0 < mine (spend_step (configuration z g)) e = omega
+            (arith, count_more e e h.places, one_itself e) in
             message_alike app t.priority (slice_index inside) (slice_index left) e
             (place_of app task t may.facts e taken.of_task taken.place)
             (λ c is.
             took.same.touched c
-            (subst (λ (home : Home). MayLoad (storage app) who (spot_after_step (spot z g)) home)
+            (subst (λ (home : Home). MayLoad (storage app) who (spend_step (configuration z g)) home)
             (sym (home_as app c ∙ is))
             some))
             ∙ message_is may.facts taken.of_task (omega arith) filled
@@ -315,7 +318,7 @@ module _ {c : Call} {cost delay : ℕ} {args : List ℕ} {h : Here} (k : SendsLa
         push = record {
           accepted = may.facts.accepted;
           mono = may.timed;
-          spells = now.spells;
+          represents = now.represents;
           few = took.few;
           place = timed_place;
           once = λ y.
@@ -334,7 +337,7 @@ module _ {c : Call} {cost delay : ℕ} {args : List ℕ} {h : Here} (k : SendsLa
             }
 
         armings_few : armings_before push < 2 ^ 31
-        armings_few = few_armings push.spells push.few
+        armings_few = few_armings push.represents push.few
 
         -- what is left to do where the message is armed
         abbrev arms_then : ℕ → Rest
@@ -349,10 +352,11 @@ module _ {c : Call} {cost delay : ℕ} {args : List ℕ} {h : Here} (k : SendsLa
         -- where the message has its row, for an instant
         abbrev IsRow : ℕ → List ℕ → Type 0
         IsRow instant mid =
-            HasRow q (armed_place app e) instant (armings_before push) push.spells.timed.given (size push) inside mid
+            HasRow q (armed_place app e) instant (armings_before push) push.represents.timed.given
+            (size push) inside mid
 
         abbrev rowed : Words → Words
-        rowed v = with_row v (armed_place app e) (armings_before push) push.spells.timed.given (size push)
+        rowed v = with_row v (armed_place app e) (armings_before push) push.represents.timed.given (size push)
 
         -- The loop begins in time, and knows what is in the queue.
         record HasBegun (begin : ℕ) (vs : Values) : Type 0 where
@@ -395,20 +399,20 @@ module _ {c : Call} {cost delay : ℕ} {args : List ℕ} {h : Here} (k : SendsLa
               (record { opens = columns.opens; hands = refl; of_task = (taken.of_task, refl) }) refl
               (λ after us2 one agree2.
               let beside : IsBeside q mid after = beside_more risen.beside (beside_one_position q place one) in
-              let agrees : AgreeInside i us2 = λ holder read. agree2 holder read ∙ begins.agree holder read in
-              let armed : timer_content (us2 (Guarded section.Timer)) ≡ push.spells.timed =
+              let agrees : AgreeInside i us2 = λ location read. agree2 location read ∙ begins.agree location read in
+              let armed : timer_content (us2 (Guarded section.Timer)) ≡ push.represents.timed =
               ap timer_content (queue_now now agrees) in
               at_address (g.at + 39) (omega arith)
               (settles now (with_armed instant message) (in_loop v s b.hole)
               (record {
-                spells = spelled_more push has beside
+                represents = represented_more push has beside
                     (λ j less. hollow_filled e risen.hollow one j less)
                     (settled_risen risen.risen
                     (λ j some less under. absurd (omega (arith, above_less j some, under, less))));
                 few = omega (arith, armings_few);
                 alone = last_alone (are push) (is_row push has) beside push.mono;
                 long = beside.long ∙ has.long;
-              }) agrees (omega (arith, length_push (entries i) e, push.spells.arranged.long))
+              }) agrees (omega (arith, length_push (entries i) e, push.represents.arranged.long))
               (λ last other us3 soon own later.
               ends
               (moved last (g.at + 46) refl (omega arith)
@@ -526,8 +530,8 @@ afters_stand c named timed a n =
     let second : suc c.slot ≡ c.slot + 1 = omega arith in
     let message : Message = record { task = c.task; args = a.args } in
     let doing : Rest =
-    take_place c.app c.task (arm_actions c.app a.cost a.delay message c.rest) (c.rest 0) in
-    stands_called (call_of c) c.spot {doing = doing} (task_of c named) timed a.may a.has a.is
+    place_actions c.app c.task (arm_actions c.app a.cost a.delay message c.rest) (c.rest 0) in
+    stands_called (call_of c) c.configuration {doing = doing} (task_of c named) timed a.may a.has a.is
     (λ until call.
     after_goes (record {
       call = call;
@@ -535,5 +539,5 @@ afters_stand c named timed a n =
       turns = turns_for c.app a.cost a.costs;
       places = record { closed = a.places.closed; within = a.places.within };
       delay_is = a.delayed;
-      args_are = ap (λ d. take c.t.args (drop d c.spot.slots)) second ∙ a.arguments;
+      args_are = ap (λ d. take c.t.args (drop d c.configuration.slots)) second ∙ a.arguments;
     }))

@@ -1,10 +1,11 @@
 -- A call of the timer queue's code in a body: where it begins, on a window of the job's slots, what is known inside its
 -- section, how that closes, and where the call ends.
 use Rattle.rt_gen_queue.proofs.Vocabulary.{Agree, AllByRecursion, Content, Delays, Doing, Entry, Guarded, HasCode}
-use Rattle.rt_gen_queue.proofs.Vocabulary.{Holder, HoldsOff, IsSome, IsWithin, LeavesMine, Line, List, Rest}
-use Rattle.rt_gen_queue.proofs.Vocabulary.{SpellsTimer, Spot, TakesOver, Task, Timed, Values, ap, arith, count_more}
+use Rattle.rt_gen_queue.proofs.Vocabulary.{Location, HoldsOff, IsSome, IsWithin, LeavesMine, Line, List, Rest}
+use Rattle.rt_gen_queue.proofs.Vocabulary.{RepresentsTimer, Configuration, TakesOver, Task, Timed, Values, ap, arith}
+use Rattle.rt_gen_queue.proofs.Vocabulary.{count_more}
 use Rattle.rt_gen_queue.proofs.Vocabulary.{false, is_open, leave, leave_timer, length, map, may_load, memory, mine}
-use Rattle.rt_gen_queue.proofs.Vocabulary.{owns_open, spot_after_step, values_with, queued, queues_same, refl}
+use Rattle.rt_gen_queue.proofs.Vocabulary.{owns_open, spend_step, values_with, queued, queues_same, refl}
 use Rattle.rt_gen_queue.proofs.Vocabulary.{None, saved_slots}
 use Rattle.rt_gen_queue.proofs.Vocabulary.{slice_index, storage, subst, sym, timer_content, with_queue, ℕ, ◌++◌, ◌+◌}
 use Rattle.rt_gen_queue.proofs.Vocabulary.{◌-◌, ◌<◌}
@@ -13,9 +14,10 @@ use Rattle.rt_ids.specs.declared.ids.Section.TheVariants as section
 use Rattle.rt_app.specs.declared.costs.TheConstants.{TIMER_QUEUE_WORDS}
 use Rattle.rt_gen_queue.proofs.Entering.{agree_left, opened, own_left, reads_it, within}
 use Rattle.rt_gen_queue.proofs.Facts.{Spawned}
-use Rattle.rt_gen_queue.proofs.Layer.{Here, InTime, Now, S, Setting, Straight, begins, begun, lasts_less, placed, spot}
+use Rattle.rt_gen_queue.proofs.Layer.{Here, InTime, Now, S, Setting, Straight, begins, begun, lasts_less, placed}
+use Rattle.rt_gen_queue.proofs.Layer.{configuration}
 use Rattle.rt_gen_queue.proofs.Layer.{window, window_long, window_outside, window_read}
-use Rattle.rt_gen_queue.proofs.Owning.{put_here, queue_here, spelled_put, timer_back}
+use Rattle.rt_gen_queue.proofs.Owning.{put_here, queue_here, represented_put, timer_back}
 use Rattle.rt_gen_queue.specs.Spawning.{CallSite, NamesTask}
 use Rattle.rt_gen_timer.proofs.{Acting.Columns, Alone.IsTimerAlone, Closing.closes_timer, Closing.leaving_placed}
 use Rattle.rt_gen_timer.proofs.Opening.{MayOpen, columns_inside, may_enter}
@@ -71,7 +73,7 @@ pub record Left : Type 0 where
   pub done : ℕ
   pub words : Words
   pub cells : List ℕ
-  pub queues : Holder → List Entry
+  pub queues : Location → List Entry
   pub values : Values
 
 -- where a job began a call with these values, this is what it leaves: what it may read, and its cells and queues are as
@@ -80,7 +82,7 @@ pub record HasCalled (z : Setting) (h : Here) (before : Values) (steps answer : 
   pub small : answer ≤ 2 ^ 31
   pub answered : b.words.answer ≡ answer
   pub in_time : b.done ≤ h.done + steps
-  pub own : LeavesMine (storage z.app) z.who (spot z h) b.cells b.queues
+  pub own : LeavesMine (storage z.app) z.who (configuration z h) b.cells b.queues
   pub agree : Agree (storage z.app) z.who h.held b.values before
 
 -- and where it is then
@@ -117,7 +119,7 @@ module _ {c : Call} {steps : ℕ} {h : Here} (may : MayCall c steps h) where
       → S c.z (Now f (behind_call h (h.at + length lines) (c.rest answer) b) (words b.words))
 
 -- It begins: its lines, which take so many steps, are in the code, this is left to do, and it goes on behind them.
-pub record Begins (c : Call) (steps : ℕ) (lines : List Line) (doing : Rest) (h : Here) : Type 0 where
+pub record IsViablePrefix (c : Call) (steps : ℕ) (lines : List Line) (doing : Rest) (h : Here) : Type 0 where
   pub may : MayCall c steps h
   pub has : HasCode c.z.code h.at lines
   pub is : h.rest ≡ doing c.values
@@ -132,14 +134,14 @@ pub record Inside : Type 0 where
   pub h : Here
   pub before : Values
   pub cells : List ℕ
-  pub queues : Holder → List Entry
+  pub queues : Location → List Entry
   pub values : Values
 
 abbrev pub entries : Inside → List Entry
 entries i = i.queues (Guarded section.Timer)
 
 -- the job there, with this left to do
-abbrev pub at_work : Inside → (done at : ℕ) → List Entry → List ℕ → (Holder → List Entry) → Doing Values → Here
+abbrev pub at_work : Inside → (done at : ℕ) → List Entry → List ℕ → (Location → List Entry) → Doing Values → Here
 at_work i done at places cells queues rest =
     record (within i.h (opened i.z i.f section.Timer i.threshold) i.cost cells queues rest) {
       done = done;
@@ -151,14 +153,14 @@ at_work i done at places cells queues rest =
 pub record IsInside (i : Inside) : Type 0 where
   pub may : MayOpen i.z i.f i.threshold i.h
   pub long : length i.h.cells ≡ length (memory i.z.app)
-  pub taken : TakesOver (storage i.z.app) i.z.who section.Timer (spot_after_step (spot i.z i.h)) i.before i.values
+  pub taken : TakesOver (storage i.z.app) i.z.who section.Timer (spend_step (configuration i.z i.h)) i.before i.values
       i.cells
       i.queues
-  pub spells : SpellsTimer i.z.app (slice_index i.cells) (entries i) (i.values (Guarded section.Timer))
+  pub represents : RepresentsTimer i.z.app (slice_index i.cells) (entries i) (i.values (Guarded section.Timer))
 
 -- what is left of the queue: in its cells alone these messages are armed
 pub record LeavesQueue (i : Inside) (after : List ℕ) (es : List Entry) (t : Timed) : Type 0 where
-  pub spells : SpellsTimer i.z.app (slice_index after) es (Delays t)
+  pub represents : RepresentsTimer i.z.app (slice_index after) es (Delays t)
   pub few : t.given + t.moved ≤ 2 ^ 32
   pub alone : IsTimerAlone i.z.app i.cells after
   pub long : length after ≡ length i.cells
@@ -175,16 +177,16 @@ module _ {i : Inside} (now : IsInside i) where
       columns_inside i.z i.f i.threshold i.h.held now.may.timed (long ∙ now.taken.same.long ∙ now.long)
 
   -- so is what the queue has
-  pub queue_now : {ws : Values} → AgreeInside i ws → ws (Guarded section.Timer) ≡ Delays now.spells.timed
+  pub queue_now : {ws : Values} → AgreeInside i ws → ws (Guarded section.Timer) ≡ Delays now.represents.timed
   queue_now agree =
-      agree (Guarded section.Timer) (reads_it tt (may_enter now.may) now.taken) ∙ now.spells.is
+      agree (Guarded section.Timer) (reads_it tt (may_enter now.may) now.taken) ∙ now.represents.is
 
   -- The section closes with the alarm set, behind an action that changed the queue to this: all else is as it was.
   pub settles : {lines : List Line} {done at : ℕ} {places es : List Entry} {after : List ℕ} {rest : Rest} {ws : Values}
-      (change : Timed → Timed) (v : Words) → LeavesQueue i after es (change now.spells.timed) → AgreeInside i ws
+      (change : Timed → Timed) (v : Words) → LeavesQueue i after es (change now.represents.timed) → AgreeInside i ws
       → v.count ≡ length es
       → ((last other : ℕ) (us : Values) → last ≤ done + 6
-      → LeavesMine (storage i.z.app) i.z.who (spot i.z i.h) after (with_queue i.queues section.Timer es)
+      → LeavesMine (storage i.z.app) i.z.who (configuration i.z i.h) after (with_queue i.queues section.Timer es)
       → Agree (storage i.z.app) i.z.who i.h.held us i.before
       → Straight i.z i.f lines (record i.h {
         done = last;
@@ -203,7 +205,7 @@ module _ {i : Inside} (now : IsInside i) where
       let x = section.Timer in
       let enter = may_enter now.may in
       let content : Content = Delays (change (timer_content (ws (Guarded x)))) in
-      let is : content ≡ Delays (change now.spells.timed) = ap (λ k. Delays (change (timer_content k)))
+      let is : content ≡ Delays (change now.represents.timed) = ap (λ k. Delays (change (timer_content k)))
       (queue_now agree) in
       closes_timer i.threshold v
       (record {
@@ -211,10 +213,10 @@ module _ {i : Inside} (now : IsInside i) where
         mono = now.may.timed;
         columns = columns_now leaves.long;
         counted = counted ∙ ap (λ (ys : List Entry). length ys) (sym (queue_here i.z.app i.z.who i.queues x es));
-        spelled =
-            spelled_put i.z.app (slice_index after) es content i.queues ws x
-            (subst (λ (k : Content). (storage i.z.app).Spells (Guarded x) (slice_index after) es k) (sym is)
-            (timer_back _ _ _ now.taken.spelled leaves.spells));
+        represented =
+            represented_put i.z.app (slice_index after) es content i.queues ws x
+            (subst (λ (k : Content). (storage i.z.app).Represents (Guarded x) (slice_index after) es k) (sym is)
+            (timer_back _ _ _ now.taken.represented leaves.represents));
         few = subst (λ (k : Content). (timer_content k).given + (timer_content k).moved ≤ 2 ^ 32)
             (sym (put_here i.z.app i.z.who ws x content ∙ is)) leaves.few;
       }) refl refl refl
@@ -223,24 +225,25 @@ module _ {i : Inside} (now : IsInside i) where
       (agree_left tt enter now.taken content later agree))
 
 -- What is left as it was with a message more in the hands is left as it was.
-pub own_on : (z : Setting) (h : Here) {e : Entry} {mid cells : List ℕ} {more queues : Holder → List Entry}
-    → LeavesMine (storage z.app) z.who (spot z h) mid more
-    → LeavesMine (storage z.app) z.who (spot z (record h { places = e ∷ h.places; cells = mid; queues = more })) cells
+pub own_on : (z : Setting) (h : Here) {e : Entry} {mid cells : List ℕ} {more queues : Location → List Entry}
+    → LeavesMine (storage z.app) z.who (configuration z h) mid more
+    → LeavesMine (storage z.app) z.who
+    (configuration z (record h { places = e ∷ h.places; cells = mid; queues = more })) cells
     queues
-    → LeavesMine (storage z.app) z.who (spot z h) cells queues
+    → LeavesMine (storage z.app) z.who (configuration z h) cells queues
 own_on z h {e = e} {mid = mid} {more = more} first second = record {
   long = second.long ∙ first.long;
   touched = λ cell may.
       second.touched cell
-      (may_load (storage z.app) z.who (spot z h)
-      (spot z (record h { places = e ∷ h.places; cells = mid; queues = more })) ((storage z.app).home cell)
-      (λ holder read. read) more_mine may)
+      (may_load (storage z.app) z.who (configuration z h)
+      (configuration z (record h { places = e ∷ h.places; cells = mid; queues = more })) ((storage z.app).home cell)
+      (λ location read. read) more_mine may)
       ∙ first.touched cell may;
-  queued = λ holder own. second.queued holder own ∙ first.queued holder own;
+  queued = λ location own. second.queued location own ∙ first.queued location own;
 }
   where
-    more_mine : (y : Entry) → 0 < mine (spot z h) y
-        → 0 < mine (spot z (record h { places = e ∷ h.places; cells = mid; queues = more })) y
+    more_mine : (y : Entry) → 0 < mine (configuration z h) y
+        → 0 < mine (configuration z (record h { places = e ∷ h.places; cells = mid; queues = more })) y
     more_mine y some =
         let same : queued more y h.held ≡ queued h.queues y h.held =
         queues_same h.queues more y h.held
@@ -248,7 +251,7 @@ own_on z h {e = e} {mid = mid} {more = more} first second = record {
         omega (arith, some, same, count_more y e h.places)
 
 -- the call in the frame of a job
-abbrev pub of_job : Call → Spot → Call
+abbrev pub of_job : Call → Configuration → Call
 of_job c s = record c { z = record c.z { caller = s.caller } }
 
 -- the task that a call site names
@@ -257,10 +260,10 @@ task_of c named = record { accepted = named.accepted; at = named.is_there; softw
 
 -- The code of a call stands for its actions where it is correct: a job that may use the timer queue may call, and
 -- behind the call the answer is in the first slot, and slots outside the window are as they were.
-pub stands_called : (c : Call) (s : Spot) {lines : List Line} {doing : Rest} {steps n : ℕ}
+pub stands_called : (c : Call) (s : Configuration) {lines : List Line} {doing : Rest} {steps n : ℕ}
     → Spawned c.z.app c.task c.t → IsSome c.z.app.mono → MayUseTimer c.z.app c.z.who steps c.threshold c.slot s
     → HasCode c.z.code s.address lines → s.rest ≡ doing c.values
-    → ((k : ℕ) → Begins (of_job c s) steps lines doing (begun s k) → S (of_job c s).z (begun s k))
+    → ((k : ℕ) → IsViablePrefix (of_job c s) steps lines doing (begun s k) → S (of_job c s).z (begun s k))
     → StandsBefore c.z.app c.z.who c.z.code c.z.bodies c.z.thread steps c.slot lines c.rest n s c.values
 stands_called c s {steps = steps} facts mono uses has is correct = λ on k enough.
     let may : MayCall (of_job c s) steps (begun s k) = record {

@@ -18,29 +18,30 @@ use Rattle.rt_gen_queue.proofs.Entering.{MayEnter, agree_left, enters, leaves, o
 use Rattle.rt_gen_queue.proofs.Entering.{section_stands}
 use Rattle.rt_gen_queue.proofs.Facts.{capacity, few_free, free_top}
 use Rattle.rt_gen_queue.proofs.Layer.{Here, Now, S, calculates, ends, jumps, loads, moved, reads_open, sets}
-use Rattle.rt_gen_queue.proofs.Layer.{spot, stores_at, writes_open}
-use Rattle.rt_gen_queue.proofs.Owning.{free_back, free_spelled, is_inside, nobody_keeps, spelled_put}
+use Rattle.rt_gen_queue.proofs.Layer.{configuration, stores_at, writes_open}
+use Rattle.rt_gen_queue.proofs.Owning.{free_back, free_represented, is_inside, nobody_keeps, represented_put}
 use Rattle.rt_gen_queue.proofs.Returning.{IsGiven, Returned, free_home, frees, given_back, room_left}
 use Rattle.rt_gen_timer.proofs.{Alone.instant_in, Alone.number_in, Comparing.LoopEnd, Delaying.at_address}
 use Rattle.rt_gen_timer.proofs.{Marking.cancels, Rowing.taken_off, Settling.reach_enough, Window.Words, Window.words}
 use Rattle.rt_gen_timer.proofs.Acting.{code_first, code_part, run_stands, sooner}
-use Rattle.rt_gen_timer.proofs.Calling.{Begins, Call, HasCalled, Left, at_work, behind_call, call_of, columns_now}
+use Rattle.rt_gen_timer.proofs.Calling.{IsViablePrefix, Call, HasCalled, Left, at_work, behind_call, call_of}
+use Rattle.rt_gen_timer.proofs.Calling.{columns_now}
 use Rattle.rt_gen_timer.proofs.Calling.{f, leaving_code, leaving_fits, on_window, own_on, settles, stands_called}
 use Rattle.rt_gen_timer.proofs.Calling.{task_of}
 use Rattle.rt_gen_timer.proofs.Leaving.{IsAsBefore, alone, timer_left}
 use Rattle.rt_gen_timer.proofs.Removing.{IsRemoved, Removal, removed, removes_stand}
 use Rattle.rt_gen_timer.proofs.Seeking.{IsSeen, MaySeek, Taken, runs_call, runs_seen, seeks, seen}
 use Rattle.rt_gen_timer.proofs.Seeking.{seen_words}
-use Rattle.rt_gen_timer.proofs.Spelled.{few_armings, place_of, row_of, spelled_whole}
+use Rattle.rt_gen_timer.proofs.Represented.{few_armings, place_of, row_of, represented_whole}
 use Rattle.rt_gen_timer.specs.TimerCalls.{CancelsStand, MayUsePlaces, handle_steps}
 use Rattle.rt_gen_timer.specs.TimerCode.{cancel_code, queue_of}
 use Rattle.rt_gen_timer.specs.TimerLines.{alarm_lines, answer_lines, calc, free_lines, set}
 
 -- what is asked of it beside what is asked of each call
 record AsksCancel (c : Call) (handle : ℕ) (h : Here) : Type 0 where
-  pub call : Begins c (handle_steps c.z.app) (cancel_code c.z.app c.task c.threshold c.slot h.at)
+  pub call : IsViablePrefix c (handle_steps c.z.app) (cancel_code c.z.app c.task c.threshold c.slot h.at)
       (cancel_actions c.z.app (handle_section_cost c.z.app) c.task handle (c.rest 0) (c.rest 1)) h
-  pub places : MayUsePlaces c.z.app c.z.who c.task (spot c.z h)
+  pub places : MayUsePlaces c.z.app c.z.who c.task (configuration c.z h)
   pub shown : slice_index h.slots c.slot ≡ handle
 
 module _ {c : Call} {handle : ℕ} {h : Here} (k : AsksCancel c handle h) where
@@ -55,8 +56,8 @@ module _ {c : Call} {handle : ℕ} {h : Here} (k : AsksCancel c handle h) where
   abbrev last_lines : List Line
   last_lines = line_with_note instr.Mark (note.Cancel task 0) ∷ alarm_lines (queue_of app) 0 (h.at + 72)
 
-  abbrev place_lines : List Line
-  place_lines = set (queue_of app) 0 13 (capacities_before app task) ∷ calc (queue_of app) 0 op.Sub 7 7 13 ∷ []
+  abbrev place_of_row_lines : List Line
+  place_of_row_lines = set (queue_of app) 0 13 (capacities_before app task) ∷ calc (queue_of app) 0 op.Sub 7 7 13 ∷ []
 
   -- what is left to do with the message in the hands
   abbrev freed_rest : Rest
@@ -95,7 +96,7 @@ module _ {c : Call} {handle : ℕ} {h : Here} (k : AsksCancel c handle h) where
     pub in_time : b.done + 8 ≤ h.done + handle_steps app
     pub place_is : b.words.place ≡ e.place
     pub one_is : b.words.one ≡ 1
-    pub own : LeavesMine (storage app) who (spot z h) b.cells b.queues
+    pub own : LeavesMine (storage app) who (configuration z h) b.cells b.queues
     pub agree : Agree (storage app) who h.held b.values c.values
 
   module _ {e : Entry} (b : Left) (back : HasBack e b) where
@@ -138,7 +139,7 @@ module _ {c : Call} {handle : ℕ} {h : Here} (k : AsksCancel c handle h) where
           task = may.facts;
           long = long;
           content = vs (Guarded x);
-          spells = free_spelled app task (slice_index cells) entries (vs (Guarded x)) taken.spelled;
+          represents = free_represented app task (slice_index cells) entries (vs (Guarded x)) taken.represented;
           less =
               omega (arith, back.place, ap (capacity_of app) back.of_task, capacity app task c.t may.facts);
           once = λ y.
@@ -155,7 +156,7 @@ module _ {c : Call} {handle : ℕ} {h : Here} (k : AsksCancel c handle h) where
         loads n
         (reads_open
         (record { opens = opens; long = long; home = home (free_at app task) 0 (omega arith) (omega arith) })
-        known.spells.count)
+        known.represents.count)
         (stores_at n e.place refl back.place_is
         (writes_open (record { opens = opens; long = long; home = home _ (suc n) (omega arith) few }))
         (λ placed first.
@@ -174,11 +175,11 @@ module _ {c : Call} {handle : ℕ} {h : Here} (k : AsksCancel c handle h) where
         let same : ws (Guarded x) ≡ vs (Guarded x) = agree (Guarded x) (reads_it tt enter taken) in
         let own = own_left tt enter taken (given_up ∷ entries) left given.long given.elsewhere in
         leaves threshold refl refl refl
-        (spelled_put app (slice_index left) (given_up ∷ entries) content queues ws x
+        (represented_put app (slice_index left) (given_up ∷ entries) content queues ws x
         (subst
-        (λ (c : Content). (storage app).Spells (Guarded x) (slice_index left) (given_up ∷ entries)
+        (λ (c : Content). (storage app).Represents (Guarded x) (slice_index left) (given_up ∷ entries)
         (Number (number c - 1))) (sym same)
-        (free_back (slice_index cells) entries (vs (Guarded x)) taken.spelled given.spells)))
+        (free_back (slice_index cells) entries (vs (Guarded x)) taken.represented given.represents)))
         (λ us later.
         ends
         (moved (steps_and 6 b.done) (h.at + 87) refl (omega arith)
@@ -195,13 +196,13 @@ module _ {c : Call} {handle : ℕ} {h : Here} (k : AsksCancel c handle h) where
           answered = refl;
           in_time = omega (arith, back.in_time);
           own = own_on z h back.own (record { long = own.long; touched = own.touched; queued = own.queued });
-          agree = λ holder read.
-              agree_left tt enter taken content later agree holder read ∙ back.agree holder read;
+          agree = λ location read.
+              agree_left tt enter taken content later agree location read ∙ back.agree location read;
         }))))))))))
 
   module _ {o : Taken} {done j : ℕ} (is : IsSeen seek o done j) where
     abbrev e : Entry
-    e = at is.now.spells.heap j
+    e = at is.now.represents.heap j
 
     abbrev removal : Removal
     removal = record {
@@ -209,16 +210,16 @@ module _ {c : Call} {handle : ℕ} {h : Here} (k : AsksCancel c handle h) where
       row = armed_place app;
       instant = instant_in app o.cells;
       arming = number_in app o.cells;
-      heap = is.now.spells.heap;
-      all = length is.now.spells.heap;
-      size = length is.now.spells.heap - 1;
+      heap = is.now.represents.heap;
+      all = length is.now.represents.heap;
+      size = length is.now.represents.heap - 1;
       position = j;
-      rising = length is.now.spells.heap;
-      turns = length is.now.spells.heap;
+      rising = length is.now.represents.heap;
+      turns = length is.now.represents.heap;
     }
 
-    few : length is.now.spells.heap ≤ armed_messages app
-    few = omega (arith, is.now.spells.arranged.long, is.now.spells.room)
+    few : length is.now.represents.heap ≤ armed_messages app
+    few = omega (arith, is.now.represents.arranged.long, is.now.represents.room)
 
     most : armed_messages app ≤ 16 * 64
     most = few_messages app may.facts.accepted
@@ -234,23 +235,24 @@ module _ {c : Call} {handle : ℕ} {h : Here} (k : AsksCancel c handle h) where
       pub shown : v.answer ≡ handle
       pub place : v.place ≡ armed_place app e
       pub one : v.one ≡ 1
-      pub count : v.count ≡ length is.now.spells.heap - 1
+      pub count : v.count ≡ length is.now.represents.heap - 1
 
     -- Behind the removal the mark takes it into the hands, and the section closes.
     takes_out : {b : LoopEnd} (v : Words) → AreOut v → IsRemoved removal (here done (h.at + 17) o.cells) b
         → S z (Now (f may) (here b.done (h.at + 71) b.cells) (words v))
     takes_out {b = b} v are gone =
         let first : ℕ = capacities_before app task in
-        let place = place_of is.now.spells j is.inside in
-        let row : armed_place app e < armed_messages app = row_of is.now.spells j is.inside in
+        let place = place_of is.now.represents j is.inside in
+        let row : armed_place app e < armed_messages app = row_of is.now.represents j is.inside in
         let same : capacities_before app e.task ≡ first = ap (capacities_before app) is.of_task in
-        let armings = few_armings is.now.spells is.now.taken.few in
+        let armings = few_armings is.now.represents is.now.taken.few in
         let kept : IsAsBefore app o.cells b.cells = record { cells = gone.others } in
-        let again = timer_left may.timed kept is.now.spells is.found gone.without gone.whole gone.count in
-        run_stands (here b.done (h.at + 71) b.cells) v (last_lines ++ leave app section.Timer threshold 9 ∷ place_lines)
+        let again = timer_left may.timed kept is.now.represents is.found gone.without gone.whole gone.count in
+        run_stands (here b.done (h.at + 71) b.cells) v (last_lines ++ leave app section.Timer threshold 9
+        ∷ place_of_row_lines)
         (runs_seen seek) (omega (arith, gone.within, is.early, few))
-        (leaving_fits app threshold last_lines place_lines refl refl)
-        (leaving_code z (f may) threshold (h.at + 71) last_lines place_lines (code_part code h.at all 71 10 has))
+        (leaving_fits app threshold last_lines place_of_row_lines refl refl)
+        (leaving_code z (f may) threshold (h.at + 71) last_lines place_of_row_lines (code_part code h.at all 71 10 has))
         (cancels are.shown
         (record {
           opens = is_inside app who h.held (opened z (f may) section.Timer threshold) section.Timer refl;
@@ -260,7 +262,7 @@ module _ {c : Call} {handle : ℕ} {h : Here} (k : AsksCancel c handle h) where
         (λ ws agree.
         at_address (h.at + 72) (omega arith)
         (settles is.now (with_cancelled task handle) v
-        (record { spells = again; few = omega (arith, armings); alone = alone may.timed kept; long = gone.long })
+        (record { represents = again; few = omega (arith, armings); alone = alone may.timed kept; long = gone.long })
         agree (are.count ∙ sym gone.count ∙ again.count)
         (λ last other us early own later.
         sets
@@ -290,7 +292,7 @@ module _ {c : Call} {handle : ℕ} {h : Here} (k : AsksCancel c handle h) where
     -- The message at a position in the heap leaves it and comes into the hands.
     found : (x r : ℕ) → S z (Now (f may) (here done (h.at + 17) o.cells) (words (seen_words seek is x r)))
     found x r =
-        let n : ℕ = length is.now.spells.heap in
+        let n : ℕ = length is.now.represents.heap in
         let v : Words = seen_words seek is x r in
         removes_stand {r = removal} v
         (record {
@@ -302,8 +304,8 @@ module _ {c : Call} {handle : ℕ} {h : Here} (k : AsksCancel c handle h) where
           fewer = omega (arith, is.inside);
           inside = omega (arith, is.inside);
           columns = columns_now is.now refl;
-          whole = spelled_whole o.cells is.now.spells is.now.taken.few;
-          order = is.now.spells.arranged.order;
+          whole = represented_whole o.cells is.now.represents is.now.taken.few;
+          order = is.now.represents.arranged.order;
         })
         (λ b hand t a u gone.
         moved b.done (h.at + 71) refl (omega arith)
@@ -321,7 +323,7 @@ module _ {c : Call} {handle : ℕ} {h : Here} (k : AsksCancel c handle h) where
 pub cancels_all_stand : CancelsStand
 cancels_all_stand c named timed a n =
     let doing : Rest = cancel_actions c.app (handle_section_cost c.app) c.task a.handle (c.rest 0) (c.rest 1) in
-    stands_called (call_of c) c.spot {doing = doing} (task_of c named) timed a.may a.has a.is
+    stands_called (call_of c) c.configuration {doing = doing} (task_of c named) timed a.may a.has a.is
     (λ until call.
     cancel_goes (record {
       call = call;

@@ -1,19 +1,20 @@
 -- The end of a section of the timer queue: the alarm is set to the least armed instant, which is that of the heap's
 -- first message, or to none where nothing is armed, and the section closes.
-use Rattle.rt_gen_queue.proofs.Vocabulary.{Agree, App, Content, Entry, Guarded, HasCode, Held, IsAccepted, IsSome, Line}
+use Rattle.rt_gen_queue.proofs.Vocabulary.{Agree, App, Content, Entry, Guarded, HasCode, OpenSection, IsAccepted}
+use Rattle.rt_gen_queue.proofs.Vocabulary.{IsSome, Line}
 use Rattle.rt_gen_queue.proofs.Vocabulary.{List, Rest, SetsAlarm, Some, Values, [], and_both, ap, arith, armed_place}
 use Rattle.rt_gen_queue.proofs.Vocabulary.{delays, does, guard_of, least_instant, leave, leave_timer, length, map}
 use Rattle.rt_gen_queue.proofs.Vocabulary.{map-append, owns_open, owns_reads, reads, reads_more, refl, slice_index}
 use Rattle.rt_gen_queue.proofs.Vocabulary.{storage, subst, suc, sym, timer_content, true, ℕ, ◌++◌, ◌+◌, ◌^◌, ◌∙◌, ◌∷◌}
 use Rattle.rt_gen_queue.proofs.Vocabulary.{◌≡◌, ◌≤◌}
 use Rattle.rt_ids.specs.declared.ids.Section.TheVariants as section
-use Rattle.rt_gen_queue.proofs.{Numbers.steps_and, Owning.timer_spelled}
+use Rattle.rt_gen_queue.proofs.{Numbers.steps_and, Owning.timer_represented}
 use Rattle.rt_gen_queue.proofs.Entering.{fits_append, leave_fits, leave_placed, leaves, opened}
 use Rattle.rt_gen_queue.proofs.Layer.{Here, Setting, Straight, alarms, all_fit, fits, loads, loads_at, no_alarm, placed}
 use Rattle.rt_gen_queue.proofs.Layer.{reads_open, skips, skips_off, stays}
 use Rattle.rt_gen_timer.proofs.{Acting.Columns, Acting.first_open, Acting.instant_open, Alone.instant_in}
 use Rattle.rt_gen_timer.proofs.{Alone.number_in, Delaying.at_address, Hollow.IsFirst, Opening.timer_irq}
-use Rattle.rt_gen_timer.proofs.{Spelled.first_within, Window.Slots, Window.Words, Window.words}
+use Rattle.rt_gen_timer.proofs.{Represented.first_within, Window.Slots, Window.Words, Window.words}
 use Rattle.rt_gen_timer.specs.{TimerCode.queue_of, TimerLines.alarm_lines}
 
 -- the alarm is set within 5 steps; only one slot is written
@@ -40,19 +41,19 @@ alarm_stands {z = z} {h = h} w (e ∷ others) columns timer (counted, room) (sho
     (alarms timer columns.opens doing least
     (λ vs agree. skips 1 (omega arith) (on (steps_and 5 h.done) instant vs (omega arith) agree)))))
 
--- The section may close: its cells spell what it is given back as, and a slot has how many messages are armed.
+-- The section may close: its cells represent what it is given back as, and a slot has how many messages are armed.
 pub record MayClose (z : Setting) (h : Here) (w : Words) (values : Values) : Type 0 where
   pub accepted : IsAccepted z.app
   pub mono : IsSome z.app.mono
   pub columns : Columns z (queue_of z.app) h.held h.cells
   pub counted : w.count ≡ length (h.queues (Guarded section.Timer))
-  pub spelled : (storage z.app).Spells (Guarded section.Timer) (slice_index h.cells)
+  pub represented : (storage z.app).Represents (Guarded section.Timer) (slice_index h.cells)
       (h.queues (Guarded section.Timer)) (values (Guarded section.Timer))
   pub few : (timer_content (values (Guarded section.Timer))).given
       + (timer_content (values (Guarded section.Timer))).moved ≤ 2 ^ 32
 
 -- It closes within 6 steps, with the alarm set; only one slot is written.
-pub closes_timer : {z : Setting} {f : Slots} {lines : List Line} {h : Here} {outer : List Held} {deadline : ℕ}
+pub closes_timer : {z : Setting} {f : Slots} {lines : List Line} {h : Here} {outer : List OpenSection} {deadline : ℕ}
     {around : List ℕ} {rest : Rest} {values : Values} (threshold : ℕ) (w : Words) → MayClose z h w values
     → h.held ≡ opened z f section.Timer threshold ∷ outer → h.deadlines ≡ deadline ∷ around
     → h.rest ≡ leave_timer z.app rest values
@@ -63,7 +64,7 @@ pub closes_timer : {z : Setting} {f : Slots} {lines : List Line} {h : Here} {out
     → Straight z f (alarm_lines (queue_of z.app) 0 h.at ++ leave z.app section.Timer threshold 9 ∷ lines) h (words w)
 closes_timer {z = z} {f = f} {h = h} {outer = outer} {values = values} threshold w may innermost last doing on =
     let x = section.Timer in
-    let s = timer_spelled z.app (slice_index h.cells) (h.queues (Guarded x)) (values (Guarded x)) may.spelled in
+    let s = timer_represented z.app (slice_index h.cells) (h.queues (Guarded x)) (values (Guarded x)) may.represented in
     let t_is : timer_content (values (Guarded x)) ≡ s.timed = ap timer_content s.is in
     alarm_stands w s.heap may.columns (timer_irq z.app may.accepted may.mono)
     (may.counted ∙ sym s.arranged.long, omega (arith, s.room, s.arranged.long))
@@ -72,16 +73,16 @@ closes_timer {z = z} {f = f} {h = h} {outer = outer} {values = values} threshold
     let inside : reads (storage z.app) z.who h.held (Guarded x) ≡ true =
     owns_reads (storage z.app) z.who h.held (Guarded x) (owns_open (storage z.app) z.who h.held x may.columns.opens) in
     leaves threshold innermost last refl
-    (subst (λ (c : Content). (storage z.app).Spells (Guarded x) (slice_index h.cells) (h.queues (Guarded x)) c)
-    (sym (agree (Guarded x) inside)) may.spelled)
+    (subst (λ (c : Content). (storage z.app).Represents (Guarded x) (slice_index h.cells) (h.queues (Guarded x)) c)
+    (sym (agree (Guarded x) inside)) may.represented)
     (λ us after.
     at_address (h.at + 7) (omega arith)
     (on (suc done) other us (omega (arith, soon))
-    (λ holder can.
-    after holder can
-    ∙ agree holder
-    (subst (λ (held : List Held). reads (storage z.app) z.who held holder ≡ true) (sym innermost)
-    (reads_more (storage z.app) z.who (opened z f x threshold) outer holder can))))))
+    (λ location can.
+    after location can
+    ∙ agree location
+    (subst (λ (held : List OpenSection). reads (storage z.app) z.who held location ≡ true) (sym innermost)
+    (reads_more (storage z.app) z.who (opened z f x threshold) outer location can))))))
 
 module _ (app : App) (threshold : ℕ) where
   -- lines with one that leaves the section among them: that they fit the window, and where they are numbered from

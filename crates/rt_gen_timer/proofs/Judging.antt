@@ -2,9 +2,11 @@
 -- section of the timer queue opens and by the clock the first message of the heap is due, or none is; and that it
 -- returns where none is.
 use Rattle.rt_gen_queue.proofs.Vocabulary.{Agree, App, Armed, At, AtPriority, BodyRow, Bool, Clocks, Content, Delays}
-use Rattle.rt_gen_queue.proofs.Vocabulary.{Doing, Entry, Fires, Guarded, HasCode, Held, Holder, Home, IsAccepted}
+use Rattle.rt_gen_queue.proofs.Vocabulary.{Doing, Entry, Fires, Guarded, HasCode, OpenSection, Location, Home}
+use Rattle.rt_gen_queue.proofs.Vocabulary.{IsAccepted}
 use Rattle.rt_gen_queue.proofs.Vocabulary.{IsSome, IsTimedPlace, IsWithin, LeavesMine, Line, List, MayLoad, None}
-use Rattle.rt_gen_queue.proofs.Vocabulary.{Number, Option, Own, Rest, Returns, Some, Spot, Values, [], act, act_all}
+use Rattle.rt_gen_queue.proofs.Vocabulary.{Number, Option, Own, Rest, Returns, Some, Configuration, Values, [], act}
+use Rattle.rt_gen_queue.proofs.Vocabulary.{act_all}
 use Rattle.rt_gen_queue.proofs.Vocabulary.{and_both, ap, arith, arming_of_entry, armed_place, at, cases_lt, ceiling}
 use Rattle.rt_gen_queue.proofs.Vocabulary.{delays}
 use Rattle.rt_gen_queue.proofs.Vocabulary.{does, drop, home_of, if◌then◌else◌, inl, inr, le-leb, le-ltb, leave_timer}
@@ -17,41 +19,42 @@ use Rattle.rt_ids.specs.declared.ids.Section.TheVariants as section
 use Rattle.rt_app.specs.Doings.{due, fire_doing, timer_doing_in}
 use Rattle.rt_code.proofs.Mine.{owns_kept}
 use Rattle.rt_code.specs.declared.instr.Instr.TheVariants as instr
-use Rattle.rt_gen_queue.proofs.{Numbers.steps_and, Owning.home_as, Owning.timer_spelled}
+use Rattle.rt_gen_queue.proofs.{Numbers.steps_and, Owning.home_as, Owning.timer_represented}
 use Rattle.rt_gen_queue.proofs.Entering.{enter_fits, enter_placed, enters, opened, saves_below, saves_inside}
 use Rattle.rt_gen_queue.proofs.Layer.{Here, Now, S, Setting, Straight, calculates, clocks, ends, jumps_off, loads}
-use Rattle.rt_gen_queue.proofs.Layer.{loads_at, next_in_time, reads_open, returns_here, sets, spot, stays}
+use Rattle.rt_gen_queue.proofs.Layer.{loads_at, next_in_time, reads_open, returns_here, sets, configuration, stays}
 use Rattle.rt_gen_timer.proofs.{Alone.instant_in, Arranged.IsLeast, Arranged.first_is_armed, Arranged.none_armed}
 use Rattle.rt_gen_timer.proofs.{Delaying.at_here, Delaying.rest_is, Opening.MayOpen, Opening.may_enter, Window.Slots}
 use Rattle.rt_gen_timer.proofs.{Window.Words, Window.words}
 use Rattle.rt_gen_timer.proofs.Acting.{Columns, code_first, code_part, count_open, first_open, instant_open, run_stands}
 use Rattle.rt_gen_timer.proofs.Calling.{Inside, IsInside, at_work, columns_now, entries, queue_now}
 use Rattle.rt_gen_timer.proofs.Closing.{closes_timer, closing_fit, closing_lines, closing_placed}
-use Rattle.rt_gen_timer.proofs.Spelled.{few_armings, row_of, spelled_column, spelled_count}
+use Rattle.rt_gen_timer.proofs.Represented.{few_armings, row_of, represented_column, represented_count}
 use Rattle.rt_gen_timer.specs.{TimerCode.queue_of, TimerCode.timer_code, TimerLines.due_lines, TimerLines.heap_of}
 
--- what a priority keeps is spelled
-pub record AreKept (app : App) (threshold : ℕ) (cells : List ℕ) (queues : Holder → List Entry) (vs : Values) : Type
+-- what a priority keeps is represented
+pub record AreKept (app : App) (threshold : ℕ) (cells : List ℕ) (queues : Location → List Entry) (vs : Values) : Type
     0 where
-  pub spells : (h : Holder) → (storage app).is_kept (AtPriority threshold) h ≡ true
-      → (storage app).Spells h (slice_index cells) (queues h) (vs h)
+  pub represents : (h : Location) → (storage app).is_kept (AtPriority threshold) h ≡ true
+      → (storage app).Represents h (slice_index cells) (queues h) (vs h)
 
--- Others leave it: it is spelled by cells of its own alone.
-pub kept_on : {app : App} {threshold : ℕ} {s : Spot} {after : List ℕ} {later : Holder → List Entry} {vs ws : Values}
+-- Others leave it: it is represented by cells of its own alone.
+pub kept_on : {app : App} {threshold : ℕ} {s : Configuration} {after : List ℕ} {later : Location
+    → List Entry} {vs ws : Values}
     → AreKept app threshold s.cells s.queues vs → LeavesMine (storage app) (AtPriority threshold) s after later
     → Agree (storage app) (AtPriority threshold) [] ws vs → AreKept app threshold after later ws
 unfolding storage
 kept_on {app = app} {threshold = threshold} {s = s} {after = after} {later = later} {vs = vs} {ws = ws} kept left
     agree =
-    record { spells = go }
+    record { represents = go }
   where
-    readable : (held : List Held) (h : Holder) → (storage app).is_kept (AtPriority threshold) h ≡ true
+    readable : (held : List OpenSection) (h : Location) → (storage app).is_kept (AtPriority threshold) h ≡ true
         → reads (storage app) (AtPriority threshold) held h ≡ true
     readable held h own =
         owns_reads (storage app) (AtPriority threshold) held h
         (owns_kept (storage app) (AtPriority threshold) held h own)
 
-    one : (c : ℕ) (h : Holder) → (storage app).is_kept (AtPriority threshold) h ≡ true → home_of app c ≡ At h
+    one : (c : ℕ) (h : Location) → (storage app).is_kept (AtPriority threshold) h ≡ true → home_of app c ≡ At h
         → vs h ≡ Number (slice_index s.cells c) → ws h ≡ Number (slice_index after c)
     one c h own home is =
         let may : MayLoad (storage app) (AtPriority threshold) s ((storage app).home c) =
@@ -59,16 +62,16 @@ kept_on {app = app} {threshold = threshold} {s = s} {after = after} {later = lat
         (readable s.held h own) in
         agree h (readable [] h own) ∙ is ∙ ap Number (sym (left.touched c may))
 
-    go : (h : Holder) → (storage app).is_kept (AtPriority threshold) h ≡ true
-        → (storage app).Spells h (slice_index after) (later h) (ws h)
+    go : (h : Location) → (storage app).is_kept (AtPriority threshold) h ≡ true
+        → (storage app).Represents h (slice_index after) (later h) (ws h)
     go (Guarded (section.Res r)) own =
-        let x : Holder = Guarded (section.Res r) in
-        let was = kept.spells x own in (was.0, one r x own (resource_is_home app r was.0) was.1)
+        let x : Location = Guarded (section.Res r) in
+        let was = kept.represents x own in (was.0, one r x own (resource_is_home app r was.0) was.1)
     go (Guarded (section.Free n)) own = absurd cc
     go (Guarded (section.Ready p)) own = absurd cc
     go (Guarded section.Timer) own = absurd cc
     go (Own n) own =
-        let was = kept.spells (Own n) own in
+        let was = kept.represents (Own n) own in
         (was.0, one (length app.shared + n) (Own n) own (local_is_home app n was.0) was.1)
 
 -- A timer handler: its code, its threshold, its cost, the address where it begins, the slots behind its window, and
@@ -83,7 +86,7 @@ pub record Handler : Type 0 where
   pub first : ℕ
   pub back : List ℕ
   pub cells : List ℕ
-  pub queues : Holder → List Entry
+  pub queues : Location → List Entry
   pub values : Values
 
 abbrev pub setting : Handler → Setting
@@ -158,7 +161,7 @@ pub record Took : Type 0 where
   pub vs : Values
   pub us : Values
   pub cells : List ℕ
-  pub queues : Holder → List Entry
+  pub queues : Location → List Entry
 
 abbrev pub inside : Handler → Took → Inside
 inside k d = record {
@@ -177,7 +180,7 @@ inside k d = record {
 abbrev pub in_section : (k : Handler) → Took → (done at : ℕ) → List ℕ → Doing Values → Here
 in_section k d done at cells rest = at_work (inside k d) done at [] cells d.queues rest
 
--- what is known there: what the queue spells, and that what may be read is as it was then
+-- what is known there: what the queue represents, and that what may be read is as it was then
 pub record Known (k : Handler) (d : Took) : Type 0 where
   pub now : IsInside (inside k d)
   pub agree : Agree (storage k.app) (AtPriority k.threshold) (opened (setting k) (frame k) section.Timer k.threshold
@@ -199,31 +202,32 @@ judged_words w mask time n row instant other = record w {
 
 module _ {k : Handler} {d : Took} (known : Known k d) where
   -- the queue's content is what was taken over
-  pub same_timed : d.us (Guarded section.Timer) ≡ Delays known.now.spells.timed
+  pub same_timed : d.us (Guarded section.Timer) ≡ Delays known.now.represents.timed
   same_timed = queue_now known.now known.agree
 
   -- the first message of the heap, and its instant
   abbrev pub foremost : Entry
-  foremost = at known.now.spells.heap 0
+  foremost = at known.now.represents.heap 0
 
   abbrev pub foremost_instant : ℕ
   foremost_instant = instant_in k.app d.cells foremost
 
   armed_are : delays (d.us (Guarded section.Timer)) ≡ map (arming_of_entry k.app (slice_index d.cells))
       (entries (inside k d))
-  armed_are = ap delays same_timed ∙ known.now.spells.messages
+  armed_are = ap delays same_timed ∙ known.now.represents.messages
 
   -- nothing is due where nothing is armed
-  none_due : (time : ℕ) → length known.now.spells.heap ≡ 0 → clock_rest k.app time d.us ≡ idle_rest k.app d.us
+  none_due : (time : ℕ) → length known.now.represents.heap ≡ 0 → clock_rest k.app time d.us ≡ idle_rest k.app d.us
   none_due time none =
       ap (λ armed. fire_doing k.app (due k.app time armed) d.us)
-      (armed_are ∙ ap (map (arming_of_entry k.app (slice_index d.cells))) (none_armed known.now.spells.arranged none))
+      (armed_are ∙ ap (map (arming_of_entry k.app (slice_index d.cells)))
+      (none_armed known.now.represents.arranged none))
 
-  module _ (some : 0 < length known.now.spells.heap) where
+  module _ (some : 0 < length known.now.represents.heap) where
     pub is_least : IsLeast (arming_of_entry k.app (slice_index d.cells)) (entries (inside k d)) foremost
     is_least =
-        first_is_armed known.now.spells.arranged (arming_of_entry k.app (slice_index d.cells)) (λ x. refl)
-        (omega (arith, few_armings known.now.spells known.now.taken.few)) some
+        first_is_armed known.now.represents.arranged (arming_of_entry k.app (slice_index d.cells)) (λ x. refl)
+        (omega (arith, few_armings known.now.represents known.now.taken.few)) some
 
     -- whether it is due decides it
     decides : (time : ℕ) {b : Bool} → nat_le foremost_instant time ≡ b
@@ -239,11 +243,11 @@ module _ {k : Handler} {d : Took} (known : Known k d) where
 module _ {k : Handler} (may : MayHandle k) where
   -- No message is due: the section closes with the alarm set, and it returns.
   idles : {d : Took} (known : Known k d) (done : ℕ) (v : Words) → done ≤ 10
-      → v.count ≡ length known.now.spells.heap
+      → v.count ≡ length known.now.represents.heap
       → S (setting k) (Now (frame k) (in_section k d done (k.first + 10) d.cells (idle_rest k.app d.us)) (words v))
   idles {d = d} known done v soon counted =
       let x = section.Timer in
-      let same : d.us (Guarded x) ≡ d.vs (Guarded x) = same_timed known ∙ sym known.now.spells.is in
+      let same : d.us (Guarded x) ≡ d.vs (Guarded x) = same_timed known ∙ sym known.now.represents.is in
       run_stands {f = frame k} {k = done + 8} (in_section k d done (k.first + 10) d.cells (idle_rest k.app d.us)) v
       (closing_lines k.app k.threshold (k.first + 10) (plain instr.Ret ∷ []))
       (record {
@@ -258,38 +262,39 @@ module _ {k : Handler} (may : MayHandle k) where
         accepted = may.accepted;
         mono = may.mono;
         columns = columns_now known.now refl;
-        counted = counted ∙ known.now.spells.arranged.long;
-        spelled = subst (λ (c : Content). (storage k.app).Spells (Guarded x) (slice_index d.cells)
-            (d.queues (Guarded x)) c) (sym same) known.now.taken.spelled;
+        counted = counted ∙ known.now.represents.arranged.long;
+        represented = subst (λ (c : Content). (storage k.app).Represents (Guarded x) (slice_index d.cells)
+            (d.queues (Guarded x)) c) (sym same) known.now.taken.represented;
         few = subst (λ (c : Content). (timer_content c).given + (timer_content c).moved ≤ 2 ^ 32)
             (sym (same_timed known))
-            (omega (arith, few_armings known.now.spells known.now.taken.few));
+            (omega (arith, few_armings known.now.represents known.now.taken.few));
       }) refl refl refl
       (λ finished other ws early agree.
       record {
         runs = λ run has. returns_here has.0 (next_in_time run) refl refl refl refl
-            (kept_on {s = spot (setting k) (begun k)} {after = d.cells} {later = d.queues} may.kept
+            (kept_on {s = configuration (setting k) (begun k)} {after = d.cells} {later = d.queues} may.kept
             (record {
               long = known.now.taken.same.long;
               touched = known.now.taken.same.touched;
               queued = known.now.taken.same.queued;
             })
-            (λ holder read.
-            agree holder read
-            ∙ known.agree holder
-            (reads_more (storage k.app) (AtPriority k.threshold) (opened (setting k) (frame k) x k.threshold) [] holder
+            (λ location read.
+            agree location read
+            ∙ known.agree location
+            (reads_more (storage k.app) (AtPriority k.threshold) (opened (setting k) (frame k) x k.threshold) []
+            location
             read)
-            ∙ known.now.taken.agree holder read)).spells;
+            ∙ known.now.taken.agree location read)).represents;
       }))
 
   -- what is told where the first message is due
   abbrev pub IsDue : Words → Type 0
   IsDue w =
-      (mask time other : ℕ) (d : Took) (known : Known k d) → 0 < length known.now.spells.heap
+      (mask time other : ℕ) (d : Took) (known : Known k d) → 0 < length known.now.represents.heap
       → S (setting k) (Now (frame k)
       (in_section k d 10 (k.first + 18) d.cells
       (due_rest k.app (arming_of_entry k.app (slice_index d.cells) (foremost known)) d.us))
-      (words (judged_words w mask time (length known.now.spells.heap) (armed_place k.app (foremost known))
+      (words (judged_words w mask time (length known.now.represents.heap) (armed_place k.app (foremost known))
       (foremost_instant known) other)))
 
   -- Behind the clock it is told within 6 steps more whether it is, or none is.
@@ -298,12 +303,12 @@ module _ {k : Handler} (may : MayHandle k) where
       (in_section k d 4 (steps_and 4 k.first) d.cells (clock_rest k.app time d.us))
       (words (record w { mask = mask; one = 1; two = 2; answer = time }))
   judges {d = d} known w mask time dues =
-      let s = known.now.spells in
+      let s = known.now.represents in
       let n : ℕ = length s.heap in
       let x = section.Timer in
       let columns : Columns (setting k) (queue_of k.app) (opened (setting k) (frame k) x k.threshold ∷ []) d.cells =
       columns_now known.now refl in
-      loads n (reads_open (count_open columns) (spelled_count s))
+      loads n (reads_open (count_open columns) (represented_count s))
       (elim (cases_lt 0 n) [
         | inr most ↦
             jumps_off (omega arith)
@@ -316,7 +321,7 @@ module _ {k : Handler} (may : MayHandle k) where
             stays some
             (loads row
             (reads_open (first_open columns (omega (arith, some, s.arranged.long, s.room)))
-            (ap (slice_index d.cells) none ∙ spelled_column s 0 some))
+            (ap (slice_index d.cells) none ∙ represented_column s 0 some))
             (loads_at row instant refl (reads_open (instant_open columns (row_of s 0 some)) refl)
             (calculates (number_of (nat_lt time instant)) refl
             (elim (cases_lt time instant) [
@@ -358,6 +363,7 @@ module _ {k : Handler} (may : MayHandle k) where
         may = may_open may;
         long = may.long;
         taken = taken;
-        spells = timer_spelled k.app (slice_index cells) (queues (Guarded x)) (vs (Guarded x)) taken.spelled;
+        represents = timer_represented k.app (slice_index cells) (queues (Guarded x))
+            (vs (Guarded x)) taken.represented;
       } in
       judges {d = d} (record { now = now; agree = agree }) w mask time dues)))))

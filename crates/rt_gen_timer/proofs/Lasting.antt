@@ -1,7 +1,7 @@
--- What the cells of the timer queue spell where a message goes last, armed for the first time or again: its row has its
--- instant, the next number and its handle, the rows of the others are as before, and the heap is in order.
+-- What the cells of the timer queue represent where a message goes last, armed for the first time or again: its row has
+-- its instant, the next number and its handle, the rows of the others are as before, and the heap is in order.
 use Rattle.rt_gen_queue.proofs.Vocabulary.{AllByRecursion, App, AreHandled, Armed, Delays, Entry, IsArranged, IsSome}
-use Rattle.rt_gen_queue.proofs.Vocabulary.{IsTimedPlace, List, SpellsTimer, Timed, [], all_append, all_counted, ap}
+use Rattle.rt_gen_queue.proofs.Vocabulary.{IsTimedPlace, List, RepresentsTimer, Timed, [], all_append, all_counted, ap}
 use Rattle.rt_gen_queue.proofs.Vocabulary.{arith, armed_messages, armed_place, armings_at, at, count}
 use Rattle.rt_gen_queue.proofs.Vocabulary.{get_or_from_slice_get, handle_count_at, handles_at, heap_at, inl, inr}
 use Rattle.rt_gen_queue.proofs.Vocabulary.{instants_at}
@@ -156,10 +156,10 @@ module _ {app : App} {others : List Entry} {e : Entry} (are : AreOthers app othe
         pub column : (j : ℕ) → j < length next → slice_index after (heap_at app + j) ≡ armed_place app (at next j)
         pub arranged : IsArranged (instant_in app mid) (number_in app mid) (timed.given + timed.moved) next with_last
 
-      -- that is what the cells spell
-      pub spells_last : IsSome app.mono → {timed : Timed} {next : List Entry} → IsLast timed next
-          → SpellsTimer app (slice_index after) with_last (Delays timed)
-      spells_last mono {timed = timed} {next = next} last =
+      -- that is what the cells represent
+      pub represents_last : IsSome app.mono → {timed : Timed} {next : List Entry} → IsLast timed next
+          → RepresentsTimer app (slice_index after) with_last (Delays timed)
+      represents_last mono {timed = timed} {next = next} last =
           let low : (x : Entry) → 0 < count x with_last → armed_place app x < armed_messages app =
           λ x some. timed_row app x (all_counted (IsTimedPlace app) with_last x all_places some) in
           record {

@@ -1,7 +1,7 @@
--- What the cells of the timer queue spell once a message left its heap: the others, in order of their last arming, each
--- with its instant, its handle and its arguments as before.
+-- What the cells of the timer queue represent once a message left its heap: the others, in order of their last arming,
+-- each with its instant, its handle and its arguments as before.
 use Rattle.rt_gen_queue.proofs.Vocabulary.{AllByRecursion, App, AreHandled, Armed, Content, Delays, Entry, IsSome}
-use Rattle.rt_gen_queue.proofs.Vocabulary.{IsTimedPlace, List, Option, SpellsTimer, all_counted, ap, arith}
+use Rattle.rt_gen_queue.proofs.Vocabulary.{IsTimedPlace, List, Option, RepresentsTimer, all_counted, ap, arith}
 use Rattle.rt_gen_queue.proofs.Vocabulary.{armed_messages, armed_place, armings_at, at, count, get_or_from_slice_get}
 use Rattle.rt_gen_queue.proofs.Vocabulary.{handle_count_at, handles_at, heap_at, inl, inr, instants_at, key_of, map}
 use Rattle.rt_gen_queue.proofs.Vocabulary.{map-append, numbers_at, refl, slice_get_within, slice_index, subst, sym}
@@ -26,14 +26,15 @@ module _ {app : App} {before after : List ℕ} (mono : IsSome app.mono) (kept : 
         | inr past ↦ kept.cells c (omega (arith, past)) (inr (omega (arith, past)))
       ]
 
-  -- A message left the heap from a position of it: the cells spell the others.
-  pub timer_left : {entries : List Entry} {content : Content} (s : SpellsTimer app (slice_index before) entries content)
+  -- A message left the heap from a position of it: the cells represent the others.
+  pub timer_left : {entries : List Entry} {content : Content}
+      (s : RepresentsTimer app (slice_index before) entries content)
       → {i n : ℕ} {next : List Entry} {search : List Armed → Option Armed} {rest : List Armed → List Armed}
       (picked : IsPicked (armed_in app before) entries (at s.heap i) search rest)
       → IsWithout (key_of (instant_in app before) (number_in app before)) s.heap i next
       → IsWhole (queue_of app) (armed_place app) (instant_in app before) (number_in app before) n after next
       → slice_index after (timer_at app) ≡ n
-      → SpellsTimer app (slice_index after) (picked.before ++ picked.behind)
+      → RepresentsTimer app (slice_index after) (picked.before ++ picked.behind)
       (Delays (record s.timed { armed = rest s.timed.armed }))
   timer_left {entries = entries} s {i = i} {n = n} {next = next} {rest = rest} picked without whole counted =
       let read = armed_in app before in

@@ -18,7 +18,7 @@ pub mod Generated
 pub mod Delaying
 pub mod Rowing
 pub mod Opening
-pub mod Spelled
+pub mod Represented
 pub mod Alone
 pub mod Handled
 pub mod Leaving

@@ -12,15 +12,16 @@ use Rattle.rt_code.specs.declared.instr.Instr.TheVariants as instr
 use Rattle.rt_code.specs.declared.instr.Note.TheVariants as note
 use Rattle.rt_gen_queue.proofs.Layer.{Here, Now, S, copies, ends, jumps, moved, sets, writes_open}
 use Rattle.rt_gen_queue.proofs.Numbers.{steps_and}
-use Rattle.rt_gen_timer.proofs.{Alone.instant_in, Alone.number_in, Comparing.Hand, Comparing.LoopEnd, Lasting.last_alone}
-use Rattle.rt_gen_timer.proofs.{Marking.moves, Sifting.sinking, Spelled.few_armings, Spelled.row_of}
+use Rattle.rt_gen_timer.proofs.{Alone.instant_in, Alone.number_in, Comparing.Hand, Comparing.LoopEnd}
+use Rattle.rt_gen_timer.proofs.{Lasting.last_alone}
+use Rattle.rt_gen_timer.proofs.{Marking.moves, Sifting.sinking, Represented.few_armings, Represented.row_of}
 use Rattle.rt_gen_timer.proofs.Acting.{code_first, code_part, heap_open, run_stands, sooner}
-use Rattle.rt_gen_timer.proofs.Calling.{AgreeInside, Begins, Call, at_work, call_of, columns_now, entries, f}
+use Rattle.rt_gen_timer.proofs.Calling.{AgreeInside, IsViablePrefix, Call, at_work, call_of, columns_now, entries, f}
 use Rattle.rt_gen_timer.proofs.Calling.{leaving_code, leaving_fits, on_window, settles, stands_called, task_of}
 use Rattle.rt_gen_timer.proofs.Delaying.{at_address, delayed, time_stands}
 use Rattle.rt_gen_timer.proofs.Hollow.{IsBeside, beside_more, beside_one_position, hollow_filled}
 use Rattle.rt_gen_timer.proofs.Postponing.{IsAgain, MayMove, again_hole, again_hollow, again_stands, are, is_row}
-use Rattle.rt_gen_timer.proofs.Postponing.{last_long, spelled_moved}
+use Rattle.rt_gen_timer.proofs.Postponing.{last_long, represented_moved}
 use Rattle.rt_gen_timer.proofs.Seeking.{IsSeen, MaySeek, Taken, runs_seen, seeks, seen, seen_words}
 use Rattle.rt_gen_timer.proofs.Settling.{IsSettled, MaySettle, reach_enough, settles_stand}
 use Rattle.rt_gen_timer.proofs.Window.{Scratch, Words, scratch_of, words}
@@ -30,7 +31,7 @@ use Rattle.rt_gen_timer.specs.TimerLines.{alarm_lines, answer_lines, heap_of, pu
 
 -- the message of a handle is to be put to another instant
 record AsksMove (c : Call) (delay handle : ℕ) (h : Here) : Type 0 where
-  pub call : Begins c (handle_steps c.z.app) (move_code c.z.app c.task c.threshold c.slot h.at)
+  pub call : IsViablePrefix c (handle_steps c.z.app) (move_code c.z.app c.task c.threshold c.slot h.at)
       (move_actions c.z.app (handle_section_cost c.z.app) delay c.task handle (c.rest 0) (c.rest 1)) h
   pub delay_is : slice_index h.slots c.slot ≡ delay
   pub shown : slice_index h.slots (suc c.slot) ≡ handle
@@ -78,22 +79,22 @@ module _ {c : Call} {delay handle : ℕ} {h : Here} (k : AsksMove c delay handle
 
   module _ {o : Taken} {done j : ℕ} (is : IsSeen seek o done j) where
     abbrev e : Entry
-    e = at is.now.spells.heap j
+    e = at is.now.represents.heap j
 
     abbrev row : ℕ
     row = armed_place app e
 
     abbrev size : ℕ
-    size = length is.now.spells.heap
+    size = length is.now.represents.heap
 
     abbrev armings : ℕ
-    armings = is.now.spells.timed.given + is.now.spells.timed.moved
+    armings = is.now.represents.timed.given + is.now.represents.timed.moved
 
     armings_few : armings < 2 ^ 31
-    armings_few = few_armings is.now.spells is.now.taken.few
+    armings_few = few_armings is.now.represents is.now.taken.few
 
     few_sizes : size ≤ armed_messages app
-    few_sizes = omega (arith, is.now.spells.arranged.long, is.now.spells.room)
+    few_sizes = omega (arith, is.now.represents.arranged.long, is.now.represents.room)
 
     small_sizes : armed_messages app ≤ 16 * 64
     small_sizes = few_messages app may.facts.accepted
@@ -101,7 +102,7 @@ module _ {c : Call} {delay handle : ℕ} {h : Here} (k : AsksMove c delay handle
     abbrev put : MayMove app (entries (seen seek o)) (o.values (Guarded section.Timer)) o.cells j task handle
     put = record {
       mono = may.timed;
-      spells = is.now.spells;
+      represents = is.now.represents;
       few = is.now.taken.few;
       within = is.inside;
       found = is.found;
@@ -138,7 +139,7 @@ module _ {c : Call} {delay handle : ℕ} {h : Here} (k : AsksMove c delay handle
 
       -- the note, the alarm, the close and the answer
       last_stand : {b : LoopEnd} {begin : ℕ} {us : Values} (v : Words) (s : Scratch)
-          → IsSettled hand size size j (at_loops begin us) is.now.spells.heap b → HasBegun v begin us
+          → IsSettled hand size size j (at_loops begin us) is.now.represents.heap b → HasBegun v begin us
           → S z (Now (f may) (here b.done (h.at + 75) b.cells (moves_then (instant_in app mid e)) us)
           (words (left_words v s b.hole)))
       last_stand {b = b} {us = us} v s settled begins =
@@ -157,13 +158,13 @@ module _ {c : Call} {delay handle : ℕ} {h : Here} (k : AsksMove c delay handle
           at_address (h.at + 76) (omega arith)
           (settles is.now (with_moved task handle instant) (left_words v s b.hole)
           (record {
-            spells = spelled_moved put again beside (λ i less. hollow_filled e settled.hollow one i less)
+            represents = represented_moved put again beside (λ i less. hollow_filled e settled.hollow one i less)
                 settled.settled;
             few = omega (arith, armings_few);
             alone = last_alone (are put) (is_row put again) beside may.timed;
             long = beside.long ∙ again.long;
           })
-          (λ holder read. agree2 holder read ∙ begins.agree holder read) (last_long put)
+          (λ location read. agree2 location read ∙ begins.agree location read) (last_long put)
           (λ last other us3 soon own later.
           sets
           (jumps
@@ -180,7 +181,7 @@ module _ {c : Call} {delay handle : ℕ} {h : Here} (k : AsksMove c delay handle
       loops_stand : {begin : ℕ} {us : Values} (v : Words) (s : Scratch) → HasBegun v begin us
           → S z (Now (f may) (at_loops begin us) (words (left_words v s j)))
       loops_stand {begin = begin} {us = us} v s begins =
-          let ready : MaySettle z (f may) hand size size j (at_loops begin us) is.now.spells.heap = record {
+          let ready : MaySettle z (f may) hand size size j (at_loops begin us) is.now.represents.heap = record {
             to = h.at + 17 + 27;
             rise = code_part code (h.at + 17) put_off 12 15 put_off_code;
             sink = code_part code (h.at + 17) put_off 27 31 put_off_code;
@@ -210,8 +211,8 @@ module _ {c : Call} {delay handle : ℕ} {h : Here} (k : AsksMove c delay handle
         (time_stands q v refl
         (λ time read right us early soon agree.
         let v2 : Words = delayed v time right in
-        again_stands v2 (columns_now is.now refl) is.now.spells.armings (omega (arith, armings_few))
-        (row_of is.now.spells j is.inside) refl
+        again_stands v2 (columns_now is.now refl) is.now.represents.armings (omega (arith, armings_few))
+        (row_of is.now.represents j is.inside) refl
         (λ mid again.
         let J : ℕ = instant_in app mid e in
         let v3 : Words = record v2 { arming = armings; other = armings + 1 } in
@@ -240,10 +241,10 @@ moves_all_stand c named timed a n =
     let second : suc c.slot ≡ c.slot + 1 = omega arith in
     let doing : Rest =
     move_actions c.app (handle_section_cost c.app) a.delay c.task a.handle (c.rest 0) (c.rest 1) in
-    stands_called (call_of c) c.spot {doing = doing} (task_of c named) timed a.may a.has a.is
+    stands_called (call_of c) c.configuration {doing = doing} (task_of c named) timed a.may a.has a.is
     (λ until call.
     move_goes (record {
       call = call;
       delay_is = a.delayed;
-      shown = ap (slice_index c.spot.slots) second ∙ a.shown;
+      shown = ap (slice_index c.configuration.slots) second ∙ a.shown;
     }))

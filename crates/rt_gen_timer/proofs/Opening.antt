@@ -1,6 +1,7 @@
 -- The section of an application's timer queue on the window: how it may be entered, what is open inside it, and what is
 -- left of the window outside it.
-use Rattle.rt_gen_queue.proofs.Vocabulary.{AllByRecursion, App, Held, HoldsOff, IsAccepted, IsSome, IsWithin, List}
+use Rattle.rt_gen_queue.proofs.Vocabulary.{AllByRecursion, App, OpenSection, HoldsOff, IsAccepted, IsSome, IsWithin}
+use Rattle.rt_gen_queue.proofs.Vocabulary.{List}
 use Rattle.rt_gen_queue.proofs.Vocabulary.{Mono, None, Option, Some, accepted_are_sound, ap, arith, false, irq_number}
 use Rattle.rt_gen_queue.proofs.Vocabulary.{is_open, length, memory, option_map, or_zero, refl, saved_slots, storage}
 use Rattle.rt_gen_queue.proofs.Vocabulary.{sym, then_from, ℕ, ◌<◌, ◌∙◌, ◌∷◌, ◌≡◌}
@@ -48,7 +49,7 @@ may_enter {z = z} may = record {
 }
 
 -- inside it its cells are the columns
-pub columns_inside : (z : Setting) (f : Slots) (threshold : ℕ) (outer : List Held) → IsSome z.app.mono
+pub columns_inside : (z : Setting) (f : Slots) (threshold : ℕ) (outer : List OpenSection) → IsSome z.app.mono
     → {cells : List ℕ}
     → length cells ≡ length (memory z.app)
     → Columns z (queue_of z.app) (opened z f section.Timer threshold ∷ outer) cells

@@ -1,7 +1,8 @@
--- A message is put to another instant: the lines by which its row gets it, and what the cells of the timer queue spell
--- then. It goes last, with the next number and its handle, and the others are as before.
+-- A message is put to another instant: the lines by which its row gets it, and what the cells of the timer queue
+-- represent then. It goes last, with the next number and its handle, and the others are as before.
 use Rattle.rt_gen_queue.proofs.Vocabulary.{AllByRecursion, App, AreHandled, Armed, Content, Delays, Entry, IsArranged}
-use Rattle.rt_gen_queue.proofs.Vocabulary.{IsSome, IsTimedPlace, Line, List, MayArm, SpellsTimer, [], ap, append_assoc}
+use Rattle.rt_gen_queue.proofs.Vocabulary.{IsSome, IsTimedPlace, Line, List, MayArm, RepresentsTimer, [], ap}
+use Rattle.rt_gen_queue.proofs.Vocabulary.{append_assoc}
 use Rattle.rt_gen_queue.proofs.Vocabulary.{arith, message_of_handle, armed_place, at, handle_count_at, heap_at, key_of}
 use Rattle.rt_gen_queue.proofs.Vocabulary.{length}
 use Rattle.rt_gen_queue.proofs.Vocabulary.{length_push, map, map-append, operate, refl, slice_index, subst, sym}
@@ -12,14 +13,14 @@ use Rattle.rt_ids.specs.declared.op.Op.TheVariants as op
 use Rattle.rt_gen_queue.proofs.{Layer.Here, Layer.Setting, Layer.Straight, Layer.ahead, Layer.calculates, Layer.loads}
 use Rattle.rt_gen_queue.proofs.{Layer.reads_open, Layer.stores, Layer.stores_at, Layer.writes_open, Numbers.added}
 use Rattle.rt_gen_timer.proofs.{Handled.handled_last, Hollow.IsBeside, Hollow.IsHollow, Moves.HasHole, Moves.HasSettled}
-use Rattle.rt_gen_timer.proofs.{Moves.count_put, Numbered.all_less, Spelled.place_of, Spelled.spelled_count}
-use Rattle.rt_gen_timer.proofs.{Spelled.spelled_whole, Window.Slots, Window.Words, Window.words}
+use Rattle.rt_gen_timer.proofs.{Moves.count_put, Numbered.all_less, Represented.place_of, Represented.represented_count}
+use Rattle.rt_gen_timer.proofs.{Represented.represented_whole, Window.Slots, Window.Words, Window.words}
 use Rattle.rt_gen_timer.proofs.Acting.{Columns, armings_open, columns_on, instant_open, number_open}
 use Rattle.rt_gen_timer.proofs.Alone.{armed_in, handle_in, instant_in, number_in}
 use Rattle.rt_gen_timer.proofs.Arranged.{IsOfHandle, count_less, elsewhere, goes_last, length_less, listed_less}
 use Rattle.rt_gen_timer.proofs.Arranged.{move_begins, others_differ}
 use Rattle.rt_gen_timer.proofs.Lasting.{AreOthers, IsRow, hollow_last, own_row, same_instants, same_numbers}
-use Rattle.rt_gen_timer.proofs.Lasting.{spells_last}
+use Rattle.rt_gen_timer.proofs.Lasting.{represents_last}
 use Rattle.rt_gen_timer.specs.{TimerCode.queue_of, declared.queue.TimerQueue.TimerQueue}
 use Rattle.rt_gen_timer.specs.TimerLines.{again_lines, armings_of, handles_of, instants_of, numbers_of}
 
@@ -64,38 +65,38 @@ module _ {z : Setting} {f : Slots} {q : TimerQueue} {lines : List Line} {h : Her
 pub record MayMove (app : App) (entries : List Entry) (content : Content) (before : List ℕ) (i task handle : ℕ)
     : Type 0 where
   pub mono : IsSome app.mono
-  pub spells : SpellsTimer app (slice_index before) entries content
+  pub represents : RepresentsTimer app (slice_index before) entries content
   pub few : MayArm content
-  pub within : i < length spells.heap
-  pub found : IsOfHandle (armed_in app before) entries (at spells.heap i) task handle
+  pub within : i < length represents.heap
+  pub found : IsOfHandle (armed_in app before) entries (at represents.heap i) task handle
 
 module _ {app : App} {entries : List Entry} {content : Content} {before : List ℕ} {i task handle : ℕ}
     (may : MayMove app entries content before i task handle) where
   -- the message, and the others in their order
   abbrev the_one : Entry
-  the_one = at may.spells.heap i
+  the_one = at may.represents.heap i
 
   abbrev the_others : List Entry
   the_others = may.found.before ++ may.found.behind
 
   abbrev armings_so_far : ℕ
-  armings_so_far = may.spells.timed.given + may.spells.timed.moved
+  armings_so_far = may.represents.timed.given + may.represents.timed.moved
 
   abbrev size : ℕ
-  size = length may.spells.heap
+  size = length may.represents.heap
 
   pub are : AreOthers app the_others the_one
   are = record {
     places = all_less (IsTimedPlace app) may.found.before may.found.behind the_one
-        (subst (AllByRecursion (IsTimedPlace app)) may.found.parts may.spells.places);
-    place = place_of may.spells i may.within;
-    differ = others_differ may.spells.arranged may.found.before may.found.behind the_one may.found.parts;
+        (subst (AllByRecursion (IsTimedPlace app)) may.found.parts may.represents.places);
+    place = place_of may.represents i may.within;
+    differ = others_differ may.represents.arranged may.found.before may.found.behind the_one may.found.parts;
   }
 
   -- with it behind them they are as many
   pub last_long : size ≡ length (may.found.before ++ (may.found.behind ++ the_one ∷ []))
   last_long =
-      length_less may.spells.arranged may.found.before may.found.behind the_one may.found.parts
+      length_less may.represents.arranged may.found.before may.found.behind the_one may.found.parts
       ∙ sym (length_push the_others the_one)
       ∙ ap length (append_assoc may.found.before may.found.behind (the_one ∷ []))
 
@@ -114,64 +115,68 @@ module _ {app : App} {entries : List Entry} {content : Content} {before : List �
         }
 
     -- where the loops begin
-    pub again_hole : HasHole size (key_of (instant_in app mid) (number_in app mid)) may.spells.heap i
+    pub again_hole : HasHole size (key_of (instant_in app mid) (number_in app mid)) may.represents.heap i
     again_hole =
-        move_begins may.spells.arranged may.found.before may.found.behind may.within may.found.parts
+        move_begins may.represents.arranged may.found.before may.found.behind may.within may.found.parts
         (same_instants are is_row) (same_numbers are is_row)
 
     pub again_hollow : IsHollow (queue_of app) (armed_place app) (instant_in app mid) (number_in app mid) size mid
-        may.spells.heap i
+        may.represents.heap i
     again_hollow =
-        let whole = spelled_whole before may.spells may.few in
+        let whole = represented_whole before may.represents may.few in
         hollow_last are is_row whole (whole.room, refl, may.within)
         (λ j less apart. (
           less,
           refl,
-          elsewhere may.spells.arranged may.found.before may.found.behind may.within may.found.parts j less apart,
+          elsewhere may.represents.arranged may.found.before may.found.behind may.within may.found.parts j less apart,
         ))
 
     -- the armed messages then
     abbrev put_off : Armed
     put_off = record (armed_in app before the_one) { instant = instant }
 
-    armed_then : (with_moved task handle instant may.spells.timed).armed
+    armed_then : (with_moved task handle instant may.represents.timed).armed
         ≡ map (armed_in app before) the_others ++ put_off ∷ []
     armed_then =
-        ap (λ list. list ++ postponed_message instant (message_of_handle task handle may.spells.timed.armed))
-        (ap (without_handle task handle) may.spells.messages ∙ may.found.others)
+        ap (λ list. list ++ postponed_message instant (message_of_handle task handle may.represents.timed.armed))
+        (ap (without_handle task handle) may.represents.messages ∙ may.found.others)
         ∙ ap (λ o. map (armed_in app before) the_others ++ postponed_message instant o)
-        (ap (message_of_handle task handle) may.spells.messages ∙ may.found.found)
+        (ap (message_of_handle task handle) may.represents.messages ∙ may.found.found)
 
-    handled_then : AreHandled (with_moved task handle instant may.spells.timed)
+    handled_then : AreHandled (with_moved task handle instant may.represents.timed)
     handled_then =
-        subst (λ list. AreHandled (record may.spells.timed { moved = may.spells.timed.moved + 1; armed = list }))
+        subst (λ list. AreHandled (record may.represents.timed {
+          moved = may.represents.timed.moved + 1;
+          armed =
+              list;
+        }))
         (sym (armed_then ∙ ap (λ list. list ++ put_off ∷ []) (map-append (armed_in app before) may.found.before
         may.found.behind)))
-        (handled_last may.spells.timed (map (armed_in app before) may.found.before)
-        (map (armed_in app before) may.found.behind) (armed_in app before the_one) may.spells.handled
-        (may.spells.messages ∙ ap (map (armed_in app before)) may.found.parts
+        (handled_last may.represents.timed (map (armed_in app before) may.found.before)
+        (map (armed_in app before) may.found.behind) (armed_in app before the_one) may.represents.handled
+        (may.represents.messages ∙ ap (map (armed_in app before)) may.found.parts
         ∙ map-append (armed_in app before) may.found.before (the_one ∷ may.found.behind)) instant
-        (may.spells.timed.moved + 1))
+        (may.represents.timed.moved + 1))
 
-    -- The rows of the heap are in its column, and nothing else is written: that is what the cells spell then.
-    pub spelled_moved : {after : List ℕ} {next : List Entry} → IsBeside (queue_of app) mid after
+    -- The rows of the heap are in its column, and nothing else is written: that is what the cells represent then.
+    pub represented_moved : {after : List ℕ} {next : List Entry} → IsBeside (queue_of app) mid after
         → ((j : ℕ) → j < size → slice_index after (heap_at app + j) ≡ armed_place app (at next j))
-        → HasSettled size (key_of (instant_in app mid) (number_in app mid)) the_one may.spells.heap i next
-        → SpellsTimer app (slice_index after) (may.found.before ++ (may.found.behind ++ the_one ∷ []))
-        (Delays (with_moved task handle instant may.spells.timed))
-    spelled_moved {after = after} {next = next} beside column settled =
-        let s = may.spells in
+        → HasSettled size (key_of (instant_in app mid) (number_in app mid)) the_one may.represents.heap i next
+        → RepresentsTimer app (slice_index after) (may.found.before ++ (may.found.behind ++ the_one ∷ []))
+        (Delays (with_moved task handle instant may.represents.timed))
+    represented_moved {after = after} {next = next} beside column settled =
+        let s = may.represents in
         let a = s.arranged in
         let parts = may.found.parts in
         let long : armings_so_far + 1 ≡ s.timed.given + (s.timed.moved + 1) = omega arith in
-        subst (λ es. SpellsTimer app (slice_index after) es (Delays (with_moved task handle instant s.timed)))
+        subst (λ es. RepresentsTimer app (slice_index after) es (Delays (with_moved task handle instant s.timed)))
         (append_assoc may.found.before may.found.behind (the_one ∷ []))
-        (spells_last are is_row beside may.mono
+        (represents_last are is_row beside may.mono
         (record {
           messages = armed_then;
           handled = handled_then;
           room = omega (arith, settled.long, a.long, s.room);
-          count = again.others (timer_at app) (omega arith) (omega arith) (omega arith) ∙ spelled_count s
+          count = again.others (timer_at app) (omega arith) (omega arith) (omega arith) ∙ represented_count s
               ∙ sym settled.long;
           armings = again.armings ∙ long;
           given = again.others (handle_count_at app) (omega arith) (omega arith) (omega arith) ∙ s.given;

@@ -1,7 +1,8 @@
--- What the cells of the timer queue spell once a message more is armed: it comes last, with the next number and the
+-- What the cells of the timer queue represent once a message more is armed: it comes last, with the next number and the
 -- next handle, and the others are as before.
 use Rattle.rt_gen_queue.proofs.Vocabulary.{AllByRecursion, App, Bool, Content, Delays, Entry, IsAccepted, IsArranged}
-use Rattle.rt_gen_queue.proofs.Vocabulary.{IsSome, IsTimedPlace, List, MayArm, Message, SpellsTimer, Task, Timed, []}
+use Rattle.rt_gen_queue.proofs.Vocabulary.{IsSome, IsTimedPlace, List, MayArm, Message, RepresentsTimer, Task, Timed}
+use Rattle.rt_gen_queue.proofs.Vocabulary.{[]}
 use Rattle.rt_gen_queue.proofs.Vocabulary.{all_counted, ap, arith, armed_messages, armed_place, at, capacity_is, count}
 use Rattle.rt_gen_queue.proofs.Vocabulary.{count_more, false, few_messages, get_or_append_left, heap_at, if◌then◌else◌}
 use Rattle.rt_gen_queue.proofs.Vocabulary.{is_armed, is_software, key_of, length, length-append, length_push, many, map}
@@ -14,8 +15,8 @@ use Rattle.rt_gen_timer.proofs.{Alike.all_from_counted, Handled.handled_more, Ho
 use Rattle.rt_gen_timer.proofs.{Moves.HasHole, Moves.HasSettled, Rowing.HasCounts, Rowing.HasRow}
 use Rattle.rt_gen_timer.proofs.Alone.{armed_in, instant_in, number_in}
 use Rattle.rt_gen_timer.proofs.Arranged.{goes_last, in_queue, listed, push_begins}
-use Rattle.rt_gen_timer.proofs.Lasting.{AreOthers, IsRow, hollow_last, same_instants, same_numbers, spells_last}
-use Rattle.rt_gen_timer.proofs.Spelled.{few_armings, spelled_count, spelled_whole}
+use Rattle.rt_gen_timer.proofs.Lasting.{AreOthers, IsRow, hollow_last, same_instants, same_numbers, represents_last}
+use Rattle.rt_gen_timer.proofs.Represented.{few_armings, represented_count, represented_whole}
 use Rattle.rt_gen_timer.specs.TimerCode.{queue_of}
 
 module _ (app : App) where
@@ -57,7 +58,7 @@ pub record MayPush (app : App) (entries : List Entry) (e : Entry) (content : Con
     : Type 0 where
   pub accepted : IsAccepted app
   pub mono : IsSome app.mono
-  pub spells : SpellsTimer app (slice_index before) entries content
+  pub represents : RepresentsTimer app (slice_index before) entries content
   pub few : MayArm content
   pub place : IsTimedPlace app e
   pub once : (y : Entry) → count y (e ∷ entries) ≤ 1
@@ -66,33 +67,33 @@ pub record MayPush (app : App) (entries : List Entry) (e : Entry) (content : Con
 module _ {app : App} {entries : List Entry} {e : Entry} {content : Content} {m : Message} {before : List ℕ}
     (may : MayPush app entries e content m before) where
   abbrev pub timed : Timed
-  timed = may.spells.timed
+  timed = may.represents.timed
 
   abbrev pub armings_before : ℕ
   armings_before = timed.given + timed.moved
 
   -- how many are armed
   abbrev pub size : ℕ
-  size = length may.spells.heap
+  size = length may.represents.heap
 
   pub room : size < armed_messages app
   room =
-      omega (arith, timer_room app entries e may.spells.places may.place may.once, may.spells.arranged.long)
+      omega (arith, timer_room app entries e may.represents.places may.place may.once, may.represents.arranged.long)
 
   pub counts : HasCounts (queue_of app) armings_before timed.given size before
   counts =
-      let small = few_armings may.spells may.few in
+      let small = few_armings may.represents may.few in
       record {
-        armings = may.spells.armings;
-        given = may.spells.given;
-        count = spelled_count may.spells;
+        armings = may.represents.armings;
+        given = may.represents.given;
+        count = represented_count may.represents;
         small = (omega (arith, small), omega (arith, small), omega (arith, room, few_messages app may.accepted));
       }
 
   -- the others, and the message last
   pub are : AreOthers app entries e
   are = record {
-    places = may.spells.places;
+    places = may.represents.places;
     place = may.place;
     differ = all_from_counted (λ x. x ≢ e) entries
         (λ x some same.
@@ -101,7 +102,7 @@ module _ {app : App} {entries : List Entry} {e : Entry} {content : Content} {m :
 
   -- the heap with one position more, whose message is in hand
   abbrev pub longer : List Entry
-  longer = may.spells.heap ++ e ∷ []
+  longer = may.represents.heap ++ e ∷ []
 
   module _ {instant : ℕ} {mid : List ℕ}
       (has : HasRow (queue_of app) (armed_place app e) instant armings_before timed.given size before mid) where
@@ -110,46 +111,46 @@ module _ {app : App} {entries : List Entry} {e : Entry} {content : Content} {m :
 
     -- where the loop begins
     pub hole_begins : HasHole (size + 1) (key_of (instant_in app mid) (number_in app mid)) longer size
-    hole_begins = push_begins may.spells.arranged e (same_instants are is_row) (same_numbers are is_row)
+    hole_begins = push_begins may.represents.arranged e (same_instants are is_row) (same_numbers are is_row)
 
     pub hollow_begins : IsHollow (queue_of app) (armed_place app) (instant_in app mid) (number_in app mid) (size + 1)
         mid longer size
     hollow_begins =
-        hollow_last are is_row (spelled_whole before may.spells may.few)
-        (omega (arith, room), length_push may.spells.heap e, omega arith)
+        hollow_last are is_row (represented_whole before may.represents may.few)
+        (omega (arith, room), length_push may.represents.heap e, omega arith)
         (λ j less apart.
         let within : j < size = omega (arith, apart) in (
           within,
-          sym (get_or_append_left may.spells.heap (e ∷ []) (record { task = 0; place = 0 }) j within),
-          in_queue may.spells.arranged j within,
+          sym (get_or_append_left may.represents.heap (e ∷ []) (record { task = 0; place = 0 }) j within),
+          in_queue may.represents.arranged j within,
         ))
 
-    -- The rows of the heap are in its column, and nothing else is written: that is what the cells spell then.
-    pub spelled_more : {after : List ℕ} {next : List Entry} → IsBeside (queue_of app) mid after
+    -- The rows of the heap are in its column, and nothing else is written: that is what the cells represent then.
+    pub represented_more : {after : List ℕ} {next : List Entry} → IsBeside (queue_of app) mid after
         → ((j : ℕ) → j < size + 1 → slice_index after (heap_at app + j) ≡ armed_place app (at next j))
         → HasSettled (size + 1) (key_of (instant_in app mid) (number_in app mid)) e longer size next
-        → SpellsTimer app (slice_index after) (entries ++ e ∷ []) (Delays (with_armed instant m timed))
-    spelled_more {next = next} beside column settled =
+        → RepresentsTimer app (slice_index after) (entries ++ e ∷ []) (Delays (with_armed instant m timed))
+    represented_more {next = next} beside column settled =
         let long : armings_before + 1 ≡ timed.given + 1 + timed.moved = omega arith in
-        spells_last are is_row beside may.mono
+        represents_last are is_row beside may.mono
         (record {
           messages = ap (λ list. list ++ record { instant = instant; message = m; handle = timed.given + 1 } ∷ [])
-              may.spells.messages
+              may.represents.messages
               ∙ ap (λ w. map (armed_in app before) entries
               ++ record { instant = instant; message = w; handle = timed.given + 1 } ∷ []) (sym may.message);
-          handled = handled_more timed instant m may.spells.handled;
+          handled = handled_more timed instant m may.represents.handled;
           room = omega (arith, room, settled.long);
           count = has.count ∙ sym settled.long;
           armings = has.armings ∙ long;
           given = has.given;
           column = λ j less. column j (omega (arith, settled.long));
           arranged = subst (λ n. IsArranged (instant_in app mid) (number_in app mid) n next (entries ++ e ∷ [])) long
-              (goes_last (listed may.spells.arranged) (same_numbers are is_row) has.numbers settled
+              (goes_last (listed may.represents.arranged) (same_numbers are is_row) has.numbers settled
               (λ x. omega (
                 arith,
-                ap (count x) (set-append_seam may.spells.heap e [] e),
-                sum_by-append (one x) may.spells.heap (e ∷ []),
-                may.spells.arranged.alike x,
+                ap (count x) (set-append_seam may.represents.heap e [] e),
+                sum_by-append (one x) may.represents.heap (e ∷ []),
+                may.represents.arranged.alike x,
               ))
-              (omega (arith, may.spells.arranged.long)));
+              (omega (arith, may.represents.arranged.long)));
         })

@@ -1,7 +1,7 @@
 -- A call by a handle: the section of the timer queue opens, and the message of the task that has the handle is looked
 -- for in the heap, from its last position down to the first; or none has it, the section closes, and the answer is 1.
 use Rattle.rt_gen_queue.proofs.Vocabulary.{Armed, Bool, Doing, Enters, Entry, Guarded, HasCode}
-use Rattle.rt_gen_queue.proofs.Vocabulary.{Holder, Leaves, Line, List, Option, Rest, Some, Values, [], act, ap, arith}
+use Rattle.rt_gen_queue.proofs.Vocabulary.{Location, Leaves, Line, List, Option, Rest, Some, Values, [], act, ap, arith}
 use Rattle.rt_gen_queue.proofs.Vocabulary.{message_of_handle, arming_of_entry, armed_messages, armed_place, at}
 use Rattle.rt_gen_queue.proofs.Vocabulary.{cases_eq, false}
 use Rattle.rt_gen_queue.proofs.Vocabulary.{few_messages, guard_of, handle_at, handle_section_cost, if◌then◌else◌, inl}
@@ -11,7 +11,7 @@ use Rattle.rt_gen_queue.proofs.Vocabulary.{◌++◌, ◌+◌, ◌<◌, ◌==◌,
 use Rattle.rt_ids.specs.declared.ids.Section.TheVariants as section
 use Rattle.rt_ids.specs.declared.op.Op.TheVariants as op
 use Rattle.rt_code.specs.declared.instr.Instr.TheVariants as instr
-use Rattle.rt_gen_queue.proofs.{Numbers.one_less, Numbers.steps_and, Owning.timer_spelled, Placing.code_behind}
+use Rattle.rt_gen_queue.proofs.{Numbers.one_less, Numbers.steps_and, Owning.timer_represented, Placing.code_behind}
 use Rattle.rt_gen_queue.proofs.{Placing.code_front}
 use Rattle.rt_gen_queue.proofs.Entering.{enter_fits, enter_placed, enters, leaves, opened, saves_below, saves_inside}
 use Rattle.rt_gen_queue.proofs.Layer.{Here, Now, S, Setting, calculates, copies, ends, is_there, jumps_off, lasts_less}
@@ -21,7 +21,8 @@ use Rattle.rt_gen_timer.proofs.Acting.{Columns, Lasting, Runs, code_first, code_
 use Rattle.rt_gen_timer.proofs.Acting.{heap_open, run_stands, sooner}
 use Rattle.rt_gen_timer.proofs.Calling.{Call, HasCalled, Inside, IsInside, Left, MayCall, at_work, behind_call}
 use Rattle.rt_gen_timer.proofs.Calling.{columns_now, entries, f, leaving_code, leaving_fits, may_open, w}
-use Rattle.rt_gen_timer.proofs.Spelled.{armed_is, found_of, missing_of, own_task, row_of, spelled_column, spelled_count}
+use Rattle.rt_gen_timer.proofs.Represented.{armed_is, found_of, missing_of, own_task, row_of, represented_column}
+use Rattle.rt_gen_timer.proofs.Represented.{represented_count}
 use Rattle.rt_gen_timer.proofs.Window.{Slots, Words, words}
 use Rattle.rt_gen_timer.specs.{TimerCalls.handle_steps, TimerCode.armed_task, TimerCode.queue_of}
 use Rattle.rt_gen_timer.specs.TimerLines.{find_lines, handles_of, heap_of, open_lines, own_lines, search_lines}
@@ -219,7 +220,7 @@ pub record Taken : Type 0 where
   pub mask : ℕ
   pub values : Values
   pub cells : List ℕ
-  pub queues : Holder → List Entry
+  pub queues : Location → List Entry
 
 module _ {c : Call} {h : Here} {k : Sought} (seek : MaySeek c h k) where
   -- inside the section, with what was taken over
@@ -252,9 +253,9 @@ module _ {c : Call} {h : Here} {k : Sought} (seek : MaySeek c h k) where
   -- The message of the handle is at a position in the heap.
   pub record IsSeen (o : Taken) (done j : ℕ) : Type 0 where
     pub now : IsInside (seen o)
-    pub inside : j < length now.spells.heap
-    pub of_task : (at now.spells.heap j).task ≡ c.task
-    pub found : IsOfHandle (arming_of_entry c.z.app (slice_index o.cells)) (entries (seen o)) (at now.spells.heap j)
+    pub inside : j < length now.represents.heap
+    pub of_task : (at now.represents.heap j).task ≡ c.task
+    pub found : IsOfHandle (arming_of_entry c.z.app (slice_index o.cells)) (entries (seen o)) (at now.represents.heap j)
         c.task
         k.handle
     pub early : done ≤ h.done + (6 * armed_messages c.z.app + 12)
@@ -262,10 +263,10 @@ module _ {c : Call} {h : Here} {k : Sought} (seek : MaySeek c h k) where
   -- the words there
   abbrev found_words : (o : Taken) → IsInside (seen o) → ℕ → ℕ → ℕ → ℕ → Words
   found_words o now j row x r =
-      record (looking (opened_words (w seek.may) o.mask (length now.spells.heap)) j row x) { right = r }
+      record (looking (opened_words (w seek.may) o.mask (length now.represents.heap)) j row x) { right = r }
 
   abbrev pub seen_words : {o : Taken} {done j : ℕ} → IsSeen o done j → (x r : ℕ) → Words
-  seen_words {o = o} {j = j} is x r = found_words o is.now j (armed_place c.z.app (at is.now.spells.heap j)) x r
+  seen_words {o = o} {j = j} is x r = found_words o is.now j (armed_place c.z.app (at is.now.represents.heap j)) x r
 
   -- the job in the section
   abbrev here : Taken → (done at : ℕ) → Doing Values → Here
@@ -298,7 +299,7 @@ module _ {c : Call} {h : Here} {k : Sought} (seek : MaySeek c h k) where
       (leave c.z.app section.Timer c.threshold 9 ∷ behind) runs_seen (omega (arith, early))
       (leaving_fits c.z.app c.threshold [] behind refl refl)
       (leaving_code c.z (f seek.may) c.threshold (h.at + k.missing) [] behind seek.none)
-      (leaves c.threshold refl refl refl now.taken.spelled
+      (leaves c.threshold refl refl refl now.taken.represented
       (λ us later.
       sets
       (ends
@@ -313,15 +314,15 @@ module _ {c : Call} {h : Here} {k : Sought} (seek : MaySeek c h k) where
           touched = now.taken.same.touched;
           queued = now.taken.same.queued;
         };
-        agree = λ holder read. later holder read ∙ now.taken.agree holder read;
+        agree = λ location read. later location read ∙ now.taken.agree location read;
       }))))))
 
   -- Once the section has opened the message is looked for.
   looks : (o : Taken) (now : IsInside (seen o)) → OnSeen → OnNone
       → S c.z (Now (f seek.may) (here o (steps_and 5 h.done) (h.at + 5) (to_do o))
-      (words (opened_words (w seek.may) o.mask (length now.spells.heap))))
+      (words (opened_words (w seek.may) o.mask (length now.represents.heap))))
   looks o now on missed =
-      let s = now.spells in
+      let s = now.represents in
       let few : length s.heap ≤ armed_messages c.z.app = omega (arith, s.arranged.long, s.room) in
       let g : Search = record {
         queue = queue_of c.z.app;
@@ -344,7 +345,7 @@ module _ {c : Call} {h : Here} {k : Sought} (seek : MaySeek c h k) where
         there = seek.known;
         shown = seek.shown o.mask (length s.heap);
         columns = columns_now now refl;
-        column = spelled_column s;
+        column = represented_column s;
         rows = row_of s;
         handles = λ j inside. refl;
       })
@@ -386,10 +387,12 @@ module _ {c : Call} {h : Here} {k : Sought} (seek : MaySeek c h k) where
         may = may_open seek.may;
         long = seek.may.cells;
         taken = taken;
-        spells = timer_spelled c.z.app (slice_index cells) (queues (Guarded x)) (vs (Guarded x)) taken.spelled;
+        represents = timer_represented c.z.app (slice_index cells) (queues (Guarded x))
+            (vs (Guarded x)) taken.represented;
       } in
       sets
       (sets
-      (loads (length now.spells.heap) (reads_open (count_open (columns_now now refl)) (spelled_count now.spells))
+      (loads (length now.represents.heap)
+      (reads_open (count_open (columns_now now refl)) (represented_count now.represents))
       (copies
       (ends (moved (steps_and 5 h.done) (h.at + 5) refl (omega arith) (looks o now on missed))))))))

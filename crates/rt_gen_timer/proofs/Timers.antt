@@ -1,7 +1,7 @@
 -- The timer handler where a message is due: the first message of the heap leaves it and fires, the section closes with
 -- the alarm set, the message becomes ready at its task's level, and the handler returns. So the code of the whole
 -- handler stands, at the priority of the monotonic.
-use Rattle.rt_gen_queue.proofs.Vocabulary.{App, AtPriority, Contains, Entry, HasCode, Holder, IsAccepted, IsSome}
+use Rattle.rt_gen_queue.proofs.Vocabulary.{App, AtPriority, Contains, Entry, HasCode, Location, IsAccepted, IsSome}
 use Rattle.rt_gen_queue.proofs.Vocabulary.{IsTimedPlace, IsWithin, Line, List, Message, Mono, Returns, Some, Task}
 use Rattle.rt_gen_queue.proofs.Vocabulary.{Values, [], act_all, ap, arith, arming_of_entry, armed_place, capacity_of}
 use Rattle.rt_gen_queue.proofs.Vocabulary.{ceiling}
@@ -22,12 +22,13 @@ use Rattle.rt_gen_queue.proofs.{Queueing.MayReady, Queueing.ready_stands}
 use Rattle.rt_gen_queue.proofs.Facts.{Spawned, few_free, few_ready, known, priority, ready_top, small}
 use Rattle.rt_gen_queue.proofs.Facts as facts
 use Rattle.rt_gen_queue.proofs.Layer.{Frame, Here, Now, S, begins, calculates, ends, inner, moved, returns_here, sets}
-use Rattle.rt_gen_queue.proofs.Layer.{spot, stays}
+use Rattle.rt_gen_queue.proofs.Layer.{configuration, stays}
 use Rattle.rt_gen_timer.proofs.{Alone.instant_in, Alone.message_same, Alone.number_in, Arranged.IsPicked}
 use Rattle.rt_gen_timer.proofs.{Arranged.length_less, Calling.columns_now, Calling.entries, Calling.settles}
 use Rattle.rt_gen_timer.proofs.{Closing.closing_fit, Closing.closing_lines, Comparing.LoopEnd, Delaying.at_address}
 use Rattle.rt_gen_timer.proofs.{Leaving.IsAsBefore, Leaving.alone, Leaving.timer_left, Marking.fires, Opening.may_enter}
-use Rattle.rt_gen_timer.proofs.{Spelled.few_armings, Spelled.place_of, Spelled.spelled_whole, Trying.choice_at}
+use Rattle.rt_gen_timer.proofs.{Represented.few_armings, Represented.place_of, Represented.represented_whole}
+use Rattle.rt_gen_timer.proofs.{Trying.choice_at}
 use Rattle.rt_gen_timer.proofs.{Trying.tries_stand, Turning.AreSinks, Turning.idle_enough, Turning.sinks_for}
 use Rattle.rt_gen_timer.proofs.Acting.{Runs, code_part, run_stands, sooner}
 use Rattle.rt_gen_timer.proofs.Judging.{AreKept, Handler, Known, MayHandle, Took, begun, due_rest, foremost}
@@ -81,7 +82,7 @@ record Carried : Type 0 where
   pub done : ℕ
   pub at : ℕ
   pub cells : List ℕ
-  pub queues : Holder → List Entry
+  pub queues : Location → List Entry
   pub values : Values
 
 abbrev in_hands : Handler → Carried → Here
@@ -151,7 +152,7 @@ readies_stand k c w may =
     (λ r left more us readied.
     returns_here (code_behind k.code c.at (steps_and 12 c.at) ready (plain instr.Ret ∷ []) (omega arith) may.has).0
     (omega (arith, may.in_time), (omega (arith, may.in_time), tt)) refl refl refl refl
-    (kept_on may.kept readied.own readied.agree).spells)
+    (kept_on may.kept readied.own readied.agree).represents)
 
 -- A message is due in the section of a handler.
 record Due (k : Handler) : Type 0 where
@@ -159,12 +160,12 @@ record Due (k : Handler) : Type 0 where
   pub sinks : AreSinks k.app k.cost
   pub d : Took
   pub known : Known k d
-  pub some : 0 < length known.now.spells.heap
+  pub some : 0 < length known.now.represents.heap
 
 module _ {k : Handler} (u : Due k) where
   -- the messages of the heap, and the one that is due
   abbrev heap : List Entry
-  heap = u.known.now.spells.heap
+  heap = u.known.now.represents.heap
 
   abbrev e : Entry
   e = foremost u.known
@@ -173,7 +174,7 @@ module _ {k : Handler} (u : Due k) where
   m = message_at k.app (slice_index u.d.cells) e
 
   timed_place : IsTimedPlace k.app e
-  timed_place = place_of u.known.now.spells 0 u.some
+  timed_place = place_of u.known.now.represents 0 u.some
 
   abbrev picked : IsPicked (arming_of_entry k.app (slice_index u.d.cells)) (entries (inside k u.d)) e least
       without_least
@@ -232,7 +233,7 @@ module _ {k : Handler} (u : Due k) where
         let word : v.place + to_word ≡ message_word e =
         omega (arith, row, few_before k.app u.may.accepted e.task) in
         let opens = (columns_now now {after = b.cells} gone.long).opens in
-        let again = timer_left u.may.mono before now.spells picked gone.without gone.whole gone.count in
+        let again = timer_left u.may.mono before now.represents picked gone.without gone.whole gone.count in
         run_stands (here b.cells done at) v closing runs_here (omega (arith, less, gone.within))
         (closing_fit k.app k.threshold (at + 6) [] refl)
         (subst (λ (line : Line). HasCode k.code at (fire ++ (alarm_lines (queue_of k.app) 0 (at + 6) ++ line ∷ [])))
@@ -248,13 +249,13 @@ module _ {k : Handler} (u : Due k) where
         at_address (at + 6) (omega arith)
         (settles now with_fired (record v { place = message_word e; other = to_word })
         (record {
-          spells = again;
-          few = omega (arith, few_armings now.spells now.taken.few);
+          represents = again;
+          few = omega (arith, few_armings now.represents now.taken.few);
           alone = alone u.may.mono before;
           long = gone.long;
         })
-        (λ holder read. agree holder read ∙ u.known.agree holder read)
-        (omega (arith, counted, length_less now.spells.arranged picked.before picked.behind e picked.parts))
+        (λ location read. agree location read ∙ u.known.agree location read)
+        (omega (arith, counted, length_less now.represents.arranged picked.before picked.behind e picked.parts))
         (λ closed other us soon left later.
         ends
         (moved closed (at + 13) refl (omega arith)
@@ -288,7 +289,7 @@ module _ {k : Handler} (u : Due k) where
         place = armed_place k.app e;
       })))
   takes_first w =
-      let s = u.known.now.spells in
+      let s = u.known.now.represents in
       let w1 : Words = record w { place = armed_place k.app e } in
       let lines : List Line = timer_code k.app k.threshold k.first in
       let its = the_task is_software k.app e.task timed_place.1 in
@@ -307,7 +308,7 @@ module _ {k : Handler} (u : Due k) where
         fewer = omega (arith, u.some);
         inside = omega arith;
         columns = columns_now u.known.now refl;
-        whole = spelled_whole u.d.cells s u.known.now.taken.few;
+        whole = represented_whole u.d.cells s u.known.now.taken.few;
         order = s.arranged.order;
       })
       (λ b hand t a y gone.
@@ -334,7 +335,7 @@ unfolding storage
 within_timer app mono is = timer_within app mono is
 
 pub timers_stand : TimersStand
-timers_stand app accepted mono is cost costs there thread = λ slots cells queues values words_are long spelled.
+timers_stand app accepted mono is cost costs there thread = λ slots cells queues values words_are long represented.
     let k : Handler = record {
       app = app;
       code = there.code;
@@ -355,24 +356,25 @@ timers_stand app accepted mono is cost costs there thread = λ slots cells queue
       code = there.has;
       least = idle_enough app cost costs;
       kept = record {
-        spells = λ holder own.
-            spelled holder
-            (or_left ((storage app).is_kept (AtPriority mono.priority) holder)
-            ((storage app).is_constant (AtPriority mono.priority) holder) own);
+        represents = λ location own.
+            represented location
+            (or_left ((storage app).is_kept (AtPriority mono.priority) location)
+            ((storage app).is_constant (AtPriority mono.priority) location) own);
       };
       long = long;
       within = within_timer app mono is;
       enters = λ e place. level_within app accepted e place mono is;
     } in
     let within : 0 + 24 ≤ length slots = omega (arith, words_are) in
-    begins (record (spot (setting k) (begun k)) { lefts = timer_cost app ∷ []; slots = slots }) (timer_cost app)
+    begins (record (configuration (setting k) (begun k)) { lefts = timer_cost app ∷ []; slots = slots })
+    (timer_cost app)
     (subst (λ (ss : List ℕ). S (setting k) (record (begun k) { slots = ss })) (sym (window_of 0 slots within))
     (judges_stand may w
     (λ mask time other d known some.
-    let room = known.now.spells.room in
+    let room = known.now.represents.room in
     let u : Due k = record {
       may = may;
-      sinks = sinks_for app cost accepted costs (omega (arith, some, room, known.now.spells.arranged.long));
+      sinks = sinks_for app cost accepted costs (omega (arith, some, room, known.now.represents.arranged.long));
       d = d;
       known = known;
       some = some;

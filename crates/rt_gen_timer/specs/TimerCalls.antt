@@ -6,7 +6,7 @@
 use Rattle.std.specs.Prelude.{◌≡◌, ℕ, ◌+◌, ◌*◌, ◌^◌, ◌<◌, ◌≤◌, ◌⊎◌, true, false, List, length, take, drop}
 use Rattle.std.specs.Prelude.{slice_index, Some, IsSome}
 use Rattle.std.specs.List.{AllByRecursion}
-use Rattle.rt_ids.specs.Holder.{Holder}
+use Rattle.rt_ids.specs.Location.{Location}
 use Rattle.rt_ids.specs.Content.{Values}
 use Rattle.rt_ids.specs.Entry.{Entry}
 use Rattle.rt_ids.specs.Storage.{Runner, AtPriority}
@@ -17,13 +17,13 @@ use Rattle.rt_app.specs.declared.costs.TheConstants.{TIMER_QUEUE_WORDS, TIMER_WO
 use Rattle.rt_app.specs.Tree.{App}
 use Rattle.rt_app.specs.BodyCost.{timer_section_cost, handle_section_cost, timer_cost}
 use Rattle.rt_app.specs.Level.{is_armed, armed_messages}
-use Rattle.rt_app.specs.Sending.{Rest, take_place, arm_actions, cancel_actions, move_actions}
+use Rattle.rt_app.specs.Sending.{Rest, place_actions, arm_actions, cancel_actions, move_actions}
 use Rattle.rt_app.specs.Doings.{timer_doing_in}
 use Rattle.rt_app.specs.Layout.{memory}
 use Rattle.rt_app.specs.Holding.{storage}
 use Rattle.rt_app.specs.Accepted.{IsAccepted}
 use Rattle.rt_code.specs.Masking.{IsWithin}
-use Rattle.rt_code.specs.Owning.{Spot, is_open, saved_slots, Agree, LeavesMine}
+use Rattle.rt_code.specs.Owning.{Configuration, is_open, saved_slots, Agree, LeavesMine}
 use Rattle.rt_code.specs.Standing.{Stands, StandsFrom}
 use Rattle.rt_code.specs.declared.image.BodyRow.{BodyRow}
 use Rattle.rt_gen_queue.specs.Line.{Line, HasCode}
@@ -41,7 +41,7 @@ module _ (app : App) where
   module _ (who : Runner) where
     -- A job may use the timer queue from here, in so many steps: all its memory is there, 24 slots of its frame keep no
     -- mask, it is not in the queue's section, and may enter it; and there are these steps.
-    pub record MayUseTimer (steps threshold slot : ℕ) (s : Spot) : Type 0 where
+    pub record MayUseTimer (steps threshold slot : ℕ) (s : Configuration) : Type 0 where
       pub cells : length s.cells ≡ length (memory app)
       pub frame : slot + TIMER_QUEUE_WORDS ≤ length s.slots
       pub masks : AllByRecursion (λ d. d < slot) (saved_slots s.held)
@@ -51,14 +51,14 @@ module _ (app : App) where
       pub enough : AllByRecursion (λ n. steps ≤ n) s.lefts
 
     -- a job may also enter the section of the free places of a task, in which it is not
-    pub record MayUsePlaces (task : ℕ) (s : Spot) : Type 0 where
+    pub record MayUsePlaces (task : ℕ) (s : Configuration) : Type 0 where
       pub closed : is_open s.held (section.Free task) ≡ false
       pub within : IsWithin (storage app) who who (section.Free task)
 
     -- After a call of so many steps: the answer is in the first slot; other slots, what the job may read, and its cells
     -- and queues are as they were.
-    pub record HasUsedTimer (steps slot : ℕ) (s : Spot) (vs : Values) (answer used : ℕ) (slots cells : List ℕ)
-        (queues : Holder → List Entry) (ws : Values) : Type 0 where
+    pub record HasUsedTimer (steps slot : ℕ) (s : Configuration) (vs : Values) (answer used : ℕ) (slots cells : List ℕ)
+        (queues : Location → List Entry) (ws : Values) : Type 0 where
       pub answered : (answer ≤ 2 ^ 31) × (slice_index slots slot ≡ answer)
       pub frame : length slots ≡ length s.slots
       pub kept : (d : ℕ) → (d < slot) ⊎ (slot + TIMER_QUEUE_WORDS ≤ d) → slice_index slots d ≡ slice_index s.slots d
@@ -68,9 +68,10 @@ module _ (app : App) where
 
     -- The code of such a call, which takes so many steps, stands for its actions, where the code after it stands for
     -- the rest within so many further steps.
-    abbrev pub StandsBefore : List Line → List BodyRow → ℕ → ℕ → ℕ → List Line → (ℕ → Rest) → ℕ → Spot → Values → Type 0
+    abbrev pub StandsBefore : List Line → List BodyRow → ℕ → ℕ → ℕ → List Line → (ℕ → Rest) → ℕ → Configuration → Values
+        → Type 0
     StandsBefore code bodies thread steps slot lines rest n s vs =
-        ((answer used m : ℕ) (slots cells : List ℕ) (queues : Holder → List Entry) (ws : Values) → n ≤ m
+        ((answer used m : ℕ) (slots cells : List ℕ) (queues : Location → List Entry) (ws : Values) → n ≤ m
         → HasUsedTimer steps slot s vs answer used slots cells queues ws
         → Stands (storage app) code bodies thread who m
         (behind app who s lines used slots cells queues (rest answer) ws))
@@ -93,13 +94,14 @@ pub record AfterAt (c : CallSite) : Type 0 where
   pub args : List ℕ
   pub armed : is_armed c.app c.task ≡ true
   pub costs : IsSectionCost c.app cost
-  pub has : HasCode c.code c.spot.address (after_code c.app c.task c.threshold c.slot c.spot.address)
-  pub may : MayUseTimer c.app c.who (after_steps c.app) c.threshold c.slot c.spot
-  pub places : MayUsePlaces c.app c.who c.task c.spot
-  pub delayed : slice_index c.spot.slots c.slot ≡ delay
-  pub arguments : take c.t.args (drop (c.slot + 1) c.spot.slots) ≡ args
-  pub is : c.spot.rest
-      ≡ take_place c.app c.task (arm_actions c.app cost delay (record { task = c.task; args = args }) c.rest) (c.rest 0)
+  pub has : HasCode c.code c.configuration.address (after_code c.app c.task c.threshold c.slot c.configuration.address)
+  pub may : MayUseTimer c.app c.who (after_steps c.app) c.threshold c.slot c.configuration
+  pub places : MayUsePlaces c.app c.who c.task c.configuration
+  pub delayed : slice_index c.configuration.slots c.slot ≡ delay
+  pub arguments : take c.t.args (drop (c.slot + 1) c.configuration.slots) ≡ args
+  pub is : c.configuration.rest
+      ≡ place_actions c.app c.task (arm_actions c.app cost delay (record { task = c.task; args = args }) c.rest)
+      (c.rest 0)
       c.vs
 
 -- The code of a `spawn_after` stands for its actions, with a section of each of the two costs, and for any rest.
@@ -107,17 +109,17 @@ abbrev pub AftersStand : Type 0
 AftersStand =
     (c : CallSite) → NamesTask c → IsSome c.app.mono → AfterAt c → (n : ℕ)
     → StandsBefore c.app c.who c.code c.bodies c.thread (after_steps c.app) c.slot
-    (after_code c.app c.task c.threshold c.slot c.spot.address) c.rest n c.spot c.vs
+    (after_code c.app c.task c.threshold c.slot c.configuration.address) c.rest n c.configuration c.vs
 
 -- A `cancel` at a call site: its code is where the job is, which may use the timer queue and the places of the task;
 -- the handle is in the first slot; and its actions are what is to be done.
 pub record CancelAt (c : CallSite) : Type 0 where
   pub handle : ℕ
-  pub has : HasCode c.code c.spot.address (cancel_code c.app c.task c.threshold c.slot c.spot.address)
-  pub may : MayUseTimer c.app c.who (handle_steps c.app) c.threshold c.slot c.spot
-  pub places : MayUsePlaces c.app c.who c.task c.spot
-  pub shown : slice_index c.spot.slots c.slot ≡ handle
-  pub is : c.spot.rest
+  pub has : HasCode c.code c.configuration.address (cancel_code c.app c.task c.threshold c.slot c.configuration.address)
+  pub may : MayUseTimer c.app c.who (handle_steps c.app) c.threshold c.slot c.configuration
+  pub places : MayUsePlaces c.app c.who c.task c.configuration
+  pub shown : slice_index c.configuration.slots c.slot ≡ handle
+  pub is : c.configuration.rest
       ≡ cancel_actions c.app (handle_section_cost c.app) c.task handle (c.rest 0) (c.rest 1) c.vs
 
 -- The code of a `cancel` stands for its actions.
@@ -125,18 +127,18 @@ abbrev pub CancelsStand : Type 0
 CancelsStand =
     (c : CallSite) → NamesTask c → IsSome c.app.mono → CancelAt c → (n : ℕ)
     → StandsBefore c.app c.who c.code c.bodies c.thread (handle_steps c.app) c.slot
-    (cancel_code c.app c.task c.threshold c.slot c.spot.address) c.rest n c.spot c.vs
+    (cancel_code c.app c.task c.threshold c.slot c.configuration.address) c.rest n c.configuration c.vs
 
 -- A `reschedule_after` at a call site: its code is where the job is, which may use the timer queue; the delay and the
 -- handle are in the first slots; and its actions are what is to be done.
 pub record MoveAt (c : CallSite) : Type 0 where
   pub delay : ℕ
   pub handle : ℕ
-  pub has : HasCode c.code c.spot.address (move_code c.app c.task c.threshold c.slot c.spot.address)
-  pub may : MayUseTimer c.app c.who (handle_steps c.app) c.threshold c.slot c.spot
-  pub delayed : slice_index c.spot.slots c.slot ≡ delay
-  pub shown : slice_index c.spot.slots (c.slot + 1) ≡ handle
-  pub is : c.spot.rest
+  pub has : HasCode c.code c.configuration.address (move_code c.app c.task c.threshold c.slot c.configuration.address)
+  pub may : MayUseTimer c.app c.who (handle_steps c.app) c.threshold c.slot c.configuration
+  pub delayed : slice_index c.configuration.slots c.slot ≡ delay
+  pub shown : slice_index c.configuration.slots (c.slot + 1) ≡ handle
+  pub is : c.configuration.rest
       ≡ move_actions c.app (handle_section_cost c.app) delay c.task handle (c.rest 0) (c.rest 1) c.vs
 
 -- The code of a `reschedule_after` stands for its actions. It uses no place.
@@ -144,7 +146,7 @@ abbrev pub MovesStand : Type 0
 MovesStand =
     (c : CallSite) → NamesTask c → IsSome c.app.mono → MoveAt c → (n : ℕ)
     → StandsBefore c.app c.who c.code c.bodies c.thread (handle_steps c.app) c.slot
-    (move_code c.app c.task c.threshold c.slot c.spot.address) c.rest n c.spot c.vs
+    (move_code c.app c.task c.threshold c.slot c.configuration.address) c.rest n c.configuration c.vs
 
 -- where the timer handler of a monotonic stands: its code is at an address, with rows of bodies beside it
 pub record TimerHandlerAt (app : App) (mono : Mono) : Type 0 where

@@ -11,7 +11,7 @@ use Rattle.rt_code.specs.declared.instr.Instr.TheVariants as instr
 use Rattle.rt_code.specs.declared.instr.Note.TheVariants as note
 use Rattle.rt_gen_queue.specs.Line.{Line, plain, line_with_note}
 use Rattle.rt_gen_queue.specs.Guards.{enter_line, leave_line}
-use Rattle.rt_gen_queue.specs.SpawnLines.{take_lines, fill_lines, ready_lines}
+use Rattle.rt_gen_queue.specs.SpawnLines.{place_lines, fill_lines, ready_lines}
 use Rattle.rt_gen_queue.specs.declared.target.Target.{Target}
 use Rattle.rt_gen_timer.specs.declared.armed.ArmedTask.{ArmedTask}
 use Rattle.rt_gen_timer.specs.declared.queue.TimerQueue.{TimerQueue}
@@ -276,7 +276,7 @@ module _ (q : TimerQueue) (slot : ℕ) where
     abbrev pub after_lines : ArmedTask → ℕ → List Line
     after_lines a at =
         let full : ℕ = at + (59 + a.target.args) in
-        take_lines a.target threshold (slot + ARGUMENTS) full
+        place_lines a.target threshold (slot + ARGUMENTS) full
         ++ (fill_lines a.target (slot + ARGUMENTS)
         ++ (arm_lines a (at + (12 + a.target.args)) ++ full_lines a (full + 2)))
 
@@ -300,8 +300,8 @@ module _ (q : TimerQueue) (slot : ℕ) where
         open_lines ++ (search_lines handle missing (at + 5) ++ own_lines a missing)
 
     -- the section closes, and a row of a task becomes its place. 3 lines.
-    abbrev pub place_lines : ArmedTask → List Line
-    place_lines a = leave_timer ∷ set OTHER a.first ∷ calc op.Sub PLACE PLACE OTHER ∷ []
+    abbrev pub place_of_row_lines : ArmedTask → List Line
+    place_of_row_lines a = leave_timer ∷ set OTHER a.first ∷ calc op.Sub PLACE PLACE OTHER ∷ []
 
     -- after the lines of a message that was found, the answer 0; and the code where none was: the section closes, and
     -- the answer is 1
@@ -316,7 +316,7 @@ module _ (q : TimerQueue) (slot : ℕ) where
         ++ (remove_lines (at + 17)
         ++ line_with_note instr.Mark (note.Cancel a.target.task (slot + ANSWER))
         ∷ (alarm_lines (at + 72)
-        ++ (place_lines a
+        ++ (place_of_row_lines a
         ++ (free_lines a.target
         ++ missing_lines (at + 91)))))
 

@@ -9,7 +9,7 @@ use crate::emitter::Emitter;
 use crate::slots::{ANSWER, ARGUMENTS, MASK};
 use rt_code::{Instr, Line, Note};
 use rt_gen_queue::Lines;
-use rt_gen_queue::parts::{fill, take};
+use rt_gen_queue::parts::{fill, place};
 use rt_ids::{NoMemory, Section};
 
 impl Emitter {
@@ -49,7 +49,7 @@ impl Emitter {
         let args = u32::from(armed.target.args);
         let first = self.slot + ARGUMENTS;
         let full = at + (59 + args);
-        lines.append(&take(&armed.target, threshold, first, full))?;
+        lines.append(&place(&armed.target, threshold, first, full))?;
         fill(&armed.target, first, lines)?;
         self.push_arm(armed, threshold, at + (12 + args), lines)?;
         lines.append(&self.full(armed, threshold, full + 2))

@@ -27,8 +27,8 @@ abbrev pub IsSpelled : List Token → App → Type 0
 IsSpelled ts app = (marks : List Mark) × text marks app × Fits marks ts []
 
 -- these tokens are a viable prefix: some text of the grammar begins with them
-abbrev pub Begins : List Token → Type 0
-Begins ts = (marks : List Mark) × Reaches text ts marks []
+abbrev pub IsViablePrefix : List Token → Type 0
+IsViablePrefix ts = (marks : List Mark) × Reaches text ts marks []
 
 -- as far as the tokens go with the grammar, they pass no limit
 abbrev pub IsUnlimited : List Token → Type 0
@@ -49,7 +49,7 @@ pub record IsForeignAt (src : List ℕ) (at : ℕ) : Type 0 where
   pub byte : Token
   pub behind : List Token
   pub split : tokens src ≡ before ++ byte ∷ behind
-  pub begins : Begins before
+  pub begins : IsViablePrefix before
   pub foreign : byte.kind ≡ kind.Foreign
   pub unlimited : IsUnlimited (tokens src)
   pub offset : at ≡ byte.at
@@ -58,7 +58,7 @@ pub record IsForeignAt (src : List ℕ) (at : ℕ) : Type 0 where
 -- token, and these are no text.
 abbrev pub IsDeadEnd : List Token → List Token → Type 0
 IsDeadEnd before [] = (app : App) → IsSpelled before app → ⊥
-IsDeadEnd before (t ∷ behind) = (Begins (before ++ t ∷ []) → ⊥) × (t.kind ≢ kind.Foreign)
+IsDeadEnd before (t ∷ behind) = (IsViablePrefix (before ++ t ∷ []) → ⊥) × (t.kind ≢ kind.Foreign)
 
 -- the offset of the first of these tokens, or the end of the text
 abbrev pub offset_of : List ℕ → List Token → ℕ
@@ -71,7 +71,7 @@ pub record IsSyntaxAt (src : List ℕ) (at : ℕ) : Type 0 where
   pub before : List Token
   pub rest : List Token
   pub split : tokens src ≡ before ++ rest
-  pub begins : Begins before
+  pub begins : IsViablePrefix before
   pub dead_end : IsDeadEnd before rest
   pub unlimited : IsUnlimited (tokens src)
   pub offset : at ≡ offset_of src rest

@@ -5,7 +5,7 @@
 use Rattle.std.specs.Prelude.{ℕ, ◌+◌, ◌^◌, ◌<◌, Bool, false, ◌==◌, ◌&&◌, min, List, [], ◌∷◌, ◌++◌, Option, Some, None}
 use Rattle.std.specs.Prelude.{if◌then◌else◌, find, remove}
 use Rattle.std.specs.List.{position_or_len}
-use Rattle.rt_ids.specs.Holder.{Holder, is_same_holder}
+use Rattle.rt_ids.specs.Location.{Location, is_same_location}
 
 -- a message to a software task, with its arguments
 pub record Message : Type 0 where
@@ -27,7 +27,7 @@ pub record Timed : Type 0 where
   -- the armed messages, in order of their last arming; a move to another instant counts as an arming
   pub armed : List Armed
 
--- what a holder holds: a number, ready messages, or the timer queue
+-- what a location holds: a number, ready messages, or the timer queue
 pub data Content : Type 0 where
   -- a resource has a value; of the places of a task so many are out
   Number : (n : ℕ) → Content
@@ -35,9 +35,9 @@ pub data Content : Type 0 where
   Messages : (messages : List Message) → Content
   Delays : (timed : Timed) → Content
 
--- what every holder holds at one moment
+-- what every location holds at one moment
 abbrev pub Values : Type 0
-Values = Holder → Content
+Values = Location → Content
 
 -- the timer queue at reset
 abbrev pub nothing_armed : Timed
@@ -71,9 +71,9 @@ MayArm (Number n) = Unit {0}
 MayArm (Messages messages) = Unit {0}
 MayArm (Delays t) = t.given + t.moved < 2 ^ 31
 
--- the values with another content at one holder
-abbrev pub values_with : Values → Holder → Content → Values
-values_with values holder content other = if is_same_holder holder other then content else values other
+-- the values with another content at one location
+abbrev pub values_with : Values → Location → Content → Values
+values_with values location content other = if is_same_location location other then content else values other
 
 -- the lesser of a number and of one that may not be there
 abbrev pub lesser : ℕ → Option ℕ → ℕ

@@ -11,7 +11,7 @@ pub mod Operation
 pub mod Priority
 pub mod Choice
 pub mod Arrivals
-pub mod Holder
+pub mod Location
 pub mod Content
 pub mod Action
 pub mod Doing

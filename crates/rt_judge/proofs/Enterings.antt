@@ -10,7 +10,7 @@ use Rattle.std.proofs.lemmas.List.Elements.{Contains-append_left, Contains-push_
 use Rattle.rt_lemmas.proofs.Bools.{or_left, both_of_none, not_true}
 use Rattle.rt_lemmas.proofs.Membership.{all_append, any_left, any_right}
 use Rattle.rt_ids.specs.Choice.{IsIn}
-use Rattle.rt_ids.specs.Holder.{is_same_section}
+use Rattle.rt_ids.specs.Location.{is_same_section}
 use Rattle.rt_ids.specs.declared.ids.Section.{Section}
 use Rattle.rt_code.specs.Image.{Image}
 use Rattle.rt_code.specs.declared.instr.Instr.{Instr}
@@ -20,7 +20,7 @@ use Rattle.rt_points.specs.Point.{Point, sections}
 use Rattle.rt_points.specs.declared.point.Owner.TheVariants.{Starting, Thread, Handling}
 use Rattle.rt_points.specs.ExecutionPriority.{owner_value}
 use Rattle.rt_judge.specs.Inside.Kept.{EntersBy, FreeAt}
-use Rattle.rt_judge.specs.Inside.Entering.{Enterer, priority_behind, IsGreatestPriority, IsLeastValue, IsLeastOrNone}
+use Rattle.rt_judge.specs.Inside.Entering.{Enterer, priority_after, IsGreatestPriority, IsLeastValue, IsLeastOrNone}
 use Rattle.rt_judge.specs.Inside.Entering.{IsEntering}
 use Rattle.rt_judge.specs.Inside.Entering.{TellsOfSections, least, with_entering, row_with_entering, rows_with_entering}
 use Rattle.rt_judge.specs.Inside.Entering.{EntersNone}
@@ -81,10 +81,10 @@ module _ (img : Image) (ps : List Point) (p : Point) (i : Instr) (x : Section) (
       (Contains-push_cases ps p q e.seen)
 
   abbrev priority_now : ℕ
-  priority_now = priority_behind img p i x
+  priority_now = priority_after img p i x
 
-  priority_same : (q : Point) (j : Instr) → p ≡ q → i ≡ j → priority_behind img q j x ≡ priority_now
-  priority_same q j same one = sym (ap (λ r. priority_behind img r i x) same ∙ ap (λ k. priority_behind img q k x) one)
+  priority_same : (q : Point) (j : Instr) → p ≡ q → i ≡ j → priority_after img q j x ≡ priority_now
+  priority_same q j same one = sym (ap (λ r. priority_after img r i x) same ∙ ap (λ k. priority_after img q k x) one)
 
   greatest : (old : ℕ) → IsGreatestPriority img ps x old → IsGreatestPriority img (ps ++ p ∷ []) x
       (max old priority_now)
@@ -109,7 +109,7 @@ module _ (img : Image) (ps : List Point) (p : Point) (i : Instr) (x : Section) (
       })
       (cases_lt old priority_now)
     where
-      at_most : (old : ℕ) → old < priority_now → priority_behind img p i x ≡ max old priority_now
+      at_most : (old : ℕ) → old < priority_now → priority_after img p i x ≡ max old priority_now
       at_most old lower = omega (arith, lower)
 
   value_same : (q : Point) (value : ℕ) → p ≡ q → owner_value img p.owner ≡ value → owner_value img q.owner ≡ value
@@ -163,7 +163,7 @@ module _ (img : Image) (ps : List Point) (p : Point) (i : Instr) (x : Section) (
       (cases_lt u v)
 
   -- a row with the next who enters
-  module _ (e : Entering) (of : e.section ≡ x) (priority : e.priority ≡ priority_behind img p i x)
+  module _ (e : Entering) (of : e.section ≡ x) (priority : e.priority ≡ priority_after img p i x)
       (value : IsValueOf img p e.value) where
     first_row : ((q : Point) (j : Instr) → ¬ Enterer img ps x q j) → IsEntering img (ps ++ p ∷ []) x e
     first_row none = record {
@@ -179,7 +179,7 @@ module _ (img : Image) (ps : List Point) (p : Point) (i : Instr) (x : Section) (
       value = least_value None e.value (λ q j before. absurd (none q j before)) value;
     }
       where
-        now_is : priority_now ≡ priority_behind img p i x
+        now_is : priority_now ≡ priority_after img p i x
         now_is = refl
 
     other_row : (row : Entering) → row.section ≢ x → IsEntering img ps row.section row
@@ -222,7 +222,7 @@ module _ (img : Image) (ps : List Point) (p : Point) (i : Instr) (x : Section) (
           value = least_value row.value e.value old.value value;
         })
       where
-        now_is : priority_now ≡ priority_behind img p i x
+        now_is : priority_now ≡ priority_after img p i x
         now_is = refl
 
     -- the rows, each of its own section

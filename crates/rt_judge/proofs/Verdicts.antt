@@ -9,7 +9,7 @@ use Rattle.std.proofs.lemmas.Option.{none-some, slice_get-get_or, slice_get_with
 use Rattle.rt_lemmas.proofs.Bools.{and_parts, and_left, and_right, both_of_none, not_true, not_false}
 use Rattle.rt_lemmas.proofs.Membership.{all_has, all_at, all_weaker, any_one}
 use Rattle.rt_ids.specs.Choice.{IsIn}
-use Rattle.rt_ids.specs.Holder.{is_same_section}
+use Rattle.rt_ids.specs.Location.{is_same_section}
 use Rattle.rt_ids.specs.declared.ids.Section.{Section}
 use Rattle.rt_code.specs.Access.{Access, cell_of}
 use Rattle.rt_code.specs.Image.{Image}
@@ -28,7 +28,7 @@ use Rattle.rt_points.specs.declared.rule.Rule.{Rule}
 use Rattle.rt_points.specs.declared.rule.Rule.TheVariants as rule
 use Rattle.rt_judge.specs.Inside.Kept.{TellsOfAll, HasLine, OperatesAt, NotesAt, FreeAt, EntersBy}
 use Rattle.rt_judge.specs.Inside.Entering.{Enterer, IsEntering, IsLeastOrNone, TellsOfSections, holds_off}
-use Rattle.rt_judge.specs.Inside.Entering.{priority_behind, none_or}
+use Rattle.rt_judge.specs.Inside.Entering.{priority_after, none_or}
 use Rattle.rt_judge.specs.Inside.Touching.{Toucher, IsTouching, TellsOfTouching, SomeIfTrue, is_guarded, is_row_guarded}
 use Rattle.rt_judge.specs.Inside.Looks.{Looked}
 use Rattle.rt_judge.specs.declared.entering.Entering.{Entering}
@@ -128,12 +128,12 @@ module _ (img : Image) (f : Findings) (looked : Looked img f) where
   row_high : (row : Entering) → IsEntering img looked.points row.section row → holds_off row ≡ true
       → (p q : Point) (i j : Instr)
       → Enterer img looked.points row.section p i → Enterer img looked.points row.section q j → q.owner ≢ Starting
-      → priority_behind img p i row.section ≤ owner_value img q.owner
+      → priority_after img p i row.section ≤ owner_value img q.owner
   row_high row is pass p q i j enters others outside = by_value row.value is.value pass
     where
       by_value : (v : Option ℕ) → IsLeastOrNone img looked.points row.section v
           → none_or (λ value. nat_le row.priority value) v ≡ true
-          → priority_behind img p i row.section ≤ owner_value img q.owner
+          → priority_after img p i row.section ≤ owner_value img q.owner
       by_value None none pass = absurd (outside (none q j others))
       by_value (Some v) l pass =
           let high = is.priority.all p i enters in
@@ -156,7 +156,7 @@ module _ (img : Image) (f : Findings) (looked : Looked img f) where
             row.1
             looked.finds.sections.rows row.2 in
             let high = holds_at holds_off f.sections.rows.items row.0 row.1 all row.2 in
-            subst (λ y. priority_behind img p i y ≤ owner_value img q.owner) same
+            subst (λ y. priority_after img p i y ≤ owner_value img q.owner) same
             (row_high row.1 is high p q i j
             (subst (λ y. Enterer img looked.points y p i) (sym same) (enterer p i x stands))
             (subst (λ y. Enterer img looked.points y q j) (sym same) (enterer q j x other)) outside);
@@ -174,10 +174,10 @@ module _ (img : Image) (f : Findings) (looked : Looked img f) where
           let holds = (all p is.priority.instr row.section
           (enters_at p is.priority.instr row.section is.priority.enterer)).others q l.instr
           l.outside (enters_at q l.instr row.section l.enterer) in
-          let priority : priority_behind img p is.priority.instr row.section ≡ row.priority = is.priority.is in
+          let priority : priority_after img p is.priority.instr row.section ≡ row.priority = is.priority.is in
           let value : owner_value img q.owner ≡ v = l.is in
           let above : v < row.priority = lt_of row.priority v fail in
-          let low : priority_behind img p is.priority.instr row.section ≤ owner_value img q.owner = holds in
+          let low : priority_after img p is.priority.instr row.section ≤ owner_value img q.owner = holds in
           absurd (omega (arith, priority, value, above, low))
 
   pub not_enters : (f.sections.free && list_all holds_off f.sections.rows.items) ≡ false → ¬ EntersWell img

@@ -1,7 +1,7 @@
 ghost use Rattle.std.specs.Prelude.{◌≡◌, ◌++◌, ◌∷◌, [], map, ◌&&◌, ◌↔◌, ℕ, IsTrue, OnOk, MatchOption, List, Some};
 ghost use Rattle.std.specs.Prelude.{slice_get};
 ghost use Rattle.std.specs.List.{list_any, list_all};
-ghost use Rattle.rt_ids.specs.Holder.{is_same_section};
+ghost use Rattle.rt_ids.specs.Location.{is_same_section};
 ghost use Rattle.rt_points.specs.Point.{Point};
 ghost use Rattle.rt_judge.specs.Inside.Points.{point};
 ghost use Rattle.rt_judge.specs.Inside.Entering as spec;

@@ -1,6 +1,6 @@
 ghost use Rattle.std.specs.Prelude.{◌≡◌, ◌↔◌, [], ◌∷◌, drop, IfOk, IsTrue};
 ghost use Rattle.rt_points.specs.Leading.{kind_of, inside_after};
-ghost use Rattle.rt_ids.specs.Holder.{is_same_section};
+ghost use Rattle.rt_ids.specs.Location.{is_same_section};
 ghost use Rattle.std.specs.List.{list_any};
 
 use rt_code::{Instr, Note};

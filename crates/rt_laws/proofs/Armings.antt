@@ -1,7 +1,7 @@
 -- How many times messages were armed, each time that one was put to another instant counted too, rises by one at an
 -- arming and at a move, and at no other step.
 use Rattle.std.proofs.Common.{◌≡◌, ℕ, ◌+◌, ◌≤◌, ap, arith}
-use Rattle.rt_ids.specs.Holder.{Guarded}
+use Rattle.rt_ids.specs.Location.{Guarded}
 use Rattle.rt_ids.specs.Content.{Values, timer_content}
 use Rattle.rt_ids.specs.Action.{Action, Arms, Fires, Cancels, Moves, effect}
 use Rattle.rt_ids.specs.declared.ids.Section.TheVariants as section

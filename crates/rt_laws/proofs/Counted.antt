@@ -9,7 +9,7 @@ use Rattle.std.proofs.lemmas.List.Sums.{sum_by-cons, sum_by_push}
 use Rattle.rt_lemmas.proofs.Bools.{and_parts}
 use Rattle.rt_lemmas.proofs.Numbers.{one_add}
 use Rattle.rt_ids.specs.Lists.{is_some_and, or_zero}
-use Rattle.rt_ids.specs.Holder.{Guarded}
+use Rattle.rt_ids.specs.Location.{Guarded}
 use Rattle.rt_ids.specs.Content.{Message, Armed, Values, Number, Messages, number, messages, delays, has_instant}
 use Rattle.rt_ids.specs.Content.{least_instant, least, has_handle, message_of_handle, without_least, without_handle}
 use Rattle.rt_ids.specs.Content.{postponed_message}

@@ -9,7 +9,7 @@ use Rattle.rt_lemmas.proofs.Membership.{all_append}
 use Rattle.rt_lemmas.proofs.Lists.{find_has}
 use Rattle.rt_ids.specs.Lists.{is_some_and}
 use Rattle.rt_ids.specs.Choice.{IsIn}
-use Rattle.rt_ids.specs.Holder.{Guarded, is_same_section}
+use Rattle.rt_ids.specs.Location.{Guarded, is_same_section}
 use Rattle.rt_ids.specs.Content.{Message, Armed, Content, Values, Number, Messages, Delays, number, messages}
 use Rattle.rt_ids.specs.Content.{timer_content, delays, values_with, has_instant, least_instant, least, has_handle}
 use Rattle.rt_ids.specs.Content.{message_of_handle, without_handle, postponed_message, with_armed, with_fired}

@@ -10,7 +10,7 @@ use Rattle.rt_lemmas.proofs.Membership.{contains_here, contains_there}
 use Rattle.rt_lemmas.proofs.Lists.{all_front, all_behind}
 use Rattle.rt_ids.specs.Lists.{is_some_and, or_zero}
 use Rattle.rt_ids.specs.Choice.{IsIn}
-use Rattle.rt_ids.specs.Holder.{Guarded, Own}
+use Rattle.rt_ids.specs.Location.{Guarded, Own}
 use Rattle.rt_ids.specs.Content.{Content, Values, number, timer_content, delays, message_of_handle, Message, Number}
 use Rattle.rt_ids.specs.Content.{values_with}
 use Rattle.rt_ids.specs.Action.{Enters, Leaves, Emits, Posts, Clocks, Places, FindsFull, Frees, Arms, Cancels, Moves}
@@ -31,7 +31,8 @@ use Rattle.rt_app.specs.Handlers.{irq_number}
 use Rattle.rt_app.specs.Cost.{lock_cost, block_cost}
 use Rattle.rt_app.specs.BodyCost.{cost_measure, timer_section_cost, handle_section_cost}
 use Rattle.rt_app.specs.Waiting.{CriticalSection, statement_sections, block_sections, spawn_sections}
-use Rattle.rt_app.specs.Sending.{act, capacity_of, Rest, act_all, has_place, take_place, ready_actions, instant_after}
+use Rattle.rt_app.specs.Sending.{act, capacity_of, Rest, act_all, has_place, place_actions, ready_actions}
+use Rattle.rt_app.specs.Sending.{instant_after}
 use Rattle.rt_app.specs.Sending.{leave_timer, arm_actions, is_armed_as, cancel_actions, move_actions, spawn_actions}
 use Rattle.rt_app.specs.Meaning.{Later, value_in, assign, turns_from, run, run_block}
 use Rattle.rt_app.specs.Sound.{IsSoundSpawn, IsSoundStatement, IsSoundBlock}
@@ -82,7 +83,7 @@ module _ (app : App) (role : Role) (q : ℕ) (m : Member) (P : CriticalSection �
 
   take_fine : (held : List Section) (n : ℕ) (granted refused : Rest)
       → EntersFine app role q held (section.Free n) FREE_COST
-      → FineHere held granted → FineHere held refused → FineHere held (take_place app n granted refused)
+      → FineHere held granted → FineHere held refused → FineHere held (place_actions app n granted refused)
   take_fine held n granted refused enters first second =
       act_fine app role q held (Enters (section.Free n) FREE_COST) chosen enters (tt, λ k vs. tt)
       (λ k vs queued. go k vs queued (has_place app n vs) refl)

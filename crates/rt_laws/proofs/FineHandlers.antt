@@ -10,7 +10,7 @@ use Rattle.rt_lemmas.proofs.Lists.{all_front, all_behind, find_has, AreFrom, all
 use Rattle.rt_lemmas.proofs.Membership.{all_append, all_flat_map, any_one, any_passes}
 use Rattle.rt_ids.specs.Lists.{is_some_and, or_zero, then_from, is_empty}
 use Rattle.rt_ids.specs.Choice.{IsIn}
-use Rattle.rt_ids.specs.Holder.{Guarded}
+use Rattle.rt_ids.specs.Location.{Guarded}
 use Rattle.rt_ids.specs.Content.{Message, Armed, Values, messages, delays, least}
 use Rattle.rt_ids.specs.Action.{Action, Enters, Leaves, Posts, Starts, Frees, Fires, SetsAlarm, Ends, Returns}
 use Rattle.rt_ids.specs.declared.ids.BodyId.TheVariants as body

@@ -4,7 +4,7 @@
 use Rattle.std.proofs.Common.{◌≡◌, ℕ, zero, suc, ◌==◌, Bool, true, false, if◌then◌else◌, List, [], ◌∷◌, ◌++◌, replicate}
 use Rattle.std.proofs.Common.{slice_get, slice_set, map, Option, Some, None, refl}
 use Rattle.rt_ids.specs.Lists.{then_from}
-use Rattle.rt_ids.specs.Holder.{Guarded, Own}
+use Rattle.rt_ids.specs.Location.{Guarded, Own}
 use Rattle.rt_ids.specs.Content.{Message, Armed, Values, Number, messages, timer_content, delays, values_with}
 use Rattle.rt_ids.specs.Action.{Action, Enters, Leaves, Clocks, Places, FindsFull, Readies, Starts, Frees, Arms, Fires}
 use Rattle.rt_ids.specs.Action.{Cancels, Moves, Ends, Returns}
@@ -20,7 +20,8 @@ use Rattle.rt_app.specs.Variables.{variables}
 use Rattle.rt_app.specs.Bodies.{task_priority}
 use Rattle.rt_app.specs.BodyCost.{timer_section_cost}
 use Rattle.rt_app.specs.Handlers.{Handler, Runs, Dispatches, Times}
-use Rattle.rt_app.specs.Sending.{Rest, act, act_all, has_place, take_place, ready_actions, instant_after, leave_timer}
+use Rattle.rt_app.specs.Sending.{Rest, act, act_all, has_place, place_actions, ready_actions, instant_after}
+use Rattle.rt_app.specs.Sending.{leave_timer}
 use Rattle.rt_app.specs.Sending.{arm_actions, is_armed_as, spawn_actions}
 use Rattle.rt_app.specs.Meaning.{Later, value_in, assign, turns_from, run, run_block}
 use Rattle.rt_app.specs.Doings.{nothing, declared_doing, init_doing, idle_doing, task_doing, start_doing, due}
@@ -64,7 +65,7 @@ LaterFits later = (vars : List ℕ) → RestFits None (later vars)
 
 module _ (app : App) where
   take_fits : (n : ℕ) (granted refused : Rest) → RestFits (Some n) granted → RestFits None refused
-      → RestFits None (take_place app n granted refused)
+      → RestFits None (place_actions app n granted refused)
   take_fits n granted refused first second vs = (tt, λ k ws. go (has_place app n ws) ws)
     where
       go : (b : Bool) (ws : Values) → Fits None

@@ -3,7 +3,7 @@
 use Rattle.std.proofs.Common.{ℕ, zero, suc, ◌==◌, Bool, true, false, if◌then◌else◌, List, [], ◌∷◌, ◌++◌, replicate}
 use Rattle.std.proofs.Common.{slice_get, slice_set, Option, Some, None}
 use Rattle.rt_ids.specs.Lists.{then_from}
-use Rattle.rt_ids.specs.Holder.{Guarded, Own}
+use Rattle.rt_ids.specs.Location.{Guarded, Own}
 use Rattle.rt_ids.specs.Content.{Message, Values, Number, values_with}
 use Rattle.rt_ids.specs.Action.{Action, Enters, Leaves, Emits, Posts, Clocks, Places, FindsFull, Ends, Returns}
 use Rattle.rt_ids.specs.Doing.{Doing, does}
@@ -16,7 +16,7 @@ use Rattle.rt_app.specs.Tree.{Expression, Spawn, Calc, Now, Call, Statement, Bin
 use Rattle.rt_app.specs.Tree.{Pend, Spawns, Block, Empty, Then, Body, App}
 use Rattle.rt_app.specs.Variables.{variables}
 use Rattle.rt_app.specs.declared.costs.TheConstants.{FREE_COST}
-use Rattle.rt_app.specs.Sending.{Rest, act, act_all, has_place, take_place, spawn_actions}
+use Rattle.rt_app.specs.Sending.{Rest, act, act_all, has_place, place_actions, spawn_actions}
 use Rattle.rt_app.specs.Meaning.{Later, value_in, assign, turns_from, run, run_block}
 use Rattle.rt_app.specs.Doings.{nothing, declared_doing, task_doing}
 
@@ -49,7 +49,7 @@ module _ (app : App) (Holds : Doing Values → Type 0) (passes : IsPassed Holds)
   LaterHolds later = (vars : List ℕ) → RestHolds (later vars)
 
   pub take_holds : (n : ℕ) (granted refused : Rest) → RestHolds granted → RestHolds refused
-      → RestHolds (take_place app n granted refused)
+      → RestHolds (place_actions app n granted refused)
   take_holds n granted refused first second vs =
       passes.places n FREE_COST vs _ (λ k ws. go (has_place app n ws) ws)
     where

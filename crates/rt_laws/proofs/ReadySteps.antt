@@ -6,7 +6,7 @@ use Rattle.std.proofs.lemmas.Bool.{eqb-true}
 use Rattle.std.proofs.lemmas.Option.{none-some}
 use Rattle.rt_lemmas.proofs.Membership.{all_at}
 use Rattle.rt_ids.specs.Choice.{IsIn}
-use Rattle.rt_ids.specs.Holder.{Guarded}
+use Rattle.rt_ids.specs.Location.{Guarded}
 use Rattle.rt_ids.specs.Content.{Message, Values, messages}
 use Rattle.rt_ids.specs.Action.{Action, Enters, Leaves, Posts, Clocks, Readies, Starts, SetsAlarm, Ends, Returns}
 use Rattle.rt_ids.specs.Action.{effect}

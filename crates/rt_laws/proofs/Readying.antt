@@ -2,7 +2,7 @@
 -- timer handler and the dispatcher itself, whatever the values are on the way.
 use Rattle.std.proofs.Common.{◌≡◌, ℕ, ◌⊎◌, Bool, true, false, if◌then◌else◌, List, [], ◌∷◌, ◌++◌, drop, map, Option}
 use Rattle.std.proofs.Common.{Some, None, refl, sym, ap, subst, inl, inr}
-use Rattle.rt_ids.specs.Holder.{Guarded}
+use Rattle.rt_ids.specs.Location.{Guarded}
 use Rattle.rt_ids.specs.Content.{Message, Armed, Values, messages, timer_content, delays}
 use Rattle.rt_ids.specs.Action.{Enters, Leaves, Posts, Clocks, Readies, Starts, Frees, Cancels, Moves, Ends, Returns}
 use Rattle.rt_ids.specs.Doing.{Doing, over, does}

@@ -2,7 +2,7 @@
 -- serves them is pending, and then its handling stands before the section.
 use Rattle.std.proofs.Common.{◌≡◌, true, false, [], ◌∷◌, slice_index_or, None, inl, refl}
 use Rattle.rt_ids.specs.Lists.{those_below}
-use Rattle.rt_ids.specs.Holder.{Guarded}
+use Rattle.rt_ids.specs.Location.{Guarded}
 use Rattle.rt_ids.specs.Content.{messages}
 use Rattle.rt_ids.specs.declared.ids.BodyId.TheVariants as body
 use Rattle.rt_ids.specs.declared.ids.Section.TheVariants as section

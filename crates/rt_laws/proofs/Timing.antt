@@ -3,7 +3,7 @@
 -- find it leaves the queue as it was. Nobody sets the alarm outside.
 use Rattle.std.proofs.Common.{◌≡◌, ℕ, Bool, true, false, not, if◌then◌else◌, List, [], ◌∷◌, map, Option, Some, None}
 use Rattle.std.proofs.Common.{refl}
-use Rattle.rt_ids.specs.Holder.{Guarded}
+use Rattle.rt_ids.specs.Location.{Guarded}
 use Rattle.rt_ids.specs.Content.{Message, Armed, Values, messages, timer_content, delays}
 use Rattle.rt_ids.specs.Action.{Enters, Leaves, Frees, Clocks, SetsAlarm, Arms, Fires, Cancels, Moves, Ends, Returns}
 use Rattle.rt_ids.specs.Doing.{Doing, over, does}

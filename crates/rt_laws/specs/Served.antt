@@ -6,7 +6,7 @@
 -- interrupt, or sets the alarm, inside the section.
 use Rattle.std.specs.Prelude.{◌≡◌, ℕ, ◌⊎◌, true, false, Contains, List, [], ◌∷◌, slice_index_or, Some}
 use Rattle.rt_ids.specs.Choice.{IsIn}
-use Rattle.rt_ids.specs.Holder.{Guarded}
+use Rattle.rt_ids.specs.Location.{Guarded}
 use Rattle.rt_ids.specs.Content.{Values, messages}
 use Rattle.rt_ids.specs.Action.{Enters}
 use Rattle.rt_ids.specs.Doing.{Doing, over, does}

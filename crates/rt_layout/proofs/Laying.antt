@@ -21,7 +21,7 @@ use Rattle.rt_app.specs.Layout.{task_cells, ready_cells, ready_room, timer_colum
 use Rattle.rt_app.specs.Layout.{ready_at, has_inputs, numbers_of}
 use Rattle.rt_app.proofs.SoundCeilings.{those_all}
 use Rattle.rt_app.proofs.Laid.{on_ready, on_queues, on_locals}
-use Rattle.rt_ids.specs.Holder.{Guarded}
+use Rattle.rt_ids.specs.Location.{Guarded}
 use Rattle.rt_ids.specs.Storage.{At}
 use Rattle.rt_ids.specs.declared.ids.Section.TheVariants as section
 use Rattle.rt_ids.specs.declared.cell.CellRow.{CellRow}
@@ -148,7 +148,8 @@ software_inputs at inputs n (t ∷ ts) next =
     ap (λ m. (if has_inputs t then m else 0) ∷ numbers_of has_inputs inputs (n + 1) ts) first
     ∙ ap (λ rest. (if has_inputs t then at n + 1 + t.capacity else 0) ∷ rest)
     (software_inputs at inputs (n + 1) ts
-    (λ k u is. (let e : n + 1 + suc k ≡ n + suc (suc k) = omega arith in let d : n + suc k ≡ n + 1 + k = omega arith in (
+    (λ k u is. (let e : n + 1 + suc k ≡ n + suc (suc k) = omega arith in let d : n + suc k
+    ≡ n + 1 + k = omega arith in (
       ap at e ∙ ((next (suc k) u is).0 ∙ ap (λ j. at j + length (task_rows u)) d),
       ap inputs (sym d) ∙ ((next (suc k) u is).1 ∙ ap (λ j. at j + 1 + u.capacity) d),
     )))

@@ -19,7 +19,7 @@ use Rattle.rt_lex.specs.Spelling.{is_long_sign, is_short_sign}
 use Rattle.rt_lex.specs.Token.{Token}
 use Rattle.rt_lex.specs.Front.{Front, skips, makes, comment, front_of, name_front, number_front, sign_front, hex_digits}
 use Rattle.rt_lex.specs.Tokens.{tokens, tokens_at, with_front}
-use Rattle.rt_lex.specs.Gap.{Standing, Outside, Slash, Inside, Lost, after_byte, standing_behind, HaveGaps}
+use Rattle.rt_lex.specs.Gap.{Standing, Outside, Slash, Inside, Lost, after_byte, standing_after, HaveGaps}
 use Rattle.rt_lex.proofs.Lexing.{takes, by_test}
 
 -- a reading that is inside a comment stands at the end of its line
@@ -148,7 +148,7 @@ record Reads (src : List ℕ) (from at : ℕ) (text gap : List ℕ) : Type 0 whe
   here : drop at src ≡ text
   whole : drop from src ≡ gap ++ text
   place : from + length gap ≡ at
-  may : MayStand (standing_behind gap) text
+  may : MayStand (standing_after gap) text
 
 gap_is : (src : List ℕ) (from at : ℕ) (text gap : List ℕ) → Reads src from at text gap
     → take (at - from) (drop from src) ≡ gap
@@ -157,7 +157,7 @@ gap_is src from at text gap r =
     rw (n, r.whole) (take-append_seam gap text)
 
 longer : (src : List ℕ) (from at n : ℕ) (text gap : List ℕ) → Reads src from at text gap → n ≤ length text
-    → MayStand (fold after_byte (standing_behind gap) (take n text)) (drop n text)
+    → MayStand (fold after_byte (standing_after gap) (take n text)) (drop n text)
     → Reads src from (at + n) (drop n text) (gap ++ take n text)
 longer src from at n text gap r fits may = record {
   here = drop_drop src at n text r.here;
@@ -176,7 +176,7 @@ skip_with src from at own None more e h = h
 skip_with src from at own (Some k) more e h = absurd cc
 
 token_with : (src : List ℕ) (from at : ℕ) (own : List ℕ) (kind : Option Kind) (more : List Token) → (kind ≡ None → ⊥)
-    → standing_behind (take (at - from) (drop from src)) ≡ Outside
+    → standing_after (take (at - from) (drop from src)) ≡ Outside
     → starts_with eqb (drop at src) (47 ∷ 47 ∷ []) ≡ false → HaveGaps src (at + length own) more
     → HaveGaps src from (with_front kind at own more)
 token_with src from at own None more e out plain h = absurd (e refl)
@@ -185,7 +185,7 @@ token_with src from at own (Some k) more e out plain h = (out, plain, h)
 gaps_of : (src : List ℕ) (fuel from at : ℕ) (text gap : List ℕ) → length text ≤ fuel → Reads src from at text gap
     → HaveGaps src from (tokens_at at text)
 gaps_of src fuel from at [] gap h r =
-    rw (r.whole, fold-append after_byte Outside gap []) (last_gap (standing_behind gap) r.may)
+    rw (r.whole, fold-append after_byte Outside gap []) (last_gap (standing_after gap) r.may)
 gaps_of src zero from at (b ∷ text) gap h r = absurd (omega (arith, h))
 gaps_of src (suc fuel) from at (b ∷ text) gap h r =
     let whole = b ∷ text in
@@ -196,7 +196,7 @@ gaps_of src (suc fuel) from at (b ∷ text) gap h r =
     let more = tokens_at (at + front.len) behind in
     let fits : length behind ≤ fuel = omega (arith, h, t.some, t.within, length-drop front.len whole) in
     let all : HaveGaps src from (with_front front.kind at own more) =
-    elim (front_does b text (standing_behind gap) r.may) [
+    elim (front_does b text (standing_after gap) r.may) [
       | inl skipped ↦ skip_with src from at own front.kind more skipped.0
           (gaps_of src fuel from (at + front.len) behind (gap ++ own) fits
           (longer src from at front.len whole gap r t.within skipped.1.may))
@@ -204,7 +204,7 @@ gaps_of src (suc fuel) from at (b ∷ text) gap h r =
           let next : HaveGaps src (at + front.len) more = gaps_of src fuel (at + front.len) (at + front.len) behind []
           fits (none_yet src (at + front.len) behind (drop_drop src at front.len whole r.here)) in
           let len : length own ≡ front.len = length-take-le front.len whole t.within in
-          token_with src from at own front.kind more made.0 (ap standing_behind (gap_is src from at whole gap r)
+          token_with src from at own front.kind more made.0 (ap standing_after (gap_is src from at whole gap r)
           ∙ made.1.outside) (ap (λ (x : List ℕ). starts_with eqb x (47 ∷ 47 ∷ [])) r.here ∙ made.1.plain)
           (subst (λ (k : ℕ). HaveGaps src (at + k) more) (sym len) next)
     ] in

@@ -13,10 +13,10 @@ use Rattle.rt_lex.specs.Bytes.{is_hex_digit, is_blank}
 use Rattle.rt_ids.specs.Byte.{is_name_byte, is_digit, is_letter}
 use Rattle.rt_lex.specs.Spelling.{is_long_sign, is_short_sign, long_signs}
 use Rattle.rt_lex.specs.Front.{Front, skips, makes, comment, front_of, name_front, number_front, sign_front, hex_digits}
-use Rattle.rt_lex.specs.Tokens.{tokens_at, tokens_behind, with_front}
+use Rattle.rt_lex.specs.Tokens.{tokens_at, tokens_after, with_front}
 
 -- bytes that belong to what has begun before
-tokens_dropped : (n at : ℕ) (text : List ℕ) → tokens_behind n at text ≡ tokens_at (at + n) (drop n text)
+tokens_dropped : (n at : ℕ) (text : List ℕ) → tokens_after n at text ≡ tokens_at (at + n) (drop n text)
 tokens_dropped zero at [] = refl
 tokens_dropped zero at (b ∷ text) = let e : at ≡ at + 0 = omega arith in ap (λ (k : ℕ). tokens_at k (b ∷ text)) e
 tokens_dropped (suc n) at [] = refl

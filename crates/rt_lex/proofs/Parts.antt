@@ -8,7 +8,7 @@ use Rattle.rt_lemmas.proofs.Lists.{drop_next, slice_within}
 use Rattle.rt_lex.specs.declared.token.Kind.{Kind}
 use Rattle.rt_lex.specs.Token.{Token}
 use Rattle.rt_lex.specs.Front.{front_of}
-use Rattle.rt_lex.specs.Tokens.{tokens, tokens_behind, with_front}
+use Rattle.rt_lex.specs.Tokens.{tokens, tokens_after, with_front}
 use Rattle.rt_lex.specs.Split.{LieIn, IsLongest}
 use Rattle.rt_lex.proofs.Lexing.{front_fits}
 use Rattle.rt_lex.proofs.Longest.{front_is_longest}
@@ -31,14 +31,14 @@ lie_with src (Some k) at len from text more here fits some before rest =
     )
 
 lie : (src : List ℕ) (n at : ℕ) (text : List ℕ) → drop at src ≡ text → (from : ℕ) → from ≤ at + n
-    → LieIn src from (tokens_behind n at text)
+    → LieIn src from (tokens_after n at text)
 lie src n at [] here from before = tt
 lie src (suc n) at (b ∷ text) here from before = lie src n (suc at) text (drop_next src at b text here) from
     (omega (arith, before))
 lie src zero at (b ∷ text) here from before =
     let front = front_of b (b ∷ text) in
     let fits = front_fits b text in
-    lie_with src front.kind at front.len from (b ∷ text) (tokens_behind (pred front.len) (suc at) text) here fits.within
+    lie_with src front.kind at front.len from (b ∷ text) (tokens_after (pred front.len) (suc at) text) here fits.within
     fits.some (omega (arith, before))
     (λ start h. lie src (pred front.len) (suc at) text (drop_next src at b text here) start
     (omega (arith, h, fits.some)))
@@ -64,12 +64,12 @@ longest_here src at b text here k e =
     }
 
 longest : (src : List ℕ) (n at : ℕ) (text : List ℕ) → drop at src ≡ text
-    → AllByRecursion (IsLongest src) (tokens_behind n at text)
+    → AllByRecursion (IsLongest src) (tokens_after n at text)
 longest src n at [] here = tt
 longest src (suc n) at (b ∷ text) here = longest src n (suc at) text (drop_next src at b text here)
 longest src zero at (b ∷ text) here =
     let front = front_of b (b ∷ text) in
-    longest_with src front.kind at (take front.len (b ∷ text)) (tokens_behind (pred front.len) (suc at) text)
+    longest_with src front.kind at (take front.len (b ∷ text)) (tokens_after (pred front.len) (suc at) text)
     (longest_here src at b text here)
     (longest src (pred front.len) (suc at) text (drop_next src at b text here))
 
@@ -84,7 +84,7 @@ few_with : (kind : Option Kind) (at : ℕ) (own : List ℕ) (more : List Token) 
 few_with None at own more n h = omega (arith, h)
 few_with (Some k) at own more n h = omega (arith, h)
 
-few_behind : (n at : ℕ) (text : List ℕ) → length (tokens_behind n at text) ≤ length text
+few_behind : (n at : ℕ) (text : List ℕ) → length (tokens_after n at text) ≤ length text
 few_behind zero at [] = omega arith
 few_behind (suc n) at [] = omega arith
 few_behind (suc n) at (b ∷ text) = omega (arith, few_behind n (suc at) text)
@@ -92,7 +92,7 @@ few_behind zero at (b ∷ text) =
     let front = front_of b (b ∷ text) in
     omega (
       arith,
-      few_with front.kind at (take front.len (b ∷ text)) (tokens_behind (pred front.len) (suc at) text)
+      few_with front.kind at (take front.len (b ∷ text)) (tokens_after (pred front.len) (suc at) text)
           (length text) (few_behind (pred front.len) (suc at) text),
     )
 

@@ -19,7 +19,7 @@ use Rattle.rt_lex.specs.Token.{Token}
 use Rattle.rt_lex.specs.Tokens.{tokens}
 use Rattle.rt_lex.specs.Split.{is_run, is_hex, is_number, is_sign, is_whole, is_foreign, has_kind, LieIn, IsSlice}
 use Rattle.rt_lex.specs.Split.{IsLongest}
-use Rattle.rt_lex.specs.Gap.{Standing, Outside, Slash, Inside, Lost, after_byte, standing_behind, HaveGaps, IsLastGap}
+use Rattle.rt_lex.specs.Gap.{Standing, Outside, Slash, Inside, Lost, after_byte, standing_after, HaveGaps, IsLastGap}
 use Rattle.rt_lex.proofs.Parts.{tokens_lie, tokens_longest}
 use Rattle.rt_lex.proofs.Gaps.{tokens_have_gaps}
 
@@ -55,7 +55,8 @@ any_byte_is P b (s ∷ bytes) all h =
 
 all_plain : AllByRecursion IsPlain short_signs
 all_plain =
-    let p = λ (b : ℕ) (l : is_letter b ≡ false) (d : is_digit b ≡ false) (k : is_blank b ≡ false). plain_byte b l d k in (
+    let p = λ (b : ℕ) (l : is_letter b ≡ false) (d : is_digit b ≡ false) (k : is_blank b ≡ false).
+    plain_byte b l d k in (
       p 40 refl refl refl,
       (
         p 41 refl refl refl,
@@ -117,7 +118,8 @@ FirstIsPlain (b ∷ text) = IsPlain b
 
 all_long_plain : AllByRecursion FirstIsPlain long_signs
 all_long_plain =
-    let p = λ (b : ℕ) (l : is_letter b ≡ false) (d : is_digit b ≡ false) (k : is_blank b ≡ false). plain_byte b l d k in (
+    let p = λ (b : ℕ) (l : is_letter b ≡ false) (d : is_digit b ≡ false) (k : is_blank b ≡ false).
+    plain_byte b l d k in (
       p 60 refl refl refl,
       (
         p 62 refl refl refl,
@@ -297,14 +299,14 @@ no_slashes (suc n) b [] e = e
 no_slashes (suc n) b (c ∷ text) e = e
 
 -- the first byte of a token in its text
-record Begins (src : List ℕ) (t : Token) : Type 0 where
+record IsViablePrefix (src : List ℕ) (t : Token) : Type 0 where
   first : ℕ
   rest : List ℕ
   here : drop t.at src ≡ first ∷ rest
   dark : is_blank first ≡ false
 
 begins_at : (src : List ℕ) (t : Token) (there text : List ℕ) → drop t.at src ≡ there → take (length text) there ≡ text
-    → 0 < length text → WholeOr t.kind text → Begins src t
+    → 0 < length text → WholeOr t.kind text → IsViablePrefix src t
 begins_at src t there [] e s some w = absurd (omega (arith, some))
 begins_at src t [] (x ∷ text) e s some w = absurd cc
 begins_at src t (b ∷ rest) (x ∷ text) e s some w =
@@ -317,14 +319,14 @@ begins_at src t (b ∷ rest) (x ∷ text) e s some w =
           (token_no_blank t.kind x text w);
     }
 
-begins : (src : List ℕ) (t : Token) → IsSlice src t → IsLongest src t → Begins src t
+begins : (src : List ℕ) (t : Token) → IsSlice src t → IsLongest src t → IsViablePrefix src t
 begins src t s l = begins_at src t (drop t.at src) t.text refl s.slice l.some (whole_or t.kind t.text l.kind)
 
 -- more bytes than stand before a token are no gap
-crosses : (src : List ℕ) (from : ℕ) (t : Token) → from ≤ t.at → Begins src t
-    → standing_behind (take (t.at - from) (drop from src)) ≡ Outside → starts_with eqb (drop t.at src) (47 ∷ 47 ∷ [])
+crosses : (src : List ℕ) (from : ℕ) (t : Token) → from ≤ t.at → IsViablePrefix src t
+    → standing_after (take (t.at - from) (drop from src)) ≡ Outside → starts_with eqb (drop t.at src) (47 ∷ 47 ∷ [])
     ≡ false
-    → (n : ℕ) → t.at - from < n → Stuck (standing_behind (take n (drop from src)))
+    → (n : ℕ) → t.at - from < n → Stuck (standing_after (take n (drop from src)))
 crosses src from t before s gap plain n far =
     let behind : drop (t.at - from) (drop from src) ≡ s.first ∷ s.rest =
     drop-drop (t.at - from) from src ∙ ap (λ (k : ℕ). drop k src) (arith_at from t.at before) ∙ s.here in
@@ -333,9 +335,9 @@ crosses src from t before s gap plain n far =
     ap (λ (k : ℕ). take k (drop from src)) (split_at n (t.at - from) far)
     ∙ take-add (t.at - from) (suc (n - suc (t.at - from))) (drop from src)
     ∙ ap (λ (l : List ℕ). take (t.at - from) (drop from src) ++ take (suc (n - suc (t.at - from))) l) behind in
-    let read : standing_behind (take n (drop from src)) ≡ fold after_byte Outside
+    let read : standing_after (take n (drop from src)) ≡ fold after_byte Outside
     (s.first ∷ take (n - suc (t.at - from)) s.rest) =
-    ap standing_behind whole ∙ fold-append after_byte Outside (take (t.at - from) (drop from src))
+    ap standing_after whole ∙ fold-append after_byte Outside (take (t.at - from) (drop from src))
     (s.first ∷ take (n - suc (t.at - from)) s.rest)
     ∙ ap (λ (x : Standing). fold after_byte x (s.first ∷ take (n - suc (t.at - from)) s.rest)) gap in
     let p = no_slashes (n - suc (t.at - from)) s.first s.rest
@@ -361,7 +363,7 @@ token_no_gap src from t tokens lie l gaps last =
     let far : t.at - from < length (drop from src) = omega (arith, lie.0, lie.1.within, l.some, length-drop from src) in
     let stuck = crosses src from t lie.0 (begins src t lie.1 l) gaps.0 gaps.1 (length (drop from src)) far in
     let all : take (length (drop from src)) (drop from src) ≡ drop from src = take-length (drop from src) in
-    stuck_no_gap (standing_behind (drop from src)) (subst (λ (x : List ℕ). Stuck (standing_behind x)) all stuck) last.0
+    stuck_no_gap (standing_after (drop from src)) (subst (λ (x : List ℕ). Stuck (standing_after x)) all stuck) last.0
     last.1
 
 -- no token stands before the first of another list

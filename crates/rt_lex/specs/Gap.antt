@@ -21,17 +21,17 @@ after_byte Inside b = if b == 10 then Outside else Inside
 after_byte Lost b = Lost
 
 -- where the reading stands behind a text
-abbrev pub standing_behind : List ℕ → Standing
-standing_behind text = fold after_byte Outside text
+abbrev pub standing_after : List ℕ → Standing
+standing_after text = fold after_byte Outside text
 
 -- no more than blanks and comments, the last of which may lack its line feed
 abbrev pub IsLastGap : List ℕ → Type 0
-IsLastGap text = (standing_behind text ≢ Lost) × (standing_behind text ≢ Slash)
+IsLastGap text = (standing_after text ≢ Lost) × (standing_after text ≢ Slash)
 
 -- The text between tokens is blanks and whole comments with their line feeds, no token begins with the two slashes of
 -- a comment, and behind the last token stand blanks and comments alone.
 abbrev pub HaveGaps : List ℕ → ℕ → List Token → Type 0
 HaveGaps src from [] = IsLastGap (drop from src)
 HaveGaps src from (t ∷ tokens) =
-    (standing_behind (take (t.at - from) (drop from src)) ≡ Outside)
+    (standing_after (take (t.at - from) (drop from src)) ≡ Outside)
     × (starts_with nat_eq (drop t.at src) (codes "//") ≡ false) × HaveGaps src (t.at + length t.text) tokens

@@ -11,16 +11,16 @@ with_front None at text tokens = tokens
 with_front (Some k) at text tokens = record { at = at; kind = k; text = text } ∷ tokens
 
 -- The tokens of a text that stands at an offset, behind so many of its bytes, which belong to what has begun before.
-abbrev pub tokens_behind : ℕ → ℕ → List ℕ → List Token
-tokens_behind n at [] = []
-tokens_behind (suc n) at (b ∷ text) = tokens_behind n (suc at) text
-tokens_behind zero at (b ∷ text) =
+abbrev pub tokens_after : ℕ → ℕ → List ℕ → List Token
+tokens_after n at [] = []
+tokens_after (suc n) at (b ∷ text) = tokens_after n (suc at) text
+tokens_after zero at (b ∷ text) =
     with_front (front_of b (b ∷ text)).kind at (take (front_of b (b ∷ text)).len (b ∷ text))
-    (tokens_behind (pred (front_of b (b ∷ text)).len) (suc at) text)
+    (tokens_after (pred (front_of b (b ∷ text)).len) (suc at) text)
 
 -- the tokens of a text that stands at an offset
 abbrev pub tokens_at : ℕ → List ℕ → List Token
-tokens_at at text = tokens_behind 0 at text
+tokens_at at text = tokens_after 0 at text
 
 -- the tokens of a text, by the longest match at each place (maximal munch)
 abbrev pub tokens : List ℕ → List Token

@@ -12,7 +12,7 @@ use Rattle.rt_lines.specs.Answers.{and_then, and_make}
 use Rattle.rt_load.specs.Loadable.{Is32Bits, IsLineWithin, IsNoteWithin}
 use Rattle.rt_load.specs.Inside.Operand.{in_front, behind}
 use Rattle.rt_load.specs.Inside.Coding.{instr_word, instr_at}
-use Rattle.rt_load.specs.Inside.Noting.{note_behind, line_or_wrong, line_at}
+use Rattle.rt_load.specs.Inside.Noting.{note_after, line_or_wrong, line_at}
 use Rattle.rt_load.specs.declared.operand.Wrong.{Wrong}
 use Rattle.rt_load.specs.declared.operand.Wrong.TheVariants as wrong
 use Rattle.rt_load.proofs.Coded.{instr_words, number_back, instr_again, instr_reads, note_again, note_reads}
@@ -23,7 +23,7 @@ abbrev pub notes_again : Names → Names → Option Note → Result (Option Note
 notes_again names more None = Ok None
 notes_again names more (Some n) = and_make (note_again names more n) Some
 
-note_part_reads : (names more : Names) (n : Option Note) → IsNoteWithin n → note_behind names (note_part more n)
+note_part_reads : (names more : Names) (n : Option Note) → IsNoteWithin n → note_after names (note_part more n)
     ≡ notes_again names more n
 note_part_reads names more None within = refl
 note_part_reads names more (Some n) within = ap (λ (r : Result Note Wrong). and_make r Some)
@@ -39,14 +39,14 @@ line_again names more address line known has few within =
     let clean = instr_words_clean more line.0 known has in
     ap (λ (r : Result ℕ Wrong). and_then r (λ n. if n == address
     then line_or_wrong (instr_at names (in_front (iws ++ end_words part)))
-    (note_behind names (behind (iws ++ end_words part))) else Err wrong.Form)) (number_back address few)
+    (note_after names (behind (iws ++ end_words part))) else Err wrong.Form)) (number_back address few)
     ∙ ap (λ (b : Bool). if b then line_or_wrong (instr_at names (in_front (iws ++ end_words part)))
-    (note_behind names (behind (iws ++ end_words part))) else Err wrong.Form) (eq-eqb address address refl)
+    (note_after names (behind (iws ++ end_words part))) else Err wrong.Form) (eq-eqb address address refl)
     ∙ ap (λ (ws : List (List ℕ)). line_or_wrong (instr_at names ws)
-    (note_behind names (behind (iws ++ end_words part)))) (in_front_is iws part clean)
-    ∙ ap (λ (p : Option (List (List ℕ))). line_or_wrong (instr_at names iws) (note_behind names p))
+    (note_after names (behind (iws ++ end_words part)))) (in_front_is iws part clean)
+    ∙ ap (λ (p : Option (List (List ℕ))). line_or_wrong (instr_at names iws) (note_after names p))
     (behind_is iws part clean)
-    ∙ ap (λ (r : Result Instr Wrong). line_or_wrong r (note_behind names part))
+    ∙ ap (λ (r : Result Instr Wrong). line_or_wrong r (note_after names part))
     (instr_reads names more line.0 within.operands)
     ∙ ap (λ (r : Result (Option Note) Wrong). line_or_wrong (instr_again names more line.0) r)
     (note_part_reads names more line.1 within.note)

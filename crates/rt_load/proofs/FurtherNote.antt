@@ -21,7 +21,7 @@ use Rattle.rt_load.specs.Loadable.{Is32Bits, IsNoteWithin}
 use Rattle.rt_load.specs.Inside.Operand.{number_at, word_at, task_at, resource_at, ready_at, queue_at, section_at}
 use Rattle.rt_load.specs.Inside.Operand.{body_at}
 use Rattle.rt_load.specs.Inside.Noting.{note_word, note_named, notes_of_task, notes_of_slot, is_task_word, is_slot_word}
-use Rattle.rt_load.specs.Inside.Noting.{on_task, with_word, with_slot, with_slots, note_at, note_behind}
+use Rattle.rt_load.specs.Inside.Noting.{on_task, with_word, with_slot, with_slots, note_at, note_after}
 use Rattle.rt_load.specs.declared.operand.Wrong.TheVariants as wrong
 use Rattle.rt_load.proofs.Coded.{note_operands}
 use Rattle.rt_load.proofs.CodedBack.{number32_from, IsNote, note_from}
@@ -391,7 +391,7 @@ note_unknown names (w ∷ t ∷ s ∷ a ∷ []) are e = slots_over names w t s a
 note_unknown names (w ∷ t ∷ s ∷ a ∷ b ∷ ws) are e =
     absurd (form_no_name (note_at names (w ∷ t ∷ s ∷ a ∷ b ∷ ws)) refl e)
 
-pub note_over : (names : Names) (part : Option (List (List ℕ))) → AreNames names → OkOrName (note_behind names part)
+pub note_over : (names : Names) (part : Option (List (List ℕ))) → AreNames names → OkOrName (note_after names part)
     → NoteOver names part
 note_over names None are known = no_note names are
 note_over names (Some ws) are (inl ok) =

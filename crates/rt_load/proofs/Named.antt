@@ -23,7 +23,7 @@ use Rattle.rt_load.specs.Loadable.{IsIrqWithin}
 use Rattle.rt_load.specs.Reading.{line_with_feed, IsOfUnknownName, AreMore}
 use Rattle.rt_load.specs.Inside.Operand.{number_at, word_at, is_end, in_front, behind}
 use Rattle.rt_load.specs.Inside.Coding.{instr_word, instr_at}
-use Rattle.rt_load.specs.Inside.Noting.{note_behind, line_or_wrong, line_at}
+use Rattle.rt_load.specs.Inside.Noting.{note_after, line_or_wrong, line_at}
 use Rattle.rt_load.specs.Inside.Rows.{only, three, cell_at, service_at, handler_at, irq_row_at, body_row_at}
 use Rattle.rt_load.specs.Inside.Taking.{if_line, has_cells, may_add_cell, may_add_irq, may_add_body, may_add_line}
 use Rattle.rt_load.specs.Inside.Taking.{and_cell, and_irq, and_body, and_line, next_cell, next_irq, next_body}
@@ -302,13 +302,13 @@ name_at before front line (number ∷ rest) stands text may is e =
     let names = front.image.names in
     let index = length front.image.code in
     let first = then_name (word_at number) (λ n. if n == index then line_or_wrong (instr_at names (in_front rest))
-    (note_behind names (behind rest)) else Err wrong.Form) (number_no_name (2 ^ 32) number) e in
+    (note_after names (behind rest)) else Err wrong.Form) (number_no_name (2 ^ 32) number) e in
     let spelled = number32_from first.0 number first.1 in
-    chosen (first.0 == index) (line_or_wrong (instr_at names (in_front rest)) (note_behind names (behind rest)))
+    chosen (first.0 == index) (line_or_wrong (instr_at names (in_front rest)) (note_after names (behind rest)))
     (Err wrong.Form) (Err wrong.Name) (IsOfUnknownName (flat_map line_with_feed before) line) first.2
     (λ here both.
     let number_is : number ≡ decimal index = spelled.0 ∙ ap decimal (eqb-true first.0 index here) in
-    let parts = noted_name (instr_at names (in_front rest)) (note_behind names (behind rest)) both in
+    let parts = noted_name (instr_at names (in_front rest)) (note_after names (behind rest)) both in
     let l = stands.loadable in
     over_further before front line rest stands text may (is ∙ ap (λ (w : List ℕ). codes "code" ∷ w ∷ rest) number_is)
     (instr_over names (in_front rest) l.limits.names (irqs_below front stands) parts.0)

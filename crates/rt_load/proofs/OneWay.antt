@@ -7,7 +7,8 @@ use Rattle.rt_code.specs.Image.{Image}
 use Rattle.rt_listing.specs.Listing.{listing}
 use Rattle.rt_load.specs.Loadable.{IsLoadable}
 use Rattle.rt_load.specs.Laws.{AreReadOneWay}
-use Rattle.rt_load.specs.Reading.{IsListingText, Begins, line_with_feed, IsLine, IsFirstWrong, IsWrong, Fault, Form}
+use Rattle.rt_load.specs.Reading.{IsListingText, IsViablePrefix, line_with_feed, IsLine, IsFirstWrong, IsWrong, Fault}
+use Rattle.rt_load.specs.Reading.{Form}
 use Rattle.rt_load.specs.Reading.{Name}
 use Rattle.rt_load.specs.Inside.Taking.{take_all}
 use Rattle.rt_load.specs.declared.front.Front.{Front}
@@ -30,7 +31,7 @@ one_image text a b p q =
 
 -- a listing that goes on with a line
 goes_on : (front line behind text : List ℕ) (b : ℕ) (img : Image) → IsLoadable img → listing img ≡ text → text
-    ≡ (front ++ line) ++ b ∷ behind → b ≡ 10 → Begins (front ++ line_with_feed line)
+    ≡ (front ++ line) ++ b ∷ behind → b ≡ 10 → IsViablePrefix (front ++ line_with_feed line)
 goes_on front line behind text b img l is parts feed =
     record {
       image = img;
@@ -128,8 +129,8 @@ cuts (l ∷ ls) (m ∷ ms) line other behind after all all2 own own2 e f is =
     same.1)
 
 -- a front that goes on with more lines
-front_begins : (ls more : List (List ℕ)) (line : List ℕ) → Begins (flat_map line_with_feed (ls ++ line ∷ more))
-    → Begins (flat_map line_with_feed ls ++ line_with_feed line)
+front_begins : (ls more : List (List ℕ)) (line : List ℕ) → IsViablePrefix (flat_map line_with_feed (ls ++ line ∷ more))
+    → IsViablePrefix (flat_map line_with_feed ls ++ line_with_feed line)
 front_begins ls more line b = record {
   image = b.image;
   loadable = b.loadable;
@@ -143,7 +144,7 @@ front_begins ls more line b = record {
     regroup f l m r = simp append_assoc
 
 not_further : (front line behind rest : List ℕ) (fault : Fault) → behind ≡ 10 ∷ rest → IsWrong front line behind fault
-    → ¬ Begins (front ++ line_with_feed line)
+    → ¬ IsViablePrefix (front ++ line_with_feed line)
 not_further front line behind rest fault is w =
     let there : IsWrong front line (10 ∷ rest) fault = subst (λ (b : List ℕ). IsWrong front line b fault) is w in
     there.1
@@ -176,11 +177,13 @@ one_fault text n m f g p q =
     )
     by (Before rest end more is) =
         absurd (not_further (flat_map line_with_feed p.before) p.line p.behind rest f end p.wrong
-        (front_begins p.before more p.line (subst (λ (ls : List (List ℕ)). Begins (flat_map line_with_feed ls)) is
+        (front_begins p.before more p.line
+        (subst (λ (ls : List (List ℕ)). IsViablePrefix (flat_map line_with_feed ls)) is
         q.begins)))
     by (Behind rest end more is) =
         absurd (not_further (flat_map line_with_feed q.before) q.line q.behind rest g end q.wrong
-        (front_begins q.before more q.line (subst (λ (ls : List (List ℕ)). Begins (flat_map line_with_feed ls)) is
+        (front_begins q.before more q.line
+        (subst (λ (ls : List (List ℕ)). IsViablePrefix (flat_map line_with_feed ls)) is
         p.begins)))
 
 pub read_one_way : AreReadOneWay

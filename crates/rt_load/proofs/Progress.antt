@@ -22,7 +22,7 @@ use Rattle.rt_load.specs.Loadable.{IsNoteWithin, IsIrqWithin, IsHandlerWithin, I
 use Rattle.rt_load.specs.Reading.{line_with_feed}
 use Rattle.rt_load.specs.Inside.Operand.{number_at, word_at, in_front, behind}
 use Rattle.rt_load.specs.Inside.Coding.{instr_at}
-use Rattle.rt_load.specs.Inside.Noting.{note_at, note_behind, line_or_wrong, line_at}
+use Rattle.rt_load.specs.Inside.Noting.{note_at, note_after, line_or_wrong, line_at}
 use Rattle.rt_load.specs.Inside.Rows.{only, three, three_at, cell_at, service_at, handler_at, irq_row_at, body_row_at}
 use Rattle.rt_load.specs.Inside.Taking.{if_line, front_of, first_at, is_within, take_first, may_add_cell, may_add_irq}
 use Rattle.rt_load.specs.Inside.Taking.{may_add_body, may_add_line, and_cell, and_irq, and_body, and_line, next_cell}
@@ -144,7 +144,7 @@ body_taken front next line ws stands e =
     (ap (λ (b : List ℕ × BodyRow). and_body front b.0 b.1) printed.1 ∙ made.2)
 
 -- code
-note_behind_from : (names : Names) (words : Option (List (List ℕ))) (n : Option Note) → note_behind names words ≡ Ok n
+note_behind_from : (names : Names) (words : Option (List (List ℕ))) (n : Option Note) → note_after names words ≡ Ok n
     → HasNote names n
 note_behind_from names None n e = subst (HasNote names) (same_ok (Ok None) None n refl e) tt
 note_behind_from names (Some ws) n e =
@@ -167,10 +167,10 @@ pub line_right : (names : Names) (address : ℕ) (ws : List (List ℕ)) (line : 
 line_right names address [] line e = absurd (cc)
 line_right names address (number ∷ ws) line e =
     let parts = then_ok (word_at number) (λ n. if n == address
-    then line_or_wrong (instr_at names (in_front ws)) (note_behind names (behind ws)) else Err wrong.Form) line e in
-    let here = if_ok (parts.0 == address) (line_or_wrong (instr_at names (in_front ws)) (note_behind names (behind ws)))
+    then line_or_wrong (instr_at names (in_front ws)) (note_after names (behind ws)) else Err wrong.Form) line e in
+    let here = if_ok (parts.0 == address) (line_or_wrong (instr_at names (in_front ws)) (note_after names (behind ws)))
     wrong.Form line parts.2 in
-    let both = noted_ok (instr_at names (in_front ws)) (note_behind names (behind ws)) line here.1 in
+    let both = noted_ok (instr_at names (in_front ws)) (note_after names (behind ws)) line here.1 in
     let i = instr_from names (in_front ws) line.0 both.0 in
     record {
       within = record { operands = i.within; note = note_within (behind ws) line.1 both.1 };
@@ -178,7 +178,7 @@ line_right names address (number ∷ ws) line e =
       note = note_behind_from names (behind ws) line.1 both.1;
     }
   where
-    note_within : (words : Option (List (List ℕ))) (n : Option Note) → note_behind names words ≡ Ok n → IsNoteWithin n
+    note_within : (words : Option (List (List ℕ))) (n : Option Note) → note_after names words ≡ Ok n → IsNoteWithin n
     note_within None n e = subst IsNoteWithin (same_ok (Ok None) None n refl e) tt
     note_within (Some ws) n e =
         let made = make_ok (note_at names ws) Some n e in

@@ -33,7 +33,7 @@ use Rattle.rt_load.specs.Reading.{line_with_feed, IsLine, AreMore, IsOfUnknownNa
 use Rattle.rt_load.specs.Inside.Operand.{word_at, irq_at, task_at, resource_at, queue_at, section_at, body_at, in_front}
 use Rattle.rt_load.specs.Inside.Operand.{behind}
 use Rattle.rt_load.specs.Inside.Coding.{instr_word, instr_at}
-use Rattle.rt_load.specs.Inside.Noting.{note_behind, line_or_wrong, line_at}
+use Rattle.rt_load.specs.Inside.Noting.{note_after, line_or_wrong, line_at}
 use Rattle.rt_load.specs.Inside.Rows.{cell_at, irq_row_at, body_row_at}
 use Rattle.rt_lines.specs.Parts.{words}
 use Rattle.rt_load.specs.Inside.Taking.{if_line, has_cells, may_add_line, may_add_cell, may_add_irq, may_add_body}
@@ -407,9 +407,9 @@ marked_at : (names : Names) (address index : ℕ) (rest : List (List ℕ)) (line
     → line_at names index (decimal address ∷ rest) ≡ Ok line → decimal address ≡ decimal index
 marked_at names address index rest line e =
     let parts = then_ok (word_at (decimal address)) (λ n. if n == index
-    then line_or_wrong (instr_at names (in_front rest)) (note_behind names (behind rest)) else Err wrong.Form) line e in
+    then line_or_wrong (instr_at names (in_front rest)) (note_after names (behind rest)) else Err wrong.Form) line e in
     let here = if_ok (parts.0 == index) (line_or_wrong (instr_at names (in_front rest))
-    (note_behind names (behind rest))) wrong.Form line parts.2 in
+    (note_after names (behind rest))) wrong.Form line parts.2 in
     let number = number32_from parts.0 (decimal address) parts.1 in
     number.0 ∙ ap decimal (eqb-true parts.0 index here.0)
 

@@ -10,7 +10,8 @@ use Rattle.rt_code.specs.declared.instr.Instr.TheVariants as instr
 use Rattle.rt_lines.specs.Answers.{and_then}
 use Rattle.rt_listing.specs.Listing.{listing}
 use Rattle.rt_load.specs.Loadable.{IsLoadable}
-use Rattle.rt_load.specs.Reading.{IsListingText, Begins, line_with_feed, IsLine, IsFirstWrong, Fault, Form, Name}
+use Rattle.rt_load.specs.Reading.{IsListingText, IsViablePrefix, line_with_feed, IsLine, IsFirstWrong, Fault, Form}
+use Rattle.rt_load.specs.Reading.{Name}
 use Rattle.rt_load.specs.Reading.{IsFault, IsOfUnknownName}
 use Rattle.rt_load.specs.Inside.Progress.{HasRead, IsCut}
 use Rattle.rt_load.specs.Inside.Taking.{front_of, take_first, take_line, take_lines, take_all, is_complete, has_cells}
@@ -32,14 +33,14 @@ use Rattle.rt_load.proofs.Named.{name_is}
 
 not_begins : (before : List (List ℕ)) (front : Front) (line : List ℕ) (w : Wrong) → AllByRecursion IsLine before
     → IsLine line
-    → take_all before ≡ Ok front → take_line front line ≡ Err w → ¬ Begins
+    → take_all before ≡ Ok front → take_line front line ≡ Err w → ¬ IsViablePrefix
     (flat_map line_with_feed before ++ line_with_feed line)
 not_begins before front line w all own taken e b =
     let next = next_taken before front line b.behind b.image b.loadable all own taken b.is in
     ok_err (take_line front line) next.0 w next.2 e
 
 first_not_begins : (line : List ℕ) (w : Wrong) → IsLine line → take_first line ≡ Err w
-    → ¬ Begins ([] ++ line_with_feed line)
+    → ¬ IsViablePrefix ([] ++ line_with_feed line)
 first_not_begins line w own e b =
     let more = lines_behind [] line b.behind b.image b.loadable tt own b.is in
     let goes : and_then (take_first line) (λ f. take_lines f more.0) ≡ Ok (whole b.image b.loadable) =
@@ -62,10 +63,10 @@ not_listing before front line all own taken incomplete (img, l, is) =
     (ap take_all ends.1 ∙ listing_taken img l) in
     false≢true (sym (incomplete ends.0) ∙ ap is_complete same ∙ whole_is_complete img l)
 
-nothing_begins : Begins []
+nothing_begins : IsViablePrefix []
 nothing_begins = begins_none (first_stands false 3 0 0 0 0 refl (omega arith) (omega arith) (omega arith))
   where
-    begins_none : Stands (front_of false 3 0 0 0 0) → Begins []
+    begins_none : Stands (front_of false 3 0 0 0 0) → IsViablePrefix []
     begins_none stands =
         let b = begins (front_of false 3 0 0 0 0) _ stands refl in
         record { image = b.image; loadable = b.loadable; behind = listing b.image; is = refl }

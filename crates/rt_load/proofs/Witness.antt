@@ -12,7 +12,7 @@ use Rattle.rt_code.specs.declared.instr.Instr.TheVariants as instr
 use Rattle.rt_code.specs.declared.instr.Note.{Note}
 use Rattle.rt_listing.specs.Listing.{first_line, lines_with_numbers, cell_line, irq_line, body_line, code_line, listing}
 use Rattle.rt_load.specs.Loadable.{IsLoadable}
-use Rattle.rt_load.specs.Reading.{Begins}
+use Rattle.rt_load.specs.Reading.{IsViablePrefix}
 use Rattle.rt_load.specs.Inside.Taking.{may_add_cell, may_name_cell, is_in_cells, has_cells, and_cell, and_line}
 use Rattle.rt_load.specs.declared.front.Front.{Front}
 use Rattle.rt_load.proofs.Fronts.{front_text, Stands, IsInCells}
@@ -118,7 +118,7 @@ witness front stands = elim (stands.full) [
       (omega (arith, below))
 ]
 
-pub begins : (front : Front) (text : List ℕ) → Stands front → front_text front ≡ text → Begins text
+pub begins : (front : Front) (text : List ℕ) → Stands front → front_text front ≡ text → IsViablePrefix text
 begins front text stands is =
     let w = witness front stands in
     record { image = w.image; loadable = w.loadable; behind = w.behind; is = w.is ∙ ap (λ t. t ++ w.behind) is }

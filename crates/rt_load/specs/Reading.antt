@@ -25,7 +25,7 @@ pub record IsListingText (text : List ℕ) (img : Image) : Type 0 where
   pub is : listing img ≡ text
 
 -- the listing of some loadable image begins so, however long it is
-pub record Begins (front : List ℕ) : Type 0 where
+pub record IsViablePrefix (front : List ℕ) : Type 0 where
   pub image : Image
   pub loadable : IsLoadable image
   pub behind : List ℕ
@@ -87,7 +87,8 @@ IsFault front line Form = ¬ IsOfUnknownName front line
 -- or is missing, and the bytes are no listing; else the line goes on no listing.
 abbrev pub IsWrong : List ℕ → List ℕ → List ℕ → Fault → Type 0
 IsWrong front line [] fault = (fault ≡ Form) × (¬ ((img : Image) × IsLoadable img × (listing img ≡ front ++ line)))
-IsWrong front line (b ∷ behind) fault = (b ≡ 10) × (¬ Begins (front ++ line_with_feed line)) × IsFault front line fault
+IsWrong front line (b ∷ behind) fault = (b ≡ 10) × (¬ IsViablePrefix (front ++ line_with_feed line))
+    × IsFault front line fault
 
 -- the first wrong line of these bytes has this number, from 1, and this fault
 pub record IsFirstWrong (text : List ℕ) (number : ℕ) (fault : Fault) : Type 0 where
@@ -99,7 +100,7 @@ pub record IsFirstWrong (text : List ℕ) (number : ℕ) (fault : Fault) : Type 
   pub are_lines : AllByRecursion IsLine before
   pub is_line : IsLine line
   pub number_is : number ≡ suc (length before)
-  pub begins : Begins (flat_map line_with_feed before)
+  pub begins : IsViablePrefix (flat_map line_with_feed before)
   pub wrong : IsWrong (flat_map line_with_feed before) line behind fault
 
 -- the refusal of bytes; want of memory has no cause in them

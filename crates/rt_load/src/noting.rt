@@ -175,8 +175,8 @@ fn read_slots(
 }
 
 /// The note of the words behind a semicolon, where there is one.
-fn note_behind(names: &Names, words: Option<&[u8]>) -> Result<Option<Note>, Wrong>
-    ensures { result ≡ spec.note_behind names.now (behind (words_of words.entry)) }
+fn note_after(names: &Names, words: Option<&[u8]>) -> Result<Option<Note>, Wrong>
+    ensures { result ≡ spec.note_after names.now (behind (words_of words.entry)) }
 {
     match behind_semicolon(words) {
         Some(words) => {
@@ -209,7 +209,7 @@ pub fn read_line(names: &Names, address: usize, words: Option<&[u8]>) -> Result<
 {
     let (number, words) = next_word(words).ok_or(Wrong::Form)?;
     if read_number(number)? as usize == address {
-        line_or_wrong(read_instr(names, words), note_behind(names, words))
+        line_or_wrong(read_instr(names, words), note_after(names, words))
     } else {
         Err(Wrong::Form)
     }

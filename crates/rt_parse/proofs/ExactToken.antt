@@ -126,7 +126,8 @@ pub reads_token : {A B : Type 0} {before : Token → Bool} {meaning : Token → 
     → ReadsAfter B before nothing nothing suc (λ x. x) (token meaning limit) (token_at meaning limit)
 reads_token {meaning = meaning} {limit = limit} (t, x, e) = record {
   exact = λ behind read most some avoids exact tokens le stop.
-      exact_token meaning limit behind read most some (λ y tokens le. exact y tokens le (begins_with-nothing y tokens)) (
+      exact_token meaning limit behind read most some
+      (λ y tokens le. exact y tokens le (begins_with-nothing y tokens)) (
         Takes t (limit x) ∷ (some x).0,
         (some x).1,
         (

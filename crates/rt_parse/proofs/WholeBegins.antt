@@ -8,7 +8,7 @@ use Rattle.rt_lex.specs.Token.{Token}
 use Rattle.rt_ast.specs.Tree.{App}
 use Rattle.rt_grammar.specs.Mark.{Mark, Takes, Ends}
 use Rattle.rt_grammar.specs.Reach.{Fits, Reaches}
-use Rattle.rt_grammar.specs.Text.{text, IsSpelled, Begins, IsDeadEnd}
+use Rattle.rt_grammar.specs.Text.{text, IsSpelled, IsViablePrefix, IsDeadEnd}
 
 -- what goes at least as far as some tokens begins with marks of just these
 fits_front : (marks : List Mark) (before more left : List Token) → Fits marks (before ++ more) left
@@ -57,7 +57,7 @@ front_begins marks front back more app e = subst (λ (ms : List Mark). text ms a
 
 -- where a text goes at least as far as these tokens, they begin it
 pub begins_by : (marks : List Mark) (before more left : List Token) → Reaches text (before ++ more) marks left
-    → length left ≤ length more → Begins before
+    → length left ≤ length more → IsViablePrefix before
 begins_by marks before more left r le =
     let f = fits_front marks before more left r.fits le in (
       f.0,
@@ -73,7 +73,7 @@ begins_by marks before more left r le =
     )
 
 -- where these tokens begin a text, some text goes as far as them, whatever stands behind
-pub reaches_by : (before rest : List Token) → Begins before → (marks : List Mark)
+pub reaches_by : (before rest : List Token) → IsViablePrefix before → (marks : List Mark)
     × Reaches text (before ++ rest) marks rest
 reaches_by before rest (marks, r) =
     let f = fits_behind marks before rest r.fits in (
@@ -118,7 +118,7 @@ dead_end_none ts before (t ∷ behind) e dead app (marks, l, fits) =
 -- where no text goes further than to this token, the tokens up to it begin none
 pub begins_none : (ts before : List Token) (t : Token) (behind : List Token) → ts ≡ before ++ t ∷ behind
     → ((marks : List Mark) (left : List Token) → Reaches text ts marks left → length (t ∷ behind) ≤ length left)
-    → Begins (before ++ t ∷ []) → ⊥
+    → IsViablePrefix (before ++ t ∷ []) → ⊥
 begins_none ts before t behind e furthest begins =
     let r = reaches_by (before ++ t ∷ []) behind begins in
     let same : (before ++ t ∷ []) ++ behind ≡ ts = append_assoc before (t ∷ []) behind ∙ sym e in

@@ -20,7 +20,8 @@ use Rattle.rt_lex.specs.Place.{place_of}
 use Rattle.rt_ast.specs.Tree.{App}
 use Rattle.rt_grammar.specs.Mark.{Mark, limit_of, IsWithin}
 use Rattle.rt_grammar.specs.Reach.{Reaches}
-use Rattle.rt_grammar.specs.Text.{text, IsSpelled, Begins, IsUnlimited, IsText, IsForeignAt, IsDeadEnd, IsSyntaxAt}
+use Rattle.rt_grammar.specs.Text.{text, IsSpelled, IsViablePrefix, IsUnlimited, IsText, IsForeignAt, IsDeadEnd}
+use Rattle.rt_grammar.specs.Text.{IsSyntaxAt}
 use Rattle.rt_grammar.specs.Text.{IsLimitAt, IsRefusedAt, IsRefused, offset_of}
 use Rattle.rt_parse.specs.Inside.Reading.{refusal_of, fault_found_at}
 use Rattle.rt_parse.specs.Inside.Fault.{offset_or, fault_of}
@@ -49,7 +50,7 @@ long_refused src long = record { at = 0; stands = (long, refl); place = refl }
 
 module _ (src : List ℕ) (short : length src ≤ TEXT_BYTES) where
   -- what the reader finds wrong, behind tokens that begin a text
-  module _ (before : List Token) (begins : Begins before) (unlimited : IsUnlimited (tokens src))
+  module _ (before : List Token) (begins : IsViablePrefix before) (unlimited : IsUnlimited (tokens src))
       (none : (app : App) → IsSpelled (tokens src) app → ⊥) where
     wrong_refused : (rest : List Token) → tokens src ≡ before ++ rest
         → ((marks : List Mark) (left : List Token) → Reaches text (tokens src) marks left → length rest ≤ length left)
@@ -122,7 +123,7 @@ module _ (src : List ℕ) (short : length src ≤ TEXT_BYTES) where
   wrong_is_refused : (found : Found) → IsWrong text (tokens src) found → IsRefused src (fault_of src found)
   wrong_is_refused found w =
       let s = fits_suffix w.marks (tokens src) w.rest w.reached.fits in
-      let begins : Begins s.0 = begins_by w.marks s.0 w.rest w.rest
+      let begins : IsViablePrefix s.0 = begins_by w.marks s.0 w.rest w.rest
       (subst (λ (us : List Token). Reaches text us w.marks w.rest) s.1 w.reached) (omega arith) in
       let unlimited : IsUnlimited (tokens src) = λ marks left r. let f = w.most marks left r in
       within_front marks f.0 (subst (AllByRecursion IsWithin) f.1 w.within) in
@@ -147,7 +148,7 @@ module _ (src : List ℕ) (short : length src ≤ TEXT_BYTES) where
 -- What is refused is found.
 
 -- the marks up to a byte or a dead end
-reached_by : (ts before rest : List Token) → ts ≡ before ++ rest → Begins before → (marks : List Mark)
+reached_by : (ts before rest : List Token) → ts ≡ before ++ rest → IsViablePrefix before → (marks : List Mark)
     × Reaches text ts marks rest
 reached_by ts before rest e begins = let r = reaches_by before rest begins in
     (r.0, subst (λ (us : List Token). Reaches text us r.0 rest) (sym e) r.1)

@@ -34,7 +34,7 @@ use Rattle.rt_sim.specs.Good.{AreDeclared}
 use Rattle.rt_trace.specs.Label.{Arrived, Stepped}
 use Rattle.rt_trace.specs.Lined.{IsDeclared}
 use Rattle.rt_trace.specs.declared.item.What.{What}
-use Rattle.rt_reach.specs.Deepest.{priority_lines, script_of, item_behind, IsFirstTake}
+use Rattle.rt_reach.specs.Deepest.{priority_lines, script_of, item_after, IsFirstTake}
 use Rattle.rt_app.specs.Forms.{has_deepest_script}
 use Rattle.rt_reach.specs.Take.{IsTake}
 use Rattle.rt_reach.proofs.Entering.{takes_words, alone_words}
@@ -42,7 +42,7 @@ use Rattle.rt_reach.proofs.Jobs.{InInit, BehindInit, RestsBelow, init_steps, is_
 use Rattle.rt_reach.proofs.Pended.{PendsOnly}
 use Rattle.rt_reach.proofs.Quiet.{init_quiet}
 use Rattle.rt_reach.proofs.Rising.{IsOfForm, form_of}
-use Rattle.rt_reach.proofs.Running.{core_behind, state_behind, reached_by, shown_next, step_allowed, state_step}
+use Rattle.rt_reach.proofs.Running.{core_behind, state_after, reached_by, shown_next, step_allowed, state_step}
 use Rattle.rt_reach.proofs.Running.{core_step, state_request, state_first}
 use Rattle.rt_reach.proofs.Served.{IsDeepestAt, is_hardware, is_untimed}
 use Rattle.rt_reach.proofs.Takes.{starts, starts_more}
@@ -79,7 +79,7 @@ module _ (app : App) (img : Image) (accepted : IsAccepted app) (is_image : IsIma
 
   -- the machine and the core behind events
   abbrev pub state_at : List Event → State
-  state_at = state_behind app img accepted is_image
+  state_at = state_after app img accepted is_image
 
   abbrev pub core_at : List Event → Core
   core_at = core_behind app img accepted is_image
@@ -169,7 +169,7 @@ module _ (app : App) (img : Image) (accepted : IsAccepted app) (is_image : IsIma
 
   module _ (p irq : ℕ) (is : IsServed p irq) where
     abbrev NoneBefore : ℕ → Type 0
-    NoneBefore n = (k : ℕ) → k < n → ¬ IsTake (item_behind img irq k)
+    NoneBefore n = (k : ℕ) → k < n → ¬ IsTake (item_after img irq k)
 
     abbrev here : ℕ → State
     here n = state_at (starts irq n)
@@ -211,7 +211,7 @@ module _ (app : App) (img : Image) (accepted : IsAccepted app) (is_image : IsIma
         let pending_is : (here (n + 1)).pending ≡ (here n).pending = ap (λ (s : State). s.pending) next
         ∙ stays.pending in
         let none_more : NoneBefore (n + 1) =
-        below_more (λ k. ¬ IsTake (item_behind img irq k)) n none stays.no_take in
+        below_more (λ k. ¬ IsTake (item_after img irq k)) n none stays.no_take in
         let pends_more : PendsOnly (here (n + 1)).pending irq =
         subst (λ ps. PendsOnly ps irq) (sym pending_is) pends in
         let long_more : length (here (n + 1)).pending ≡ IRQ_NUMBERS = ap length pending_is ∙ long in

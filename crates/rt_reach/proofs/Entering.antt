@@ -29,9 +29,9 @@ use Rattle.rt_trace.specs.declared.item.What.TheVariants as what
 use Rattle.rt_laws.specs.Services.{service_at}
 use Rattle.rt_laws.specs.State.{Job, State}
 use Rattle.rt_laws.specs.Preemption.{candidate}
-use Rattle.rt_sim.specs.Inside.Moment.{Part, Moment, jobs_of}
+use Rattle.rt_sim.specs.Inside.Coupling.{Part, Coupling, jobs_of}
 use Rattle.rt_sim.specs.Inside.States.{core_of, state_of, words_under}
-use Rattle.rt_sim.specs.Inside.Fits.{IsStacked}
+use Rattle.rt_sim.specs.Inside.CouplingInvariant.{IsStacked}
 use Rattle.rt_sim.specs.Inside.Agrees.{Agrees}
 use Rattle.rt_sim.proofs.Choosing.{IfServed, picks}
 use Rattle.rt_sim.proofs.Depth.{used_is}
@@ -68,19 +68,19 @@ module _ (app : App) (img : Image) (accepted : IsAccepted app) (is_image : IsIma
       (sym agrees.core)
       (by (pick img c_m) refl both.0 both.1 (subst (λ d. IsTake (step img d).1) agrees.core takes))
     where
-      m : Moment
-      m = agrees.moment
+      m : Coupling
+      m = agrees.coupling
 
       c_m : Core
       c_m = core_of app.bits m
 
       both : (option_map (λ r. r.number) (pick img c_m) ≡ candidate app (state_of m))
           × IfServed app at accepted.limits.least_bits accepted.limits.most_bits sound c_m (state_of m) refl
-          (execution_is app img at.idle accepted.limits.least_bits accepted.limits.most_bits m agrees.fits)
+          (execution_is app img at.idle accepted.limits.least_bits accepted.limits.most_bits m agrees.invariant)
           (pick img c_m)
       both = picks app at accepted.limits.least_bits accepted.limits.most_bits sound c_m
           (state_of m) refl
-          (execution_is app img at.idle accepted.limits.least_bits accepted.limits.most_bits m agrees.fits) img
+          (execution_is app img at.idle accepted.limits.least_bits accepted.limits.most_bits m agrees.invariant) img
           is_image.tables.irqs
 
       next_is : candidate app (state_of m) ≡ Some irq
@@ -97,7 +97,7 @@ module _ (app : App) (img : Image) (accepted : IsAccepted app) (is_image : IsIma
       by : (o : Option IrqRow) → pick img c_m ≡ o → option_map (λ r. r.number) o ≡ candidate app (state_of m)
           → IfServed app at accepted.limits.least_bits accepted.limits.most_bits sound c_m
           (state_of m) refl
-          (execution_is app img at.idle accepted.limits.least_bits accepted.limits.most_bits m agrees.fits) o
+          (execution_is app img at.idle accepted.limits.least_bits accepted.limits.most_bits m agrees.invariant) o
           → IsTake (step img c_m).1
           → stack_in_use img (step img c_m).0 ≡ stack_in_use img c_m + (entry_words img + handler_words app v.handler)
       by None picked same served taken = absurd (none-some irq (same ∙ next_is))
@@ -115,11 +115,11 @@ module _ (app : App) (img : Image) (accepted : IsAccepted app) (is_image : IsIma
   pub alone_words : (c : Core) (s : State) → Agrees app img at.idle c s → (job : Job) → s.jobs ≡ job ∷ []
       → stack_in_use img c ≡ thread_words app
   alone_words c s agrees job alone =
-      ap (stack_in_use img) agrees.core ∙ used_is app img at.idle agrees.moment agrees.fits
-      ∙ by agrees.moment.below (sym (ap (λ (t : State). t.jobs) agrees.state) ∙ alone) agrees.fits.stack
+      ap (stack_in_use img) agrees.core ∙ used_is app img at.idle agrees.coupling agrees.invariant
+      ∙ by agrees.coupling.below (sym (ap (λ (t : State). t.jobs) agrees.state) ∙ alone) agrees.invariant.stack
     where
       p : Part
-      p = agrees.moment.running
+      p = agrees.coupling.running
 
       by : (ps : List Part) → jobs_of p ps ≡ job ∷ [] → IsStacked app img at.idle p ps
           → length (stack.words_of p.caller) + length p.slots + words_under (entry_words img) ps ≡ thread_words app

@@ -73,10 +73,11 @@ module _ {X : Type 0} (f : X → ℕ) (test : X → Bool) where
   -- with one more at the end
   pub most_push : (xs : List X) (x : X)
       → most_of (xs ++ x ∷ []) ≡ (if test x then max (most_of xs) (f x) else most_of xs)
-  most_push [] x = elim (test x) as (λ b. greatest (map f (if b then x ∷ [] else [])) ≡ (if b then max 0 (f x) else 0)) [
-    | true ↦ omega arith
-    | false ↦ refl
-  ]
+  most_push [] x =
+      elim (test x) as (λ b. greatest (map f (if b then x ∷ [] else [])) ≡ (if b then max 0 (f x) else 0)) [
+        | true ↦ omega arith
+        | false ↦ refl
+      ]
   most_push (y ∷ xs) x = by (test y) (test x) (most_push xs x)
     where
       by : (own more : Bool) → most_of (xs ++ x ∷ []) ≡ (if more then max (most_of xs) (f x) else most_of xs)

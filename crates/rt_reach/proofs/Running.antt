@@ -26,11 +26,11 @@ use Rattle.rt_laws.proofs.ByItems.{after_append}
 use Rattle.rt_laws.proofs.Fine.{Queued}
 use Rattle.rt_laws.proofs.Happens.{first_well}
 use Rattle.rt_sim.specs.Good.{AreDeclared}
-use Rattle.rt_sim.specs.Inside.Moment.{Moment}
+use Rattle.rt_sim.specs.Inside.Coupling.{Coupling}
 use Rattle.rt_sim.specs.Inside.States.{core_of, state_of}
-use Rattle.rt_sim.specs.Inside.Fits.{Fits}
+use Rattle.rt_sim.specs.Inside.CouplingInvariant.{CouplingInvariant}
 use Rattle.rt_sim.specs.Inside.Agrees.{StepsBoth}
-use Rattle.rt_sim.proofs.Bodies.{init_sparing, idle_sparing, task_sparing, dispatcher_sparing, timer_sparing}
+use Rattle.rt_sim.proofs.Bodies.{init_respects, idle_respects, task_respects, dispatcher_respects, timer_respects}
 use Rattle.rt_sim.proofs.Running.{Reaches, reaches}
 use Rattle.rt_sim.proofs.Starting.{agrees_first}
 use Rattle.rt_sim.proofs.Stepping.{step_both}
@@ -45,24 +45,24 @@ module _ (app : App) (img : Image) (accepted : IsAccepted app) (is_image : IsIma
   abbrev sound : IsSound app
   sound = accepted_are_sound app accepted
 
-  pub steps_both : (m : Moment) → Fits app img is_image.at.idle m → Queued app m.values
+  pub steps_both : (m : Coupling) → CouplingInvariant app img is_image.at.idle m → Queued app m.values
       → m.time + armings m.values < 2 ^ 31 → StepsBoth app img is_image.at.idle (core_of app.bits m) (state_of m)
   steps_both = step_both app img accepted sound is_image
-      (resource_numbers app is_image.at img is_image.tables sound) (idle_sparing app accepted sound)
-      (task_sparing app accepted sound) (dispatcher_sparing app accepted sound) (timer_sparing app accepted sound)
+      (resource_numbers app is_image.at img is_image.tables sound) (idle_respects app accepted sound)
+      (task_respects app accepted sound) (dispatcher_respects app accepted sound) (timer_respects app accepted sound)
 
   -- the core and the state of Baker's machine behind events
   abbrev pub core_behind : List Event → Core
   core_behind events = core_after img (reset img) events
 
-  abbrev pub state_behind : List Event → State
-  state_behind events = after_all app (first app) (labels img (reset img) events)
+  abbrev pub state_after : List Event → State
+  state_after events = after_all app (first app) (labels img (reset img) events)
 
   pub reached_by : (events : List Event) → length events < 2 ^ 31 → AreDeclared app events
       → Reaches app accepted img is_image.at.idle steps_both (reset img) (first app) events
   reached_by events few declared =
       reaches app accepted img is_image.at.idle steps_both events (reset img) (first app) (first_sight app)
-      (agrees_first app img accepted sound is_image (init_sparing app accepted sound)) (first_well app accepted)
+      (agrees_first app img accepted sound is_image (init_respects app accepted sound)) (first_well app accepted)
       (omega (arith, few, first_armings app accepted)) declared
 
   -- one core step behind events
@@ -82,14 +82,14 @@ module _ (app : App) (img : Image) (accepted : IsAccepted app) (is_image : IsIma
 
   -- it is allowed, and leads on
   pub step_allowed : (events : List Event) → length events + 1 < 2 ^ 31 → AreDeclared app (events ++ Step ∷ [])
-      → May app (state_behind events) (Stepped (shown_next events))
+      → May app (state_after events) (Stepped (shown_next events))
   step_allowed events few declared =
       let whole = reached_by (events ++ Step ∷ []) (omega (arith, few, length-append events (Step ∷ []))) declared in
       (runs_behind app (labels img (reset img) events) (Stepped (shown_next events) ∷ []) (first app)
       (subst (RunsOn app (first app)) (labels_step events) whole.runs)).0
 
   pub state_step : (events : List Event)
-      → state_behind (events ++ Step ∷ []) ≡ after app (state_behind events) (Stepped (shown_next events))
+      → state_after (events ++ Step ∷ []) ≡ after app (state_after events) (Stepped (shown_next events))
   state_step events =
       ap (after_all app (first app)) (labels_step events)
       ∙ after_append app (labels img (reset img) events) (Stepped (shown_next events) ∷ []) (first app)
@@ -104,7 +104,7 @@ module _ (app : App) (img : Image) (accepted : IsAccepted app) (is_image : IsIma
 
   -- a request behind events
   pub state_request : (events : List Event) (irq : ℕ)
-      → state_behind (events ++ Arrive irq ∷ []) ≡ after app (state_behind events) (Arrived irq)
+      → state_after (events ++ Arrive irq ∷ []) ≡ after app (state_after events) (Arrived irq)
   state_request events irq =
       let c : Core = core_behind events in
       ap (after_all app (first app))
@@ -125,5 +125,5 @@ module _ (app : App) (img : Image) (accepted : IsAccepted app) (is_image : IsIma
       ∙ happens_by_event.core_none img (core_after_pend c irq)
 
   -- nothing has come
-  pub state_first : state_behind [] ≡ first app
+  pub state_first : state_after [] ≡ first app
   state_first = ap (after_all app (first app)) (happens_by_event.labels_none img (reset img))

@@ -13,7 +13,7 @@ use Rattle.rt_run.specs.Done.{Leads}
 use Rattle.rt_run.proofs.Advancing.{leads_on}
 use Rattle.rt_run.proofs.Happened.{step_leads}
 use Rattle.rt_trace.specs.declared.item.What.{What}
-use Rattle.rt_reach.specs.Deepest.{item_behind, IsFirstTake}
+use Rattle.rt_reach.specs.Deepest.{item_after, IsFirstTake}
 use Rattle.rt_reach.specs.Inside.Soon.{TakesWithin}
 use Rattle.rt_reach.specs.Take.{IsTake}
 
@@ -30,7 +30,7 @@ starts_more irq done = ap (λ es. Arrive irq ∷ es) (sym (replicate_more done S
 
 -- what a step shows
 pub shows : (old now : Machine) (irq done : ℕ) (shown : Option What) → IsFresh old → Leads (starts irq done) old now
-    → shown ≡ (step now.image now.core).1 → shown ≡ item_behind old.image irq done
+    → shown ≡ (step now.image now.core).1 → shown ≡ item_after old.image irq done
 shows old now irq done shown fresh run is =
     is ∙ ap (λ (img : Image). (step img now.core).1) run.image ∙ ap (λ (c : Core). (step old.image c).1) run.core
     ∙ ap (λ (c : Core). (step old.image (core_after old.image c (starts irq done))).1) fresh.core
@@ -48,7 +48,7 @@ leads_more old now after irq done run is =
 
 -- the entry cannot come later than it does
 pub comes_by : (most : ℕ) (img : Image) (irq : ℕ) → TakesWithin most img irq
-    → ((k : ℕ) → k < most → ¬ IsTake (item_behind img irq k)) → ⊥
+    → ((k : ℕ) → k < most → ¬ IsTake (item_after img irq k)) → ⊥
 comes_by most img irq soon none =
     none soon.first.done (omega (arith, soon.few, soon.first.number)) soon.first.takes
 

@@ -24,15 +24,15 @@ script_of steps [] = []
 script_of steps (irq ∷ irqs) = priority_lines steps irq ++ flat_map (priority_lines 1) irqs
 
 -- what the next core step shows where the interrupt is requested at reset and so many core steps are done
-abbrev pub item_behind : Image → ℕ → ℕ → Option What
-item_behind img irq done = (step img (core_after img (reset img) (Arrive irq ∷ replicate done Step))).1
+abbrev pub item_after : Image → ℕ → ℕ → Option What
+item_after img irq done = (step img (core_after img (reset img) (Arrive irq ∷ replicate done Step))).1
 
 -- where the interrupt is requested at reset, the core step of this number, from 1, is the first exception entry
 pub record IsFirstTake (img : Image) (irq steps : ℕ) : Type 0 where
   pub done : ℕ
   pub number : steps ≡ suc done
-  pub takes : IsTake (item_behind img irq done)
-  pub none : (k : ℕ) → k < done → ¬ IsTake (item_behind img irq k)
+  pub takes : IsTake (item_after img irq done)
+  pub none : (k : ℕ) → k < done → ¬ IsTake (item_after img irq k)
 
 -- so many core steps behind the first request, the last of them is the first exception entry
 abbrev pub LeadsToTake : Image → ℕ → List ℕ → Type 0

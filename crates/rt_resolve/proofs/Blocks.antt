@@ -16,7 +16,7 @@ use Rattle.rt_app.specs.declared.stmt.Stmt.{Stmt}
 use Rattle.rt_resolve.specs.Scope.{Names, Scope, Variable, is_variable, scope_with_variable}
 use Rattle.rt_resolve.specs.Resolving.{statement, block, behind, binders_in, binders}
 use Rattle.rt_resolve.specs.Misnamed.{statement_faults, block_faults}
-use Rattle.rt_resolve.specs.Inside.Bindings.{scope_behind_block}
+use Rattle.rt_resolve.specs.Inside.Bindings.{scope_after_block}
 
 -- the statements of a block and behind them those of another
 abbrev pub followed : Block → Block → Block
@@ -133,7 +133,7 @@ outside_kept names n (Spawns s) = refl
 
 -- behind a block the scope is the one before it
 pub left_back : (s before : Scope) (outer : ℕ) → outside s ≡ before.variables → outer
-    ≡ length before.variables - before.here → before.here ≤ length before.variables → scope_behind_block s outer
+    ≡ length before.variables - before.here → before.here ≤ length before.variables → scope_after_block s outer
     ≡ before
 left_back s before outer e o h =
     let here : length before.variables - outer ≡ before.here = omega arith in
@@ -141,12 +141,12 @@ left_back s before outer e o h =
     ∙ ap (λ n. let t : Scope = record { variables = before.variables; here = n } in t) here
 
 pub names_back : (now before : Names) (outer : ℕ) → now.app ≡ before.app → now.local ≡ before.local
-    → scope_behind_block now.scope outer ≡ before.scope
-    → let after : Names = record { app = now.app; local = now.local; scope = scope_behind_block now.scope outer } in
+    → scope_after_block now.scope outer ≡ before.scope
+    → let after : Names = record { app = now.app; local = now.local; scope = scope_after_block now.scope outer } in
     after ≡ before
 names_back now before outer a l s =
-    ap (λ x. let t : Names = record { app = x; local = now.local; scope = scope_behind_block now.scope outer } in t) a
-    ∙ ap (λ x. let t : Names = record { app = before.app; local = x; scope = scope_behind_block now.scope outer } in t)
+    ap (λ x. let t : Names = record { app = x; local = now.local; scope = scope_after_block now.scope outer } in t) a
+    ∙ ap (λ x. let t : Names = record { app = before.app; local = x; scope = scope_after_block now.scope outer } in t)
     l
     ∙ ap (λ x. let t : Names = record { app = before.app; local = before.local; scope = x } in t) s
 

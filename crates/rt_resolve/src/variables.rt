@@ -1,7 +1,7 @@
 ghost use Rattle.std.specs.Prelude.{◌≡◌, ◌-◌, ◌+◌, ◌≤◌, ◌<◌, ◌∷◌, [], length, take, drop, find, option_map, OnOk};
 ghost use Rattle.std.specs.List.{list_any};
 ghost use Rattle.rt_resolve.specs.Scope as named;
-ghost use Rattle.rt_resolve.specs.Inside.Bindings.{scope_behind_block, IsKnown, IsRestored};
+ghost use Rattle.rt_resolve.specs.Inside.Bindings.{scope_after_block, IsKnown, IsRestored};
 
 use rt_ids::NoMemory;
 use std::alloc::Global;
@@ -150,7 +150,7 @@ impl<'a> Variables<'a> {
     /// Ends a block: its variables go, and so many stand before the block outside.
     pub(crate) fn leave(&mut self, outer: usize)
         requires { outer ≤ length self.old.variables - self.old.here }
-        ensures { self.new ≡ scope_behind_block self.old outer }
+        ensures { self.new ≡ scope_after_block self.old outer }
     {
         let count = self.bindings.len() - self.outer;
         for _i in 0..count {

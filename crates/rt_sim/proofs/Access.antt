@@ -3,7 +3,7 @@ use Rattle.std.proofs.Common.{◌≡◌, ℕ, zero, suc, ◌^◌, ◌<◌, ◌||
 use Rattle.std.proofs.Common.{length, map, Option, Some, None, refl, sym, ap, subst, ◌∙◌}
 use Rattle.rt_lemmas.proofs.Bools.{and_parts, or_cases}
 use Rattle.rt_ids.specs.Choice.{IsIn}
-use Rattle.rt_ids.specs.Holder.{Guarded, is_same_section}
+use Rattle.rt_ids.specs.Location.{Guarded, is_same_section}
 use Rattle.rt_ids.specs.Storage.{Runner, Starting, AtPriority, At}
 use Rattle.rt_ids.specs.declared.ids.Section.{Section}
 use Rattle.rt_ids.specs.declared.ids.Section.TheVariants as section
@@ -16,7 +16,7 @@ use Rattle.rt_app.proofs.Laid.{resource_is_home}
 use Rattle.rt_code.specs.Access.{Access, Loads, Stores}
 use Rattle.rt_code.specs.Cells.{resource_cell}
 use Rattle.rt_code.specs.Image.{Image}
-use Rattle.rt_code.specs.Owning.{Held, owns, reads, is_open, MayLoad, MayStore, MayAccess}
+use Rattle.rt_code.specs.Owning.{OpenSection, owns, reads, is_open, MayLoad, MayStore, MayAccess}
 use Rattle.rt_code.specs.Standing.{Stands}
 use Rattle.rt_code.specs.declared.image.IrqRow.{IrqRow}
 use Rattle.rt_code.proofs.Mine.{one_section}
@@ -28,15 +28,15 @@ use Rattle.rt_laws.specs.Observer.{Seen, Observer, IsInside}
 use Rattle.rt_laws.proofs.Well.{StackWell, StateWell}
 use Rattle.rt_sim.specs.Guarded as guarded
 use Rattle.rt_sim.specs.Guarded.{IsInit, IsGuarded, is_read_alone}
-use Rattle.rt_sim.specs.Inside.Moment.{Part, Moment, runner_of, spot_of, sections_of, job_of}
+use Rattle.rt_sim.specs.Inside.Coupling.{Part, Coupling, runner_of, configuration_of, sections_of, job_of}
 use Rattle.rt_sim.specs.Inside.States.{core_of, state_of}
-use Rattle.rt_sim.specs.Inside.PartFits.{who, StandsBy}
-use Rattle.rt_sim.specs.Inside.Fits.{IsStacked, Fits}
+use Rattle.rt_sim.specs.Inside.PartInvariant.{who, StandsBy}
+use Rattle.rt_sim.specs.Inside.CouplingInvariant.{IsStacked, CouplingInvariant}
 use Rattle.rt_sim.proofs.Alike.{with_rows}
 use Rattle.rt_sim.proofs.Plain.{IsWorking, is_at}
 
 -- a section that is open stands among the sections
-open_in : (held : List Held) (x : Section) → is_open held x ≡ true → IsIn (sections_of held) x
+open_in : (held : List OpenSection) (x : Section) → is_open held x ≡ true → IsIn (sections_of held) x
 open_in [] x is = absurd (cc (is))
 open_in (h ∷ held) x is = by (is_same_section h.section x) refl is (open_in held x)
   where
@@ -47,7 +47,7 @@ open_in (h ∷ held) x is = by (is_same_section h.section x) refl is (open_in he
 
 module _ (app : App) (img : Image) (thread : ℕ)
     (named : (r cell : ℕ) → resource_cell img r ≡ Some cell → (r < length app.shared) × (cell ≡ resource_at app r))
-    (m : Moment) (fits : Fits app img thread m) where
+    (m : Coupling) (invariant : CouplingInvariant app img thread m) where
   -- as the running job is seen
   inside_seen : (vs : List Seen) → StackWell app (state_of m).jobs vs → (r : ℕ)
       → is_open m.running.held (section.Res r) ≡ true → IsInside vs (section.Res r)
@@ -81,7 +81,8 @@ module _ (app : App) (img : Image) (thread : ℕ)
     where
       by : (runner : Runner) → who m.running ≡ runner → is_kept app runner (Guarded (section.Res r)) ≡ true
           → guarded.MayStore app v.jobs r
-      by Starting same kept = inr (inl (init_seen m.below v.jobs well.stack fits.stack (role_of m.running.role same)))
+      by Starting same kept = inr
+          (inl (init_seen m.below v.jobs well.stack invariant.stack (role_of m.running.role same)))
       by (AtPriority p) same kept = inr (inr (and_parts (is_lock_free app r) (is_some_at app (lists r) p) kept).0)
 
   read_seen : (v : Observer) → StateWell app (state_of m) v → (r : ℕ)
@@ -106,17 +107,18 @@ module _ (app : App) (img : Image) (thread : ℕ)
       ap (storage app).home one.1 ∙ resource_is_home app r one.0
 
   may_is_guarded : (v : Observer) → StateWell app (state_of m) v → (a : Option Access)
-      → MayAccess (storage app) (who m.running) (spot_of m.cells m.queues m.running) a → IsGuarded app img v.jobs a
+      → MayAccess (storage app) (who m.running) (configuration_of m.cells m.queues m.running) a
+      → IsGuarded app img v.jobs a
   may_is_guarded v well None may = tt
   may_is_guarded v well (Some (Loads cell)) may = λ r is.
       read_seen v well r (subst (λ home. MayLoad (storage app) (who m.running)
-      (spot_of m.cells m.queues m.running) home) (home_is cell r is) may)
+      (configuration_of m.cells m.queues m.running) home) (home_is cell r is) may)
   may_is_guarded v well (Some (Stores cell)) may = λ r is.
       owned_seen v well r (subst (λ home. MayStore (storage app) (who m.running)
-      (spot_of m.cells m.queues m.running) home) (home_is cell r is) may)
+      (configuration_of m.cells m.queues m.running) home) (home_is cell r is) may)
 
   no_steps : Stands (storage app) img.code m.running.rows thread (who m.running) zero
-      (spot_of m.cells m.queues m.running)
+      (configuration_of m.cells m.queues m.running)
       → ⊥
   unfolding Stands
   no_steps s = s
@@ -127,14 +129,15 @@ module _ (app : App) (img : Image) (thread : ℕ)
   access_is_guarded v well early = by_pick (pick img (core_of app.bits m)) refl
     where
       working : IsWorking m.running.role → pick img (core_of app.bits m) ≡ None → (n : ℕ)
-          → Stands (storage app) img.code m.running.rows thread (who m.running) n (spot_of m.cells m.queues m.running)
+          → Stands (storage app) img.code m.running.rows thread (who m.running) n
+          (configuration_of m.cells m.queues m.running)
           → IsGuarded app img v.jobs (access img (core_of app.bits m))
       working works picked zero stands = absurd (no_steps stands)
       working works picked (suc n) stands =
           may_is_guarded v well (access img (core_of app.bits m))
           (standing_leads (storage app) (with_rows img m.running.rows) thread (who m.running) (core_of app.bits m)
-          (spot_of m.cells m.queues m.running) n refl picked early
-          (is_at app img thread m fits works) stands).touches
+          (configuration_of m.cells m.queues m.running) n refl picked early
+          (is_at app img thread m invariant works) stands).touches
 
       by_role : (role : Role) → m.running.role ≡ role → pick img (core_of app.bits m) ≡ None
           → StandsBy app img thread role m.cells m.queues m.running
@@ -148,6 +151,6 @@ module _ (app : App) (img : Image) (thread : ℕ)
 
       by_pick : (o : Option IrqRow) → pick img (core_of app.bits m) ≡ o
           → IsGuarded app img v.jobs (access img (core_of app.bits m))
-      by_pick None picked = by_role m.running.role refl picked fits.parts.0.stands
+      by_pick None picked = by_role m.running.role refl picked invariant.parts.0.stands
       by_pick (Some row) picked = subst (λ a. IsGuarded app img v.jobs a) (sym
           (ap (access_by img (core_of app.bits m)) picked)) tt

@@ -2,7 +2,7 @@
 use Rattle.std.proofs.Common.{◌≡◌, ℕ, ◌+◌, ◌||◌, ◌++◌, Bool, true, List, [], ◌∷◌, length, map, slice_set, Option, Some}
 use Rattle.std.proofs.Common.{None, refl, ap, subst, ◌∙◌, length-set}
 use Rattle.std.specs.List.{list_any}
-use Rattle.rt_ids.specs.Holder.{Holder, Guarded, Own, is_same_section}
+use Rattle.rt_ids.specs.Location.{Location, Guarded, Own, is_same_section}
 use Rattle.rt_ids.specs.Content.{Values}
 use Rattle.rt_ids.specs.Action.{Action, Emits, Posts, Clocks, FindsFull, effect}
 use Rattle.rt_ids.specs.Doing.{Doing, over, does}
@@ -13,9 +13,9 @@ use Rattle.rt_app.specs.Tree.{App}
 use Rattle.rt_app.specs.Holding.{storage, is_kept}
 use Rattle.rt_code.specs.Acting.{Acts}
 use Rattle.rt_code.specs.Image.{Image}
-use Rattle.rt_code.specs.Owning.{Held, Spot, owns, is_open, MayAccess, Agree}
+use Rattle.rt_code.specs.Owning.{OpenSection, Configuration, owns, is_open, MayAccess, Agree}
 use Rattle.rt_code.specs.Processor.{Processor}
-use Rattle.rt_code.specs.Standing.{Stands, HaveLeft, spot_behind, spot_after_step}
+use Rattle.rt_code.specs.Standing.{Stands, HaveLeft, configuration_after, spend_step}
 use Rattle.rt_core.specs.Access.{access}
 use Rattle.rt_core.specs.Core.{Core}
 use Rattle.rt_core.specs.Leading.{GoesPlainly, with_processor}
@@ -28,86 +28,88 @@ use Rattle.rt_laws.specs.Preemption.{candidate}
 use Rattle.rt_laws.specs.Giving.{next_item, item_of}
 use Rattle.rt_laws.specs.Acting.{state_after_doing}
 use Rattle.rt_laws.specs.Allowed.{Turn}
-use Rattle.rt_sim.specs.Inside.Moment.{Moment, spot_of, sections_of, job_of}
+use Rattle.rt_sim.specs.Inside.Coupling.{Coupling, configuration_of, sections_of, job_of}
 use Rattle.rt_sim.specs.Inside.States.{core_of, state_of}
 use Rattle.rt_sim.specs.Inside.Counts.{hands, IsOnce}
-use Rattle.rt_sim.specs.Inside.Sparing.{owns_in, sections_after, IsActionOf, IsEntered, Spares, IsSparing}
+use Rattle.rt_sim.specs.Inside.Ownership.{owns_in, sections_after, IsActionOf, IsEntered, ChangesOwn, RespectsOwnership}
 use Rattle.rt_sim.specs.Inside.Calling.{handles}
-use Rattle.rt_sim.specs.Inside.PartFits.{who, AgreesWith}
-use Rattle.rt_sim.specs.Inside.Fits.{Fits}
+use Rattle.rt_sim.specs.Inside.PartInvariant.{who, AgreesWith}
+use Rattle.rt_sim.specs.Inside.CouplingInvariant.{CouplingInvariant}
 use Rattle.rt_sim.specs.Inside.Agrees.{StepsBoth}
 use Rattle.rt_sim.proofs.Others.{ChangesItsOwn, QueuesItsOwn, ValuesItsOwn, IsLeftOrOwned, touches_its_own}
-use Rattle.rt_sim.proofs.Plain.{IsWorking, moment_behind, plain_fits, may_turn}
+use Rattle.rt_sim.proofs.Plain.{IsWorking, coupling_after, plain_fits, may_turn}
 
-pub any_mapped : (held : List Held) (x : Section)
+pub any_mapped : (held : List OpenSection) (x : Section)
     → list_any (λ y. is_same_section y x) (sections_of held) ≡ is_open held x
 any_mapped [] x = refl
 any_mapped (h ∷ held) x = ap (λ b. is_same_section h.section x || b) (any_mapped held x)
 
 -- what sections and a runner own, said in two ways
-pub owns_alike : (app : App) (runner : Runner) (handler : Bool) (held : List Held) (h : Holder)
+pub owns_alike : (app : App) (runner : Runner) (handler : Bool) (held : List OpenSection) (h : Location)
     → owns_in app runner handler (sections_of held) h ≡ owns (storage app) runner held h
 unfolding storage
 owns_alike app runner handler held (Guarded x) = ap (λ b. b || is_kept app runner (Guarded x)) (any_mapped held x)
 owns_alike app runner handler held (Own n) = refl
 
-pub agrees_reached : (app : App) (img : Image) (thread : ℕ) (runner : Runner) (held : List Held) (rest : Doing Values)
+pub agrees_reached : (app : App) (img : Image) (thread : ℕ) (runner : Runner) (held : List OpenSection)
+    (rest : Doing Values)
     (vs : Values)
     → AgreesWith app img thread runner held (reached_values rest vs) rest
 agrees_reached app img thread runner held over vs = tt
 agrees_reached app img thread runner held (does action made next) vs = λ h r. refl
 
--- what is pending matters to no other part of what fits
-pub pending_fits : (app : App) (img : Image) (thread : ℕ) (m : Moment) (pending : List Bool)
+-- what is pending matters to no other part of the coupling invariant
+pub pending_invariant : (app : App) (img : Image) (thread : ℕ) (m : Coupling) (pending : List Bool)
     → length pending ≡ length m.pending
-    → Fits app img thread m → Fits app img thread (record m { pending = pending })
-pending_fits app img thread m pending long fits = record {
-  stack = fits.stack;
-  parts = fits.parts;
-  spelled = fits.spelled;
-  basepri = fits.basepri;
-  primask = fits.primask;
-  memory = fits.memory;
-  once = fits.once;
-  numbers = long ∙ fits.numbers;
-  alarmed = fits.alarmed;
+    → CouplingInvariant app img thread m → CouplingInvariant app img thread (record m { pending = pending })
+pending_invariant app img thread m pending long invariant = record {
+  stack = invariant.stack;
+  parts = invariant.parts;
+  represented = invariant.represented;
+  basepri = invariant.basepri;
+  primask = invariant.primask;
+  memory = invariant.memory;
+  once = invariant.once;
+  numbers = long ∙ invariant.numbers;
+  alarmed = invariant.alarmed;
 }
 
-module _ (app : App) (img : Image) (thread : ℕ) (m : Moment) (fits : Fits app img thread m)
+module _ (app : App) (img : Image) (thread : ℕ) (m : Coupling) (invariant : CouplingInvariant app img thread m)
     (works : IsWorking m.running.role) where
-  abbrev Spotted : Spot
-  Spotted = spot_of m.cells m.queues m.running
+  abbrev Configured : Configuration
+  Configured = configuration_of m.cells m.queues m.running
 
-  abbrev Later : ℕ → Spot → Type 0
+  abbrev Later : ℕ → Configuration → Type 0
   Later n t = Stands (storage app) img.code m.running.rows thread (who m.running) n t
 
   -- a step that is known changes what the running job owns alone
   pub changes_by : (c : Core) (shown : Option What) → step img (core_of app.bits m) ≡ (c, shown)
-      → MayAccess (storage app) (who m.running) (spot_of m.cells m.queues m.running) (access img (core_of app.bits m))
+      → MayAccess (storage app) (who m.running) (configuration_of m.cells m.queues m.running)
+      (access img (core_of app.bits m))
       → ChangesItsOwn app img thread m.running m.cells c.processor.cells
   changes_by c shown is may cell =
       subst (λ (r : Core × Option What). IsLeftOrOwned app
       (who m.running) m.running.held m.running.places m.cells r.0.processor.cells cell) is
       (touches_its_own app img (core_of app.bits m) (who m.running)
-      (spot_of m.cells m.queues m.running) may cell)
+      (configuration_of m.cells m.queues m.running) may cell)
 
   module _ (action : Action) (values : Values) (follows : ℕ → Values → Doing Values)
       (is : m.running.rest ≡ does action values follows) where
     -- the values that the job made are there, in what it reads
     pub agreed : Agree (storage app) (who m.running) m.running.held m.values values
     agreed = subst (λ rest. AgreesWith app img thread
-        (who m.running) m.running.held m.values rest) is fits.parts.0.agrees
+        (who m.running) m.running.held m.values rest) is invariant.parts.0.agrees
 
-    pub spared : IsActionOf app (who m.running) (handles m.running.role) action
+    pub respects_next : IsActionOf app (who m.running) (handles m.running.role) action
         × ((n : ℕ) (vs : Values) → IsEntered app action vs
-        → Spares app (who m.running) (handles m.running.role)
+        → ChangesOwn app (who m.running) (handles m.running.role)
         (sections_after app (who m.running) (handles m.running.role) (sections_of m.running.held) action) vs
         (follows n vs)
-        × IsSparing app (who m.running) (handles m.running.role)
+        × RespectsOwnership app (who m.running) (handles m.running.role)
         (sections_after app (who m.running) (handles m.running.role) (sections_of m.running.held) action)
         (follows n vs))
-    spared = subst (λ rest. IsSparing app (who m.running) (handles m.running.role)
-        (sections_of m.running.held) rest) is fits.parts.0.sparing
+    respects_next = subst (λ rest. RespectsOwnership app (who m.running) (handles m.running.role)
+        (sections_of m.running.held) rest) is invariant.parts.0.respects
 
     -- the item of the job's next action, and what it changes
     pub gives_item : next_item (state_of m) m.running.role m.running.rest ≡ item_of (state_of m) m.running.role action
@@ -119,11 +121,11 @@ module _ (app : App) (img : Image) (thread : ℕ) (m : Moment) (fits : Fits app 
 
   -- where the action opens no section, and these places and queues are behind it
   pub acts_fit : (q : Processor) (n : ℕ) (action : Action) (answer : ℕ) (places : List Entry)
-      (queues : Holder → List Entry)
-      → GoesPlainly (spot_of m.cells m.queues m.running) (core_of app.bits m).processor q
+      (queues : Location → List Entry)
+      → GoesPlainly (configuration_of m.cells m.queues m.running) (core_of app.bits m).processor q
       → ChangesItsOwn app img thread m.running m.cells q.cells
       → (acts : Acts (storage app) m.running.rows (who m.running) action answer
-      (record (spot_behind (spot_after_step (spot_of m.cells m.queues m.running)) q)
+      (record (configuration_after (spend_step (configuration_of m.cells m.queues m.running)) q)
       { places = places; queues = queues })
       (λ t. Stands (storage app) img.code m.running.rows thread (who m.running) n t))
       → ValuesItsOwn app img thread m.running m.values (effect action m.values)
@@ -131,71 +133,74 @@ module _ (app : App) (img : Image) (thread : ℕ) (m : Moment) (fits : Fits app 
       → IsOnce queues (λ e. count e places + hands m.below e)
       → ((held : List Section) → sections_after app (who m.running) (handles m.running.role) held action ≡ held)
       → IsEntered app action (effect action m.values)
-      → Fits app img thread (moment_behind app img thread m q n (acts.follows answer (effect action m.values))
+      → CouplingInvariant app img thread
+      (coupling_after app img thread m q n (acts.follows answer (effect action m.values))
       (reached_values (acts.follows answer (effect action m.values)) (effect action m.values)) places queues)
   acts_fit q n action answer places queues plain changes acts kept moves once closed entered =
       let vs : Values = effect action m.values in
       let rest = acts.follows answer vs in
-      let spares = subst (λ held. Spares app (who m.running) (handles m.running.role) held vs rest
-      × IsSparing app (who m.running) (handles m.running.role) held rest)
+      let changes_own = subst (λ held. ChangesOwn app (who m.running) (handles m.running.role) held vs rest
+      × RespectsOwnership app (who m.running) (handles m.running.role) held rest)
       (closed (sections_of m.running.held))
-      ((spared action acts.values acts.follows acts.is).1 answer vs entered) in
-      plain_fits app img thread m fits works q n rest (reached_values rest vs) places queues plain changes
-      (λ h away. spares.0 h (owns_alike app (who m.running) (handles m.running.role) m.running.held h ∙ away)
+      ((respects_next action acts.values acts.follows acts.is).1 answer vs entered) in
+      plain_fits app img thread m invariant works q n rest (reached_values rest vs) places queues plain changes
+      (λ h away. changes_own.0 h (owns_alike app (who m.running) (handles m.running.role) m.running.held h ∙ away)
       ∙ kept h away) moves once
       (acts.on m.values (agreed action acts.values acts.follows acts.is))
-      (agrees_reached app img thread (who m.running) m.running.held rest vs) spares.1
+      (agrees_reached app img thread (who m.running) m.running.held rest vs) changes_own.1
 
   -- where no queue changes
   pub acts_plainly : (q : Processor) (n : ℕ) (action : Action) (answer : ℕ)
-      → GoesPlainly (spot_of m.cells m.queues m.running) (core_of app.bits m).processor q
+      → GoesPlainly (configuration_of m.cells m.queues m.running) (core_of app.bits m).processor q
       → ChangesItsOwn app img thread m.running m.cells q.cells
       → (acts : Acts (storage app) m.running.rows (who m.running) action answer
-      (spot_behind (spot_after_step (spot_of m.cells m.queues m.running)) q)
+      (configuration_after (spend_step (configuration_of m.cells m.queues m.running)) q)
       (λ t. Stands (storage app) img.code m.running.rows thread (who m.running) n t))
       → ((vs : Values) → effect action vs ≡ vs)
       → ((held : List Section) → sections_after app (who m.running) (handles m.running.role) held action ≡ held)
       → IsEntered app action (effect action m.values)
-      → Fits app img thread (moment_behind app img thread m q n (acts.follows answer (effect action m.values))
+      → CouplingInvariant app img thread
+      (coupling_after app img thread m q n (acts.follows answer (effect action m.values))
       (reached_values (acts.follows answer (effect action m.values)) (effect action m.values)) m.running.places
       m.queues)
   acts_plainly q n action answer plain changes acts same closed entered =
       acts_fit q n action answer m.running.places m.queues plain changes acts
-      (λ h away. ap (λ (vs : Values). vs h) (same m.values)) (λ h away. refl) fits.once closed entered
+      (λ h away. ap (λ (vs : Values). vs h) (same m.values)) (λ h away. refl) invariant.once closed entered
 
   module _ (n : ℕ) (none : candidate app (state_of m) ≡ None) (left : HaveLeft (m.running.lefts ++ m.running.left ∷ []))
-      (may : MayAccess (storage app) (who m.running) (spot_of m.cells m.queues m.running)
+      (may : MayAccess (storage app) (who m.running) (configuration_of m.cells m.queues m.running)
       (access img (core_of app.bits m))) (q : Processor)
-      (plain : GoesPlainly (spot_of m.cells m.queues m.running) (core_of app.bits m).processor q) where
+      (plain : GoesPlainly (configuration_of m.cells m.queues m.running) (core_of app.bits m).processor q) where
     turn : Turn app (state_of m)
-    turn = may_turn app img thread m fits works none left
+    turn = may_turn app img thread m invariant works none left
 
     abbrev ActsBy : Action → ℕ → Type 0
     ActsBy action answer = Acts (storage app) m.running.rows (who m.running) action answer
-        (spot_behind (spot_after_step (spot_of m.cells m.queues m.running)) q)
+        (configuration_after (spend_step (configuration_of m.cells m.queues m.running)) q)
         (λ t. Stands (storage app) img.code m.running.rows thread (who m.running) n t)
 
     abbrev Both : Type 0
     Both = StepsBoth app img thread (core_of app.bits m) (state_of m)
 
-    abbrev Behind : Doing Values → Values → Moment
-    Behind rest vs = moment_behind app img thread m q n rest (reached_values rest vs) m.running.places m.queues
+    abbrev Behind : Doing Values → Values → Coupling
+    Behind rest vs = coupling_after app img thread m q n rest (reached_values rest vs) m.running.places m.queues
 
     pub silent : step img (core_of app.bits m) ≡ (with_processor (core_of app.bits m) q, None)
         → Stands (storage app) img.code m.running.rows thread (who m.running) n
-        (spot_behind (spot_after_step (spot_of m.cells m.queues m.running)) q) → Both
+        (configuration_after (spend_step (configuration_of m.cells m.queues m.running)) q) → Both
     silent is stands = record {
       core = with_processor (core_of app.bits m) q;
       shown = None;
       is = is;
       may = turn;
       agrees = record {
-        moment = moment_behind app img thread m q n m.running.rest m.values m.running.places m.queues;
+        coupling = coupling_after app img thread m q n m.running.rest m.values m.running.places m.queues;
         core = refl;
         state = refl;
-        fits = plain_fits app img thread m fits works q n m.running.rest m.values m.running.places m.queues plain
-            (changes_by _ _ is may) (λ h away. refl) (λ h away. refl) fits.once stands fits.parts.0.agrees
-            fits.parts.0.sparing;
+        invariant = plain_fits app img thread m invariant works q n m.running.rest m.values m.running.places m.queues
+            plain
+            (changes_by _ _ is may) (λ h away. refl) (λ h away. refl) invariant.once stands invariant.parts.0.agrees
+            invariant.parts.0.respects;
       };
     }
 
@@ -207,10 +212,10 @@ module _ (app : App) (img : Image) (thread : ℕ) (m : Moment) (fits : Fits app 
       is = is;
       may = (turn, gives_item (Emits value) acts.values acts.follows acts.is);
       agrees = record {
-        moment = Behind (acts.follows 0 m.values) m.values;
+        coupling = Behind (acts.follows 0 m.values) m.values;
         core = refl;
         state = acts_as (Emits value) acts.values acts.follows acts.is;
-        fits = acts_plainly q n (Emits value) 0 plain (changes_by _ _ is may) acts (λ vs. refl) (λ held. refl) tt;
+        invariant = acts_plainly q n (Emits value) 0 plain (changes_by _ _ is may) acts (λ vs. refl) (λ held. refl) tt;
       };
     }
 
@@ -223,10 +228,10 @@ module _ (app : App) (img : Image) (thread : ℕ) (m : Moment) (fits : Fits app 
       is = is;
       may = (turn, gives_item Clocks acts.values acts.follows acts.is);
       agrees = record {
-        moment = Behind (acts.follows m.time m.values) m.values;
+        coupling = Behind (acts.follows m.time m.values) m.values;
         core = refl;
         state = acts_as Clocks acts.values acts.follows acts.is;
-        fits = acts_plainly q n Clocks m.time plain (changes_by _ _ is may) acts (λ vs. refl) (λ held. refl) known;
+        invariant = acts_plainly q n Clocks m.time plain (changes_by _ _ is may) acts (λ vs. refl) (λ held. refl) known;
       };
     }
 
@@ -238,10 +243,10 @@ module _ (app : App) (img : Image) (thread : ℕ) (m : Moment) (fits : Fits app 
       is = is;
       may = (turn, gives_item (FindsFull t) acts.values acts.follows acts.is);
       agrees = record {
-        moment = Behind (acts.follows 0 m.values) m.values;
+        coupling = Behind (acts.follows 0 m.values) m.values;
         core = refl;
         state = acts_as (FindsFull t) acts.values acts.follows acts.is;
-        fits = acts_plainly q n (FindsFull t) 0 plain (changes_by _ _ is may) acts (λ vs. refl) (λ held. refl) tt;
+        invariant = acts_plainly q n (FindsFull t) 0 plain (changes_by _ _ is may) acts (λ vs. refl) (λ held. refl) tt;
       };
     }
 
@@ -254,10 +259,11 @@ module _ (app : App) (img : Image) (thread : ℕ) (m : Moment) (fits : Fits app 
       is = is;
       may = (turn, gives_item (Posts irq) acts.values acts.follows acts.is);
       agrees = record {
-        moment = record (Behind (acts.follows 0 m.values) m.values) { pending = slice_set m.pending irq true };
+        coupling = record (Behind (acts.follows 0 m.values) m.values) { pending = slice_set m.pending irq true };
         core = refl;
         state = acts_as (Posts irq) acts.values acts.follows acts.is;
-        fits = pending_fits app img thread (Behind (acts.follows 0 m.values) m.values) (slice_set m.pending irq true)
+        invariant = pending_invariant app img thread (Behind (acts.follows 0 m.values) m.values)
+            (slice_set m.pending irq true)
             (length-set m.pending irq true)
             (acts_plainly q n (Posts irq) 0 plain (changes_by _ _ is may) acts (λ vs. refl) (λ held. refl) tt);
       };

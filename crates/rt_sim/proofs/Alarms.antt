@@ -5,7 +5,7 @@ use Rattle.std.proofs.Common.{slice_set, Option, Some, None, IfSome, refl, sym, 
 use Rattle.rt_ids.specs.Lists.{or_zero}
 use Rattle.rt_ids.specs.Action.{SetsAlarm}
 use Rattle.rt_ids.specs.Content.{delays, least_instant}
-use Rattle.rt_ids.specs.Holder.{Guarded}
+use Rattle.rt_ids.specs.Location.{Guarded}
 use Rattle.rt_ids.specs.declared.ids.Section.TheVariants as section
 use Rattle.rt_app.specs.Tree.{App}
 use Rattle.rt_app.specs.Holding.{storage}
@@ -13,7 +13,7 @@ use Rattle.rt_code.specs.Acting.{SetsTheAlarm}
 use Rattle.rt_code.specs.Image.{Image}
 use Rattle.rt_code.specs.Owning.{MayAccess}
 use Rattle.rt_code.specs.Processor.{Processor}
-use Rattle.rt_code.specs.Standing.{Stands, HaveLeft, spot_behind, spot_after_step}
+use Rattle.rt_code.specs.Standing.{Stands, HaveLeft, configuration_after, spend_step}
 use Rattle.rt_code.proofs.Mine.{owns_open, owns_reads}
 use Rattle.rt_core.specs.declared.alarm.Alarm.{Alarm}
 use Rattle.rt_core.specs.Access.{access}
@@ -34,14 +34,14 @@ use Rattle.rt_laws.specs.Acting.{state_after_doing, alarm_set}
 use Rattle.rt_laws.specs.Allowed.{after}
 use Rattle.rt_laws.specs.ByItems.{after_all}
 use Rattle.rt_laws.specs.Run.{RunsOn}
-use Rattle.rt_sim.specs.Inside.Moment.{Moment, spot_of, job_of}
+use Rattle.rt_sim.specs.Inside.Coupling.{Coupling, configuration_of, job_of}
 use Rattle.rt_sim.specs.Inside.States.{core_of, state_of}
-use Rattle.rt_sim.specs.Inside.PartFits.{who}
-use Rattle.rt_sim.specs.Inside.Fits.{Fits}
+use Rattle.rt_sim.specs.Inside.PartInvariant.{who}
+use Rattle.rt_sim.specs.Inside.CouplingInvariant.{CouplingInvariant}
 use Rattle.rt_sim.specs.Inside.Agrees.{StepsBoth}
 use Rattle.rt_sim.proofs.Others.{ChangesItsOwn}
-use Rattle.rt_sim.proofs.Plain.{IsWorking, moment_behind, may_turn}
-use Rattle.rt_sim.proofs.Acts.{pending_fits, changes_by, agreed, gives_item, acts_as, acts_plainly}
+use Rattle.rt_sim.proofs.Plain.{IsWorking, coupling_after, may_turn}
+use Rattle.rt_sim.proofs.Acts.{pending_invariant, changes_by, agreed, gives_item, acts_as, acts_plainly}
 
 -- the monotonic's interrupt has one number
 timer_is : (app : App) (irq : ℕ) → (storage app).timer ≡ Some irq → irq ≡ timer_number app
@@ -50,39 +50,40 @@ timer_is app irq is = ap or_zero (sym is)
 
 module _ (app : App) (img : Image) (thread : ℕ) where
   -- another alarm, which is the monotonic's
-  alarmed_fits : (m : Moment) (alarm : Option Alarm) → IfSome alarm (λ a. a.irq ≡ timer_number app)
-      → Fits app img thread m → Fits app img thread (record m { alarm = alarm })
-  alarmed_fits m alarm its fits = record {
-    stack = fits.stack;
-    parts = fits.parts;
-    spelled = fits.spelled;
-    basepri = fits.basepri;
-    primask = fits.primask;
-    memory = fits.memory;
-    once = fits.once;
-    numbers = fits.numbers;
+  alarmed_invariant : (m : Coupling) (alarm : Option Alarm) → IfSome alarm (λ a. a.irq ≡ timer_number app)
+      → CouplingInvariant app img thread m → CouplingInvariant app img thread (record m { alarm = alarm })
+  alarmed_invariant m alarm its invariant = record {
+    stack = invariant.stack;
+    parts = invariant.parts;
+    represented = invariant.represented;
+    basepri = invariant.basepri;
+    primask = invariant.primask;
+    memory = invariant.memory;
+    once = invariant.once;
+    numbers = invariant.numbers;
     alarmed = its;
   }
 
-  -- the time does not matter to what fits
-  time_fits : (m : Moment) (time : ℕ) → Fits app img thread m → Fits app img thread (record m { time = time })
-  time_fits m time fits = record {
-    stack = fits.stack;
-    parts = fits.parts;
-    spelled = fits.spelled;
-    basepri = fits.basepri;
-    primask = fits.primask;
-    memory = fits.memory;
-    once = fits.once;
-    numbers = fits.numbers;
-    alarmed = fits.alarmed;
+  -- the time does not matter to the coupling invariant
+  time_invariant : (m : Coupling) (time : ℕ) → CouplingInvariant app img thread m
+      → CouplingInvariant app img thread (record m { time = time })
+  time_invariant m time invariant = record {
+    stack = invariant.stack;
+    parts = invariant.parts;
+    represented = invariant.represented;
+    basepri = invariant.basepri;
+    primask = invariant.primask;
+    memory = invariant.memory;
+    once = invariant.once;
+    numbers = invariant.numbers;
+    alarmed = invariant.alarmed;
   }
 
-  module _ (m : Moment) (fits : Fits app img thread m) (works : IsWorking m.running.role) (n : ℕ)
+  module _ (m : Coupling) (invariant : CouplingInvariant app img thread m) (works : IsWorking m.running.role) (n : ℕ)
       (none : candidate app (state_of m) ≡ None) (left : HaveLeft (m.running.lefts ++ m.running.left ∷ []))
-      (may : MayAccess (storage app) (who m.running) (spot_of m.cells m.queues m.running)
+      (may : MayAccess (storage app) (who m.running) (configuration_of m.cells m.queues m.running)
       (access img (core_of app.bits m))) (q : Processor)
-      (plain : GoesPlainly (spot_of m.cells m.queues m.running) (core_of app.bits m).processor q) where
+      (plain : GoesPlainly (configuration_of m.cells m.queues m.running) (core_of app.bits m).processor q) where
     abbrev Both : Type 0
     Both = StepsBoth app img thread (core_of app.bits m) (state_of m)
 
@@ -91,23 +92,24 @@ module _ (app : App) (img : Image) (thread : ℕ) where
 
     abbrev Sets : Option ℕ → Type 0
     Sets instant = SetsTheAlarm (storage app) m.running.rows (who m.running) instant
-        (spot_behind (spot_after_step (spot_of m.cells m.queues m.running)) q)
+        (configuration_after (spend_step (configuration_of m.cells m.queues m.running)) q)
         (λ t. Stands (storage app) img.code m.running.rows thread (who m.running) n t)
 
     module _ (instant : Option ℕ) (sets : Sets instant) where
       -- behind the step, but for the alarm
-      abbrev Behind : Moment
-      Behind = moment_behind app img thread m q n (sets.acts.follows 0 m.values)
+      abbrev Behind : Coupling
+      Behind = coupling_after app img thread m q n (sets.acts.follows 0 m.values)
           (reached_values (sets.acts.follows 0 m.values) m.values) m.running.places m.queues
 
-      fits_behind : ChangesItsOwn app img thread m.running m.cells q.cells → Fits app img thread Behind
-      fits_behind changes =
-          acts_plainly app img thread m fits works q n SetsAlarm 0 plain changes sets.acts (λ vs. refl)
+      invariant_behind : ChangesItsOwn app img thread m.running m.cells q.cells
+          → CouplingInvariant app img thread Behind
+      invariant_behind changes =
+          acts_plainly app img thread m invariant works q n SetsAlarm 0 plain changes sets.acts (λ vs. refl)
           (λ held. refl) tt
 
       least_is : next_instant (state_of m) ≡ instant
       least_is = ap (λ content. least_instant (delays content))
-          (agreed app img thread m fits works SetsAlarm sets.acts.values sets.acts.follows sets.acts.is
+          (agreed app img thread m invariant works SetsAlarm sets.acts.values sets.acts.follows sets.acts.is
           (Guarded section.Timer) (owns_reads (storage app) (who m.running) m.running.held (Guarded section.Timer)
           (owns_open (storage app) (who m.running) m.running.held section.Timer sets.inside)))
           ∙ sets.least
@@ -117,7 +119,7 @@ module _ (app : App) (img : Image) (thread : ℕ) where
           → next_item (state_of m) m.running.role m.running.rest
           ≡ Some (if due then what.Alarm else what.AlarmSet)
       gives_alarm due is =
-          gives_item app img thread m fits works SetsAlarm sets.acts.values sets.acts.follows sets.acts.is
+          gives_item app img thread m invariant works SetsAlarm sets.acts.values sets.acts.follows sets.acts.is
           ∙ ap (λ o. Some (if is_due m.time o then what.Alarm else what.AlarmSet)) least_is
           ∙ ap (λ b. Some (if b then what.Alarm else what.AlarmSet)) is
 
@@ -126,7 +128,7 @@ module _ (app : App) (img : Image) (thread : ℕ) where
           ≡ (if due then baker.state_after_pend (timer_number app) (record (state_of Behind) { alarm = None })
           else record (state_of Behind) { alarm = instant })
       acted_alarm due is =
-          acts_as app img thread m fits works SetsAlarm sets.acts.values sets.acts.follows sets.acts.is
+          acts_as app img thread m invariant works SetsAlarm sets.acts.values sets.acts.follows sets.acts.is
           ∙ ap (λ o. alarm_set app o (state_of Behind)) least_is
           ∙ ap (λ b. if b then baker.state_after_pend (timer_number app) (record (state_of Behind) { alarm = None })
           else record (state_of Behind) { alarm = instant }) is
@@ -138,13 +140,13 @@ module _ (app : App) (img : Image) (thread : ℕ) where
       core = record Next { alarm = None };
       shown = Some what.AlarmSet;
       is = is;
-      may = (may_turn app img thread m fits works none left, gives_alarm None sets false refl);
+      may = (may_turn app img thread m invariant works none left, gives_alarm None sets false refl);
       agrees = record {
-        moment = record (Behind None sets) { alarm = None };
+        coupling = record (Behind None sets) { alarm = None };
         core = refl;
         state = acted_alarm None sets false refl;
-        fits = alarmed_fits (Behind None sets) None tt
-            (fits_behind None sets (changes_by app img thread m fits works _ _ is may));
+        invariant = alarmed_invariant (Behind None sets) None tt
+            (invariant_behind None sets (changes_by app img thread m invariant works _ _ is may));
       };
     }
 
@@ -169,56 +171,60 @@ module _ (app : App) (img : Image) (thread : ℕ) where
           core = record (core_after_pend Next irq) { alarm = None };
           shown = Some what.Alarm;
           is = gives true due;
-          may = (may_turn app img thread m fits works none left, gives_alarm (Some instant) sets true due);
+          may = (may_turn app img thread m invariant works none left, gives_alarm (Some instant) sets true due);
           agrees = record {
-            moment = record (Behind (Some instant) sets) { alarm = None; pending = slice_set m.pending irq true };
+            coupling = record (Behind (Some instant) sets) { alarm = None; pending = slice_set m.pending irq true };
             core = refl;
             state = acted_alarm (Some instant) sets true due
                 ∙ ap (λ k. baker.state_after_pend k (record (state_of (Behind (Some instant) sets)) { alarm = None }))
                 (sym number);
-            fits = pending_fits app img thread (record (Behind (Some instant) sets) { alarm = None })
+            invariant = pending_invariant app img thread (record (Behind (Some instant) sets) { alarm = None })
                 (slice_set m.pending irq true) (length-set m.pending irq true)
-                (alarmed_fits (Behind (Some instant) sets) None tt
-                (fits_behind (Some instant) sets (changes_by app img thread m fits works _ _ (gives true due) may)));
+                (alarmed_invariant (Behind (Some instant) sets) None tt
+                (invariant_behind (Some instant) sets
+                (changes_by app img thread m invariant works _ _ (gives true due) may)));
           };
         }
         by false later = record {
           core = record Next { alarm = Some (record { instant = instant; irq = irq }) };
           shown = Some what.AlarmSet;
           is = gives false later;
-          may = (may_turn app img thread m fits works none left, gives_alarm (Some instant) sets false later);
+          may = (may_turn app img thread m invariant works none left, gives_alarm (Some instant) sets false later);
           agrees = record {
-            moment = record (Behind (Some instant) sets) { alarm = Some (record { instant = instant; irq = irq }) };
+            coupling = record (Behind (Some instant) sets) { alarm = Some (record { instant = instant; irq = irq }) };
             core = refl;
             state = acted_alarm (Some instant) sets false later;
-            fits = alarmed_fits (Behind (Some instant) sets) (Some (record { instant = instant; irq = irq })) number
-                (fits_behind (Some instant) sets (changes_by app img thread m fits works _ _ (gives false later) may));
+            invariant = alarmed_invariant (Behind (Some instant) sets) (Some (record { instant = instant; irq = irq }))
+                number
+                (invariant_behind (Some instant) sets
+                (changes_by app img thread m invariant works _ _ (gives false later) may));
           };
         }
 
   -- what a tick leads to, and what it shows behind itself: an alarm that is due comes
-  pub record Ticks (m : Moment) : Type 0 where
-    pub moment : Moment
+  pub record Ticks (m : Coupling) : Type 0 where
+    pub coupling : Coupling
     pub shown : List Label
-    pub is : tick (core_of app.bits m) ≡ (core_of app.bits moment, shown)
+    pub is : tick (core_of app.bits m) ≡ (core_of app.bits coupling, shown)
     pub runs : RunsOn app (after app (state_of m) Ticked) shown
-    pub state : after_all app (after app (state_of m) Ticked) shown ≡ state_of moment
-    pub fits : Fits app img thread moment
-    pub time : moment.time ≡ suc m.time
-    pub values : moment.values ≡ m.values
+    pub state : after_all app (after app (state_of m) Ticked) shown ≡ state_of coupling
+    pub invariant : CouplingInvariant app img thread coupling
+    pub time : coupling.time ≡ suc m.time
+    pub values : coupling.values ≡ m.values
     pub silent : (ls : List Label) → steps_of (shown ++ ls) ≡ steps_of ls
 
-  -- the moment with this alarm
-  abbrev with_alarm : Moment → Alarm → Moment
+  -- the coupling with this alarm
+  abbrev with_alarm : Coupling → Alarm → Coupling
   with_alarm m a = record m { alarm = Some a }
 
-  pub ticks : (m : Moment) → Fits app img thread m → Ticks m
-  ticks m fits = by m.alarm fits
+  pub ticks : (m : Coupling) → CouplingInvariant app img thread m → Ticks m
+  ticks m invariant = by m.alarm invariant
     where
-      rings : (a : Alarm) → Fits app img thread (with_alarm m a) → (b : Bool) → nat_le a.instant (suc m.time) ≡ b
+      rings : (a : Alarm) → CouplingInvariant app img thread (with_alarm m a) → (b : Bool)
+          → nat_le a.instant (suc m.time) ≡ b
           → Ticks (with_alarm m a)
-      rings a fits true due = record {
-        moment = record m { alarm = None; time = suc m.time; pending = slice_set m.pending a.irq true };
+      rings a invariant true due = record {
+        coupling = record m { alarm = None; time = suc m.time; pending = slice_set m.pending a.irq true };
         shown = Rang ∷ [];
         is = ap (λ b. if b then (
           record (core_after_pend (core_of app.bits (record (with_alarm m a) { time = suc m.time })) a.irq)
@@ -228,16 +234,17 @@ module _ (app : App) (img : Image) (thread : ℕ) where
             else (core_of app.bits (record (with_alarm m a) { time = suc m.time }), [])) due;
         runs = (due, tt);
         state = ap (λ k. baker.state_after_pend k (state_of (record m { alarm = None; time = suc m.time })))
-            (sym fits.alarmed);
-        fits = pending_fits app img thread (record m { alarm = None; time = suc m.time })
+            (sym invariant.alarmed);
+        invariant = pending_invariant app img thread (record m { alarm = None; time = suc m.time })
             (slice_set m.pending a.irq true) (length-set m.pending a.irq true)
-            (time_fits (record m { alarm = None }) (suc m.time) (alarmed_fits (with_alarm m a) None tt fits));
+            (time_invariant (record m { alarm = None }) (suc m.time)
+            (alarmed_invariant (with_alarm m a) None tt invariant));
         time = refl;
         values = refl;
         silent = λ ls. refl;
       }
-      rings a fits false later = record {
-        moment = record (with_alarm m a) { time = suc m.time };
+      rings a invariant false later = record {
+        coupling = record (with_alarm m a) { time = suc m.time };
         shown = [];
         is = ap (λ b. if b then (
           record (core_after_pend (core_of app.bits (record (with_alarm m a) { time = suc m.time })) a.irq)
@@ -247,22 +254,23 @@ module _ (app : App) (img : Image) (thread : ℕ) where
             else (core_of app.bits (record (with_alarm m a) { time = suc m.time }), [])) later;
         runs = tt;
         state = ap (λ b. record (state_of (record (with_alarm m a) { time = suc m.time })) { owing = b }) later;
-        fits = time_fits (with_alarm m a) (suc m.time) fits;
+        invariant = time_invariant (with_alarm m a) (suc m.time) invariant;
         time = refl;
         values = refl;
         silent = λ ls. refl;
       }
 
-      by : (o : Option Alarm) → Fits app img thread (record m { alarm = o }) → Ticks (record m { alarm = o })
-      by None fits = record {
-        moment = record m { alarm = None; time = suc m.time };
+      by : (o : Option Alarm) → CouplingInvariant app img thread (record m { alarm = o })
+          → Ticks (record m { alarm = o })
+      by None invariant = record {
+        coupling = record m { alarm = None; time = suc m.time };
         shown = [];
         is = refl;
         runs = tt;
         state = refl;
-        fits = time_fits (record m { alarm = None }) (suc m.time) fits;
+        invariant = time_invariant (record m { alarm = None }) (suc m.time) invariant;
         time = refl;
         values = refl;
         silent = λ ls. refl;
       }
-      by (Some a) fits = rings a fits (nat_le a.instant (suc m.time)) refl
+      by (Some a) invariant = rings a invariant (nat_le a.instant (suc m.time)) refl

@@ -7,9 +7,9 @@ use Rattle.rt_ids.specs.declared.ids.Section.{Section}
 use Rattle.rt_ids.specs.declared.ids.Section.TheVariants as section
 use Rattle.rt_code.specs.Effect.{effect}
 use Rattle.rt_code.specs.Image.{Image}
-use Rattle.rt_code.specs.Owning.{Spot}
+use Rattle.rt_code.specs.Owning.{Configuration}
 use Rattle.rt_code.specs.Processor.{Effect, Traps, Leads}
-use Rattle.rt_code.specs.Standing.{Stands, LineFits, spot_after_step}
+use Rattle.rt_code.specs.Standing.{Stands, LineFits, spend_step}
 use Rattle.rt_code.specs.Tables.{arguments_in}
 use Rattle.rt_code.specs.declared.image.BodyRow.{BodyRow}
 use Rattle.rt_code.specs.declared.instr.Instr.{Instr}
@@ -119,8 +119,8 @@ nothing_behind [] = refl
 nothing_behind (x ∷ xs) = nothing_behind xs
 
 pub stands_inside : (st : Storage) (code : List (Instr × Option Note)) (bodies : List BodyRow) (thread : ℕ)
-    (who : Runner) (n : ℕ) (s : Spot) → Stands st code bodies thread who n s → s.address ≡ length code → ⊥
+    (who : Runner) (n : ℕ) (s : Configuration) → Stands st code bodies thread who n s → s.address ≡ length code → ⊥
 stands_inside st code bodies thread who zero s stands is = stands_none st code bodies thread who s stands
 stands_inside st code bodies thread who (suc n) s stands is =
-    subst (λ line. LineFits st code bodies thread who line (spot_after_step s) (Stands st code bodies thread who n))
+    subst (λ line. LineFits st code bodies thread who line (spend_step s) (Stands st code bodies thread who n))
     (ap (slice_get code) is ∙ nothing_behind code) (stands_fits st code bodies thread who n s stands)

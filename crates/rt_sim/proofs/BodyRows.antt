@@ -150,8 +150,8 @@ module _ (app : App) (img : Image) where
         = ap (λ b. if b then DISPATCHER_WORDS + greatest (frames_of (is_of_level p) app) else 0) has_tasks in
         omega (arith, e)
 
-    pub dispatcher_fits : DISPATCHER_WORDS ≤ need app p
-    dispatcher_fits = omega (arith, need_is)
+    pub dispatcher_invariant : DISPATCHER_WORDS ≤ need app p
+    dispatcher_invariant = omega (arith, need_is)
 
     pub calls_of_level : (irq : ℕ)
         → CallsWithin app img (Serving irq) p DISPATCHER_WORDS (level_rows app img p)

@@ -18,7 +18,7 @@ use Rattle.rt_app.specs.Holding.{storage}
 use Rattle.rt_app.specs.Stack.{stack_bytes}
 use Rattle.rt_code.specs.Image.{Image}
 use Rattle.rt_code.specs.Stack.{words_of, arguments_fit, caller_frame, body_frame, last_slot, return_address}
-use Rattle.rt_code.specs.Standing.{Stands, HaveLeft, Calls, ComesBack, spot_after_step}
+use Rattle.rt_code.specs.Standing.{Stands, HaveLeft, Calls, ComesBack, spend_step}
 use Rattle.rt_code.specs.declared.image.BodyRow.{BodyRow}
 use Rattle.rt_core.specs.Leading.{in_frame}
 use Rattle.rt_core.specs.Stepping.{step}
@@ -27,18 +27,18 @@ use Rattle.rt_core.specs.Core.{stack_in_use}
 use Rattle.rt_trace.specs.declared.item.What.TheVariants as what
 use Rattle.rt_laws.specs.Preemption.{candidate}
 use Rattle.rt_laws.specs.State.{reached_values}
-use Rattle.rt_sim.specs.Inside.Moment.{Part, Moment, spot_of, sections_of}
+use Rattle.rt_sim.specs.Inside.Coupling.{Part, Coupling, configuration_of, sections_of}
 use Rattle.rt_sim.specs.Inside.States.{core_of, state_of}
 use Rattle.rt_sim.specs.Inside.Chains.{base_of, mask_of, Saves}
-use Rattle.rt_sim.specs.Inside.Sparing.{Spares, IsSparing}
+use Rattle.rt_sim.specs.Inside.Ownership.{ChangesOwn, RespectsOwnership}
 use Rattle.rt_sim.specs.Inside.Calling.{handles, own_slots, IsCallable}
-use Rattle.rt_sim.specs.Inside.PartFits.{who}
-use Rattle.rt_sim.specs.Inside.Fits.{IsThread, IsStacked, Fits}
+use Rattle.rt_sim.specs.Inside.PartInvariant.{who}
+use Rattle.rt_sim.specs.Inside.CouplingInvariant.{IsThread, IsStacked, CouplingInvariant}
 use Rattle.rt_sim.specs.Inside.Agrees.{StepsBoth}
 use Rattle.rt_sim.proofs.Alike.{stands_inside}
 use Rattle.rt_sim.proofs.Others.{all_clear, others_kept}
 use Rattle.rt_sim.proofs.Plain.{IsWorking, length-passed, apart_of, stands_by, stands_passed, may_turn}
-use Rattle.rt_sim.proofs.Acts.{owns_alike, agrees_reached, agreed, spared, gives_item, acts_as}
+use Rattle.rt_sim.proofs.Acts.{owns_alike, agrees_reached, agreed, respects_next, gives_item, acts_as}
 use Rattle.rt_sim.proofs.Depth.{depth_within, used_is, room_of}
 
 -- the frame of a called body is as long as its row says
@@ -137,26 +137,26 @@ module _ (app : App) (img : Image) (thread : ℕ) where
   )
 
   -- the running job may call by a row by which it calls: the body's code stands
-  pub callable_by : (m : Moment) → Fits app img thread m → (n row from : ℕ)
+  pub callable_by : (m : Coupling) → CouplingInvariant app img thread m → (n row from : ℕ)
       → (calls : Calls (storage app) img.code m.running.rows thread (who m.running) row from
-      (spot_after_step (spot_of m.cells m.queues m.running))
+      (spend_step (configuration_of m.cells m.queues m.running))
       (λ t. Stands (storage app) img.code m.running.rows thread (who m.running) n t))
       → IsCallable app img m.running.role m.running.priority m.running.own row calls.called
-  callable_by m fits n row from calls = elim (fits.parts.0.calls.each row calls.called calls.is_there) [
+  callable_by m invariant n row from calls = elim (invariant.parts.0.calls.each row calls.called calls.is_there) [
     | inl behind ↦
         absurd (stands_inside (storage app) img.code m.running.rows thread (who m.running) n _ calls.on behind)
     | inr one ↦ one
   ]
 
-  module _ (many : app.bits ≤ 7) (fpu : img.fpu ≡ app.fpu) (sized : img.stack_bytes ≡ stack_bytes app) (m : Moment)
-      (fits : Fits app img thread m) (works : IsWorking m.running.role) (n : ℕ)
+  module _ (many : app.bits ≤ 7) (fpu : img.fpu ≡ app.fpu) (sized : img.stack_bytes ≡ stack_bytes app) (m : Coupling)
+      (invariant : CouplingInvariant app img thread m) (works : IsWorking m.running.role) (n : ℕ)
       (none : candidate app (state_of m) ≡ None)
       (left : HaveLeft (m.running.lefts ++ m.running.left ∷ [])) where
     module _ (row from : ℕ) (calls : Calls (storage app) img.code m.running.rows thread (who m.running) row from
-        (spot_after_step (spot_of m.cells m.queues m.running))
+        (spend_step (configuration_of m.cells m.queues m.running))
         (λ t. Stands (storage app) img.code m.running.rows thread (who m.running) n t)) where
       callable : IsCallable app img m.running.role m.running.priority m.running.own row calls.called
-      callable = callable_by m fits n row from calls
+      callable = callable_by m invariant n row from calls
 
       abbrev frame : List ℕ
       frame = caller_frame m.running.slots (suc m.running.address)
@@ -170,46 +170,46 @@ module _ (app : App) (img : Image) (thread : ℕ) where
           && nat_le calls.called.args calls.called.frame) (frame_long m.running) ∙ calls.fits)
 
       own : length m.running.slots ≡ m.running.own
-      own = own_none m.running calls.may_call.0 fits.parts.0.own
+      own = own_none m.running calls.may_call.0 invariant.parts.0.own
 
-      fits_called : Fits app img thread (record m { running = in_body m.running calls.called from n })
-      fits_called = record {
-        stack = stack_called m.running m.below calls.called row from n callable own long calls.closed fits.stack;
+      invariant_called : CouplingInvariant app img thread (record m { running = in_body m.running calls.called from n })
+      invariant_called = record {
+        stack = stack_called m.running m.below calls.called row from n callable own long calls.closed invariant.stack;
         parts = (
           record {
             stands = stands_by app img thread m.running.role works m.cells m.queues Called
-                (stands_passed app img thread m.running n (spot_of m.cells m.queues Called) calls.on);
-            agrees = fits.parts.0.agrees;
-            counted = length-passed m.running.lefts ∙ fits.parts.0.counted;
-            sparing = fits.parts.0.sparing;
-            opened = fits.parts.0.opened;
-            kinds = fits.parts.0.kinds;
-            once = fits.parts.0.once;
-            calls = fits.parts.0.calls;
+                (stands_passed app img thread m.running n (configuration_of m.cells m.queues Called) calls.on);
+            agrees = invariant.parts.0.agrees;
+            counted = length-passed m.running.lefts ∙ invariant.parts.0.counted;
+            respects = invariant.parts.0.respects;
+            opened = invariant.parts.0.opened;
+            kinds = invariant.parts.0.kinds;
+            once = invariant.parts.0.once;
+            calls = invariant.parts.0.calls;
             own = frame_long m.running ∙ own;
           },
-          fits.parts.1,
+          invariant.parts.1,
         );
-        spelled = fits.spelled;
-        basepri = fits.basepri;
-        primask = fits.primask;
-        memory = fits.memory;
-        once = fits.once;
-        numbers = fits.numbers;
-        alarmed = fits.alarmed;
+        represented = invariant.represented;
+        basepri = invariant.basepri;
+        primask = invariant.primask;
+        memory = invariant.memory;
+        once = invariant.once;
+        numbers = invariant.numbers;
+        alarmed = invariant.alarmed;
       }
 
       room : has_room img (core_of app.bits m) calls.called.frame ≡ true
       room =
-          let deep = depth_within app img thread fpu many (record m { running = Called }) fits_called in
-          let after = used_is app img thread (record m { running = Called }) fits_called in
-          let before = used_is app img thread m fits in
+          let deep = depth_within app img thread fpu many (record m { running = Called }) invariant_called in
+          let after = used_is app img thread (record m { running = Called }) invariant_called in
+          let before = used_is app img thread m invariant in
           let alone : length (words_of m.running.caller) ≡ 0 = ap (λ c. length (words_of c)) calls.may_call.0 in
           room_of (stack_in_use img (core_of app.bits m)) calls.called.frame img.stack_bytes
           (omega (arith, deep, after, before, alone, frame_long m.running, long, sized))
 
       not_alone : is_empty (core_of app.bits m).below ≡ false
-      not_alone = by m.below fits.stack
+      not_alone = by m.below invariant.stack
         where
           by : (ps : List Part) → IsStacked app img thread m.running ps
               → is_empty (core_of app.bits (record m { below = ps })).below ≡ false
@@ -224,17 +224,17 @@ module _ (app : App) (img : Image) (thread : ℕ) where
         core = core_after_call (core_of app.bits m) calls.called from;
         shown = None;
         is = gives not_alone room;
-        may = may_turn app img thread m fits works none left;
+        may = may_turn app img thread m invariant works none left;
         agrees = record {
-          moment = record m { running = in_body m.running calls.called from n };
+          coupling = record m { running = in_body m.running calls.called from n };
           core = refl;
           state = refl;
-          fits = fits_called;
+          invariant = invariant_called;
         };
       }
 
     module _ (t : ℕ) (back : ComesBack (storage app) img.code m.running.rows thread (who m.running) t
-        (spot_after_step (spot_of m.cells m.queues m.running))
+        (spend_step (configuration_of m.cells m.queues m.running))
         (λ t. Stands (storage app) img.code m.running.rows thread (who m.running) n t)) where
       abbrev rest : Doing Values
       rest = back.acts.follows 0 m.values
@@ -242,54 +242,57 @@ module _ (app : App) (img : Image) (thread : ℕ) where
       abbrev Back : Part
       Back = out_of_body m.running back.frame n (back.acts.follows 0 m.values)
 
-      abbrev moment_back : Moment
-      moment_back = record m {
+      abbrev coupling_back : Coupling
+      coupling_back = record m {
         running = out_of_body m.running back.frame n (back.acts.follows 0 m.values);
         values = reached_values (back.acts.follows 0 m.values) m.values;
       }
 
-      spares : Spares app (who m.running) (handles m.running.role) (sections_of m.running.held) m.values rest
-          × IsSparing app (who m.running) (handles m.running.role) (sections_of m.running.held) rest
-      spares = (spared app img thread m fits works (Ends (body.Task t)) back.acts.values back.acts.follows
+      changes_own : ChangesOwn app (who m.running) (handles m.running.role) (sections_of m.running.held) m.values rest
+          × RespectsOwnership app (who m.running) (handles m.running.role) (sections_of m.running.held) rest
+      changes_own = (respects_next app img thread m invariant works (Ends (body.Task t)) back.acts.values
+          back.acts.follows
           back.acts.is).1 0 m.values tt
 
-      fits_back : Fits app img thread moment_back
-      fits_back = record {
-        stack = stack_back m.running m.below back.frame n rest back.caller back.closed fits.stack;
+      invariant_back : CouplingInvariant app img thread coupling_back
+      invariant_back = record {
+        stack = stack_back m.running m.below back.frame n rest back.caller back.closed invariant.stack;
         parts = (
           record {
             stands = stands_by app img thread m.running.role works m.cells m.queues Back
-                (stands_passed app img thread m.running n (spot_of m.cells m.queues Back)
-                (back.acts.on m.values (agreed app img thread m fits works (Ends (body.Task t)) back.acts.values
+                (stands_passed app img thread m.running n (configuration_of m.cells m.queues Back)
+                (back.acts.on m.values (agreed app img thread m invariant works (Ends (body.Task t)) back.acts.values
                 back.acts.follows back.acts.is)));
             agrees = agrees_reached app img thread (who m.running) m.running.held rest m.values;
-            counted = length-passed m.running.lefts ∙ fits.parts.0.counted;
-            sparing = spares.1;
-            opened = fits.parts.0.opened;
-            kinds = fits.parts.0.kinds;
-            once = fits.parts.0.once;
-            calls = fits.parts.0.calls;
+            counted = length-passed m.running.lefts ∙ invariant.parts.0.counted;
+            respects = changes_own.1;
+            opened = invariant.parts.0.opened;
+            kinds = invariant.parts.0.kinds;
+            once = invariant.parts.0.once;
+            calls = invariant.parts.0.calls;
             own = subst (λ (c : Option (List ℕ)). length (own_slots c m.running.slots) ≡ m.running.own) back.caller
-                fits.parts.0.own;
+                invariant.parts.0.own;
           },
           others_kept app img thread m.running m.running m.cells m.cells m.queues m.queues m.values
               (reached_values rest m.values) m.below
-              (apart_of app img thread m.running m.below fits.stack)
-              (apart_of app img thread m.running m.below fits.stack)
-              (all_clear app img thread m.queues m.running m.below fits.once) refl (λ cell. inl refl) (λ h away. refl)
-              (λ h away. spares.0 h (owns_alike app (who m.running) (handles m.running.role) m.running.held h ∙ away))
-              fits.parts.1,
+              (apart_of app img thread m.running m.below invariant.stack)
+              (apart_of app img thread m.running m.below invariant.stack)
+              (all_clear app img thread m.queues m.running m.below invariant.once) refl (λ cell. inl refl)
+              (λ h away. refl)
+              (λ h away. changes_own.0 h (owns_alike app (who m.running) (handles m.running.role) m.running.held h
+              ∙ away))
+              invariant.parts.1,
         );
-        spelled = λ h held away.
-            subst (λ content. (storage app).Spells h (slice_index m.cells) (m.queues h) content)
-            (sym (spares.0 h (owns_alike app (who m.running) (handles m.running.role) m.running.held h ∙ away.0)))
-            (fits.spelled h held away);
-        basepri = fits.basepri;
-        primask = fits.primask;
-        memory = fits.memory;
-        once = fits.once;
-        numbers = fits.numbers;
-        alarmed = fits.alarmed;
+        represented = λ h held away.
+            subst (λ content. (storage app).Represents h (slice_index m.cells) (m.queues h) content)
+            (sym (changes_own.0 h (owns_alike app (who m.running) (handles m.running.role) m.running.held h ∙ away.0)))
+            (invariant.represented h held away);
+        basepri = invariant.basepri;
+        primask = invariant.primask;
+        memory = invariant.memory;
+        once = invariant.once;
+        numbers = invariant.numbers;
+        alarmed = invariant.alarmed;
       }
 
       pub comes_back : step img (core_of app.bits m) ≡
@@ -300,14 +303,15 @@ module _ (app : App) (img : Image) (thread : ℕ) where
         shown = Some (what.End (body.Task t));
         is = is;
         may = (
-          may_turn app img thread m fits works none left,
-          gives_item app img thread m fits works (Ends (body.Task t)) back.acts.values back.acts.follows back.acts.is,
+          may_turn app img thread m invariant works none left,
+          gives_item app img thread m invariant works (Ends (body.Task t)) back.acts.values back.acts.follows
+              back.acts.is,
         );
         agrees = record {
-          moment = moment_back;
+          coupling = coupling_back;
           core = refl;
-          state = acts_as app img thread m fits works (Ends (body.Task t)) back.acts.values back.acts.follows
+          state = acts_as app img thread m invariant works (Ends (body.Task t)) back.acts.values back.acts.follows
               back.acts.is;
-          fits = fits_back;
+          invariant = invariant_back;
         };
       }

@@ -5,20 +5,20 @@ use Rattle.std.proofs.lemmas.Bool.{eqb-true}
 use Rattle.std.proofs.lemmas.List.Sums.{sum_by-append}
 use Rattle.rt_lemmas.proofs.Bools.{true_and_false, left_of_none, right_of_none}
 use Rattle.rt_ids.specs.Entry.{Entry, count}
-use Rattle.rt_ids.specs.Holder.{Holder, Guarded, Own, is_same_section, is_same_holder}
+use Rattle.rt_ids.specs.Location.{Location, Guarded, Own, is_same_section, is_same_location}
 use Rattle.rt_ids.specs.declared.ids.Section.{Section}
 use Rattle.rt_code.specs.Acting.{with_queue}
-use Rattle.rt_code.specs.Owning.{Held, is_open}
+use Rattle.rt_code.specs.Owning.{OpenSection, is_open}
 use Rattle.rt_code.proofs.Mine.{one_section, queued, queued_more}
 use Rattle.rt_code.proofs.Left.{count_more}
 use Rattle.rt_sim.specs.Inside.Counts.{IsOnce}
-use Rattle.rt_sim.specs.Inside.PartFits.{AreOnce}
+use Rattle.rt_sim.specs.Inside.PartInvariant.{AreOnce}
 
-pub same_holder : (g h : Holder) → is_same_holder g h ≡ true → g ≡ h
-same_holder (Guarded a) (Guarded b) is = ap (λ x. Guarded x) (one_section a b is)
-same_holder (Guarded a) (Own n) is = absurd (cc (is))
-same_holder (Own n) (Guarded b) is = absurd (cc (is))
-same_holder (Own n) (Own k) is = ap (λ j. Own j) (eqb-true n k is)
+pub same_location : (g h : Location) → is_same_location g h ≡ true → g ≡ h
+same_location (Guarded a) (Guarded b) is = ap (λ x. Guarded x) (one_section a b is)
+same_location (Guarded a) (Own n) is = absurd (cc (is))
+same_location (Own n) (Guarded b) is = absurd (cc (is))
+same_location (Own n) (Own k) is = ap (λ j. Own j) (eqb-true n k is)
 
 -- how the moves of a place count
 pub took : (e entry : Entry) (places others queue : List Entry) → queue ≡ entry ∷ others
@@ -67,7 +67,7 @@ put_last e entry places before behind queue is =
     let same = ap (count e) is in omega arith
 
 -- with fewer in hands
-pub fewer_once : (queues : Holder → List Entry) (before after : Entry → ℕ) → ((e : Entry) → after e ≤ before e)
+pub fewer_once : (queues : Location → List Entry) (before after : Entry → ℕ) → ((e : Entry) → after e ≤ before e)
     → IsOnce queues before → IsOnce queues after
 fewer_once queues before after less once = record {
   one = λ e h. omega (arith, less e, once.one e h);
@@ -75,33 +75,34 @@ fewer_once queues before after less once = record {
 }
 
 -- where the queue of a section is another, with as many of each place in it and in hands
-pub moved_once : (queues : Holder → List Entry) (x : Section) (entries : List Entry) (before after : Entry → ℕ)
+pub moved_once : (queues : Location → List Entry) (x : Section) (entries : List Entry) (before after : Entry → ℕ)
     → ((e : Entry) → after e + count e entries ≡ before e + count e (queues (Guarded x)))
     → IsOnce queues before → IsOnce (with_queue queues x entries) after
 moved_once queues x entries before after alike once = record {
-  one = λ e h. one e h (is_same_holder (Guarded x) h) refl;
-  two = λ e g h differ. two e g h differ (is_same_holder (Guarded x) g) (is_same_holder (Guarded x) h) refl refl;
+  one = λ e h. one e h (is_same_location (Guarded x) h) refl;
+  two = λ e g h differ. two e g h differ (is_same_location (Guarded x) g) (is_same_location (Guarded x) h) refl refl;
 }
   where
-    one : (e : Entry) (h : Holder) (b : Bool) → is_same_holder (Guarded x) h ≡ b
+    one : (e : Entry) (h : Location) (b : Bool) → is_same_location (Guarded x) h ≡ b
         → count e (if b then entries else queues h) + after e ≤ 1
     one e h true same = omega (arith, alike e, once.one e (Guarded x))
     one e h false other = omega (arith, alike e, once.two e (Guarded x) h other)
 
-    two : (e : Entry) (g h : Holder) → is_same_holder g h ≡ false → (b c : Bool) → is_same_holder (Guarded x) g ≡ b
-        → is_same_holder (Guarded x) h ≡ c
+    two : (e : Entry) (g h : Location) → is_same_location g h ≡ false → (b c : Bool) → is_same_location (Guarded x) g
+        ≡ b
+        → is_same_location (Guarded x) h ≡ c
         → count e (if b then entries else queues g) + count e (if c then entries else queues h) + after e ≤ 1
     two e g h differ true true first second =
-        absurd (true_and_false (is_same_holder (Guarded x) h) second
-        (subst (λ k. is_same_holder k h ≡ false) (sym (same_holder (Guarded x) g first)) differ))
+        absurd (true_and_false (is_same_location (Guarded x) h) second
+        (subst (λ k. is_same_location k h ≡ false) (sym (same_location (Guarded x) g first)) differ))
     two e g h differ true false first second = omega (arith, alike e, once.two e (Guarded x) h second)
     two e g h differ false true first second = omega (arith, alike e, once.two e (Guarded x) g first)
     two e g h differ false false first second =
         omega (arith, alike e, once.two e (Guarded x) g first, once.two e (Guarded x) h second, once.two e g h differ)
 
-module _ (queues : Holder → List Entry) (in_hands : Entry → ℕ) (once : IsOnce queues in_hands) where
+module _ (queues : Location → List Entry) (in_hands : Entry → ℕ) (once : IsOnce queues in_hands) where
   -- and in all queues of different sections
-  pub open_once : (e : Entry) (x : Section) (held : List Held) → AreOnce held → is_open held x ≡ false
+  pub open_once : (e : Entry) (x : Section) (held : List OpenSection) → AreOnce held → is_open held x ≡ false
       → count e (queues (Guarded x)) + queued queues e held + in_hands e ≤ 1
   open_once e x [] all closed = omega (arith, once.one e (Guarded x))
   open_once e x (h ∷ outer) all closed =
@@ -116,7 +117,7 @@ module _ (queues : Holder → List Entry) (in_hands : Entry → ℕ) (once : IsO
       )
 
 -- one that is in the queues of open sections is in one of them
-pub queued_in : (queues : Holder → List Entry) (e : Entry) (held : List Held) → 0 < queued queues e held
+pub queued_in : (queues : Location → List Entry) (e : Entry) (held : List OpenSection) → 0 < queued queues e held
     → (x : Section) × (0 < count e (queues (Guarded x)))
 queued_in queues e [] some = absurd (omega (arith, some))
 queued_in queues e (h ∷ outer) some =

@@ -14,9 +14,9 @@ use Rattle.rt_app.specs.Stack.{thread_words, has_handler, need, priority_bytes, 
 use Rattle.rt_code.specs.Image.{Image, entry_words}
 use Rattle.rt_code.specs.Stack as stack
 use Rattle.rt_core.specs.Core.{Context, context_words, stack_in_use, depth}
-use Rattle.rt_sim.specs.Inside.Moment.{Part, Moment, irq_of}
+use Rattle.rt_sim.specs.Inside.Coupling.{Part, Coupling, irq_of}
 use Rattle.rt_sim.specs.Inside.States.{contexts, core_of, words_under}
-use Rattle.rt_sim.specs.Inside.Fits.{IsStacked, Fits}
+use Rattle.rt_sim.specs.Inside.CouplingInvariant.{IsStacked, CouplingInvariant}
 
 words_are : (bits entry irq value : ℕ) (ps : List Part)
     → sum_by (context_words entry) (contexts bits irq value ps) ≡ words_under entry ps
@@ -36,10 +36,10 @@ top_small : (b : ℕ) → b ≤ 7 → 2 ^ b ≤ 128
 top_small b many = let e : 2 ^ b ≤ 2 ^ 7 = pow_mono many in omega (arith, e)
 
 module _ (app : App) (img : Image) (thread : ℕ) where
-  pub used_is : (m : Moment) → Fits app img thread m
+  pub used_is : (m : Coupling) → CouplingInvariant app img thread m
       → stack_in_use img (core_of app.bits m)
       ≡ length (stack.words_of m.running.caller) + length m.running.slots + words_under (entry_words img) m.below
-  used_is m fits =
+  used_is m invariant =
       let more = words_are app.bits (entry_words img) (irq_of m.running.role)
       (hardware app.bits m.running.priority) m.below in
       omega (arith, more)
@@ -87,9 +87,9 @@ module _ (app : App) (img : Image) (thread : ℕ) (fpu : img.fpu ≡ app.fpu) wh
         is.0.frame,
       )
 
-  pub depth_within : app.bits ≤ 7 → (m : Moment) → Fits app img thread m
+  pub depth_within : app.bits ≤ 7 → (m : Coupling) → CouplingInvariant app img thread m
       → depth img (core_of app.bits m) ≤ stack_bytes app
-  depth_within many m fits = by m.below fits.stack (used_is app img thread m fits)
+  depth_within many m invariant = by m.below invariant.stack (used_is app img thread m invariant)
     where
       by : (ps : List Part) → IsStacked app img thread m.running ps
           → stack_in_use img (core_of app.bits m)

@@ -2,7 +2,7 @@
 -- absent.
 use Rattle.std.proofs.Common.{◌≡◌, ℕ, ◌||◌, inl, inr, true, false, List, [], ◌∷◌, ◌++◌, slice_index, Option, Some}
 use Rattle.std.proofs.Common.{None, length, refl, sym, ap, subst, ◌∙◌, arith}
-use Rattle.rt_ids.specs.Holder.{Holder}
+use Rattle.rt_ids.specs.Location.{Location}
 use Rattle.rt_ids.specs.Content.{Values}
 use Rattle.rt_ids.specs.Action.{Ends}
 use Rattle.rt_ids.specs.Doing.{over}
@@ -16,7 +16,7 @@ use Rattle.rt_app.specs.Holding.{storage, is_kept, is_constant, IsHeld}
 use Rattle.rt_build.specs.Image.{IdleStands}
 use Rattle.rt_code.specs.Image.{Image}
 use Rattle.rt_code.specs.declared.image.BodyRow.{BodyRow}
-use Rattle.rt_code.specs.Standing.{Finishes, HaveLeft, Stands, spot_after_step}
+use Rattle.rt_code.specs.Standing.{Finishes, HaveLeft, Stands, spend_step}
 use Rattle.rt_core.specs.Core.{Core}
 use Rattle.rt_core.specs.Leading.{with_processor, core_serving, at_address}
 use Rattle.rt_core.specs.Stepping.{step}
@@ -26,13 +26,13 @@ use Rattle.rt_laws.specs.State.{Role, Init, Idle, Waiting, Serving, Job, State, 
 use Rattle.rt_laws.specs.Acting.{idle_job}
 use Rattle.rt_laws.specs.Allowed.{after}
 use Rattle.rt_laws.specs.Preemption.{candidate}
-use Rattle.rt_sim.specs.Inside.Moment.{Part, Moment, runner_of, spot_of, job_of}
+use Rattle.rt_sim.specs.Inside.Coupling.{Part, Coupling, runner_of, configuration_of, job_of}
 use Rattle.rt_sim.specs.Inside.States.{core_of, state_of}
 use Rattle.rt_sim.specs.Inside.Chains.{is_init, base_inside, mask_inside}
-use Rattle.rt_sim.specs.Inside.Sparing.{SparesAlways}
+use Rattle.rt_sim.specs.Inside.Ownership.{AlwaysRespects}
 use Rattle.rt_sim.specs.Inside.Counts.{hands}
-use Rattle.rt_sim.specs.Inside.PartFits.{who}
-use Rattle.rt_sim.specs.Inside.Fits.{Fits}
+use Rattle.rt_sim.specs.Inside.PartInvariant.{who}
+use Rattle.rt_sim.specs.Inside.CouplingInvariant.{CouplingInvariant}
 use Rattle.rt_sim.specs.Inside.Agrees.{StepsBoth}
 use Rattle.rt_sim.proofs.Counting.{fewer_once}
 use Rattle.rt_sim.proofs.BodyRows.{no_rows, calls_none}
@@ -75,34 +75,36 @@ thread_part app img (Some b) address slots vs = record {
 
 module _ (app : App) (img : Image) (thread : ℕ)
     (idle : (bodies : List BodyRow) → IdleStands app img.code bodies thread app.idle)
-    (held_there : (p : ℕ) (h : Holder) → (is_kept app (AtPriority p) h || is_constant app (AtPriority p) h) ≡ true
+    (held_there : (p : ℕ) (h : Location) → (is_kept app (AtPriority p) h || is_constant app (AtPriority p) h) ≡ true
     → IsHeld app h)
-    (sparing : SparesAlways app (AtPriority 0) false [] (idle_doing app)) where
-  module _ (m : Moment) (fits : Fits app img thread (record m { below = [] })) (works : IsWorking m.running.role)
+    (respects : AlwaysRespects app (AtPriority 0) false [] (idle_doing app)) where
+  module _ (m : Coupling) (invariant : CouplingInvariant app img thread (record m { below = [] }))
+      (works : IsWorking m.running.role)
       (none : candidate app (state_of (record m { below = [] })) ≡ None)
       (left : HaveLeft (m.running.lefts ++ m.running.left ∷ []))
       (b : BodyId) (ends : Finishes (storage app) img.code m.running.rows thread (who m.running) (Ends b)
-      (spot_after_step (spot_of m.cells m.queues m.running))) where
-    abbrev m0 : Moment
+      (spend_step (configuration_of m.cells m.queues m.running))) where
+    abbrev m0 : Coupling
     m0 = record m { below = [] }
 
     -- nothing is owned by a job then
-    all_spelled : (h : Holder) → IsHeld app h → (storage app).Spells h (slice_index m.cells) (m.queues h) (m.values h)
-    all_spelled h held = given_back app img thread (record m { below = [] }) fits works (Ends b) ends h held tt
+    all_represented : (h : Location) → IsHeld app h → (storage app).Represents h (slice_index m.cells) (m.queues h)
+        (m.values h)
+    all_represented h held = given_back app img thread (record m { below = [] }) invariant works (Ends b) ends h held tt
 
-    abbrev moment_of : Option Body → Moment
-    moment_of o = record m {
+    abbrev coupling_of : Option Body → Coupling
+    coupling_of o = record m {
       running = thread_part app img o thread m.running.slots m.values;
       below = [];
       primask = false;
       values = reached_values (thread_part app img o thread m.running.slots m.values).rest m.values;
     }
 
-    fits_idle : (c : Body) → app.idle ≡ Some c → Fits app img thread (moment_of (Some c))
+    invariant_idle : (c : Body) → app.idle ≡ Some c → CouplingInvariant app img thread (coupling_of (Some c))
     unfolding storage
-    fits_idle c is = record {
+    invariant_idle c is = record {
       stack = record {
-        frame = fits.stack.frame;
+        frame = invariant.stack.frame;
         own_frame = refl;
         role = inr (inl refl, refl);
         greatest = λ e. absurd (cc (e));
@@ -111,18 +113,19 @@ module _ (app : App) (img : Image) (thread : ℕ)
       parts = (
         record {
           stands = subst (λ cost. Stands (storage app) img.code (no_rows app img) thread (AtPriority 0) cost
-              (record (spot_of m.cells m.queues (thread_part app img (Some c) thread m.running.slots m.values)) {
+              (record (configuration_of m.cells m.queues
+              (thread_part app img (Some c) thread m.running.slots m.values)) {
                 lefts =
                     cost ∷ [];
               }))
               (ap (cost_of (cost_measure app)) (sym is))
               (subst (λ o. IdleStands app img.code (no_rows app img) thread o) is (idle (no_rows app img))
               m.running.slots m.cells m.queues
-              m.values fits.stack.frame fits.memory
-              (λ h reads. all_spelled h (held_there 0 h reads)));
+              m.values invariant.stack.frame invariant.memory
+              (λ h reads. all_represented h (held_there 0 h reads)));
           agrees = agrees_reached app img thread (AtPriority 0) [] (idle_doing app m.values) m.values;
           counted = refl;
-          sparing = (sparing m.values).1;
+          respects = (respects m.values).1;
           opened = tt;
           kinds = tt;
           once = tt;
@@ -131,21 +134,21 @@ module _ (app : App) (img : Image) (thread : ℕ)
         },
         tt,
       );
-      spelled = λ h held away.
-          subst (λ content. (storage app).Spells h (slice_index m.cells) (m.queues h) content)
-          (sym ((sparing m.values).0 h (owns_alike app (AtPriority 0) false [] h ∙ away.0))) (all_spelled h held);
-      basepri = fits.basepri ∙ ap (λ held. base_inside app held 0) ends.closed;
+      represented = λ h held away.
+          subst (λ content. (storage app).Represents h (slice_index m.cells) (m.queues h) content)
+          (sym ((respects m.values).0 h (owns_alike app (AtPriority 0) false [] h ∙ away.0))) (all_represented h held);
+      basepri = invariant.basepri ∙ ap (λ held. base_inside app held 0) ends.closed;
       primask = refl;
-      memory = fits.memory;
-      once = fewer_once m.queues (hands (m.running ∷ [])) (λ e. 0) (λ e. omega arith) fits.once;
-      numbers = fits.numbers;
-      alarmed = fits.alarmed;
+      memory = invariant.memory;
+      once = fewer_once m.queues (hands (m.running ∷ [])) (λ e. 0) (λ e. omega arith) invariant.once;
+      numbers = invariant.numbers;
+      alarmed = invariant.alarmed;
     }
 
-    fits_waiting : app.idle ≡ None → Fits app img thread (moment_of None)
-    fits_waiting is = record {
+    invariant_waiting : app.idle ≡ None → CouplingInvariant app img thread (coupling_of None)
+    invariant_waiting is = record {
       stack = record {
-        frame = fits.stack.frame;
+        frame = invariant.stack.frame;
         own_frame = refl;
         role = inr (inr refl, refl);
         greatest = λ e. absurd (cc (e));
@@ -162,7 +165,7 @@ module _ (app : App) (img : Image) (thread : ℕ)
           };
           agrees = tt;
           counted = refl;
-          sparing = tt;
+          respects = tt;
           opened = tt;
           kinds = tt;
           once = tt;
@@ -171,18 +174,18 @@ module _ (app : App) (img : Image) (thread : ℕ)
         },
         tt,
       );
-      spelled = λ h held away. all_spelled h held;
-      basepri = fits.basepri ∙ ap (λ held. base_inside app held 0) ends.closed;
+      represented = λ h held away. all_represented h held;
+      basepri = invariant.basepri ∙ ap (λ held. base_inside app held 0) ends.closed;
       primask = refl;
-      memory = fits.memory;
-      once = fewer_once m.queues (hands (m.running ∷ [])) (λ e. 0) (λ e. omega arith) fits.once;
-      numbers = fits.numbers;
-      alarmed = fits.alarmed;
+      memory = invariant.memory;
+      once = fewer_once m.queues (hands (m.running ∷ [])) (λ e. 0) (λ e. omega arith) invariant.once;
+      numbers = invariant.numbers;
+      alarmed = invariant.alarmed;
     }
 
-    fits_thread : (o : Option Body) → app.idle ≡ o → Fits app img thread (moment_of o)
-    fits_thread None is = fits_waiting is
-    fits_thread (Some c) is = fits_idle c is
+    invariant_thread : (o : Option Body) → app.idle ≡ o → CouplingInvariant app img thread (coupling_of o)
+    invariant_thread None is = invariant_waiting is
+    invariant_thread (Some c) is = invariant_idle c is
 
     idling_is : (o : Option Body)
         → idle_job app m.values o ≡ job_of (thread_part app img o thread m.running.slots m.values)
@@ -190,9 +193,9 @@ module _ (app : App) (img : Image) (thread : ℕ)
     idling_is (Some c) = refl
 
     core_is : (o : Option Body) → with_processor (core_of app.bits m0) (record
-        (core_of app.bits m0).processor { address = thread; primask = false }) ≡ core_of app.bits (moment_of o)
-    core_is None = ap (λ k. record (core_of app.bits (moment_of None)) { caller = k }) ends.own_frame
-    core_is (Some c) = ap (λ k. record (core_of app.bits (moment_of (Some c))) { caller = k }) ends.own_frame
+        (core_of app.bits m0).processor { address = thread; primask = false }) ≡ core_of app.bits (coupling_of o)
+    core_is None = ap (λ k. record (core_of app.bits (coupling_of None)) { caller = k }) ends.own_frame
+    core_is (Some c) = ap (λ k. record (core_of app.bits (coupling_of (Some c))) { caller = k }) ends.own_frame
 
     abbrev State_of : Job → State
     State_of j = record (state_of m0) { jobs = j ∷ []; values = reached_values j.rest m.values }
@@ -207,28 +210,29 @@ module _ (app : App) (img : Image) (thread : ℕ)
       shown = Some (what.End b);
       is = is;
       may = (
-        may_turn app img thread m0 fits works none left,
-        gives_item app img thread m0 fits works
+        may_turn app img thread m0 invariant works none left,
+        gives_item app img thread m0 invariant works
             (Ends b) ends.values ends.follows ends.is,
       );
       agrees = record {
-        moment = moment_of app.idle;
+        coupling = coupling_of app.idle;
         core = there ∙ core_is app.idle;
         state = state_is ∙ ap State_of (idling_is app.idle);
-        fits = fits_thread app.idle refl;
+        invariant = invariant_thread app.idle refl;
       };
     }
 
-  pub ends_init : (m : Moment) (fits : Fits app img thread (record m { below = [] })) (works : IsWorking m.running.role)
+  pub ends_init : (m : Coupling) (invariant : CouplingInvariant app img thread (record m { below = [] }))
+      (works : IsWorking m.running.role)
       → candidate app (state_of (record m { below = [] })) ≡ None → HaveLeft (m.running.lefts ++ m.running.left ∷ [])
       → Finishes (storage app) img.code m.running.rows thread (who m.running) (Ends body.Init)
-      (spot_after_step (spot_of m.cells m.queues m.running))
+      (spend_step (configuration_of m.cells m.queues m.running))
       → step img (core_of app.bits (record m { below = [] })) ≡
       (core_serving (core_of app.bits (record m { below = [] })) thread, Some (what.End body.Init))
       → StepsBoth app img thread (core_of app.bits (record m { below = [] })) (state_of (record m { below = [] }))
-  ends_init m fits works none left ends is =
-      thread_goes_on m fits works none left body.Init ends _ refl is
-      (acts_as app img thread (record m { below = [] }) fits works
+  ends_init m invariant works none left ends is =
+      thread_goes_on m invariant works none left body.Init ends _ refl is
+      (acts_as app img thread (record m { below = [] }) invariant works
       (Ends body.Init) ends.values ends.follows ends.is)
 
   not_init : (role : Role) (p : ℕ) → runner_of role p ≡ AtPriority 0 → is_init role ≡ false
@@ -237,19 +241,21 @@ module _ (app : App) (img : Image) (thread : ℕ)
   not_init Waiting p is = refl
   not_init (Serving irq) p is = refl
 
-  pub ends_idle : (m : Moment) (fits : Fits app img thread (record m { below = [] })) (works : IsWorking m.running.role)
+  pub ends_idle : (m : Coupling) (invariant : CouplingInvariant app img thread (record m { below = [] }))
+      (works : IsWorking m.running.role)
       → candidate app (state_of (record m { below = [] })) ≡ None → HaveLeft (m.running.lefts ++ m.running.left ∷ [])
       → who m.running ≡ AtPriority 0
       → Finishes (storage app) img.code m.running.rows thread (who m.running) (Ends body.Idle)
-      (spot_after_step (spot_of m.cells m.queues m.running))
+      (spend_step (configuration_of m.cells m.queues m.running))
       → step img (core_of app.bits (record m { below = [] })) ≡
       (at_address (core_of app.bits (record m { below = [] })) thread, Some (what.End body.Idle))
       → StepsBoth app img thread (core_of app.bits (record m { below = [] })) (state_of (record m { below = [] }))
-  ends_idle m fits works none left low ends is =
-      let clear : m.primask ≡ false = fits.primask
+  ends_idle m invariant works none left low ends is =
+      let clear : m.primask ≡ false = invariant.primask
       ∙ ap (λ held. mask_inside app held (is_init m.running.role)) ends.closed
       ∙ not_init m.running.role m.running.priority low in
       let c : Core = core_of app.bits (record m { below = [] }) in
-      thread_goes_on m fits works none left body.Idle ends (at_address c thread)
+      thread_goes_on m invariant works none left body.Idle ends (at_address c thread)
       (ap (λ k. with_processor c (record c.processor { address = thread; primask = k })) clear) is
-      (acts_as app img thread (record m { below = [] }) fits works (Ends body.Idle) ends.values ends.follows ends.is)
+      (acts_as app img thread (record m { below = [] }) invariant works (Ends body.Idle) ends.values ends.follows
+      ends.is)

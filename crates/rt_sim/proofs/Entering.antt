@@ -4,7 +4,7 @@ use Rattle.std.proofs.Common.{◌≡◌, ℕ, ◌^◌, ◌<◌, ◌≤◌, ◌||
 use Rattle.std.proofs.Common.{ap, subst, ◌∙◌, arith}
 use Rattle.std.specs.List.{AllByRecursion}
 use Rattle.rt_lemmas.proofs.Bools.{or_neither, or_cases, or_left, or_right}
-use Rattle.rt_ids.specs.Holder.{Holder, Guarded, Own, is_same_section}
+use Rattle.rt_ids.specs.Location.{Location, Guarded, Own, is_same_section}
 use Rattle.rt_ids.specs.Storage.{Runner, AtPriority}
 use Rattle.rt_ids.specs.declared.ids.Section.{Section}
 use Rattle.rt_app.specs.Tree.{App}
@@ -12,18 +12,18 @@ use Rattle.rt_app.specs.Ceiling.{ceiling}
 use Rattle.rt_app.specs.Holding.{storage}
 use Rattle.rt_code.specs.Image.{Image}
 use Rattle.rt_code.specs.Masking.{IsWithin, NobodyKeeps}
-use Rattle.rt_code.specs.Owning.{Held, owns, reads, is_open}
+use Rattle.rt_code.specs.Owning.{OpenSection, owns, reads, is_open}
 use Rattle.rt_code.proofs.Mine.{one_section}
 use Rattle.rt_laws.specs.Preemption.{system_ceiling, greatest_ceiling}
-use Rattle.rt_sim.specs.Inside.Moment.{Part, runner_of, sections_of, jobs_of}
-use Rattle.rt_sim.specs.Inside.PartFits.{who, Reads}
-use Rattle.rt_sim.specs.Inside.Fits.{IsStacked}
+use Rattle.rt_sim.specs.Inside.Coupling.{Part, runner_of, sections_of, jobs_of}
+use Rattle.rt_sim.specs.Inside.PartInvariant.{who, Reads}
+use Rattle.rt_sim.specs.Inside.CouplingInvariant.{IsStacked}
 use Rattle.rt_sim.proofs.Others.{not_so}
 
 -- one more section is owned, and read, by who opens it
-pub owns_less : (app : App) (runner : Runner) (h : Held) (outer : List Held) (holder : Holder)
-    → owns (storage app) runner (h ∷ outer) holder ≡ true → (holder ≡ Guarded h.section)
-    ⊎ (owns (storage app) runner outer holder ≡ true)
+pub owns_less : (app : App) (runner : Runner) (h : OpenSection) (outer : List OpenSection) (location : Location)
+    → owns (storage app) runner (h ∷ outer) location ≡ true → (location ≡ Guarded h.section)
+    ⊎ (owns (storage app) runner outer location ≡ true)
 owns_less app runner h outer (Guarded y) is = by (is_same_section h.section y) refl is
   where
     by : (b : Bool) → is_same_section h.section y ≡ b
@@ -33,23 +33,23 @@ owns_less app runner h outer (Guarded y) is = by (is_same_section h.section y) r
     by false same is = inr is
 owns_less app runner h outer (Own n) is = inr is
 
-pub reads_less : (app : App) (runner : Runner) (h : Held) (outer : List Held) (holder : Holder)
-    → reads (storage app) runner (h ∷ outer) holder ≡ true → (holder ≡ Guarded h.section)
-    ⊎ (reads (storage app) runner outer holder ≡ true)
-reads_less app runner h outer holder is =
-    elim (or_cases (owns (storage app) runner (h ∷ outer) holder) ((storage app).is_constant runner holder) is) [
-      | inl own ↦ elim (owns_less app runner h outer holder own) [
+pub reads_less : (app : App) (runner : Runner) (h : OpenSection) (outer : List OpenSection) (location : Location)
+    → reads (storage app) runner (h ∷ outer) location ≡ true → (location ≡ Guarded h.section)
+    ⊎ (reads (storage app) runner outer location ≡ true)
+reads_less app runner h outer location is =
+    elim (or_cases (owns (storage app) runner (h ∷ outer) location) ((storage app).is_constant runner location) is) [
+      | inl own ↦ elim (owns_less app runner h outer location own) [
         | inl same ↦ inl same
-        | inr outside ↦ inr (or_left (owns (storage app) runner outer holder)
-            ((storage app).is_constant runner holder) outside)
+        | inr outside ↦ inr (or_left (owns (storage app) runner outer location)
+            ((storage app).is_constant runner location) outside)
       ]
-      | inr constant ↦ inr (or_right (owns (storage app) runner outer holder)
-          ((storage app).is_constant runner holder) constant)
+      | inr constant ↦ inr (or_right (owns (storage app) runner outer location)
+          ((storage app).is_constant runner location) constant)
     ]
 
 module _ (app : App) (img : Image) (thread : ℕ) where
   -- an open section's ceiling counts for the system ceiling
-  open_counts : (held : List Held) (x : Section) → is_open held x ≡ true
+  open_counts : (held : List OpenSection) (x : Section) → is_open held x ≡ true
       → ceiling app x ≤ greatest_ceiling app (sections_of held)
   open_counts [] x is = absurd (cc)
   open_counts (h ∷ held) x is = by (is_same_section h.section x) refl is (open_counts held x)

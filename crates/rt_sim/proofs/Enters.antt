@@ -7,7 +7,7 @@ use Rattle.std.specs.List.{AllByRecursion}
 use Rattle.rt_lemmas.proofs.Bools.{left_of_none, true_and_false, or_neither}
 use Rattle.rt_lemmas.proofs.Lists.{all_map}
 use Rattle.rt_lemmas.proofs.Membership.{contains_here, contains_there, all_weaker}
-use Rattle.rt_ids.specs.Holder.{Guarded}
+use Rattle.rt_ids.specs.Location.{Guarded}
 use Rattle.rt_ids.specs.Lists.{is_some_and}
 use Rattle.rt_ids.specs.Content.{Content, Number, Messages, Delays, Values, messages, timer_content, MayArm}
 use Rattle.rt_ids.specs.Action.{Enters}
@@ -22,10 +22,10 @@ use Rattle.rt_app.specs.Ceiling.{ceiling}
 use Rattle.rt_app.specs.Holding.{storage, IsHeld, message_at}
 use Rattle.rt_app.specs.Level.{is_of_level}
 use Rattle.rt_code.specs.Image.{Image}
-use Rattle.rt_code.specs.Masking.{NobodyKeeps, GoesIn, TakesOver, slots_with_mask}
-use Rattle.rt_code.specs.Owning.{Kind, Marked, Raised, Masked, Held, is_open, saved_slot, saved_slots}
+use Rattle.rt_code.specs.Masking.{NobodyKeeps, EntersSection, TakesOver, slots_with_mask}
+use Rattle.rt_code.specs.Owning.{Kind, Marked, Raised, Masked, OpenSection, is_open, saved_slot, saved_slots}
 use Rattle.rt_code.specs.Processor.{Processor}
-use Rattle.rt_code.specs.Standing.{Stands, HaveLeft, spot_after_step}
+use Rattle.rt_code.specs.Standing.{Stands, HaveLeft, spend_step}
 use Rattle.rt_code.specs.declared.instr.Instr.{Instr}
 use Rattle.rt_code.proofs.Mine.{owns_more, queued_more}
 use Rattle.rt_core.specs.Leading.{with_processor}
@@ -35,21 +35,21 @@ use Rattle.rt_trace.specs.declared.item.What.TheVariants as what
 use Rattle.rt_laws.specs.State.{reached_values}
 use Rattle.rt_laws.specs.Preemption.{candidate}
 use Rattle.rt_laws.proofs.Armings.{armings}
-use Rattle.rt_sim.specs.Inside.Moment.{Part, Moment, spot_of, sections_of}
+use Rattle.rt_sim.specs.Inside.Coupling.{Part, Coupling, configuration_of, sections_of}
 use Rattle.rt_sim.specs.Inside.States.{core_of, state_of}
 use Rattle.rt_sim.specs.Inside.Counts.{hands}
-use Rattle.rt_sim.specs.Inside.Sparing.{IsEntered, Spares, IsSparing}
+use Rattle.rt_sim.specs.Inside.Ownership.{IsEntered, ChangesOwn, RespectsOwnership}
 use Rattle.rt_sim.specs.Inside.Chains.{is_init, base_by, mask_by, base_inside, mask_inside, base_under, mask_under}
 use Rattle.rt_sim.specs.Inside.Chains.{Saves}
 use Rattle.rt_sim.specs.Inside.Calling.{handles}
-use Rattle.rt_sim.specs.Inside.PartFits.{who, Owns, Reads, AreApart}
-use Rattle.rt_sim.specs.Inside.Fits.{IsStacked, Fits}
+use Rattle.rt_sim.specs.Inside.PartInvariant.{who, Owns, Reads, AreApart}
+use Rattle.rt_sim.specs.Inside.CouplingInvariant.{IsStacked, CouplingInvariant}
 use Rattle.rt_sim.specs.Inside.Agrees.{StepsBoth}
 use Rattle.rt_sim.proofs.Counting.{open_once}
 use Rattle.rt_sim.proofs.Others.{all_clear, others_kept, not_so}
 use Rattle.rt_sim.proofs.Plain.{IsWorking, lefts_passed, length-passed, saves_kept, own_kept, apart_of, stands_by}
 use Rattle.rt_sim.proofs.Plain.{may_turn}
-use Rattle.rt_sim.proofs.Acts.{owns_alike, agrees_reached, agreed, spared, gives_item, acts_as}
+use Rattle.rt_sim.proofs.Acts.{owns_alike, agrees_reached, agreed, respects_next, gives_item, acts_as}
 use Rattle.rt_sim.proofs.Entering.{owns_less, reads_less, free_below}
 
 -- a list in which another slot is set is the same at these
@@ -67,7 +67,8 @@ saving_long (Masked slot) v slots = length-set slots slot v
 
 module _ (app : App) where
   -- the slot of the section that opens keeps what its mask was, and those of the others what they kept
-  saves_more : (slots : List ℕ) (held : List Held) (x : Section) (kind : Kind) (base : ℕ) (mask : Bool) (p : Processor)
+  saves_more : (slots : List ℕ) (held : List OpenSection) (x : Section) (kind : Kind) (base : ℕ) (mask : Bool)
+      (p : Processor)
       → AllByRecursion (λ d. (d < length slots) × (¬ Contains (saved_slots held) d)) (saved_slot kind)
       → p.basepri ≡ base_inside app held base → p.primask ≡ mask_inside app held mask → Saves app slots held base mask
       → Saves app (slots_with_mask kind (mask_of p kind) slots) (record { section = x; kind = kind } ∷ held) base mask
@@ -107,20 +108,21 @@ not_kept : (app : App) (runner : Runner) (x : Section) → NobodyKeeps (storage 
 not_kept app Starting x nobody = nobody
 not_kept app (AtPriority p) x nobody = (nobody p).0
 
--- behind the opening of a ready queue its messages are of its level, as its cells spell them
-entered_well : (app : App) (m : Moment) (x : Section) (cost : ℕ)
-    → (storage app).Spells (Guarded x) (slice_index m.cells) (m.queues (Guarded x)) (m.values (Guarded x))
+-- behind the opening of a ready queue its messages are of its level, as its cells represent them
+entered_well : (app : App) (m : Coupling) (x : Section) (cost : ℕ)
+    → (storage app).Represents (Guarded x) (slice_index m.cells) (m.queues (Guarded x)) (m.values (Guarded x))
     → IsEntered app (Enters x cost) m.values
 unfolding storage
-entered_well app m (section.Res r) cost spells = tt
-entered_well app m (section.Free n) cost spells = tt
-entered_well app m section.Timer cost spells = tt
-entered_well app m (section.Ready p) cost spells =
+entered_well app m (section.Res r) cost represents = tt
+entered_well app m (section.Free n) cost represents = tt
+entered_well app m section.Timer cost represents = tt
+entered_well app m (section.Ready p) cost represents =
     subst (λ (content : Content). AllByRecursion
-    (λ m. is_some_and (is_of_level p) (slice_get app.tasks m.task) ≡ true) (messages content)) (sym spells.1.messages)
+    (λ m. is_some_and (is_of_level p) (slice_get app.tasks m.task) ≡ true) (messages content))
+    (sym represents.1.messages)
     (all_map (message_at app (slice_index m.cells)) _
     (λ m. is_some_and (is_of_level p) (slice_get app.tasks m.task) ≡ true) (λ e is. is.0)
-    (m.queues (Guarded (section.Ready p))) spells.1.places)
+    (m.queues (Guarded (section.Ready p))) represents.1.places)
 
 -- where the timer queue opens one more message may be armed
 may_arm_into : (content : Content) → (timer_content content).given + (timer_content content).moved < 2 ^ 31
@@ -129,14 +131,14 @@ may_arm_into (Number n) few = tt
 may_arm_into (Messages ms) few = tt
 may_arm_into (Delays t) few = few
 
-may_arm : (app : App) (m : Moment) (x : Section) → armings m.values < 2 ^ 31
-    → (storage app).Spells (Guarded x) (slice_index m.cells) (m.queues (Guarded x)) (m.values (Guarded x))
+may_arm : (app : App) (m : Coupling) (x : Section) → armings m.values < 2 ^ 31
+    → (storage app).Represents (Guarded x) (slice_index m.cells) (m.queues (Guarded x)) (m.values (Guarded x))
     → MayArm (m.values (Guarded x))
 unfolding storage
-may_arm app m (section.Res r) few spells = subst (λ content. MayArm content) (sym spells.1) tt
-may_arm app m (section.Free n) few spells = subst (λ content. MayArm content) (sym spells.1.out) tt
-may_arm app m (section.Ready p) few spells = subst (λ content. MayArm content) (sym spells.1.messages) tt
-may_arm app m section.Timer few spells = may_arm_into (m.values (Guarded section.Timer)) few
+may_arm app m (section.Res r) few represents = subst (λ content. MayArm content) (sym represents.1) tt
+may_arm app m (section.Free n) few represents = subst (λ content. MayArm content) (sym represents.1.out) tt
+may_arm app m (section.Ready p) few represents = subst (λ content. MayArm content) (sym represents.1.messages) tt
+may_arm app m section.Timer few represents = may_arm_into (m.values (Guarded section.Timer)) few
 
 module _ (app : App) (img : Image) (thread : ℕ) where
   -- the running job inside a section more
@@ -200,11 +202,11 @@ module _ (app : App) (img : Image) (thread : ℕ) where
     stack.1,
   )
 
-  module _ (m : Moment) (fits : Fits app img thread m) (works : IsWorking m.running.role)
+  module _ (m : Coupling) (invariant : CouplingInvariant app img thread m) (works : IsWorking m.running.role)
       (few : armings m.values < 2 ^ 31) (n : ℕ)
       (none : candidate app (state_of m) ≡ None)
       (left : HaveLeft (m.running.lefts ++ m.running.left ∷ [])) (x : Section) (i : Instr)
-      (goes : GoesIn (storage app) (who m.running) x i (spot_after_step (spot_of m.cells m.queues m.running))
+      (goes : EntersSection (storage app) (who m.running) x i (spend_step (configuration_of m.cells m.queues m.running))
       (λ t. Stands (storage app) img.code m.running.rows thread (who m.running) n t)) where
     abbrev saved : ℕ
     saved = mask_of (core_of app.bits m).processor goes.kind
@@ -216,8 +218,8 @@ module _ (app : App) (img : Image) (thread : ℕ) where
     Inside = with_section m.running x goes.kind (mask_of (core_of app.bits m).processor goes.kind) goes.cost n
         (goes.follows 0 m.values)
 
-    abbrev moment_inside : Moment
-    moment_inside = record m {
+    abbrev coupling_inside : Coupling
+    coupling_inside = record m {
       running = with_section m.running x goes.kind (mask_of (core_of app.bits m).processor goes.kind) goes.cost n
           (goes.follows 0 m.values);
       basepri = (with_mask (core_of app.bits m).processor
@@ -228,16 +230,17 @@ module _ (app : App) (img : Image) (thread : ℕ) where
     }
 
     free : AllByRecursion (λ o. Reads app img thread o (Guarded x) ≡ false) m.below
-    free = free_below app img thread m.running m.below x fits.stack goes.within goes.shared
+    free = free_below app img thread m.running m.below x invariant.stack goes.within goes.shared
 
     not_mine : Owns app img thread m.running (Guarded x) ≡ false
     not_mine = or_neither (is_open m.running.held x) _ goes.once (not_kept app (who m.running) x goes.shared)
 
     is_held : IsHeld app (Guarded x)
-    is_held = (spared app img thread m fits works (Enters x goes.cost) goes.values goes.follows goes.is).0
+    is_held = (respects_next app img thread m invariant works (Enters x goes.cost) goes.values goes.follows goes.is).0
 
-    spells : (storage app).Spells (Guarded x) (slice_index m.cells) (m.queues (Guarded x)) (m.values (Guarded x))
-    spells = fits.spelled (Guarded x) is_held (
+    represents : (storage app).Represents (Guarded x) (slice_index m.cells) (m.queues (Guarded x))
+        (m.values (Guarded x))
+    represents = invariant.represented (Guarded x) is_held (
       not_mine,
       all_weaker (λ o. Reads app img thread o (Guarded x) ≡ false)
           (λ o. Owns app img thread o (Guarded x) ≡ false)
@@ -245,70 +248,74 @@ module _ (app : App) (img : Image) (thread : ℕ) where
     )
 
     takes : TakesOver (storage app) (who m.running) x
-        (spot_after_step (spot_of m.cells m.queues m.running)) goes.values m.values m.cells m.queues
+        (spend_step (configuration_of m.cells m.queues m.running)) goes.values m.values m.cells m.queues
     takes = record {
-      agree = agreed app img thread m fits works (Enters x goes.cost) goes.values goes.follows goes.is;
+      agree = agreed app img thread m invariant works (Enters x goes.cost) goes.values goes.follows goes.is;
       same = record { long = refl; touched = λ cell may. refl; queued = λ h o. refl };
-      spelled = spells;
-      few = may_arm app m x few spells;
+      represented = represents;
+      few = may_arm app m x few represents;
       once = λ e.
-          let all = open_once m.queues (hands (m.running ∷ m.below)) fits.once e x m.running.held fits.parts.0.once
+          let all = open_once m.queues (hands (m.running ∷ m.below)) invariant.once e x m.running.held
+          invariant.parts.0.once
           goes.once in
           let more = queued_more m.queues e (record { section = x; kind = Marked }) m.running.held in
           omega (arith, all, more);
     }
 
-    stands : Stands (storage app) img.code m.running.rows thread (who m.running) n (spot_of m.cells m.queues Inside)
+    stands : Stands (storage app) img.code m.running.rows thread (who m.running) n
+        (configuration_of m.cells m.queues Inside)
     stands = subst (λ ls. Stands (storage app) img.code m.running.rows thread (who m.running) n
-        (record (spot_of m.cells m.queues Inside) { lefts = (goes.cost - 1) ∷ ls }))
+        (record (configuration_of m.cells m.queues Inside) { lefts = (goes.cost - 1) ∷ ls }))
         (lefts_passed m.running.lefts m.running.left) (goes.on saved m.values m.cells m.queues takes)
 
-    spares : Spares app (who m.running) (handles m.running.role) (sections_of Inside.held) m.values rest
-        × IsSparing app (who m.running) (handles m.running.role) (sections_of Inside.held) rest
-    spares = (spared app img thread m fits works (Enters x goes.cost) goes.values goes.follows goes.is).1 0 m.values
-        (entered_well app m x goes.cost takes.spelled)
+    changes_own : ChangesOwn app (who m.running) (handles m.running.role) (sections_of Inside.held) m.values rest
+        × RespectsOwnership app (who m.running) (handles m.running.role) (sections_of Inside.held) rest
+    changes_own = (respects_next app img thread m invariant works (Enters x goes.cost) goes.values goes.follows
+        goes.is).1 0 m.values
+        (entered_well app m x goes.cost takes.represented)
 
-    fits_inside : Fits app img thread moment_inside
-    fits_inside = record {
+    invariant_inside : CouplingInvariant app img thread coupling_inside
+    invariant_inside = record {
       stack = stack_more m.running m.below x goes.kind goes.cost n rest
-          (core_of app.bits m).processor free goes.slot fits.basepri fits.primask fits.stack;
+          (core_of app.bits m).processor free goes.slot invariant.basepri invariant.primask invariant.stack;
       parts = (
         record {
           stands = stands_by app img thread m.running.role works m.cells m.queues Inside stands;
           agrees = agrees_reached app img thread (who m.running) Inside.held rest m.values;
-          counted = ap suc (length-passed m.running.lefts ∙ fits.parts.0.counted);
-          sparing = spares.1;
-          opened = (record { within = goes.within; is_held = is_held; shared = goes.shared }, fits.parts.0.opened);
-          kinds = (goes.mask, fits.parts.0.kinds);
-          once = (goes.once, fits.parts.0.once);
-          calls = fits.parts.0.calls;
+          counted = ap suc (length-passed m.running.lefts ∙ invariant.parts.0.counted);
+          respects = changes_own.1;
+          opened = (record { within = goes.within; is_held = is_held; shared = goes.shared }, invariant.parts.0.opened);
+          kinds = (goes.mask, invariant.parts.0.kinds);
+          once = (goes.once, invariant.parts.0.once);
+          calls = invariant.parts.0.calls;
           own = own_kept m.running.caller m.running.slots Inside.slots
-              (saving_long goes.kind saved m.running.slots) ∙ fits.parts.0.own;
+              (saving_long goes.kind saved m.running.slots) ∙ invariant.parts.0.own;
         },
         others_kept app img thread m.running Inside m.cells m.cells m.queues m.queues m.values
             (reached_values rest m.values) m.below
-            (apart_of app img thread m.running m.below fits.stack)
+            (apart_of app img thread m.running m.below invariant.stack)
             (apart_more m.running x goes.kind saved goes.cost n rest m.below free
-            (apart_of app img thread m.running m.below fits.stack))
-            (all_clear app img thread m.queues m.running m.below fits.once) refl (λ cell. inl refl) (λ h away. refl)
-            (λ h away. spares.0 h (owns_alike app (who m.running) (handles m.running.role) Inside.held h
-            ∙ away)) fits.parts.1,
+            (apart_of app img thread m.running m.below invariant.stack))
+            (all_clear app img thread m.queues m.running m.below invariant.once) refl (λ cell. inl refl)
+            (λ h away. refl)
+            (λ h away. changes_own.0 h (owns_alike app (who m.running) (handles m.running.role) Inside.held h
+            ∙ away)) invariant.parts.1,
       );
-      spelled = λ h held away.
-          subst (λ content. (storage app).Spells h (slice_index m.cells) (m.queues h) content)
-          (sym (spares.0 h (owns_alike app (who m.running) (handles m.running.role) Inside.held h ∙ away.0)))
-          (fits.spelled h held (
+      represented = λ h held away.
+          subst (λ content. (storage app).Represents h (slice_index m.cells) (m.queues h) content)
+          (sym (changes_own.0 h (owns_alike app (who m.running) (handles m.running.role) Inside.held h ∙ away.0)))
+          (invariant.represented h held (
             not_so _ (λ owned. true_and_false _
                 (owns_more (storage app) (who m.running)
                 (record { section = x; kind = goes.kind }) m.running.held h owned) away.0),
             away.1,
           ));
-      basepri = base_set app (core_of app.bits m).processor goes.kind x _ fits.basepri;
-      primask = mask_set app (core_of app.bits m).processor goes.kind _ _ fits.primask;
-      memory = fits.memory;
-      once = fits.once;
-      numbers = fits.numbers;
-      alarmed = fits.alarmed;
+      basepri = base_set app (core_of app.bits m).processor goes.kind x _ invariant.basepri;
+      primask = mask_set app (core_of app.bits m).processor goes.kind _ _ invariant.primask;
+      memory = invariant.memory;
+      once = invariant.once;
+      numbers = invariant.numbers;
+      alarmed = invariant.alarmed;
     }
 
     core_inside : (kind : Kind) → with_processor (core_of app.bits m)
@@ -340,14 +347,14 @@ module _ (app : App) (img : Image) (thread : ℕ) where
       shown = Some (what.Enter x);
       is = is;
       may = (
-        may_turn app img thread m fits works none left,
-        gives_item app img thread m fits works
+        may_turn app img thread m invariant works none left,
+        gives_item app img thread m invariant works
             (Enters x goes.cost) goes.values goes.follows goes.is,
       );
       agrees = record {
-        moment = moment_inside;
+        coupling = coupling_inside;
         core = core_inside goes.kind;
-        state = acts_as app img thread m fits works (Enters x goes.cost) goes.values goes.follows goes.is;
-        fits = fits_inside;
+        state = acts_as app img thread m invariant works (Enters x goes.cost) goes.values goes.follows goes.is;
+        invariant = invariant_inside;
       };
     }

@@ -14,15 +14,15 @@ use Rattle.rt_app.specs.Ceiling.{ceiling}
 use Rattle.rt_app.specs.Holding.{storage}
 use Rattle.rt_code.specs.Image.{Image}
 use Rattle.rt_code.specs.Masking.{IsMask, IsKindFor}
-use Rattle.rt_code.specs.Owning.{Kind, Marked, Raised, Masked, Held}
+use Rattle.rt_code.specs.Owning.{Kind, Marked, Raised, Masked, OpenSection}
 use Rattle.rt_core.specs.Priority.{running_value, base_value, mask_value, execution}
 use Rattle.rt_laws.specs.State.{Init}
 use Rattle.rt_laws.specs.Preemption.{system_ceiling, greatest_ceiling}
-use Rattle.rt_sim.specs.Inside.Moment.{Part, Moment, runner_of, sections_of, jobs_of}
+use Rattle.rt_sim.specs.Inside.Coupling.{Part, Coupling, runner_of, sections_of, jobs_of}
 use Rattle.rt_sim.specs.Inside.States.{contexts_of, core_of}
 use Rattle.rt_sim.specs.Inside.Chains.{is_init, base_by, mask_by, base_inside, mask_inside, base_of, mask_of}
-use Rattle.rt_sim.specs.Inside.PartFits.{who, AreOfKind, PartFits}
-use Rattle.rt_sim.specs.Inside.Fits.{IsThread, IsOn, IsStacked, Fits}
+use Rattle.rt_sim.specs.Inside.PartInvariant.{who, AreOfKind, PartInvariant}
+use Rattle.rt_sim.specs.Inside.CouplingInvariant.{IsThread, IsOn, IsStacked, CouplingInvariant}
 
 -- a priority that is the greatest, or more, has the value 0
 pub value_of_top : (b c : ℕ) → 2 ^ b ≤ c → hardware b c ≡ 0
@@ -38,7 +38,7 @@ below_top b c some = elim (cases_lt (2 ^ b) c) [
 ]
 
 module _ (app : App) (img : Image) (thread : ℕ) (few : 3 ≤ app.bits) (many : app.bits ≤ 7) where
-  pub ceilings_are : (held : List Held) → greatest (map (λ h. ceiling app h.section) held) ≡ greatest_ceiling app
+  pub ceilings_are : (held : List OpenSection) → greatest (map (λ h. ceiling app h.section) held) ≡ greatest_ceiling app
       (sections_of held)
   ceilings_are [] = refl
   ceilings_are (h ∷ held) = ap (max (ceiling app h.section)) (ceilings_are held)
@@ -78,7 +78,7 @@ module _ (app : App) (img : Image) (thread : ℕ) (few : 3 ≤ app.bits) (many :
       let none : min (hardware app.bits p) (min (base_value base) 0) ≡ 0 = omega arith in
       none ∙ sym is.1 ∙ ap (hardware app.bits) (sym same)
 
-  kind_here : (p : ℕ) (outer : List Held) (h : Held)
+  kind_here : (p : ℕ) (outer : List OpenSection) (h : OpenSection)
       → IsKindFor (storage app) (AtPriority p) (AtPriority p) outer h.section h.kind
       → IsMask (storage app) (AtPriority p) (ceiling app h.section)
       (max p (greatest_ceiling app (sections_of outer))) h.kind
@@ -87,7 +87,7 @@ module _ (app : App) (img : Image) (thread : ℕ) (few : 3 ≤ app.bits) (many :
       (ceilings_are outer) is
 
   -- the sections of a job at a priority, from masks that its priority is above
-  pub inside : (p base : ℕ) (mask : Bool) (held : List Held) → AreOfKind app img thread (AtPriority p) held
+  pub inside : (p base : ℕ) (mask : Bool) (held : List OpenSection) → AreOfKind app img thread (AtPriority p) held
       → held_off (hardware app.bits p) base mask ≡ hardware app.bits p
       → held_off (hardware app.bits p) (base_inside app held base) (mask_inside app held mask) ≡ hardware app.bits
       (max p (greatest_ceiling app (sections_of held)))
@@ -108,7 +108,7 @@ module _ (app : App) (img : Image) (thread : ℕ) (few : 3 ≤ app.bits) (many :
       lowest : (v b m old new : ℕ) → min v (min b m) ≡ old → new < old → min new (min b m) ≡ new
       lowest v b m old new is less = omega arith
 
-  masked : (held : List Held) → mask_inside app held true ≡ true
+  masked : (held : List OpenSection) → mask_inside app held true ≡ true
   masked [] = refl
   masked (h ∷ outer) = by h.kind (masked outer)
     where
@@ -180,13 +180,14 @@ module _ (app : App) (img : Image) (thread : ℕ) (few : 3 ≤ app.bits) (many :
       ∙ ap (hardware app.bits) same
 
   -- the execution priority is the value of the system ceiling
-  pub execution_is : (m : Moment) → Fits app img thread m
+  pub execution_is : (m : Coupling) → CouplingInvariant app img thread m
       → execution (core_of app.bits m) ≡ hardware app.bits (system_ceiling app (jobs_of m.running m.below))
   unfolding held_off
-  execution_is m fits =
+  execution_is m invariant =
       let v : ℕ = running_value (contexts_of app.bits m.running m.below) in
-      ap (λ b. min v (min (base_value b) (mask_value m.primask))) fits.basepri
-      ∙ ap (λ k. min v (min (base_value (base_of app m.running m.below)) (mask_value k))) fits.primask
-      ∙ masks_are m.running m.below fits.stack
-      (all_weaker (PartFits app img thread m.cells m.queues m.values) (λ q. AreOfKind app img thread (who q) q.held)
-      (λ q f. f.kinds) (m.running ∷ m.below) fits.parts)
+      ap (λ b. min v (min (base_value b) (mask_value m.primask))) invariant.basepri
+      ∙ ap (λ k. min v (min (base_value (base_of app m.running m.below)) (mask_value k))) invariant.primask
+      ∙ masks_are m.running m.below invariant.stack
+      (all_weaker (PartInvariant app img thread m.cells m.queues m.values)
+      (λ q. AreOfKind app img thread (who q) q.held)
+      (λ q f. f.kinds) (m.running ∷ m.below) invariant.parts)

@@ -8,7 +8,7 @@ use Rattle.std.proofs.lemmas.Bool.{eqb-true, eq-eqb}
 use Rattle.std.proofs.lemmas.List.Sums.{sum_by-cons}
 use Rattle.rt_lemmas.proofs.Bools.{true_and_false, and_parts}
 use Rattle.rt_ids.specs.Entry.{Entry, is_same_entry, count}
-use Rattle.rt_ids.specs.Holder.{Holder, Guarded, Own, is_same_holder}
+use Rattle.rt_ids.specs.Location.{Location, Guarded, Own, is_same_location}
 use Rattle.rt_ids.specs.declared.ids.Section.TheVariants as section
 use Rattle.rt_app.specs.Tree.{App}
 use Rattle.rt_app.specs.Sending.{capacity_of}
@@ -72,15 +72,15 @@ module _ (n capacity : ℕ) (e : Entry) where
           omega (arith, c, rest)
 
 module _ (app : App) where
-  one_first : (e : Entry) (h : Holder) → count e (first_queues app h) ≤ 1
+  one_first : (e : Entry) (h : Location) → count e (first_queues app h) ≤ 1
   one_first e (Guarded (section.Res r)) = omega arith
   one_first e (Guarded (section.Free n)) = at_most_once n (capacity_of app n) e 0 (capacity_of app n) (omega arith)
   one_first e (Guarded (section.Ready p)) = omega arith
   one_first e (Guarded section.Timer) = omega arith
   one_first e (Own n) = omega arith
 
-  -- a holder has no places at first, or they are of one task
-  none_or_of : (e : Entry) (h : Holder)
+  -- a location has no places at first, or they are of one task
+  none_or_of : (e : Entry) (h : Location)
       → (count e (first_queues app h) ≡ 0) ⊎ (h ≡ Guarded (section.Free e.task))
   none_or_of e (Guarded (section.Res r)) = inl refl
   none_or_of e (Guarded (section.Free n)) = by (e.task == n) refl
@@ -101,8 +101,8 @@ module _ (app : App) where
       | inl none ↦ omega (arith, none, one_first e h)
       | inr first ↦ elim (none_or_of e h) [
         | inl none ↦ omega (arith, none, one_first e g)
-        | inr second ↦ absurd (true_and_false (is_same_holder g h)
-            (ap (λ k. is_same_holder k h) first ∙ ap (is_same_holder (Guarded (section.Free e.task))) second
+        | inr second ↦ absurd (true_and_false (is_same_location g h)
+            (ap (λ k. is_same_location k h) first ∙ ap (is_same_location (Guarded (section.Free e.task))) second
             ∙ eq-eqb e.task e.task refl) differ)
       ]
     ];

@@ -40,12 +40,12 @@ use Rattle.rt_laws.proofs.Keeping.{runs_keep_laws}
 use Rattle.rt_laws.proofs.AllMoments.{runs_keep_messages}
 use Rattle.rt_sim.specs.Guarded.{IsGuarded}
 use Rattle.rt_sim.specs.Good.{AreDeclared, RunsWell, ImagesAreGood}
-use Rattle.rt_sim.specs.Inside.Moment.{Moment}
+use Rattle.rt_sim.specs.Inside.Coupling.{Coupling}
 use Rattle.rt_sim.specs.Inside.States.{core_of, state_of}
-use Rattle.rt_sim.specs.Inside.Fits.{Fits}
+use Rattle.rt_sim.specs.Inside.CouplingInvariant.{CouplingInvariant}
 use Rattle.rt_sim.specs.Inside.Agrees.{StepsBoth}
 use Rattle.rt_sim.proofs.Access.{access_is_guarded}
-use Rattle.rt_sim.proofs.Bodies.{init_sparing, idle_sparing, task_sparing, dispatcher_sparing, timer_sparing}
+use Rattle.rt_sim.proofs.Bodies.{init_respects, idle_respects, task_respects, dispatcher_respects, timer_respects}
 use Rattle.rt_sim.proofs.Depth.{depth_within}
 use Rattle.rt_sim.proofs.Running.{well_after, Reaches, reaches}
 use Rattle.rt_sim.proofs.Starting.{agrees_first}
@@ -124,11 +124,11 @@ module _ (app : App) (img : Image) (accepted : IsAccepted app) (is_image : IsIma
   sound : IsSound app
   sound = accepted_are_sound app accepted
 
-  pub steps_both : (m : Moment) → Fits app img is_image.at.idle m → Queued app m.values
+  pub steps_both : (m : Coupling) → CouplingInvariant app img is_image.at.idle m → Queued app m.values
       → m.time + armings m.values < 2 ^ 31 → StepsBoth app img is_image.at.idle (core_of app.bits m) (state_of m)
   steps_both = step_both app img accepted sound is_image
-      (resource_numbers app is_image.at img is_image.tables sound) (idle_sparing app accepted sound)
-      (task_sparing app accepted sound) (dispatcher_sparing app accepted sound) (timer_sparing app accepted sound)
+      (resource_numbers app is_image.at img is_image.tables sound) (idle_respects app accepted sound)
+      (task_respects app accepted sound) (dispatcher_respects app accepted sound) (timer_respects app accepted sound)
 
   -- the cell that the image names as a resource is the one that has it
   cell_is : (r cell : ℕ) → resource_cell img r ≡ Some cell → (r < length app.shared) × (cell ≡ resource_at app r)
@@ -148,7 +148,7 @@ module _ (app : App) (img : Image) (accepted : IsAccepted app) (is_image : IsIma
       → Reaches app accepted img is_image.at.idle steps_both (reset img) (first app) events
   reached_by events few declared =
       reaches app accepted img is_image.at.idle steps_both events (reset img) (first app) (first_sight app)
-      (agrees_first app img accepted sound is_image (init_sparing app accepted sound)) (first_well app accepted)
+      (agrees_first app img accepted sound is_image (init_respects app accepted sound)) (first_well app accepted)
       (omega (arith, few, first_armings app accepted)) declared
 
   runs_well : (events : List Event) → length events < 2 ^ 31 → AreDeclared app events → RunsWell app img events
@@ -169,8 +169,8 @@ module _ (app : App) (img : Image) (accepted : IsAccepted app) (is_image : IsIma
             let part = reached_by (take n events) (omega (arith, few, front_short events n))
             (front_declared app events n declared) in
             subst (λ (c : Core). depth img c ≤ stack_bytes app) (sym part.agrees.core)
-            (depth_within app img is_image.at.idle is_image.tables.fpu accepted.limits.most_bits part.agrees.moment
-            part.agrees.fits);
+            (depth_within app img is_image.at.idle is_image.tables.fpu accepted.limits.most_bits part.agrees.coupling
+            part.agrees.invariant);
         no_trap = no_traps app (labels img (reset img) events) (first app) 0 whole.runs;
         guarded = λ n.
             let front : List Event = take n events in
@@ -179,12 +179,12 @@ module _ (app : App) (img : Image) (accepted : IsAccepted app) (is_image : IsIma
             let well = well_after app accepted (labels img (reset img) front) (first app) (first_sight app)
             (first_well app accepted) part.runs in
             let v : Observer = sees_all app (first_sight app) (labels img (reset img) front) in
-            let early : part.agrees.moment.time < 2 ^ 31 =
-            let same : (core_after img (reset img) front).time ≡ part.agrees.moment.time =
+            let early : part.agrees.coupling.time < 2 ^ 31 =
+            let same : (core_after img (reset img) front).time ≡ part.agrees.coupling.time =
             ap (λ (c : Core). c.time) part.agrees.core in
             omega (arith, same, part.time, short, first_armings app accepted) in
             subst (λ (c : Core). IsGuarded app img v.jobs (access img c)) (sym part.agrees.core)
-            (access_is_guarded app img is_image.at.idle cell_is part.agrees.moment part.agrees.fits v
+            (access_is_guarded app img is_image.at.idle cell_is part.agrees.coupling part.agrees.invariant v
             (subst (λ s. StateWell app s v) part.agrees.state well) early);
       }
 

@@ -30,17 +30,17 @@ use Rattle.rt_code.specs.Image.{Image}
 use Rattle.rt_code.specs.Standing.{StandsFrom}
 use Rattle.rt_laws.specs.Services.{handler_cost}
 use Rattle.rt_laws.specs.State.{Serving}
-use Rattle.rt_sim.specs.Inside.Sparing.{SparesAlways}
-use Rattle.rt_sim.proofs.BodyRows.{no_rows, level_rows, calls_none, calls_of_level, level_handled, dispatcher_fits}
+use Rattle.rt_sim.specs.Inside.Ownership.{AlwaysRespects}
+use Rattle.rt_sim.proofs.BodyRows.{no_rows, level_rows, calls_none, calls_of_level, level_handled, dispatcher_invariant}
 use Rattle.rt_sim.proofs.Takes.{IsHandler}
 
 module _ (app : App) (img : Image) (sound : IsSound app) (is_image : IsImageOf app img)
-    (sparing_task : (k : ℕ) (t : Task) → slice_get app.tasks k ≡ Some t → is_software t ≡ false
-    → SparesAlways app (AtPriority t.priority) true [] (task_doing app k [] (act Returns nothing)))
-    (sparing_level : (p : ℕ) → Contains (levels app) p
-    → SparesAlways app (AtPriority p) true [] (dispatcher_doing app p))
-    (sparing_timer : (mono : Mono) → app.mono ≡ Some mono
-    → SparesAlways app (AtPriority mono.priority) true [] (timer_doing app)) where
+    (respects_task : (k : ℕ) (t : Task) → slice_get app.tasks k ≡ Some t → is_software t ≡ false
+    → AlwaysRespects app (AtPriority t.priority) true [] (task_doing app k [] (act Returns nothing)))
+    (respects_level : (p : ℕ) → Contains (levels app) p
+    → AlwaysRespects app (AtPriority p) true [] (dispatcher_doing app p))
+    (respects_timer : (mono : Mono) → app.mono ≡ Some mono
+    → AlwaysRespects app (AtPriority mono.priority) true [] (timer_doing app)) where
   abbrev pub IsHandled : Service → Type 0
   IsHandled v = v.priority ≤ 2 ^ app.bits → IsHandler app img is_image.at.idle is_image.at v
 
@@ -64,7 +64,7 @@ module _ (app : App) (img : Image) (sound : IsSound app) (is_image : IsImageOf a
             (AtPriority t.priority) (length (memory app)) (frame_words t.args t.body) (is_image.at.task k) c
             (task_doing app k [] (act Returns nothing))) (sym cost)
             (is_image.code.tasks k t there hardware_task (no_rows app img) is_image.at.idle));
-        sparing = sparing_task k t there hardware_task;
+        respects = respects_task k t there hardware_task;
         calls = λ irq. calls_none app img (Serving irq) t.priority (handler_words app (Runs k));
         handled = or_left _ (is_timed_at t.priority app)
             (any_passes (λ u. u.priority == t.priority) app.tasks k t there (eq-eqb t.priority t.priority refl));
@@ -77,10 +77,10 @@ module _ (app : App) (img : Image) (sound : IsSound app) (is_image : IsImageOf a
     rows = level_rows app img p;
     most = most;
     code = is_image.code.dispatchers p is is_image.at.idle;
-    sparing = sparing_level p is;
+    respects = respects_level p is;
     calls = calls_of_level app img is_image.at is_image.tables.bodies p is;
     handled = level_handled app img is_image.at is_image.tables.bodies p is;
-    words = dispatcher_fits app img is_image.at is_image.tables.bodies p is;
+    words = dispatcher_invariant app img is_image.at is_image.tables.bodies p is;
   }
 
   of_timer : (mono : Mono) → app.mono ≡ Some mono
@@ -93,7 +93,7 @@ module _ (app : App) (img : Image) (sound : IsSound app) (is_image : IsImageOf a
         rows = no_rows app img;
         most = most;
         code = is_image.code.timer mono is (no_rows app img) is_image.at.idle;
-        sparing = sparing_timer mono is;
+        respects = respects_timer mono is;
         calls = λ irq. calls_none app img (Serving irq) mono.priority TIMER_WORDS;
         handled = or_right (list_any (λ t. t.priority == mono.priority) app.tasks) (is_timed_at mono.priority app) runs;
         words = omega (arith, need_is);

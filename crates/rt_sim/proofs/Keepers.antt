@@ -9,7 +9,7 @@ use Rattle.std.proofs.lemmas.Option.{same_Some, none-some}
 use Rattle.rt_lemmas.proofs.Bools.{and_parts, or_cases, true_and_false}
 use Rattle.rt_lemmas.proofs.Membership.{all_at, all_append, any_one}
 use Rattle.rt_ids.specs.Choice.{IsIn}
-use Rattle.rt_ids.specs.Holder.{Holder, Guarded, Own}
+use Rattle.rt_ids.specs.Location.{Location, Guarded, Own}
 use Rattle.rt_ids.specs.Storage.{AtPriority}
 use Rattle.rt_ids.specs.declared.ids.Section.TheVariants as section
 use Rattle.rt_app.specs.declared.body.Listed.{Listed}
@@ -87,7 +87,7 @@ module _ (app : App) (accepted : IsAccepted app) (sound : IsSound app) where
       }
 
   -- what a priority keeps no other priority keeps or reads
-  pub keepers_apart : (p q : ℕ) → ¬ (p ≡ q) → (h : Holder) → is_kept app (AtPriority p) h ≡ true
+  pub keepers_apart : (p q : ℕ) → ¬ (p ≡ q) → (h : Location) → is_kept app (AtPriority p) h ≡ true
       → (is_kept app (AtPriority q) h || is_constant app (AtPriority q) h) ≡ true → ⊥
   keepers_apart p q differ (Guarded (section.Res r)) kept other =
       let mine = and_parts (is_lock_free app r) (is_some_at app (lists r) p) kept in
@@ -152,7 +152,7 @@ module _ (app : App) (accepted : IsAccepted app) (sound : IsSound app) where
           (mapped m.priority m.body.shared all.0.shared) (each ms all.1)
 
   -- and what a priority keeps or reads so is there
-  pub kept_is_held : (p : ℕ) (h : Holder) → (is_kept app (AtPriority p) h || is_constant app (AtPriority p) h) ≡ true
+  pub kept_is_held : (p : ℕ) (h : Location) → (is_kept app (AtPriority p) h || is_constant app (AtPriority p) h) ≡ true
       → IsHeld app h
   kept_is_held p (Guarded (section.Res r)) is =
       elim (or_cases (is_kept app (AtPriority p) (Guarded (section.Res r)))

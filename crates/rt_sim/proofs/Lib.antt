@@ -24,7 +24,7 @@ pub mod FirstPlaces
 pub mod Starting
 pub mod Running
 pub mod Owned
-pub mod Sparings
+pub mod Ownerships
 pub mod Bodies
 pub mod Access
 pub mod Good

@@ -4,7 +4,7 @@
 use Rattle.std.proofs.Common.{◌≡◌, ℕ, ◌+◌, ◌++◌, Bool, true, false, List, [], ◌∷◌, Some, None, refl}
 use Rattle.std.proofs.Common.{ap, subst, ◌∙◌, if◌then◌else◌, arith}
 use Rattle.rt_lemmas.proofs.Bools.{true_and_false}
-use Rattle.rt_ids.specs.Holder.{Holder, Guarded, is_same_holder}
+use Rattle.rt_ids.specs.Location.{Location, Guarded, is_same_location}
 use Rattle.rt_ids.specs.Content.{Values}
 use Rattle.rt_ids.specs.Entry.{Entry, count}
 use Rattle.rt_ids.specs.Action.{Action, Places, Readies, Starts, Frees, Arms, Fires, Cancels, Moves, effect}
@@ -15,9 +15,9 @@ use Rattle.rt_app.specs.Holding.{storage}
 use Rattle.rt_code.specs.Acting.{PlacesMessage, ReadiesMessage, StartsMessage, FreesPlace, ArmsMessage, FiresMessage}
 use Rattle.rt_code.specs.Acting.{CancelsMessage, MovesMessage, with_queue}
 use Rattle.rt_code.specs.Image.{Image}
-use Rattle.rt_code.specs.Owning.{Spot, is_open, MayAccess}
+use Rattle.rt_code.specs.Owning.{Configuration, is_open, MayAccess}
 use Rattle.rt_code.specs.Processor.{Processor}
-use Rattle.rt_code.specs.Standing.{Stands, HaveLeft, spot_behind, spot_after_step}
+use Rattle.rt_code.specs.Standing.{Stands, HaveLeft, configuration_after, spend_step}
 use Rattle.rt_code.proofs.Mine.{owns_open}
 use Rattle.rt_core.specs.Access.{access}
 use Rattle.rt_core.specs.Leading.{GoesPlainly, with_processor}
@@ -25,37 +25,37 @@ use Rattle.rt_core.specs.Stepping.{step}
 use Rattle.rt_trace.specs.declared.item.What.TheVariants as what
 use Rattle.rt_laws.specs.Preemption.{candidate}
 use Rattle.rt_laws.specs.State.{reached_values}
-use Rattle.rt_sim.specs.Inside.Moment.{Moment, spot_of}
+use Rattle.rt_sim.specs.Inside.Coupling.{Coupling, configuration_of}
 use Rattle.rt_sim.specs.Inside.States.{core_of, state_of}
 use Rattle.rt_sim.specs.Inside.Counts.{hands, IsOnce}
-use Rattle.rt_sim.specs.Inside.PartFits.{who, Owns}
-use Rattle.rt_sim.specs.Inside.Fits.{Fits}
+use Rattle.rt_sim.specs.Inside.PartInvariant.{who, Owns}
+use Rattle.rt_sim.specs.Inside.CouplingInvariant.{CouplingInvariant}
 use Rattle.rt_sim.specs.Inside.Agrees.{StepsBoth}
-use Rattle.rt_sim.proofs.Counting.{same_holder, took, put_behind, put_before, taken_out, put_last, moved_once}
-use Rattle.rt_sim.proofs.Plain.{IsWorking, moment_behind, may_turn}
+use Rattle.rt_sim.proofs.Counting.{same_location, took, put_behind, put_before, taken_out, put_last, moved_once}
+use Rattle.rt_sim.proofs.Plain.{IsWorking, coupling_after, may_turn}
 use Rattle.rt_sim.proofs.Acts.{changes_by, gives_item, acts_as, acts_fit}
 
-module _ (app : App) (img : Image) (thread : ℕ) (m : Moment) (fits : Fits app img thread m)
+module _ (app : App) (img : Image) (thread : ℕ) (m : Coupling) (invariant : CouplingInvariant app img thread m)
     (works : IsWorking m.running.role) where
   -- what is put at an open section is not at what the running job does not own
-  beside : {X : Type 0} (x : Section) (put before : X) → is_open m.running.held x ≡ true → (h : Holder)
-      → Owns app img thread m.running h ≡ false → (if is_same_holder (Guarded x) h then put else before) ≡ before
-  beside x put before inside h away = by (is_same_holder (Guarded x) h) refl
+  beside : {X : Type 0} (x : Section) (put before : X) → is_open m.running.held x ≡ true → (h : Location)
+      → Owns app img thread m.running h ≡ false → (if is_same_location (Guarded x) h then put else before) ≡ before
+  beside x put before inside h away = by (is_same_location (Guarded x) h) refl
     where
-      by : (b : Bool) → is_same_holder (Guarded x) h ≡ b → (if b then put else before) ≡ before
+      by : (b : Bool) → is_same_location (Guarded x) h ≡ b → (if b then put else before) ≡ before
       by true same = absurd (true_and_false (Owns app img thread m.running h)
-          (subst (λ k. Owns app img thread m.running k ≡ true) (same_holder (Guarded x) h same)
+          (subst (λ k. Owns app img thread m.running k ≡ true) (same_location (Guarded x) h same)
           (owns_open (storage app) (who m.running) m.running.held x inside)) away)
       by false other = refl
 
   module _ (n : ℕ) (none : candidate app (state_of m) ≡ None) (left : HaveLeft (m.running.lefts ++ m.running.left ∷ []))
-      (may : MayAccess (storage app) (who m.running) (spot_of m.cells m.queues m.running)
+      (may : MayAccess (storage app) (who m.running) (configuration_of m.cells m.queues m.running)
       (access img (core_of app.bits m))) (q : Processor)
-      (plain : GoesPlainly (spot_of m.cells m.queues m.running) (core_of app.bits m).processor q) where
-    abbrev Here : Spot
-    Here = spot_behind (spot_after_step (spot_of m.cells m.queues m.running)) q
+      (plain : GoesPlainly (configuration_of m.cells m.queues m.running) (core_of app.bits m).processor q) where
+    abbrev Here : Configuration
+    Here = configuration_after (spend_step (configuration_of m.cells m.queues m.running)) q
 
-    abbrev Later : Spot → Type 0
+    abbrev Later : Configuration → Type 0
     Later t = Stands (storage app) img.code m.running.rows thread (who m.running) n t
 
     abbrev Both : Type 0
@@ -66,34 +66,34 @@ module _ (app : App) (img : Image) (thread : ℕ) (m : Moment) (fits : Fits app 
         → IsOnce (with_queue m.queues x entries) (λ e. count e places + hands m.below e)
     once_behind x places entries alike =
         moved_once m.queues x entries (hands (m.running ∷ m.below)) (λ e. count e places + hands m.below e)
-        (λ e. omega (arith, alike e)) fits.once
+        (λ e. omega (arith, alike e)) invariant.once
 
-    pub takes_place : (t : ℕ) → step img (core_of app.bits m) ≡
+    pub places_message : (t : ℕ) → step img (core_of app.bits m) ≡
         (with_processor (core_of app.bits m) q, Some (what.Placed t))
         → PlacesMessage (storage app) m.running.rows (who m.running) t
-        (spot_behind (spot_after_step (spot_of m.cells m.queues m.running)) q)
+        (configuration_after (spend_step (configuration_of m.cells m.queues m.running)) q)
         (λ t. Stands (storage app) img.code m.running.rows thread (who m.running) n t) → Both
-    takes_place t is noted =
+    places_message t is noted =
         let acts = noted.acts in
         let x : Section = section.Free t in
         let places : List Entry = noted.entry ∷ m.running.places in
-        let queues : Holder → List Entry = with_queue m.queues x noted.others in
+        let queues : Location → List Entry = with_queue m.queues x noted.others in
         let vs : Values = effect (Places t) m.values in
         record {
           core = with_processor (core_of app.bits m) q;
           shown = Some (what.Placed t);
           is = is;
           may = (
-            may_turn app img thread m fits works none left,
-            gives_item app img thread m fits works (Places t) acts.values acts.follows acts.is,
+            may_turn app img thread m invariant works none left,
+            gives_item app img thread m invariant works (Places t) acts.values acts.follows acts.is,
           );
           agrees = record {
-            moment = moment_behind app img thread m q n (acts.follows 0 vs) (reached_values (acts.follows 0 vs) vs)
+            coupling = coupling_after app img thread m q n (acts.follows 0 vs) (reached_values (acts.follows 0 vs) vs)
                 places queues;
             core = refl;
-            state = acts_as app img thread m fits works (Places t) acts.values acts.follows acts.is;
-            fits = acts_fit app img thread m fits works q n (Places t) 0 places queues plain
-                (changes_by app img thread m fits works _ _ is may) acts
+            state = acts_as app img thread m invariant works (Places t) acts.values acts.follows acts.is;
+            invariant = acts_fit app img thread m invariant works q n (Places t) 0 places queues plain
+                (changes_by app img thread m invariant works _ _ is may) acts
                 (λ h away. beside x _ (m.values h) noted.inside h away)
                 (λ h away. beside x noted.others (m.queues h) noted.inside h away)
                 (once_behind x places noted.others
@@ -102,34 +102,34 @@ module _ (app : App) (img : Image) (thread : ℕ) (m : Moment) (fits : Fits app 
           };
         }
 
-    pub makes_ready : (t : ℕ) → step img (core_of app.bits m) ≡
+    pub readies_message : (t : ℕ) → step img (core_of app.bits m) ≡
         (with_processor (core_of app.bits m) q, Some (what.Ready t))
         → ReadiesMessage (storage app) m.running.rows (who m.running) t
-        (spot_behind (spot_after_step (spot_of m.cells m.queues m.running)) q)
+        (configuration_after (spend_step (configuration_of m.cells m.queues m.running)) q)
         (λ t. Stands (storage app) img.code m.running.rows thread (who m.running) n t) → Both
-    makes_ready t is noted =
+    readies_message t is noted =
         let acts = noted.acts in
         let x : Section = section.Ready noted.level in
         let action : Action = Readies noted.level noted.message in
         let entries : List Entry = m.queues (Guarded x) ++ noted.entry ∷ [] in
-        let queues : Holder → List Entry = with_queue m.queues x entries in
+        let queues : Location → List Entry = with_queue m.queues x entries in
         let vs : Values = effect action m.values in
         record {
           core = with_processor (core_of app.bits m) q;
           shown = Some (what.Ready t);
           is = is;
           may = (
-            may_turn app img thread m fits works none left,
-            gives_item app img thread m fits works action acts.values acts.follows acts.is
+            may_turn app img thread m invariant works none left,
+            gives_item app img thread m invariant works action acts.values acts.follows acts.is
                 ∙ ap (λ k. Some (what.Ready k)) noted.of_task.1,
           );
           agrees = record {
-            moment = moment_behind app img thread m q n (acts.follows 0 vs) (reached_values (acts.follows 0 vs) vs)
+            coupling = coupling_after app img thread m q n (acts.follows 0 vs) (reached_values (acts.follows 0 vs) vs)
                 noted.others queues;
             core = refl;
-            state = acts_as app img thread m fits works action acts.values acts.follows acts.is;
-            fits = acts_fit app img thread m fits works q n action 0 noted.others queues plain
-                (changes_by app img thread m fits works _ _ is may) acts
+            state = acts_as app img thread m invariant works action acts.values acts.follows acts.is;
+            invariant = acts_fit app img thread m invariant works q n action 0 noted.others queues plain
+                (changes_by app img thread m invariant works _ _ is may) acts
                 (λ h away. beside x _ (m.values h) noted.inside h away)
                 (λ h away. beside x entries (m.queues h) noted.inside h away)
                 (once_behind x noted.others entries
@@ -140,7 +140,7 @@ module _ (app : App) (img : Image) (thread : ℕ) (m : Moment) (fits : Fits app 
 
     pub starts_message : (t from : ℕ)
         → (noted : StartsMessage (storage app) m.running.rows (who m.running) t from
-        (spot_behind (spot_after_step (spot_of m.cells m.queues m.running)) q)
+        (configuration_after (spend_step (configuration_of m.cells m.queues m.running)) q)
         (λ t. Stands (storage app) img.code m.running.rows thread (who m.running) n t))
         → step img (core_of app.bits m) ≡
         (with_processor (core_of app.bits m) q, Some (what.Start t noted.message.args)) → Both
@@ -149,24 +149,24 @@ module _ (app : App) (img : Image) (thread : ℕ) (m : Moment) (fits : Fits app 
         let x : Section = section.Ready noted.level in
         let action : Action = Starts noted.level noted.message in
         let places : List Entry = noted.entry ∷ m.running.places in
-        let queues : Holder → List Entry = with_queue m.queues x noted.others in
+        let queues : Location → List Entry = with_queue m.queues x noted.others in
         let vs : Values = effect action m.values in
         record {
           core = with_processor (core_of app.bits m) q;
           shown = Some (what.Start t noted.message.args);
           is = is;
           may = (
-            may_turn app img thread m fits works none left,
-            gives_item app img thread m fits works action acts.values acts.follows acts.is
+            may_turn app img thread m invariant works none left,
+            gives_item app img thread m invariant works action acts.values acts.follows acts.is
                 ∙ ap (λ k. Some (what.Start k noted.message.args)) noted.of_task.1,
           );
           agrees = record {
-            moment = moment_behind app img thread m q n (acts.follows 0 vs) (reached_values (acts.follows 0 vs) vs)
+            coupling = coupling_after app img thread m q n (acts.follows 0 vs) (reached_values (acts.follows 0 vs) vs)
                 places queues;
             core = refl;
-            state = acts_as app img thread m fits works action acts.values acts.follows acts.is;
-            fits = acts_fit app img thread m fits works q n action 0 places queues plain
-                (changes_by app img thread m fits works _ _ is may) acts
+            state = acts_as app img thread m invariant works action acts.values acts.follows acts.is;
+            invariant = acts_fit app img thread m invariant works q n action 0 places queues plain
+                (changes_by app img thread m invariant works _ _ is may) acts
                 (λ h away. beside x _ (m.values h) noted.inside h away)
                 (λ h away. beside x noted.others (m.queues h) noted.inside h away)
                 (once_behind x places noted.others
@@ -175,32 +175,32 @@ module _ (app : App) (img : Image) (thread : ℕ) (m : Moment) (fits : Fits app 
           };
         }
 
-    pub gives_back : (t : ℕ) → step img (core_of app.bits m) ≡
+    pub frees_place : (t : ℕ) → step img (core_of app.bits m) ≡
         (with_processor (core_of app.bits m) q, Some (what.Free t))
         → FreesPlace (storage app) m.running.rows (who m.running) t
-        (spot_behind (spot_after_step (spot_of m.cells m.queues m.running)) q)
+        (configuration_after (spend_step (configuration_of m.cells m.queues m.running)) q)
         (λ t. Stands (storage app) img.code m.running.rows thread (who m.running) n t) → Both
-    gives_back t is noted =
+    frees_place t is noted =
         let acts = noted.acts in
         let x : Section = section.Free t in
         let entries : List Entry = noted.entry ∷ m.queues (Guarded x) in
-        let queues : Holder → List Entry = with_queue m.queues x entries in
+        let queues : Location → List Entry = with_queue m.queues x entries in
         let vs : Values = effect (Frees t) m.values in
         record {
           core = with_processor (core_of app.bits m) q;
           shown = Some (what.Free t);
           is = is;
           may = (
-            may_turn app img thread m fits works none left,
-            gives_item app img thread m fits works (Frees t) acts.values acts.follows acts.is,
+            may_turn app img thread m invariant works none left,
+            gives_item app img thread m invariant works (Frees t) acts.values acts.follows acts.is,
           );
           agrees = record {
-            moment = moment_behind app img thread m q n (acts.follows 0 vs) (reached_values (acts.follows 0 vs) vs)
+            coupling = coupling_after app img thread m q n (acts.follows 0 vs) (reached_values (acts.follows 0 vs) vs)
                 noted.others queues;
             core = refl;
-            state = acts_as app img thread m fits works (Frees t) acts.values acts.follows acts.is;
-            fits = acts_fit app img thread m fits works q n (Frees t) 0 noted.others queues plain
-                (changes_by app img thread m fits works _ _ is may) acts
+            state = acts_as app img thread m invariant works (Frees t) acts.values acts.follows acts.is;
+            invariant = acts_fit app img thread m invariant works q n (Frees t) 0 noted.others queues plain
+                (changes_by app img thread m invariant works _ _ is may) acts
                 (λ h away. beside x _ (m.values h) noted.inside h away)
                 (λ h away. beside x entries (m.queues h) noted.inside h away)
                 (once_behind x noted.others entries
@@ -211,7 +211,7 @@ module _ (app : App) (img : Image) (thread : ℕ) (m : Moment) (fits : Fits app 
 
     pub arms_message : (t slot : ℕ)
         → (noted : ArmsMessage (storage app) m.running.rows (who m.running) t slot
-        (spot_behind (spot_after_step (spot_of m.cells m.queues m.running)) q)
+        (configuration_after (spend_step (configuration_of m.cells m.queues m.running)) q)
         (λ t. Stands (storage app) img.code m.running.rows thread (who m.running) n t))
         → step img (core_of app.bits m) ≡
         (with_processor (core_of app.bits m) q, Some (what.Arm t noted.instant)) → Both
@@ -220,24 +220,24 @@ module _ (app : App) (img : Image) (thread : ℕ) (m : Moment) (fits : Fits app 
         let x : Section = section.Timer in
         let action : Action = Arms noted.instant noted.message in
         let entries : List Entry = m.queues (Guarded x) ++ noted.entry ∷ [] in
-        let queues : Holder → List Entry = with_queue m.queues x entries in
+        let queues : Location → List Entry = with_queue m.queues x entries in
         let vs : Values = effect action m.values in
         record {
           core = with_processor (core_of app.bits m) q;
           shown = Some (what.Arm t noted.instant);
           is = is;
           may = (
-            may_turn app img thread m fits works none left,
-            gives_item app img thread m fits works action acts.values acts.follows acts.is
+            may_turn app img thread m invariant works none left,
+            gives_item app img thread m invariant works action acts.values acts.follows acts.is
                 ∙ ap (λ k. Some (what.Arm k noted.instant)) noted.of_task.1,
           );
           agrees = record {
-            moment = moment_behind app img thread m q n (acts.follows 0 vs) (reached_values (acts.follows 0 vs) vs)
+            coupling = coupling_after app img thread m q n (acts.follows 0 vs) (reached_values (acts.follows 0 vs) vs)
                 noted.others queues;
             core = refl;
-            state = acts_as app img thread m fits works action acts.values acts.follows acts.is;
-            fits = acts_fit app img thread m fits works q n action 0 noted.others queues plain
-                (changes_by app img thread m fits works _ _ is may) acts
+            state = acts_as app img thread m invariant works action acts.values acts.follows acts.is;
+            invariant = acts_fit app img thread m invariant works q n action 0 noted.others queues plain
+                (changes_by app img thread m invariant works _ _ is may) acts
                 (λ h away. beside x _ (m.values h) noted.inside h away)
                 (λ h away. beside x entries (m.queues h) noted.inside h away)
                 (once_behind x noted.others entries
@@ -248,7 +248,7 @@ module _ (app : App) (img : Image) (thread : ℕ) (m : Moment) (fits : Fits app 
 
     pub fires_message : (t : ℕ)
         → (noted : FiresMessage (storage app) m.running.rows (who m.running) t
-        (spot_behind (spot_after_step (spot_of m.cells m.queues m.running)) q)
+        (configuration_after (spend_step (configuration_of m.cells m.queues m.running)) q)
         (λ t. Stands (storage app) img.code m.running.rows thread (who m.running) n t))
         → step img (core_of app.bits m) ≡
         (with_processor (core_of app.bits m) q, Some (what.Fire t)) → Both
@@ -258,24 +258,24 @@ module _ (app : App) (img : Image) (thread : ℕ) (m : Moment) (fits : Fits app 
         let action : Action = Fires noted.message in
         let places : List Entry = noted.entry ∷ m.running.places in
         let entries : List Entry = noted.before ++ noted.behind in
-        let queues : Holder → List Entry = with_queue m.queues x entries in
+        let queues : Location → List Entry = with_queue m.queues x entries in
         let vs : Values = effect action m.values in
         record {
           core = with_processor (core_of app.bits m) q;
           shown = Some (what.Fire t);
           is = is;
           may = (
-            may_turn app img thread m fits works none left,
-            gives_item app img thread m fits works action acts.values acts.follows acts.is
+            may_turn app img thread m invariant works none left,
+            gives_item app img thread m invariant works action acts.values acts.follows acts.is
                 ∙ ap (λ k. Some (what.Fire k)) noted.of_task.1,
           );
           agrees = record {
-            moment = moment_behind app img thread m q n (acts.follows 0 vs) (reached_values (acts.follows 0 vs) vs)
+            coupling = coupling_after app img thread m q n (acts.follows 0 vs) (reached_values (acts.follows 0 vs) vs)
                 places queues;
             core = refl;
-            state = acts_as app img thread m fits works action acts.values acts.follows acts.is;
-            fits = acts_fit app img thread m fits works q n action 0 places queues plain
-                (changes_by app img thread m fits works _ _ is may) acts
+            state = acts_as app img thread m invariant works action acts.values acts.follows acts.is;
+            invariant = acts_fit app img thread m invariant works q n action 0 places queues plain
+                (changes_by app img thread m invariant works _ _ is may) acts
                 (λ h away. beside x _ (m.values h) noted.inside h away)
                 (λ h away. beside x entries (m.queues h) noted.inside h away)
                 (once_behind x places entries
@@ -287,7 +287,7 @@ module _ (app : App) (img : Image) (thread : ℕ) (m : Moment) (fits : Fits app 
 
     pub cancels_message : (t slot : ℕ)
         → (noted : CancelsMessage (storage app) m.running.rows (who m.running) t slot
-        (spot_behind (spot_after_step (spot_of m.cells m.queues m.running)) q)
+        (configuration_after (spend_step (configuration_of m.cells m.queues m.running)) q)
         (λ t. Stands (storage app) img.code m.running.rows thread (who m.running) n t))
         → step img (core_of app.bits m) ≡
         (with_processor (core_of app.bits m) q, Some (what.Cancel t noted.handle)) → Both
@@ -297,23 +297,23 @@ module _ (app : App) (img : Image) (thread : ℕ) (m : Moment) (fits : Fits app 
         let action : Action = Cancels t noted.handle in
         let places : List Entry = noted.entry ∷ m.running.places in
         let entries : List Entry = noted.before ++ noted.behind in
-        let queues : Holder → List Entry = with_queue m.queues x entries in
+        let queues : Location → List Entry = with_queue m.queues x entries in
         let vs : Values = effect action m.values in
         record {
           core = with_processor (core_of app.bits m) q;
           shown = Some (what.Cancel t noted.handle);
           is = is;
           may = (
-            may_turn app img thread m fits works none left,
-            gives_item app img thread m fits works action acts.values acts.follows acts.is,
+            may_turn app img thread m invariant works none left,
+            gives_item app img thread m invariant works action acts.values acts.follows acts.is,
           );
           agrees = record {
-            moment = moment_behind app img thread m q n (acts.follows 0 vs) (reached_values (acts.follows 0 vs) vs)
+            coupling = coupling_after app img thread m q n (acts.follows 0 vs) (reached_values (acts.follows 0 vs) vs)
                 places queues;
             core = refl;
-            state = acts_as app img thread m fits works action acts.values acts.follows acts.is;
-            fits = acts_fit app img thread m fits works q n action 0 places queues plain
-                (changes_by app img thread m fits works _ _ is may) acts
+            state = acts_as app img thread m invariant works action acts.values acts.follows acts.is;
+            invariant = acts_fit app img thread m invariant works q n action 0 places queues plain
+                (changes_by app img thread m invariant works _ _ is may) acts
                 (λ h away. beside x _ (m.values h) noted.inside h away)
                 (λ h away. beside x entries (m.queues h) noted.inside h away)
                 (once_behind x places entries
@@ -325,7 +325,7 @@ module _ (app : App) (img : Image) (thread : ℕ) (m : Moment) (fits : Fits app 
 
     pub moves_message : (t slot from : ℕ)
         → (noted : MovesMessage (storage app) m.running.rows (who m.running) t slot from
-        (spot_behind (spot_after_step (spot_of m.cells m.queues m.running)) q)
+        (configuration_after (spend_step (configuration_of m.cells m.queues m.running)) q)
         (λ t. Stands (storage app) img.code m.running.rows thread (who m.running) n t))
         → step img (core_of app.bits m) ≡
         (with_processor (core_of app.bits m) q, Some (what.Move t noted.handle noted.instant)) → Both
@@ -334,23 +334,23 @@ module _ (app : App) (img : Image) (thread : ℕ) (m : Moment) (fits : Fits app 
         let x : Section = section.Timer in
         let action : Action = Moves t noted.handle noted.instant in
         let entries : List Entry = noted.before ++ (noted.behind ++ noted.entry ∷ []) in
-        let queues : Holder → List Entry = with_queue m.queues x entries in
+        let queues : Location → List Entry = with_queue m.queues x entries in
         let vs : Values = effect action m.values in
         record {
           core = with_processor (core_of app.bits m) q;
           shown = Some (what.Move t noted.handle noted.instant);
           is = is;
           may = (
-            may_turn app img thread m fits works none left,
-            gives_item app img thread m fits works action acts.values acts.follows acts.is,
+            may_turn app img thread m invariant works none left,
+            gives_item app img thread m invariant works action acts.values acts.follows acts.is,
           );
           agrees = record {
-            moment = moment_behind app img thread m q n (acts.follows 0 vs) (reached_values (acts.follows 0 vs) vs)
+            coupling = coupling_after app img thread m q n (acts.follows 0 vs) (reached_values (acts.follows 0 vs) vs)
                 m.running.places queues;
             core = refl;
-            state = acts_as app img thread m fits works action acts.values acts.follows acts.is;
-            fits = acts_fit app img thread m fits works q n action 0 m.running.places queues plain
-                (changes_by app img thread m fits works _ _ is may) acts
+            state = acts_as app img thread m invariant works action acts.values acts.follows acts.is;
+            invariant = acts_fit app img thread m invariant works q n action 0 m.running.places queues plain
+                (changes_by app img thread m invariant works _ _ is may) acts
                 (λ h away. beside x _ (m.values h) noted.inside h away)
                 (λ h away. beside x entries (m.queues h) noted.inside h away)
                 (once_behind x m.running.places entries

@@ -7,7 +7,7 @@ use Rattle.std.proofs.Common.{slice_index, Option, Some, None, refl, sym, subst,
 use Rattle.std.specs.List.{AllByRecursion}
 use Rattle.std.proofs.lemmas.Bool.{eqb-true, eq-eqb}
 use Rattle.rt_lemmas.proofs.Bools.{true_and_false}
-use Rattle.rt_ids.specs.Holder.{Holder, Guarded, Own}
+use Rattle.rt_ids.specs.Location.{Location, Guarded, Own}
 use Rattle.rt_ids.specs.Content.{Content, Values}
 use Rattle.rt_ids.specs.Entry.{Entry, count}
 use Rattle.rt_ids.specs.Doing.{Doing, over, does}
@@ -16,7 +16,7 @@ use Rattle.rt_app.specs.Tree.{App}
 use Rattle.rt_app.specs.Holding.{storage}
 use Rattle.rt_code.specs.Access.{Access, Loads, Stores}
 use Rattle.rt_code.specs.Image.{Image}
-use Rattle.rt_code.specs.Owning.{Held, Spot, owns, MayLoad, MayStore, MayAccess}
+use Rattle.rt_code.specs.Owning.{OpenSection, Configuration, owns, MayLoad, MayStore, MayAccess}
 use Rattle.rt_code.specs.Standing.{Stands}
 use Rattle.rt_code.proofs.Mine.{owns_reads, queued}
 use Rattle.rt_code.proofs.Others.{stands_others}
@@ -27,9 +27,9 @@ use Rattle.rt_core.specs.Stepping.{step}
 use Rattle.rt_core.proofs.Storing.{changes_its_cell_alone}
 use Rattle.rt_gen_body.proofs.Stored.{stored}
 use Rattle.rt_laws.specs.State.{Role, Init, Idle, Waiting, Serving}
-use Rattle.rt_sim.specs.Inside.Moment.{Part, spot_of}
+use Rattle.rt_sim.specs.Inside.Coupling.{Part, configuration_of}
 use Rattle.rt_sim.specs.Inside.Counts.{hands, IsOnce}
-use Rattle.rt_sim.specs.Inside.PartFits.{who, PartFits, StandsBy, AgreesWith, Owns, Reads, AreApart}
+use Rattle.rt_sim.specs.Inside.PartInvariant.{who, PartInvariant, StandsBy, AgreesWith, Owns, Reads, AreApart}
 use Rattle.rt_sim.proofs.Counting.{queued_in, fewer_once}
 
 -- a Bool is one of two
@@ -42,14 +42,14 @@ not_so true h = absurd (h refl)
 not_so false h = refl
 
 -- a cell is as before, or it belongs to what the job owns, or to a place in its hands
-abbrev pub IsLeftOrOwned : App → Runner → List Held → List Entry → List ℕ → List ℕ → ℕ → Type 0
+abbrev pub IsLeftOrOwned : App → Runner → List OpenSection → List Entry → List ℕ → List ℕ → ℕ → Type 0
 IsLeftOrOwned app runner held places before after cell =
     (slice_index after cell ≡ slice_index before cell)
-    ⊎ (((h : Holder) × ((storage app).home cell ≡ At h) × (owns (storage app) runner held h ≡ true))
+    ⊎ (((h : Location) × ((storage app).home cell ≡ At h) × (owns (storage app) runner held h ≡ true))
     ⊎ ((e : Entry) × ((storage app).home cell ≡ In e) × (0 < count e places)))
 
 -- a step touches what the job may touch
-pub touches_its_own : (app : App) (img : Image) (c : Core) (runner : Runner) (s : Spot)
+pub touches_its_own : (app : App) (img : Image) (c : Core) (runner : Runner) (s : Configuration)
     → MayAccess (storage app) runner s (access img c) → (cell : ℕ)
     → IsLeftOrOwned app runner s.held s.places c.processor.cells (step img c).0.processor.cells cell
 touches_its_own app img c runner s may cell = by (access img c) refl may
@@ -81,29 +81,29 @@ touches_its_own app img c runner s may cell = by (access img c) refl may
 
 module _ (app : App) (img : Image) (thread : ℕ) where
   -- what holds of a job is kept by whoever leaves what it reads, and the queues that it owns
-  pub part_kept : (cells after : List ℕ) (queues others : Holder → List Entry) (values later : Values) (q : Part)
-      → PartFits app img thread cells queues values q → length after ≡ length cells
-      → ((cell : ℕ) → MayLoad (storage app) (who q) (spot_of cells queues q) ((storage app).home cell)
+  pub part_kept : (cells after : List ℕ) (queues others : Location → List Entry) (values later : Values) (q : Part)
+      → PartInvariant app img thread cells queues values q → length after ≡ length cells
+      → ((cell : ℕ) → MayLoad (storage app) (who q) (configuration_of cells queues q) ((storage app).home cell)
       → slice_index after cell ≡ slice_index cells cell)
-      → ((h : Holder) → Owns app img thread q h ≡ true → others h ≡ queues h)
-      → ((h : Holder) → Reads app img thread q h ≡ true → later h ≡ values h)
-      → PartFits app img thread after others later q
-  part_kept cells after queues others values later q fits long touched queued same = record {
-    stands = stands q.role fits.stands;
-    agrees = agrees q.rest fits.agrees;
-    counted = fits.counted;
-    sparing = fits.sparing;
-    opened = fits.opened;
-    kinds = fits.kinds;
-    once = fits.once;
-    calls = fits.calls;
-    own = fits.own;
+      → ((h : Location) → Owns app img thread q h ≡ true → others h ≡ queues h)
+      → ((h : Location) → Reads app img thread q h ≡ true → later h ≡ values h)
+      → PartInvariant app img thread after others later q
+  part_kept cells after queues others values later q invariant long touched queued same = record {
+    stands = stands q.role invariant.stands;
+    agrees = agrees q.rest invariant.agrees;
+    counted = invariant.counted;
+    respects = invariant.respects;
+    opened = invariant.opened;
+    kinds = invariant.kinds;
+    once = invariant.once;
+    calls = invariant.calls;
+    own = invariant.own;
   }
     where
-      left : Stands (storage app) img.code q.rows thread (who q) q.steps (spot_of cells queues q)
-          → Stands (storage app) img.code q.rows thread (who q) q.steps (spot_of after others q)
+      left : Stands (storage app) img.code q.rows thread (who q) q.steps (configuration_of cells queues q)
+          → Stands (storage app) img.code q.rows thread (who q) q.steps (configuration_of after others q)
       left s = stands_others (storage app) q.rows thread (who q) (stored app) img.code q.steps
-          (spot_of cells queues q) after others
+          (configuration_of cells queues q) after others
           (record { long = long; touched = touched; queued = queued }) s
 
       stands : (role : Role) → StandsBy app img thread role cells queues q → StandsBy app img thread role after others q
@@ -121,17 +121,17 @@ module _ (app : App) (img : Image) (thread : ℕ) where
   abbrev pub ChangesItsOwn : Part → List ℕ → List ℕ → Type 0
   ChangesItsOwn p before after = (cell : ℕ) → IsLeftOrOwned app (who p) p.held p.places before after cell
 
-  abbrev pub QueuesItsOwn : Part → (Holder → List Entry) → (Holder → List Entry) → Type 0
-  QueuesItsOwn p before after = (h : Holder) → Owns app img thread p h ≡ false → after h ≡ before h
+  abbrev pub QueuesItsOwn : Part → (Location → List Entry) → (Location → List Entry) → Type 0
+  QueuesItsOwn p before after = (h : Location) → Owns app img thread p h ≡ false → after h ≡ before h
 
   abbrev pub ValuesItsOwn : Part → Values → Values → Type 0
-  ValuesItsOwn p before after = (h : Holder) → Owns app img thread p h ≡ false → after h ≡ before h
+  ValuesItsOwn p before after = (h : Location) → Owns app img thread p h ≡ false → after h ≡ before h
 
   -- no place in the hands of the first is the other's own
-  abbrev pub IsClear : (Holder → List Entry) → Part → Part → Type 0
+  abbrev pub IsClear : (Location → List Entry) → Part → Part → Type 0
   IsClear queues p q = (e : Entry) → 0 < count e p.places → 0 < count e q.places + queued queues e q.held → ⊥
 
-  clear_one : (queues : Holder → List Entry) (p q : Part) (more : Entry → ℕ)
+  clear_one : (queues : Location → List Entry) (p q : Part) (more : Entry → ℕ)
       → IsOnce queues (λ e. count e p.places + (count e q.places + more e)) → IsClear queues p q
   clear_one queues p q more once e mine theirs = by (count e q.places) refl
     where
@@ -141,7 +141,7 @@ module _ (app : App) (img : Image) (thread : ℕ) where
           omega (arith, mine, there.1, once.one e (Guarded there.0))
       by (suc n) is = omega (arith, mine, is, once.one e (Own 0))
 
-  pub all_clear : (queues : Holder → List Entry) (p : Part) (qs : List Part)
+  pub all_clear : (queues : Location → List Entry) (p : Part) (qs : List Part)
       → IsOnce queues (hands (p ∷ qs)) → AllByRecursion (IsClear queues p) qs
   all_clear queues p [] once = tt
   all_clear queues p (q ∷ qs) once = (
@@ -149,27 +149,27 @@ module _ (app : App) (img : Image) (thread : ℕ) where
     all_clear queues p qs (fewer_once queues (hands (p ∷ q ∷ qs)) (hands (p ∷ qs)) (λ e. omega arith) once),
   )
 
-  home_reads : (q : Part) (cells : List ℕ) (queues : Holder → List Entry) (cell : ℕ) (h : Holder)
+  home_reads : (q : Part) (cells : List ℕ) (queues : Location → List Entry) (cell : ℕ) (h : Location)
       → (storage app).home cell ≡ At h
-      → MayLoad (storage app) (who q) (spot_of cells queues q) ((storage app).home cell)
+      → MayLoad (storage app) (who q) (configuration_of cells queues q) ((storage app).home cell)
       → Reads app img thread q h ≡ true
   home_reads q cells queues cell h is may =
-      subst (λ home. MayLoad (storage app) (who q) (spot_of cells queues q) home) is may
+      subst (λ home. MayLoad (storage app) (who q) (configuration_of cells queues q) home) is may
 
-  home_mine : (q : Part) (cells : List ℕ) (queues : Holder → List Entry) (cell : ℕ) (e : Entry)
+  home_mine : (q : Part) (cells : List ℕ) (queues : Location → List Entry) (cell : ℕ) (e : Entry)
       → (storage app).home cell ≡ In e
-      → MayLoad (storage app) (who q) (spot_of cells queues q) ((storage app).home cell)
+      → MayLoad (storage app) (who q) (configuration_of cells queues q) ((storage app).home cell)
       → 0 < count e q.places + queued queues e q.held
   home_mine q cells queues cell e is may =
-      subst (λ home. MayLoad (storage app) (who q) (spot_of cells queues q) home) is may
+      subst (λ home. MayLoad (storage app) (who q) (configuration_of cells queues q) home) is may
 
-  others_kept_one : (p r : Part) (cells after : List ℕ) (queues others : Holder → List Entry) (values later : Values)
+  others_kept_one : (p r : Part) (cells after : List ℕ) (queues others : Location → List Entry) (values later : Values)
       (q : Part)
       → AreApart app img thread p q → AreApart app img thread r q → IsClear queues p q → length after ≡ length cells
       → ChangesItsOwn p cells after → QueuesItsOwn p queues others → ValuesItsOwn r values later
-      → PartFits app img thread cells queues values q → PartFits app img thread after others later q
-  others_kept_one p r cells after queues others values later q apart other clear long changes moved kept fits =
-      part_kept cells after queues others values later q fits long
+      → PartInvariant app img thread cells queues values q → PartInvariant app img thread after others later q
+  others_kept_one p r cells after queues others values later q apart other clear long changes moved kept invariant =
+      part_kept cells after queues others values later q invariant long
       (λ cell may. elim (changes cell) [
         | inl same ↦ same
         | inr its ↦ elim its [
@@ -182,26 +182,28 @@ module _ (app : App) (img : Image) (thread : ℕ) where
       (λ h reads. kept h (not_so (Owns app img thread r h) (λ owns. other.0 h owns reads)))
 
   -- all others are kept by a job that was apart from them with what it had and is with what it has
-  pub others_kept : (p r : Part) (cells after : List ℕ) (queues others : Holder → List Entry) (values later : Values)
+  pub others_kept : (p r : Part) (cells after : List ℕ) (queues others : Location → List Entry) (values later : Values)
       (qs : List Part)
       → AllByRecursion (AreApart app img thread p) qs → AllByRecursion (AreApart app img thread r) qs
       → AllByRecursion (IsClear queues p) qs
       → length after ≡ length cells → ChangesItsOwn p cells after → QueuesItsOwn p queues others
       → ValuesItsOwn r values later
-      → AllByRecursion (PartFits app img thread cells queues values) qs
-      → AllByRecursion (PartFits app img thread after others later) qs
-  others_kept p r cells after queues others values later [] apart other clear long changes moved kept fits = tt
-  others_kept p r cells after queues others values later (q ∷ qs) apart other clear long changes moved kept fits = (
-    others_kept_one p r cells after queues others values later q apart.0 other.0 clear.0 long changes moved kept fits.0,
-    others_kept p r cells after queues others values later qs apart.1 other.1 clear.1 long changes moved kept fits.1,
+      → AllByRecursion (PartInvariant app img thread cells queues values) qs
+      → AllByRecursion (PartInvariant app img thread after others later) qs
+  others_kept p r cells after queues others values later [] apart other clear long changes moved kept holds = tt
+  others_kept p r cells after queues others values later (q ∷ qs) apart other clear long changes moved kept holds = (
+    others_kept_one p r cells after queues others values later q apart.0 other.0 clear.0 long changes moved kept
+        holds.0,
+    others_kept p r cells after queues others values later qs apart.1 other.1 clear.1 long changes moved kept
+        holds.1,
   )
 
-  -- what a holder's cells spell is left by a job that does not own it
-  pub spelling_left : (p : Part) (cells after : List ℕ) (entries : List Entry) (content : Content) (h : Holder)
+  -- what a location's cells represent is left by a job that does not own it
+  pub representing_left : (p : Part) (cells after : List ℕ) (entries : List Entry) (content : Content) (h : Location)
       → ((e : Entry) → count e entries + count e p.places ≤ 1) → ChangesItsOwn p cells after
-      → Owns app img thread p h ≡ false → (storage app).Spells h (slice_index cells) entries content
-      → (storage app).Spells h (slice_index after) entries content
-  spelling_left p cells after entries content h once changes away spells =
+      → Owns app img thread p h ≡ false → (storage app).Represents h (slice_index cells) entries content
+      → (storage app).Represents h (slice_index after) entries content
+  representing_left p cells after entries content h once changes away represents =
       stored app h (slice_index cells) (slice_index after) entries content (λ cell by. elim by [
         | inl at ↦ elim (changes cell) [
           | inl same ↦ same
@@ -223,4 +225,4 @@ module _ (app : App) (img : Image) (thread : ℕ) where
                 omega (arith, some, place.1.2, once place.1.0))
           ]
         ]
-      ]) spells
+      ]) represents

@@ -11,7 +11,7 @@ use Rattle.std.proofs.lemmas.Option.{none-some}
 use Rattle.rt_lemmas.proofs.Bools.{or_left, or_right, and_both, true_and_false}
 use Rattle.rt_lemmas.proofs.Membership.{all_at, any_contained, contained_any, any_passes, any_left, any_right}
 use Rattle.rt_ids.specs.Choice.{IsIn}
-use Rattle.rt_ids.specs.Holder.{Guarded, Own, is_same_section}
+use Rattle.rt_ids.specs.Location.{Guarded, Own, is_same_section}
 use Rattle.rt_ids.specs.Lists.{is_some_and, those_below}
 use Rattle.rt_ids.specs.Storage.{Starting, AtPriority}
 use Rattle.rt_ids.specs.declared.ids.Section.{Section}
@@ -33,7 +33,7 @@ use Rattle.rt_app.specs.Statements.{is_init, listing_in, is_free}
 use Rattle.rt_app.proofs.Parts.{parts}
 use Rattle.rt_app.proofs.SoundCeilings.{tasks_in_range}
 use Rattle.rt_app.proofs.Unbroken.{is_one_that}
-use Rattle.rt_sim.specs.Inside.Sparing.{owns_in}
+use Rattle.rt_sim.specs.Inside.Ownership.{owns_in}
 
 -- the sections of locks of these resources
 abbrev pub sections_locked : List ℕ → List Section

@@ -1,32 +1,33 @@
--- Behind a plain instruction of the running job the moment fits again, whatever its rest and its values are now.
+-- Behind a plain instruction of the running job the coupling invariant holds again, whatever its rest and its values
+-- are now.
 use Rattle.std.proofs.Common.{◌≡◌, ℕ, suc, ◌+◌, ◌-◌, ◌<◌, Bool, List, [], ◌∷◌, ◌++◌, length, map, slice_index}
 use Rattle.std.proofs.Common.{Option, Some, None, refl}
 use Rattle.std.proofs.Common.{sym, ap, subst, ◌∙◌, arith}
 use Rattle.std.specs.List.{AllByRecursion}
 use Rattle.rt_lemmas.proofs.Lists.{all_front, all_behind}
-use Rattle.rt_ids.specs.Holder.{Holder}
+use Rattle.rt_ids.specs.Location.{Location}
 use Rattle.rt_ids.specs.Content.{Values}
 use Rattle.rt_ids.specs.Entry.{Entry, count}
 use Rattle.rt_ids.specs.Doing.{Doing}
 use Rattle.rt_app.specs.Tree.{App}
 use Rattle.rt_app.specs.Holding.{storage}
 use Rattle.rt_code.specs.Image.{Image}
-use Rattle.rt_code.specs.Owning.{Kind, Marked, Raised, Masked, Held, Spot, saved_slot, saved_slots}
+use Rattle.rt_code.specs.Owning.{Kind, Marked, Raised, Masked, OpenSection, Configuration, saved_slot, saved_slots}
 use Rattle.rt_code.specs.Processor.{Processor}
-use Rattle.rt_code.specs.Standing.{Stands, HaveLeft, KeepsSaved, spot_behind, spot_after_step}
+use Rattle.rt_code.specs.Standing.{Stands, HaveLeft, KeepsSaved, configuration_after, spend_step}
 use Rattle.rt_core.specs.Leading.{GoesPlainly, IsAt}
 use Rattle.rt_laws.specs.State.{Role, Init, Idle, Waiting, Serving}
 use Rattle.rt_laws.specs.Preemption.{candidate}
 use Rattle.rt_laws.specs.Allowed.{HasStep, Turn}
-use Rattle.rt_sim.specs.Inside.Moment.{Part, Moment, spot_of, sections_of}
+use Rattle.rt_sim.specs.Inside.Coupling.{Part, Coupling, configuration_of, sections_of}
 use Rattle.rt_sim.specs.Inside.States.{core_of, state_of}
-use Rattle.rt_sim.specs.Inside.Sparing.{IsSparing}
+use Rattle.rt_sim.specs.Inside.Ownership.{RespectsOwnership}
 use Rattle.rt_sim.specs.Inside.Chains.{base_inside, mask_inside, SavesBy, Saves}
 use Rattle.rt_sim.specs.Inside.Counts.{hands, IsOnce}
 use Rattle.rt_sim.specs.Inside.Calling.{handles, own_slots}
-use Rattle.rt_sim.specs.Inside.PartFits.{who, AgreesWith, StandsBy, AreApart}
-use Rattle.rt_sim.specs.Inside.Fits.{IsStacked, Fits}
-use Rattle.rt_sim.proofs.Others.{ChangesItsOwn, QueuesItsOwn, ValuesItsOwn, all_clear, others_kept, spelling_left}
+use Rattle.rt_sim.specs.Inside.PartInvariant.{who, AgreesWith, StandsBy, AreApart}
+use Rattle.rt_sim.specs.Inside.CouplingInvariant.{IsStacked, CouplingInvariant}
+use Rattle.rt_sim.proofs.Others.{ChangesItsOwn, QueuesItsOwn, ValuesItsOwn, all_clear, others_kept, representing_left}
 
 -- a job that runs code
 abbrev pub IsWorking : Role → Type 0
@@ -44,7 +45,8 @@ length-passed (n ∷ lefts) = ap suc (length-passed lefts)
 
 module _ (app : App) where
   -- what open sections keep is kept where their slots are
-  pub saves_kept : (slots after : List ℕ) (held : List Held) (base : ℕ) (mask : Bool) → KeepsSaved held slots after
+  pub saves_kept : (slots after : List ℕ) (held : List OpenSection) (base : ℕ) (mask : Bool)
+      → KeepsSaved held slots after
       → length after ≡ length slots
       → Saves app slots held base mask → Saves app after held base mask
   saves_kept slots after [] base mask kept long saves = tt
@@ -79,9 +81,9 @@ module _ (app : App) (img : Image) (thread : ℕ) where
     steps = n;
   }
 
-  abbrev pub moment_behind : Moment → Processor → ℕ → Doing Values → Values → List Entry → (Holder → List Entry)
-      → Moment
-  moment_behind m q n rest values places queues = record m {
+  abbrev pub coupling_after : Coupling → Processor → ℕ → Doing Values → Values → List Entry → (Location → List Entry)
+      → Coupling
+  coupling_after m q n rest values places queues = record m {
     running = advanced m.running q n rest places;
     basepri = q.basepri;
     primask = q.primask;
@@ -120,24 +122,24 @@ module _ (app : App) (img : Image) (thread : ℕ) where
     stack.1,
   )
 
-  pub stands_by : (role : Role) → IsWorking role → (cells : List ℕ) (queues : Holder → List Entry) (p : Part)
-      → Stands (storage app) img.code p.rows thread (who p) p.steps (spot_of cells queues p)
+  pub stands_by : (role : Role) → IsWorking role → (cells : List ℕ) (queues : Location → List Entry) (p : Part)
+      → Stands (storage app) img.code p.rows thread (who p) p.steps (configuration_of cells queues p)
       → StandsBy app img thread role cells queues p
   stands_by Init works cells queues p s = s
   stands_by Idle works cells queues p s = s
   stands_by Waiting works cells queues p s = absurd works
   stands_by (Serving irq) works cells queues p s = s
 
-  pub stands_of : (role : Role) → IsWorking role → (cells : List ℕ) (queues : Holder → List Entry) (p : Part)
+  pub stands_of : (role : Role) → IsWorking role → (cells : List ℕ) (queues : Location → List Entry) (p : Part)
       → StandsBy app img thread role cells queues p
-      → Stands (storage app) img.code p.rows thread (who p) p.steps (spot_of cells queues p)
+      → Stands (storage app) img.code p.rows thread (who p) p.steps (configuration_of cells queues p)
   stands_of Init works cells queues p s = s
   stands_of Idle works cells queues p s = s
   stands_of Waiting works cells queues p s = absurd works
   stands_of (Serving irq) works cells queues p s = s
 
   -- what is left is a step less
-  pub stands_passed : (p : Part) (n : ℕ) (s : Spot)
+  pub stands_passed : (p : Part) (n : ℕ) (s : Configuration)
       → Stands (storage app) img.code p.rows thread (who p) n
       (record s { lefts = map (λ n. n - 1) (p.lefts ++ p.left ∷ []) })
       → Stands (storage app) img.code p.rows thread (who p) n
@@ -145,59 +147,60 @@ module _ (app : App) (img : Image) (thread : ℕ) where
   stands_passed p n s stands = subst (λ ls. Stands (storage app) img.code p.rows thread (who p) n
       (record s { lefts = ls })) (lefts_passed p.lefts p.left) stands
 
-  module _ (m : Moment) (fits : Fits app img thread m) (works : IsWorking m.running.role) where
-    spot : Spot
-    spot = spot_of m.cells m.queues m.running
+  module _ (m : Coupling) (invariant : CouplingInvariant app img thread m) (works : IsWorking m.running.role) where
+    configuration : Configuration
+    configuration = configuration_of m.cells m.queues m.running
 
     -- what a plain instruction leads to, where what is left, the values and the places are these
     pub plain_fits : (q : Processor) (n : ℕ) (rest : Doing Values) (values : Values) (places : List Entry)
-        (queues : Holder → List Entry)
-        → GoesPlainly (spot_of m.cells m.queues m.running) (core_of app.bits m).processor q
+        (queues : Location → List Entry)
+        → GoesPlainly (configuration_of m.cells m.queues m.running) (core_of app.bits m).processor q
         → ChangesItsOwn app img thread m.running m.cells q.cells
         → ValuesItsOwn app img thread m.running m.values values
         → QueuesItsOwn app img thread m.running m.queues queues
         → IsOnce queues (λ e. count e places + hands m.below e)
         → Stands (storage app) img.code m.running.rows thread (who m.running) n
-        (record (spot_behind (spot_after_step (spot_of m.cells m.queues m.running)) q) {
+        (record (configuration_after (spend_step (configuration_of m.cells m.queues m.running)) q) {
           rest = rest;
           places = places;
           queues = queues;
         })
         → AgreesWith app img thread (who m.running) m.running.held values rest
-        → IsSparing app (who m.running) (handles m.running.role) (sections_of m.running.held) rest
-        → Fits app img thread (moment_behind m q n rest values places queues)
-    plain_fits q n rest values places queues plain changes kept moves once stands agrees sparing = record {
-      stack = stack_kept m.running m.below q n rest places plain.frame plain.saved fits.stack;
+        → RespectsOwnership app (who m.running) (handles m.running.role) (sections_of m.running.held) rest
+        → CouplingInvariant app img thread (coupling_after m q n rest values places queues)
+    plain_fits q n rest values places queues plain changes kept moves once stands agrees respects = record {
+      stack = stack_kept m.running m.below q n rest places plain.frame plain.saved invariant.stack;
       parts = (
         record {
           stands = stands_by m.running.role works q.cells queues (advanced m.running q n rest places)
-              (stands_passed m.running n (spot_of q.cells queues (advanced m.running q n rest places)) stands);
+              (stands_passed m.running n (configuration_of q.cells queues (advanced m.running q n rest places)) stands);
           agrees = agrees;
-          counted = length-passed m.running.lefts ∙ fits.parts.0.counted;
-          sparing = sparing;
-          opened = fits.parts.0.opened;
-          kinds = fits.parts.0.kinds;
-          once = fits.parts.0.once;
-          calls = fits.parts.0.calls;
-          own = own_kept m.running.caller m.running.slots q.slots plain.frame ∙ fits.parts.0.own;
+          counted = length-passed m.running.lefts ∙ invariant.parts.0.counted;
+          respects = respects;
+          opened = invariant.parts.0.opened;
+          kinds = invariant.parts.0.kinds;
+          once = invariant.parts.0.once;
+          calls = invariant.parts.0.calls;
+          own = own_kept m.running.caller m.running.slots q.slots plain.frame ∙ invariant.parts.0.own;
         },
         others_kept app img thread m.running m.running m.cells q.cells m.queues queues m.values values m.below
-            (apart_of m.running m.below fits.stack)
-            (apart_of m.running m.below fits.stack)
-            (all_clear app img thread m.queues m.running m.below fits.once)
-            plain.memory changes moves kept fits.parts.1,
+            (apart_of m.running m.below invariant.stack)
+            (apart_of m.running m.below invariant.stack)
+            (all_clear app img thread m.queues m.running m.below invariant.once)
+            plain.memory changes moves kept invariant.parts.1,
       );
-      spelled = λ h held away.
-          subst (λ content. (storage app).Spells h (slice_index q.cells) (queues h) content) (sym (kept h away.0))
-          (subst (λ entries. (storage app).Spells h (slice_index q.cells) entries (m.values h)) (sym (moves h away.0))
-          (spelling_left app img thread m.running m.cells q.cells (m.queues h) (m.values h) h
-          (λ e. omega (arith, fits.once.one e h)) changes away.0 (fits.spelled h held away)));
-      basepri = plain.basepri ∙ fits.basepri;
-      primask = plain.primask ∙ fits.primask;
-      memory = plain.memory ∙ fits.memory;
+      represented = λ h held away.
+          subst (λ content. (storage app).Represents h (slice_index q.cells) (queues h) content) (sym (kept h away.0))
+          (subst (λ entries. (storage app).Represents h (slice_index q.cells) entries (m.values h))
+          (sym (moves h away.0))
+          (representing_left app img thread m.running m.cells q.cells (m.queues h) (m.values h) h
+          (λ e. omega (arith, invariant.once.one e h)) changes away.0 (invariant.represented h held away)));
+      basepri = plain.basepri ∙ invariant.basepri;
+      primask = plain.primask ∙ invariant.primask;
+      memory = plain.memory ∙ invariant.memory;
       once = once;
-      numbers = fits.numbers;
-      alarmed = fits.alarmed;
+      numbers = invariant.numbers;
+      alarmed = invariant.alarmed;
     }
 
     -- the running job may take a step
@@ -219,5 +222,5 @@ module _ (app : App) (img : Image) (thread : ℕ) where
         has (Serving irq) works some = some
 
     -- the core is where the running job is
-    pub is_at : IsAt (core_of app.bits m) (spot_of m.cells m.queues m.running)
+    pub is_at : IsAt (core_of app.bits m) (configuration_of m.cells m.queues m.running)
     is_at = record { address = refl; slots = refl; cells = refl; caller = refl }

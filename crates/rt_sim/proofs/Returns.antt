@@ -2,76 +2,79 @@
 use Rattle.std.proofs.Common.{◌≡◌, ℕ, Bool, true, false, List, [], ◌∷◌, ◌++◌, slice_index, Some, None, refl, sym, ap}
 use Rattle.std.proofs.Common.{subst, ◌∙◌, arith}
 use Rattle.std.specs.List.{AllByRecursion}
-use Rattle.rt_ids.specs.Holder.{Holder, Guarded, Own}
+use Rattle.rt_ids.specs.Location.{Location, Guarded, Own}
 use Rattle.rt_ids.specs.Action.{Action, Returns}
 use Rattle.rt_ids.specs.Storage.{Runner}
 use Rattle.rt_app.specs.Tree.{App}
 use Rattle.rt_app.specs.Holding.{storage, IsHeld}
 use Rattle.rt_code.specs.Image.{Image}
-use Rattle.rt_code.specs.Owning.{Held, owns}
-use Rattle.rt_code.specs.Standing.{Finishes, HaveLeft, spot_after_step}
+use Rattle.rt_code.specs.Owning.{OpenSection, owns}
+use Rattle.rt_code.specs.Standing.{Finishes, HaveLeft, spend_step}
 use Rattle.rt_code.proofs.Mine.{owns_reads}
 use Rattle.rt_core.specs.Stepping.{step}
 use Rattle.rt_trace.specs.declared.item.What.TheVariants as what
 use Rattle.rt_laws.specs.Giving.{return_item}
 use Rattle.rt_laws.specs.Preemption.{candidate}
-use Rattle.rt_sim.specs.Inside.Moment.{Part, Moment, irq_of, spot_of}
+use Rattle.rt_sim.specs.Inside.Coupling.{Part, Coupling, irq_of, configuration_of}
 use Rattle.rt_sim.specs.Inside.States.{core_of, state_of}
 use Rattle.rt_sim.specs.Inside.Chains.{base_inside, mask_inside, base_under, mask_under}
 use Rattle.rt_sim.specs.Inside.Counts.{hands}
-use Rattle.rt_sim.specs.Inside.PartFits.{who, Owns}
-use Rattle.rt_sim.specs.Inside.Fits.{Fits}
+use Rattle.rt_sim.specs.Inside.PartInvariant.{who, Owns}
+use Rattle.rt_sim.specs.Inside.CouplingInvariant.{CouplingInvariant}
 use Rattle.rt_sim.specs.Inside.Agrees.{StepsBoth}
 use Rattle.rt_sim.proofs.Counting.{fewer_once}
 use Rattle.rt_sim.proofs.Plain.{IsWorking, may_turn}
 use Rattle.rt_sim.proofs.Acts.{agreed, gives_item, acts_as}
 
 -- what a runner owns with nothing open it keeps
-pub owned_is_kept : (app : App) (runner : Runner) (held : List Held) (h : Holder) → held ≡ []
+pub owned_is_kept : (app : App) (runner : Runner) (held : List OpenSection) (h : Location) → held ≡ []
     → owns (storage app) runner held h ≡ true → (storage app).is_kept runner h ≡ true
 owned_is_kept app runner held (Guarded x) closed is =
     subst (λ hs. owns (storage app) runner hs (Guarded x) ≡ true) closed is
 owned_is_kept app runner held (Own n) closed is = is
 
 module _ (app : App) (img : Image) (thread : ℕ) where
-  module _ (m : Moment) (fits : Fits app img thread m) (works : IsWorking m.running.role) (action : Action)
+  module _ (m : Coupling) (invariant : CouplingInvariant app img thread m) (works : IsWorking m.running.role)
+      (action : Action)
       (ends : Finishes (storage app) img.code m.running.rows thread (who m.running) action
-      (spot_after_step (spot_of m.cells m.queues m.running))) where
-    -- behind the last action of a job what it alone owned is spelled
-    pub given_back : (h : Holder) → IsHeld app h → AllByRecursion (λ o. Owns app img thread o h ≡ false) m.below
-        → (storage app).Spells h (slice_index m.cells) (m.queues h) (m.values h)
+      (spend_step (configuration_of m.cells m.queues m.running))) where
+    -- behind the last action of a job what it alone owned is represented
+    pub given_back : (h : Location) → IsHeld app h → AllByRecursion (λ o. Owns app img thread o h ≡ false) m.below
+        → (storage app).Represents h (slice_index m.cells) (m.queues h) (m.values h)
     given_back h held others = by (Owns app img thread m.running h) refl
       where
         by : (b : Bool) → Owns app img thread m.running h ≡ b
-            → (storage app).Spells h (slice_index m.cells) (m.queues h) (m.values h)
-        by false away = fits.spelled h held (away, others)
+            → (storage app).Represents h (slice_index m.cells) (m.queues h) (m.values h)
+        by false away = invariant.represented h held (away, others)
         by true mine =
-            subst (λ content. (storage app).Spells h (slice_index m.cells) (m.queues h) content)
-            (sym (agreed app img thread m fits works action ends.values ends.follows ends.is h
+            subst (λ content. (storage app).Represents h (slice_index m.cells) (m.queues h) content)
+            (sym (agreed app img thread m invariant works action ends.values ends.follows ends.is h
             (owns_reads (storage app) (who m.running) m.running.held h mine)))
-            (ends.spelled h (owned_is_kept app (who m.running) m.running.held h ends.closed mine))
+            (ends.represented h (owned_is_kept app (who m.running) m.running.held h ends.closed mine))
 
-  module _ (m : Moment) (q : Part) (ps : List Part) (fits : Fits app img thread (record m { below = q ∷ ps }))
+  module _ (m : Coupling) (q : Part) (ps : List Part)
+      (invariant : CouplingInvariant app img thread (record m { below = q ∷ ps }))
       (works : IsWorking m.running.role)
       (none : candidate app (state_of (record m { below = q ∷ ps })) ≡ None)
       (left : HaveLeft (m.running.lefts ++ m.running.left ∷ []))
       (ends : Finishes (storage app) img.code m.running.rows thread (who m.running) Returns
-      (spot_after_step (spot_of m.cells m.queues m.running))) where
-    abbrev resumed : Moment
+      (spend_step (configuration_of m.cells m.queues m.running))) where
+    abbrev resumed : Coupling
     resumed = record m { running = q; below = ps }
 
-    fits_resumed : Fits app img thread resumed
-    fits_resumed = record {
-      stack = fits.stack.1;
-      parts = fits.parts.1;
-      spelled = λ h held away. given_back (record m { below = q ∷ ps }) fits works Returns ends h held away;
-      basepri = fits.basepri ∙ ap (λ held. base_inside app held (base_under app (q ∷ ps))) ends.closed;
-      primask = fits.primask ∙ ap (λ held. mask_inside app held (mask_under app m.running.role (q ∷ ps))) ends.closed;
-      memory = fits.memory;
+    invariant_resumed : CouplingInvariant app img thread resumed
+    invariant_resumed = record {
+      stack = invariant.stack.1;
+      parts = invariant.parts.1;
+      represented = λ h held away. given_back (record m { below = q ∷ ps }) invariant works Returns ends h held away;
+      basepri = invariant.basepri ∙ ap (λ held. base_inside app held (base_under app (q ∷ ps))) ends.closed;
+      primask = invariant.primask
+          ∙ ap (λ held. mask_inside app held (mask_under app m.running.role (q ∷ ps))) ends.closed;
+      memory = invariant.memory;
       once = fewer_once m.queues (hands (m.running ∷ q ∷ ps)) (hands (q ∷ ps))
-          (λ e. omega arith) fits.once;
-      numbers = fits.numbers;
-      alarmed = fits.alarmed;
+          (λ e. omega arith) invariant.once;
+      numbers = invariant.numbers;
+      alarmed = invariant.alarmed;
     }
 
     pub returns_to : step img (core_of app.bits (record m { below = q ∷ ps })) ≡
@@ -83,15 +86,16 @@ module _ (app : App) (img : Image) (thread : ℕ) where
       shown = Some (what.Ret (irq_of m.running.role));
       is = is;
       may = (
-        may_turn app img thread (record m { below = q ∷ ps }) fits works none left,
-        gives_item app img thread (record m { below = q ∷ ps }) fits works Returns ends.values ends.follows ends.is
-            ∙ ap return_item fits.stack.0.serves ∙ ap (λ r. Some (what.Ret (irq_of r))) (sym fits.stack.0.serves),
+        may_turn app img thread (record m { below = q ∷ ps }) invariant works none left,
+        gives_item app img thread (record m { below = q ∷ ps }) invariant works Returns ends.values ends.follows ends.is
+            ∙ ap return_item invariant.stack.0.serves
+            ∙ ap (λ r. Some (what.Ret (irq_of r))) (sym invariant.stack.0.serves),
       );
       agrees = record {
-        moment = resumed;
+        coupling = resumed;
         core = refl;
         state = acts_as app img thread
-            (record m { below = q ∷ ps }) fits works Returns ends.values ends.follows ends.is;
-        fits = fits_resumed;
+            (record m { below = q ∷ ps }) invariant works Returns ends.values ends.follows ends.is;
+        invariant = invariant_resumed;
       };
     }

@@ -23,11 +23,11 @@ use Rattle.rt_laws.proofs.Fine.{Queued}
 use Rattle.rt_laws.proofs.Happens.{happens as happens_well, after_well}
 use Rattle.rt_laws.proofs.Well.{StateWell}
 use Rattle.rt_sim.specs.Good.{AreDeclared}
-use Rattle.rt_sim.specs.Inside.Moment.{Moment}
+use Rattle.rt_sim.specs.Inside.Coupling.{Coupling}
 use Rattle.rt_sim.specs.Inside.States.{core_of, state_of}
-use Rattle.rt_sim.specs.Inside.Fits.{Fits}
+use Rattle.rt_sim.specs.Inside.CouplingInvariant.{CouplingInvariant}
 use Rattle.rt_sim.specs.Inside.Agrees.{Agrees, StepsBoth}
-use Rattle.rt_sim.proofs.Acts.{pending_fits}
+use Rattle.rt_sim.proofs.Acts.{pending_invariant}
 use Rattle.rt_sim.proofs.Alarms.{ticks}
 
 module _ (app : App) where
@@ -40,7 +40,8 @@ module _ (app : App) where
       (after_well app accepted s v well label (happens_well app accepted s v well label runs.0)) runs.1
 
 module _ (app : App) (accepted : IsAccepted app) (img : Image) (thread : ℕ)
-    (steps : (m : Moment) → Fits app img thread m → Queued app m.values → m.time + armings m.values < 2 ^ 31
+    (steps : (m : Coupling) → CouplingInvariant app img thread m → Queued app m.values → m.time + armings m.values
+    < 2 ^ 31
     → StepsBoth app img thread (core_of app.bits m) (state_of m)) where
   -- What one event leads to. It may show the alarm of a tick behind that tick. Time and armings together rise by one at
   -- most.
@@ -53,39 +54,40 @@ module _ (app : App) (accepted : IsAccepted app) (img : Image) (thread : ℕ)
     pub time : core.time + armings (after_all app s shown).values ≤ c.time + armings s.values + 1
     pub counts : (ls : List Label) → steps_of (shown ++ ls) ≡ steps_in (e ∷ []) + steps_of ls
 
-  happens : (m : Moment) → Fits app img thread m → (v : Observer) → StateWell app (state_of m) v
+  happens : (m : Coupling) → CouplingInvariant app img thread m → (v : Observer) → StateWell app (state_of m) v
       → m.time + armings m.values < 2 ^ 31 → (e : Event) → AreDeclared app (e ∷ [])
       → Happens (core_of app.bits m) (state_of m) e
-  happens m fits v well few (Arrive irq) declared = record {
+  happens m invariant v well few (Arrive irq) declared = record {
     core = core_of app.bits (record m { pending = slice_set m.pending irq true });
     shown = Arrived irq ∷ [];
     is = happens_by_event.arrive img (core_of app.bits m) irq;
     runs = ((refl, declared.0), tt);
     agrees = record {
-      moment = record m { pending = slice_set m.pending irq true };
+      coupling = record m { pending = slice_set m.pending irq true };
       core = refl;
       state = refl;
-      fits = pending_fits app img thread m (slice_set m.pending irq true) (length-set m.pending irq true) fits;
+      invariant = pending_invariant app img thread m (slice_set m.pending irq true) (length-set m.pending irq true)
+          invariant;
     };
     time = omega arith;
     counts = λ ls. omega arith;
   }
-  happens m fits v well few Tick declared =
-      let one = ticks app img thread m fits in
+  happens m invariant v well few Tick declared =
+      let one = ticks app img thread m invariant in
       let values_same : armings (after_all app (after app (state_of m) Ticked) one.shown).values ≡ armings m.values =
       ap (λ (s : State). armings s.values) one.state ∙ ap armings one.values in
       record {
-        core = core_of app.bits one.moment;
+        core = core_of app.bits one.coupling;
         shown = Ticked ∷ one.shown;
         is = happens_by_event.tick img (core_of app.bits m)
             ∙ ap (λ (r : Core × List Label). (r.0, Ticked ∷ r.1)) one.is;
         runs = (refl, one.runs);
-        agrees = record { moment = one.moment; core = refl; state = one.state; fits = one.fits };
+        agrees = record { coupling = one.coupling; core = refl; state = one.state; invariant = one.invariant };
         time = omega (arith, one.time, values_same);
         counts = λ ls. omega (arith, one.silent ls);
       }
-  happens m fits v well few Step declared =
-      let both = steps m fits well.queued few in
+  happens m invariant v well few Step declared =
+      let both = steps m invariant well.queued few in
       let kept : both.core.time ≡ m.time = ap (λ (r : Core × Option What). r.0.time) (sym both.is)
       ∙ step_keeps_time img (core_of app.bits m) in
       record {
@@ -116,11 +118,12 @@ module _ (app : App) (accepted : IsAccepted app) (img : Image) (thread : ℕ)
   happens_next : (c : Core) (s : State) (v : Observer) → Agrees app img thread c s → StateWell app s v
       → c.time + armings s.values < 2 ^ 31 → (e : Event) → AreDeclared app (e ∷ []) → Happens c s e
   happens_next c s v agrees well few e declared =
-      let same : c.time ≡ agrees.moment.time = ap (λ (d : Core). d.time) agrees.core in
-      let alike : armings s.values ≡ armings agrees.moment.values = ap (λ (t : State). armings t.values) agrees.state in
+      let same : c.time ≡ agrees.coupling.time = ap (λ (d : Core). d.time) agrees.core in
+      let alike : armings s.values
+      ≡ armings agrees.coupling.values = ap (λ (t : State). armings t.values) agrees.state in
       subst (λ d. Happens d s e) (sym agrees.core)
-      (subst (λ t. Happens (core_of app.bits agrees.moment) t e) (sym agrees.state)
-      (happens agrees.moment agrees.fits v (subst (λ t. StateWell app t v) agrees.state well)
+      (subst (λ t. Happens (core_of app.bits agrees.coupling) t e) (sym agrees.state)
+      (happens agrees.coupling agrees.invariant v (subst (λ t. StateWell app t v) agrees.state well)
       (omega (arith, same, alike, few)) e declared))
 
   -- one event more in front

@@ -1,4 +1,5 @@
--- Both machines begin alike: the reset state of an image is the first state of Baker's machine, in a moment that fits.
+-- Both machines begin alike: the reset state of an image is the first state of Baker's machine, in a coupling of which
+-- the invariant holds.
 use Rattle.std.proofs.Common.{◌≡◌, ℕ, ◌^◌, ◌&&◌, ◌||◌, inl, nat_lt, Bool, true, false, List, [], ◌∷◌, length}
 use Rattle.std.proofs.Common.{map, replicate, slice_index, None, refl, sym}
 use Rattle.std.proofs.Common.{ap, subst, ◌∙◌}
@@ -6,7 +7,7 @@ use Rattle.std.proofs.lemmas.Bool.{ltb-true}
 use Rattle.std.proofs.lemmas.List.{length-replicate, length-map}
 use Rattle.rt_lemmas.proofs.Bools.{and_right}
 use Rattle.rt_lemmas.proofs.Membership.{any_one}
-use Rattle.rt_ids.specs.Holder.{Holder, Guarded, Own}
+use Rattle.rt_ids.specs.Location.{Location, Guarded, Own}
 use Rattle.rt_ids.specs.Storage.{Starting}
 use Rattle.rt_ids.specs.declared.ids.Section.TheVariants as section
 use Rattle.rt_ids.specs.declared.limits.TheConstants.{IRQ_NUMBERS}
@@ -17,18 +18,18 @@ use Rattle.rt_app.specs.Bodies.{members}
 use Rattle.rt_app.specs.BodyCost.{cost_measure, cost_of}
 use Rattle.rt_app.specs.Declarations.{owns}
 use Rattle.rt_app.specs.Doings.{init_doing}
-use Rattle.rt_app.specs.Holding.{storage, Spells, is_kept, is_constant, IsHeld}
+use Rattle.rt_app.specs.Holding.{storage, Represents, is_kept, is_constant, IsHeld}
 use Rattle.rt_app.specs.Layout.{Cell, memory, row_of}
 use Rattle.rt_app.specs.Statements.{is_init}
-use Rattle.rt_app.proofs.LaidFirst.{first_cells, first_queues, first_contents, spelled_first}
+use Rattle.rt_app.proofs.LaidFirst.{first_cells, first_queues, first_contents, represented_first}
 use Rattle.rt_build.specs.Image.{IsImageOf}
 use Rattle.rt_code.specs.Image.{Image}
 use Rattle.rt_code.specs.Standing.{Stands}
 use Rattle.rt_core.specs.Core.{reset}
 use Rattle.rt_laws.specs.State.{Init, first, first_values, reached_values}
-use Rattle.rt_sim.specs.Inside.Moment.{Part, Moment, spot_of}
-use Rattle.rt_sim.specs.Inside.Sparing.{SparesAlways}
-use Rattle.rt_sim.specs.Inside.Fits.{Fits}
+use Rattle.rt_sim.specs.Inside.Coupling.{Part, Coupling, configuration_of}
+use Rattle.rt_sim.specs.Inside.Ownership.{AlwaysRespects}
+use Rattle.rt_sim.specs.Inside.CouplingInvariant.{CouplingInvariant}
 use Rattle.rt_sim.specs.Inside.Agrees.{Agrees}
 use Rattle.rt_sim.proofs.Acts.{owns_alike, agrees_reached}
 use Rattle.rt_sim.proofs.BodyRows.{no_rows, calls_none}
@@ -36,7 +37,7 @@ use Rattle.rt_sim.proofs.FirstPlaces.{first_once}
 use Rattle.rt_sim.proofs.Keepers.{local_held}
 
 module _ (app : App) (img : Image) (accepted : IsAccepted app) (sound : IsSound app)
-    (is_image : IsImageOf app img) (sparing : SparesAlways app Starting false [] (init_doing app)) where
+    (is_image : IsImageOf app img) (respects : AlwaysRespects app Starting false [] (init_doing app)) where
   abbrev cells_first : List ℕ
   cells_first = map (λ cell. cell.first) img.cells
 
@@ -57,8 +58,8 @@ module _ (app : App) (img : Image) (accepted : IsAccepted app) (sound : IsSound 
     own = img.thread_words;
   }
 
-  abbrev first_moment : Moment
-  first_moment = record {
+  abbrev first_coupling : Coupling
+  first_coupling = record {
     running = first_part;
     below = [];
     time = 0;
@@ -78,26 +79,26 @@ module _ (app : App) (img : Image) (accepted : IsAccepted app) (sound : IsSound 
       firsts [] = refl
       firsts (c ∷ cells) = ap (λ ns. c.first ∷ ns) (firsts cells)
 
-  first_contents_are : (h : Holder) → first_contents app h ≡ first_values app h
+  first_contents_are : (h : Location) → first_contents app h ≡ first_values app h
   first_contents_are (Guarded (section.Res r)) = refl
   first_contents_are (Guarded (section.Free n)) = refl
   first_contents_are (Guarded (section.Ready p)) = refl
   first_contents_are (Guarded section.Timer) = refl
   first_contents_are (Own n) = refl
 
-  -- after reset each holder's cells spell what it first holds
-  all_first : (h : Holder) → IsHeld app h
-      → (storage app).Spells h (slice_index cells_first) (first_queues app h) (first_values app h)
+  -- after reset each location's cells represent what it first holds
+  all_first : (h : Location) → IsHeld app h
+      → (storage app).Represents h (slice_index cells_first) (first_queues app h) (first_values app h)
   unfolding storage
   all_first h has = (
     has,
-    subst (λ cells. Spells app (slice_index cells) h (first_queues app h) (first_values app h)) (sym cells_are)
-        (subst (λ content. Spells app (first_cells app) h (first_queues app h) content) (first_contents_are h)
-        (spelled_first app h has)),
+    subst (λ cells. Represents app (slice_index cells) h (first_queues app h) (first_values app h)) (sym cells_are)
+        (subst (λ content. Represents app (first_cells app) h (first_queues app h) content) (first_contents_are h)
+        (represented_first app h has)),
   )
 
   -- what `init` keeps is there
-  kept_by_init : (h : Holder) → (is_kept app Starting h || is_constant app Starting h) ≡ true → IsHeld app h
+  kept_by_init : (h : Location) → (is_kept app Starting h || is_constant app Starting h) ≡ true → IsHeld app h
   kept_by_init (Guarded (section.Res r)) is = ltb-true r (length app.shared) (plain (nat_lt r (length app.shared)) is)
     where
       plain : (b : Bool) → (b || false) ≡ true → b ≡ true
@@ -116,7 +117,7 @@ module _ (app : App) (img : Image) (accepted : IsAccepted app) (sound : IsSound 
 
   stands : Stands (storage app) img.code (no_rows app img) is_image.at.idle Starting
       (cost_of (cost_measure app) app.init)
-      (record (spot_of cells_first (first_queues app) first_part) { rest = init_doing app (first_values app) })
+      (record (configuration_of cells_first (first_queues app) first_part) { rest = init_doing app (first_values app) })
   unfolding storage
   stands = is_image.code.init (no_rows app img) (replicate img.thread_words 0) cells_first (first_queues app)
       (first_values app)
@@ -124,8 +125,8 @@ module _ (app : App) (img : Image) (accepted : IsAccepted app) (sound : IsSound 
       (ap length cells_are ∙ length-map (memory app) (λ cell. cell.first))
       (λ h reads. all_first h (kept_by_init h reads))
 
-  pub fits_first : Fits app img is_image.at.idle first_moment
-  fits_first = record {
+  pub invariant_first : CouplingInvariant app img is_image.at.idle first_coupling
+  invariant_first = record {
     stack = record {
       frame = length-replicate img.thread_words 0 ∙ is_image.tables.thread;
       own_frame = refl;
@@ -139,7 +140,7 @@ module _ (app : App) (img : Image) (accepted : IsAccepted app) (sound : IsSound 
         agrees = agrees_reached app img is_image.at.idle Starting [] (init_doing app (first_values app))
             (first_values app);
         counted = refl;
-        sparing = (sparing (first_values app)).1;
+        respects = (respects (first_values app)).1;
         opened = tt;
         kinds = tt;
         once = tt;
@@ -148,9 +149,9 @@ module _ (app : App) (img : Image) (accepted : IsAccepted app) (sound : IsSound 
       },
       tt,
     );
-    spelled = λ h held away.
-        subst (λ content. (storage app).Spells h (slice_index cells_first) (first_queues app h) content)
-        (sym ((sparing (first_values app)).0 h (owns_alike app Starting false [] h ∙ away.0))) (all_first h held);
+    represented = λ h held away.
+        subst (λ content. (storage app).Represents h (slice_index cells_first) (first_queues app h) content)
+        (sym ((respects (first_values app)).0 h (owns_alike app Starting false [] h ∙ away.0))) (all_first h held);
     basepri = refl;
     primask = refl;
     memory = ap length cells_are ∙ length-map (memory app) (λ cell. cell.first);
@@ -160,4 +161,4 @@ module _ (app : App) (img : Image) (accepted : IsAccepted app) (sound : IsSound 
   }
 
   pub agrees_first : Agrees app img is_image.at.idle (reset img) (first app)
-  agrees_first = record { moment = first_moment; core = refl; state = refl; fits = fits_first }
+  agrees_first = record { coupling = first_coupling; core = refl; state = refl; invariant = invariant_first }

@@ -1,5 +1,5 @@
--- A core step is a step of Baker's machine, from every moment that fits: an interrupt is taken, the thread waits, or
--- the running job goes on.
+-- A core step is a step of Baker's machine, from every coupling of which the invariant holds: an interrupt is taken,
+-- the thread waits, or the running job goes on.
 use Rattle.std.proofs.Common.{◌≡◌, ℕ, ◌-◌, ◌+◌, ◌*◌, ◌^◌, ◌<◌, ◌≤◌, true, false, if◌then◌else◌, List, [], ◌∷◌}
 use Rattle.std.proofs.Common.{length, map, replicate, slice_get, Option, Some, None, option_map}
 use Rattle.std.proofs.Common.{Contains}
@@ -38,16 +38,16 @@ use Rattle.rt_laws.specs.Allowed.{HasStep}
 use Rattle.rt_laws.proofs.Armings.{armings}
 use Rattle.rt_laws.proofs.Fine.{Queued}
 use Rattle.rt_laws.proofs.Pending.{starts_above}
-use Rattle.rt_sim.specs.Inside.Moment.{Part, Moment, jobs_of}
+use Rattle.rt_sim.specs.Inside.Coupling.{Part, Coupling, jobs_of}
 use Rattle.rt_sim.specs.Inside.States.{core_of, state_of}
-use Rattle.rt_sim.specs.Inside.Sparing.{SparesAlways}
-use Rattle.rt_sim.specs.Inside.PartFits.{StandsBy, WaitsAt}
-use Rattle.rt_sim.specs.Inside.Fits.{IsStacked, Fits}
+use Rattle.rt_sim.specs.Inside.Ownership.{AlwaysRespects}
+use Rattle.rt_sim.specs.Inside.PartInvariant.{StandsBy, WaitsAt}
+use Rattle.rt_sim.specs.Inside.CouplingInvariant.{IsStacked, CouplingInvariant}
 use Rattle.rt_sim.specs.Inside.Agrees.{StepsBoth}
 use Rattle.rt_sim.proofs.Plain.{IsWorking, length-passed}
 use Rattle.rt_sim.proofs.ExecutionPriority.{execution_is}
 use Rattle.rt_sim.proofs.Choosing.{picks, IfServed, priority_top}
-use Rattle.rt_sim.proofs.Takes.{IsHandler, fits_taken, takes}
+use Rattle.rt_sim.proofs.Takes.{IsHandler, invariant_taken, takes}
 use Rattle.rt_sim.proofs.Handling.{IsHandled, all_handled}
 use Rattle.rt_sim.proofs.Depth.{depth_within, used_is, room_of}
 use Rattle.rt_sim.proofs.Keepers.{keepers_apart, kept_is_held}
@@ -55,7 +55,7 @@ use Rattle.rt_sim.proofs.Working.{working}
 
 module _ (app : App) (img : Image) (thread : ℕ) where
   -- the thread that waits
-  abbrev waited : Moment → Moment
+  abbrev waited : Coupling → Coupling
   waited m = record m {
     running = record m.running {
       left = m.running.left - 1;
@@ -88,10 +88,11 @@ module _ (app : App) (img : Image) (thread : ℕ) where
     stack.1,
   )
 
-  fits_waited : (m : Moment) → Fits app img thread m → m.running.role ≡ Waiting → WaitsAt app img thread m.running
-      → Fits app img thread (waited m)
-  fits_waited m fits role waits = record {
-    stack = stack_waited m.running m.below fits.stack;
+  invariant_waited : (m : Coupling) → CouplingInvariant app img thread m → m.running.role ≡ Waiting
+      → WaitsAt app img thread m.running
+      → CouplingInvariant app img thread (waited m)
+  invariant_waited m invariant role waits = record {
+    stack = stack_waited m.running m.below invariant.stack;
     parts = (
       record {
         stands = subst (λ r. StandsBy app img thread r m.cells m.queues (waited m).running) (sym role)
@@ -102,32 +103,33 @@ module _ (app : App) (img : Image) (thread : ℕ) where
               none =
                   ap (λ ls. map (λ n. n - 1) ls) waits.none;
             });
-        agrees = fits.parts.0.agrees;
-        counted = length-passed m.running.lefts ∙ fits.parts.0.counted;
-        sparing = fits.parts.0.sparing;
-        opened = fits.parts.0.opened;
-        kinds = fits.parts.0.kinds;
-        once = fits.parts.0.once;
-        calls = fits.parts.0.calls;
-        own = fits.parts.0.own;
+        agrees = invariant.parts.0.agrees;
+        counted = length-passed m.running.lefts ∙ invariant.parts.0.counted;
+        respects = invariant.parts.0.respects;
+        opened = invariant.parts.0.opened;
+        kinds = invariant.parts.0.kinds;
+        once = invariant.parts.0.once;
+        calls = invariant.parts.0.calls;
+        own = invariant.parts.0.own;
       },
-      fits.parts.1,
+      invariant.parts.1,
     );
-    spelled = fits.spelled;
-    basepri = fits.basepri;
-    primask = fits.primask;
-    memory = fits.memory;
-    once = fits.once;
-    numbers = fits.numbers;
-    alarmed = fits.alarmed;
+    represented = invariant.represented;
+    basepri = invariant.basepri;
+    primask = invariant.primask;
+    memory = invariant.memory;
+    once = invariant.once;
+    numbers = invariant.numbers;
+    alarmed = invariant.alarmed;
   }
 
-  waiting : (m : Moment) → Fits app img thread m → m.running.role ≡ Waiting → pick img (core_of app.bits m) ≡ None
+  waiting : (m : Coupling) → CouplingInvariant app img thread m → m.running.role ≡ Waiting
+      → pick img (core_of app.bits m) ≡ None
       → candidate app (state_of m) ≡ None
       → StepsBoth app img thread (core_of app.bits m) (state_of m)
-  waiting m fits role picked none =
+  waiting m invariant role picked none =
       let waits : WaitsAt app img thread m.running =
-      subst (λ r. StandsBy app img thread r m.cells m.queues m.running) role fits.parts.0.stands in
+      subst (λ r. StandsBy app img thread r m.cells m.queues m.running) role invariant.parts.0.stands in
       record {
         core = core_of app.bits m;
         shown = None;
@@ -140,18 +142,24 @@ module _ (app : App) (img : Image) (thread : ℕ) where
             subst (λ ls. AllByRecursion (λ n. 0 < n) ls) (sym waits.none) tt,
           );
         };
-        agrees = record { moment = waited m; core = refl; state = refl; fits = fits_waited m fits role waits };
+        agrees = record {
+          coupling = waited m;
+          core = refl;
+          state = refl;
+          invariant =
+              invariant_waited m invariant role waits;
+        };
       }
 
 module _ (app : App) (img : Image) (accepted : IsAccepted app) (sound : IsSound app)
     (is_image : IsImageOf app img) (named : (r : ℕ) → r < length app.shared → resource_cell img r ≡ Some r)
-    (sparing_idle : SparesAlways app (AtPriority 0) false [] (idle_doing app))
-    (sparing_task : (k : ℕ) (t : Task) → slice_get app.tasks k ≡ Some t → is_software t ≡ false
-    → SparesAlways app (AtPriority t.priority) true [] (task_doing app k [] (act Returns nothing)))
-    (sparing_level : (p : ℕ) → Contains (levels app) p
-    → SparesAlways app (AtPriority p) true [] (dispatcher_doing app p))
-    (sparing_timer : (mono : Mono) → app.mono ≡ Some mono
-    → SparesAlways app (AtPriority mono.priority) true [] (timer_doing app)) where
+    (respects_idle : AlwaysRespects app (AtPriority 0) false [] (idle_doing app))
+    (respects_task : (k : ℕ) (t : Task) → slice_get app.tasks k ≡ Some t → is_software t ≡ false
+    → AlwaysRespects app (AtPriority t.priority) true [] (task_doing app k [] (act Returns nothing)))
+    (respects_level : (p : ℕ) → Contains (levels app) p
+    → AlwaysRespects app (AtPriority p) true [] (dispatcher_doing app p))
+    (respects_timer : (mono : Mono) → app.mono ≡ Some mono
+    → AlwaysRespects app (AtPriority mono.priority) true [] (timer_doing app)) where
   abbrev at : Entries
   at = is_image.at
 
@@ -162,32 +170,32 @@ module _ (app : App) (img : Image) (accepted : IsAccepted app) (sound : IsSound 
   many = accepted.limits.most_bits
 
   -- a row that is picked is taken
-  taking : (m : Moment) → Fits app img at.idle m → (r : IrqRow) → pick img (core_of app.bits m) ≡ Some r
+  taking : (m : Coupling) → CouplingInvariant app img at.idle m → (r : IrqRow) → pick img (core_of app.bits m) ≡ Some r
       → candidate app (state_of m) ≡ Some r.number
       → (o : Option Service) → service_at app r.number ≡ o → r.handler ≡ option_map (handler_row app at) o
       → StepsBoth app img at.idle (core_of app.bits m) (state_of m)
-  taking m fits r picked next None serves served =
+  taking m invariant r picked next None serves served =
       absurd (let above = starts_above app (state_of m) r.number next in
       let none : priority_of app r.number ≡ 0 =
       ap (λ (o : Option Service). or_zero (option_map (λ s. s.priority) o)) serves in omega (arith, above, none))
-  taking m fits r picked next (Some v) serves served =
+  taking m invariant r picked next (Some v) serves served =
       let level_is : priority_of app r.number ≡ v.priority =
       ap (λ (o : Option Service). or_zero (option_map (λ s. s.priority) o)) serves in
       let most : v.priority ≤ 2 ^ app.bits = subst (λ p. p ≤ 2 ^ app.bits) level_is
       (priority_top app at few many sound r.number) in
       let has : IsHandler app img at.idle at v =
-      find_has (IsHandled app img sound is_image sparing_task sparing_level sparing_timer) _ (services app) v
-      (all_handled app img sound is_image sparing_task sparing_level sparing_timer) serves most in
+      find_has (IsHandled app img sound is_image respects_task respects_level respects_timer) _ (services app) v
+      (all_handled app img sound is_image respects_task respects_level respects_timer) serves most in
       let above : system_ceiling app (jobs_of m.running m.below) < v.priority =
       subst (λ p. system_ceiling app (jobs_of m.running m.below) < p) level_is
       (starts_above app (state_of m) r.number next) in
       let h : row.Handler = handler_row app at v in
       let c : Core = core_of app.bits m in
-      let fit = fits_taken app img at.idle at few many (keepers_apart app accepted sound)
-      (kept_is_held app accepted sound) r.number v serves has m fits above in
-      let deep = depth_within app img at.idle is_image.tables.fpu many _ fit in
-      let words = used_is app img at.idle _ fit in
-      let before = used_is app img at.idle m fits in
+      let coupled = invariant_taken app img at.idle at few many (keepers_apart app accepted sound)
+      (kept_is_held app accepted sound) r.number v serves has m invariant above in
+      let deep = depth_within app img at.idle is_image.tables.fpu many _ coupled in
+      let words = used_is app img at.idle _ coupled in
+      let before = used_is app img at.idle m invariant in
       let zeros : List ℕ = replicate (handler_words app v.handler) 0 in
       let long : length zeros ≡ handler_words app v.handler = length-replicate (handler_words app v.handler) 0 in
       let fitting : 4 * (stack_in_use img c + (entry_words img + h.frame)) ≤ img.stack_bytes =
@@ -195,30 +203,31 @@ module _ (app : App) (img : Image) (accepted : IsAccepted app) (sound : IsSound 
       let room : has_room img c (entry_words img + h.frame) ≡ true =
       room_of (stack_in_use img c) (entry_words img + h.frame) img.stack_bytes fitting in
       takes app img at.idle at few many (keepers_apart app accepted sound)
-      (kept_is_held app accepted sound) r.number v serves has m fits above next
+      (kept_is_held app accepted sound) r.number v serves has m invariant above next
       (steps_by_cause.entry img c r refl picked
       ∙ ap (λ o. settle (exception_entry img c r.number o)) served
       ∙ ap (λ b. settle (if b then Done (core_after_entry c r.number h)
       (Some (what.Take r.number (depth img (core_after_entry c r.number h)))) else Trapped c trap.Stack)) room)
 
   -- every core step
-  pub step_both : (m : Moment) → Fits app img at.idle m → Queued app m.values → m.time + armings m.values < 2 ^ 31
+  pub step_both : (m : Coupling) → CouplingInvariant app img at.idle m → Queued app m.values → m.time + armings m.values
+      < 2 ^ 31
       → StepsBoth app img at.idle (core_of app.bits m) (state_of m)
-  step_both m fits queued early =
+  step_both m invariant queued early =
       let both = picks app at few many sound (core_of app.bits m) (state_of m) refl
-      (execution_is app img at.idle few many m fits) img is_image.tables.irqs in
+      (execution_is app img at.idle few many m invariant) img is_image.tables.irqs in
       by (pick img (core_of app.bits m)) refl both.0 both.1
     where
       on_with : IsWorking m.running.role → pick img (core_of app.bits m) ≡ None → candidate app (state_of m) ≡ None
           → StepsBoth app img at.idle (core_of app.bits m) (state_of m)
       on_with works picked none =
           working app img at.idle many is_image.tables.fpu is_image.tables.stack named is_image.code.idle
-          (kept_is_held app accepted sound) sparing_idle m fits works queued (omega (arith, early)) picked none
+          (kept_is_held app accepted sound) respects_idle m invariant works queued (omega (arith, early)) picked none
           (omega (arith, early))
 
       goes_on : (role : Role) → m.running.role ≡ role → pick img (core_of app.bits m) ≡ None
           → candidate app (state_of m) ≡ None → StepsBoth app img at.idle (core_of app.bits m) (state_of m)
-      goes_on Waiting is picked none = waiting app img at.idle m fits is picked none
+      goes_on Waiting is picked none = waiting app img at.idle m invariant is picked none
       goes_on Init is picked none = on_with (subst IsWorking (sym is) tt) picked none
       goes_on Idle is picked none = on_with (subst IsWorking (sym is) tt) picked none
       goes_on (Serving irq) is picked none = on_with (subst IsWorking (sym is) tt) picked none
@@ -226,7 +235,7 @@ module _ (app : App) (img : Image) (accepted : IsAccepted app) (sound : IsSound 
       by : (o : Option IrqRow) → pick img (core_of app.bits m) ≡ o
           → option_map (λ r. r.number) o ≡ candidate app (state_of m)
           → IfServed app at few many sound (core_of app.bits m) (state_of m) refl
-          (execution_is app img at.idle few many m fits) o
+          (execution_is app img at.idle few many m invariant) o
           → StepsBoth app img at.idle (core_of app.bits m) (state_of m)
       by None picked same served = goes_on m.running.role refl picked (sym same)
-      by (Some r) picked same served = taking m fits r picked (sym same) (service_at app r.number) refl served
+      by (Some r) picked same served = taking m invariant r picked (sym same) (service_at app r.number) refl served

@@ -5,7 +5,7 @@ use Rattle.std.proofs.Common.{if◌then◌else◌, List, [], ◌∷◌, ◌++◌
 use Rattle.std.proofs.Common.{length, map, take, append_assoc, Option, Some, None, refl, sym, ap, subst, ◌∙◌, arith}
 use Rattle.std.specs.List.{AllByRecursion}
 use Rattle.rt_lemmas.proofs.Lists.{all_behind}
-use Rattle.rt_ids.specs.Holder.{Holder}
+use Rattle.rt_ids.specs.Location.{Location}
 use Rattle.rt_ids.specs.Entry.{Entry}
 use Rattle.rt_ids.specs.Event.{Event, Arrive, Tick, Step}
 use Rattle.rt_ids.specs.Content.{Values}
@@ -25,8 +25,8 @@ use Rattle.rt_laws.specs.Allowed.{HasStep, after}
 use Rattle.rt_laws.specs.ByItems.{after_all}
 use Rattle.rt_laws.proofs.ByItems.{after_append}
 use Rattle.rt_sim.specs.Good.{AreDeclared}
-use Rattle.rt_sim.specs.Inside.Moment.{Part, job_of, spot_of}
-use Rattle.rt_sim.specs.Inside.PartFits.{who, StandsBy, PartFits}
+use Rattle.rt_sim.specs.Inside.Coupling.{Part, job_of, configuration_of}
+use Rattle.rt_sim.specs.Inside.PartInvariant.{who, StandsBy, PartInvariant}
 use Rattle.rt_sim.specs.Inside.Agrees.{Agrees}
 use Rattle.rt_laws.specs.Unspent.{AreUnspent, NoneIsSpent}
 use Rattle.rt_sim.specs.Unspent.{ImagesLeaveSteps}
@@ -101,30 +101,30 @@ module _ (img : Image) where
       (rings (record c { time = suc c.time }) c.alarm) (λ m. cut events (tick c).0 m))
 
 module _ (app : App) (img : Image) (thread : ℕ) where
-  left_some : (p : Part) (cells : List ℕ) (queues : Holder → List Entry) (steps : ℕ)
-      → Stands (storage app) img.code p.rows thread (who p) steps (spot_of cells queues p) → 0 < p.left
+  left_some : (p : Part) (cells : List ℕ) (queues : Location → List Entry) (steps : ℕ)
+      → Stands (storage app) img.code p.rows thread (who p) steps (configuration_of cells queues p) → 0 < p.left
   unfolding Stands
   left_some p cells queues zero stands = absurd stands
   left_some p cells queues (suc n) stands = (all_behind (λ n. 0 < n) p.lefts (p.left ∷ []) stands.0).0
 
-  has_step : (role : Role) (p : Part) (cells : List ℕ) (queues : Holder → List Entry)
+  has_step : (role : Role) (p : Part) (cells : List ℕ) (queues : Location → List Entry)
       → StandsBy app img thread role cells queues p → HasStep role p.left
   has_step Init p cells queues stands = left_some p cells queues p.steps stands
   has_step Idle p cells queues stands = left_some p cells queues p.steps stands
   has_step Waiting p cells queues stands = tt
   has_step (Serving irq) p cells queues stands = left_some p cells queues p.steps stands
 
-  parts_unspent : (cells : List ℕ) (queues : Holder → List Entry) (values : Values) (ps : List Part)
-      → AllByRecursion (PartFits app img thread cells queues values) ps → AreUnspent (map job_of ps)
-  parts_unspent cells queues values [] fits = tt
-  parts_unspent cells queues values (p ∷ ps) fits =
-      (has_step p.role p cells queues fits.0.stands, parts_unspent cells queues values ps fits.1)
+  parts_unspent : (cells : List ℕ) (queues : Location → List Entry) (values : Values) (ps : List Part)
+      → AllByRecursion (PartInvariant app img thread cells queues values) ps → AreUnspent (map job_of ps)
+  parts_unspent cells queues values [] invariant = tt
+  parts_unspent cells queues values (p ∷ ps) invariant =
+      (has_step p.role p cells queues invariant.0.stands, parts_unspent cells queues values ps invariant.1)
 
   pub agreed_unspent : (c : Core) (s : State) → Agrees app img thread c s → AreUnspent s.jobs
   agreed_unspent c s agrees =
       subst (λ (t : State). AreUnspent t.jobs) (sym agrees.state)
-      (parts_unspent agrees.moment.cells agrees.moment.queues agrees.moment.values
-      (agrees.moment.running ∷ agrees.moment.below) agrees.fits.parts)
+      (parts_unspent agrees.coupling.cells agrees.coupling.queues agrees.coupling.values
+      (agrees.coupling.running ∷ agrees.coupling.below) agrees.invariant.parts)
 
 module _ (app : App) (img : Image) (accepted : IsAccepted app) (is_image : IsImageOf app img) where
   pub leaves_steps : (events : List Event) → length events < 2 ^ 31 → AreDeclared app events

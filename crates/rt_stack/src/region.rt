@@ -43,7 +43,7 @@ impl Region {
     }
 
     /// How many words are in use.
-    pub fn used(&self) -> u32
+    pub fn used_words(&self) -> u32
         ensures words { result ≡ region.used_words self.now }
         ensures within { result ≤ self.now.size }
         ensures few { self.now.size < 2 ^ 30 }
@@ -55,7 +55,7 @@ impl Region {
     pub fn fits(&self, words: u32) -> bool
         ensures { IsTrue result ↔ Fits self.now words }
     {
-        words <= self.size - self.used()
+        words <= self.size - self.used_words()
     }
 
     /// Takes so many words more into use, each 0.

@@ -11,11 +11,11 @@ use Rattle.rt_baker_work.specs.declared.todo.Todo.{Todo}
 use Rattle.rt_baker_work.specs.declared.todo.Todo.TheVariants as todo
 use Rattle.rt_baker_work.specs.Actions.{action_of}
 use Rattle.rt_baker_work.specs.Work.{next_todo}
-use Rattle.rt_baker_moves.specs.Job.{Kept}
-use Rattle.rt_baker_moves.specs.State.{Held, with_jobs}
+use Rattle.rt_baker_moves.specs.Job.{AuditorJob}
+use Rattle.rt_baker_moves.specs.State.{AuditorState, with_jobs}
 
 -- the item of an action of a job's work
-unfoldable pub action_item : Held → Action → Option What
+unfoldable pub action_item : AuditorState → Action → Option What
 action_item s a = item_of (with_jobs s []) laws.Waiting (action_of a)
 
 -- the item of a job's end
@@ -26,21 +26,21 @@ end_item laws.Waiting = None
 end_item (laws.Serving irq) = Some (what.Ret irq)
 
 -- the item of the next thing to do, and of the end where there is none
-abbrev pub todo_item : Held → laws.Role → Option Todo → Option What
+abbrev pub todo_item : AuditorState → laws.Role → Option Todo → Option What
 todo_item s r None = end_item r
 todo_item s r (Some (todo.Act a)) = action_item s a
 todo_item s r (Some (todo.Clock reading)) = Some (what.Clock s.time)
 todo_item s r (Some t) = None
 
 -- the item of the next action of a job
-abbrev pub job_item : Held → Kept → Option What
+abbrev pub job_item : AuditorState → AuditorJob → Option What
 job_item s j = todo_item s j.role (next_todo j.work.todos)
 
 -- the item of the running job, which is the first
-abbrev pub jobs_item : Held → List Kept → Option What
+abbrev pub jobs_item : AuditorState → List AuditorJob → Option What
 jobs_item s [] = None
 jobs_item s (j ∷ js) = job_item s j
 
 -- the item of the running job of a state
-abbrev pub held_item : Held → Option What
+abbrev pub held_item : AuditorState → Option What
 held_item s = jobs_item s s.jobs

@@ -1,4 +1,4 @@
--- The frames that the words of a region spell, by the sizes that the code keeps beside them.
+-- The frames that the words of a region represent, by the sizes that the code keeps beside them.
 use Rattle.std.specs.Prelude.{◌≡◌, ℕ, ◌-◌, ◌<◌, ◌≤◌, List, [], ◌∷◌, length, map, reverse, take, drop, slice_index}
 use Rattle.std.specs.Prelude.{Option, option_map, unwrap_or, IfSome}
 use Rattle.std.specs.List.{AllByRecursion}
@@ -46,7 +46,7 @@ contexts_in_words entry ws (caller ∷ callers) =
     let under = without entry ws in
     saved_context pushed under caller ∷ contexts_in_words entry (below_saved pushed under caller) callers
 
--- the frames that the code's words and sizes spell
+-- the frames that the code's words and sizes represent
 unfoldable pub frames : Inside → Frames
 frames c =
     let under = without c.frame c.region.words in
@@ -67,8 +67,8 @@ abbrev pub HasReturn : Option (List ℕ) → Type 0
 HasReturn caller = IfSome caller (λ slots. 0 < length slots)
 
 -- the words are those of the frames, and the sizes are theirs
-pub record Spells (f : Frames) (c : Inside) : Type 0 where
-  pub spelled : c.region.words ≡ words f
+pub record Represents (f : Frames) (c : Inside) : Type 0 where
+  pub represented : c.region.words ≡ words f
   pub size : c.region.size ≡ f.size
   pub entry : c.entry ≡ f.entry
   pub frame : c.frame ≡ length f.slots
@@ -79,6 +79,6 @@ pub record Spells (f : Frames) (c : Inside) : Type 0 where
   pub returns : HasReturn f.caller
   pub below_return : AllByRecursion (λ s. HasReturn s.caller) f.below
 
--- the words are those of the frames that they spell
-abbrev pub IsSpelled : Inside → Type 0
-IsSpelled c = Spells (frames c) c
+-- the words are those of the frames that they represent
+abbrev pub IsRepresented : Inside → Type 0
+IsRepresented c = Represents (frames c) c

@@ -50,7 +50,7 @@ pub record Ends (ts : List Turn) (a b : Machine) (old new : Side) : Type 0 where
   pub line : IsSameLine old.line new.line
 
 -- the core did the first of the events of these turns, for words that looks may find
-pub record Begins (ts : List Turn) (a b : Machine) : Type 0 where
+pub record IsViablePrefix (ts : List Turn) (a b : Machine) : Type 0 where
   pub found : List (List ℕ)
   pub few : length found ≤ looks ts
   pub done : HasDone (interleaving ts found) a b

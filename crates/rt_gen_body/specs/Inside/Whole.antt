@@ -30,14 +30,14 @@ context_of app m = record {
 }
 
 -- the preemption threshold of a body: `init` holds off all
-abbrev pub level_of : App → Member → ℕ
-level_of app m = if is_init m.id then 2 ^ app.bits else m.priority
+abbrev pub threshold_of : App → Member → ℕ
+threshold_of app m = if is_init m.id then 2 ^ app.bits else m.priority
 
 -- a body that is not declared has no blocks, and its end alone
 abbrev pub blocks_of : App → Option Member → ℕ → List Line
 blocks_of app None entry = []
 blocks_of app (Some m) entry =
-    block_code (context_of app m) (level_of app m) (first_lock_slot m.args m.body) entry m.body.block
+    block_code (context_of app m) (threshold_of app m) (first_lock_slot m.args m.body) entry m.body.block
 
 -- the code of a body: its blocks, and then the line that ends it
 abbrev pub code_of : App → BodyId → Option Member → ℕ → List Line

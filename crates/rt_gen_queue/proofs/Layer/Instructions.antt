@@ -1,5 +1,5 @@
 -- What each instruction gives where a job is, once for all generated code. Slots are numbered from the frame's first.
-use Rattle.rt_gen_queue.proofs.Vocabulary.{AllByRecursion, Bool, Held, Instr, KeepsSaved, Leads, List, MayAccess}
+use Rattle.rt_gen_queue.proofs.Vocabulary.{AllByRecursion, Bool, OpenSection, Instr, KeepsSaved, Leads, List, MayAccess}
 use Rattle.rt_gen_queue.proofs.Vocabulary.{MayLoad, MayStore, Option, Some, all_weaker, ap, false, get_or-set_other}
 use Rattle.rt_gen_queue.proofs.Vocabulary.{get_or-set_same, if◌then◌else◌, length, length-set, lt-ltb, nat_lt, operate}
 use Rattle.rt_gen_queue.proofs.Vocabulary.{option_map, processor_of, refl, saved_slots, slice_get, slice_get-get_or}
@@ -14,7 +14,7 @@ use Rattle.rt_code.{specs.Operands.are_there, specs.Operands.slots_of, specs.Pro
 use Rattle.rt_code.specs.Access.{Access, Loads, Stores, access_of, cell_of, cells_of}
 use Rattle.rt_code.specs.declared.instr.Instr.TheVariants as instr
 use Rattle.rt_code.specs.declared.processor.Request.TheVariants as request
-use Rattle.rt_gen_queue.proofs.Layer.{Correct.Gives, Jobs.Here, Jobs.Setting, Jobs.spot}
+use Rattle.rt_gen_queue.proofs.Layer.{Correct.Gives, Jobs.Here, Jobs.Setting, Jobs.configuration}
 
 -- indices that are there, one by one
 pub one_there : (a n : ℕ) → a < n → (nat_lt a n && true) ≡ true
@@ -40,16 +40,16 @@ wrote d v words there = record {
 }
 
 -- no open section keeps the mask that it found in this slot
-abbrev pub IsFree : List Held → ℕ → Type 0
+abbrev pub IsFree : List OpenSection → ℕ → Type 0
 IsFree held d = AllByRecursion (λ e. e ≢ d) (saved_slots held)
 
-pub kept_free : (held : List Held) (slots : List ℕ) (d v : ℕ) → IsFree held d
+pub kept_free : (held : List OpenSection) (slots : List ℕ) (d v : ℕ) → IsFree held d
     → KeepsSaved held slots (slice_set slots d v)
 kept_free held slots d v free =
     all_weaker (λ e. e ≢ d) (λ e. slice_index (slice_set slots d v) e ≡ slice_index slots e)
     (λ e other. get_or-set_other slots d e v 0 other) (saved_slots held) free
 
-pub kept_same : (held : List Held) (slots : List ℕ) → KeepsSaved held slots slots
+pub kept_same : (held : List OpenSection) (slots : List ℕ) → KeepsSaved held slots slots
 kept_same held slots =
     all_from_members (λ e. slice_index slots e ≡ slice_index slots e) (saved_slots held) (λ e has. refl)
 
@@ -58,13 +58,13 @@ shows slots s v there is = slice_get-get_or slots s 0 there ∙ ap Some is
 
 -- a cell that the job may read, and what it has
 pub record Reads (z : Setting) (h : Here) (c value : ℕ) : Type 0 where
-  pub may : MayLoad (storage z.app) z.who (spot z h) ((storage z.app).home c)
+  pub may : MayLoad (storage z.app) z.who (configuration z h) ((storage z.app).home c)
   pub there : c < length h.cells
   pub is : slice_index h.cells c ≡ value
 
 -- a cell that the job may write
 pub record Writes (z : Setting) (h : Here) (c : ℕ) : Type 0 where
-  pub may : MayStore (storage z.app) z.who (spot z h) ((storage z.app).home c)
+  pub may : MayStore (storage z.app) z.who (configuration z h) ((storage z.app).home c)
   pub there : c < length h.cells
 
 -- the cell that an access touches whose number a slot has
@@ -76,34 +76,34 @@ touched h access s k got there =
     (sym got) (one_there (cell_of (access k)) (length h.cells) there)
 
 may_touch : (z : Setting) (h : Here) (access : ℕ → Access) (s k : ℕ) → slice_get h.slots s ≡ Some k
-    → MayAccess (storage z.app) z.who (spot z h) (Some (access k))
-    → MayAccess (storage z.app) z.who (spot z h) (option_map access (slice_get h.slots s))
+    → MayAccess (storage z.app) z.who (configuration z h) (Some (access k))
+    → MayAccess (storage z.app) z.who (configuration z h) (option_map access (slice_get h.slots s))
 may_touch z h access s k got may =
-    subst (λ (o : Option ℕ). MayAccess (storage z.app) z.who (spot z h) (option_map access o)) (sym got) may
+    subst (λ (o : Option ℕ). MayAccess (storage z.app) z.who (configuration z h) (option_map access o)) (sym got) may
 
 module _ {z : Setting} {h : Here} where
   -- an instruction by the table of effects, whose cells and slots are there
   by_table : {to : ℕ} {slots cells : List ℕ} (i : Instr)
-      → MayAccess (storage z.app) z.who (spot z h) (access_of i (processor_of (spot z h) 0 false))
+      → MayAccess (storage z.app) z.who (configuration z h) (access_of i (processor_of (configuration z h) 0 false))
       → KeepsSaved h.held h.slots slots
-      → ((b : ℕ) (m : Bool) → are_there (cells_of i (processor_of (spot z h) b m)) h.cells ≡ true)
+      → ((b : ℕ) (m : Bool) → are_there (cells_of i (processor_of (configuration z h) b m)) h.cells ≡ true)
       → are_there (slots_of i) h.slots ≡ true
-      → ((time b : ℕ) (m : Bool) → unchecked_effect i time (processor_of (spot z h) b m)
+      → ((time b : ℕ) (m : Bool) → unchecked_effect i time (processor_of (configuration z h) b m)
       ≡ Leads (record { address = to; basepri = b; primask = m; slots = slots; cells = cells }) request.Nothing)
       → Gives z h i slots to cells
   by_table i may kept cells slots leads = record {
     may = may;
     kept = kept;
-    leads = λ time b m. effect_is_done i time (processor_of (spot z h) b m) (cells b m) slots ∙ leads time b m;
+    leads = λ time b m. effect_is_done i time (processor_of (configuration z h) b m) (cells b m) slots ∙ leads time b m;
   }
 
   -- one that writes a slot, by the value that it gives
   by_slot : {v w : ℕ} (d : ℕ) (i : Instr) → w ≡ v → IsFree h.held d
-      → MayAccess (storage z.app) z.who (spot z h) (access_of i (processor_of (spot z h) 0 false))
-      → ((b : ℕ) (m : Bool) → are_there (cells_of i (processor_of (spot z h) b m)) h.cells ≡ true)
+      → MayAccess (storage z.app) z.who (configuration z h) (access_of i (processor_of (configuration z h) 0 false))
+      → ((b : ℕ) (m : Bool) → are_there (cells_of i (processor_of (configuration z h) b m)) h.cells ≡ true)
       → are_there (slots_of i) h.slots ≡ true
-      → ((time b : ℕ) (m : Bool) → unchecked_effect i time (processor_of (spot z h) b m)
-      ≡ Leads (next_with_slot (processor_of (spot z h) b m) d w) request.Nothing)
+      → ((time b : ℕ) (m : Bool) → unchecked_effect i time (processor_of (configuration z h) b m)
+      ≡ Leads (next_with_slot (processor_of (configuration z h) b m) d w) request.Nothing)
       → Gives z h i (slice_set h.slots d v) (suc h.at) h.cells
   by_slot {w = w} d i is free may cells slots leads =
       subst (λ w. Gives z h i (slice_set h.slots d w) (suc h.at) h.cells) is
@@ -174,9 +174,9 @@ module _ {z : Setting} {h : Here} where
   jump_by_gives {s = s} {to = to} test from is =
       by_table (instr.JumpZ s to) tt (kept_same h.held h.slots) (λ b m. refl) (one_there s (length h.slots) from)
       (λ time base m.
-      ap (λ b. Leads (if b then record (processor_of (spot z h) base m) { address = to } else next
-      (processor_of (spot z h) base m)) request.Nothing) is
-      ∙ chosen test (processor_of (spot z h) base m) to)
+      ap (λ b. Leads (if b then record (processor_of (configuration z h) base m) { address = to } else next
+      (processor_of (configuration z h) base m)) request.Nothing) is
+      ∙ chosen test (processor_of (configuration z h) base m) to)
     where
       chosen : (b : Bool) (p : Processor) (to : ℕ)
           → Leads (if b then record p { address = to } else next p) request.Nothing

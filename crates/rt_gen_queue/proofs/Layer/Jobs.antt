@@ -1,7 +1,9 @@
 -- Where a job is while it runs generated code: what its configuration has, with the steps that it has done and its
 -- deadlines in place of what is left of them.
-use Rattle.rt_gen_queue.proofs.Vocabulary.{AllByRecursion, App, BodyRow, Doing, Entry, Held, Holder, Line, List, Option}
-use Rattle.rt_gen_queue.proofs.Vocabulary.{Runner, Spot, Values, [], all_weaker, ap, arith, map, refl, suc, ℕ, ◌+◌, ◌-◌}
+use Rattle.rt_gen_queue.proofs.Vocabulary.{AllByRecursion, App, BodyRow, Doing, Entry, OpenSection, Location, Line}
+use Rattle.rt_gen_queue.proofs.Vocabulary.{List, Option}
+use Rattle.rt_gen_queue.proofs.Vocabulary.{Runner, Configuration, Values, [], all_weaker, ap, arith, map, refl, suc, ℕ}
+use Rattle.rt_gen_queue.proofs.Vocabulary.{◌+◌, ◌-◌}
 use Rattle.rt_gen_queue.proofs.Vocabulary.{◌<◌, ◌∙◌, ◌∷◌, ◌≡◌, ◌≤◌}
 use Rattle.rt_lemmas.proofs.Lists.{all_map}
 use Rattle.rt_code.specs.Standing.{HaveLeft}
@@ -50,7 +52,7 @@ pub record Setting : Type 0 where
 
 -- Where the job is. All is done within `until` steps of its own, of which it has done some.
 pub record Here : Type 0 where
-  pub held : List Held
+  pub held : List OpenSection
   pub done : ℕ
   pub until : ℕ
   pub deadlines : List ℕ
@@ -58,7 +60,7 @@ pub record Here : Type 0 where
   pub slots : List ℕ
   pub at : ℕ
   pub cells : List ℕ
-  pub queues : Holder → List Entry
+  pub queues : Location → List Entry
   pub rest : Doing Values
 
 -- so many lines on
@@ -70,8 +72,8 @@ abbrev pub InTime : ℕ → Here → Type 0
 InTime k h = Lasts k (h.until ∷ h.deadlines)
 
 -- the same as a configuration
-abbrev pub spot : Setting → Here → Spot
-spot z h = record {
+abbrev pub configuration : Setting → Here → Configuration
+configuration z h = record {
   held = h.held;
   lefts = left_at h.done h.deadlines;
   places = h.places;

@@ -1,15 +1,16 @@
 -- Lines of a run that are not silent: those that ask the core for something, and those whose note says what is done.
-use Rattle.rt_gen_queue.proofs.Vocabulary.{Action, Agree, Clocks, Doing, Emits, Entry, Guarded, HasCode, Holder, Instr}
+use Rattle.rt_gen_queue.proofs.Vocabulary.{Action, Agree, Clocks, Doing, Emits, Entry, Guarded, HasCode, Location}
+use Rattle.rt_gen_queue.proofs.Vocabulary.{Instr}
 use Rattle.rt_gen_queue.proofs.Vocabulary.{Line, LineFits, List, None, Posts, SetsAlarm, Some, Values, and_right, ap}
 use Rattle.rt_gen_queue.proofs.Vocabulary.{arith, delays, does, effect, is_open, least_instant, length, length-set, map}
-use Rattle.rt_gen_queue.proofs.Vocabulary.{spot_after_step, plain, refl, slice_index, slice_set, storage, subst, suc}
+use Rattle.rt_gen_queue.proofs.Vocabulary.{spend_step, plain, refl, slice_index, slice_set, storage, subst, suc}
 use Rattle.rt_gen_queue.proofs.Vocabulary.{sym, true}
 use Rattle.rt_gen_queue.proofs.Vocabulary.{ℕ, ◌+◌, ◌<◌, ◌^◌, ◌∙◌, ◌∷◌, ◌≡◌}
 use Rattle.rt_ids.specs.declared.ids.Section.TheVariants as section
 use Rattle.rt_code.specs.Acting.{Acts}
 use Rattle.rt_code.specs.declared.instr.Instr.TheVariants as instr
 use Rattle.rt_gen_queue.proofs.Layer.Correct.{Gives, Later, S, at_passed, by_line}
-use Rattle.rt_gen_queue.proofs.Layer.Jobs.{Here, Setting, lasts_less, spot}
+use Rattle.rt_gen_queue.proofs.Layer.Jobs.{Here, Setting, lasts_less, configuration}
 use Rattle.rt_gen_queue.proofs.Layer.Requests.{alarms_here, clocks_here, emits_here, no_alarm_here, posts_here}
 use Rattle.rt_gen_queue.proofs.Layer.Runs.{MayRun, Straight, all_fit, first_fits, fits, next_in_time, placed, slot_of}
 use Rattle.rt_gen_queue.proofs.Layer.Runs.{word_of}
@@ -17,7 +18,7 @@ use Rattle.rt_gen_queue.proofs.Layer.Window.{Frame, Now, free_there, is_free, wi
 use Rattle.rt_gen_queue.proofs.Layer.Window.{window_there}
 
 -- Where the job is behind a line that may have changed all but the open sections and the deadlines.
-abbrev pub behind_line : Here → List Entry → List ℕ → (Holder → List Entry) → Doing Values → Here
+abbrev pub behind_line : Here → List Entry → List ℕ → (Location → List Entry) → Doing Values → Here
 behind_line h places cells queues rest = record h {
   done = suc h.done;
   places = places;
@@ -30,7 +31,7 @@ behind_line h places cells queues rest = record h {
 module _ {size mask : ℕ} where
   -- the lines behind it may run
   pub may_follow : {f : Frame size mask} {line : Line} {lines : List Line} {h : Here} {ws : List ℕ}
-      (places : List Entry) (cells : List ℕ) (queues : Holder → List Entry) (rest : Doing Values) (after : List ℕ)
+      (places : List Entry) (cells : List ℕ) (queues : Location → List Entry) (rest : Doing Values) (after : List ℕ)
       → length after ≡ length ws → MayRun f (line ∷ lines) h ws
       → MayRun f lines (behind_line h places cells queues rest) after
   may_follow {line = line} {lines = lines} {h = h} places cells queues rest after long may = record {
@@ -42,13 +43,13 @@ module _ {size mask : ℕ} where
   }
 
   module _ {z : Setting} {f : Frame size mask} {line : Line} {lines : List Line} {h : Here} {ws : List ℕ}
-      {places : List Entry} {cells : List ℕ} {queues : Holder → List Entry} where
+      {places : List Entry} {cells : List ℕ} {queues : Location → List Entry} where
     -- a run that goes on behind a line, as what the line's note asks for
     pub goes_later : {rest : Doing Values} {after : List ℕ} → length after ≡ length ws → MayRun f (line ∷ lines) h ws
         → HasCode z.code (suc h.at) (map (placed f.slot) lines)
         → Straight z f lines (behind_line h places cells queues rest) after
         → Later z h
-        (spot_after_step (spot z (Now f (record (behind_line h places cells queues rest) { done = h.done }) after)))
+        (spend_step (configuration z (Now f (record (behind_line h places cells queues rest) { done = h.done }) after)))
     goes_later {rest = rest} {after = after} long may has on =
         at_passed (Now f (record (behind_line h places cells queues rest) { done = h.done }) after)
         (on.runs (may_follow places cells queues rest after long may) has)
@@ -60,7 +61,8 @@ module _ {size mask : ℕ} where
         → ((vs : Values) → Agree (storage z.app) z.who h.held vs values
         → Straight z f lines (behind_line h places cells queues (rest (effect action vs))) after)
         → Acts (storage z.app) z.bodies z.who action 0
-        (spot_after_step (spot z (Now f (record (behind_line h places cells queues h.rest) { done = h.done }) after)))
+        (spend_step (configuration z
+        (Now f (record (behind_line h places cells queues h.rest) { done = h.done }) after)))
         (Later z h)
     acts_later {values = values} {rest = rest} action after long may has is on = record {
       values = values;
@@ -73,7 +75,7 @@ module _ {size mask : ℕ} where
     -- a line by what fits it where it is
     pub by_noted : (MayRun f (line ∷ lines) h ws → HasCode z.code (suc h.at) (map (placed f.slot) lines)
         → LineFits (storage z.app) z.code z.bodies z.thread z.who (Some (placed f.slot line))
-        (spot_after_step (spot z (Now f h ws))) (Later z h))
+        (spend_step (configuration z (Now f h ws))) (Later z h))
         → Straight z f (line ∷ lines) h ws
     by_noted line_fits = record {
       runs = λ may has. by_line (placed f.slot line).0 (placed f.slot line).1 has.0 (next_in_time may)

@@ -12,7 +12,7 @@ use Rattle.rt_gen_queue.proofs.Layer.Correct.{Gives, S, goes}
 use Rattle.rt_gen_queue.proofs.Layer.Instructions.{IsFree, Reads, Writes, Wrote, calc_gives, copy_gives, jump_by_gives}
 use Rattle.rt_gen_queue.proofs.Layer.Instructions.{jump_gives, load_at_gives, load_gives, set_gives, store_at_gives}
 use Rattle.rt_gen_queue.proofs.Layer.Instructions.{store_gives, wrote}
-use Rattle.rt_gen_queue.proofs.Layer.Jobs.{Here, InTime, Setting, lasts_less, spot}
+use Rattle.rt_gen_queue.proofs.Layer.Jobs.{Here, InTime, Setting, lasts_less, configuration}
 use Rattle.rt_gen_queue.proofs.Layer.Window.{Frame, Now, Saves, free_there, is_free, is_there, window, window_free}
 use Rattle.rt_gen_queue.proofs.Layer.Window.{window_read, window_set, window_there}
 use Rattle.rt_gen_queue.proofs.Owning.{at_in_memory, loads_open, stores_open}
@@ -248,13 +248,13 @@ pub record Opens (z : Setting) (h : Here) (x : Section) (c : ℕ) : Type 0 where
 pub reads_open : {z : Setting} {h : Here} {x : Section} {c v : ℕ} → Opens z h x c → slice_index h.cells c ≡ v
     → Reads z h c v
 reads_open {z = z} {h = h} {x = x} {c = c} opens is = record {
-  may = loads_open z.app z.who (spot z h) c x opens.home opens.opens;
+  may = loads_open z.app z.who (configuration z h) c x opens.home opens.opens;
   there = omega (arith, opens.long, at_in_memory z.app c _ opens.home);
   is = is;
 }
 
 pub writes_open : {z : Setting} {h : Here} {x : Section} {c : ℕ} → Opens z h x c → Writes z h c
 writes_open {z = z} {h = h} {x = x} {c = c} opens = record {
-  may = stores_open z.app z.who (spot z h) c x opens.home opens.opens;
+  may = stores_open z.app z.who (configuration z h) c x opens.home opens.opens;
   there = omega (arith, opens.long, at_in_memory z.app c _ opens.home);
 }

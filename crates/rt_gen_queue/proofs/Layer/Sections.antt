@@ -1,15 +1,16 @@
 -- How a job goes into a section and comes out of it, whatever the section guards and however it holds others off.
-use Rattle.rt_gen_queue.proofs.Vocabulary.{Agree, AllByRecursion, Contains, Doing, Enters, Entry, Guarded, Held, Holder}
+use Rattle.rt_gen_queue.proofs.Vocabulary.{Agree, AllByRecursion, Contains, Doing, Enters, Entry, Guarded, OpenSection}
+use Rattle.rt_gen_queue.proofs.Vocabulary.{Location}
 use Rattle.rt_gen_queue.proofs.Vocabulary.{Instr, IsKindFor, IsWithin, Kind, Leaves, List, NobodyKeeps, Section, Some}
 use Rattle.rt_gen_queue.proofs.Vocabulary.{TakesOver, Values, [], ap, arith, closing_instr, does, drop, false, is_open}
-use Rattle.rt_gen_queue.proofs.Vocabulary.{length, map, line_with_note, opening_instr, spot_after_step, refl}
+use Rattle.rt_gen_queue.proofs.Vocabulary.{length, map, line_with_note, opening_instr, spend_step, refl}
 use Rattle.rt_gen_queue.proofs.Vocabulary.{saved_slot, saved_slots, slots_with_mask}
 use Rattle.rt_gen_queue.proofs.Vocabulary.{slice_get, slice_index, storage, subst, suc, sym, ℕ, ◌+◌, ◌-◌, ◌<◌, ◌∙◌, ◌∷◌}
 use Rattle.rt_gen_queue.proofs.Vocabulary.{◌≡◌}
 use Rattle.rt_code.specs.Masking.{inside}
 use Rattle.rt_code.specs.declared.instr.Note.TheVariants as note
 use Rattle.rt_gen_queue.proofs.Layer.Correct.{Later, S, by_line}
-use Rattle.rt_gen_queue.proofs.Layer.Jobs.{Here, InTime, Setting, left_at, left_passed, spot}
+use Rattle.rt_gen_queue.proofs.Layer.Jobs.{Here, InTime, Setting, left_at, left_passed, configuration}
 
 -- the section may be opened so
 pub record MayOpen (z : Setting) (h : Here) (x : Section) (kind : Kind) : Type 0 where
@@ -22,14 +23,14 @@ pub record MayOpen (z : Setting) (h : Here) (x : Section) (kind : Kind) : Type 0
 
 -- the section is the innermost one, so it may be closed
 pub record MayClose (h : Here) (x : Section) (kind : Kind) : Type 0 where
-  pub outer : List Held
+  pub outer : List OpenSection
   pub deadline : ℕ
   pub around : List ℕ
   pub innermost : h.held ≡ record { section = x; kind = kind } ∷ outer
   pub last : h.deadlines ≡ deadline ∷ around
 
 -- inside it, whose own deadline is its cost from here
-abbrev pub entered : Here → Section → Kind → (cost saved : ℕ) → List ℕ → (Holder → List Entry) → Doing Values → Here
+abbrev pub entered : Here → Section → Kind → (cost saved : ℕ) → List ℕ → (Location → List Entry) → Doing Values → Here
 entered h x kind cost saved cells queues rest = record h {
   held = record { section = x; kind = kind } ∷ h.held;
   done = suc h.done;
@@ -46,8 +47,8 @@ module _ {z : Setting} {h : Here} where
       → slice_get z.code h.at ≡ Some (line_with_note i (note.Enter x))
       → i ≡ opening_instr ((storage z.app).value ((storage z.app).ceiling x)) kind → InTime (suc h.done) h
       → MayOpen z h x kind → h.rest ≡ does (Enters x cost) values (λ answer. rest)
-      → ((saved : ℕ) (vs : Values) (cells : List ℕ) (queues : Holder → List Entry)
-      → TakesOver (storage z.app) z.who x (spot_after_step (spot z h)) values vs cells queues
+      → ((saved : ℕ) (vs : Values) (cells : List ℕ) (queues : Location → List Entry)
+      → TakesOver (storage z.app) z.who x (spend_step (configuration z h)) values vs cells queues
       → S z (entered h x kind cost saved cells queues (rest vs)))
       → S z h
   enters_here {i = i} {x = x} {values = values} {rest = rest} kind cost here opens time may is on =
@@ -68,7 +69,7 @@ module _ {z : Setting} {h : Here} where
             let e : cost - 1 ≡ (h.done + cost) - suc h.done = omega arith in
             subst (λ (lefts : List ℕ). Later z h
             (record (inside (storage z.app) z.who x kind saved cost (rest vs) cells queues
-            (spot_after_step (spot z h))) { lefts = lefts }))
+            (spend_step (configuration z h))) { lefts = lefts }))
             (sym (ap (λ m. m ∷ map (λ k. k - 1) (left_at h.done h.deadlines)) e
             ∙ ap (λ ms. ((h.done + cost) - suc h.done) ∷ ms) (left_passed h.done h.deadlines)))
             (on saved vs cells queues taken).stands;
@@ -79,11 +80,11 @@ module _ {z : Setting} {h : Here} where
       (may : MayClose h x kind) → slice_get z.code h.at ≡ Some (line_with_note i (note.Leave x)) → i
       ≡ closing_instr kind
       → InTime (suc h.done) h → h.rest ≡ does (Leaves x) values (λ answer. rest)
-      → (storage z.app).Spells (Guarded x) (slice_index h.cells) (h.queues (Guarded x)) (values (Guarded x))
+      → (storage z.app).Represents (Guarded x) (slice_index h.cells) (h.queues (Guarded x)) (values (Guarded x))
       → ((vs : Values) → Agree (storage z.app) z.who may.outer vs values
       → S z (record h { held = may.outer; done = suc h.done; deadlines = may.around; at = suc h.at; rest = rest vs }))
       → S z h
-  leaves_here {i = i} {x = x} {values = values} {rest = rest} kind may here closes time is spelled on =
+  leaves_here {i = i} {x = x} {values = values} {rest = rest} kind may here closes time is represented on =
       by_line i (Some (note.Leave x)) here time
       (record {
         values = values;
@@ -93,10 +94,10 @@ module _ {z : Setting} {h : Here} where
         outer = may.outer;
         innermost = may.innermost;
         closes = closes;
-        spelled = spelled;
+        represented = represented;
         on = λ vs agree.
             subst (λ (lefts : List ℕ). Later z h
-            (record (spot z (record h { held = may.outer; at = suc h.at; rest = rest vs })) { lefts = lefts }))
+            (record (configuration z (record h { held = may.outer; at = suc h.at; rest = rest vs })) { lefts = lefts }))
             (ap (λ ds. left_at (suc h.done) (drop 1 ds)) (sym may.last) ∙ dropped h.done h.deadlines)
             (on vs agree).stands;
       })

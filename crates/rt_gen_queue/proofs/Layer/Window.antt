@@ -1,7 +1,8 @@
 -- A window of the frame: so many slots that one piece of code works in, as a list of words, with the slots before and
 -- behind them. A write into one of them is a write into the list, and that computes. One slot of the window is for the
 -- mask of a section.
-use Rattle.rt_gen_queue.proofs.Vocabulary.{AllByRecursion, Bool, Held, List, [], all_weaker, and_left, ap, append_assoc}
+use Rattle.rt_gen_queue.proofs.Vocabulary.{AllByRecursion, Bool, OpenSection, List, [], all_weaker, and_left, ap}
+use Rattle.rt_gen_queue.proofs.Vocabulary.{append_assoc}
 use Rattle.rt_gen_queue.proofs.Vocabulary.{arith, drop, drop-cons, get_or_append_left, inl, inr, length, length-append}
 use Rattle.rt_gen_queue.proofs.Vocabulary.{length-take-le, ltb-true, nat_lt, nat_tests, not, refl, saved_slots}
 use Rattle.rt_gen_queue.proofs.Vocabulary.{slice_index, slice_set, suc, sym, take, take-append-drop, true, zero, ℕ}
@@ -40,7 +41,7 @@ module _ {size mask : ℕ} where
   Now f h ws = record h { slots = window f ws }
 
   -- Of the open sections at most one keeps a mask in the window, and in the slot that is for it.
-  abbrev pub Saves : Frame size mask → List Held → Type 0
+  abbrev pub Saves : Frame size mask → List OpenSection → Type 0
   Saves f held = AllByRecursion (λ e. (e < f.slot) ⊎ (e ≡ f.slot + mask)) (saved_slots held)
 
   -- what a slot of the window holds
@@ -65,7 +66,7 @@ module _ {size mask : ℕ} where
   window_there f ws d there = omega (arith, f.begins, length-append f.front (ws ++ f.back), length-append ws f.back)
 
   -- a free slot may be written
-  pub window_free : (f : Frame size mask) (held : List Held) (d : ℕ) → is_free size mask d ≡ true → Saves f held
+  pub window_free : (f : Frame size mask) (held : List OpenSection) (d : ℕ) → is_free size mask d ≡ true → Saves f held
       → IsFree held (f.slot + d)
   window_free f held d free saves =
       all_weaker (λ e. (e < f.slot) ⊎ (e ≡ f.slot + mask)) (λ e. e ≢ f.slot + d) differ (saved_slots held) saves

@@ -2,7 +2,7 @@
 use Rattle.std.specs.Prelude.{◌≡◌, ◌≢◌, ◌↔◌, ℕ, ◌≤◌, ◌++◌, [], ◌∷◌, Bool, true, IsTrue, nat_le, min, max, map}
 use Rattle.std.specs.Prelude.{List, Some, Option, None, if◌then◌else◌}
 use Rattle.std.specs.List.{Contains, AllByRecursion, list_any}
-use Rattle.rt_ids.specs.Holder.{is_same_section}
+use Rattle.rt_ids.specs.Location.{is_same_section}
 use Rattle.rt_ids.specs.declared.ids.Section.{Section}
 use Rattle.rt_code.specs.Image.{Image}
 use Rattle.rt_code.specs.declared.instr.Instr.{Instr}
@@ -32,16 +32,16 @@ pub record Enterer (img : Image) (ps : List Point) (x : Section) (p : Point) (i 
   pub enters : EntersBy img p i x
 
 -- the execution priority behind an entering
-abbrev pub priority_behind : Image → Point → Instr → Section → ℕ
-priority_behind img p i x = execution_priority img p.owner (inside_after i (Some (note.Enter x)) p.inside)
+abbrev pub priority_after : Image → Point → Instr → Section → ℕ
+priority_after img p i x = execution_priority img p.owner (inside_after i (Some (note.Enter x)) p.inside)
 
 -- the greatest execution priority behind an entering
 pub record IsGreatestPriority (img : Image) (ps : List Point) (x : Section) (priority : ℕ) : Type 0 where
-  pub all : (p : Point) (i : Instr) → Enterer img ps x p i → priority_behind img p i x ≤ priority
+  pub all : (p : Point) (i : Instr) → Enterer img ps x p i → priority_after img p i x ≤ priority
   pub point : Point
   pub instr : Instr
   pub enterer : Enterer img ps x point instr
-  pub is : priority_behind img point instr x ≡ priority
+  pub is : priority_after img point instr x ≡ priority
 
 -- the least priority value of an enterer other than `init`
 pub record IsLeastValue (img : Image) (ps : List Point) (x : Section) (value : ℕ) : Type 0 where

@@ -84,9 +84,9 @@ note_at names (word ∷ t ∷ s ∷ a ∷ []) = with_slots names word t s a
 note_at names words = Err wrong.Form
 
 -- the note of the words behind a semicolon, where there is one
-abbrev pub note_behind : Names → Option (List (List ℕ)) → Result (Option Note) Wrong
-note_behind names None = Ok None
-note_behind names (Some words) = and_make (note_at names words) Some
+abbrev pub note_after : Names → Option (List (List ℕ)) → Result (Option Note) Wrong
+note_after names None = Ok None
+note_after names (Some words) = and_make (note_at names words) Some
 
 -- what is wrong with an instruction or with its note: that a name is unknown only where nothing else is
 abbrev pub line_or_wrong : Result Instr Wrong → Result (Option Note) Wrong → Result (Instr × Option Note) Wrong
@@ -101,4 +101,4 @@ abbrev pub line_at : Names → ℕ → List (List ℕ) → Result (Instr × Opti
 line_at names address [] = Err wrong.Form
 line_at names address (number ∷ words) =
     and_then (word_at number) (λ n. if n == address
-    then line_or_wrong (instr_at names (in_front words)) (note_behind names (behind words)) else Err wrong.Form)
+    then line_or_wrong (instr_at names (in_front words)) (note_after names (behind words)) else Err wrong.Form)

@@ -23,8 +23,8 @@ abbrev pub scope_of : List Binding → ℕ → Scope
 scope_of bindings outer = record { variables = map variable_of (reverse bindings); here = length bindings - outer }
 
 -- the scope behind a block, where so many variables stand before the block outside
-abbrev pub scope_behind_block : Scope → ℕ → Scope
-scope_behind_block s outer = let rest = drop s.here s.variables in
+abbrev pub scope_after_block : Scope → ℕ → Scope
+scope_after_block s outer = let rest = drop s.here s.variables in
     record { variables = rest; here = length rest - outer }
 
 -- what a name means in a map

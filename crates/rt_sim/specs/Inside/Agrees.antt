@@ -1,4 +1,5 @@
--- A core and a state of Baker's machine agree where both are those of one moment that fits.
+-- The simulation relation: a core and a state of Baker's machine agree where both are those of one coupling, and its
+-- invariant holds.
 use Rattle.std.specs.Prelude.{◌≡◌, ℕ}
 use Rattle.rt_app.specs.Tree.{App}
 use Rattle.rt_code.specs.Image.{Image}
@@ -9,17 +10,17 @@ use Rattle.rt_trace.specs.declared.item.What.{What}
 use Rattle.std.specs.Prelude.{Option}
 use Rattle.rt_laws.specs.State.{State}
 use Rattle.rt_laws.specs.Allowed.{May, after}
-use Rattle.rt_sim.specs.Inside.Moment.{Moment}
+use Rattle.rt_sim.specs.Inside.Coupling.{Coupling}
 use Rattle.rt_sim.specs.Inside.States.{core_of, state_of}
-use Rattle.rt_sim.specs.Inside.Fits.{Fits}
+use Rattle.rt_sim.specs.Inside.CouplingInvariant.{CouplingInvariant}
 
 module _ (app : App) (img : Image) (thread : ℕ) where
-  -- the moment, and that both are its states
+  -- the coupling, and that both are its states
   pub record Agrees (c : Core) (s : State) : Type 0 where
-    pub moment : Moment
-    pub core : c ≡ core_of app.bits moment
-    pub state : s ≡ state_of moment
-    pub fits : Fits app img thread moment
+    pub coupling : Coupling
+    pub core : c ≡ core_of app.bits coupling
+    pub state : s ≡ state_of coupling
+    pub invariant : CouplingInvariant app img thread coupling
 
   -- a core step is a step of Baker's machine, and they agree again
   pub record StepsBoth (c : Core) (s : State) : Type 0 where

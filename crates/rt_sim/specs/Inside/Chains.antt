@@ -5,9 +5,9 @@ use Rattle.rt_ids.specs.Operation.{number_of}
 use Rattle.rt_ids.specs.Priority.{hardware}
 use Rattle.rt_app.specs.Tree.{App}
 use Rattle.rt_app.specs.Ceiling.{ceiling}
-use Rattle.rt_code.specs.Owning.{Kind, Marked, Raised, Masked, Held}
+use Rattle.rt_code.specs.Owning.{Kind, Marked, Raised, Masked, OpenSection}
 use Rattle.rt_laws.specs.State.{Role, Init}
-use Rattle.rt_sim.specs.Inside.Moment.{Part}
+use Rattle.rt_sim.specs.Inside.Coupling.{Part}
 
 -- the thread before the end of `init`
 abbrev pub is_init : Role → Bool
@@ -26,13 +26,13 @@ mask_by kind before = before
 
 module _ (app : App) where
   -- BASEPRI inside these sections, from what it was before them
-  abbrev pub base_inside : List Held → ℕ → ℕ
+  abbrev pub base_inside : List OpenSection → ℕ → ℕ
   base_inside [] before = before
   base_inside (h ∷ outer) before =
       base_by h.kind (hardware app.bits (ceiling app h.section)) (base_inside outer before)
 
   -- PRIMASK inside these sections, from what it was before them
-  abbrev pub mask_inside : List Held → Bool → Bool
+  abbrev pub mask_inside : List OpenSection → Bool → Bool
   mask_inside [] before = before
   mask_inside (h ∷ outer) before = mask_by h.kind (mask_inside outer before)
 
@@ -62,7 +62,7 @@ module _ (app : App) where
   SavesBy slots (Masked slot) base mask = (slot < length slots) × (slice_index slots slot ≡ number_of mask)
 
   -- each open section keeps the mask that was before it in its slot
-  abbrev pub Saves : List ℕ → List Held → ℕ → Bool → Type 0
+  abbrev pub Saves : List ℕ → List OpenSection → ℕ → Bool → Type 0
   Saves slots [] base mask = Unit {0}
   Saves slots (h ∷ outer) base mask =
       SavesBy slots h.kind (base_inside outer base) (mask_inside outer mask) × Saves slots outer base mask

@@ -4,7 +4,7 @@ use Rattle.rt_ids.specs.Priority.{hardware}
 use Rattle.rt_code.specs.Stack.{words_of}
 use Rattle.rt_core.specs.Core.{Core, Context}
 use Rattle.rt_laws.specs.State.{State}
-use Rattle.rt_sim.specs.Inside.Moment.{Part, Moment, irq_of, jobs_of}
+use Rattle.rt_sim.specs.Inside.Coupling.{Part, Coupling, irq_of, jobs_of}
 
 -- the contexts of the active handlers: the first is of this interrupt and this priority value, and each has what it
 -- interrupted
@@ -19,7 +19,7 @@ abbrev pub contexts_of : ℕ → Part → List Part → List Context
 contexts_of bits p ps = contexts bits (irq_of p.role) (hardware bits p.priority) ps
 
 -- the core, with so many priority bits
-abbrev pub core_of : ℕ → Moment → Core
+abbrev pub core_of : ℕ → Coupling → Core
 core_of bits m = record {
   time = m.time;
   alarm = m.alarm;
@@ -37,7 +37,7 @@ core_of bits m = record {
 }
 
 -- Baker's machine; an alarm that a tick makes due comes with that tick
-abbrev pub state_of : Moment → State
+abbrev pub state_of : Coupling → State
 state_of m = record {
   jobs = jobs_of m.running m.below;
   pending = m.pending;

@@ -13,7 +13,7 @@ returns c =
       c.in_ok-append.ensures.lines,
       c.answer.ensures,
       c.ready.ensures,
-      c.take.ensures,
+      c.place.ensures,
       first,
       last,
       four_appended,

@@ -1,7 +1,7 @@
 use Rattle.std.specs.Prelude.{IsTrue}
 use Rattle.std.proofs.Common.{subst, sym, refl, arith}
 use Rattle.rt_lemmas.proofs.Bools.{true_and_false}
-use Rattle.rt_reach.specs.Deepest.{item_behind}
+use Rattle.rt_reach.specs.Deepest.{item_after}
 use Rattle.rt_reach.specs.Take.{IsTake}
 use Rattle.rt_reach.specs.declared.take.TheConstants.{MOST_STEPS}
 use Rattle.rt_reach.proofs.Takes.{shows, few_done, leads_more, comes_by}
@@ -42,7 +42,7 @@ loop-done-preserved c =
     record {
       run = leads_more c.args.core.now c.loop-done.core c.step-shown.new.self c.args.irq c.loop-done.done
           c.loop-done.invariant.run c.step-shown.ensures.state;
-      none = below_more (λ k. ¬ IsTake (item_behind c.args.core.now.image c.args.irq k)) c.loop-done.done
+      none = below_more (λ k. ¬ IsTake (item_after c.args.core.now.image c.args.irq k)) c.loop-done.done
           c.loop-done.invariant.none (λ takes. not_now (subst IsTake (sym is) takes));
     }
 

@@ -1,6 +1,6 @@
 use Rattle.std.proofs.Common.{ap, ◌∙◌}
 use Rattle.rt_app.specs.View.{app_of}
-use Rattle.rt_baker_moves.specs.Job.{Kept}
+use Rattle.rt_baker_moves.specs.Job.{AuditorJob}
 use Rattle.rt_baker_moves.proofs.SystemCeiling.{sections_next}
 use Rattle.rt_baker_moves.proofs.job.Job.threshold.Goals as goal
 
@@ -10,5 +10,5 @@ loop-section-preserved c =
     sections_next app c.args.self.now.priority c.args.self.now.sections
     c.deref-section-items.result.now c.loop-section.section-index c.section-item.result c.loop-section.threshold
     c.ceiling.result c.from.result c.max-threshold.result (c.deref-section-items.ensures.value
-    ∙ ap (λ (j : Kept). j.sections) c.self.view_is) c.loop-section-test.true c.section-item.is
+    ∙ ap (λ (j : AuditorJob). j.sections) c.self.view_is) c.loop-section-test.true c.section-item.is
     c.loop-section.invariant c.ceiling.ensures c.from.ensures c.max-threshold.ensures

@@ -1,11 +1,11 @@
 use Rattle.std.proofs.Common.{ap, refl, ◌∙◌}
-use Rattle.rt_ids.specs.Holder.{Guarded}
+use Rattle.rt_ids.specs.Location.{Guarded}
 use Rattle.rt_ids.specs.Content.{delays, least_instant}
 use Rattle.rt_ids.specs.declared.ids.Section.TheVariants as section
 use Rattle.rt_app.specs.View.{app_of}
 use Rattle.rt_baker_work.specs.declared.action.Action.TheVariants as act
 use Rattle.rt_baker_work.specs.Store.{contents}
-use Rattle.rt_baker_moves.specs.State.{Held}
+use Rattle.rt_baker_moves.specs.State.{AuditorState}
 use Rattle.rt_baker_moves.proofs.Acts.{nothing_beyond, acted_by}
 use Rattle.rt_baker_moves.proofs.state.State.act.Goals as goal
 
@@ -24,7 +24,7 @@ returns-in_ok-set_alarm-in-SetAlarm c =
     c.least_instant-instant.result c.args.self.now c.resume-in-SetAlarm.new.self c.set_alarm.new.self t c.args.job
     c.in-SetAlarm.is c.in_ok-resume-in-SetAlarm.ensures c.in_ok-set_alarm-in-SetAlarm.ensures
     (c.least_instant-instant.ensures ∙ ap least_instant (c.delays.ensures
-    ∙ ap (λ (s : Held). delays (contents s.store (Guarded section.Timer))) c.self.view_is)) h
+    ∙ ap (λ (s : AuditorState). delays (contents s.store (Guarded section.Timer))) c.self.view_is)) h
 
 pub returns-in_ok-resume-in_default : goal.returns-in_ok-resume-in_default
 returns-in_ok-resume-in_default c =

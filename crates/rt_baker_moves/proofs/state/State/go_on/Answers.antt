@@ -1,6 +1,6 @@
 use Rattle.std.proofs.Common.{◌∙◌, sym, ap, subst}
 use Rattle.rt_app.specs.View.{app_of}
-use Rattle.rt_baker_moves.specs.Job.{Kept}
+use Rattle.rt_baker_moves.specs.Job.{AuditorJob}
 use Rattle.rt_baker_moves.specs.State.{StateIs}
 use Rattle.rt_baker_moves.specs.Inside.Acts.{held_with_job}
 use Rattle.rt_baker_moves.proofs.Early.{seen_next}
@@ -15,13 +15,14 @@ returns-in_ok-finish-in-None c =
     λ t h.
     (let app = app_of c.args.machine.now.code.now.app.now in
     let s = c.args.self.now in
-    c.in_ok-finish-in-None.ensures (ap (λ (j : Kept). j.work.todos) c.in-None.ensures.1 ∙ c.in-None.ensures.0) t
-    (subst (λ (j : Kept). StateIs app (held_with_job s j s.store) t) (sym c.in-None.ensures.1) h))
+    c.in_ok-finish-in-None.ensures (ap (λ (j : AuditorJob). j.work.todos) c.in-None.ensures.1 ∙ c.in-None.ensures.0) t
+    (subst (λ (j : AuditorJob). StateIs app (held_with_job s j s.store) t) (sym c.in-None.ensures.1) h))
 
 pub returns-in_ok-follow-in-Some : goal.returns-in_ok-follow-in-Some
 returns-in_ok-follow-in-Some c =
     λ t h.
     (let app = app_of c.args.machine.now.code.now.app.now in
     let s = c.args.self.now in
-    c.in_ok-follow-in-Some.ensures t (subst (λ (j : Kept). StateIs app (held_with_job s j s.store) t) c.in-Some.ensures
+    c.in_ok-follow-in-Some.ensures t
+    (subst (λ (j : AuditorJob). StateIs app (held_with_job s j s.store) t) c.in-Some.ensures
     h))

@@ -1,9 +1,9 @@
 use Rattle.std.proofs.Common.{Some, refl, sym, ◌∙◌}
 use Rattle.rt_context.specs.Moves.{frames_after_call}
-use Rattle.rt_context.specs.Inside.Parts.{Spells}
-use Rattle.rt_context.proofs.Spelling.{spelled, kept}
+use Rattle.rt_context.specs.Inside.Parts.{Represents}
+use Rattle.rt_context.proofs.Representing.{represented, kept}
 use Rattle.rt_context.proofs.Running.{seen, fits_from_room}
-use Rattle.rt_context.proofs.Calling.{MayCall, tested, spells_called}
+use Rattle.rt_context.proofs.Calling.{MayCall, tested, represents_called}
 use Rattle.rt_context.proofs.frames.Frames.call.Goals as goal
 use Rattle.rt_context.proofs.frames.Frames.call.Goals.{After-from-args, After-push}
 
@@ -17,8 +17,8 @@ push-requires-clause-fits c =
     fits_from_room c.args.self.now c.self.inside c.args.row.frame s
     (may (goal.at.push-requires-clause-fits c).After-from-args).room
 
-spells : (c : After-push) → MayCall c.args.self.now c.args.row c.args.from
-    → Spells (frames_after_call c.args.self.now c.args.row c.args.from c.args.address)
+represents : (c : After-push) → MayCall c.args.self.now c.args.row c.args.from
+    → Represents (frames_after_call c.args.self.now c.args.row c.args.from c.args.address)
     (record {
       region = c.push.new.region;
       entry = c.self.inside.entry;
@@ -27,16 +27,16 @@ spells : (c : After-push) → MayCall c.args.self.now c.args.row c.args.from
           Some c.self.inside.frame;
       callers = c.self.inside.callers;
     })
-spells c may =
+represents c may =
     let s = seen c.args.self.now c.self.inside c.self.invariant c.self.view_is in
-    spells_called c.args.self.now c.self.inside _ c.args.row c.args.from c.from-args.result c.args.address s may
+    represents_called c.args.self.now c.self.inside _ c.args.row c.args.from c.from-args.result c.args.address s may
     c.from-args.ensures c.push.ensures refl refl refl refl
 
 pub invariant_of-self : goal.invariant_of-self
 invariant_of-self c =
-    kept _ _ (spells (goal.at.invariant_of-self c).After-push (may (goal.at.invariant_of-self c).After-from-args))
+    kept _ _ (represents (goal.at.invariant_of-self c).After-push (may (goal.at.invariant_of-self c).After-from-args))
 
 pub returns-clause-called : goal.returns-clause-called
 returns-clause-called c = λ _.
-    spelled _ _ (spells (goal.at.returns-clause-called c).After-push
+    represented _ _ (represents (goal.at.returns-clause-called c).After-push
     (may (goal.at.returns-clause-called c).After-from-args))

@@ -1,10 +1,10 @@
 use Rattle.std.proofs.Common.{None, sym, ap, ◌∙◌, refl, arith}
 use Rattle.rt_stack.specs.Region.{top, region_after_push}
 use Rattle.rt_context.specs.Moves.{frames_after_entry}
-use Rattle.rt_context.specs.Inside.Parts.{Spells}
-use Rattle.rt_context.proofs.Spelling.{spelled, kept}
+use Rattle.rt_context.specs.Inside.Parts.{Represents}
+use Rattle.rt_context.proofs.Representing.{represented, kept}
 use Rattle.rt_context.proofs.Running.{seen}
-use Rattle.rt_context.proofs.Entering.{entry_fits, frame_fits, spells_entered}
+use Rattle.rt_context.proofs.Entering.{entry_fits, frame_fits, represents_entered}
 use Rattle.rt_context.proofs.frames.Frames.enter.Goals as goal
 use Rattle.rt_context.proofs.frames.Frames.enter.Goals.{After-push-3}
 
@@ -29,7 +29,8 @@ push-requires-2 c =
       caller = None;
     }) c.args.words s c.push.ensures fits
 
-spells : (c : After-push-3) → Spells (frames_after_entry c.args.self.now c.args.number c.args.address c.args.words)
+represents : (c : After-push-3)
+    → Represents (frames_after_entry c.args.self.now c.args.number c.args.address c.args.words)
     (record {
       region = c.push-2.new.self;
       entry = c.self.inside.entry;
@@ -38,14 +39,14 @@ spells : (c : After-push-3) → Spells (frames_after_entry c.args.self.now c.arg
       callers =
           c.push-3.new.self;
     })
-spells c =
+represents c =
     let s = seen c.args.self.now c.self.inside c.self.invariant c.self.view_is in
     let region = c.push-2.ensures ∙ ap (λ r. region_after_push r c.args.words) c.push.ensures in
-    spells_entered c.args.self.now c.self.inside _ c.args.number c.args.address c.args.words s region refl refl refl
+    represents_entered c.args.self.now c.self.inside _ c.args.number c.args.address c.args.words s region refl refl refl
     c.push-3.ensures.items
 
 pub invariant_of-self : goal.invariant_of-self
-invariant_of-self c = kept _ _ (spells (goal.at.invariant_of-self c).After-push-3)
+invariant_of-self c = kept _ _ (represents (goal.at.invariant_of-self c).After-push-3)
 
 pub returns-clause-entered : goal.returns-clause-entered
-returns-clause-entered c = λ _. spelled _ _ (spells (goal.at.returns-clause-entered c).After-push-3)
+returns-clause-entered c = λ _. represented _ _ (represents (goal.at.returns-clause-entered c).After-push-3)

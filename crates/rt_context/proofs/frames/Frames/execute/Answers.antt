@@ -4,10 +4,10 @@ use Rattle.rt_code.specs.Processor.{processor, Gives}
 use Rattle.rt_code.specs.Effect.{effect}
 use Rattle.rt_context.specs.declared.frames.Frames.TheInside.{Inside}
 use Rattle.rt_context.specs.Frames.{Frames}
-use Rattle.rt_context.specs.Inside.Parts.{frames, Spells}
-use Rattle.rt_context.proofs.Spelling.{spelled, kept}
+use Rattle.rt_context.specs.Inside.Parts.{frames, Represents}
+use Rattle.rt_context.proofs.Representing.{represented, kept}
 use Rattle.rt_context.proofs.Running.{seen, top_is}
-use Rattle.rt_context.proofs.Writing.{written, spells_written, rest_is}
+use Rattle.rt_context.proofs.Writing.{written, represents_written, rest_is}
 use Rattle.rt_context.proofs.frames.Frames.execute.Goals as goal
 use Rattle.rt_context.proofs.frames.Frames.execute.Goals.{After-execute}
 
@@ -21,18 +21,18 @@ after c = record {
   callers = c.self.inside.callers;
 }
 
-spells : (c : After-execute) → Spells (written c.args.self.now c.execute.new.slots) (after c)
-spells c =
+represents : (c : After-execute) → Represents (written c.args.self.now c.execute.new.slots) (after c)
+represents c =
     let s = seen c.args.self.now c.self.inside c.self.invariant c.self.view_is in
     let long : length c.execute.new.slots ≡ c.self.inside.frame = c.execute.auto.slots ∙ c.top-slots.ensures.len in
-    spells_written c.args.self.now c.self.inside (after c) c.execute.new.slots s long
+    represents_written c.args.self.now c.self.inside (after c) c.execute.new.slots s long
     (c.top-slots.ensures.below_stays c.execute.new.slots long) refl refl refl refl
 
 pub invariant_of-self : goal.invariant_of-self
-invariant_of-self c = kept _ _ (spells (goal.at.invariant_of-self c).After-execute)
+invariant_of-self c = kept _ _ (represents (goal.at.invariant_of-self c).After-execute)
 
 view : (c : After-execute) → frames (after c) ≡ written c.args.self.now c.execute.new.slots
-view c = spelled _ _ (spells c)
+view c = represented _ _ (represents c)
 
 pub returns-clause-effect : goal.returns-clause-effect
 returns-clause-effect c =

@@ -1,7 +1,7 @@
 use Rattle.std.proofs.Common.{◌≡◌, ◌&&◌, ◌++◌, ◌∷◌, [], List, not, Some, slice_get, refl, sym, ap, subst, ◌∙◌, IsTrue}
 use Rattle.std.proofs.Common.{OnOk}
 use Rattle.std.specs.List.{list_any}
-use Rattle.rt_ids.specs.Holder.{is_same_section}
+use Rattle.rt_ids.specs.Location.{is_same_section}
 use Rattle.rt_code.specs.declared.instr.Note.TheVariants as note
 use Rattle.rt_points.specs.Point.{Point}
 use Rattle.rt_points.specs.Leading.{inside_after}

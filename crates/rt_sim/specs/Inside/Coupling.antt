@@ -1,13 +1,13 @@
--- A moment of a run, seen from both machines at once: what the core has in frames, masks and cells, and what Baker's
+-- A coupling of both machines at a moment of a run: what the core has in frames, masks and cells, and what Baker's
 -- machine has in jobs and values. Each job has its frame beside it, so that both states can be read off.
 use Rattle.std.specs.Prelude.{ℕ, Bool, List, [], ◌∷◌, ◌++◌, map, Option}
-use Rattle.rt_ids.specs.Holder.{Holder}
+use Rattle.rt_ids.specs.Location.{Location}
 use Rattle.rt_ids.specs.Content.{Values}
 use Rattle.rt_ids.specs.Entry.{Entry}
 use Rattle.rt_ids.specs.Doing.{Doing}
 use Rattle.rt_ids.specs.Storage.{Runner, Starting, AtPriority}
 use Rattle.rt_ids.specs.declared.ids.Section.{Section}
-use Rattle.rt_code.specs.Owning.{Held, Spot}
+use Rattle.rt_code.specs.Owning.{OpenSection, Configuration}
 use Rattle.rt_code.specs.declared.image.BodyRow.{BodyRow}
 use Rattle.rt_core.specs.declared.alarm.Alarm.{Alarm}
 use Rattle.rt_laws.specs.State.{Role, Init, Serving, Job}
@@ -21,7 +21,7 @@ pub record Part : Type 0 where
   pub left : ℕ
   pub lefts : List ℕ
   -- its open sections, innermost first, with what each keeps of the masks
-  pub held : List Held
+  pub held : List OpenSection
   -- the places of messages in its hands
   pub places : List Entry
   pub address : ℕ
@@ -34,8 +34,8 @@ pub record Part : Type 0 where
   -- the words of its own frame, on which a called body has another
   pub own : ℕ
 
--- both machines between two events
-pub record Moment : Type 0 where
+-- the coupled states of both machines, between two events
+pub record Coupling : Type 0 where
   pub running : Part
   -- what it interrupted, the last started first, the thread last
   pub below : List Part
@@ -47,7 +47,7 @@ pub record Moment : Type 0 where
   pub primask : Bool
   pub cells : List ℕ
   -- the places of the messages in each queue
-  pub queues : Holder → List Entry
+  pub queues : Location → List Entry
   pub values : Values
 
 -- who runs a job's code, as code that stands knows it
@@ -61,7 +61,7 @@ irq_of (Serving irq) = irq
 irq_of role = 0
 
 -- the sections alone, innermost first
-abbrev pub sections_of : List Held → List Section
+abbrev pub sections_of : List OpenSection → List Section
 sections_of held = map (λ h. h.section) held
 
 -- the job of Baker's machine that a started job is
@@ -76,8 +76,8 @@ job_of p = record {
 }
 
 -- where a started job's code is, with this memory and these queues
-abbrev pub spot_of : List ℕ → (Holder → List Entry) → Part → Spot
-spot_of cells queues p = record {
+abbrev pub configuration_of : List ℕ → (Location → List Entry) → Part → Configuration
+configuration_of cells queues p = record {
   held = p.held;
   lefts = p.lefts ++ p.left ∷ [];
   places = p.places;

@@ -1,6 +1,6 @@
--- What a holder's cells spell depends on the cells that belong to it, and on those of the places in its queue, alone.
--- It is said of holders that the application has: a resource, a local resource, the places of a software task, a level
--- of software tasks, the timer queue.
+-- What a location's cells represent depends on the cells that belong to it, and on those of the places in its queue,
+-- alone. It is said of locations that the application has: a resource, a local resource, the places of a software task,
+-- a level of software tasks, the timer queue.
 use Rattle.std.proofs.Common.{◌≡◌, ◌⊎◌, ℕ, zero, suc, ◌+◌, ◌-◌, ◌*◌, ◌%◌, ◌==◌, ◌<◌, ◌≤◌, Bool, true, false, List, []}
 use Rattle.std.proofs.Common.{◌∷◌, length, map, Some, None, IsSome, option_map, slice_get, Contains, refl, sym, ap, ◌∙◌}
 use Rattle.std.proofs.Common.{arith, inl, inr}
@@ -9,7 +9,7 @@ use Rattle.std.proofs.lemmas.Option.{slice_get_within}
 use Rattle.rt_lemmas.proofs.Bools.{and_left}
 use Rattle.rt_lemmas.proofs.Membership.{all_at}
 use Rattle.rt_ids.specs.Lists.{is_some_and, or_zero}
-use Rattle.rt_ids.specs.Holder.{Holder, Guarded, Own}
+use Rattle.rt_ids.specs.Location.{Location, Guarded, Own}
 use Rattle.rt_ids.specs.Content.{Content, Number, Messages}
 use Rattle.rt_ids.specs.Entry.{Entry, count}
 use Rattle.rt_ids.specs.Storage.{Runner, Starting, AtPriority, At, In}
@@ -20,7 +20,7 @@ use Rattle.rt_app.specs.Sending.{capacity_of}
 use Rattle.rt_app.specs.Layout.{resource_at, local_at, free_at, inputs_at, ready_at, ready_room, timer_at, home_of}
 use Rattle.rt_app.specs.Holding.{arguments_of, message_at, armed_place, instant_at, arming_at, handle_at}
 use Rattle.rt_app.specs.Holding.{arming_of_entry}
-use Rattle.rt_app.specs.Holding.{SpellsFree, SpellsReady, SpellsTimer, Spells, is_kept, IsHeld}
+use Rattle.rt_app.specs.Holding.{RepresentsFree, RepresentsReady, RepresentsTimer, Represents, is_kept, IsHeld}
 use Rattle.rt_app.proofs.Laid.{resource_is_home, local_is_home}
 use Rattle.rt_app.proofs.LaidQueues.{free_is_home, input_is_home, ready_is_home}
 use Rattle.rt_app.proofs.LaidTimer.{timer_is_home}
@@ -28,8 +28,8 @@ use Rattle.rt_app.proofs.Counting.{counted}
 use Rattle.rt_app.proofs.ArmedPlaces.{armed_place_within}
 use Rattle.rt_app.proofs.Arranged.{arranged_alike}
 
--- The cells of a holder are what they were, and, where no runner keeps it, those of the places in its queue.
-abbrev pub IsLeft : App → Holder → List Entry → (ℕ → ℕ) → (ℕ → ℕ) → Type 0
+-- The cells of a location are what they were, and, where no runner keeps it, those of the places in its queue.
+abbrev pub IsLeft : App → Location → List Entry → (ℕ → ℕ) → (ℕ → ℕ) → Type 0
 IsLeft app h entries before after =
     (c : ℕ) → (home_of app c ≡ At h) ⊎ (((who : Runner) → is_kept app who h ≡ false)
     × ((e : Entry) × (home_of app c ≡ In e) × (0 < count e entries))) → after c ≡ before c
@@ -82,27 +82,27 @@ module _ (app : App) (before after : ℕ → ℕ) (entries : List Entry) where
       let capacity : capacity_of app n ≡ t.capacity = ap (λ o. or_zero (option_map (λ t. t.capacity) o)) at in
       left (free_at app n + j) (inl (free_is_home app n t at software j (omega arith)))
 
-  spells_free : (n : ℕ) (t : Task) (content : Content) → slice_get app.tasks n ≡ Some t → is_software t ≡ true
+  represents_free : (n : ℕ) (t : Task) (content : Content) → slice_get app.tasks n ≡ Some t → is_software t ≡ true
       → IsLeft app (Guarded (section.Free n)) entries before after
-      → SpellsFree app before n entries content → SpellsFree app after n entries content
-  spells_free n t content at software left spells =
+      → RepresentsFree app before n entries content → RepresentsFree app after n entries content
+  represents_free n t content at software left represents =
       let same = free_left n t at software left in
-      let room = spells.room in
+      let room = represents.room in
       let first : free_at app n + 0 ≡ free_at app n = omega arith in
       record {
-        out = spells.out;
-        room = spells.room;
-        places = spells.places;
-        count = ap after (sym first) ∙ (same 0 (omega arith) ∙ (ap before first ∙ spells.count));
-        stack = λ i e is. same (length entries - i) (omega arith) ∙ spells.stack i e is;
+        out = represents.out;
+        room = represents.room;
+        places = represents.places;
+        count = ap after (sym first) ∙ (same 0 (omega arith) ∙ (ap before first ∙ represents.count));
+        stack = λ i e is. same (length entries - i) (omega arith) ∙ represents.stack i e is;
       }
 
   ready_left : (p : ℕ) → Contains (levels app) p → IsLeft app (Guarded (section.Ready p)) entries before after → (j : ℕ)
       → j < 2 + ready_room app p → after (ready_at app p + j) ≡ before (ready_at app p + j)
   ready_left p is left j within = left (ready_at app p + j) (inl (ready_is_home app p is j within))
 
-  -- the message of a place in the queue of a holder that no runner keeps
-  message_kept : (h : Holder) → ((who : Runner) → is_kept app who h ≡ false) → IsLeft app h entries before after
+  -- the message of a place in the queue of a location that no runner keeps
+  message_kept : (h : Location) → ((who : Runner) → is_kept app who h ≡ false) → IsLeft app h entries before after
       → (i : ℕ) (e : Entry) → slice_get entries i ≡ Some e → (t : Task) → slice_get app.tasks e.task ≡ Some t
       → is_software t ≡ true → e.place < capacity_of app e.task → message_at app before e ≡ message_at app after e
   message_kept h unkept left i e is t there software below =
@@ -137,23 +137,24 @@ module _ (app : App) (before after : ℕ → ℕ) (entries : List Entry) where
       let software = and_left (is_software task.0) (task.0.priority == p) task.2 in
       message_kept (Guarded (section.Ready p)) (no_runner app p) left i e is task.0 task.1 software here.1
 
-  spells_ready : (p : ℕ) (content : Content) → Contains (levels app) p
-      → IsLeft app (Guarded (section.Ready p)) entries before after → SpellsReady app before p entries content
-      → SpellsReady app after p entries content
-  spells_ready p content is left spells =
+  represents_ready : (p : ℕ) (content : Content) → Contains (levels app) p
+      → IsLeft app (Guarded (section.Ready p)) entries before after → RepresentsReady app before p entries content
+      → RepresentsReady app after p entries content
+  represents_ready p content is left represents =
       let same = ready_left p is left in
-      let room = spells.room in
+      let room = represents.room in
       let size = ready_room app p in
       let zeroth : ready_at app p + 0 ≡ ready_at app p = omega arith in
       let head : after (ready_at app p) ≡ before (ready_at app p) = ap after (sym zeroth)
       ∙ (same 0 (omega arith) ∙ ap before zeroth) in
       record {
-        messages = spells.messages ∙ ap Messages (map_alike_at (message_at app before) (message_at app after) entries
-            (message_left p left spells.places));
-        room = spells.room;
-        places = spells.places;
-        head = let h = spells.head in omega arith;
-        count = same 1 (omega arith) ∙ spells.count;
+        messages = represents.messages
+            ∙ ap Messages (map_alike_at (message_at app before) (message_at app after) entries
+            (message_left p left represents.places));
+        room = represents.room;
+        places = represents.places;
+        head = let h = represents.head in omega arith;
+        count = same 1 (omega arith) ∙ represents.count;
         ring = λ i e at. (let within = slice_get_within entries i e at in
             let j = (before (ready_at app p) + i) % size in
             let less : 0 < size → j < size = omega arith in
@@ -161,38 +162,38 @@ module _ (app : App) (before after : ℕ → ℕ) (entries : List Entry) where
             let inside : j < size = less some in
             let d : ready_at app p + 2 + j ≡ ready_at app p + (2 + j) = omega arith in
             ap (λ h. after (ready_at app p + 2 + (h + i) % size)) head
-            ∙ (ap after d ∙ (same (2 + j) (omega arith) ∙ (ap before (sym d) ∙ spells.ring i e at))));
+            ∙ (ap after d ∙ (same (2 + j) (omega arith) ∙ (ap before (sym d) ∙ represents.ring i e at))));
       }
 
-  spells_timer : (content : Content) → IsSome app.mono → IsLeft app (Guarded section.Timer) entries before after
-      → SpellsTimer app before entries content → SpellsTimer app after entries content
-  spells_timer content timed left spells =
+  represents_timer : (content : Content) → IsSome app.mono → IsLeft app (Guarded section.Timer) entries before after
+      → RepresentsTimer app before entries content → RepresentsTimer app after entries content
+  represents_timer content timed left represents =
       record {
-        timed = spells.timed;
-        is = spells.is;
-        messages = spells.messages ∙ map_alike_at (arming_of_entry app before) (arming_of_entry app after) entries
+        timed = represents.timed;
+        is = represents.is;
+        messages = represents.messages ∙ map_alike_at (arming_of_entry app before) (arming_of_entry app after) entries
             armed;
-        handled = spells.handled;
-        places = spells.places;
-        room = spells.room;
-        count = same (timer_at app) 0 (omega arith) (omega arith) ∙ spells.count;
-        armings = same (timer_at app + 1) 1 (omega arith) (omega arith) ∙ spells.armings;
-        given = same (timer_at app + 2) 2 (omega arith) (omega arith) ∙ spells.given;
-        heap = spells.heap;
-        column = λ i e at. (let within = slice_get_within spells.heap i e at in
-            let long = spells.arranged.long in
-            let room = spells.room in
-            same _ (3 + 3 * armed_messages app + i) (omega arith) (omega arith) ∙ spells.column i e at);
+        handled = represents.handled;
+        places = represents.places;
+        room = represents.room;
+        count = same (timer_at app) 0 (omega arith) (omega arith) ∙ represents.count;
+        armings = same (timer_at app + 1) 1 (omega arith) (omega arith) ∙ represents.armings;
+        given = same (timer_at app + 2) 2 (omega arith) (omega arith) ∙ represents.given;
+        heap = represents.heap;
+        column = λ i e at. (let within = slice_get_within represents.heap i e at in
+            let long = represents.arranged.long in
+            let room = represents.room in
+            same _ (3 + 3 * armed_messages app + i) (omega arith) (omega arith) ∙ represents.column i e at);
         arranged = arranged_alike (instant_at app before) (arming_at app before) (instant_at app after)
-            (arming_at app after) (spells.timed.given + spells.timed.moved) spells.heap entries
-            (λ i e at. instant i e at) (λ i e at. arming i e at) spells.arranged;
+            (arming_at app after) (represents.timed.given + represents.timed.moved) represents.heap entries
+            (λ i e at. instant i e at) (λ i e at. arming i e at) represents.arranged;
       }
     where
       same : (c j : ℕ) → c ≡ timer_at app + j → j < 3 + 4 * armed_messages app → after c ≡ before c
       same c j is within = left c (inl (ap (home_of app) is ∙ timer_is_home app timed j within))
 
       place : (i : ℕ) (e : Entry) → slice_get entries i ≡ Some e → IsTimedPlace app e
-      place i e at = all_at (IsTimedPlace app) entries i e spells.places at
+      place i e at = all_at (IsTimedPlace app) entries i e represents.places at
 
       row : (i : ℕ) (e : Entry) → slice_get entries i ≡ Some e → armed_place app e < armed_messages app
       row i e at =
@@ -224,16 +225,17 @@ module _ (app : App) (before after : ℕ → ℕ) (entries : List Entry) where
           λ k. record { instant = a k; message = message k; handle = h k }
 
 -- whatever else changes
-pub spells_by_its_own : (app : App) (h : Holder) (before after : ℕ → ℕ) (entries : List Entry) (content : Content)
+pub represents_by_its_own : (app : App) (h : Location) (before after : ℕ → ℕ) (entries : List Entry) (content : Content)
     → IsHeld app h → IsLeft app h entries before after
-    → Spells app before h entries content → Spells app after h entries content
-spells_by_its_own app (Guarded (section.Res r)) before after entries content has left spells =
-    spells ∙ ap Number (sym (left (resource_at app r) (inl (resource_is_home app r has))))
-spells_by_its_own app (Guarded (section.Free n)) before after entries content has left spells = let task =
-    the_task is_software app n has in spells_free app before after entries n task.0 content task.1 task.2 left spells
-spells_by_its_own app (Guarded (section.Ready p)) before after entries content has left spells =
-    spells_ready app before after entries p content has left spells
-spells_by_its_own app (Guarded section.Timer) before after entries content has left spells =
-    spells_timer app before after entries content has left spells
-spells_by_its_own app (Own n) before after entries content has left spells =
-    spells ∙ ap Number (sym (left (local_at app n) (inl (local_is_home app n has))))
+    → Represents app before h entries content → Represents app after h entries content
+represents_by_its_own app (Guarded (section.Res r)) before after entries content has left represents =
+    represents ∙ ap Number (sym (left (resource_at app r) (inl (resource_is_home app r has))))
+represents_by_its_own app (Guarded (section.Free n)) before after entries content has left represents = let task =
+    the_task is_software app n has in represents_free app before after entries n task.0 content task.1 task.2 left
+    represents
+represents_by_its_own app (Guarded (section.Ready p)) before after entries content has left represents =
+    represents_ready app before after entries p content has left represents
+represents_by_its_own app (Guarded section.Timer) before after entries content has left represents =
+    represents_timer app before after entries content has left represents
+represents_by_its_own app (Own n) before after entries content has left represents =
+    represents ∙ ap Number (sym (left (local_at app n) (inl (local_is_home app n has))))

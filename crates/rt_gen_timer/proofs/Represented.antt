@@ -1,7 +1,7 @@
 -- The timer queue of an application is a heap in cells, as its section finds it: its messages stand in rows of their
 -- own tasks, its first message has the least armed instant, and a handle that none of them has is of no armed message.
 use Rattle.rt_gen_queue.proofs.Vocabulary.{App, Armed, Content, Entry, IsArranged, IsTimedPlace, List, MayArm, None}
-use Rattle.rt_gen_queue.proofs.Vocabulary.{Some, SpellsTimer, Task, [], all_counted, ap, arith, message_of_handle}
+use Rattle.rt_gen_queue.proofs.Vocabulary.{Some, RepresentsTimer, Task, [], all_counted, ap, arith, message_of_handle}
 use Rattle.rt_gen_queue.proofs.Vocabulary.{arming_of_entry}
 use Rattle.rt_gen_queue.proofs.Vocabulary.{capacities_before, armed_messages, armed_place, at, capacity_of, delays}
 use Rattle.rt_gen_queue.proofs.Vocabulary.{handle_at, if◌then◌else◌, inl, inr, is_armed, is_software, least_instant}
@@ -16,7 +16,7 @@ use Rattle.rt_gen_timer.proofs.Arranged.{in_queue, none_armed}
 use Rattle.rt_gen_timer.specs.{TimerCode.armed_task, TimerCode.queue_of, TimerLines.heap_of}
 
 module _ {app : App} {cells : ℕ → ℕ} {entries : List Entry} {content : Content}
-    (s : SpellsTimer app cells entries content) where
+    (s : RepresentsTimer app cells entries content) where
   -- a position in the heap has a place of a task that may be armed
   pub place_of : (j : ℕ) → j < length s.heap → IsTimedPlace app (at s.heap j)
   place_of j within = all_counted (IsTimedPlace app) entries (at s.heap j) s.places (in_queue s.arranged j within)
@@ -29,12 +29,12 @@ module _ {app : App} {cells : ℕ → ℕ} {entries : List Entry} {content : Con
   few_armings few = subst MayArm s.is few
 
   -- the count of the heap is in its cell
-  pub spelled_count : cells (queue_of app).at ≡ length s.heap
-  spelled_count = s.count ∙ sym s.arranged.long
+  pub represented_count : cells (queue_of app).at ≡ length s.heap
+  represented_count = s.count ∙ sym s.arranged.long
 
-  pub spelled_column : (j : ℕ) → j < length s.heap
+  pub represented_column : (j : ℕ) → j < length s.heap
       → cells (heap_of (queue_of app) + j) ≡ armed_place app (at s.heap j)
-  spelled_column j within =
+  represented_column j within =
       s.column j (at s.heap j) (slice_get-get_or s.heap j (record { task = 0; place = 0 }) within)
 
   -- the armed messages are those of the list
@@ -107,7 +107,7 @@ module _ {app : App} {cells : ℕ → ℕ} {entries : List Entry} {content : Con
       ∙ handle_of_another s.arranged (arming_of_entry app cells) apart j within task (other_task task j within out)
 
 module _ (cells : List ℕ) {app : App} {entries : List Entry} {content : Content}
-    (s : SpellsTimer app (slice_index cells) entries content) where
+    (s : RepresentsTimer app (slice_index cells) entries content) where
   abbrev IsWholeHeap : List Entry → Type 0
   IsWholeHeap heap =
       IsWhole (queue_of app) (armed_place app) (instant_in app cells) (number_in app cells) (length s.heap) cells heap
@@ -117,7 +117,7 @@ module _ (cells : List ℕ) {app : App} {entries : List Entry} {content : Conten
   whole_within most = record {
     room = omega (arith, s.room, s.arranged.long);
     long = refl;
-    column = spelled_column s;
+    column = represented_column s;
     kept = λ j within.
         let small =
         all_counted (λ e. number_in app cells e < s.timed.given + s.timed.moved) entries (at s.heap j) s.arranged.below
@@ -126,8 +126,8 @@ module _ (cells : List ℕ) {app : App} {entries : List Entry} {content : Conten
   }
 
   -- so where one more may come
-  pub spelled_whole : MayArm content → IsWholeHeap s.heap
-  spelled_whole few = whole_within (omega (arith, few_armings s few))
+  pub represented_whole : MayArm content → IsWholeHeap s.heap
+  represented_whole few = whole_within (omega (arith, few_armings s few))
 
   abbrev IsFirstOf : List Entry → Type 0
   IsFirstOf heap =

@@ -1,7 +1,7 @@
 use Rattle.std.proofs.Common.{ℕ, ◌-◌, ap, ◌∙◌, arith}
 use Rattle.std.proofs.lemmas.List.{get_or_read}
 use Rattle.rt_baker_work.proofs.Stores.{place_given}
-use Rattle.rt_baker_work.proofs.store.Store.give_back.Goals as goal
+use Rattle.rt_baker_work.proofs.store.Store.free_one.Goals as goal
 
 pub returns : goal.returns
 returns c =

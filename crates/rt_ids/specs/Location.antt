@@ -5,10 +5,10 @@ use Rattle.rt_ids.specs.declared.ids.Section.{Section}
 use Rattle.rt_ids.specs.declared.ids.Section.TheVariants as section
 
 -- something that holds a value or a queue: what a section guards, or a local resource
-pub data Holder : Type 0 where
-  Guarded : (section : Section) → Holder
+pub data Location : Type 0 where
+  Guarded : (section : Section) → Location
   -- a local resource, by its index in the order of declaration
-  Own : (local : ℕ) → Holder
+  Own : (local : ℕ) → Location
 
 -- whether two sections are one
 abbrev pub is_same_section : Section → Section → Bool
@@ -18,8 +18,8 @@ is_same_section (section.Ready a) (section.Ready b) = a == b
 is_same_section section.Timer section.Timer = true
 is_same_section a b = false
 
--- whether two holders are one
-abbrev pub is_same_holder : Holder → Holder → Bool
-is_same_holder (Guarded a) (Guarded b) = is_same_section a b
-is_same_holder (Own a) (Own b) = a == b
-is_same_holder a b = false
+-- whether two locations are one
+abbrev pub is_same_location : Location → Location → Bool
+is_same_location (Guarded a) (Guarded b) = is_same_section a b
+is_same_location (Own a) (Own b) = a == b
+is_same_location a b = false

@@ -1,4 +1,4 @@
--- The frames that words spell are those whose words they are.
+-- The frames that words represent are those whose words they are.
 use Rattle.std.proofs.Common.{◌≡◌, ℕ, ◌-◌, ◌≤◌, List, [], ◌∷◌, ◌++◌, length, map, take, drop, Option, Some, None, refl}
 use Rattle.std.proofs.Common.{sym, ap, subst, ◌∙◌, arith, append_assoc, length-append}
 use Rattle.std.proofs.lemmas.List.{length-replicate}
@@ -8,7 +8,7 @@ use Rattle.rt_context.specs.declared.frames.Frames.TheInside.{Inside}
 use Rattle.rt_code.specs.Stack.{words_of}
 use Rattle.rt_context.specs.Frames.{Saved, Frames, exception_frame, words_below, words}
 use Rattle.rt_context.specs.Inside.Parts.{last_of, without, caller_of, below_caller, saved_context, below_saved}
-use Rattle.rt_context.specs.Inside.Parts.{contexts_in_words, frames, caller_size, Spells, IsSpelled}
+use Rattle.rt_context.specs.Inside.Parts.{contexts_in_words, frames, caller_size, Represents, IsRepresented}
 
 -- words behind others
 module _ (n : ℕ) (xs ys : List ℕ) (same : length ys ≡ n) where
@@ -118,12 +118,12 @@ by_sizes-words f basic =
     })
     ∙ (λ i. record f { below = saved_of-words_below f.entry basic f.below i })
 
--- fields that spell frames are seen as these, and keep the invariant
-pub spelled : (f : Frames) (c : Inside) → Spells f c → frames c ≡ f
+-- fields that represent frames are seen as these, and keep the invariant
+pub represented : (f : Frames) (c : Inside) → Represents f c → frames c ≡ f
 unfolding frames
-spelled f c s =
-    (λ i. by_sizes (s.size i) (s.entry i) (s.spelled i) (s.frame i) (s.caller i) (s.callers i))
+represented f c s =
+    (λ i. by_sizes (s.size i) (s.entry i) (s.represented i) (s.frame i) (s.caller i) (s.callers i))
     ∙ by_sizes-words f s.basic
 
-pub kept : (f : Frames) (c : Inside) → Spells f c → IsSpelled c
-kept f c s = subst (λ (g : Frames). Spells g c) (sym (spelled f c s)) s
+pub kept : (f : Frames) (c : Inside) → Represents f c → IsRepresented c
+kept f c s = subst (λ (g : Frames). Represents g c) (sym (represented f c s)) s

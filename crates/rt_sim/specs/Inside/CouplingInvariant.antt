@@ -1,9 +1,9 @@
 -- What holds at each moment of a run of an image: jobs own different things, priorities rise, masks and frames are as
--- the open sections and priorities say, and what no started job owns is spelled in memory.
+-- the open sections and priorities say, and what no started job owns is represented in memory.
 use Rattle.std.specs.Prelude.{◌≡◌, ℕ, ◌+◌, ◌^◌, ◌<◌, ◌≤◌, ◌⊎◌, true, false, None, IfSome, List, [], ◌∷◌, length}
 use Rattle.std.specs.Prelude.{slice_index}
 use Rattle.std.specs.List.{AllByRecursion}
-use Rattle.rt_ids.specs.Holder.{Holder}
+use Rattle.rt_ids.specs.Location.{Location}
 use Rattle.rt_ids.specs.Content.{Values}
 use Rattle.rt_ids.specs.Entry.{Entry}
 use Rattle.rt_ids.specs.declared.limits.TheConstants.{IRQ_NUMBERS}
@@ -16,10 +16,10 @@ use Rattle.rt_code.specs.Stack.{words_of}
 use Rattle.rt_laws.specs.State.{Init, Idle, Waiting, Serving}
 use Rattle.rt_laws.specs.Preemption.{system_ceiling}
 use Rattle.rt_laws.specs.Services.{timer_number}
-use Rattle.rt_sim.specs.Inside.Moment.{Part, Moment, jobs_of}
+use Rattle.rt_sim.specs.Inside.Coupling.{Part, Coupling, jobs_of}
 use Rattle.rt_sim.specs.Inside.Counts.{hands, IsOnce}
 use Rattle.rt_sim.specs.Inside.Chains.{is_init, base_of, mask_of, Saves}
-use Rattle.rt_sim.specs.Inside.PartFits.{Owns, AreApart, PartFits}
+use Rattle.rt_sim.specs.Inside.PartInvariant.{Owns, AreApart, PartInvariant}
 
 module _ (app : App) (img : Image) (thread : ℕ) where
   -- the thread, which runs `init` at the greatest priority and then `idle` at 0
@@ -47,17 +47,17 @@ module _ (app : App) (img : Image) (thread : ℕ) where
   IsStacked p [] = IsThread p
   IsStacked p (q ∷ ps) = IsOn p q ps × IsStacked q ps
 
-  -- memory spells what no started job owns
-  abbrev pub IsSpelled : List ℕ → (Holder → List Entry) → Values → List Part → Type 0
-  IsSpelled cells queues values parts =
-      (h : Holder) → IsHeld app h → AllByRecursion (λ p. Owns app img thread p h ≡ false) parts
-      → (storage app).Spells h (slice_index cells) (queues h) (values h)
+  -- memory represents what no started job owns
+  abbrev pub IsRepresented : List ℕ → (Location → List Entry) → Values → List Part → Type 0
+  IsRepresented cells queues values parts =
+      (h : Location) → IsHeld app h → AllByRecursion (λ p. Owns app img thread p h ≡ false) parts
+      → (storage app).Represents h (slice_index cells) (queues h) (values h)
 
-  -- a moment fits, which is the simulation relation: all that ties the core to the state of Baker's machine
-  pub record Fits (m : Moment) : Type 0 where
+  -- The coupling invariant: all that ties the core to the state of Baker's machine
+  pub record CouplingInvariant (m : Coupling) : Type 0 where
     pub stack : IsStacked m.running m.below
-    pub parts : AllByRecursion (PartFits app img thread m.cells m.queues m.values) (m.running ∷ m.below)
-    pub spelled : IsSpelled m.cells m.queues m.values (m.running ∷ m.below)
+    pub parts : AllByRecursion (PartInvariant app img thread m.cells m.queues m.values) (m.running ∷ m.below)
+    pub represented : IsRepresented m.cells m.queues m.values (m.running ∷ m.below)
     pub basepri : m.basepri ≡ base_of app m.running m.below
     pub primask : m.primask ≡ mask_of app m.running m.below
     pub memory : length m.cells ≡ length (memory app)

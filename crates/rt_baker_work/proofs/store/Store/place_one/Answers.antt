@@ -2,7 +2,7 @@ use Rattle.std.proofs.Common.{ℕ, ◌+◌, get_or, ap, ◌∙◌, arith}
 use Rattle.std.proofs.lemmas.List.{get_or_read}
 use Rattle.rt_baker_work.specs.Store.{Store}
 use Rattle.rt_baker_work.proofs.Stores.{place_taken}
-use Rattle.rt_baker_work.proofs.store.Store.take_place.Goals as goal
+use Rattle.rt_baker_work.proofs.store.Store.place_one.Goals as goal
 
 pub overflow_add-out : goal.overflow_add-out
 overflow_add-out c =

@@ -1,5 +1,5 @@
 use Rattle.rt_gen_queue.proofs.Vocabulary.{arith}
-use Rattle.rt_gen_queue.proofs.parts.take.Goals as goal
+use Rattle.rt_gen_queue.proofs.parts.place.Goals as goal
 
 pub overflow_add-count : goal.overflow_add-count
 overflow_add-count c = omega (arith, c.requires)
