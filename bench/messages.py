@@ -1,5 +1,5 @@
 #!/usr/bin/env python3
-"""Writes the cases of messages in command_cases: applications with software tasks, scripts, and the items of their runs.
+"""Writes the cases of messages in command_cases: applications with software tasks, scripts, and the items of runs.
 
     python3 messages.py PROGRAM CRATE
 
@@ -20,7 +20,7 @@ EXAMPLES = Path(__file__).resolve().parent.parent / "examples"
 # the tables in the order in which the crate runs them
 TABLES = (
     "tokens", "canonical", "syntax", "limits", "reports", "refusals", "runs", "builds", "messages", "alone", "live",
-    "slow", "held", "soaks", "demos", "failing", "scripts", "audits", "cuts", "lines", "commands",
+    "slow", "held", "pairs", "soaks", "demos", "failing", "scripts", "audits", "listings", "cuts", "lines", "commands",
 )
 SECTIONS = "enter leave"
 UNSET = "enter leave set"
@@ -210,21 +210,22 @@ STALE = STALE.replace("now_or(1)", "1")
 
 CASES += [
     ("two equal instants and a delay of 0", TIMED, "pend A\nstep 2000\ntick 2\nstep 2000\n", UNSET, (
-        "pend A | end init | take A 136 | ok t | clock 0 | arm t 2 | ok t | clock 0 | arm t 2 | ok t | clock 0 | arm t 0"
-        " | alarm | take T 264 | clock 0 | fire t | ready t | post D | ret T | take D 232 | start t 3 | free t | emit 3"
-        " | end t | ret D | ret A | tick | tick | alarm | take T 128 | clock 2 | fire t | alarm | ready t | post D"
-        " | ret T | take T 128 | clock 2 | fire t | ready t | post D | ret T | take D 96 | start t 1 | post D | free t"
+        "pend A | end init | take A 136 | ok t | clock 0 | arm t 2 | ok t | clock 0 | arm t 2 | ok t | clock 0"
+        " | arm t 0 | alarm | take T 264 | clock 0 | fire t | ready t | post D | ret T | take D 232 | start t 3"
+        " | free t | emit 3 | end t | ret D | ret A | tick | tick | alarm | take T 128 | clock 2 | fire t | alarm"
+        " | ready t | post D | ret T | take T 128 | clock 2 | fire t | ready t | post D | ret T | take D 96 | start t 1"
+        " | post D | free t"
         " | emit 1 | end t | ret D | take D 96 | start t 2 | free t | emit 2 | end t | ret D")),
     ("the longest delay is 2^31 - 1", TIMED.replace("(2) t(1)", "(4294967295) t(1)"),
      "pend A\nstep 2000\ntick 2\nstep 2000\n", UNSET, None),
     ("three instants, the least in the middle", TIMED.replace("(2) t(1)", "(5) t(1)").replace("(2) t(2)", "(3) t(2)")
      .replace("(0) t(3)", "(5) t(3)"), "pend A\nstep 2000\ntick 5\nstep 2000\n", UNSET, (
-        "pend A | end init | take A 136 | ok t | clock 0 | arm t 5 | ok t | clock 0 | arm t 3 | ok t | clock 0 | arm t 5"
-        " | ret A | tick | tick | tick | alarm | tick | tick | take T 128 | clock 5 | fire t | alarm | ready t | post D"
-        " | ret T | take T 128 | clock 5 | fire t | alarm | ready t | post D | ret T | take T 128 | clock 5 | fire t"
-        " | ready t | post D | ret T | take D 96 | start t 2 | post D | free t | emit 2 | end t | ret D | take D 96"
-        " | start t 1 | post D | free t | emit 1 | end t | ret D | take D 96 | start t 3 | free t | emit 3 | end t"
-        " | ret D")),
+        "pend A | end init | take A 136 | ok t | clock 0 | arm t 5 | ok t | clock 0 | arm t 3 | ok t | clock 0"
+        " | arm t 5 | ret A | tick | tick | tick | alarm | tick | tick | take T 128 | clock 5 | fire t | alarm"
+        " | ready t | post D | ret T | take T 128 | clock 5 | fire t | alarm | ready t | post D | ret T | take T 128"
+        " | clock 5 | fire t | ready t | post D | ret T | take D 96 | start t 2 | post D | free t | emit 2 | end t"
+        " | ret D | take D 96 | start t 1 | post D | free t | emit 1 | end t | ret D | take D 96 | start t 3 | free t"
+        " | emit 3 | end t | ret D")),
     ("a message that is moved, and one that is taken back", UNDO, "pend A\nstep 2000\ntick 9\nstep 2000\n", UNSET,
      "pend A | end init | take A 176 | ok t | clock 0 | arm t 5 | ok t | clock 0 | arm t 5 | clock 0 | move t 1 9"
      " | cancel t 2 | free t | emit 214 | ret A | tick | tick | tick | tick | tick | tick | tick | tick | tick | alarm"
