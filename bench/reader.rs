@@ -1,5 +1,5 @@
-// A plain reader of traces, for bench/run: `reader TRACE` reads the items of a trace into memory, as `rtic audit` does
-// before it judges them, and writes how many there are and the sum of their numbers.
+// A plain reader of traces, for bench/run: `reader TRACE` reads the items of a trace into memory, and writes how many
+// there are and the sum of their numbers. `rtic audit` keeps none: it judges each line as it reads it.
 use std::collections::HashMap;
 use std::env;
 use std::error::Error;
