@@ -100,11 +100,13 @@ class Chance:
         made = [
             f"set {slot()} {small()}", f"set {slot()} {r.randrange(4)}", f"copy {slot()} {slot()}", f"emit {slot()}",
             f"{r.choice(core.OPS)} {slot()} {slot()} {slot()}", f"jumpz {slot()} .{r.randrange(size)}", f"post {irq()}",
-            f"clock {slot()}", f"alarm {slot()} {irq()}", f"post {irq()}", "noalarm", f"raise {slot()} {r.randrange(8) * 32}",
-            f"restore {slot()}", f"mask {slot()}", f"unmask {slot()}", "mark", "serve",
+            f"clock {slot()}", f"alarm {slot()} {irq()}", f"post {irq()}", "noalarm",
+            f"raise {slot()} {r.randrange(8) * 32}", f"restore {slot()}", f"mask {slot()}", f"unmask {slot()}", "mark",
+            "serve",
         ]
         if cells:
-            made += [f"load {slot()} {cell()}", f"store {cell()} {slot()}", f"loadat {slot()} 0 {slot()}", f"storeat 0 {slot()} {slot()}"]
+            made += [f"load {slot()} {cell()}", f"store {cell()} {slot()}"]
+            made += [f"loadat {slot()} 0 {slot()}", f"storeat 0 {slot()} {slot()}"]
         if rows and r.random() < 0.5:
             return f"call {r.randrange(rows)} {slot()}"
         return r.choice(made)
@@ -112,7 +114,8 @@ class Chance:
     def note(self, frame, cells, rows):
         r = self.r
         tasks = range(rows) if rows else range(1)
-        made = [f"enter {s}" for s in ("r0", "free.t1", "ready.2", "timer.0")] + ["leave free.t0", "leave timer.0", "end idle"]
+        made = [f"enter {s}" for s in ("r0", "free.t1", "ready.2", "timer.0")]
+        made += ["leave free.t0", "leave timer.0", "end idle"]
         made += [f"{kind} t{r.randrange(4)}" for kind in ("ok", "full", "ready", "free", "fire", "end")]
         made += [f"leave r{r.randrange(min(cells, 3))}"] * 3 if cells else []
         made += [f"start t{r.choice(tasks)} 0"] * 2 if rows else []
@@ -147,7 +150,8 @@ class Chance:
             parts.append(([f"t{row}", str(frame), str(args)], self.block(frame, irqs, cells, 0, "back")))
         orders = []
         for _ in range(r.randrange(4, 10)):
-            orders.append(r.choice([f"step {r.randrange(1, 9)}", f"tick {r.randrange(1, 3)}", f"pend i{r.choice(irqs)}"]))
+            drawn = [f"step {r.randrange(1, 9)}", f"tick {r.randrange(1, 3)}", f"pend i{r.choice(irqs)}"]
+            orders.append(r.choice(drawn))
         return made_image(parts), orders + ["step 12"]
 
 

@@ -1,5 +1,5 @@
-// A plain interpreter of crates/bench_core's two images, for bench/run: `interpreter thread N` and `interpreter handler N`. It has
-// the machine's instructions that need no tables, one pending interrupt, and no proofs.
+// A plain interpreter of crates/bench_core's two images, for bench/run: `interpreter thread N` and `interpreter handler
+// N`. It has the machine's instructions that need no tables, one pending interrupt, and no proofs.
 use std::env;
 use std::hint::black_box;
 use std::mem;

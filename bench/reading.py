@@ -1,5 +1,6 @@
 #!/usr/bin/env python3
-"""Prints the speed of `rtic fmt`, `rtic check` and `rtic build`, each as a share of the speed of `LC_ALL=C wc -w` over the same text.
+"""Prints the speed of `rtic fmt`, `rtic check` and `rtic build`, each as a share of the speed of `LC_ALL=C wc -w` over
+the same text.
 
     python3 reading.py PROGRAM FOLDER
 

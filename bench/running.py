@@ -54,8 +54,8 @@ task high(priority = 2, capacity = 4) with a, b, c, d { emit a + b + c + d; }
 """
 
 
-# Some fifty of the 64 places for delayed messages are armed: at each tick one is armed and one fires, and at every sixth
-# one is cancelled and one moved. The thread never waits.
+# Some fifty of the 64 places for delayed messages are armed: at each tick one is armed and one fires, and at every
+# sixth one is cancelled and one moved. The thread never waits.
 TIMED = """\
 monotonic(binds = TIMER, priority = 3);
 shared { lock_free last = 0 }

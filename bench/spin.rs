@@ -1,5 +1,6 @@
-// The steps of crates/bench_core's two images as plain Rust, for bench/run: `spin thread N` and `spin handler N`. A step is one
-// instruction of the image; the first of `handler` are the end of the thread's code, the entry and the handler's first.
+// The steps of crates/bench_core's two images as plain Rust, for bench/run: `spin thread N` and `spin handler N`. A
+// step is one instruction of the image; the first of `handler` are the end of the thread's code, the entry and the
+// handler's first.
 use std::env;
 use std::hint::black_box;
 

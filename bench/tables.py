@@ -1,6 +1,6 @@
 #!/usr/bin/env python3
-"""Writes tables of command_cases whose answers are another implementation's: runs beside devices that leave nothing free,
-a text cut after each of its bytes, and a trace without each of its lines.
+"""Writes tables of command_cases whose answers are another implementation's: runs beside devices that leave nothing
+free, a text cut after each of its bytes, and a trace without each of its lines.
 
     python3 tables.py PROGRAM CRATE
 

@@ -2,7 +2,7 @@
 """Writes an application text to standard output, for bench/run and bench/stack.
 
     python3 texts.py natural BYTES       as people write: long names, comments, indentation, just so many bytes
-    python3 texts.py dense BYTES         no blank where none is needed, an expression in each statement, just so many bytes
+    python3 texts.py dense BYTES         no blank where none is needed, an expression in each statement, so many bytes
     python3 texts.py hardware BYTES      the same, each task bound to an interrupt of its own
     python3 texts.py variables N         tasks with N variables in scope, as long for each N up to 930
     python3 texts.py parentheses N       an expression with N open parentheses

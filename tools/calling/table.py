@@ -61,7 +61,7 @@ def name_of(parameter):
 
 
 def unsaid(call):
-    """The arguments lent to be changed of which no clause says what is left; of a call with an error, where it fails."""
+    """The arguments lent to be changed of which no clause says what is left, of a call with an error where it fails."""
     clauses = [clause for clause in promised(call) if not error_of(call) or is_of_failure(clause)]
     return [name for name in map(name_of, changes(call)) if (key(call), name) not in ARGUMENTS_UNSAID
             and not any(tells_of(clause, name) for clause in clauses)]

@@ -11,8 +11,8 @@ COMMANDS = {
 RANGES = {"NUMBER": (0, (1 << 64) - 1), "COUNT": (1, 10_000), "WORKERS": (1, 64), "N": (1, 48)}
 DIGITS = re.compile(r"[0-9]{1,20}")
 FORMS = {
-    "deepest": "`deepest` is for hardware tasks alone, without a monotonic, and an `init` that has no `pend` and costs at "
-               "most 900,000",
+    "deepest": "`deepest` is for hardware tasks alone, without a monotonic, and an `init` that has no `pend` and costs "
+               "at most 900,000",
     "times": "`times` is for hardware tasks alone, without a monotonic and without a `pend`",
 }
 LISTED = [f"`{' '.join((name,) + words)}`" for name, words in COMMANDS.items()]

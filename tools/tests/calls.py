@@ -27,7 +27,8 @@ def main():
     tried = [
         ("want of memory that leaves something unsaid", lacks("Result<(), NoMemory>", OK), True),
         ("want of memory that leaves all as it was", lacks("Result<(), NoMemory>", OK, LEFT), False),
-        ("an error without a cause", lacks("Result<(), Refused>", OK, LEFT._replace(text="self.new ≡ self.old")), True),
+        ("an error without a cause",
+         lacks("Result<(), Refused>", OK, LEFT._replace(text="self.new ≡ self.old")), True),
         ("an error with its cause, and what it leaves", lacks("Result<(), Refused>", WHEN, LEFT), False),
         ("None without a cause", lacks("Option<u8>"), True),
         ("None where nothing is left", lacks("Option<u8>", NEXT), False),
@@ -35,7 +36,8 @@ def main():
         ("a call that always answers", lacks("u32", parameters=["&self"]), False),
         ("a call that leaves something unsaid", lacks("u32"), True),
         ("want of memory that leaves the second argument unsaid",
-         lacks("Result<(), NoMemory>", LEFT._replace(text="OnErr result (first.new ≡ first.old)"), parameters=TWO), True),
+         lacks("Result<(), NoMemory>", LEFT._replace(text="OnErr result (first.new ≡ first.old)"), parameters=TWO),
+         True),
         ("a row that is missing", "| `Core::step` |" in table.table()[0], True),
     ]
     wrong = [name for name, is_told, wanted in tried if is_told != wanted]
