@@ -222,7 +222,7 @@ def told_total(asked):
     least = max(last, used + 1)
     if total < least:
         items = len(trace.items)
-        return [("help", f"the total is the number of all core steps, and item {items} stands behind {last} of them")]
+        return [("help", f"the total is the number of all core steps, and item {items} comes after {last} of them")]
     if asked.audit.program.took > LONG:
         return []
     said = [("help", f"the greatest total that `audit` takes here is {asked.audit.last_step(least, total)}")]

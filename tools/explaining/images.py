@@ -12,5 +12,5 @@ def image_line(number, source, size, table):
     if number == 2 and source.endswith("\r"):
         said.cause = "the line ends with a carriage return, and a line feed alone is due"
     elif number == 2 and source != " ".join(source.split()):
-        said.cause = "words are separated by one space, and none stands before the first or behind the last"
+        said.cause = "words are separated by one space, with none before the first or after the last"
     return said

@@ -29,7 +29,7 @@ def bad_line(said, words, lines, table):
     if "\t" in source.strip(" \t\r"):
         return said.at("\t", "words are separated by spaces, and this is a tab")
     if source != source.strip(" \t") or source.endswith("\r"):
-        return said.at(source.strip(" \t"), "a blank stands before the first word, or behind the last")
+        return said.at(source.strip(" \t"), "a blank comes before the first word, or after the last")
     if words[0] != "every":
         said.at(words[0], f"no line of limits begins with `{words[0]}`")
         said.helps = [HASH if words[0].startswith(("//", "--", ";", "/*")) else forms]

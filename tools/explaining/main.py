@@ -20,7 +20,7 @@ APPLICATION, SECOND = 262_144, 268_435_456
 DONE, REFUSED, USAGE, BAD_LINE, NO, UNREAD = range(6)
 REFUSAL = re.compile(rb"(second )?(\d+):(\d+) E(\d\d) ([^\n]*)\n")
 LINE_REFUSAL = re.compile(rb"(script|trace|limits|image):(\d+) (\d) ([^\n]*)\n")
-NOT_ASKED = "what may stand here is asked of the proved program, which is not built: ./build makes it"
+NOT_ASKED = "what may come here is asked of the proved program, which is not built: ./build makes it"
 
 
 class Explained:

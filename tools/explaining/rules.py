@@ -193,7 +193,7 @@ class Rules:
         second = next(token for token in tokens if self.at in (token.at, token.at - 1))
         first = next(token for token in tokens if token.text == second.text)
         self.row(table, f"E06 {kind}", N=second.text, **values)
-        self.note(f"the first `{second.text}` stands here", first)
+        self.note(f"the first `{second.text}` is here", first)
 
     def shadow(self, table):
         body, use = self.use()
@@ -204,7 +204,7 @@ class Rules:
         else:
             self.row(table, "E06 variable", N=name)
         first = taken[0][1] if taken else use.around.variable(name)[0]
-        self.note(f"the first `{name}` stands here", first)
+        self.note(f"the first `{name}` is here", first)
         return body
 
     def e07(self, table):
@@ -223,14 +223,14 @@ class Rules:
         if numbers:
             first = next(row for row in app.interrupts if row[1].value == numbers[0][1].value)
             self.row(table, "E08 number", A=Phrase(str(first[1].value)), N=first[0].text)
-            return self.note("the first use stands here", first[1])
+            return self.note("the first use is here", first[1])
         uses = [("dispatcher", token, "") for token in app.dispatchers]
         uses += [("monotonic", app.monotonic[1], "")] if app.monotonic else []
         uses += [("task", task.binds, task.name.text) for task in app.tasks if task.binds]
         name = next(token.text for _, token, _ in uses if token.at == self.at)
         kind, first, task = next(row for row in uses if row[1].text == name)
         self.row(table, f"E08 {kind}", N=name, T=task)
-        return self.note("the first use stands here", first)
+        return self.note("the first use is here", first)
 
     def e09(self, table):
         app, levels = self.app, self.app.levels()
@@ -280,7 +280,7 @@ class Rules:
         _, use = self.use()
         name = use.token.text
         self.row(table, "E12", N=name)
-        self.note("the lock round it stands here", next(lock for lock in use.around.locks if lock.text == name))
+        self.note("the lock round it is here", next(lock for lock in use.around.locks if lock.text == name))
 
     def e13(self, table):
         body, _, row = self.listing()
@@ -369,7 +369,7 @@ class Rules:
         variable = use.around.variable(name)
         if variable:
             self.row(table, "E18 loop", N=name)
-            return self.note("its loop stands here", variable[0])
+            return self.note("its loop is here", variable[0])
         row = body.lists(name)
         self.row(table, "E18", N=name, B=body.name.text)
         return self.note("it is listed here", row.name, row.at, row.name.end - row.at)

@@ -10,7 +10,7 @@ FORMS = {
     "clock": "V", "arm": "T V", "cancel": "T H", "move": "T H V", "end": "X", "trap": "K",
 }
 SECTIONS = ": X is a shared resource, `free.T`, `ready.P` with P below 256, or `timer.0`"
-MEANING = {"take": ", with the bytes of stack in use behind the entry", "enter": SECTIONS, "leave": SECTIONS}
+MEANING = {"take": ", with the bytes of stack in use after the entry", "enter": SECTIONS, "leave": SECTIONS}
 HASH = "a comment begins with `#`, and has a line of its own"
 EVENTS, SCRIPT_BYTES, LARGEST = 1_000_000, 1_048_576, 4_294_967_295
 NUMERAL = re.compile(r"[0-9]+")
@@ -75,14 +75,14 @@ def bad_line(app, said, words, table):
     if "\t" in source.strip(" \t\r"):
         return said.at("\t", "words are separated by spaces, and this is a tab")
     if source != source.strip(" \t") or source.endswith("\r"):
-        said.at(source.strip(" \t"), "a blank stands before the first word, or behind the last")
+        said.at(source.strip(" \t"), "a blank comes before the first word, or after the last")
         return said
     if words[0] not in ("step", "tick", "pend", "device"):
         said.at(words[0], f"no line of a script begins with `{words[0]}`")
         if words[0].startswith(("//", "--", ";", "/*")):
             said.helps = [HASH]
         elif words[0] == "app":
-            said.helps = ["this looks like an application; the application stands first, then the script"]
+            said.helps = ["this looks like an application; the application comes first, then the script"]
         elif words[0].lower() in ("step", "tick", "pend", "device"):
             said.helps = [f"write `{words[0].lower()}`"]
         else:
@@ -98,7 +98,7 @@ def short_words(app, said, words):
     """What is wrong after the first word."""
     if words[0] in ("step", "tick"):
         if len(words) != 2:
-            return said.at(words[-1] if len(words) == 1 else words[2], f"`{words[0]}` wants one number behind it")
+            return said.at(words[-1] if len(words) == 1 else words[2], f"`{words[0]}` wants one number after it")
         return said.at(words[1], f"`{words[1]}` is no number of one to nine digits")
     if words[0] == "device":
         if len(words) > 1 and not (NUMERAL.fullmatch(words[1]) and len(words[1]) <= 9):
@@ -113,7 +113,7 @@ def short_words(app, said, words):
         said.helps = [f"the interrupt of number {words[1]} is `{rows[0]}`"] if rows else []
         return said
     if len(words) > 3:
-        return said.at(words[3], "behind `pend I` stands one number at most")
+        return said.at(words[3], "at most one number comes after `pend I`")
     return said.at(words[2], f"`{words[2]}` is no number of one to nine digits")
 
 
@@ -150,20 +150,20 @@ def trace_line(app, number, source, lines, line, table):
 def bad_item(app, said, lines, line, table):
     source, words = said.source, said.source.split(" ")
     if lines and lines[0].startswith("image ") and "trace" not in lines[: line - 1]:
-        said.cause = "a listing stands in front, and no line `trace` ends it"
-        said.helps = ["this is what `build` writes; `run` writes a trace behind it"]
+        said.cause = "a listing comes first, and no line `trace` ends it"
+        said.helps = ["this is what `build` writes; `run` writes a trace after it"]
     elif any(re.fullmatch(r"total \d+", one) for one in lines[: line - 1]):
-        said.cause = "behind the total stand lines alone that begin with `account `"
+        said.cause = "after the total only lines that begin with `account ` may come"
     elif source.endswith("\r"):
         said.cause = "the line ends with a carriage return, and a line of a trace ends with a line feed alone"
     elif not source:
         said.cause = "the line is empty"
     elif "" in words or "\t" in source:
-        said.cause = "one space stands between two words, and none at the ends"
+        said.cause = "one space comes between two words, and none at the ends"
     elif words[0] == "total":
         said.cause = "the form is `total N`"
     elif words == ["trace"]:
-        said.cause = "the line `trace` ends a listing, and none stands in front"
+        said.cause = "the line `trace` ends a listing, and none comes before it"
         said.helps = ["leave it out, or the listing in front in"]
     elif not re.fullmatch(r"[0-9]+", words[0]):
         said.at(words[0], f"a line begins with a number, that of the core steps before it, and `{words[0]}` is none")
@@ -193,11 +193,11 @@ def bad_words(app, said, words):
     if int(words[0]) >= 1 << 31:
         said.at(words[0], f"the step is {int(words[0]):,}, and 2,147,483,647 is the most")
     elif len(words) < 2:
-        said.cause = "an item stands behind the step number"
+        said.cause = "an item comes after the step number"
     elif words[1] == "leave" and len(words) == 3 and not SECTION.match(words[2]):
-        said.cause = "the form is `leave R V`: where a resource's section is left, its value stands behind"
+        said.cause = "the form is `leave R V`: where a resource's section is left, its value comes last"
     elif words[1] == "leave" and len(words) == 4 and SECTION.match(words[2]):
-        said.cause = "the form is `leave X`: only a resource's section has a value behind"
+        said.cause = "the form is `leave X`: only a resource's section has a value after it"
     else:
         said.cause = f"the form is `{f'{words[1]} {FORMS[words[1]]}'.strip()}`{MEANING.get(words[1], '')}"
 

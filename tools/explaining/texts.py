@@ -28,7 +28,7 @@ FORMS = {
 }
 PUT = [";", ",", ")", "]", "}", "{", "=", "("]
 ORDER = (
-    "the declarations stand in this order: `app`, `interrupts`, `monotonic`, `shared`, `local`, `init`, `idle`, tasks"
+    "the declarations come in this order: `app`, `interrupts`, `monotonic`, `shared`, `local`, `init`, `idle`, tasks"
 )
 STATEMENTS = ("let", "if", "for", "lock", "emit", "pend", "spawn", "spawn_after", "cancel", "reschedule_after")
 DECLARED = ("app", "interrupts", "monotonic", "shared", "local", "init", "idle", "task")
@@ -135,7 +135,7 @@ def declared(syntax, found):
     for token in syntax.front:
         depth += {"{": 1, "(": 1, "[": 1, "}": -1, ")": -1, "]": -1}.get(token.text, 0)
         if token.text == word and depth == 0:
-            return f"`{word}` stands once: put all into the one of line {place_of(syntax.text, token.at)[0]}"
+            return f"`{word}` comes once: put all into the one of line {place_of(syntax.text, token.at)[0]}"
     return ORDER
 
 
@@ -144,7 +144,7 @@ def twice(syntax, found):
     opened = syntax.before.rfind("(")
     options = ("binds", "priority", "capacity", "shared", "local")
     if syntax.token.text in options and ")" in found and f" {syntax.token.text} =" in syntax.before[opened:]:
-        return f"`{syntax.token.text}` stands here a second time, and an option stands once"
+        return f"`{syntax.token.text}` comes here a second time, and an option comes once"
     return None
 
 
@@ -162,7 +162,7 @@ def unclosed(syntax, found):
     if not opened:
         return None
     line = place_of(syntax.text, opened[-1].at)[0]
-    return f"the `{opened[-1].text}` of line {line} is not closed" + (", or one behind it" * (last is not opened[-1]))
+    return f"the `{opened[-1].text}` of line {line} is not closed" + (", or one after it" * (last is not opened[-1]))
 
 
 def missing(syntax, found):
@@ -174,8 +174,8 @@ def missing(syntax, found):
     if syntax.token.kind == "word" or syntax.token.text == "}" or new_line and syntax.token.kind == "name":
         line, between = place_of(syntax.text, last.at)[0], syntax.text[last.end : syntax.at]
         comment = between.split("\n", 1)[0].strip().startswith("//") and ";" in between
-        hidden = "; what stands behind `//` is a comment" * comment
-        return f"a `;` is missing behind `{last.text}` in line {line}{hidden}"
+        hidden = "; what follows `//` is a comment" * comment
+        return f"a `;` is missing after `{last.text}` in line {line}{hidden}"
     return None
 
 

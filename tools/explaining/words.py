@@ -52,7 +52,7 @@ def of_command(words):
         least, most = RANGES[wanted[place - 1]]
         return f"{wanted[place - 1]} is {least} to {most:,}, in one to twenty digits, and `{words[place]}` is not"
     kind = "file" if not RANGES.keys() & set(wanted) else "word"
-    noun, verb = kind if len(wanted) == 1 else kind + "s", "stands" if given == 1 else "stand"
+    noun, verb = kind if len(wanted) == 1 else kind + "s", "is" if given == 1 else "are"
     listed = ", ".join(wanted[:-1]) + " and " + wanted[-1] if len(wanted) > 1 else wanted[0]
     return f"`{words[0]}` takes {len(wanted)} {noun}, {listed}, and {given or 'none'} {verb} here"
 

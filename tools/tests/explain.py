@@ -120,7 +120,7 @@ def faults_of(call, files, sentences, lines, status, output):
     if any("fault of tools/explain" in line for line in lines):
         found.append("tools/explain failed")
     if not caret_is_right(lines, answer, files[0]):
-        found.append("the caret stands elsewhere")
+        found.append("the caret is elsewhere")
     return found
 
 
