@@ -23,7 +23,7 @@ def lacks(answer, *clauses, parameters=PLAIN.parameters):
 
 
 def main():
-    stands = subprocess.run([sys.executable, str(TOOLS / "calls")], check=False).returncode == 0
+    passes = subprocess.run([sys.executable, str(TOOLS / "calls")], check=False).returncode == 0
     tried = [
         ("want of memory that leaves something unsaid", lacks("Result<(), NoMemory>", OK), True),
         ("want of memory that leaves all as it was", lacks("Result<(), NoMemory>", OK, LEFT), False),
@@ -43,7 +43,7 @@ def main():
     wrong = [name for name, is_told, wanted in tried if is_told != wanted]
     for name in wrong:
         print(f"calls: {name}: not told as it is to be")
-    return 0 if stands and not wrong else 1
+    return 0 if passes and not wrong else 1
 
 
 if __name__ == "__main__":
