@@ -46,8 +46,8 @@ def closed_later(commands, starter, told):
         os.close(writer)
         thread.join()
         if ended.status != WRITE or not whole.output.startswith(b"".join(kept)):
-            told.differs(f"a pipe that is closed behind {count} bytes: status {ended.status}")
-    told.says(f"output: a pipe closed behind {', '.join(map(str, TAKEN))} of {len(whole.output)} bytes: "
+            told.differs(f"a pipe that is closed after {count} bytes: status {ended.status}")
+    told.says(f"output: a pipe closed after {', '.join(map(str, TAKEN))} of {len(whole.output)} bytes: "
               f"status {WRITE}, and a beginning was taken")
 
 
