@@ -1,5 +1,6 @@
 -- How code does an action: what the job has left to do must begin with it, and what follows goes by the values after
 -- it, whatever others did to what is not the job's. Places of messages move from list to list, and are nowhere copied.
+-- Actions are this project's own.
 use Rattle.std.specs.Prelude.{◌≡◌, ℕ, ◌+◌, ◌≤◌, true, List, [], ◌∷◌, ◌++◌, length, take, drop, slice_get, Option, Some}
 use Rattle.std.specs.Prelude.{if◌then◌else◌}
 use Rattle.rt_ids.specs.Location.{Location, Guarded, is_same_location}

@@ -1,7 +1,8 @@
 -- What one instruction does. The instructions are this model's own; `raise`, `restore`, `mask`, `unmask` and `serve` do
 -- what MSR and CPS do to BASEPRI and PRIMASK (ARMv7-M Architecture Reference Manual, sections B5.2.1 and B5.2.3),
--- effective as the instruction ends. A table of cells and slots that are touched, and a table of effects; the code
--- tests slot by slot.
+-- effective as the instruction ends. Two differences: BASEPRI takes the whole word, where MSR keeps the implemented
+-- bits of its lowest byte; and `unmask` traps at a word above 1, where MSR takes its lowest bit. A table of cells and
+-- slots that are touched, and a table of effects; the code tests slot by slot.
 use Rattle.std.specs.Prelude.{ℕ, suc, ◌+◌, ◌==◌, true, false, not, nat_le, if◌then◌else◌, slice_index, slice_set}
 use Rattle.rt_ids.specs.Operation.{operate, number_of}
 use Rattle.rt_code.specs.Access.{cells_of}

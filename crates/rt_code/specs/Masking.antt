@@ -56,7 +56,8 @@ module _ (st : Storage) (who : Runner) where
   IsWithin Starting x = Unit {0}
   IsWithin (AtPriority p) x = p ≤ st.ceiling x
 
-  -- nobody that may have started keeps what the section guards, or may read it without the section
+  -- In `init`: it does not keep what the section guards. At a priority: no runner at a priority keeps it, or may read
+  -- it without the section.
   abbrev pub NobodyKeeps : Runner → Section → Type 0
   NobodyKeeps Starting x = st.is_kept Starting (Guarded x) ≡ false
   NobodyKeeps (AtPriority p) x =

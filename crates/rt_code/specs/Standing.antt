@@ -1,7 +1,9 @@
 -- Code that stands, that is, code that is correct: from where a job is, instruction after instruction does what the job
 -- has left to do, action by action and in time, whatever others do to what is not its own. It is said by what each
 -- instruction does (`effect`), once for all code, and not by how code is generated: a job is thought of in its own
--- frame, its own sections and its own part of memory, as a task of RTIC 1 is.
+-- frame, its own sections and its own part of memory, as a task of RTIC 1 is. It is rely-guarantee reasoning (Jones,
+-- Tentative Steps Toward a Development Method for Interfering Programs, 1983) with ownership (O'Hearn, Resources,
+-- Concurrency and Local Reasoning, 2007).
 use Rattle.std.specs.Prelude.{◌≡◌, ℕ, zero, suc, ◌-◌, ◌^◌, ◌<◌, Bool, true, false, ◌||◌, List, [], ◌∷◌, length, map}
 use Rattle.std.specs.Prelude.{slice_get, slice_index, Option, Some, None}
 use Rattle.std.specs.List.{AllByRecursion}

@@ -1,4 +1,4 @@
--- The number that the item of a trap shows.
+-- The number that the item of a trap shows. The numbers are this project's own.
 use Rattle.std.specs.Prelude.{ℕ}
 use Rattle.rt_code.specs.declared.processor.Trap.{Trap}
 use Rattle.rt_code.specs.declared.processor.Trap.TheVariants as trap

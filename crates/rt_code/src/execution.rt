@@ -305,8 +305,8 @@ fn serve(registers: &mut Registers) -> Request
     go_on(registers, Request::Nothing)
 }
 
-/// One instruction at a time: its effect on the registers, on the words of the running frame and on the cells of
-/// memory, and what it asks of the rest of the core. A trap changes nothing.
+/// Executes an instruction at a time, in ticks since reset: its effect on the registers, on the words of the running
+/// frame and on the cells of memory, and what it asks of the rest of the core. A trap changes nothing.
 pub fn execute(
     instr: Instr,
     time: u32,

@@ -54,7 +54,8 @@ pub enum Instr {
     Ret,
 }
 
-/// The item that an instruction gives besides its effect, read after it.
+/// A note on an instruction: the item that it gives once it is done. It is read only where the instruction gives no
+/// item of its own; where a slot that it names is not in the frame, the core traps.
 #[derive(Clone, Copy, Debug, PartialEq, Eq)]
 pub enum Note {
     /// `enter X`: a section is entered.

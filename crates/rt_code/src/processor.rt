@@ -42,8 +42,9 @@ pub enum Request {
 pub enum Trap {
     /// A cell that is not there.
     Address,
-    /// A slot that is not in the frame, a frame that does not fit the stack, a call or a return that has no place, or a
-    /// value that PRIMASK does not take.
+    /// A slot that is not in the frame; a frame that does not fit the stack; arguments that are not in both frames; a
+    /// call outside a handler's own code, or in a frame without a slot; a return of a body that was not called, or of a
+    /// handler where none runs or a called body does; or a value above 1 for PRIMASK.
     Stack,
     /// An instruction or a body that is not there.
     Jump,

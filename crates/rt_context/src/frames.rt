@@ -195,7 +195,7 @@ impl Frames {
         Some(self.region.top_ref(caller)[caller as usize - 1])
     }
 
-    /// One instruction at a time, on the running frame.
+    /// Executes an instruction on the running frame, at a time in ticks since reset.
     pub fn execute(
         &mut self,
         instr: Instr,

@@ -1,4 +1,4 @@
--- Different images have different texts, where the same names are declared for both.
+-- Different listable images over the same names, whose numbers are of 64 bits, have different texts.
 use Rattle.std.specs.Prelude.{◌≡◌}
 use Rattle.rt_code.specs.Image.{Image}
 use Rattle.rt_code.specs.Listable.{IsListable}

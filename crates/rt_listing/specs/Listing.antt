@@ -1,5 +1,6 @@
 -- The one text of an image: a line of its sizes, then a line for each cell, declared interrupt, body of a software task
--- and instruction. Words stand one space apart, numbers are decimal, and each line ends with a line feed.
+-- and instruction. Words stand one space apart, numbers are decimal, and each line ends with a line feed. The form is
+-- this project's own.
 use Rattle.std.specs.Prelude.{ℕ, suc, Bool, if◌then◌else◌, List, [], ◌∷◌, ◌++◌, flat_map, length, codes, Option, Some}
 use Rattle.std.specs.Prelude.{None}
 use Rattle.rt_ids.specs.Names.{Names}

@@ -1,4 +1,4 @@
--- The words of an instruction and of a note.
+-- The words of an instruction and of a note. The form is this project's own.
 use Rattle.std.specs.Prelude.{ℕ, List, [], ◌∷◌, ◌++◌, codes, decimal, Option, Some, None}
 use Rattle.rt_ids.specs.Names.{Names}
 use Rattle.rt_ids.specs.declared.op.Op.{Op}

@@ -1,6 +1,6 @@
 ghost use Rattle.rt_listing.specs.Injective.{TellsImagesApart};
 
-/// Different images over the same names have different texts.
+/// Different listable images over the same names, whose numbers are of 64 bits, have different texts.
 pub fn listings_tell_images_apart()
     ensures { TellsImagesApart }
 {}

@@ -1,4 +1,4 @@
-// The text of an image, which no other image over the same names has.
+// The text of an image. No other listable image over the same names has it.
 #![tactic(auto)]
 
 mod law;

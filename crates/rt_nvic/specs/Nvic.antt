@@ -1,7 +1,7 @@
--- The external interrupts of the nested vectored interrupt controller (ARMv7-M Architecture Reference Manual, section
--- B1.5): which of them are enabled, pending and active, and which one is taken. There are no sub-priorities. The choice
--- is one among all numbers; the code keeps the first of the ready ones at hand, and the active ones in an array that
--- fills downwards.
+-- The external interrupts of the nested vectored interrupt controller (ARMv7-M Architecture Reference Manual, sections
+-- B1.5 and B3.4): which of them are enabled, pending and active, and which one is taken. There are no sub-priorities.
+-- The choice is one among all numbers; the code keeps the first of the ready ones at hand, and the active ones in an
+-- array that fills downwards.
 use Rattle.std.specs.Prelude.{◌≡◌, ℕ, ◌<◌, ◌≤◌, ◌⊎◌, ◌&&◌, Bool, false, nat_lt, nat_le, List, [], ◌∷◌, length}
 use Rattle.std.specs.Prelude.{slice_index_or, Option, Some, None, unwrap_or, IsTrue, IsSome}
 use Rattle.rt_ids.specs.Lists.{numbers_below}

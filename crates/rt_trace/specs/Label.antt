@@ -1,5 +1,6 @@
--- What a core, or Baker's machine, does one thing after another, as others see it, and the items that number it. The
--- numbers stand apart from what happens: a machine gives labels, and a trace counts the core steps before each.
+-- What a core, or Baker's machine, does one thing after another, as others see it, as in a labelled transition system
+-- (Milner, Communication and Concurrency, 1989), and the items that number it. The numbers stand apart from what
+-- happens: a machine gives labels, and a trace counts the core steps before each.
 use Rattle.std.specs.Prelude.{ℕ, zero, suc, List, [], ◌∷◌, Option, Some, None}
 use Rattle.rt_trace.specs.declared.item.Item.{Item}
 use Rattle.rt_trace.specs.declared.item.What.{What}

@@ -1,4 +1,4 @@
--- The events that a trace shows, by its step numbers alone.
+-- The events that a trace shows: its items tell arrivals and ticks, its step numbers the core steps between.
 use Rattle.std.specs.Prelude.{◌≡◌, ℕ, ◌-◌, List, [], ◌∷◌, ◌++◌, Some, None, replicate}
 use Rattle.rt_ids.specs.Event.{Event, Arrive, Tick, Step}
 use Rattle.rt_trace.specs.Label.{Label, Arrived, Ticked, Rang, Stepped, items_of, steps_of}

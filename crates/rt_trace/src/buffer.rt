@@ -13,7 +13,7 @@ pub const BUFFER_BYTES: usize = 4096;
 /// Bytes for which there must be room where a line is written.
 pub const LINE_BYTES: usize = 160;
 
-/// Lines of a trace that wait to go out, at most 4096 bytes of them. Contracts see the bytes.
+/// Lines of a trace that wait to go out, at most `BUFFER_BYTES` bytes of them. Contracts see the bytes.
 #[derive(Drop)]
 pub struct LineBuffer {
     bytes: [u8; BUFFER_BYTES],

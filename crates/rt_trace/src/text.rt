@@ -12,7 +12,7 @@ use arrayvec::ArrayVec;
 use itoa::write_digits;
 use rt_ids::{BodyId, Irq, Names, Section, TaskId};
 
-/// The line of an item, with its line feed. It is never longer than 160 bytes.
+/// The line of an item, with its line feed. It is never longer than `LINE_BYTES` bytes.
 pub fn line(item: &Item, names: &Names) -> ArrayVec<u8, 160>
     requires { HasLine names.now item.now }
     ensures { result.items ≡ spec.text names.now item.now }
