@@ -1,4 +1,6 @@
-ghost use Rattle.std.specs.Prelude.{◌≡◌, ◌⊎◌, [], ◌∷◌, ◌++◌, Option, IfOk, IfErr, OnOk, option_to_list};
+ghost use Rattle.std.specs.Prelude.{◌≡◌, ◌<◌, ◌⊎◌, [], ◌∷◌, ◌++◌, length, Option, Err, IfOk, IfErr, OnOk};
+ghost use Rattle.std.specs.Prelude.{option_to_list};
+ghost use Rattle.rt_ids.specs.declared.limits.TheConstants.{TRACE_BYTES};
 ghost use Rattle.rt_trace.specs.Reader.{ReadsMore, RefusesMore};
 ghost use Rattle.rt_trace.specs.Reading as spec;
 ghost use Rattle.rt_trace.specs.declared.item.Item.{Item};
@@ -12,11 +14,13 @@ use rt_ids::{Names, NoMemory};
 use rt_lines::first_line;
 use std::alloc::Global;
 
-/// Reads the trace of a text, over the names of an application. The first wrong line is refused: as of no form
-/// where it is, and else for a name in it that is in no table. Lines count from 1, those of a listing in front too.
+/// Reads the trace of a text, over the names of an application. It refuses a text of more than 268,435,456 bytes as
+/// too long. Else the first wrong line is refused: as of no form where it is, and else for a name in it that is in no
+/// table. Lines count from 1, those of a listing in front too.
 pub fn read_trace(alloc: Global, bytes: &[u8], names: &Names) -> Result<Trace, TraceRefused>
     ensures read { IfOk result (λ trace. spec.IsTraceText names.now bytes.now trace) }
     ensures refused { IfErr result (λ refusal. spec.IsRefused names.now bytes.now refusal) }
+    ensures long { TRACE_BYTES < length bytes.now → result ≡ Err TraceRefused.TooLong }
 {
     if bytes.len() > TRACE_BYTES as usize {
         return Err(TraceRefused::TooLong);
