@@ -17,7 +17,7 @@ use std::alloc::Global;
 #[derive(Clone, Copy)]
 pub struct Entering {
     pub section: Section,
-    /// The greatest execution priority behind an entering.
+    /// The greatest priority value that execution has after an entering: the weakest hold.
     pub priority: u32,
     /// The least priority value of those who enter, `init` aside.
     pub value: Option<u32>,

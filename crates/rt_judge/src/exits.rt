@@ -7,8 +7,11 @@ use rt_points::Owner;
 /// The addresses that an instruction leads to.
 #[derive(Clone, Copy)]
 pub enum Exits {
+    /// It calls or returns.
     Nowhere,
+    /// To the next address, to its own or to that of a jump.
     One(u32),
+    /// To the next address, and to that of a jump.
     Two(u32, u32),
 }
 

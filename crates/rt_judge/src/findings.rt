@@ -20,7 +20,7 @@ use std::collections::BTreeMap;
 pub struct Findings {
     /// Each has an instruction.
     pub addresses: bool,
-    /// Each instruction may be used, and has its slots and its cell.
+    /// Each instruction may be used, has its slots and its cell, and ends a job only where it may, with nothing open.
     pub operands: bool,
     /// Each note and each mask is right.
     pub notes: bool,

@@ -101,6 +101,7 @@ fn is_unsaved(opened: &[Opened], instr: &Instr) -> bool
     }
 }
 
+/// Whether a section of a kind masks by PRIMASK.
 fn is_mask(kind: Kind) -> bool
     ensures { IsTrue result ↔ rules.IsMask kind }
 {

@@ -109,6 +109,7 @@ fn touching_with(
     }
 }
 
+/// Whether the cell of a row, where it is touched, is guarded.
 fn is_row_guarded(row: &Option<Touching>) -> bool
     ensures { result ≡ spec.is_row_guarded row.now }
 {

@@ -37,13 +37,16 @@ pub struct Walk {
 /// What a visit is to the table of a walk.
 #[derive(Clone, Copy)]
 pub enum Meeting {
+    /// The walk has not come to this address.
     New,
+    /// It has come to this address, with the same sections open.
     Known,
     /// Other sections are open at this address on another way, or too many are.
     Ambiguous,
 }
 
 impl Walk {
+    /// What a visit is to the table.
     fn meet(&self, visit: &Visit) -> Meeting
         ensures { (img : Program) (owner : Runner) → spec.Meets img owner self.now.table visit.now result }
     {

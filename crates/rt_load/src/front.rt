@@ -93,7 +93,7 @@ impl Front {
         self.has_cells() && self.image.code.len() == self.code as usize
     }
 
-    /// Takes the next line behind the first.
+    /// Takes the next line behind the first. After an error the front is of no use; `load` drops it.
     #[tactic(auto, unfolding(crate::specs::Inside::Taking::take_line))]
     pub fn take(&mut self, alloc: Global, line: &[u8]) -> Result<(), Wrong>
         ensures taken { OnOk result (spec.take_line self.old line.now ≡ Ok self.new) }
@@ -126,6 +126,7 @@ impl Front {
             && may_name_cell(&self.image.names, name)
     }
 
+    /// Whether an interrupt more may have this name.
     fn may_add_irq(&self, name: &[u8]) -> bool
         ensures { result ≡ spec.may_add_irq self.now name.now }
     {
@@ -135,18 +136,21 @@ impl Front {
             && is_new_irq(&self.image.names, name)
     }
 
+    /// Whether a task more may have this name.
     fn may_add_body(&self, name: &[u8]) -> bool
         ensures { result ≡ spec.may_add_body self.now name.now }
     {
         self.has_cells() && self.image.code.is_empty() && is_new_task(&self.image.names, name)
     }
 
+    /// Whether an instruction more may come.
     fn may_add_line(&self) -> bool
         ensures { result ≡ spec.may_add_line self.now }
     {
         self.has_cells() && self.image.code.len() < self.code as usize
     }
 
+    /// The cell of a line.
     fn next_cell(&self, alloc: Global, line: &[u8], words: Option<&[u8]>) -> Result<CellRow, Wrong>
         ensures read { IfOk result (λ x. spec.next_cell self.now line.now (words_of words.entry) ≡ Ok x) }
         ensures refused { IfErr result (λ w. w ≢ Wrong.NoMemory → spec.next_cell self.now line.now
@@ -167,6 +171,7 @@ impl Front {
         }
     }
 
+    /// Takes the line of a cell.
     fn take_cell(&mut self, alloc: Global, line: &[u8], words: Option<&[u8]>) -> Result<(), Wrong>
         ensures taken { OnOk result (spec.take_cell self.old line.now (words_of words.entry) ≡ Ok self.new) }
         ensures refused { IfErr result (λ w. w ≢ Wrong.NoMemory → spec.take_cell self.old line.now
@@ -177,6 +182,7 @@ impl Front {
         Ok(())
     }
 
+    /// The interrupt of a line.
     fn next_irq(&self, alloc: Global, line: &[u8], words: Option<&[u8]>) -> Result<IrqRow, Wrong>
         ensures read { IfOk result (λ x. spec.next_irq self.now line.now (words_of words.entry) ≡ Ok x) }
         ensures refused { IfErr result (λ w. w ≢ Wrong.NoMemory → spec.next_irq self.now line.now (words_of words.entry)
@@ -201,6 +207,7 @@ impl Front {
         }
     }
 
+    /// Takes the line of an interrupt.
     fn take_irq(&mut self, alloc: Global, line: &[u8], words: Option<&[u8]>) -> Result<(), Wrong>
         ensures taken { OnOk result (spec.take_irq self.old line.now (words_of words.entry) ≡ Ok self.new) }
         ensures refused { IfErr result (λ w. w ≢ Wrong.NoMemory → spec.take_irq self.old line.now (words_of words.entry)
@@ -211,6 +218,7 @@ impl Front {
         Ok(())
     }
 
+    /// Takes the line of a body.
     fn take_body(&mut self, alloc: Global, line: &[u8], words: Option<&[u8]>) -> Result<(), Wrong>
         ensures taken { OnOk result (spec.take_body self.old line.now (words_of words.entry) ≡ Ok self.new) }
         ensures refused { IfErr result (λ w. w ≢ Wrong.NoMemory → spec.take_body self.old line.now

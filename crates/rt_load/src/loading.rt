@@ -11,8 +11,8 @@ use crate::refusal::{IMAGE_BYTES, LoadRefused};
 use rt_code::Image;
 use std::alloc::Global;
 
-/// The image whose listing the bytes are. Bytes that are the listing of no loadable image are refused at the first
-/// line with which the lines begin no such listing.
+/// The image whose listing the bytes are. More than `IMAGE_BYTES` bytes are too long. Other bytes that are the listing
+/// of no loadable image are refused at the first line with which the lines begin no such listing.
 pub fn load(alloc: Global, bytes: &[u8]) -> Result<Image, LoadRefused>
     ensures read { IfOk result (λ img. IsListingText bytes.now img) }
     ensures refused { IfErr result (λ refusal. IsRefused bytes.now refusal) }

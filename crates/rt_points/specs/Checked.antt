@@ -1,4 +1,5 @@
--- A checked image keeps all seven rules. One that is not has a least broken rule.
+-- A checked image keeps all seven rules. The least broken rule of an image is the one of the lowest number among those
+-- it breaks.
 use Rattle.std.specs.Prelude.{◌≡◌, ℕ, ◌<◌}
 use Rattle.rt_code.specs.Image.{Image}
 use Rattle.rt_points.specs.Rules.{NestsInOneWay, HasRightNumbers, StaysInCode, OperatesWell, NotesWell, EntersWell}

@@ -20,13 +20,14 @@ frame_of img Starting = img.thread_words
 frame_of img Thread = img.thread_words
 frame_of img (Handling index) = unwrap_or (option_map (λ h. h.frame) (handler_at img index)) 0
 
--- the execution priority inside a section of a kind, where it is this outside
+-- the execution priority inside a section of a kind, where it is this outside: the value falls or stays
 abbrev pub lowered_value : Kind → ℕ → ℕ
 lowered_value Mark value = value
 lowered_value (Raise slot v) value = min v value
 lowered_value (Mask slot) value = 0
 
--- the execution priority with these sections open, innermost first: no section raises it
+-- the execution priority with these sections open, innermost first, as a priority value: no section makes the value
+-- greater
 abbrev pub execution_priority : Image → Owner → List Opened → ℕ
 execution_priority img owner [] = owner_value img owner
 execution_priority img owner (o ∷ outer) = lowered_value o.kind (execution_priority img owner outer)

@@ -6,7 +6,8 @@ use Rattle.rt_ids.specs.declared.limits.TheConstants.{IRQS, IRQ_NUMBERS, TASKS, 
 use Rattle.rt_ids.specs.declared.limits.TheConstants.{MOST_BITS}
 use Rattle.rt_code.specs.Image.{Image}
 
--- an image shows no more of anything than an application may have
+-- an image shows no more interrupts, bodies, arguments, instructions and names than an application may have, and as
+-- many priority bits as a processor may have
 pub record IsWithinLimits (img : Image) : Type 0 where
   pub few_bits : LEAST_BITS ≤ img.bits
   pub many_bits : img.bits ≤ MOST_BITS

@@ -164,7 +164,8 @@ IsMask (Raise slot value) = ⊥
 IsMask (Mask slot) = Unit {0}
 
 -- a mask is set where it has an effect and can be put back: BASEPRI to a value that is not 0, which would mask nothing,
--- and below the execution priority; PRIMASK not in `init`, nor twice
+-- and below the execution priority; PRIMASK not in `init`, nor twice. A value's unimplemented bits count here; on a
+-- processor they read as 0.
 abbrev pub MasksWell : Image → Point → Instr → Type 0
 MasksWell img p (instr.Raise d v) = (0 < v) × (v < execution_priority img p.owner p.inside)
 MasksWell img p (instr.Mask d) = (p.owner ≢ Starting) × AllByRecursion (λ o. ¬ IsMask o.kind) p.inside

@@ -1,6 +1,6 @@
 -- How many bytes a stack needs. Two handlers of one priority value are never active at once, so each value counts once,
 -- with what exception entry pushes and the greatest frame of its handlers (Baker, Stack-Based Scheduling of Realtime
--- Processes, 1991, on sharing a stack).
+-- Processes, 1991, on sharing a stack). Frames of called bodies are not counted: the fourth rule allows no call.
 use Rattle.std.specs.Prelude.{ℕ, zero, suc, ◌+◌, ◌*◌, ◌==◌, List, [], ◌∷◌, map, filter}
 use Rattle.std.specs.List.{filter_map}
 use Rattle.rt_ids.specs.Lists.{greatest}

@@ -16,13 +16,14 @@ pub enum Rule {
     Numbers,
     /// Code leads to instructions alone.
     Addresses,
-    /// Instructions are some that may be used, and their slots and cells are there.
+    /// Each instruction may be used, has its slots and its cell, and ends a job only where it may, with nothing open.
     Operands,
-    /// Notes stand where they may, and masks are set and put back as the notes say.
+    /// Notes stand where they may, masks change by the notes alone, and no slot that holds a mask is overwritten.
     Notes,
-    /// A section holds off everyone who enters it.
+    /// A section is entered by nobody who is inside it, and holds off everyone who enters it, `init` aside.
     Ceilings,
-    /// A cell that several touch is touched inside one section alone.
+    /// A cell that is stored outside `init`, and touched there at two priority values, is touched there inside one
+    /// section alone.
     Guards,
 }
 

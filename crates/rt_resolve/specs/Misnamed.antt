@@ -1,4 +1,5 @@
--- The names in statements that are wrong: those that mean nothing there, and variables whose name is taken.
+-- The names in statements that are wrong: those that mean nothing there, and variables whose name is taken. The
+-- language is this project's own; blocks nest as in Rust, but a name in scope is not declared again.
 use Rattle.std.specs.Prelude.{ℕ, ◌+◌, ◌||◌, Bool, List, [], ◌++◌, flat_map, is_none, is_some, Option}
 use Rattle.std.specs.List.{list_any}
 use Rattle.rt_ids.specs.declared.rule.Rule.TheVariants as rule

@@ -1,4 +1,5 @@
--- Every name of a tree that is not declared, and every name that is declared or listed twice.
+-- Every name of a tree that is not declared, and every name that is declared or listed twice. The language is this
+-- project's own.
 use Rattle.std.specs.Prelude.{ℕ, ◌+◌, ◌==◌, List, [], ◌∷◌, ◌++◌, map, flat_map, Option, Some, None}
 use Rattle.std.specs.List.{list_any}
 use Rattle.rt_ids.specs.declared.rule.Rule.TheVariants as rule

@@ -1,4 +1,4 @@
--- The application of a tree, with its names resolved.
+-- The application of a tree, with its names resolved. The language is this project's own.
 use Rattle.std.specs.Prelude.{ℕ, ◌+◌, min, List, [], ◌∷◌, map, length, is_some, Option, Some, None, option_map}
 use Rattle.rt_ast.specs.declared.ident.Ident.{Ident}
 use Rattle.rt_ast.specs.declared.ident.Number.{Number}

@@ -1,5 +1,6 @@
 -- The statements of a body, with numbers in place of names: a variable is its index among the arguments, `let` and
--- `for` statements of the body in order of the text.
+-- `for` statements of the body in order of the text. The language is this project's own; blocks nest as in Rust, but a
+-- name in scope is not declared again.
 use Rattle.std.specs.Prelude.{ℕ, ◌+◌, map}
 use Rattle.rt_ast.specs.declared.ident.Ident.{Ident}
 use Rattle.rt_ast.specs.Tree as written

@@ -1,4 +1,5 @@
--- What names mean: declared things by their index in the order of declaration, and variables by their scopes.
+-- What names mean: declared things by their index in the order of declaration, and variables by their scopes. The
+-- language is this project's own; blocks nest as in Rust, but a name in scope is not declared again.
 use Rattle.std.specs.Prelude.{ℕ, ◌+◌, Bool, List, ◌∷◌, take, find, position, Option, None, option_map, unwrap_or}
 use Rattle.std.specs.Prelude.{if◌then◌else◌}
 use Rattle.std.specs.List.{list_any}

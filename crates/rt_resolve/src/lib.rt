@@ -28,6 +28,9 @@ use rt_ast::AppTree;
 use rt_ids::NoMemory;
 use std::alloc::Global;
 
+/// The application of a tree, with names as indices in their tables, and all that is wrong with its names: what is
+/// declared twice first, and not in order of the text. A name that is not found becomes 255. The tree must be one that
+/// prints as a text. It fails for want of memory alone.
 pub fn resolve(alloc: Global, tree: &AppTree) -> Result<Resolved, NoMemory>
     requires { IsPrintable (written.app_of tree.now) }
     ensures app { IfOk result (λ r. app_of r.app ≡ resolved_app (written.app_of tree.now)) }

@@ -31,11 +31,11 @@ pub record Enterer (img : Image) (ps : List Point) (x : Section) (p : Point) (i 
   pub seen : Contains ps p
   pub enters : EntersBy img p i x
 
--- the execution priority behind an entering
+-- the execution priority after an entering, as a priority value
 abbrev pub priority_after : Image → Point → Instr → Section → ℕ
 priority_after img p i x = execution_priority img p.owner (inside_after i (Some (note.Enter x)) p.inside)
 
--- the greatest execution priority behind an entering
+-- the greatest priority value that execution has after an entering: the weakest hold
 pub record IsGreatestPriority (img : Image) (ps : List Point) (x : Section) (priority : ℕ) : Type 0 where
   pub all : (p : Point) (i : Instr) → Enterer img ps x p i → priority_after img p i x ≤ priority
   pub point : Point
