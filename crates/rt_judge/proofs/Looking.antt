@@ -109,7 +109,7 @@ module _ (img : Image) (t : Table) (bs : List Visit) (start : Visit)
     (walked : IsWalked img Starting (start ∷ []) t bs) where
   pub starting_has : (p : Point) → IsPoint img p → p.owner ≡ Starting → Has t (visit_of p)
   starting_has p Begins mine = subst (Has t) begins (walked.began start (contains_here start []))
-  starting_has p (Enters visit h is) mine = absurd (let e : Handling visit ≡ Starting = mine in cc)
+  starting_has p (Enters index h is) mine = absurd (let e : Handling index ≡ Starting = mine in cc)
   starting_has s (Leads p q is to) mine =
       let was : p.owner ≡ Starting = not_starting to.line.0 p.owner (sym to.owner ∙ mine) in
       walked.closed (visit_of p) q (starting_has p is was)
@@ -126,7 +126,7 @@ module _ (img : Image) (t : Table) (bs : List Visit) (start : Visit)
   module _ (u : Table) (cs : List Visit) (behind : IsWalked img Thread bs u cs) where
     pub thread_has : (p : Point) → IsPoint img p → p.owner ≡ Thread → Has u (visit_of p)
     thread_has p Begins mine = absurd (let e : Starting ≡ Thread = mine in cc)
-    thread_has p (Enters visit h is) mine = absurd (let e : Handling visit ≡ Thread = mine in cc)
+    thread_has p (Enters index h is) mine = absurd (let e : Handling index ≡ Thread = mine in cc)
     thread_has s (Leads p q is to) mine = ⊎_elim
         (λ same.
         let was : p.owner ≡ Thread = sym same ∙ sym to.owner ∙ mine in
@@ -136,23 +136,23 @@ module _ (img : Image) (t : Table) (bs : List Visit) (start : Visit)
         (serves to.line.0 p.owner)
 
 -- all points of a handler
-module _ (img : Image) (visit : ℕ) (h : Handler) (is : handler_at img visit ≡ Some h) (t : Table) (bs : List Visit)
+module _ (img : Image) (index : ℕ) (h : Handler) (is : handler_at img index ≡ Some h) (t : Table) (bs : List Visit)
     (start : Visit)
     (begins : start ≡ record { address = h.entry; nesting = [] })
-    (walked : IsWalked img (Handling visit) (start ∷ []) t bs) where
-  pub handler_has : (p : Point) → IsPoint img p → p.owner ≡ Handling visit → Has t (visit_of p)
-  handler_has p Begins mine = absurd (let e : Starting ≡ Handling visit = mine in cc)
+    (walked : IsWalked img (Handling index) (start ∷ []) t bs) where
+  pub handler_has : (p : Point) → IsPoint img p → p.owner ≡ Handling index → Has t (visit_of p)
+  handler_has p Begins mine = absurd (let e : Starting ≡ Handling index = mine in cc)
   handler_has p (Enters other g there) mine =
-      let same : other ≡ visit = let e : Handling other ≡ Handling visit = mine in cc in
+      let same : other ≡ index = let e : Handling other ≡ Handling index = mine in cc in
       let one : h ≡ g = let e : Some h ≡ Some g = sym is ∙ ap (handler_at img) (sym same) ∙ there in cc in
       subst (λ (k : Handler). Has t (record { address = k.entry; nesting = [] })) one
       (subst (Has t) begins (walked.began start (contains_here start [])))
   handler_has s (Leads p q from to) mine = ⊎_elim
       (λ same.
-      let was : p.owner ≡ Handling visit = sym same ∙ sym to.owner ∙ mine in
+      let was : p.owner ≡ Handling index = sym same ∙ sym to.owner ∙ mine in
       walked.closed (visit_of p) q (handler_has p from was)
       (subst (λ o. LeadsTo img (point p.address o p.inside) q) was to) mine)
-      (λ served. absurd (let both : Thread ≡ Handling visit = sym served.1 ∙ sym to.owner ∙ mine in cc))
+      (λ served. absurd (let both : Thread ≡ Handling index = sym served.1 ∙ sym to.owner ∙ mine in cc))
       (serves to.line.0 p.owner)
 
 -- one after another
@@ -173,23 +173,23 @@ looks_then img M N O a b c split first second = record {
 }
 
 -- a handler that is not enabled has no points
-pub none_of : (img : Image) (visit : ℕ) (f : Findings) → handler_at img visit ≡ None → (p : Point) → IsPoint img p
-    → p.owner ≡ Handling visit → ⊥
-none_of img visit f none p Begins mine = absurd (let e : Starting ≡ Handling visit = mine in cc)
-none_of img visit f none p (Enters other g there) mine =
-    let same : other ≡ visit = let e : Handling other ≡ Handling visit = mine in cc in
+pub none_of : (img : Image) (index : ℕ) (f : Findings) → handler_at img index ≡ None → (p : Point) → IsPoint img p
+    → p.owner ≡ Handling index → ⊥
+none_of img index f none p Begins mine = absurd (let e : Starting ≡ Handling index = mine in cc)
+none_of img index f none p (Enters other g there) mine =
+    let same : other ≡ index = let e : Handling other ≡ Handling index = mine in cc in
     let e : None ≡ Some g = sym none ∙ ap (handler_at img) (sym same) ∙ there in absurd (none-some g e)
-none_of img visit f none s (Leads p q from to) mine = ⊎_elim
-    (λ same. none_of img visit f none p from (sym same ∙ sym to.owner ∙ mine))
-    (λ served. absurd (let both : Thread ≡ Handling visit = sym served.1 ∙ sym to.owner ∙ mine in cc))
+none_of img index f none s (Leads p q from to) mine = ⊎_elim
+    (λ same. none_of img index f none p from (sym same ∙ sym to.owner ∙ mine))
+    (λ served. absurd (let both : Thread ≡ Handling index = sym served.1 ∙ sym to.owner ∙ mine in cc))
     (serves to.line.0 p.owner)
 
 pub owner_below : (img : Image) (p : Point) → IsPoint img p → IsBelow (length img.irqs) p.owner
 owner_below img p Begins = tt
-owner_below img p (Enters visit h is) = elim (slice_get img.irqs visit) as
-    (λ row. slice_get img.irqs visit ≡ row → then_from row (λ r. r.handler) ≡ Some h → visit < length img.irqs) [
+owner_below img p (Enters index h is) = elim (slice_get img.irqs index) as
+    (λ row. slice_get img.irqs index ≡ row → then_from row (λ r. r.handler) ≡ Some h → index < length img.irqs) [
       | None ↦ λ e bad. absurd (none-some h bad)
-      | Some row ↦ λ e good. slice_get_within img.irqs visit row e
+      | Some row ↦ λ e good. slice_get_within img.irqs index row e
     ] refl is
 owner_below img s (Leads p q from to) = ⊎_elim
     (λ same. subst (IsBelow (length img.irqs)) (sym same ∙ sym to.owner) (owner_below img p from))
@@ -219,27 +219,27 @@ looks_thread img a b c starts bs begins first behind =
     (looks_of img Thread bs b c behind.0 behind.1
     (thread_has img from.table bs start refl from.walked behind.1.table behind.0 behind.1.walked))
 
-pub looks_handler : (img : Image) (visit : ℕ) (h : Handler) (a b : Findings) → handler_at img visit ≡ Some h
-    → LooksFromEntry img visit h.entry a b → Looks img (IsOf visit) a b
-looks_handler img visit h a b is looks =
+pub looks_handler : (img : Image) (index : ℕ) (h : Handler) (a b : Findings) → handler_at img index ≡ Some h
+    → LooksFromEntry img index h.entry a b → Looks img (IsOf index) a b
+looks_handler img index h a b is looks =
     let start : Visit = record { address = h.entry; nesting = [] } in
-    looks_of img (Handling visit) (start ∷ []) a b looks.0 looks.1
-    (handler_has img visit h is looks.1.table looks.0 start refl looks.1.walked)
+    looks_of img (Handling index) (start ∷ []) a b looks.0 looks.1
+    (handler_has img index h is looks.1.table looks.0 start refl looks.1.walked)
 
-pub looks_nowhere : (img : Image) (visit : ℕ) (f : Findings) → handler_at img visit ≡ None → Looks img (IsOf visit) f f
-looks_nowhere img visit f none = record {
+pub looks_nowhere : (img : Image) (index : ℕ) (f : Findings) → handler_at img index ≡ None → Looks img (IsOf index) f f
+looks_nowhere img index f none = record {
   points = [];
   sound = tt;
-  all = λ p is mine. absurd (none_of img visit f none p is mine);
-  one = λ p q is_p is_q mine same at. absurd (none_of img visit f none p is_p mine);
-  few = λ p is mine. absurd (none_of img visit f none p is mine);
+  all = λ p is mine. absurd (none_of img index f none p is mine);
+  one = λ p q is_p is_q mine same at. absurd (none_of img index f none p is_p mine);
+  few = λ p is mine. absurd (none_of img index f none p is mine);
   finds = λ ps found. subst (λ (qs : List Point). Finds img qs f) (sym (append-nil ps)) found;
 }
 
 thread_only : (o : Owner) → IsBelow 0 o → IsThread o
 thread_only Starting is = inl refl
 thread_only Thread is = inr refl
-thread_only (Handling visit) is = absurd (omega (arith, is))
+thread_only (Handling index) is = absurd (omega (arith, is))
 
 pub looked_none : (img : Image) (a b : Findings) → Finds img [] a → Looks img IsThread a b → LookedBelow img 0 b
 looked_none img a b found looks = (a, found, looks_weaker img IsThread (IsBelow 0) a b thread_only looks)
@@ -247,8 +247,8 @@ looked_none img a b found looks = (a, found, looks_weaker img IsThread (IsBelow 
 one_more : (n : ℕ) (o : Owner) → IsBelow (n + 1) o → IsBelow n o ⊎ IsOf n o
 one_more n Starting is = inl tt
 one_more n Thread is = inl tt
-one_more n (Handling visit) is = ⊎_elim (λ same. inr (ap Handling same)) (λ apart. inl (omega (arith, is, apart)))
-    (cases_eq visit n)
+one_more n (Handling index) is = ⊎_elim (λ same. inr (ap Handling same)) (λ apart. inl (omega (arith, is, apart)))
+    (cases_eq index n)
 
 pub looked_more : (img : Image) (n : ℕ) (a b : Findings) → LookedBelow img n a → Looks img (IsOf n) a b
     → LookedBelow img (n + 1) b
@@ -258,7 +258,7 @@ looked_more img n a b looked looks =
 below_more : (n m : ℕ) (o : Owner) → n ≤ m → IsBelow n o → IsBelow m o
 below_more n m Starting le is = tt
 below_more n m Thread le is = tt
-below_more n m (Handling visit) le is = omega (arith, le, is)
+below_more n m (Handling index) le is = omega (arith, le, is)
 
 pub looked_all : (img : Image) (n : ℕ) (f : Findings) → length img.irqs ≤ n → LookedBelow img n f → Looked img f
 looked_all img n f all looked =

@@ -280,7 +280,7 @@ over_further before front line rest stands text may is i n =
       loadable = w.loadable;
       address = index;
       behind = w.behind;
-      index =
+      goes_on =
           w.is ∙ ap (λ t. t ++ w.behind) (goes.text ∙ ap (λ t. t ++ code_line names index mark) text)
           ∙ ap (λ (ns : Names). (flat_map line_with_feed before ++ code_line ns index mark) ++ w.behind) (sym w.names);
       names = more;

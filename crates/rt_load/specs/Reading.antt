@@ -63,7 +63,7 @@ pub record IsOfUnknownName (front line : List ℕ) : Type 0 where
   pub address : ℕ
   pub behind : List ℕ
   -- some listing goes on with a `mark` at this address, where any other instruction could stand
-  pub index : listing image ≡ front ++ code_line image.names address (instr.Mark, None) ++ behind
+  pub goes_on : listing image ≡ front ++ code_line image.names address (instr.Mark, None) ++ behind
   pub names : Names
   pub more : AreMore image.names names
   pub code : Instr × Option Note

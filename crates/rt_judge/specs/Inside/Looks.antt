@@ -39,22 +39,22 @@ LooksBehind img starts old new = (bs : List Visit) × LooksFrom img Thread start
 
 -- a handler's points, from its entry on
 abbrev pub LooksFromEntry : Image → ℕ → ℕ → Findings → Findings → Type 0
-LooksFromEntry img visit entry old new =
-    (bs : List Visit) × LooksFrom img (Handling visit) (record { address = entry; nesting = [] } ∷ []) old new bs
+LooksFromEntry img index entry old new =
+    (bs : List Visit) × LooksFrom img (Handling index) (record { address = entry; nesting = [] } ∷ []) old new bs
 
--- the handler at a visit
+-- the handler at an index
 abbrev pub IsOf : ℕ → Owner → Type 0
-IsOf visit owner = owner ≡ Handling visit
+IsOf index owner = owner ≡ Handling index
 
 -- the owner is `init`, or the thread behind it
 abbrev pub IsThread : Owner → Type 0
 IsThread owner = (owner ≡ Starting) ⊎ (owner ≡ Thread)
 
--- the thread's, and those of the handlers at the visits below this one
+-- the owner is `init`, the thread, or the handler at an index below this one
 abbrev pub IsBelow : ℕ → Owner → Type 0
 IsBelow n Starting = Unit {0}
 IsBelow n Thread = Unit {0}
-IsBelow n (Handling visit) = visit < n
+IsBelow n (Handling index) = index < n
 
 -- all points of these, and what was found at them alone
 abbrev pub LookedBelow : Image → ℕ → Findings → Type 0
