@@ -20,7 +20,7 @@ use Rattle.rt_points.specs.Point.{Point, sections}
 use Rattle.rt_points.specs.declared.point.Owner.TheVariants.{Starting, Thread, Handling}
 use Rattle.rt_points.specs.ExecutionPriority.{owner_value}
 use Rattle.rt_judge.specs.Inside.Kept.{EntersBy, FreeAt}
-use Rattle.rt_judge.specs.Inside.Entering.{Enterer, priority_after, IsGreatestPriority, IsLeastValue, IsLeastOrNone}
+use Rattle.rt_judge.specs.Inside.Entering.{Enterer, priority_after, IsGreatestValue, IsLeastValue, IsLeastOrNone}
 use Rattle.rt_judge.specs.Inside.Entering.{IsEntering}
 use Rattle.rt_judge.specs.Inside.Entering.{TellsOfSections, least, with_entering, row_with_entering, rows_with_entering}
 use Rattle.rt_judge.specs.Inside.Entering.{EntersNone}
@@ -86,7 +86,7 @@ module _ (img : Image) (ps : List Point) (p : Point) (i : Instr) (x : Section) (
   priority_same : (q : Point) (j : Instr) → p ≡ q → i ≡ j → priority_after img q j x ≡ priority_now
   priority_same q j same one = sym (ap (λ r. priority_after img r i x) same ∙ ap (λ k. priority_after img q k x) one)
 
-  greatest : (old : ℕ) → IsGreatestPriority img ps x old → IsGreatestPriority img (ps ++ p ∷ []) x
+  greatest : (old : ℕ) → IsGreatestValue img ps x old → IsGreatestValue img (ps ++ p ∷ []) x
       (max old priority_now)
   greatest old g = ⊎_elim
       (λ lower. record {
@@ -163,18 +163,18 @@ module _ (img : Image) (ps : List Point) (p : Point) (i : Instr) (x : Section) (
       (cases_lt u v)
 
   -- a row with the next who enters
-  module _ (e : Entering) (of : e.section ≡ x) (priority : e.priority ≡ priority_after img p i x)
+  module _ (e : Entering) (of : e.section ≡ x) (weakest : e.weakest ≡ priority_after img p i x)
       (value : IsValueOf img p e.value) where
     first_row : ((q : Point) (j : Instr) → ¬ Enterer img ps x q j) → IsEntering img (ps ++ p ∷ []) x e
     first_row none = record {
-      priority = record {
+      weakest = record {
         all = λ q j enters. by_cases x q j enters
             (λ before. absurd (none q j before))
-            (λ same one _. let is = priority_same q j same one in let now = now_is in omega (arith, is, now, priority));
+            (λ same one _. let is = priority_same q j same one in let now = now_is in omega (arith, is, now, weakest));
         point = p;
         instr = i;
         enterer = here;
-        is = sym priority;
+        is = sym weakest;
       };
       value = least_value None e.value (λ q j before. absurd (none q j before)) value;
     }
@@ -185,13 +185,13 @@ module _ (img : Image) (ps : List Point) (p : Point) (i : Instr) (x : Section) (
     other_row : (row : Entering) → row.section ≢ x → IsEntering img ps row.section row
         → IsEntering img (ps ++ p ∷ []) row.section row
     other_row row apart is = record {
-      priority = record {
-        all = λ q j enters. by_cases row.section q j enters (is.priority.all q j)
+      weakest = record {
+        all = λ q j enters. by_cases row.section q j enters (is.weakest.all q j)
             (λ _ _ same. absurd (apart (sym same)));
-        point = is.priority.point;
-        instr = is.priority.instr;
-        enterer = seen_before img ps p row.section is.priority.point is.priority.instr is.priority.enterer;
-        is = is.priority.is;
+        point = is.weakest.point;
+        instr = is.weakest.instr;
+        enterer = seen_before img ps p row.section is.weakest.point is.weakest.instr is.weakest.enterer;
+        is = is.weakest.is;
       };
       value = other_value row.value is.value;
     }
@@ -216,9 +216,9 @@ module _ (img : Image) (ps : List Point) (p : Point) (i : Instr) (x : Section) (
         let old = subst (λ y. IsEntering img ps y row) same is in
         subst (λ y. IsEntering img (ps ++ p ∷ []) y (with_entering e row)) (sym same)
         (record {
-          priority = subst (λ n. IsGreatestPriority img (ps ++ p ∷ []) x (max row.priority n))
-              (sym (priority ∙ sym now_is))
-              (greatest row.priority old.priority);
+          weakest = subst (λ n. IsGreatestValue img (ps ++ p ∷ []) x (max row.weakest n))
+              (sym (weakest ∙ sym now_is))
+              (greatest row.weakest old.weakest);
           value = least_value row.value e.value old.value value;
         })
       where
@@ -349,12 +349,12 @@ row_more : (img : Image) (ps : List Point) (p : Point)
     → ((y : Section) (q : Point) (j : Instr) → Enterer img (ps ++ p ∷ []) y q j → Enterer img ps y q j)
     → (row : Entering) → IsEntering img ps row.section row → IsEntering img (ps ++ p ∷ []) row.section row
 row_more img ps p before row is = record {
-  priority = record {
-    all = λ q j e. is.priority.all q j (before row.section q j e);
-    point = is.priority.point;
-    instr = is.priority.instr;
-    enterer = seen_before img ps p row.section is.priority.point is.priority.instr is.priority.enterer;
-    is = is.priority.is;
+  weakest = record {
+    all = λ q j e. is.weakest.all q j (before row.section q j e);
+    point = is.weakest.point;
+    instr = is.weakest.instr;
+    enterer = seen_before img ps p row.section is.weakest.point is.weakest.instr is.weakest.enterer;
+    is = is.weakest.is;
   };
   value = value_more row.value is.value;
 }

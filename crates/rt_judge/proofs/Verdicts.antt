@@ -132,13 +132,13 @@ module _ (img : Image) (f : Findings) (looked : Looked img f) where
   row_high row is pass p q i j enters others outside = by_value row.value is.value pass
     where
       by_value : (v : Option ℕ) → IsLeastOrNone img looked.points row.section v
-          → none_or (λ value. nat_le row.priority value) v ≡ true
+          → none_or (λ value. nat_le row.weakest value) v ≡ true
           → priority_after img p i row.section ≤ owner_value img q.owner
       by_value None none pass = absurd (outside (none q j others))
       by_value (Some v) l pass =
-          let high = is.priority.all p i enters in
+          let high = is.weakest.all p i enters in
           let low = l.all q j others outside in
-          let holds : row.priority ≤ v = le_of row.priority v pass in
+          let holds : row.weakest ≤ v = le_of row.weakest v pass in
           omega (arith, high, low, holds)
 
   pub enters : (f.sections.free && list_all holds_off f.sections.rows.items) ≡ true → EntersWell img
@@ -166,19 +166,19 @@ module _ (img : Image) (f : Findings) (looked : Looked img f) where
   row_low row is fail all = by_value row.value is.value fail
     where
       by_value : (v : Option ℕ) → IsLeastOrNone img looked.points row.section v
-          → none_or (λ value. nat_le row.priority value) v ≡ false → ⊥
+          → none_or (λ value. nat_le row.weakest value) v ≡ false → ⊥
       by_value None none fail = absurd cc
       by_value (Some v) l fail =
-          let p = is.priority.point in
+          let p = is.weakest.point in
           let q = l.point in
-          let holds = (all p is.priority.instr row.section
-          (enters_at p is.priority.instr row.section is.priority.enterer)).others q l.instr
+          let holds = (all p is.weakest.instr row.section
+          (enters_at p is.weakest.instr row.section is.weakest.enterer)).others q l.instr
           l.outside (enters_at q l.instr row.section l.enterer) in
-          let priority : priority_after img p is.priority.instr row.section ≡ row.priority = is.priority.is in
+          let weakest : priority_after img p is.weakest.instr row.section ≡ row.weakest = is.weakest.is in
           let value : owner_value img q.owner ≡ v = l.is in
-          let above : v < row.priority = lt_of row.priority v fail in
-          let low : priority_after img p is.priority.instr row.section ≤ owner_value img q.owner = holds in
-          absurd (omega (arith, priority, value, above, low))
+          let above : v < row.weakest = lt_of row.weakest v fail in
+          let low : priority_after img p is.weakest.instr row.section ≤ owner_value img q.owner = holds in
+          absurd (omega (arith, weakest, value, above, low))
 
   pub not_enters : (f.sections.free && list_all holds_off f.sections.rows.items) ≡ false → ¬ EntersWell img
   not_enters fail all = elim f.sections.free as (λ b. f.sections.free ≡ b

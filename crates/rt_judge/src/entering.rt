@@ -18,7 +18,7 @@ use std::alloc::Global;
 pub struct Entering {
     pub section: Section,
     /// The greatest priority value that execution has after an entering: the weakest hold.
-    pub priority: u32,
+    pub weakest: u32,
     /// The least priority value of those who enter, `init` aside.
     pub value: Option<u32>,
 }
@@ -58,7 +58,7 @@ impl Entering {
         ensures { result ≡ spec.holds_off self.now }
     {
         match self.value {
-            Some(value) => self.priority <= value,
+            Some(value) => self.weakest <= value,
             None => true,
         }
     }
@@ -68,7 +68,7 @@ impl Entering {
         ensures { self.new ≡ spec.row_with_entering other.now self.old }
     {
         if is_same_section(self.section, other.section) {
-            self.priority = self.priority.max(other.priority);
+            self.weakest = self.weakest.max(other.weakest);
             self.value = least(self.value, other.value);
         }
     }
@@ -149,7 +149,7 @@ impl Sections {
         let behind = nesting.behind(alloc, line.0, line.1)?;
         let entering = Entering {
             section,
-            priority: execution_priority(image, owner, behind.open_sections()),
+            weakest: execution_priority(image, owner, behind.open_sections()),
             value: outside_value(image, owner),
         };
         self.free = self.free && !is_inside;

@@ -36,12 +36,12 @@ abbrev pub priority_after : Image → Point → Instr → Section → ℕ
 priority_after img p i x = execution_priority img p.owner (inside_after i (Some (note.Enter x)) p.inside)
 
 -- the greatest priority value that execution has after an entering: the weakest hold
-pub record IsGreatestPriority (img : Image) (ps : List Point) (x : Section) (priority : ℕ) : Type 0 where
-  pub all : (p : Point) (i : Instr) → Enterer img ps x p i → priority_after img p i x ≤ priority
+pub record IsGreatestValue (img : Image) (ps : List Point) (x : Section) (value : ℕ) : Type 0 where
+  pub all : (p : Point) (i : Instr) → Enterer img ps x p i → priority_after img p i x ≤ value
   pub point : Point
   pub instr : Instr
   pub enterer : Enterer img ps x point instr
-  pub is : priority_after img point instr x ≡ priority
+  pub is : priority_after img point instr x ≡ value
 
 -- the least priority value of an enterer other than `init`
 pub record IsLeastValue (img : Image) (ps : List Point) (x : Section) (value : ℕ) : Type 0 where
@@ -59,7 +59,7 @@ IsLeastOrNone img ps x (Some value) = IsLeastValue img ps x value
 
 -- what a row has of a section, by the points that were looked at
 pub record IsEntering (img : Image) (ps : List Point) (x : Section) (e : Entering) : Type 0 where
-  pub priority : IsGreatestPriority img ps x e.priority
+  pub weakest : IsGreatestValue img ps x e.weakest
   pub value : IsLeastOrNone img ps x e.value
 
 -- what the rows have of sections: each of its own, and there is one for each that is entered
@@ -77,7 +77,7 @@ least None other = other
 
 -- a row with one more entering of its section
 abbrev pub with_entering : Entering → Entering → Entering
-with_entering e row = record row { priority = max row.priority e.priority; value = least row.value e.value }
+with_entering e row = record row { weakest = max row.weakest e.weakest; value = least row.value e.value }
 
 -- a row with one more entering, if that is of the row's section
 abbrev pub row_with_entering : Entering → Entering → Entering
@@ -91,4 +91,4 @@ rows_with_entering e rows =
 
 -- each entering holds off everyone who enters
 abbrev pub holds_off : Entering → Bool
-holds_off row = none_or (λ value. nat_le row.priority value) row.value
+holds_off row = none_or (λ value. nat_le row.weakest value) row.value

@@ -21,7 +21,7 @@ returns c = on_ok_weaker c.enter.result _ _ (λ rows address ps at tells.
     let x = c.args.section in
     let inside = c.args.nesting.now in
     let p : Point = point address c.args.owner inside in
-    let e : Entering = record { section = x; priority = c.execution_priority.result; value = c.outside_value.result } in
+    let e : Entering = record { section = x; weakest = c.execution_priority.result; value = c.outside_value.result } in
     let behind = c.open_sections-2.ensures ∙ c.in_ok-behind.ensures ∙ ap (λ n. inside_after i n inside) c.requires in
     let stands = at ∙ ap (λ n. Some (i, n)) c.requires in
     let value : IsValueOf img p e.value = subst (IsValueOf img p) (sym c.outside_value.ensures) (value_of_next img p) in
