@@ -56,10 +56,10 @@ module _ (img : Image) (l : IsLoadable img) where
   code_step done left line is within has_instr has_note =
       let front = code_front done in
       let text = code_text img.names (length done) line in
-      let known = known_names img.names l.limits.names in
-      let few_lines = l.limits.few_lines in
+      let known = known_names img.names l.fits.names in
+      let few_lines = l.fits.few_lines in
       let few : Is32Bits (length done) = omega (arith, ap length is, length-append done (line ∷ left), few_lines) in
-      let read = line_same img.names (length done) line l.limits.names known has_instr has_note few within in
+      let read = line_same img.names (length done) line l.fits.names known has_instr has_note few within in
       ap (take_words front text) (words_of_spelled text (codes "code") (code_words img.names (length done) line)
       (code_spelled img.names (length done) line known has_instr has_note))
       ∙ ap (λ (r : Result (Instr × Option Note) Wrong). and_make r (and_line front))
@@ -100,7 +100,7 @@ module _ (img : Image) (l : IsLoadable img) where
       let code = length img.code in
       let cells = length img.cells in
       let line = first_text img code cells in
-      let lim = l.limits in
+      let lim = l.fits in
       let least = lim.least_bits in
       let most = lim.most_bits in
       let few_lines = lim.few_lines in
@@ -143,7 +143,7 @@ module _ (img : Image) (l : IsLoadable img) where
 
   pub listing_taken : take_all listing_lines ≡ Ok whole
   listing_taken =
-      let lim = l.limits in
+      let lim = l.fits in
       let li = l.listable in
       let a = texts_from cell_text 0 img.cells in
       let b = map irq_text img.irqs in

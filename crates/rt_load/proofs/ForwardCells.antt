@@ -111,15 +111,15 @@ module _ (img : Image) (l : IsLoadable img) where
           let split = shared_split done left cell is dot in
           new_from_parts cell.name (resource_of (record { irqs = []; tasks = []; shared = shared_of done }) cell.name)
           (length (shared_of done)) SHARED
-          (named_here img.names.shared (shared_of done) (shared_of left) cell.name split l.limits.names.shared)
+          (named_here img.names.shared (shared_of done) (shared_of left) cell.name split l.fits.names.shared)
           (next_resource (record { irqs = []; tasks = []; shared = shared_of done }) (length (shared_of done)) cell.name
           img.names.shared
           (sym (ap (take (length (shared_of done))) split ∙ front_taken (shared_of done) cell.name (shared_of left)))
-          l.limits.names.shared_differ
+          l.fits.names.shared_differ
           (ap (λ (all : List (List ℕ)). slice_get all (length (shared_of done))) split
           ∙ first_behind (shared_of done) cell.name (shared_of left)))
           (below_all img.names.shared (shared_of done) (shared_of left) cell.name SHARED split
-          l.limits.names.few_shared)
+          l.fits.names.few_shared)
 
   cell_step : (done left : List CellRow) (cell : CellRow) → img.cells ≡ done ++ cell ∷ left → IsWord cell.name
       → Is32Bits cell.first

@@ -71,18 +71,18 @@ module _ (img : Image) (l : IsLoadable img) where
       let split = irqs_split done left row is in
       let named : IsName row.name =
       let behind = all_behind (λ (irq : List ℕ × ℕ). IsName irq.0) before ((row.name, row.number) ∷ after)
-      (subst (AllByRecursion (λ (irq : List ℕ × ℕ). IsName irq.0)) split l.limits.names.irqs) in behind.0 in
+      (subst (AllByRecursion (λ (irq : List ℕ × ℕ). IsName irq.0)) split l.fits.names.irqs) in behind.0 in
       let unknown : irq_of (irqs_names done) row.name ≡ None =
       next_irq (irqs_names done) (length before) row.name img.names.irqs row.number
       (sym (ap (take (length before)) split ∙ front_taken before (row.name, row.number) after))
-      l.limits.names.irqs_differ
+      l.fits.names.irqs_differ
       (ap (λ (all : List (List ℕ × ℕ)). slice_get all (length before)) split
       ∙ first_behind before (row.name, row.number) after) in
       and_both ((has_cells (irqs_front done) && true) && true) (is_new_irq (irqs_names done) row.name)
       (and_both (has_cells (irqs_front done) && true) true
       (and_both (has_cells (irqs_front done)) true (same_itself (length img.cells)) refl) refl)
       (new_from_parts row.name (irq_of (irqs_names done) row.name) (length before) IRQS named unknown
-      (below_all img.names.irqs before after (row.name, row.number) IRQS split l.limits.names.few_irqs))
+      (below_all img.names.irqs before after (row.name, row.number) IRQS split l.fits.names.few_irqs))
 
   handler_reads : (h : Option Handler) → IsHandlerWithin h → handler_at (handler_words h) ≡ Ok h
   handler_reads None within = refl
@@ -169,7 +169,7 @@ module _ (img : Image) (l : IsLoadable img) where
       → row.task ≡ length (tasks_of done)
   task_here done left row is has =
       let name = task_name img.names row.task in
-      l.limits.names.tasks_differ row.task (length (tasks_of done)) name
+      l.fits.names.tasks_differ row.task (length (tasks_of done)) name
       (slice_get-get_or img.names.tasks row.task [] has)
       (ap (λ (all : List (List ℕ)). slice_get all (length (tasks_of done))) (tasks_split done left row is)
       ∙ first_behind (tasks_of done) name (tasks_of left))
@@ -182,13 +182,13 @@ module _ (img : Image) (l : IsLoadable img) where
       and_both (has_cells (bodies_front done) && true) (is_new_task (bodies_names done) name)
       (and_both (has_cells (bodies_front done)) true (same_itself (length img.cells)) refl)
       (new_from_parts name (task_of (bodies_names done) name) (length (tasks_of done)) TASKS
-      (named_here img.names.tasks (tasks_of done) (tasks_of left) name split l.limits.names.tasks)
+      (named_here img.names.tasks (tasks_of done) (tasks_of left) name split l.fits.names.tasks)
       (next_task (bodies_names done) (length (tasks_of done)) name img.names.tasks
       (sym (ap (take (length (tasks_of done))) split ∙ front_taken (tasks_of done) name (tasks_of left)))
-      l.limits.names.tasks_differ
+      l.fits.names.tasks_differ
       (ap (λ (all : List (List ℕ)). slice_get all (length (tasks_of done))) split
       ∙ first_behind (tasks_of done) name (tasks_of left)))
-      (below_all img.names.tasks (tasks_of done) (tasks_of left) name TASKS split l.limits.names.few_tasks))
+      (below_all img.names.tasks (tasks_of done) (tasks_of left) name TASKS split l.fits.names.few_tasks))
 
   body_reads : (task : ℕ) (name : List ℕ) (row : BodyRow) → IsBodyWithin row → task ≡ row.task
       → body_row_at task (name ∷ decimal row.entry ∷ decimal row.frame ∷ decimal row.args ∷ []) ≡ Ok (name, row)
@@ -224,7 +224,7 @@ module _ (img : Image) (l : IsLoadable img) where
       ap (λ (n : List ℕ). line_with_feed (((codes "body " ++ n) ++ (32 ∷ decimal row.entry)) ++ (32 ∷ decimal row.frame)
       ++ (32 ∷ decimal row.args))) own in
       ap (take_words front line) (words_of_spelled line (codes "body") ws
-      (body_spelled img.names row (known_names img.names l.limits.names) has))
+      (body_spelled img.names row (known_names img.names l.fits.names) has))
       ∙ ap (λ (r : Result (List ℕ × BodyRow) Wrong). and_make (and_then r (λ body. if may_add_body front body.0
       then if_line (body_line (with_task front.image.names body.0) body.1) line body else Err wrong.Form))
       (λ body. and_body front body.0 body.1)) read

@@ -19,7 +19,7 @@ use Rattle.rt_load.specs.Verdict.{IsVerdict}
 
 pub limits_of_points : (img : Image) → IsLoadable img → points.IsWithinLimits img
 limits_of_points img l =
-    let lim = l.limits in
+    let lim = l.fits in
     let names = lim.names in
     let few_irqs = names.few_irqs in
     let few_tasks = names.few_tasks in

@@ -216,7 +216,7 @@ irqs_below front stands =
     subst (λ (irqs : List (List ℕ × ℕ)). AllByRecursion (λ irq. irq.1 < IRQ_NUMBERS) irqs)
     (ap (λ (n : Names). n.irqs) l.names)
     (all_map (λ (row : IrqRow). (row.name, row.number)) IsIrqWithin (λ (irq : List ℕ × ℕ). irq.1 < IRQ_NUMBERS)
-    (λ row within. within.number) front.image.irqs l.limits.irqs)
+    (λ row within. within.number) front.image.irqs l.fits.irqs)
 
 more_are : (names : Names) (ws : List (List ℕ)) (part : Option (List (List ℕ))) (i : InstrOver names ws)
     (n : NoteOver names part) → AreMore names (further names i.irqs n.tasks n.shared)
@@ -258,7 +258,7 @@ over_further before front line rest stands text may is i n =
     let m = more_are names (in_front rest) (behind rest) i n in
     let l = stands.loadable in
     let code : Instr × Option Note = (i.instr, n.note) in
-    let known = known_more names more l.limits.names m in
+    let known = known_more names more l.fits.names m in
     let has_instr : HasInstr more i.instr = i.has n.tasks n.shared in
     let has_note : HasNote more n.note = n.has i.irqs in
     let rest_is : rest ≡ (instr_word i.instr ∷ instr_words more i.instr) ++ end_words (note_part more n.note) =
@@ -311,8 +311,8 @@ name_at before front line (number ∷ rest) stands text may is e =
     let parts = noted_name (instr_at names (in_front rest)) (note_after names (behind rest)) both in
     let l = stands.loadable in
     over_further before front line rest stands text may (is ∙ ap (λ (w : List ℕ). codes "code" ∷ w ∷ rest) number_is)
-    (instr_over names (in_front rest) l.limits.names (irqs_below front stands) parts.0)
-    (note_over names (behind rest) l.limits.names parts.1))
+    (instr_over names (in_front rest) l.fits.names (irqs_below front stands) parts.0)
+    (note_over names (behind rest) l.fits.names parts.1))
     (λ _ no. absurd (form_no_name (Err wrong.Form) refl no))
 
 pub name_is : (before : List (List ℕ)) (front : Front) (line : List ℕ) → Stands front → front_text front

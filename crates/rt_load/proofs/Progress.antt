@@ -250,7 +250,7 @@ first_stands fpu bits stack thread code cells within s t n =
     let sizes = and_parts (nat_le LEAST_BITS bits) (nat_le bits MOST_BITS) both.0 in
     record {
       loadable = record {
-        limits = record {
+        fits = record {
           least_bits = leb-true LEAST_BITS bits sizes.0;
           most_bits = leb-true bits MOST_BITS sizes.1;
           stack_bytes = s;

@@ -157,7 +157,7 @@ code_are_lines names n (line ∷ lines) known instrs notes = (
 pub are_lines : (img : Image) (l : IsLoadable img) → AllByRecursion IsLine (listing_lines img l)
 are_lines img l =
     let li = l.listable in
-    let known = known_names img.names l.limits.names in
+    let known = known_names img.names l.fits.names in
     let a = texts_from cell_text 0 img.cells in
     let b = map irq_text img.irqs in
     let c = map (body_text img.names) img.bodies in

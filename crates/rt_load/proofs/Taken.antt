@@ -111,18 +111,18 @@ with_cell : (img : Image) (cell : CellRow) (more : Names) → IsLoadable img →
     → Is32Bits cell.first → Is32Bits (length img.cells + 1) → IsLoadable
     (record img { cells = img.cells ++ cell ∷ []; names = more })
 with_cell img cell more l in_cells with first few = record {
-  limits = record {
-    least_bits = l.limits.least_bits;
-    most_bits = l.limits.most_bits;
-    stack_bytes = l.limits.stack_bytes;
-    thread_words = l.limits.thread_words;
+  fits = record {
+    least_bits = l.fits.least_bits;
+    most_bits = l.fits.most_bits;
+    stack_bytes = l.fits.stack_bytes;
+    thread_words = l.fits.thread_words;
     names = with.are;
     few_cells = omega (arith, few, length-append img.cells (cell ∷ []));
-    cells = all_push (λ (cell : CellRow). Is32Bits cell.first) img.cells cell l.limits.cells first;
-    irqs = l.limits.irqs;
-    bodies = l.limits.bodies;
-    few_lines = l.limits.few_lines;
-    code = l.limits.code;
+    cells = all_push (λ (cell : CellRow). Is32Bits cell.first) img.cells cell l.fits.cells first;
+    irqs = l.fits.irqs;
+    bodies = l.fits.bodies;
+    few_lines = l.fits.few_lines;
+    code = l.fits.code;
   };
   listable = record {
     names = names_writable more with.are;
@@ -180,7 +180,7 @@ cell_goes front cell stands may first =
     } in
     let in_next : IsInCells (and_cell front cell).image =
     record { irqs = in_cells.irqs; bodies = in_cells.bodies; code = in_cells.code } in
-    let with = with_cell_name front.image.names cell.name stands.loadable.limits.names
+    let with = with_cell_name front.image.names cell.name stands.loadable.fits.names
     (cell_named front.image.names cell.name both.1) in
     let longer : length (front.image.cells ++ cell ∷ []) ≡ length front.image.cells + 1 =
     length-append front.image.cells (cell ∷ []) in
@@ -208,21 +208,21 @@ with_row : (img : Image) (row : IrqRow) → IsLoadable img → img.bodies ≡ []
     → IsNew row.name (irq_of img.names row.name) (length img.names.irqs) IRQS
     → IsLoadable (record img { irqs = img.irqs ++ row ∷ []; names = with_irq img.names row.name row.number })
 with_row img row l no_bodies no_code within new =
-    let are : AreNames (with_irq img.names row.name row.number) = irq_added img.names row.name row.number l.limits.names
+    let are : AreNames (with_irq img.names row.name row.number) = irq_added img.names row.name row.number l.fits.names
     new.named new.unknown new.below in
     record {
-      limits = record {
-        least_bits = l.limits.least_bits;
-        most_bits = l.limits.most_bits;
-        stack_bytes = l.limits.stack_bytes;
-        thread_words = l.limits.thread_words;
+      fits = record {
+        least_bits = l.fits.least_bits;
+        most_bits = l.fits.most_bits;
+        stack_bytes = l.fits.stack_bytes;
+        thread_words = l.fits.thread_words;
         names = are;
-        few_cells = l.limits.few_cells;
-        cells = l.limits.cells;
-        irqs = all_push IsIrqWithin img.irqs row l.limits.irqs within;
-        bodies = l.limits.bodies;
-        few_lines = l.limits.few_lines;
-        code = l.limits.code;
+        few_cells = l.fits.few_cells;
+        cells = l.fits.cells;
+        irqs = all_push IsIrqWithin img.irqs row l.fits.irqs within;
+        bodies = l.fits.bodies;
+        few_lines = l.fits.few_lines;
+        code = l.fits.code;
       };
       listable = record {
         names = names_writable _ are;
@@ -307,23 +307,23 @@ with_body : (img : Image) (name : List ℕ) (row : BodyRow) → IsLoadable img �
     → IsNew name (task_of img.names name) (length img.names.tasks) TASKS
     → IsLoadable (record img { bodies = img.bodies ++ row ∷ []; names = with_task img.names name })
 with_body img name row l no_code within task new =
-    let are : AreNames (with_task img.names name) = task_added img.names name l.limits.names new.named new.unknown
+    let are : AreNames (with_task img.names name) = task_added img.names name l.fits.names new.named new.unknown
     new.below in
     let longer : length (img.names.tasks ++ name ∷ []) ≡ length img.names.tasks + 1 =
     length-append img.names.tasks (name ∷ []) in
     record {
-      limits = record {
-        least_bits = l.limits.least_bits;
-        most_bits = l.limits.most_bits;
-        stack_bytes = l.limits.stack_bytes;
-        thread_words = l.limits.thread_words;
+      fits = record {
+        least_bits = l.fits.least_bits;
+        most_bits = l.fits.most_bits;
+        stack_bytes = l.fits.stack_bytes;
+        thread_words = l.fits.thread_words;
         names = are;
-        few_cells = l.limits.few_cells;
-        cells = l.limits.cells;
-        irqs = l.limits.irqs;
-        bodies = all_push IsBodyWithin img.bodies row l.limits.bodies within;
-        few_lines = l.limits.few_lines;
-        code = l.limits.code;
+        few_cells = l.fits.few_cells;
+        cells = l.fits.cells;
+        irqs = l.fits.irqs;
+        bodies = all_push IsBodyWithin img.bodies row l.fits.bodies within;
+        few_lines = l.fits.few_lines;
+        code = l.fits.code;
       };
       listable = record {
         names = names_writable _ are;
@@ -409,18 +409,18 @@ line_goes front line stands may right =
     record {
       stands = record {
         loadable = record {
-          limits = record {
-            least_bits = l.limits.least_bits;
-            most_bits = l.limits.most_bits;
-            stack_bytes = l.limits.stack_bytes;
-            thread_words = l.limits.thread_words;
-            names = l.limits.names;
-            few_cells = l.limits.few_cells;
-            cells = l.limits.cells;
-            irqs = l.limits.irqs;
-            bodies = l.limits.bodies;
+          fits = record {
+            least_bits = l.fits.least_bits;
+            most_bits = l.fits.most_bits;
+            stack_bytes = l.fits.stack_bytes;
+            thread_words = l.fits.thread_words;
+            names = l.fits.names;
+            few_cells = l.fits.few_cells;
+            cells = l.fits.cells;
+            irqs = l.fits.irqs;
+            bodies = l.fits.bodies;
             few_lines = omega (arith, longer, below, few);
-            code = all_push IsLineWithin front.image.code line l.limits.code right.within;
+            code = all_push IsLineWithin front.image.code line l.fits.code right.within;
           };
           listable = record {
             names = l.listable.names;

@@ -489,7 +489,7 @@ form_is before front line all taken stands e u =
     let own_names = u.image.names in
     let mark : Instr × Option Note = (instr.Mark, None) in
     let text = code_text own_names u.address mark in
-    let known_own = known_names own_names u.loadable.limits.names in
+    let known_own = known_names own_names u.loadable.fits.names in
     let own : IsLine text = line_of_spelled text _ _ (code_spelled own_names u.address mark known_own tt tt) in
     let next = next_taken before front text u.behind u.image u.loadable all own taken u.goes_on in
     let marked = mark_taken front next.0 own_names u.address known_own next.2 in
@@ -501,6 +501,6 @@ form_is before front line all taken stands e u =
     let fits = stands.code in
     let few_lines = stands.few_lines in
     let few : Is32Bits index = omega (arith, fits, few_lines) in
-    refuted front line u.names u.address u.code m l.limits.names marked.may marked.address_is few u.within u.has_instr
+    refuted front line u.names u.address u.code m l.fits.names marked.may marked.address_is few u.within u.has_instr
     u.has_note
     ((last_same line (code_text u.names u.address u.code) 10 10 (sym u.line_is)).0) e

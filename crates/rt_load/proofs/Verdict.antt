@@ -90,7 +90,7 @@ first_is_no_code line u =
     let names = u.image.names in
     let mark = code_text names u.address (instr.Mark, None) in
     let own : IsLine mark = line_of_spelled mark _ _ (code_spelled names u.address (instr.Mark, None)
-    (known_names names u.loadable.limits.names) tt tt) in
+    (known_names names u.loadable.fits.names) tt tt) in
     let more = lines_behind [] mark u.behind u.image u.loadable tt own u.goes_on in
     let same : first_text u.image (length u.image.code) (length u.image.cells) ≡ mark =
     ap (λ (ls : List (List ℕ)). get_or ls 0 []) more.1 in

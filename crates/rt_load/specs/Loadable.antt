@@ -59,7 +59,7 @@ pub record IsLineWithin (line : Instr × Option Note) : Type 0 where
   pub note : IsNoteWithin line.1
 
 -- the limits of applications that an image shows, and numbers of 32 bits
-pub record IsWithinLimits (img : Image) : Type 0 where
+pub record FitsListing (img : Image) : Type 0 where
   pub least_bits : LEAST_BITS ≤ img.bits
   pub most_bits : img.bits ≤ MOST_BITS
   pub stack_bytes : Is32Bits img.stack_bytes
@@ -87,6 +87,6 @@ told_names img = record {
 
 -- a listing tells the image: it is within the limits, has a listing, and has the names that its rows tell
 pub record IsLoadable (img : Image) : Type 0 where
-  pub limits : IsWithinLimits img
+  pub fits : FitsListing img
   pub listable : IsListable img
   pub names : told_names img ≡ img.names
