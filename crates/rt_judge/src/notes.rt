@@ -16,7 +16,7 @@ fn opens(instr: &Instr) -> bool
 
 /// Whether an instruction undoes how a section was entered.
 fn closes(instr: &Instr, kind: Kind) -> bool
-    ensures { IsTrue result ↔ (instr.now ≡ rules.leaving_instr kind) }
+    ensures { IsTrue result ↔ (instr.now ≡ rules.closing_instr kind) }
 {
     match (kind, *instr) {
         (Kind::Mark, Instr::Mark) => true,

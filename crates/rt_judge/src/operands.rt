@@ -11,8 +11,8 @@ use rt_code::{Image, Instr};
 use rt_points::{Opened, Owner};
 
 /// Whether an instruction may be used: it computes no cell's number, sets no alarm, and calls no body.
-fn is_plain(instr: &Instr) -> bool
-    ensures { result ≡ rules.is_plain instr.now }
+fn is_supported(instr: &Instr) -> bool
+    ensures { result ≡ rules.is_supported instr.now }
 {
     !matches!(
         instr,
@@ -90,7 +90,7 @@ fn may_end(owner: Owner, opened: &[Opened], instr: &Instr) -> bool
 pub fn is_operable(image: &Image, owner: Owner, opened: &[Opened], instr: &Instr) -> bool
     ensures { (address : ℕ) → IsTrue result ↔ rules.IsOperable image.now (point address owner opened.now) instr.now }
 {
-    is_plain(instr)
+    is_supported(instr)
         && has_its_slots(instr, frame_of(image, owner))
         && has_its_cell(instr, image.cells.len())
         && may_end(owner, opened, instr)

@@ -1,10 +1,10 @@
 ghost use Rattle.std.specs.Prelude.{◌≡◌, ◌<◌, ◌+◌, ◌^◌, ◌++◌, not, IfOk, OnOk, MatchOption};
 ghost use Rattle.std.specs.BTreeMap.{get};
 ghost use Rattle.std.specs.Ordering.{nat_cmp};
-ghost use Rattle.rt_code.specs.Image.{Image as Program};
+ghost use Rattle.rt_code.specs.Image.{Image as ImageView};
 ghost use Rattle.rt_points.specs.Limits.{IsWithinLimits};
 ghost use Rattle.rt_points.specs.Rules.{NestsInOneWay};
-ghost use Rattle.rt_points.specs.declared.point.Owner.{Owner as Runner};
+ghost use Rattle.rt_points.specs.declared.point.Owner.{Owner as PointOwner};
 ghost use Rattle.rt_judge.specs.Inside.Exits.{ends_init};
 ghost use Rattle.rt_judge.specs.Inside.Walks as spec;
 
@@ -48,7 +48,7 @@ pub enum Meeting {
 impl Walk {
     /// What a visit is to the table.
     fn meet(&self, visit: &Visit) -> Meeting
-        ensures { (img : Program) (owner : Runner) → spec.Meets img owner self.now.table visit.now result }
+        ensures { (img : ImageView) (owner : PointOwner) → spec.Meets img owner self.now.table visit.now result }
     {
         if visit.nesting.open_sections().len() > MOST_OPEN {
             return Meeting::Ambiguous;

@@ -43,14 +43,14 @@ abbrev pub StaysInCode : Image → Type 0
 StaysInCode img = (p : Point) → IsPoint img p → p.address < length img.code
 
 -- the instructions that may be used: none that computes the number of a cell, sets the alarm, or calls a body
-abbrev pub is_plain : Instr → Bool
-is_plain (instr.LoadAt d c s) = false
-is_plain (instr.StoreAt c s a) = false
-is_plain (instr.Alarm s irq) = false
-is_plain instr.NoAlarm = false
-is_plain (instr.Call row s) = false
-is_plain instr.Back = false
-is_plain i = true
+abbrev pub is_supported : Instr → Bool
+is_supported (instr.LoadAt d c s) = false
+is_supported (instr.StoreAt c s a) = false
+is_supported (instr.Alarm s irq) = false
+is_supported instr.NoAlarm = false
+is_supported (instr.Call row s) = false
+is_supported instr.Back = false
+is_supported i = true
 
 -- the cell that an instruction touches, where it names one
 abbrev pub touched_cell : Instr → Option Access
@@ -69,10 +69,10 @@ MayEnd owner inside instr.Ret = ((index : ℕ) × (owner ≡ Handling index)) ×
 MayEnd owner inside instr.Serve = (owner ≡ Starting) × (inside ≡ [])
 MayEnd owner inside i = Unit {0}
 
--- the instruction at a point may be used there: it is a plain one, its slots and its cell are there, and it ends a job
--- only where it may
+-- the instruction at a point may be used there: it is a supported one, its slots and its cell are there, and it ends a
+-- job only where it may
 pub record IsOperable (img : Image) (p : Point) (i : Instr) : Type 0 where
-  pub plain : is_plain i ≡ true
+  pub supported : is_supported i ≡ true
   pub slots : AllByRecursion (λ slot. slot < frame_of img p.owner) (slots_of i)
   pub cell : HasItsCell (length img.cells) (touched_cell i)
   pub ends : MayEnd p.owner p.inside i
@@ -90,15 +90,15 @@ opens (instr.Mask d) = true
 opens i = false
 
 -- the instruction on which a section is left: the one that undoes how it was entered
-abbrev pub leaving_instr : Kind → Instr
-leaving_instr Mark = instr.Mark
-leaving_instr (Raise slot value) = instr.Restore slot
-leaving_instr (Mask slot) = instr.Unmask slot
+abbrev pub closing_instr : Kind → Instr
+closing_instr Mark = instr.Mark
+closing_instr (Raise slot value) = instr.Restore slot
+closing_instr (Mask slot) = instr.Unmask slot
 
 -- the innermost open section is this one, and the instruction closes it
 abbrev pub ClosesInnermost : List Opened → Section → Instr → Type 0
 ClosesInnermost [] x i = ⊥
-ClosesInnermost (o ∷ outer) x i = (o.section ≡ x) × (i ≡ leaving_instr o.kind)
+ClosesInnermost (o ∷ outer) x i = (o.section ≡ x) × (i ≡ closing_instr o.kind)
 
 -- the instruction is a jump, and it is the thread that runs
 abbrev pub JumpsInThread : Owner → Instr → Type 0

@@ -26,7 +26,7 @@ use Rattle.rt_points.specs.Checked.{IsChecked}
 use Rattle.rt_points.specs.Leading.{Leads, LeadsOn, owner_after, inside_after}
 use Rattle.rt_points.specs.Point.{Point}
 use Rattle.rt_points.specs.Rules as rules
-use Rattle.rt_safe.specs.Inside.Fits.{is_starting, base_under, Saves, Fits}
+use Rattle.rt_safe.specs.Inside.RunsAtPoints.{is_starting, base_under, KeepMasks, RunsAtPoints}
 use Rattle.rt_safe.specs.Inside.Lines.{is_simple}
 use Rattle.rt_safe.specs.Inside.Steps.{insides_of, insides_after, FindsNone, IsNoTrapShown, Steps}
 use Rattle.rt_safe.proofs.Lines.{HasLine, slots_there, cells_there}
@@ -53,7 +53,8 @@ pub record Advances (img : Image) (c : Core) (inside : List Opened) (i : Instr) 
   pub primask : after.primask ≡ c.processor.primask
   pub frame : length after.slots ≡ length c.processor.slots
   pub memory : length after.cells ≡ length c.processor.cells
-  pub saves : (base : ℕ) (mask : Bool) → Saves c.processor.slots inside base mask → Saves after.slots inside base mask
+  pub saves : (base : ℕ) (mask : Bool) → KeepMasks c.processor.slots inside base mask
+      → KeepMasks after.slots inside base mask
   pub silent : IsSilent shown
 
 module _ (img : Image) (c : Core) (inside : List Opened) where
@@ -175,7 +176,8 @@ silent_untrapped shown is = absurd is
 no_end : (shown : Option What) → IsSilent shown → shown ≡ Some (what.End body.Init) → ⊥
 no_end shown is end = subst IsSilent end is
 
-module _ (img : Image) (checked : IsChecked img) (c : Core) (p : Point) (qs : List Point) (fits : Fits img c p qs) where
+module _ (img : Image) (checked : IsChecked img) (c : Core) (p : Point) (qs : List Point)
+    (fits : RunsAtPoints img c p qs) where
   -- the step of a line that stands at the point, where no interrupt is taken
   pub line_steps : (line : HasLine img p) → pick img c ≡ None
       → step img c ≡ settle (go_on img c line.told (unchecked_effect line.instr c.time c.processor))
@@ -183,7 +185,7 @@ module _ (img : Image) (checked : IsChecked img) (c : Core) (p : Point) (qs : Li
       let i : Instr = line.instr in
       let long : rules.HasItsCell (length img.cells) (rules.touched_cell i) = line.operable.cell in
       let slots = slots_there _ c.processor.slots _ (sym fits.running.frame) line.operable.slots in
-      let cells = cells_there i c.processor (length img.cells) line.operable.plain (sym fits.memory) long in
+      let cells = cells_there i c.processor (length img.cells) line.operable.supported (sym fits.memory) long in
       steps_by_cause.line img c (i, line.told) fits.stopped picked
       (ap (slice_get img.code) fits.address ∙ line.stands.1)
       ∙ ap (λ e. settle (go_on img c line.told e)) (effect_is_done i c.time c.processor cells slots)
@@ -198,7 +200,7 @@ module _ (img : Image) (checked : IsChecked img) (c : Core) (p : Point) (qs : Li
     abbrev core_behind : Core
     core_behind = record c { processor = one.after; pending = one.pending }
 
-    fits_behind : Fits img core_behind behind qs
+    fits_behind : RunsAtPoints img core_behind behind qs
     fits_behind = record {
       running = record {
         point = Leads p behind fits.running.point (record {

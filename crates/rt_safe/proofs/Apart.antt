@@ -19,7 +19,7 @@ use Rattle.rt_points.specs.Leading.{IsPoint}
 use Rattle.rt_points.specs.ExecutionPriority.{owner_value, execution_priority}
 use Rattle.rt_points.specs.Point.{Point, sections}
 use Rattle.rt_points.specs.Rules.{EntersAt}
-use Rattle.rt_safe.specs.Inside.Fits.{is_starting, base_under, IsOn, IsStacked}
+use Rattle.rt_safe.specs.Inside.RunsAtPoints.{is_starting, base_under, IsOn, IsStacked}
 use Rattle.rt_safe.specs.Inside.Steps.{insides_of, FindsNone}
 use Rattle.rt_safe.proofs.Execution.{handler_value}
 use Rattle.rt_safe.proofs.Keeping.{are_apart, enters_apart}

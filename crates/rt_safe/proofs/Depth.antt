@@ -21,7 +21,7 @@ use Rattle.rt_points.specs.Point.{Point}
 use Rattle.rt_points.specs.Leading.{handler_at}
 use Rattle.rt_points.specs.ExecutionPriority.{owner_value, frame_of, execution_priority}
 use Rattle.rt_points.specs.Stack.{handlers, frames_at, bytes_of, bytes_below, stack_need}
-use Rattle.rt_safe.specs.Inside.Fits.{IsLowest, IsStacked, Fits}
+use Rattle.rt_safe.specs.Inside.RunsAtPoints.{IsLowest, IsStacked, RunsAtPoints}
 use Rattle.rt_safe.proofs.PointPriorities.{priority_within}
 
 -- one frame more takes no less
@@ -143,19 +143,20 @@ module _ (img : Image) where
       omega (arith, more, same, own, none, sum_by-cons (context_words (entry_words img)) x below)
 
   -- all that is in use is within the need
-  pub within_need : (c : Core) (p : Point) (qs : List Point) → Fits img c p qs
+  pub within_need : (c : Core) (p : Point) (qs : List Point) → RunsAtPoints img c p qs
       → 4 * stack_in_use img c + bytes_below img (owner_value img p.owner) ≤ stack_need img
   within_need c p qs fits =
       let none : length (stack.words_of c.caller) ≡ 0 = ap (λ o. length (stack.words_of o)) fits.caller in
       let whole = stacked_within p qs (length c.processor.slots) c.below fits.running.frame fits.stack in
       omega (arith, none, whole)
 
-  pub depth_within : stack_need img ≤ img.stack_bytes → (c : Core) (p : Point) (qs : List Point) → Fits img c p qs
+  pub depth_within : stack_need img ≤ img.stack_bytes → (c : Core) (p : Point) (qs : List Point)
+      → RunsAtPoints img c p qs
       → depth img c ≤ img.stack_bytes
   depth_within enough c p qs fits = omega (arith, enough, within_need c p qs fits)
 
   -- and a handler above the execution priority of what runs has room
-  pub room_above : stack_need img ≤ img.stack_bytes → (c : Core) (p : Point) (qs : List Point) → Fits img c p qs
+  pub room_above : stack_need img ≤ img.stack_bytes → (c : Core) (p : Point) (qs : List Point) → RunsAtPoints img c p qs
       → (index : ℕ) (h : Handler) → handler_at img index ≡ Some h → h.value < execution_priority img p.owner p.inside
       → has_room img c (entry_words img + h.frame) ≡ true
   room_above enough c p qs fits index h is above =

@@ -22,7 +22,8 @@ use Rattle.rt_points.specs.Checked.{IsChecked}
 use Rattle.rt_points.specs.Leading.{IsPoint, Leads, owner_after}
 use Rattle.rt_points.specs.ExecutionPriority.{owner_value, frame_of}
 use Rattle.rt_points.specs.Point.{Point, sections}
-use Rattle.rt_safe.specs.Inside.Fits.{is_starting, base_inside, mask_inside, base_under, IsLowest, IsStacked, Fits}
+use Rattle.rt_safe.specs.Inside.RunsAtPoints.{is_starting, base_inside, mask_inside, base_under, IsLowest, IsStacked}
+use Rattle.rt_safe.specs.Inside.RunsAtPoints.{RunsAtPoints}
 use Rattle.rt_safe.specs.Inside.Steps.{insides_of, Steps}
 use Rattle.rt_safe.proofs.Advancing.{line_steps}
 use Rattle.rt_safe.proofs.PointPriorities.{priority_within, unmasked}
@@ -40,7 +41,8 @@ on_thread img p r starting thread (q ∷ qs) [] stacked = absurd stacked
 on_thread img p r starting thread (q ∷ qs) (x ∷ below) stacked =
     absurd (false≢true (ap is_starting (sym stacked.0.handles ∙ starting)))
 
-module _ (img : Image) (checked : IsChecked img) (c : Core) (p : Point) (qs : List Point) (fits : Fits img c p qs)
+module _ (img : Image) (checked : IsChecked img) (c : Core) (p : Point) (qs : List Point)
+    (fits : RunsAtPoints img c p qs)
     (line : HasLine img p) (picked : pick img c ≡ None) where
   module _ (is : line.instr ≡ instr.Serve) (tells : line.told ≡ Some (note.End body.Init))
       (starting : p.owner ≡ Starting)
@@ -60,7 +62,7 @@ module _ (img : Image) (checked : IsChecked img) (c : Core) (p : Point) (qs : Li
       inside = sym none;
     })
 
-    fits_thread : Fits img (core_serving c (suc c.processor.address)) thread qs
+    fits_thread : RunsAtPoints img (core_serving c (suc c.processor.address)) thread qs
     fits_thread = record {
       running = record {
         point = thread_point;

@@ -10,7 +10,8 @@ use Rattle.rt_points.specs.Checked.{IsChecked}
 use Rattle.rt_points.specs.Leading.{IsPoint}
 use Rattle.rt_points.specs.ExecutionPriority.{owner_value, execution_priority}
 use Rattle.rt_points.specs.Point.{Point}
-use Rattle.rt_safe.specs.Inside.Fits.{is_starting, base_inside, mask_inside, base_under, IsOn, IsStacked, Fits}
+use Rattle.rt_safe.specs.Inside.RunsAtPoints.{is_starting, base_inside, mask_inside, base_under, IsOn, IsStacked}
+use Rattle.rt_safe.specs.Inside.RunsAtPoints.{RunsAtPoints}
 use Rattle.rt_safe.proofs.PointPriorities.{held_off, begun, inside_holds, unmasked, lowest_starts}
 use Rattle.rt_safe.proofs.Depth.{value_is}
 use Rattle.rt_safe.proofs.Keeping.{raised_well}
@@ -57,7 +58,7 @@ module _ (img : Image) (checked : IsChecked img) where
       inside_holds img x.value (base_under (q ∷ qs)) (is_starting p.owner) p.owner p.inside
       (raised_well img checked p at) begins
 
-  pub execution_is : (c : Core) (p : Point) (qs : List Point) → Fits img c p qs
+  pub execution_is : (c : Core) (p : Point) (qs : List Point) → RunsAtPoints img c p qs
       → execution c ≡ execution_priority img p.owner p.inside
   unfolding held_off
   execution_is c p qs fits =

@@ -19,8 +19,8 @@ use Rattle.rt_points.specs.Checked.{IsChecked}
 use Rattle.rt_points.specs.Leading.{IsPoint, Begins, Enters, Leads, StandsAt, owner_after, kind_of, inside_after}
 use Rattle.rt_points.specs.ExecutionPriority.{owner_value, execution_priority}
 use Rattle.rt_points.specs.Point.{Point, sections}
-use Rattle.rt_points.specs.Rules.{leaving_instr, EntersAt}
-use Rattle.rt_safe.specs.Inside.Lines.{entering_instr, is_simple, IsLine, Simply, Anew, Opens, Closes, EndsInit}
+use Rattle.rt_points.specs.Rules.{closing_instr, EntersAt}
+use Rattle.rt_safe.specs.Inside.Lines.{opening_instr, is_simple, IsLine, Simply, Anew, Opens, Closes, EndsInit}
 use Rattle.rt_safe.specs.Inside.Lines.{Returns}
 use Rattle.rt_safe.proofs.PointPriorities.{IsRaisedWell, AreRaisedWell, lowered_falls}
 use Rattle.rt_safe.proofs.Lines.{line_told}
@@ -30,24 +30,24 @@ pub owner_of_simple : (i : Instr) (owner : Owner) → is_simple i ≡ true → o
 owner_of_simple instr.Serve owner simple = absurd (cc)
 owner_of_simple i owner simple = refl
 
-pub owner_of_opening : (kind : Kind) (owner : Owner) → owner_after (entering_instr kind) owner ≡ owner
+pub owner_of_opening : (kind : Kind) (owner : Owner) → owner_after (opening_instr kind) owner ≡ owner
 owner_of_opening Mark owner = refl
 owner_of_opening (Raise slot value) owner = refl
 owner_of_opening (Mask slot) owner = refl
 
-pub owner_of_closing : (kind : Kind) (owner : Owner) → owner_after (leaving_instr kind) owner ≡ owner
+pub owner_of_closing : (kind : Kind) (owner : Owner) → owner_after (closing_instr kind) owner ≡ owner
 owner_of_closing Mark owner = refl
 owner_of_closing (Raise slot value) owner = refl
 owner_of_closing (Mask slot) owner = refl
 
-pub kind_of_opening : (kind : Kind) → kind_of (entering_instr kind) ≡ kind
+pub kind_of_opening : (kind : Kind) → kind_of (opening_instr kind) ≡ kind
 kind_of_opening Mark = refl
 kind_of_opening (Raise slot value) = refl
 kind_of_opening (Mask slot) = refl
 
 module _ (img : Image) (checked : IsChecked img) where
   module _ (P : Owner → List Opened → Type 0) (none : (owner : Owner) → P owner [])
-      (more : (p : Point) (x : Section) (kind : Kind) → EntersAt img p (entering_instr kind) x → P p.owner p.inside
+      (more : (p : Point) (x : Section) (kind : Kind) → EntersAt img p (opening_instr kind) x → P p.owner p.inside
       → P p.owner (record { section = x; kind = kind } ∷ p.inside))
       (less : (owner : Owner) (o : Opened) (outer : List Opened) → P owner (o ∷ outer) → P owner outer) where
     -- behind a line
@@ -60,15 +60,15 @@ module _ (img : Image) (checked : IsChecked img) where
         subst (λ n. P (owner_after i p.owner) (inside_after i n p.inside)) (sym tells)
         (subst (λ j. P (owner_after j p.owner) p.inside) (sym is) before)
     one_on p i told at (Opens x kind is tells) before =
-        let line : (i, told) ≡ (entering_instr kind, Some (note.Enter x)) = λ k. (is k, tells k) in
-        let enters : EntersAt img p (entering_instr kind) x = (at.0, at.1 ∙ ap (λ l. Some l) line) in
+        let line : (i, told) ≡ (opening_instr kind, Some (note.Enter x)) = λ k. (is k, tells k) in
+        let enters : EntersAt img p (opening_instr kind) x = (at.0, at.1 ∙ ap (λ l. Some l) line) in
         subst (λ (l : Instr × Option Note). P (owner_after l.0 p.owner) (inside_after l.0 l.1 p.inside)) (sym line)
-        (subst (λ o. P o (record { section = x; kind = kind_of (entering_instr kind) } ∷ p.inside))
+        (subst (λ o. P o (record { section = x; kind = kind_of (opening_instr kind) } ∷ p.inside))
         (sym (owner_of_opening kind p.owner))
         (subst (λ k. P p.owner (record { section = x; kind = k } ∷ p.inside)) (sym (kind_of_opening kind))
         (more p x kind enters before)))
     one_on p i told at (Closes x kind outer inside is tells) before =
-        let line : (i, told) ≡ (leaving_instr kind, Some (note.Leave x)) = λ k. (is k, tells k) in
+        let line : (i, told) ≡ (closing_instr kind, Some (note.Leave x)) = λ k. (is k, tells k) in
         subst (λ (l : Instr × Option Note). P (owner_after l.0 p.owner) (inside_after l.0 l.1 p.inside)) (sym line)
         (subst (λ o. P o (drop 1 p.inside)) (sym (owner_of_closing kind p.owner))
         (subst (λ s. P p.owner (drop 1 s)) (sym inside)
@@ -95,12 +95,12 @@ module _ (img : Image) (checked : IsChecked img) where
   pub raised_well : (p : Point) → IsPoint img p → AreRaisedWell img p.owner p.inside
   raised_well = points_keep (AreRaisedWell img) (λ owner. tt) more (λ owner o outer all. all.1)
     where
-      more : (p : Point) (x : Section) (kind : Kind) → EntersAt img p (entering_instr kind) x
+      more : (p : Point) (x : Section) (kind : Kind) → EntersAt img p (opening_instr kind) x
           → AreRaisedWell img p.owner p.inside
           → AreRaisedWell img p.owner (record { section = x; kind = kind } ∷ p.inside)
       more p x kind enters before = (by kind enters, before)
         where
-          by : (kind : Kind) → EntersAt img p (entering_instr kind) x
+          by : (kind : Kind) → EntersAt img p (opening_instr kind) x
               → IsRaisedWell img kind (execution_priority img p.owner p.inside)
           by Mark enters = tt
           by (Raise slot value) enters =
@@ -117,13 +117,13 @@ module _ (img : Image) (checked : IsChecked img) where
   pub hold_off : (p : Point) → IsPoint img p → HoldOff p.owner p.inside
   hold_off = points_keep HoldOff (λ owner. tt) more (λ owner o outer all. all.1)
     where
-      more : (p : Point) (x : Section) (kind : Kind) → EntersAt img p (entering_instr kind) x → HoldOff p.owner p.inside
+      more : (p : Point) (x : Section) (kind : Kind) → EntersAt img p (opening_instr kind) x → HoldOff p.owner p.inside
           → HoldOff p.owner (record { section = x; kind = kind } ∷ p.inside)
       more p x kind enters before = (
         λ q j outside others.
             subst (λ k. execution_priority img p.owner (record { section = x; kind = k } ∷ p.inside) ≤ owner_value img
             q.owner)
-            (kind_of_opening kind) ((checked rule.Ceilings p (entering_instr kind) x enters).others q j outside others),
+            (kind_of_opening kind) ((checked rule.Ceilings p (opening_instr kind) x enters).others q j outside others),
         before,
       )
 
@@ -135,7 +135,7 @@ module _ (img : Image) (checked : IsChecked img) where
 
   pub were_entered : (p : Point) → IsPoint img p → WereEntered p.owner p.inside
   were_entered = points_keep WereEntered (λ owner. tt)
-      (λ p x kind enters before. ((p, entering_instr kind, refl, enters), before))
+      (λ p x kind enters before. ((p, opening_instr kind, refl, enters), before))
       (λ owner o outer all. all.1)
 
   -- the execution priority is at most that inside each open section

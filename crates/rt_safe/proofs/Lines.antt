@@ -23,7 +23,8 @@ use Rattle.rt_points.specs.declared.rule.Rule.TheVariants as rule
 use Rattle.rt_points.specs.Checked.{IsChecked}
 use Rattle.rt_points.specs.Leading.{IsPoint, StandsAt}
 use Rattle.rt_points.specs.Point.{Point}
-use Rattle.rt_points.specs.Rules.{is_plain, touched_cell, HasItsCell, IsOperable, IsNotedWell, opens, ClosesInnermost}
+use Rattle.rt_points.specs.Rules.{is_supported, touched_cell, HasItsCell, IsOperable, IsNotedWell, opens}
+use Rattle.rt_points.specs.Rules.{ClosesInnermost}
 use Rattle.rt_points.specs.Rules.{JumpsInThread}
 use Rattle.rt_safe.specs.Inside.Lines.{IsLine, Simply, Anew, Opens, Closes, EndsInit, Returns}
 
@@ -36,17 +37,18 @@ slots_there (index ∷ indices) words n is all =
     (slots_there indices words n is all.1)
 
 -- an instruction that may be used names the cell that it touches
-pub access_is : (i : Instr) (q : Processor) → is_plain i ≡ true → access_of i q ≡ touched_cell i
-access_is (instr.LoadAt d c s) q plain = absurd (false≢true plain)
-access_is (instr.StoreAt c s a) q plain = absurd (false≢true plain)
-access_is i q plain = refl
+pub access_is : (i : Instr) (q : Processor) → is_supported i ≡ true → access_of i q ≡ touched_cell i
+access_is (instr.LoadAt d c s) q supported = absurd (false≢true supported)
+access_is (instr.StoreAt c s a) q supported = absurd (false≢true supported)
+access_is i q supported = refl
 
 -- and that is there
-pub cells_there : (i : Instr) (q : Processor) (n : ℕ) → is_plain i ≡ true → n ≡ length q.cells
+pub cells_there : (i : Instr) (q : Processor) (n : ℕ) → is_supported i ≡ true → n ≡ length q.cells
     → HasItsCell n (touched_cell i)
     → are_there (cells_of i q) q.cells ≡ true
-cells_there i q n plain long has =
-    ap (λ a. are_there (option_to_list (option_map cell_of a)) q.cells) (access_is i q plain) ∙ by (touched_cell i) has
+cells_there i q n supported long has =
+    ap (λ a. are_there (option_to_list (option_map cell_of a)) q.cells) (access_is i q supported)
+    ∙ by (touched_cell i) has
   where
     by : (a : Option Access) → HasItsCell n a → are_there (option_to_list (option_map cell_of a)) q.cells ≡ true
     by None has = refl
@@ -55,12 +57,12 @@ cells_there i q n plain long has =
 
 module _ (img : Image) (p : Point) where
   unnoted : (i : Instr) → IsOperable img p i → IsNotedWell img p i None → IsLine p i None
-  unnoted (instr.LoadAt d c s) op noted = absurd (false≢true op.plain)
-  unnoted (instr.StoreAt c s a) op noted = absurd (false≢true op.plain)
-  unnoted (instr.Alarm s irq) op noted = absurd (false≢true op.plain)
-  unnoted instr.NoAlarm op noted = absurd (false≢true op.plain)
-  unnoted (instr.Call row s) op noted = absurd (false≢true op.plain)
-  unnoted instr.Back op noted = absurd (false≢true op.plain)
+  unnoted (instr.LoadAt d c s) op noted = absurd (false≢true op.supported)
+  unnoted (instr.StoreAt c s a) op noted = absurd (false≢true op.supported)
+  unnoted (instr.Alarm s irq) op noted = absurd (false≢true op.supported)
+  unnoted instr.NoAlarm op noted = absurd (false≢true op.supported)
+  unnoted (instr.Call row s) op noted = absurd (false≢true op.supported)
+  unnoted instr.Back op noted = absurd (false≢true op.supported)
   unnoted (instr.Raise d v) op noted = absurd noted.has
   unnoted (instr.Restore s) op noted = absurd noted.has
   unnoted (instr.Mask d) op noted = absurd noted.has

@@ -11,7 +11,7 @@ use Rattle.rt_points.specs.declared.point.Opened.{Opened}
 use Rattle.rt_points.specs.declared.point.Owner.{Owner}
 use Rattle.rt_points.specs.declared.point.Owner.TheVariants.{Starting, Thread, Handling}
 use Rattle.rt_points.specs.ExecutionPriority.{owner_value, lowered_value, execution_priority}
-use Rattle.rt_safe.specs.Inside.Fits.{is_starting, base_by, mask_by, base_inside, mask_inside, IsLowest}
+use Rattle.rt_safe.specs.Inside.RunsAtPoints.{is_starting, base_by, mask_by, base_inside, mask_inside, IsLowest}
 
 -- the three masks together
 unfoldable pub held_off : ℕ → ℕ → Bool → ℕ

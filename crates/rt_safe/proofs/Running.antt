@@ -20,7 +20,7 @@ use Rattle.rt_laws.specs.Observer.{Observer, sees, sees_all}
 use Rattle.rt_points.specs.declared.point.Owner.TheVariants.{Starting}
 use Rattle.rt_points.specs.Checked.{IsChecked}
 use Rattle.rt_points.specs.Point.{Point}
-use Rattle.rt_safe.specs.Inside.Fits.{Fits}
+use Rattle.rt_safe.specs.Inside.RunsAtPoints.{RunsAtPoints}
 use Rattle.rt_safe.specs.Inside.Steps.{insides_of, insides_after, FindsNone, IsNoTrapShown}
 use Rattle.rt_safe.proofs.Apart.{apart_of}
 use Rattle.rt_safe.proofs.Seeing.{shown_of, seen_insides, sees_insides, exclusive_of, free_of, untrapped}
@@ -34,7 +34,7 @@ module _ (img : Image) where
     is : happen img c e ≡ (core, label ∷ [])
     point : Point
     below : List Point
-    fits : Fits img core point below
+    fits : RunsAtPoints img core point below
     insides : insides_after (shown_of label) (insides_of (p ∷ qs)) ≡ insides_of (point ∷ below)
     free : FindsNone (shown_of label) (insides_of (p ∷ qs))
     no_trap : IsNoTrapShown (shown_of label)
@@ -45,7 +45,7 @@ module _ (img : Image) where
   pub record Reaches (c : Core) (p : Point) (qs : List Point) (events : List Event) : Type 0 where
     pub point : Point
     pub below : List Point
-    pub fits : Fits img (core_after img c events) point below
+    pub fits : RunsAtPoints img (core_after img c events) point below
     pub started : p.owner ≢ Starting → point.owner ≢ Starting
     pub ended : Contains (labels img c events) (Stepped (Some (what.End body.Init))) → point.owner ≢ Starting
     pub seen : (app : App) (v : Observer) → seen_insides v.jobs ≡ insides_of (p ∷ qs)
@@ -57,7 +57,7 @@ module _ (img : Image) where
     pub no_trap : (n : ℕ) → AllByRecursion (λ item. IsNoTrap item.what) (items_of n (labels img c events))
 
 module _ (img : Image) (checked : IsChecked img) where
-  happens : (c : Core) (p : Point) (qs : List Point) → Fits img c p qs → (e : Event) → Happens img c p qs e
+  happens : (c : Core) (p : Point) (qs : List Point) → RunsAtPoints img c p qs → (e : Event) → Happens img c p qs e
   happens c p qs fits (Arrive irq) = record {
     core = core_after_pend c irq;
     label = Arrived irq;
@@ -122,14 +122,14 @@ module _ (img : Image) (checked : IsChecked img) where
         ended = one.ended;
       }
 
-  none : (c : Core) (p : Point) (qs : List Point) → Fits img c p qs → Reaches img c p qs []
+  none : (c : Core) (p : Point) (qs : List Point) → RunsAtPoints img c p qs → Reaches img c p qs []
   none c p qs fits =
       let same = happens_by_event.core_none img c in
       let shown = happens_by_event.labels_none img c in
       record {
         point = p;
         below = qs;
-        fits = subst (λ d. Fits img d p qs) (sym same) fits;
+        fits = subst (λ d. RunsAtPoints img d p qs) (sym same) fits;
         started = λ before. before;
         ended = λ is. absurd (contains_none (Stepped (Some (what.End body.Init)))
             (subst (λ ls. Contains ls (Stepped (Some (what.End body.Init)))) shown is));
@@ -171,7 +171,7 @@ module _ (img : Image) (checked : IsChecked img) where
     more = record {
       point = rest.point;
       below = rest.below;
-      fits = subst (λ d. Fits img d rest.point rest.below) (sym core_is) rest.fits;
+      fits = subst (λ d. RunsAtPoints img d rest.point rest.below) (sym core_is) rest.fits;
       started = λ before. rest.started (first.started before);
       ended = λ is. ended_more (subst (λ ls. Contains ls (Stepped (Some (what.End body.Init)))) labels_are is);
       seen = λ app v sight.
@@ -194,7 +194,7 @@ module _ (img : Image) (checked : IsChecked img) where
           (untrapped first.label (labels img first.core events) n first.no_trap rest.no_trap);
     }
 
-  pub reaches : (events : List Event) (c : Core) (p : Point) (qs : List Point) → Fits img c p qs
+  pub reaches : (events : List Event) (c : Core) (p : Point) (qs : List Point) → RunsAtPoints img c p qs
       → Reaches img c p qs events
   reaches [] c p qs fits = none c p qs fits
   reaches (e ∷ events) c p qs fits =

@@ -25,7 +25,7 @@ use Rattle.rt_points.specs.Checked.{IsChecked}
 use Rattle.rt_points.specs.Leading.{Begins, starts_at}
 use Rattle.rt_points.specs.Point.{Point, sections}
 use Rattle.rt_points.specs.Rules.{Touches, IsGuardedBy}
-use Rattle.rt_safe.specs.Inside.Fits.{is_starting, Fits}
+use Rattle.rt_safe.specs.Inside.RunsAtPoints.{is_starting, RunsAtPoints}
 use Rattle.rt_safe.specs.Inside.Steps.{insides_of}
 use Rattle.rt_safe.specs.Laws.{CheckedImagesAreSafe}
 use Rattle.rt_safe.specs.Safe.{IsTouchedBy, TouchesInside, RunsSafely}
@@ -36,7 +36,7 @@ use Rattle.rt_safe.proofs.Running.{Reaches, reaches}
 use Rattle.rt_safe.proofs.Seeing.{seen_insides, inside_of, init_of}
 
 -- after reset the core is where `init` begins
-reset_fits : (img : Image) → Fits img (reset img) (starts_at 0 Starting) []
+reset_fits : (img : Image) → RunsAtPoints img (reset img) (starts_at 0 Starting) []
 reset_fits img = record {
   running = record { point = Begins; frame = length-replicate img.thread_words 0; saves = tt };
   stack = tt;
@@ -55,7 +55,7 @@ accessed (Leads after request) o a is = is
 
 module _ (img : Image) (checked : IsChecked img) where
   -- what the next step of a core that fits touches is touched at its point
-  touches_at : (c : Core) (p : Point) (qs : List Point) → Fits img c p qs → p.owner ≢ Starting → (a : Access)
+  touches_at : (c : Core) (p : Point) (qs : List Point) → RunsAtPoints img c p qs → p.owner ≢ Starting → (a : Access)
       → access img c ≡ Some a → Touches img (cell_of a) p
   touches_at c p qs fits outside a is =
       by (pick img c)
@@ -72,7 +72,7 @@ module _ (img : Image) (checked : IsChecked img) where
         told = line.told;
         stands = line.stands;
         access = a;
-        by = sym (access_is line.instr c.processor line.operable.plain)
+        by = sym (access_is line.instr c.processor line.operable.supported)
             ∙ accessed (effect line.instr c.time c.processor) (access_of line.instr c.processor) a
             (sym (ap (access_by_line c) (ap (slice_get img.code) fits.address ∙ line.stands.1)) ∙ is);
         touches = refl;

@@ -10,18 +10,18 @@ use Rattle.rt_points.specs.declared.point.Kind.TheVariants.{Mark, Raise, Mask}
 use Rattle.rt_points.specs.declared.point.Opened.{Opened}
 use Rattle.rt_points.specs.Point.{Point}
 use Rattle.rt_points.specs.Rules as rules
-use Rattle.rt_safe.specs.Inside.Fits.{base_inside, mask_inside, SavesBy, Saves, IsLowest, IsStacked}
+use Rattle.rt_safe.specs.Inside.RunsAtPoints.{base_inside, mask_inside, KeepsMask, KeepMasks, IsLowest, IsStacked}
 
 -- the slot of no open section is written
 pub saves_kept : (slots : List ℕ) (d v : ℕ) (inside : List Opened) (base : ℕ) (mask : Bool)
-    → AllByRecursion (λ o. ¬ rules.Saves o.kind d) inside → Saves slots inside base mask
-    → Saves (slice_set slots d v) inside base mask
+    → AllByRecursion (λ o. ¬ rules.Saves o.kind d) inside → KeepMasks slots inside base mask
+    → KeepMasks (slice_set slots d v) inside base mask
 saves_kept slots d v [] base mask free saves = tt
 saves_kept slots d v (o ∷ outer) base mask free saves =
     (one o.kind free.0 saves.0, saves_kept slots d v outer base mask free.1 saves.1)
   where
-    one : (kind : Kind) → ¬ rules.Saves kind d → SavesBy slots kind (base_inside outer base) (mask_inside outer mask)
-        → SavesBy (slice_set slots d v) kind (base_inside outer base) (mask_inside outer mask)
+    one : (kind : Kind) → ¬ rules.Saves kind d → KeepsMask slots kind (base_inside outer base) (mask_inside outer mask)
+        → KeepsMask (slice_set slots d v) kind (base_inside outer base) (mask_inside outer mask)
     one Mark other saves = tt
     one (Raise slot value) other saves = (
       let long = length-set slots d v in omega (arith, long, saves.0),

@@ -30,9 +30,9 @@ use Rattle.rt_points.specs.Leading.{IsPoint, Leads, LeadsOn}
 use Rattle.rt_points.specs.ExecutionPriority.{frame_of}
 use Rattle.rt_points.specs.Point.{Point, sections}
 use Rattle.rt_points.specs.Rules as rules
-use Rattle.rt_safe.specs.Inside.Fits.{is_starting, base_by, mask_by, base_inside, mask_inside, base_under, SavesBy}
-use Rattle.rt_safe.specs.Inside.Fits.{Saves, Fits}
-use Rattle.rt_safe.specs.Inside.Lines.{entering_instr}
+use Rattle.rt_safe.specs.Inside.RunsAtPoints.{is_starting, base_by, mask_by, base_inside, mask_inside, base_under}
+use Rattle.rt_safe.specs.Inside.RunsAtPoints.{KeepsMask, KeepMasks, RunsAtPoints}
+use Rattle.rt_safe.specs.Inside.Lines.{opening_instr}
 use Rattle.rt_safe.specs.Inside.Steps.{insides_of, FindsNone, Steps}
 use Rattle.rt_safe.proofs.Advancing.{line_steps}
 use Rattle.rt_safe.proofs.Keeping.{owner_of_opening, owner_of_closing, kind_of_opening}
@@ -52,7 +52,7 @@ closed p (Raise d v) = record (next p) { basepri = slot p d }
 closed p (Mask d) = record (next p) { primask = slot p d == 1 }
 
 opening_leads : (kind : Kind) (time : ℕ) (p : Processor)
-    → unchecked_effect (entering_instr kind) time p ≡ LeadsTo (opened p kind) request.Nothing
+    → unchecked_effect (opening_instr kind) time p ≡ LeadsTo (opened p kind) request.Nothing
 unfolding opened
 opening_leads Mark time p = refl
 opening_leads (Raise d v) time p = refl
@@ -62,8 +62,8 @@ number_small : (b : Bool) → number_of b ≤ 1
 number_small true = omega arith
 number_small false = omega arith
 
-closing_leads : (kind : Kind) (time : ℕ) (p : Processor) (base : ℕ) (mask : Bool) → SavesBy p.slots kind base mask
-    → unchecked_effect (rules.leaving_instr kind) time p ≡ LeadsTo (closed p kind) request.Nothing
+closing_leads : (kind : Kind) (time : ℕ) (p : Processor) (base : ℕ) (mask : Bool) → KeepsMask p.slots kind base mask
+    → unchecked_effect (rules.closing_instr kind) time p ≡ LeadsTo (closed p kind) request.Nothing
 unfolding closed
 closing_leads Mark time p base mask saves = refl
 closing_leads (Raise d v) time p base mask saves = refl
@@ -72,12 +72,12 @@ closing_leads (Mask d) time p base mask saves =
     ap (λ b. if b then LeadsTo (record (next p) { primask = slot p d == 1 }) request.Nothing else Traps trap.Stack)
     (le-leb (slot p d) 1 (omega (arith, small, saves.1)))
 
-opening_on : (kind : Kind) (at : ℕ) → LeadsOn (entering_instr kind) at (suc at)
+opening_on : (kind : Kind) (at : ℕ) → LeadsOn (opening_instr kind) at (suc at)
 opening_on Mark at = refl
 opening_on (Raise d v) at = refl
 opening_on (Mask d) at = refl
 
-closing_on : (kind : Kind) (at : ℕ) → LeadsOn (rules.leaving_instr kind) at (suc at)
+closing_on : (kind : Kind) (at : ℕ) → LeadsOn (rules.closing_instr kind) at (suc at)
 closing_on Mark at = refl
 closing_on (Raise d v) at = refl
 closing_on (Mask d) at = refl
@@ -89,14 +89,14 @@ record IsOpened (p : Processor) (kind : Kind) (inside : List Opened) (base : ℕ
   primask : (opened p kind).primask ≡ mask_by kind p.primask
   frame : length (opened p kind).slots ≡ length p.slots
   memory : length (opened p kind).cells ≡ length p.cells
-  saves : SavesBy (opened p kind).slots kind (base_inside inside base) (mask_inside inside mask)
-  kept : Saves (opened p kind).slots inside base mask
+  saves : KeepsMask (opened p kind).slots kind (base_inside inside base) (mask_inside inside mask)
+  kept : KeepMasks (opened p kind).slots inside base mask
 
 is_opened : (p : Processor) (kind : Kind) (inside : List Opened) (base : ℕ) (mask : Bool) (n : ℕ)
     → p.basepri ≡ base_inside inside base → p.primask ≡ mask_inside inside mask → length p.slots ≡ n
-    → AllByRecursion (λ d. d < n) (slots_of (entering_instr kind)) → rules.IsUnsaved inside
-    (rules.written_slot (entering_instr kind))
-    → Saves p.slots inside base mask → IsOpened p kind inside base mask
+    → AllByRecursion (λ d. d < n) (slots_of (opening_instr kind)) → rules.IsUnsaved inside
+    (rules.written_slot (opening_instr kind))
+    → KeepMasks p.slots inside base mask → IsOpened p kind inside base mask
 unfolding opened
 is_opened p Mark inside base mask n basepri primask long there free saves = record {
   address = refl;
@@ -145,7 +145,7 @@ read_back true = refl
 read_back false = refl
 
 is_closed : (p : Processor) (kind : Kind) (base : ℕ) (mask : Bool) → p.basepri ≡ base_by kind base
-    → p.primask ≡ mask_by kind mask → SavesBy p.slots kind base mask → IsClosed p kind base mask
+    → p.primask ≡ mask_by kind mask → KeepsMask p.slots kind base mask → IsClosed p kind base mask
 unfolding closed
 is_closed p Mark base mask basepri primask saves =
     record { address = refl; basepri = basepri; primask = primask; slots = refl; cells = refl }
@@ -165,19 +165,20 @@ no_init_end x same = cc (same)
 no_init_end_left : (x : Section) (value : Option ℕ) → Some (what.Leave x value) ≡ Some (what.End body.Init) → ⊥
 no_init_end_left x value same = cc (same)
 
-module _ (img : Image) (checked : IsChecked img) (c : Core) (p : Point) (qs : List Point) (fits : Fits img c p qs)
+module _ (img : Image) (checked : IsChecked img) (c : Core) (p : Point) (qs : List Point)
+    (fits : RunsAtPoints img c p qs)
     (line : HasLine img p) (picked : pick img c ≡ None) where
-  module _ (x : Section) (kind : Kind) (is : line.instr ≡ entering_instr kind) (tells : line.told ≡ Some (note.Enter x))
+  module _ (x : Section) (kind : Kind) (is : line.instr ≡ opening_instr kind) (tells : line.told ≡ Some (note.Enter x))
       (free : FindsNone (Some (what.Enter x)) (insides_of (p ∷ qs))) where
     abbrev inner : Point
     inner = record { address = suc p.address; owner = p.owner; inside = record { section = x; kind = kind } ∷ p.inside }
 
-    same_line : ◌≡◌ {A = Instr × Option Note} (line.instr, line.told) (entering_instr kind, Some (note.Enter x))
+    same_line : ◌≡◌ {A = Instr × Option Note} (line.instr, line.told) (opening_instr kind, Some (note.Enter x))
     same_line k = (is k, tells k)
 
     enters : IsPoint img inner
     enters = Leads p inner fits.running.point (record {
-      line = (entering_instr kind, Some (note.Enter x));
+      line = (opening_instr kind, Some (note.Enter x));
       stands = line.stands.1 ∙ ap (λ (l : Instr × Option Note). Some l) same_line;
       address = opening_on kind p.address;
       owner = sym (owner_of_opening kind p.owner);
@@ -190,7 +191,7 @@ module _ (img : Image) (checked : IsChecked img) (c : Core) (p : Point) (qs : Li
         (subst (λ i. AllByRecursion (λ d. d < frame_of img p.owner) (slots_of i)) is line.operable.slots)
         (subst (λ i. rules.IsUnsaved p.inside (rules.written_slot i)) is line.noted.unsaved) fits.running.saves
 
-    fits_inside : Fits img (with_processor c (opened c.processor kind)) inner qs
+    fits_inside : RunsAtPoints img (with_processor c (opened c.processor kind)) inner qs
     fits_inside = record {
       running = record {
         point = enters;
@@ -227,25 +228,26 @@ module _ (img : Image) (checked : IsChecked img) (c : Core) (p : Point) (qs : Li
 
   module _ (x : Section) (kind : Kind) (outer : List Opened)
       (inside : p.inside ≡ record { section = x; kind = kind } ∷ outer)
-      (is : line.instr ≡ rules.leaving_instr kind) (tells : line.told ≡ Some (note.Leave x)) where
+      (is : line.instr ≡ rules.closing_instr kind) (tells : line.told ≡ Some (note.Leave x)) where
     abbrev outside : Point
     outside = record { address = suc p.address; owner = p.owner; inside = outer }
 
-    same_closing : ◌≡◌ {A = Instr × Option Note} (line.instr, line.told) (rules.leaving_instr kind, Some (note.Leave x))
+    same_closing : ◌≡◌ {A = Instr × Option Note} (line.instr, line.told) (rules.closing_instr kind, Some (note.Leave x))
     same_closing k = (is k, tells k)
 
     leaves : IsPoint img outside
     leaves = Leads p outside fits.running.point (record {
-      line = (rules.leaving_instr kind, Some (note.Leave x));
+      line = (rules.closing_instr kind, Some (note.Leave x));
       stands = line.stands.1 ∙ ap (λ (l : Instr × Option Note). Some l) same_closing;
       address = closing_on kind p.address;
       owner = sym (owner_of_closing kind p.owner);
       inside = ap (drop 1) (sym inside);
     })
 
-    saved : SavesBy c.processor.slots kind (base_inside outer (base_under qs)) (mask_inside outer (is_starting p.owner))
-        × Saves c.processor.slots outer (base_under qs) (is_starting p.owner)
-    saved = subst (λ s. Saves c.processor.slots s (base_under qs) (is_starting p.owner)) inside fits.running.saves
+    saved : KeepsMask c.processor.slots kind (base_inside outer (base_under qs))
+        (mask_inside outer (is_starting p.owner))
+        × KeepMasks c.processor.slots outer (base_under qs) (is_starting p.owner)
+    saved = subst (λ s. KeepMasks c.processor.slots s (base_under qs) (is_starting p.owner)) inside fits.running.saves
 
     after_closing : IsClosed c.processor kind (base_inside outer (base_under qs))
         (mask_inside outer (is_starting p.owner))
@@ -254,12 +256,12 @@ module _ (img : Image) (checked : IsChecked img) (c : Core) (p : Point) (qs : Li
         (fits.basepri ∙ ap (λ s. base_inside s (base_under qs)) inside)
         (fits.primask ∙ ap (λ s. mask_inside s (is_starting p.owner)) inside) saved.0
 
-    fits_outside : Fits img (with_processor c (closed c.processor kind)) outside qs
+    fits_outside : RunsAtPoints img (with_processor c (closed c.processor kind)) outside qs
     fits_outside = record {
       running = record {
         point = leaves;
         frame = ap length after_closing.slots ∙ fits.running.frame;
-        saves = subst (λ slots. Saves slots outer (base_under qs) (is_starting p.owner))
+        saves = subst (λ slots. KeepMasks slots outer (base_under qs) (is_starting p.owner))
             (sym after_closing.slots) saved.1;
       };
       stack = stacked_alike img p outside refl qs c.below fits.stack;

@@ -14,8 +14,8 @@ use Rattle.rt_points.specs.Checked.{IsChecked}
 use Rattle.rt_points.specs.Leading.{owner_after, inside_after}
 use Rattle.rt_points.specs.Point.{Point}
 use Rattle.rt_points.specs.Rules.{EntersAt}
-use Rattle.rt_safe.specs.Inside.Fits.{Fits}
-use Rattle.rt_safe.specs.Inside.Lines.{entering_instr, IsLine, Simply, Anew, Opens, Closes, EndsInit, Returns}
+use Rattle.rt_safe.specs.Inside.RunsAtPoints.{RunsAtPoints}
+use Rattle.rt_safe.specs.Inside.Lines.{opening_instr, IsLine, Simply, Anew, Opens, Closes, EndsInit, Returns}
 use Rattle.rt_safe.specs.Inside.Steps.{Steps}
 use Rattle.rt_safe.proofs.Advancing.{Advances, simply, anew, advances}
 use Rattle.rt_safe.proofs.Apart.{finds_none}
@@ -25,7 +25,8 @@ use Rattle.rt_safe.proofs.Lines.{HasLine, line_at}
 use Rattle.rt_safe.proofs.Sections.{opens_section, closes_section}
 use Rattle.rt_safe.proofs.Taking.{takes}
 
-module _ (img : Image) (checked : IsChecked img) (c : Core) (p : Point) (qs : List Point) (fits : Fits img c p qs) where
+module _ (img : Image) (checked : IsChecked img) (c : Core) (p : Point) (qs : List Point)
+    (fits : RunsAtPoints img c p qs) where
   by_line : (line : HasLine img p) → pick img c ≡ None → IsLine p line.instr line.told → Steps img c p qs
   by_line line picked (Simply simple untold unsaved) =
       advances img checked c p qs fits line picked
@@ -41,12 +42,12 @@ module _ (img : Image) (checked : IsChecked img) (c : Core) (p : Point) (qs : Li
       (anew img c p.inside to))
       (ap (λ i. owner_after i p.owner) is) (ap (λ n. inside_after line.instr n p.inside) tells)
   by_line line picked (Opens x kind is tells) =
-      let same : ◌≡◌ {A = Instr × Option Note} (line.instr, line.told) (entering_instr kind, Some (note.Enter x)) =
+      let same : ◌≡◌ {A = Instr × Option Note} (line.instr, line.told) (opening_instr kind, Some (note.Enter x)) =
       λ k. (is k, tells k) in
-      let enters : EntersAt img p (entering_instr kind) x =
+      let enters : EntersAt img p (opening_instr kind) x =
       (fits.running.point, line.stands.1 ∙ ap (λ (l : Instr × Option Note). Some l) same) in
       opens_section img checked c p qs fits line picked x kind is tells
-      (finds_none img checked p qs c.below (entering_instr kind) x enters fits.stack)
+      (finds_none img checked p qs c.below (opening_instr kind) x enters fits.stack)
   by_line line picked (Closes x kind outer inside is tells) =
       closes_section img checked c p qs fits line picked x kind outer inside is tells
   by_line line picked (EndsInit is tells starting none) =

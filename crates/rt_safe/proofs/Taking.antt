@@ -24,7 +24,7 @@ use Rattle.rt_points.specs.Checked.{IsChecked}
 use Rattle.rt_points.specs.Leading.{Enters, handler_at, starts_at}
 use Rattle.rt_points.specs.ExecutionPriority.{execution_priority}
 use Rattle.rt_points.specs.Point.{Point}
-use Rattle.rt_safe.specs.Inside.Fits.{is_starting, Fits}
+use Rattle.rt_safe.specs.Inside.RunsAtPoints.{is_starting, RunsAtPoints}
 use Rattle.rt_safe.specs.Inside.Steps.{Steps}
 use Rattle.rt_safe.proofs.Depth.{frame_is, room_above}
 use Rattle.rt_safe.proofs.Execution.{execution_is}
@@ -46,10 +46,11 @@ execution_small c = by c.processor.primask
     by true = omega arith
     by false = omega arith
 
-module _ (img : Image) (checked : IsChecked img) (c : Core) (p : Point) (qs : List Point) (fits : Fits img c p qs) where
+module _ (img : Image) (checked : IsChecked img) (c : Core) (p : Point) (qs : List Point)
+    (fits : RunsAtPoints img c p qs) where
   entered_fits : (index irq : ℕ) (h : Handler) → handler_at img index ≡ Some h
       → h.value < execution_priority img p.owner p.inside
-      → Fits img (core_after_entry c irq h) (starts_at h.entry (Handling index)) (p ∷ qs)
+      → RunsAtPoints img (core_after_entry c irq h) (starts_at h.entry (Handling index)) (p ∷ qs)
   entered_fits index irq h is above = record {
     running = record {
       point = Enters index h is;

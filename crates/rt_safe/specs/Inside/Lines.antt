@@ -11,13 +11,13 @@ use Rattle.rt_points.specs.declared.point.Kind.TheVariants.{Mark, Raise, Mask}
 use Rattle.rt_points.specs.declared.point.Opened.{Opened}
 use Rattle.rt_points.specs.declared.point.Owner.TheVariants.{Starting, Thread, Handling}
 use Rattle.rt_points.specs.Point.{Point}
-use Rattle.rt_points.specs.Rules.{leaving_instr, IsUnsaved, written_slot}
+use Rattle.rt_points.specs.Rules.{closing_instr, IsUnsaved, written_slot}
 
 -- the instruction that opens a section of a kind
-abbrev pub entering_instr : Kind → Instr
-entering_instr Mark = instr.Mark
-entering_instr (Raise slot value) = instr.Raise slot value
-entering_instr (Mask slot) = instr.Mask slot
+abbrev pub opening_instr : Kind → Instr
+opening_instr Mark = instr.Mark
+opening_instr (Raise slot value) = instr.Raise slot value
+opening_instr (Mask slot) = instr.Mask slot
 
 -- an instruction that may be used, changes no mask, and ends no job
 abbrev pub is_simple : Instr → Bool
@@ -41,10 +41,10 @@ pub data IsLine (p : Point) (i : Instr) (told : Option Note) : Type 0 where
   Simply : is_simple i ≡ true → told ≡ None → IsUnsaved p.inside (written_slot i) → IsLine p i told
   -- the thread begins anew
   Anew : (to : ℕ) → i ≡ instr.Jump to → told ≡ Some (note.End body.Idle) → p.owner ≡ Thread → IsLine p i told
-  Opens : (x : Section) → (kind : Kind) → i ≡ entering_instr kind → told ≡ Some (note.Enter x) → IsLine p i told
+  Opens : (x : Section) → (kind : Kind) → i ≡ opening_instr kind → told ≡ Some (note.Enter x) → IsLine p i told
   -- the innermost section closes
   Closes : (x : Section) → (kind : Kind) → (outer : List Opened)
-      → p.inside ≡ record { section = x; kind = kind } ∷ outer → i ≡ leaving_instr kind → told ≡ Some (note.Leave x)
+      → p.inside ≡ record { section = x; kind = kind } ∷ outer → i ≡ closing_instr kind → told ≡ Some (note.Leave x)
       → IsLine p i told
   EndsInit : i ≡ instr.Serve → told ≡ Some (note.End body.Init) → p.owner ≡ Starting → p.inside ≡ [] → IsLine p i told
   Returns : (index : ℕ) → i ≡ instr.Ret → told ≡ None → p.owner ≡ Handling index → p.inside ≡ [] → IsLine p i told

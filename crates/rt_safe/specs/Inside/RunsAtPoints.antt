@@ -45,16 +45,16 @@ base_under [] = 0
 base_under (q ∷ qs) = base_inside q.inside (base_under qs)
 
 -- a section of this kind keeps in its slot what its mask was
-abbrev pub SavesBy : List ℕ → Kind → ℕ → Bool → Type 0
-SavesBy slots Mark base mask = Unit {0}
-SavesBy slots (Raise slot value) base mask = (slot < length slots) × (slice_index slots slot ≡ base)
-SavesBy slots (Mask slot) base mask = (slot < length slots) × (slice_index slots slot ≡ number_of mask)
+abbrev pub KeepsMask : List ℕ → Kind → ℕ → Bool → Type 0
+KeepsMask slots Mark base mask = Unit {0}
+KeepsMask slots (Raise slot value) base mask = (slot < length slots) × (slice_index slots slot ≡ base)
+KeepsMask slots (Mask slot) base mask = (slot < length slots) × (slice_index slots slot ≡ number_of mask)
 
 -- each open section keeps in its slot what the sections further out left its mask at
-abbrev pub Saves : List ℕ → List Opened → ℕ → Bool → Type 0
-Saves slots [] base mask = Unit {0}
-Saves slots (o ∷ outer) base mask =
-    SavesBy slots o.kind (base_inside outer base) (mask_inside outer mask) × Saves slots outer base mask
+abbrev pub KeepMasks : List ℕ → List Opened → ℕ → Bool → Type 0
+KeepMasks slots [] base mask = Unit {0}
+KeepMasks slots (o ∷ outer) base mask =
+    KeepsMask slots o.kind (base_inside outer base) (mask_inside outer mask) × KeepMasks slots outer base mask
 
 -- `init` or the thread after it, which interrupt nobody
 abbrev pub IsLowest : Owner → Type 0
@@ -66,7 +66,7 @@ module _ (img : Image) where
   pub record RunsAt (p : Point) (slots : List ℕ) (base : ℕ) : Type 0 where
     pub point : IsPoint img p
     pub frame : length slots ≡ frame_of img p.owner
-    pub saves : Saves slots p.inside base (is_starting p.owner)
+    pub saves : KeepMasks slots p.inside base (is_starting p.owner)
 
   -- a handler at the first point on what it interrupted at the second: its priority is above the execution priority
   -- there
@@ -89,7 +89,7 @@ module _ (img : Image) where
 
   -- All that ties a core to points, where it runs at the first point, over the others, the last interrupted first. No
   -- alarm is set, and no body is called.
-  pub record Fits (c : Core) (p : Point) (qs : List Point) : Type 0 where
+  pub record RunsAtPoints (c : Core) (p : Point) (qs : List Point) : Type 0 where
     pub running : RunsAt p c.processor.slots (base_under qs)
     pub stack : IsStacked p qs c.below
     pub address : c.processor.address ≡ p.address

@@ -13,7 +13,7 @@ use Rattle.rt_core.specs.Core.{Core}
 use Rattle.rt_core.specs.Stepping.{step}
 use Rattle.rt_points.specs.declared.point.Owner.TheVariants.{Starting}
 use Rattle.rt_points.specs.Point.{Point, sections}
-use Rattle.rt_safe.specs.Inside.Fits.{Fits}
+use Rattle.rt_safe.specs.Inside.RunsAtPoints.{RunsAtPoints}
 
 -- the open sections at each of these points
 abbrev pub insides_of : List Point → List (List Section)
@@ -49,7 +49,7 @@ pub record Steps (img : Image) (c : Core) (p : Point) (qs : List Point) : Type 0
   pub is : step img c ≡ (core, shown)
   pub point : Point
   pub below : List Point
-  pub fits : Fits img core point below
+  pub fits : RunsAtPoints img core point below
   pub insides : insides_after shown (insides_of (p ∷ qs)) ≡ insides_of (point ∷ below)
   pub free : FindsNone shown (insides_of (p ∷ qs))
   pub no_trap : IsNoTrapShown shown
