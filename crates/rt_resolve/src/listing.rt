@@ -13,6 +13,9 @@ use rt_ast::{AppTree, Ident, ListedTree};
 use rt_ids::{NoMemory, ResId, Rule};
 use std::alloc::Global;
 
+/// Numbers that a byte can have.
+const BYTE_VALUES: usize = 256;
+
 /// A listing of a resource that is declared.
 #[derive(Clone, Copy)]
 struct Listing {
@@ -122,7 +125,7 @@ fn local_listings(alloc: Global, app: &AppTree, listed: &[Ident]) -> Result<Vec<
 fn push_listed_twice(faults: &mut Vec<Violation>, listings: &[Listing]) -> Result<(), NoMemory>
     ensures { OnOk result (faults.new.items ≡ faults.old.items ++ rules_on.listed_twice [] (map use_of listings.now)) }
 {
-    let mut is_listed = [false; 256];
+    let mut is_listed = [false; BYTE_VALUES];
     for listing in listings {
         let number = usize::from(listing.number);
         push_when(faults, is_listed[number], Rule::DeclaredTwice, listing.at)?;

@@ -19,7 +19,7 @@ use std::alloc::Global;
 use std::marker::Model;
 
 /// Numbers that a byte can have.
-const BYTES: usize = 256;
+const BYTE_VALUES: usize = 256;
 
 /// A listing of a shared resource, by a body of a priority.
 #[derive(Clone, Copy)]
@@ -41,7 +41,7 @@ impl Model for Listing {
 /// The first listing of each resource.
 #[derive(Drop)]
 pub(crate) struct FirstListings {
-    by_resource: [Option<Listing>; BYTES],
+    by_resource: [Option<Listing>; BYTE_VALUES],
 }
 
 impl FirstListings {
@@ -50,7 +50,7 @@ impl FirstListings {
         ensures { (r : ℕ) → listing_at result r ≡ None }
     {
         FirstListings {
-            by_resource: [None; BYTES],
+            by_resource: [None; BYTE_VALUES],
         }
     }
 
@@ -135,18 +135,18 @@ fn is_at_two_priorities(app: &App, first: &Listing, listing: &Listing) -> bool
 }
 
 /// Offers what a listing breaks beside the first one of its resource.
-fn judge_beside(first: &mut First, app: &App, listing: &Listing, judge: &Option<Listing>)
-    ensures { first.new ≡ first_of first.old (breaks_beside (app_of app.now) listing.now judge.now) }
+fn judge_beside(first: &mut First, app: &App, listing: &Listing, first_listing: &Option<Listing>)
+    ensures { first.new ≡ first_of first.old (breaks_beside (app_of app.now) listing.now first_listing.now) }
 {
-    if let Some(judge) = judge {
+    if let Some(first_listing) = first_listing {
         let at = listing.listed.at;
         first.offer_when(
-            is_shared_and_exclusive(app, judge, listing),
+            is_shared_and_exclusive(app, first_listing, listing),
             Rule::SharedAndExclusive,
             at,
         );
         first.offer_when(
-            is_at_two_priorities(app, judge, listing),
+            is_at_two_priorities(app, first_listing, listing),
             Rule::LockFreeAtTwoPriorities,
             at,
         );
@@ -154,14 +154,15 @@ fn judge_beside(first: &mut First, app: &App, listing: &Listing, judge: &Option<
 }
 
 /// Offers what a listing breaks.
-fn judge_listing(first: &mut First, app: &App, judges: &FirstListings, listing: &Listing)
+fn judge_listing(first: &mut First, app: &App, first_listings: &FirstListings, listing: &Listing)
     ensures { first.new ≡ first_of first.old
         (if is_known listing.now.listed.resource
-        then breaks_beside (app_of app.now) listing.now (listing_at judges.now listing.now.listed.resource) else []) }
+        then breaks_beside (app_of app.now) listing.now (listing_at first_listings.now listing.now.listed.resource)
+        else []) }
 {
     let resource = listing.listed.resource;
     if resource.0 != UNKNOWN {
-        judge_beside(first, app, listing, &judges.of(resource));
+        judge_beside(first, app, listing, &first_listings.of(resource));
     }
 }
 
@@ -176,9 +177,9 @@ pub(crate) fn judge_listings(
     ensures { OnOk result (first.new ≡ first_of first.old (listings_breaks (app_of app.now))) }
 {
     let listings = listings(alloc, bodies)?;
-    let judges = first_listings(&listings);
+    let first_listings = first_listings(&listings);
     for listing in &listings {
-        judge_listing(first, app, &judges, listing);
+        judge_listing(first, app, &first_listings, listing);
     }
     Ok(())
 }

@@ -14,10 +14,10 @@ loop-listing-preserved c =
     let r = x.listed.resource in
     let all : c.deref.result.now ≡ listings app = c.deref.ensures.value ∙ c.in_ok-listings.ensures
     ∙ ap (flat_map listings_of) c.requires in
-    let first : listing_at c.first_listings-judges.result r ≡ first_listing app r =
-    c.first_listings-judges.ensures r ∙ ap (find (λ (l : Listing). l.listed.resource == r)) all in
+    let first : listing_at c.first_listings-first_listings.result r ≡ first_listing app r =
+    c.first_listings-first_listings.ensures r ∙ ap (find (λ (l : Listing). l.listed.resource == r)) all in
     one_more (listing_breaks app) c.args.first.now c.loop-listing.first c.judge_listing.new.first
     c.deref-listing-items.result.now c.loop-listing.listing-index x c.loop-listing-test.true c.listing-item.is
     c.loop-listing.invariant
     (c.judge_listing.ensures ∙ ap (first_of c.loop-listing.first)
-    (judged_by_first app x (listing_at c.first_listings-judges.result r) first))
+    (judged_by_first app x (listing_at c.first_listings-first_listings.result r) first))
