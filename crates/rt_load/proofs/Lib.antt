@@ -26,5 +26,6 @@ pub mod FurtherInstr
 pub mod NotesAlike
 pub mod FurtherNote
 pub mod Named
+pub mod Either
 pub mod OneWay
 pub mod Judged

@@ -12,6 +12,7 @@ use Rattle.rt_load.specs.Reading.{Form}
 use Rattle.rt_load.specs.Reading.{Name}
 use Rattle.rt_load.specs.Inside.Taking.{take_all}
 use Rattle.rt_load.specs.declared.front.Front.{Front}
+use Rattle.rt_load.proofs.Either.{either}
 use Rattle.rt_load.proofs.Read.{same_ok}
 use Rattle.rt_load.proofs.Forward.{listing_lines, whole, listing_taken}
 use Rattle.rt_load.proofs.Split.{cut_same, no_feed, lines_end, listing_is, are_lines}
@@ -187,4 +188,4 @@ one_fault text n m f g p q =
         p.begins)))
 
 pub read_one_way : AreReadOneWay
-read_one_way = record { one_image = one_image; not_both = not_both; one_fault = one_fault }
+read_one_way = record { one_image = one_image; not_both = not_both; one_fault = one_fault; either = either }

@@ -435,17 +435,18 @@ mark_taken front next names address known e =
       code = subst (λ (f : Front). is_empty f.image.code ≡ false) made.2 (some_pushed front.image.code made.0);
     }
 
-err_err : (r : Result Front Wrong) → r ≡ Err wrong.Name → r ≡ Err wrong.Form → ⊥
-err_err r a b = cc
+err_err : (r : Result Front Wrong) (w : Wrong) → r ≡ Err wrong.Name → r ≡ Err w → w ≡ wrong.Name
+err_err r w a b = cc
 
-refuted : (front : Front) (line : List ℕ) (more : Names) (address : ℕ) (code : Instr × Option Note)
+-- a line that is wrong by an unknown name alone is refused for that name, where it is refused
+refuted : (front : Front) (line : List ℕ) (more : Names) (address : ℕ) (code : Instr × Option Note) (w : Wrong)
     → AreMore front.image.names more → AreNames front.image.names
     → may_add_line front ≡ true → decimal address ≡ decimal (length front.image.code)
     → Is32Bits (length front.image.code)
     → IsLineWithin code → HasInstr more code.0 → HasNote more code.1 → line ≡ code_text more address code
-    → take_line front line ≡ Err wrong.Form → ⊥
+    → take_line front line ≡ Err w → w ≡ wrong.Name
 unfolding take_line
-refuted front line more address code m are may here few within has_instr has_note is e =
+refuted front line more address code w m are may here few within has_instr has_note is e =
     let fn = front.image.names in
     let index = length front.image.code in
     let text = code_text more address code in
@@ -461,7 +462,7 @@ refuted front line more address code m are may here few within has_instr has_not
     let line_moved : code_line more index code ≡ line_with_feed text =
     ap (λ (d : List ℕ). line_with_feed (((codes "code" ++ (32 ∷ d)) ++ (32 ∷ instr_text more code.0))
     ++ note_text more code.1)) (sym here) in
-    let refused : take_line front text ≡ Err wrong.Form = ap (take_line front) (sym is) ∙ e in
+    let refused : take_line front text ≡ Err w = ap (take_line front) (sym is) ∙ e in
     elim (line_more fn more are m index code has_instr has_note few within) [
       | inl read ↦
           let printed : printed_line fn index text ws ≡ Ok read.0 =
@@ -470,22 +471,22 @@ refuted front line more address code m are may here few within has_instr has_not
           ∙ ap (λ (r : Result (Instr × Option Note) Wrong). and_then r
           (λ code. if_line (code_line fn index code) text code)) read.1
           ∙ passes (code_line fn index read.0) text read.0 (read.2 ∙ line_moved) in
-          ok_err (take_line front text) (and_line front read.0) wrong.Form
-          (step ∙ ap (λ (r : Result (Instr × Option Note) Wrong). and_make r (and_line front)) printed) refused
+          absurd (ok_err (take_line front text) (and_line front read.0) w
+          (step ∙ ap (λ (r : Result (Instr × Option Note) Wrong). and_make r (and_line front)) printed) refused)
       | inr unknown ↦
           let printed : printed_line fn index text ws ≡ Err wrong.Name =
           ap (λ (vs : List (List ℕ)). and_then (line_at fn index vs)
           (λ code. if_line (code_line fn index code) text code)) moved
           ∙ ap (λ (r : Result (Instr × Option Note) Wrong). and_then r
           (λ code. if_line (code_line fn index code) text code)) unknown in
-          err_err (take_line front text)
+          err_err (take_line front text) w
           (step ∙ ap (λ (r : Result (Instr × Option Note) Wrong). and_make r (and_line front)) printed) refused
     ]
 
-pub form_is : (before : List (List ℕ)) (front : Front) (line : List ℕ) → AllByRecursion IsLine before → take_all before
-    ≡ Ok front → Stands front
-    → take_line front line ≡ Err wrong.Form → ¬ IsOfUnknownName (flat_map line_with_feed before) line
-form_is before front line all taken stands e u =
+pub form_is : (before : List (List ℕ)) (front : Front) (line : List ℕ) (w : Wrong) → (w ≡ wrong.Name → ⊥)
+    → AllByRecursion IsLine before → take_all before ≡ Ok front → Stands front
+    → take_line front line ≡ Err w → ¬ IsOfUnknownName (flat_map line_with_feed before) line
+form_is before front line w other all taken stands e u =
     let own_names = u.image.names in
     let mark : Instr × Option Note = (instr.Mark, None) in
     let text = code_text own_names u.address mark in
@@ -501,6 +502,6 @@ form_is before front line all taken stands e u =
     let fits = stands.code in
     let few_lines = stands.few_lines in
     let few : Is32Bits index = omega (arith, fits, few_lines) in
-    refuted front line u.names u.address u.code m l.fits.names marked.may marked.address_is few u.within u.has_instr
-    u.has_note
-    ((last_same line (code_text u.names u.address u.code) 10 10 (sym u.line_is)).0) e
+    other (refuted front line u.names u.address u.code w m l.fits.names marked.may marked.address_is few u.within
+    u.has_instr u.has_note
+    ((last_same line (code_text u.names u.address u.code) 10 10 (sym u.line_is)).0) e)

@@ -98,6 +98,9 @@ first_is_no_code line u =
     ∙ ap (λ t. get_or t 0 0) same in
     absurd (omega (arith, bytes))
 
+form_is_no_name : wrong.Form ≡ wrong.Name → ⊥
+form_is_no_name same = cc
+
 module _ (text : List ℕ) (short : length text ≤ IMAGE_BYTES) where
   pub is_listing : (number : ℕ) (front : Front) → HasRead text [] number front → is_complete front ≡ true
       → IsListingText text front.image
@@ -160,12 +163,20 @@ module _ (text : List ℕ) (short : length text ≤ IMAGE_BYTES) where
         );
       }
 
+  -- a line that is refused for another cause than a name
+  pub other_wrong : (rest line behind : List ℕ) (number : ℕ) (front : Front) (w : Wrong) → (w ≡ wrong.Name → ⊥)
+      → HasRead text rest number front → IsCut rest line behind
+      → take_line front line ≡ Err w → IsFirstWrong text number Form
+  other_wrong rest line behind number front w other has cut e =
+      line_wrong rest line behind number front w Form has cut e
+      (λ before all taken. let left = all_leave before front taken in
+      form_is before front line w other all taken left.stands e)
+
   pub form_wrong : (rest line behind : List ℕ) (number : ℕ) (front : Front) → HasRead text rest number front
       → IsCut rest line behind
       → take_line front line ≡ Err wrong.Form → IsFirstWrong text number Form
   form_wrong rest line behind number front has cut e =
-      line_wrong rest line behind number front wrong.Form Form has cut e
-      (λ before all taken. let left = all_leave before front taken in form_is before front line all taken left.stands e)
+      other_wrong rest line behind number front wrong.Form form_is_no_name has cut e
 
   pub name_wrong : (rest line behind : List ℕ) (number : ℕ) (front : Front) → HasRead text rest number front
       → IsCut rest line behind

@@ -1,6 +1,6 @@
 ghost use Rattle.rt_load.specs.Laws.{AreReadOneWay};
 
-/// Bytes are read in one way.
+/// Bytes that are not too long are a loadable image's listing or have a first wrong line, not both, and in one way.
 pub fn texts_are_read_one_way()
     ensures { AreReadOneWay }
 {}
