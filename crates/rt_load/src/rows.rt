@@ -1,5 +1,5 @@
-ghost use Rattle.std.specs.Prelude.{◌≡◌, ◌∷◌, []};
-ghost use Rattle.rt_ids.specs.declared.limits.TheConstants.{IRQ_NUMBERS};
+ghost use Rattle.std.specs.Prelude.{◌≡◌, ◌+◌, ◌∷◌, []};
+ghost use Rattle.rt_ids.specs.declared.limits.TheConstants.{ARGUMENTS, IRQ_NUMBERS};
 ghost use Rattle.rt_lines.specs.Parts.{words_of};
 ghost use Rattle.rt_lines.specs.Answers.{and_make};
 ghost use Rattle.rt_load.specs.Inside.Operand.{number_at};
@@ -100,7 +100,7 @@ pub fn read_irq_row(words: Option<&[u8]>) -> Result<(&[u8], Irq, Option<Handler>
 
 /// How many arguments a task has.
 fn read_args(word: &[u8]) -> Result<u8, Wrong>
-    ensures { result ≡ number_at 5 word.now }
+    ensures { result ≡ number_at (ARGUMENTS + 1) word.now }
 {
     match number_below(word, ARGUMENTS as u64 + 1) {
         Some(args) => Ok(args as u8),

@@ -1,8 +1,8 @@
 -- The first line, a cell and the rows of interrupts and bodies, of their words.
-use Rattle.std.specs.Prelude.{ℕ, ◌^◌, List, [], ◌∷◌, Option, Some, None}
+use Rattle.std.specs.Prelude.{ℕ, ◌+◌, ◌^◌, List, [], ◌∷◌, Option, Some, None}
 use Rattle.std.specs.Prelude.{Result, Ok, Err}
 use Rattle.rt_ids.specs.declared.cell.CellRow.{CellRow}
-use Rattle.rt_ids.specs.declared.limits.TheConstants.{IRQ_NUMBERS}
+use Rattle.rt_ids.specs.declared.limits.TheConstants.{ARGUMENTS, IRQ_NUMBERS}
 use Rattle.rt_code.specs.declared.image.IrqRow.{IrqRow}
 use Rattle.rt_code.specs.declared.image.Handler.{Handler}
 use Rattle.rt_code.specs.declared.image.BodyRow.{BodyRow}
@@ -55,4 +55,4 @@ abbrev pub body_row_at : ℕ → List (List ℕ) → Result (List ℕ × BodyRow
 body_row_at task [] = Err wrong.Form
 body_row_at task (name ∷ words) =
     and_then (three words) (λ w. and_then (word_at w.0) (λ e. and_then (word_at w.1) (λ f.
-    and_make (number_at 5 w.2) (λ a. (name, record { task = task; entry = e; frame = f; args = a })))))
+    and_make (number_at (ARGUMENTS + 1) w.2) (λ a. (name, record { task = task; entry = e; frame = f; args = a })))))
