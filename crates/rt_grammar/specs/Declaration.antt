@@ -1,4 +1,5 @@
--- The first declaration, and the whole application.
+-- The first declaration, and the whole application. The language is this project's own. It declares what the `app`
+-- attribute of RTIC 1 declares, in one text without Rust around it.
 --   App = "app" Name "(" "bits" "=" Num [ "," "dispatchers" "=" "[" List(Name) "]" ] [ "," "fpu" "=" "on" ] ")" ";"
 --         Interrupts [ Monotonic ] [ Shared ] [ Local ] [ Init ] [ Idle ] { Task }
 -- `fpu` and `on` are names, which stay free for anything else.

@@ -1,5 +1,6 @@
--- How a grammar is written: a language relates what stands in a text to what that text means. The grammar's forms are
--- these: one token, a form and another behind it, a choice, a repetition, a list.
+-- How a grammar is written: a language relates the marks of a text to what that text means. This is an attribute grammar
+-- (Knuth, Semantics of Context-Free Languages, 1968). Its forms are these: one token, a form and another after it, a
+-- choice, a repetition, a list.
 use Rattle.std.specs.Prelude.{◌≡◌, ◌⊎◌, ℕ, zero, suc, Bool, true, List, [], ◌∷◌, ◌++◌, Option, Some}
 use Rattle.rt_ids.specs.declared.limit.Limit.{Limit}
 use Rattle.rt_lex.specs.Token.{Token}

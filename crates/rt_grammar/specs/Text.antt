@@ -1,6 +1,7 @@
 -- The texts of applications, and the refusal of a text that is none. A text is read from left to right, and what is met
 -- first is refused: a byte that no token begins with, a token with which the text is no beginning of an application (or
--- its end, where it ends too early), or a limit that is passed. Nothing is said here of how a text is read.
+-- its end, where it ends too early), or a limit that is passed. The first wrong token is that of the viable-prefix
+-- property (Aho, Sethi and Ullman, Compilers, 1986). Nothing is said here of how a text is read.
 use Rattle.std.specs.Prelude.{◌≡◌, ◌≢◌, ℕ, ◌<◌, ◌≤◌, List, [], ◌∷◌, ◌++◌, length, Some}
 use Rattle.std.specs.List.{AllByRecursion}
 use Rattle.rt_ids.specs.declared.limit.Limit.{Limit}

@@ -33,7 +33,7 @@ word_of text t = if is_this_word text t then Some t.at else None
 abbrev pub sign_of : List ℕ → Token → Option ℕ
 sign_of text t = if is_this_sign text t then Some t.at else None
 
--- a name that has a meaning where it stands, and is no word of the language elsewhere
+-- the offset of a token that is this contextual keyword, which is a name elsewhere
 abbrev pub name_of : List ℕ → Token → Option ℕ
 name_of text t = if is_this_name text t then Some t.at else None
 
