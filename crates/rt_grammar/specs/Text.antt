@@ -35,13 +35,17 @@ IsViablePrefix ts = (marks : List Mark) × Reaches text ts marks []
 abbrev pub IsUnlimited : List Token → Type 0
 IsUnlimited ts = (marks : List Mark) (left : List Token) → Reaches text ts marks left → AllByRecursion IsWithin marks
 
--- the text is an application's, as this tree, and passes no limit
-pub record IsText (src : List ℕ) (app : App) : Type 0 where
-  pub short : length src ≤ TEXT_BYTES
+-- the text is an application's, as this tree, and passes no limit, whatever its length
+pub record IsReadAs (src : List ℕ) (app : App) : Type 0 where
   pub marks : List Mark
   pub spelled : text marks app
   pub whole : Fits marks (tokens src) []
   pub within : AllByRecursion IsWithin marks
+
+-- the text is no longer than a text may be, and is read as this tree
+pub record IsText (src : List ℕ) (app : App) : Type 0 where
+  pub short : length src ≤ TEXT_BYTES
+  pub read : IsReadAs src app
 
 -- a byte that no token begins with stands behind tokens that begin a text, which pass no limit
 pub record IsForeignAt (src : List ℕ) (at : ℕ) : Type 0 where

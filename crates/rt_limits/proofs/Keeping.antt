@@ -46,5 +46,5 @@ keeps_application most =
     })))))))))
 
 pub the_law : TextsKeepLimits
-the_law src app t = (keeps_application t.spelled.0).kept t.marks app t.spelled.1
-    (sound_marks src t.marks (tokens src) [] t.whole t.within (tokens_longest src))
+the_law src app t = (keeps_application t.read.spelled.0).kept t.read.marks app t.read.spelled.1
+    (sound_marks src t.read.marks (tokens src) [] t.read.whole t.read.within (tokens_longest src))

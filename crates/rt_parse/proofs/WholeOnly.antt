@@ -23,13 +23,13 @@ pub text_is_read : (src : List ℕ) (app : App) → IsText src app → text_at (
 text_is_read src app t = go (text_at (tokens src)) refl
   where
     stops : (found : Found) → Outcome text (tokens src) (Err found) → ⊥
-    stops found (inl w) = w.none t.marks app t.spelled t.whole
-    stops found (inr (what, f, l)) = within_not l.marks l.mark found.at what t.marks l.passes
-        (l.only t.marks app t.spelled t.whole) t.within
+    stops found (inl w) = w.none t.read.marks app t.read.spelled t.read.whole
+    stops found (inr (what, f, l)) = within_not l.marks l.mark found.at what t.read.marks l.passes
+        (l.only t.read.marks app t.read.spelled t.read.whole) t.read.within
 
     go : (read : Result App Found) → text_at (tokens src) ≡ read → text_at (tokens src) ≡ Ok app
     go (Ok other) e = let o = text_outcome (tokens src) (Ok other) e in e
-        ∙ ap (λ (a : App). Ok a) (sym (o.only t.marks app t.spelled t.whole).1)
+        ∙ ap (λ (a : App). Ok a) (sym (o.only t.read.marks app t.read.spelled t.read.whole).1)
     go (Err found) e = absurd (stops found (text_outcome (tokens src) (Err found) e))
 
 same_app : (a b : App) (read : Result App Found) → read ≡ Ok a → read ≡ Ok b → a ≡ b

@@ -143,7 +143,10 @@ module _ (src : List ℕ) (short : length src ≤ TEXT_BYTES) where
   pub read_is_text : (app : App) → text_at (tokens src) ≡ Ok app → IsText src app
   read_is_text app e =
       let o : IsRead text (tokens src) app = text_outcome (tokens src) (Ok app) e in
-      record { short = short; marks = o.marks; spelled = o.means; whole = o.fits; within = o.within }
+      record {
+        short = short;
+        read = record { marks = o.marks; spelled = o.means; whole = o.fits; within = o.within };
+      }
 
 -- What is refused is found.
 
@@ -271,7 +274,7 @@ module _ (src : List ℕ) (app : App) (t : IsText src app) where
       x.foreign r.1.fits reached (whole.most r.0 (x.byte ∷ x.behind) r.1) in
       absurd cc
   not_refused refusal.Syntax at x = dead_end_none (tokens src) x.before x.rest x.split x.dead_end app
-      (t.marks, t.spelled, t.whole)
+      (t.read.marks, t.read.spelled, t.read.whole)
   not_refused (refusal.Limit what) at x =
       within_not x.marks x.mark (Some at) what whole.marks (at, refl, x.passes)
       (whole.most (x.marks ++ x.mark ∷ []) x.left x.reached) whole.within

@@ -76,18 +76,4 @@ reads_back a h =
 
 pub the_law : CanonicalTextsAreReadAsTheirTrees
 the_law a h =
-    let r = reads_back a h in (
-      r,
-      λ short. (
-        r.0,
-        record {
-          short = short;
-          marks = r.1.marks;
-          spelled = r.1.spelled;
-          whole = r.1.whole;
-          within =
-              r.1.within;
-        },
-        r.2,
-      ),
-    )
+    let r = reads_back a h in (r, λ short. (r.0, record { short = short; read = r.1 }, r.2))

@@ -1,22 +1,11 @@
 -- What is claimed of canonical texts: each is read as its tree.
-use Rattle.std.specs.Prelude.{◌≡◌, ℕ, ◌≤◌, List, [], length}
-use Rattle.std.specs.List.{AllByRecursion}
+use Rattle.std.specs.Prelude.{◌≡◌, ◌≤◌, length}
 use Rattle.rt_ids.specs.declared.limits.TheConstants.{TEXT_BYTES}
-use Rattle.rt_lex.specs.Tokens.{tokens}
 use Rattle.rt_ast.specs.Tree.{App}
 use Rattle.rt_ast.specs.Canonical.{canonical}
 use Rattle.rt_ast.specs.Bare.{bare}
 use Rattle.rt_ast.specs.Printable.{IsPrintable}
-use Rattle.rt_grammar.specs.Mark.{Mark, IsWithin}
-use Rattle.rt_grammar.specs.Reach.{Fits}
-use Rattle.rt_grammar.specs.Text.{text, IsText}
-
--- the text is an application's, as this tree, and passes no limit, whatever its length
-pub record IsReadAs (src : List ℕ) (app : App) : Type 0 where
-  pub marks : List Mark
-  pub spelled : text marks app
-  pub whole : Fits marks (tokens src) []
-  pub within : AllByRecursion IsWithin marks
+use Rattle.rt_grammar.specs.Text.{IsReadAs, IsText}
 
 -- the canonical text is read as the tree, offsets aside
 abbrev pub ReadsBack : App → Type 0
