@@ -1,5 +1,5 @@
--- The canonical text of statements and blocks. One space stands on each side of `=`. What stands in a block is four
--- spaces further in than the block.
+-- The canonical text of statements and blocks. One space is on each side of `=`. What a block holds is indented by four
+-- spaces more than the block.
 use Rattle.std.specs.Prelude.{ℕ, codes, decimal, List, [], ◌++◌}
 use Rattle.rt_ast.specs.declared.ident.Ident.{Ident}
 use Rattle.rt_ast.specs.Tree.{Expression, Spawn, Soon, After, Cancel, Move, Value, Calc, Now, Call, Statement, Bind}
@@ -28,15 +28,15 @@ value_text (Calc e) = expression_text e
 value_text (Now at) = codes "now"
 value_text (Call s) = spawn_text s
 
--- the margin of a block, which stands this far in: the blanks before each of its lines
+-- the margin of what a block of this margin holds; a margin is the blanks before a line
 abbrev pub deeper : List ℕ → List ℕ
 deeper margin = margin ++ codes "    "
 
--- a line that stands this far in
+-- a line with this margin
 abbrev pub line : List ℕ → List ℕ → List ℕ
 line margin text = margin ++ text ++ newline
 
--- a block that stands this far in, with these lines
+-- a block with this margin and these lines
 abbrev pub braces : List ℕ → List ℕ → List ℕ
 braces margin lines = codes "{" ++ newline ++ lines ++ margin ++ codes "}"
 
@@ -54,7 +54,7 @@ abbrev pub lock_head : Ident → List ℕ
 lock_head r = codes "lock " ++ name_text r ++ codes " "
 
 abbrev mutual
-  -- a statement that stands this far in
+  -- a statement with this margin
   pub statement_text : List ℕ → Statement → List ℕ
   statement_text margin (Bind x v) = codes "let " ++ name_text x ++ codes " = " ++ value_text v ++ codes ";"
   statement_text margin (Assign x e) = name_text x ++ codes " = " ++ expression_text e ++ codes ";"
@@ -65,7 +65,7 @@ abbrev mutual
   statement_text margin (Pend irq) = codes "pend " ++ name_text irq ++ codes ";"
   statement_text margin (Spawns s) = spawn_text s ++ codes ";"
 
-  -- a block that stands this far in, in its braces
+  -- a block with this margin, in its braces
   pub block_text : List ℕ → Block → List ℕ
   block_text margin Empty = codes "{}"
   block_text margin (Then s rest) =

@@ -1,4 +1,4 @@
--- The canonical text of expressions and of lists, as bytes. One space stands on each side of an operator and after each
+-- The canonical text of expressions and of lists, as bytes. One space is on each side of an operator and after each
 -- comma, and no list ends with a comma. Numbers are decimal. An operand that is itself an operation is in parentheses.
 use Rattle.std.specs.Prelude.{ℕ, codes, decimal, List, [], ◌∷◌, ◌++◌, flat_map}
 use Rattle.rt_ids.specs.declared.op.Op.{Op}
@@ -10,7 +10,7 @@ use Rattle.rt_ast.specs.Tree.{Expression, Num, Read, Oper}
 abbrev pub newline : List ℕ
 newline = 10 ∷ []
 
--- the rest of a list, behind its first item
+-- the rest of a list, after its first item
 abbrev pub further : {A : Type 0} → (A → List ℕ) → List A → List ℕ
 further text xs = flat_map (λ x. codes ", " ++ text x) xs
 

@@ -47,7 +47,7 @@ local_option (x ∷ xs) = (codes "local = " ++ bracketed_list name_text (x ∷ x
 abbrev pub body_options : Body → List (List ℕ)
 body_options b = shared_option b.shared ++ local_option b.local
 
--- the options of a task, those of its body behind its own
+-- the options of a task: its own, and then those of its body
 abbrev pub task_options : Task → List (List ℕ)
 task_options t = binds_option t.binds ++ priority_option t.priority ++ capacity_option t.capacity ++ body_options t.body
 

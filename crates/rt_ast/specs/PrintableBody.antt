@@ -69,14 +69,14 @@ abbrev mutual
   ArePrintable (Then s rest) = IsPrintableStatement s × ArePrintable rest
 
 abbrev mutual
-  -- how many blocks stand inside each other in a statement
+  -- how many blocks are inside each other in a statement
   pub inner_blocks : Statement → ℕ
   inner_blocks (Branch e first second) = max (blocks_of first) (blocks_of second)
   inner_blocks (Repeat x first last turn) = blocks_of turn
   inner_blocks (Locked r inner) = blocks_of inner
   inner_blocks other = 0
 
-  -- how many blocks stand inside each other in a block, itself included
+  -- how many blocks are inside each other in a block, itself included
   pub blocks_of : Block → ℕ
   blocks_of Empty = 1
   blocks_of (Then s rest) = max (1 + inner_blocks s) (blocks_of rest)

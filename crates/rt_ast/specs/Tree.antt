@@ -1,4 +1,4 @@
--- The tree of an application text: what it says, and where its names stand. Offsets are the bytes of the text before.
+-- The tree of an application text: what it says, and where its names are. Offsets are the bytes of the text before.
 use Rattle.std.specs.Prelude.{ℕ, Bool, List, Option}
 use Rattle.rt_ids.specs.declared.op.Op.{Op}
 use Rattle.rt_ast.specs.declared.ident.Ident.{Ident}
@@ -33,7 +33,7 @@ pub data Value : Type 0 where
   Now : ℕ → Value
   Call : Spawn → Value
 
--- A block is none or a statement and the block behind it.
+-- A block is empty, or a statement and the block that follows it.
 mutual
   pub data Statement : Type 0 where
     Bind : Ident → Value → Statement

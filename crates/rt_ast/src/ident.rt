@@ -1,6 +1,6 @@
 use rt_ids::Name;
 
-/// A name, and where it stands.
+/// A name, and where it is in the text.
 #[derive(Drop)]
 pub struct Ident {
     pub name: Name,
@@ -8,7 +8,7 @@ pub struct Ident {
     pub at: u32,
 }
 
-/// A number, and where it stands.
+/// A number, and where it is in the text.
 #[derive(Clone, Copy)]
 pub struct Number {
     pub value: u32,

@@ -43,7 +43,7 @@ arguments = or_else [] (do
   x ← name
   repeat argument (x ∷ []))
 
--- a task, where so many stand before it
+-- a task, after so many others
 abbrev pub task : ℕ → ℕ → Language Task
 task most before = do
   limited_word (codes "task") (at_most TASKS limit.Tasks before)

@@ -61,7 +61,7 @@ abbrev pub chains : List Signs → Language Operand → Language Operand
 chains [] atom = atom
 chains (signs ∷ stronger) atom = chain signs (chains stronger atom)
 
--- at most one comparison; how the form ends is told whether there is one
+-- at most one comparison; how the form ends depends on whether there is one
 abbrev pub comparison : {A : Type 0} → Language Operand → (Operand → Bool → Language A) → Language A
 comparison atom ended = do
   left ← chains strengths atom
@@ -76,7 +76,7 @@ plain_atom =
     (do n ← number; gives (record { at = n.at; tree = Num n.value }))
     or (do x ← name; gives (record { at = x.at; tree = Read x }))
 
--- an atom with at most so many parentheses inside each other, which stands in so many
+-- an atom with at most so many parentheses inside each other, itself inside so many
 abbrev pub atom : ℕ → ℕ → Language Operand
 atom zero opened = plain_atom
 atom (suc most) opened = plain_atom or (do
@@ -91,11 +91,11 @@ depth (Num n) = 1
 depth (Read x) = 1
 depth (Oper o left right) = 1 + max (depth left) (depth right)
 
--- the end of an expression that stands in no other
+-- the end of an expression that is part of no other
 abbrev pub ends : Operand × Bool → Language Expression
 ends e marks tree =
     (marks ≡ Ends e.1 (if nat_lt DEPTH (depth e.0.tree) then Some e.0.at else None) ∷ []) × (tree ≡ e.0.tree)
 
--- an expression that stands in no other, with at most so many parentheses inside each other
+-- an expression that is part of no other, with at most so many parentheses inside each other
 abbrev pub expression : ℕ → Language Expression
 expression most = comparison (atom most 0) (λ e compares. ends (e, compares))

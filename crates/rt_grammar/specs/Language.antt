@@ -14,13 +14,13 @@ Language A = List Mark → A → Type 0
 abbrev pub gives : {A : Type 0} → A → Language A
 gives x marks y = (marks ≡ []) × (y ≡ x)
 
--- a form, and behind it the one that its meaning asks for
+-- a form, and after it the one that its meaning asks for
 infixl 10 ◌>>=◌
 abbrev pub ◌>>=◌ : {A B : Type 0} → Language A → (A → Language B) → Language B
 (first >>= next) marks y =
     (x : _) × (front : List Mark) × (back : List Mark) × first front x × next x back y × (marks ≡ front ++ back)
 
--- a form, and behind it another, which alone has a meaning
+-- a form, and after it another, whose meaning is that of both
 infixl 10 ◌>>◌
 abbrev pub ◌>>◌ : {A B : Type 0} → Language A → Language B → Language B
 first >> next = first >>= λ _. next
@@ -30,7 +30,7 @@ infixr 8 ◌or◌
 abbrev pub ◌or◌ : {A : Type 0} → Language A → Language A → Language A
 (one or other) marks x = one marks x ⊎ other marks x
 
--- a form that stands here only where this is so
+-- a form that may come here only where this is so
 abbrev pub only_if : {A : Type 0} → Bool → Language A → Language A
 only_if holds form marks x = (holds ≡ true) × form marks x
 

@@ -1,4 +1,4 @@
--- What stands in a text of the grammar: its tokens, each with the limit that it passes, if it passes one; and the end
+-- The marks of a text of the grammar: its tokens, each with the limit that it passes, if it passes one; and the end
 -- of each whole expression, where its depth is judged.
 use Rattle.std.specs.Prelude.{◌≡◌, ℕ, Bool, List, [], ◌∷◌, Option, None, Some}
 use Rattle.rt_ids.specs.declared.limit.Limit.{Limit}

@@ -2,7 +2,7 @@
 --   Opts = "(" List(Opt) ")"
 --   Opt = "binds" "=" Name | "priority" "=" Num | "capacity" "=" Num
 --       | "shared" "=" "[" List([ "&" ] Name) "]" | "local" "=" "[" List(Name) "]"
--- Options stand in any order, each at most once. `init` takes `local` alone, `idle` takes `shared` and `local`.
+-- Options come in any order, each at most once. `init` takes `local` alone, `idle` takes `shared` and `local`.
 use Rattle.std.specs.Prelude.{ℕ, Bool, true, false, not, ◌&&◌, codes, List, [], Option, Some, None, is_none}
 use Rattle.rt_ids.specs.declared.limit.Limit.TheVariants as limit
 use Rattle.rt_ids.specs.declared.limits.TheConstants.{CAPACITY}
@@ -13,7 +13,7 @@ use Rattle.rt_grammar.specs.Language.{Language, gives, ◌>>=◌, ◌>>◌, ◌o
 use Rattle.rt_grammar.specs.Tokens.{word, sign, name, number, limited_number, list, adds, names}
 use Rattle.rt_grammar.specs.Limits.{within}
 
--- what stands between a body's parentheses so far
+-- the options of a body so far
 pub record Options : Type 0 where
   pub binds : Option Ident
   pub priority : Option Number

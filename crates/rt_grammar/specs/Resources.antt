@@ -14,7 +14,7 @@ use Rattle.rt_grammar.specs.Language.{Language, gives, ◌>>=◌, ◌>>◌, ◌o
 use Rattle.rt_grammar.specs.Tokens.{word, limited_word, sign, name, limited_name, number, limited_number, list, adds}
 use Rattle.rt_grammar.specs.Limits.{within, at_most}
 
--- the declaration of an interrupt, where so many stand before it
+-- the declaration of an interrupt, after so many others
 abbrev pub interrupt : ℕ → Language IrqTree
 interrupt before = do
   x ← limited_name (at_most IRQS limit.Interrupts before)
@@ -52,7 +52,7 @@ first_value = do
   n ← number
   gives n.value
 
--- a shared resource that is `lock_free`, where so many stand before it
+-- a shared resource that is `lock_free`, after so many others
 abbrev pub lock_free : ℕ → Language SharedTree
 lock_free before = do
   limited_word (codes "lock_free") (at_most SHARED limit.Shared before)
@@ -60,7 +60,7 @@ lock_free before = do
   n ← first_value
   gives (record { name = x; first = n; lock_free = true })
 
--- a shared resource that is accessed under its lock, where so many stand before it
+-- a shared resource that is accessed under its lock, after so many others
 abbrev pub locked_resource : ℕ → Language SharedTree
 locked_resource before = do
   x ← limited_name (at_most SHARED limit.Shared before)
@@ -74,7 +74,7 @@ shared_resources = or_else [] (do
   sign (codes "{")
   list (codes "}") (adds (λ before. lock_free before or locked_resource before)) [])
 
--- a local resource, where so many stand before it
+-- a local resource, after so many others
 abbrev pub local : ℕ → Language LocalTree
 local before = do
   x ← limited_name (at_most LOCALS limit.Locals before)

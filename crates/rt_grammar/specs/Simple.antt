@@ -1,7 +1,7 @@
--- Statements in which no block stands.
+-- Statements that hold no block.
 --   Simple = "let" Name "=" Value ";" | Name "=" Expr ";" | "emit" Expr ";" | "pend" Name ";" | Spawn ";"
--- A statement is told how many statements of the body stand before it; it means its tree, and how many stand before
--- what is behind it.
+-- What a statement may be depends on how many statements of the body come before it. It means its tree, and how many
+-- statements come before what follows it.
 use Rattle.std.specs.Prelude.{ℕ, suc, codes}
 use Rattle.rt_ast.specs.Tree.{Statement, Bind, Assign, Emit, Pend, Spawns}
 use Rattle.rt_grammar.specs.Language.{Language, gives, ◌>>=◌, ◌>>◌}
@@ -10,7 +10,7 @@ use Rattle.rt_grammar.specs.Expression.{expression}
 use Rattle.rt_grammar.specs.Limits.{statement_limit}
 use Rattle.rt_grammar.specs.Spawn.{spawn, value}
 
--- what is read of a body: a tree, and the statements before what is behind it
+-- what is read of a body: a tree, and how many statements come before what follows it
 abbrev pub Counted : Type 0 → Type 0
 Counted A = A × ℕ
 

@@ -2,8 +2,8 @@
 --   Block = "{" { Stmt } "}"
 --   Stmt = Simple | "if" Expr Block [ "else" Block ] | "for" Name "in" Num ".." Num Block
 --       | "lock" Name { "," Name } Block
--- A statement is told the nesting of the block that it stands in (a body's is 1), and how many statements of the body
--- stand before it; it means its tree, and how many stand before what is behind it.
+-- What a statement may be depends on the nesting of the block that holds it (a body's is 1), and on how many statements
+-- of the body come before it. It means its tree, and how many statements come before what follows it.
 use Rattle.std.specs.Prelude.{ℕ, zero, suc, codes, List, [], ◌∷◌, ◌++◌}
 use Rattle.rt_ast.specs.Tree.{Statement, Block, Branch, Repeat, Locked, Empty, Then}
 use Rattle.rt_grammar.specs.Language.{Language, gives, ◌>>=◌, ◌>>◌, ◌or◌, or_else, never, repeat}
@@ -13,7 +13,7 @@ use Rattle.rt_grammar.specs.Expression.{expression}
 use Rattle.rt_grammar.specs.Limits.{statement_limit, nesting_limit, turn_limit}
 use Rattle.rt_grammar.specs.Simple.{Counted, bind, assign, emit, pend, call}
 
--- a block of a nesting, behind so many statements
+-- a block of a nesting, after so many statements
 abbrev pub Blocks : Type 1
 Blocks = ℕ → ℕ → Language (Counted Block)
 
@@ -38,7 +38,7 @@ loop block nesting before = do
   turn ← block (suc nesting) (suc before)
   gives (Repeat x first.value last.value turn.0, turn.1)
 
--- a further name of a lock, which counts as a statement and as the block round it
+-- a further name of a lock, which counts as a statement and as the block around it
 abbrev pub further : Blocks → Blocks
 further inside nesting before = do
   sign (codes ",")
@@ -46,7 +46,7 @@ further inside nesting before = do
   inner ← inside (suc nesting) (suc before)
   gives (Then (Locked r inner.0) Empty, inner.1)
 
--- what is behind a lock's name is its block, or a further name
+-- a `lock`; its first name is followed by its block, or by a further name
 abbrev pub lock : Blocks → ℕ → ℕ → Language (Counted Statement)
 lock inside nesting before = do
   limited_word (codes "lock") (statement_limit before)
@@ -54,7 +54,7 @@ lock inside nesting before = do
   inner ← inside (suc nesting) (suc before)
   gives (Locked r inner.0, inner.1)
 
--- any statement; the blocks in it, and what is behind a lock's name, are these
+-- any statement; the blocks in it, and what follows a lock's name, are these
 abbrev pub statement : ℕ → Blocks → Blocks → ℕ → ℕ → Language (Counted Statement)
 statement most block inside nesting before =
     bind most before or assign most before or branch most block nesting before or loop block nesting before
@@ -65,13 +65,13 @@ abbrev pub block_of : List Statement → Block
 block_of [] = Empty
 block_of (s ∷ statements) = Then s (block_of statements)
 
--- one more statement behind those so far
+-- one more statement after those so far
 abbrev pub one_more : ℕ → Blocks → Blocks → ℕ → Counted (List Statement) → Language (Counted (List Statement))
 one_more most block inside nesting so_far = do
   s ← statement most block inside nesting so_far.1
   gives (so_far.0 ++ s.0 ∷ [], s.1)
 
--- statements in braces, which pass the limit on nesting where they stand too deep
+-- statements in braces, which pass the limit on nesting where they are too deep
 abbrev pub braced_block : ℕ → Blocks → Blocks → Blocks
 braced_block most block inside nesting before = do
   limited_sign (codes "{") (nesting_limit nesting)
@@ -79,13 +79,13 @@ braced_block most block inside nesting before = do
   sign (codes "}")
   gives (block_of all.0, all.1)
 
--- a block, and what is behind a lock's name, with at most so many blocks inside each other
+-- a block, and what follows a lock's name, with at most so many blocks inside each other
 abbrev mutual
   pub block : ℕ → ℕ → Blocks
   block most zero nesting before = never
   block most (suc deep) nesting before = braced_block most (block most deep) (inside most deep) nesting before
 
-  -- what is behind a lock's name, with at most so many blocks inside each other
+  -- what follows a lock's name, with at most so many blocks inside each other
   pub inside : ℕ → ℕ → Blocks
   inside most zero nesting before = never
   inside most (suc deep) nesting before =

@@ -47,7 +47,7 @@ pub record IsText (src : List ℕ) (app : App) : Type 0 where
   pub short : length src ≤ TEXT_BYTES
   pub read : IsReadAs src app
 
--- a byte that no token begins with stands behind tokens that begin a text, which pass no limit
+-- after tokens that begin a text and pass no limit comes a byte that no token begins with
 pub record IsForeignAt (src : List ℕ) (at : ℕ) : Type 0 where
   pub short : length src ≤ TEXT_BYTES
   pub before : List Token
@@ -91,7 +91,7 @@ pub record IsLimitAt (src : List ℕ) (what : Limit) (at : ℕ) : Type 0 where
   pub within : AllByRecursion IsWithin marks
   pub passes : limit_of mark ≡ Some (at, what)
 
--- what stands at the offset where a text is refused so; that it is too long comes before all else, at its first byte
+-- what is at the offset where a text is refused so; that it is too long comes before all else, at its first byte
 abbrev pub IsRefusedAt : List ℕ → Refusal → ℕ → Type 0
 IsRefusedAt src refusal.TooLong at = (TEXT_BYTES < length src) × (at ≡ 0)
 IsRefusedAt src refusal.Foreign at = IsForeignAt src at

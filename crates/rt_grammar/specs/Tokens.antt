@@ -87,11 +87,11 @@ limited_name what = token ident_of (name_limit what)
 abbrev pub name : Language Ident
 name = limited_name free
 
--- the limit that a number passes by itself, or another that goes by its value
+-- the limit that a number passes by itself, or another that depends on its value
 abbrev pub number_limit : (ℕ → Option Limit) → Number → Option Limit
 number_limit what n = first_of (limit_if (not (nat_lt n.value (2 ^ 32))) limit.Number) (what n.value)
 
--- a number that may pass this limit, which goes by its value, besides the one on the size of numbers
+-- a number that may pass this limit, which depends on its value, besides the one on the size of numbers
 abbrev pub limited_number : (ℕ → Option Limit) → Language Number
 limited_number what = token number_of (number_limit what)
 
@@ -99,7 +99,7 @@ limited_number what = token number_of (number_limit what)
 abbrev pub number : Language Number
 number = limited_number (λ _. free)
 
--- a list up to the sign that closes it: empty, or items with a comma between each two, and perhaps one behind the last
+-- a list up to the sign that closes it: empty, or items with a comma between each two, and perhaps one after the last
 abbrev pub list : {S : Type 0} → List ℕ → (S → Language S) → S → Language S
 list closing item start = do
   most ← repeat (λ s. do x ← item s; sign (codes ","); gives x) start
@@ -107,7 +107,7 @@ list closing item start = do
   sign closing
   gives all
 
--- one more item of a list, which knows how many stand before it
+-- one more item of a list; how many items come before it may decide what it is
 abbrev pub adds : {A : Type 0} → (ℕ → Language A) → List A → Language (List A)
 adds item xs = do
   x ← item (length xs)

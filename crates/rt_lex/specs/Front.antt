@@ -30,7 +30,7 @@ comment text = take_while (λ b. not (b == 10)) text
 abbrev pub name_front : List ℕ → Front
 name_front name = makes (length name) (if is_word name then kind.Word else kind.Name)
 
--- the hexadecimal digits behind a leading 0x
+-- the hexadecimal digits after a leading 0x
 abbrev pub hex_digits : List ℕ → List ℕ
 hex_digits text = if starts_with nat_eq text (codes "0x") then take_while is_hex_digit (drop 2 text) else []
 

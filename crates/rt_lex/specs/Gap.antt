@@ -1,26 +1,26 @@
--- What stands between the tokens of a text, before the first and behind the last: blanks and comments alone.
+-- What is between the tokens of a text, before the first and after the last: blanks and comments alone.
 use Rattle.std.specs.Prelude.{◌≡◌, ◌≢◌, ℕ, ◌+◌, ◌-◌, false, ◌==◌, nat_eq, codes, List, [], ◌∷◌, length, take, drop}
 use Rattle.std.specs.Prelude.{fold, if◌then◌else◌}
 use Rattle.std.specs.List.{starts_with}
 use Rattle.rt_lex.specs.Bytes.{is_blank}
 use Rattle.rt_lex.specs.Token.{Token}
 
--- where a reading of blanks and comments stands: outside of comments, behind one slash, inside a comment, or at a
--- byte that is in neither. A slash is 47, a line feed 10.
+-- the state of an automaton that reads blanks and comments: outside of comments, after one slash, inside a comment, or
+-- after a byte that is in neither. A slash is 47, a line feed 10.
 pub data Standing : Type 0 where
   Outside : Standing
   Slash : Standing
   Inside : Standing
   Lost : Standing
 
--- where the reading stands behind one byte more
+-- the state after one more byte
 abbrev pub after_byte : Standing → ℕ → Standing
 after_byte Outside b = if is_blank b then Outside else if b == 47 then Slash else Lost
 after_byte Slash b = if b == 47 then Inside else Lost
 after_byte Inside b = if b == 10 then Outside else Inside
 after_byte Lost b = Lost
 
--- where the reading stands behind a text
+-- the state after a text
 abbrev pub standing_after : List ℕ → Standing
 standing_after text = fold after_byte Outside text
 
@@ -29,7 +29,7 @@ abbrev pub IsLastGap : List ℕ → Type 0
 IsLastGap text = (standing_after text ≢ Lost) × (standing_after text ≢ Slash)
 
 -- The text between tokens is blanks and whole comments with their line feeds, no token begins with the two slashes of
--- a comment, and behind the last token stand blanks and comments alone.
+-- a comment, and after the last token are blanks and comments alone.
 abbrev pub HaveGaps : List ℕ → ℕ → List Token → Type 0
 HaveGaps src from [] = IsLastGap (drop from src)
 HaveGaps src from (t ∷ tokens) =

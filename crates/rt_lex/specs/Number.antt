@@ -8,7 +8,7 @@ use Rattle.rt_lex.specs.Bytes.{digit_value}
 abbrev pub value_of : ℕ → List ℕ → ℕ
 value_of base digits = fold (λ n b. n * base + digit_value b) 0 digits
 
--- the number that a token's bytes spell: hexadecimal behind 0x, else decimal
+-- the number that a token's bytes spell: hexadecimal after 0x, else decimal
 abbrev pub number_value : List ℕ → ℕ
 number_value text = if starts_with nat_eq text (codes "0x") then value_of 16 (drop 2 text) else value_of 10 text
 

@@ -53,7 +53,7 @@ pub record IsSlice (src : List ℕ) (t : Token) : Type 0 where
   pub within : t.at + length t.text ≤ length src
   pub slice : take (length t.text) (drop t.at src) ≡ t.text
 
--- Slices of a text lie one behind the other from this offset on, none over another.
+-- Slices of a text lie one after the other from this offset on, none over another.
 abbrev pub LieIn : List ℕ → ℕ → List Token → Type 0
 LieIn src from [] = Unit {0}
 LieIn src from (t ∷ tokens) = (from ≤ t.at) × IsSlice src t × LieIn src (t.at + length t.text) tokens

@@ -11,7 +11,7 @@ pub record Token : Type 0 where
   pub kind : Kind
   pub text : List ℕ
 
--- the token that the code lends
+-- the token of the code, with its bytes
 abbrev pub view : code.Token → Token
 view t = record { at = t.at; kind = t.kind; text = t.text.now }
 

@@ -17,18 +17,21 @@ pub(crate) struct Front {
     pub(crate) kind: Option<Kind>,
 }
 
+/// Whether a byte is a space, a tab, a line feed or a carriage return.
 fn is_blank(b: u8) -> bool
     ensures { result ≡ is_blank b }
 {
     b == b' ' || b == b'\t' || b == b'\n' || b == b'\r'
 }
 
+/// Whether a text is a sign of two bytes.
 fn is_long_sign(text: &[u8]) -> bool
     ensures { result ≡ is_long_sign text.now }
 {
     matches!(text, b"<<" | b">>" | b"==" | b"!=" | b"<=" | b">=" | b"..")
 }
 
+/// Whether a byte is a sign of one byte.
 fn is_short_sign(b: u8) -> bool
     ensures { result ≡ is_short_sign b }
 {
@@ -63,6 +66,7 @@ fn comment(text: &[u8]) -> &[u8]
     &text[..len]
 }
 
+/// The bytes of names that a text begins with.
 fn name(text: &[u8]) -> &[u8]
     ensures { result.now ≡ take_while is_name_byte text.now }
 {
@@ -70,6 +74,7 @@ fn name(text: &[u8]) -> &[u8]
     &text[..len]
 }
 
+/// The decimal digits that a text begins with.
 fn digits(text: &[u8]) -> &[u8]
     ensures { result.now ≡ take_while is_digit text.now }
 {
@@ -77,6 +82,7 @@ fn digits(text: &[u8]) -> &[u8]
     &text[..len]
 }
 
+/// The hexadecimal digits that a text begins with.
 fn hex_run(text: &[u8]) -> &[u8]
     ensures { result.now ≡ take_while is_hex_digit text.now }
 {
@@ -84,7 +90,7 @@ fn hex_run(text: &[u8]) -> &[u8]
     &text[..len]
 }
 
-/// The hexadecimal digits behind a leading `0x`.
+/// The hexadecimal digits after a leading `0x`.
 fn hex_digits(text: &[u8]) -> &[u8]
     ensures { result.now ≡ hex_digits text.now }
 {

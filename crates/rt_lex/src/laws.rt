@@ -19,7 +19,7 @@ pub fn tokens_are_longest()
     ensures { (src : List ℕ) → AllByRecursion (IsLongest src) (tokens src) }
 {}
 
-/// Between the tokens of a text, before the first and behind the last stand blanks and comments alone.
+/// Between the tokens of a text, before the first and after the last are blanks and comments alone.
 #[tactic(auto, using(crate::proofs::Gaps::tokens_have_gaps))]
 pub fn gaps_are_blanks_and_comments()
     ensures { (src : List ℕ) → HaveGaps src 0 (tokens src) }

@@ -17,13 +17,14 @@ pub fn place(src: &[u8], at: u32) -> Place
     }
 }
 
+/// How many line feeds a text has.
 fn line_feeds(text: &[u8]) -> usize
     ensures { result ≡ count_by (λ b. b == 10) text.now }
 {
     text.iter().filter(|b| **b == b'\n').count()
 }
 
-/// The bytes of its last line.
+/// How many bytes are after the last line feed.
 fn last_line_len(text: &[u8]) -> usize
     ensures { result ≡ length (take_while (λ b. not (b == 10)) (reverse text.now)) }
 {

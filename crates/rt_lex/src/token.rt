@@ -9,7 +9,7 @@ pub enum Kind {
     Name,
     /// A name that the grammar keeps for itself.
     Word,
-    /// A number, decimal or hexadecimal behind `0x`.
+    /// A number, decimal or hexadecimal after `0x`.
     Num,
     Sign,
     /// A byte that no other token begins with.

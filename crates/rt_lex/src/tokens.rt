@@ -9,12 +9,12 @@ use crate::front::front_of;
 use crate::token::Token;
 use std::marker::Model;
 
-/// The tokens of a text that are left, in order. They lend from the text. Contracts see their list.
+/// The tokens of a text that are left, in order. They borrow from the text. Contracts see their list.
 #[derive(Drop)]
 pub struct Tokens<'a> {
     /// The token that comes next.
     ahead: Option<Token<'a>>,
-    /// What stands behind it.
+    /// The bytes after it.
     rest: &'a [u8],
     /// The bytes of the text before the rest.
     at: u32,
@@ -61,7 +61,7 @@ impl<'a> Iterator for Tokens<'a> {
     }
 }
 
-/// The tokens of a text that stands at an offset.
+/// The tokens of a text at an offset.
 fn tokens_from(text: &[u8], start: u32) -> Tokens<'_>
     requires { start + length text.now ≤ TEXT_BYTES }
     ensures { result ≡ tokens_at start text.now }

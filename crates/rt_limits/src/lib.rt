@@ -1,10 +1,10 @@
-// The trees of texts that are read keep the limits of application texts.
+// The trees of texts that are read are printable.
 #![tactic(auto)]
 
 ghost use Rattle.rt_limits.specs.Law.{TextsKeepLimits};
 
-/// The tree of a text that is read keeps the limits of application texts: its names are names, its numbers and counts
-/// are within them.
+/// The tree of a text that is read is printable: its names are names, its numbers are of 32 bits, it keeps the limits,
+/// and `init` lists nothing shared.
 pub fn texts_keep_limits()
     ensures law { TextsKeepLimits }
 {}
