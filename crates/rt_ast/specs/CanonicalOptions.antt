@@ -19,37 +19,39 @@ abbrev pub listed_text : ListedTree → List ℕ
 listed_text r = by_ref_text r.by_ref ++ name_text r.name
 
 -- the option of the interrupt that a task is bound to, where it has one
-abbrev pub binds_option : Option Ident → List (List ℕ)
-binds_option None = []
-binds_option (Some x) = (codes "binds = " ++ name_text x) ∷ []
+abbrev pub binds_option_text : Option Ident → List (List ℕ)
+binds_option_text None = []
+binds_option_text (Some x) = (codes "binds = " ++ name_text x) ∷ []
 
 -- the option of a priority, where one is given
-abbrev pub priority_option : Option Number → List (List ℕ)
-priority_option None = []
-priority_option (Some n) = (codes "priority = " ++ decimal n.value) ∷ []
+abbrev pub priority_option_text : Option Number → List (List ℕ)
+priority_option_text None = []
+priority_option_text (Some n) = (codes "priority = " ++ decimal n.value) ∷ []
 
 -- the option of a capacity, where one is given
-abbrev pub capacity_option : Option ℕ → List (List ℕ)
-capacity_option None = []
-capacity_option (Some n) = (codes "capacity = " ++ decimal n) ∷ []
+abbrev pub capacity_option_text : Option ℕ → List (List ℕ)
+capacity_option_text None = []
+capacity_option_text (Some n) = (codes "capacity = " ++ decimal n) ∷ []
 
 -- the option that lists shared resources, where there are any
-abbrev pub shared_option : List ListedTree → List (List ℕ)
-shared_option [] = []
-shared_option (r ∷ rs) = (codes "shared = " ++ bracketed_list listed_text (r ∷ rs)) ∷ []
+abbrev pub shared_option_text : List ListedTree → List (List ℕ)
+shared_option_text [] = []
+shared_option_text (r ∷ rs) = (codes "shared = " ++ bracketed_list listed_text (r ∷ rs)) ∷ []
 
 -- the option that lists local resources, where there are any
-abbrev pub local_option : List Ident → List (List ℕ)
-local_option [] = []
-local_option (x ∷ xs) = (codes "local = " ++ bracketed_list name_text (x ∷ xs)) ∷ []
+abbrev pub local_option_text : List Ident → List (List ℕ)
+local_option_text [] = []
+local_option_text (x ∷ xs) = (codes "local = " ++ bracketed_list name_text (x ∷ xs)) ∷ []
 
 -- the options of a body: what it lists as shared and as local
 abbrev pub body_options : Body → List (List ℕ)
-body_options b = shared_option b.shared ++ local_option b.local
+body_options b = shared_option_text b.shared ++ local_option_text b.local
 
 -- the options of a task: its own, and then those of its body
 abbrev pub task_options : Task → List (List ℕ)
-task_options t = binds_option t.binds ++ priority_option t.priority ++ capacity_option t.capacity ++ body_options t.body
+task_options t =
+    binds_option_text t.binds ++ priority_option_text t.priority ++ capacity_option_text t.capacity
+    ++ body_options t.body
 
 -- options in parentheses, where there are any
 abbrev pub options_text : List (List ℕ) → List ℕ

@@ -10,8 +10,9 @@ use Rattle.rt_ast.specs.declared.ident.Number.{Number}
 use Rattle.rt_ast.specs.declared.app.ListedTree.{ListedTree}
 use Rattle.rt_ast.specs.Bare.{bare_name, bare_number, bare_listed}
 use Rattle.rt_ast.specs.CanonicalExpression.{separated_list, name_text}
-use Rattle.rt_ast.specs.CanonicalOptions.{bracketed_list, by_ref_text, listed_text, binds_option, priority_option}
-use Rattle.rt_ast.specs.CanonicalOptions.{capacity_option, shared_option, local_option, options_text}
+use Rattle.rt_ast.specs.CanonicalOptions.{bracketed_list, by_ref_text, listed_text, binds_option_text}
+use Rattle.rt_ast.specs.CanonicalOptions.{priority_option_text, capacity_option_text, shared_option_text}
+use Rattle.rt_ast.specs.CanonicalOptions.{local_option_text, options_text}
 use Rattle.rt_ast.specs.PrintableBody.{IsPrintableName}
 use Rattle.rt_ast.specs.Printable.{IfThere, ArePrintableNames, IsPrintableListed, IsPrintablePriority}
 use Rattle.rt_ast.specs.Printable.{IsPrintableCapacity}
@@ -235,7 +236,7 @@ local_read owner b p c s x xs o Z h a ends =
 -- the options from `local` on, from `shared` on, and so on
 local_left : (owner : Owner) (b : Option Ident) (p : Option Number) (c : Option ℕ) (s : List ListedTree)
     (l : List Ident) (o : Options) (Y : List ℕ) → ArePrintableNames l → AreRead b p c s [] o
-    → Left owner (AreRead b p c s l) Y (local_option l) o
+    → Left owner (AreRead b p c s l) Y (local_option_text l) o
 local_left owner b p c s [] o Y h a = a
 local_left owner b p c s (x ∷ xs) o Y h a =
     let Q = AreRead b p c s (x ∷ xs) in
@@ -245,12 +246,12 @@ local_left owner b p c s (x ∷ xs) o Y h a =
 pub shared_left : (owner : Owner) (b : Option Ident) (p : Option Number) (c : Option ℕ) (s : List ListedTree)
     (l : List Ident) (o : Options) (Y : List ℕ) → (is_init owner ≡ false) ⊎ (s ≡ [])
     → AllByRecursion IsPrintableListed s → ArePrintableNames l → AreRead b p c [] [] o
-    → Left owner (AreRead b p c s l) Y (shared_option s ++ local_option l) o
+    → Left owner (AreRead b p c s l) Y (shared_option_text s ++ local_option_text l) o
 shared_left owner b p c [] l o Y t g h a = local_left owner b p c [] l o Y h a
 shared_left owner b p c (r ∷ rs) l o Y (inr t) g h a = absurd cc
 shared_left owner b p c (r ∷ rs) l o Y (inl t) g h a =
     one_option owner (AreRead b p c (r ∷ rs) []) (AreRead b p c (r ∷ rs) l) o
-    (codes "shared = " ++ bracketed_list listed_text (r ∷ rs)) Y (local_option l)
+    (codes "shared = " ++ bracketed_list listed_text (r ∷ rs)) Y (local_option_text l)
     (λ Z ends. shared_read owner b p c r rs o Z t g a ends) (λ u q. local_left owner b p c (r ∷ rs) l u Y h q)
 
 -- the options of a task
@@ -264,32 +265,32 @@ pub record TaskOptions (b : Option Ident) (p : Option Number) (c : Option ℕ) (
 
 capacity_left : (b : Option Ident) (p : Option Number) (c : Option ℕ) (s : List ListedTree) (l : List Ident)
     (o : Options) (Y : List ℕ) → TaskOptions b p c s l → AreRead b p None [] [] o
-    → Left OfTask (AreRead b p c s l) Y (capacity_option c ++ (shared_option s ++ local_option l)) o
+    → Left OfTask (AreRead b p c s l) Y (capacity_option_text c ++ (shared_option_text s ++ local_option_text l)) o
 capacity_left b p None s l o Y h a = shared_left OfTask b p None s l o Y (inl refl) h.shared h.local a
 capacity_left b p (Some n) s l o Y h a =
     one_option OfTask (AreRead b p (Some n) [] []) (AreRead b p (Some n) s l) o (codes "capacity = " ++ decimal n) Y
-    (shared_option s ++ local_option l)
+    (shared_option_text s ++ local_option_text l)
     (λ Z ends. capacity_read OfTask b p n o Z refl h.capacity a ends)
     (λ u q. shared_left OfTask b p (Some n) s l u Y (inl refl) h.shared h.local q)
 
 priority_left : (b : Option Ident) (p : Option Number) (c : Option ℕ) (s : List ListedTree) (l : List Ident)
     (o : Options) (Y : List ℕ) → TaskOptions b p c s l → AreRead b None None [] [] o
-    → Left OfTask (AreRead b p c s l) Y ((priority_option p ++ capacity_option c)
-    ++ (shared_option s ++ local_option l)) o
+    → Left OfTask (AreRead b p c s l) Y ((priority_option_text p ++ capacity_option_text c)
+    ++ (shared_option_text s ++ local_option_text l)) o
 priority_left b None c s l o Y h a = capacity_left b None c s l o Y h a
 priority_left b (Some n) c s l o Y h a =
     one_option OfTask (AreRead b (Some n) None [] []) (AreRead b (Some n) c s l) o
-    (codes "priority = " ++ decimal n.value) Y (capacity_option c ++ (shared_option s ++ local_option l))
+    (codes "priority = " ++ decimal n.value) Y (capacity_option_text c ++ (shared_option_text s ++ local_option_text l))
     (λ Z ends. priority_read OfTask b n o Z refl h.priority a ends) (λ u q. capacity_left b (Some n) c s l u Y h q)
 
 pub binds_left : (b : Option Ident) (p : Option Number) (c : Option ℕ) (s : List ListedTree) (l : List Ident)
     (o : Options) (Y : List ℕ) → TaskOptions b p c s l → AreRead None None None [] [] o
-    → Left OfTask (AreRead b p c s l) Y (((binds_option b ++ priority_option p) ++ capacity_option c)
-    ++ (shared_option s ++ local_option l)) o
+    → Left OfTask (AreRead b p c s l) Y (((binds_option_text b ++ priority_option_text p) ++ capacity_option_text c)
+    ++ (shared_option_text s ++ local_option_text l)) o
 binds_left None p c s l o Y h a = priority_left None p c s l o Y h a
 binds_left (Some x) p c s l o Y h a =
     one_option OfTask (AreRead (Some x) None None [] []) (AreRead (Some x) p c s l) o (codes "binds = " ++ name_text x)
-    Y ((priority_option p ++ capacity_option c) ++ (shared_option s ++ local_option l))
+    Y ((priority_option_text p ++ capacity_option_text c) ++ (shared_option_text s ++ local_option_text l))
     (λ Z ends. binds_read OfTask x o Z refl h.binds a ends) (λ u q. priority_left (Some x) p c s l u Y h q)
 
 pub none_read : AreRead None None None [] [] no_options

@@ -1,7 +1,8 @@
 ghost use Rattle.std.specs.Prelude.{◌≡◌, ◌++◌, ◌||◌, false, IfOk, OnOk};
 ghost use Rattle.rt_ast.specs.View as view;
-ghost use Rattle.rt_ast.specs.CanonicalOptions.{listed_text, binds_option, priority_option, capacity_option};
-ghost use Rattle.rt_ast.specs.CanonicalOptions.{shared_option, local_option, body_options, task_options, options_text};
+ghost use Rattle.rt_ast.specs.CanonicalOptions.{listed_text, binds_option_text, priority_option_text};
+ghost use Rattle.rt_ast.specs.CanonicalOptions.{capacity_option_text, shared_option_text, local_option_text};
+ghost use Rattle.rt_ast.specs.CanonicalOptions.{body_options, task_options, options_text};
 ghost use Rattle.rt_print.specs.Opened.{has_any, opening_text, opened_text, closing_text};
 
 use crate::list::{Item, push_bracketed};
@@ -33,8 +34,8 @@ fn push_closing(out: &mut Vec<u8>, opened: bool) -> Result<(), NoMemory>
 
 /// Appends the interrupt that a task binds, where it binds one. It tells whether there were options so far.
 fn push_binds(out: &mut Vec<u8>, opened: bool, binds: &Option<Ident>) -> Result<bool, NoMemory>
-    ensures text { OnOk result (out.new.items ≡ out.old.items ++ opened_text opened (binds_option binds.now)) }
-    ensures any { IfOk result (λ any. any ≡ (opened || has_any (binds_option binds.now))) }
+    ensures text { OnOk result (out.new.items ≡ out.old.items ++ opened_text opened (binds_option_text binds.now)) }
+    ensures any { IfOk result (λ any. any ≡ (opened || has_any (binds_option_text binds.now))) }
 {
     match binds {
         Some(name) => {
@@ -53,8 +54,9 @@ fn push_priority(
     opened: bool,
     priority: &Option<Number>,
 ) -> Result<bool, NoMemory>
-    ensures text { OnOk result (out.new.items ≡ out.old.items ++ opened_text opened (priority_option priority.now)) }
-    ensures any { IfOk result (λ any. any ≡ (opened || has_any (priority_option priority.now))) }
+    ensures text { OnOk result
+        (out.new.items ≡ out.old.items ++ opened_text opened (priority_option_text priority.now)) }
+    ensures any { IfOk result (λ any. any ≡ (opened || has_any (priority_option_text priority.now))) }
 {
     match priority {
         Some(number) => {
@@ -69,8 +71,8 @@ fn push_priority(
 
 /// Appends a task's capacity, where it has one. It tells whether there were options so far.
 fn push_capacity(out: &mut Vec<u8>, opened: bool, capacity: Option<u32>) -> Result<bool, NoMemory>
-    ensures text { OnOk result (out.new.items ≡ out.old.items ++ opened_text opened (capacity_option capacity)) }
-    ensures any { IfOk result (λ any. any ≡ (opened || has_any (capacity_option capacity))) }
+    ensures text { OnOk result (out.new.items ≡ out.old.items ++ opened_text opened (capacity_option_text capacity)) }
+    ensures any { IfOk result (λ any. any ≡ (opened || has_any (capacity_option_text capacity))) }
 {
     match capacity {
         Some(number) => {
@@ -95,8 +97,8 @@ impl Item for ListedTree {
 
 /// Appends the shared resources that a body lists, where it lists any. It tells whether there were options so far.
 fn push_shared(out: &mut Vec<u8>, opened: bool, shared: &[ListedTree]) -> Result<bool, NoMemory>
-    ensures text { OnOk result (out.new.items ≡ out.old.items ++ opened_text opened (shared_option shared.now)) }
-    ensures any { IfOk result (λ any. any ≡ (opened || has_any (shared_option shared.now))) }
+    ensures text { OnOk result (out.new.items ≡ out.old.items ++ opened_text opened (shared_option_text shared.now)) }
+    ensures any { IfOk result (λ any. any ≡ (opened || has_any (shared_option_text shared.now))) }
 {
     if shared.is_empty() {
         return Ok(opened);
@@ -109,8 +111,8 @@ fn push_shared(out: &mut Vec<u8>, opened: bool, shared: &[ListedTree]) -> Result
 
 /// Appends the local resources that a body lists, where it lists any. It tells whether there were options so far.
 fn push_local(out: &mut Vec<u8>, opened: bool, local: &[Ident]) -> Result<bool, NoMemory>
-    ensures text { OnOk result (out.new.items ≡ out.old.items ++ opened_text opened (local_option local.now)) }
-    ensures any { IfOk result (λ any. any ≡ (opened || has_any (local_option local.now))) }
+    ensures text { OnOk result (out.new.items ≡ out.old.items ++ opened_text opened (local_option_text local.now)) }
+    ensures any { IfOk result (λ any. any ≡ (opened || has_any (local_option_text local.now))) }
 {
     if local.is_empty() {
         return Ok(opened);

@@ -1,5 +1,5 @@
 use Rattle.std.proofs.Common.{codes, decimal, ap}
-use Rattle.rt_ast.specs.CanonicalOptions.{capacity_option}
+use Rattle.rt_ast.specs.CanonicalOptions.{capacity_option_text}
 use Rattle.rt_print.proofs.OpenText.{one_opened}
 use Rattle.rt_print.proofs.options.push_capacity.Goals as goal
 
@@ -7,6 +7,6 @@ pub returns-in_ok-push_number-in-Some-clause-text :
     goal.returns-in_ok-push_number-in-Some-clause-text
 returns-in_ok-push_number-in-Some-clause-text c =
     one_opened c.args.opened c.args.out.now.items c.push_opening.new.out.items c.push_bytes.new.out.items
-    c.push_number.new.out.items (codes "capacity = ") (decimal c.in-Some.number) (capacity_option c.args.capacity)
-    (ap capacity_option c.in-Some.is) c.in_ok-push_opening-in-Some.ensures c.in_ok-push_bytes-in-Some.ensures
+    c.push_number.new.out.items (codes "capacity = ") (decimal c.in-Some.number) (capacity_option_text c.args.capacity)
+    (ap capacity_option_text c.in-Some.is) c.in_ok-push_opening-in-Some.ensures c.in_ok-push_bytes-in-Some.ensures
     c.in_ok-push_number-in-Some.ensures
