@@ -29,19 +29,19 @@ thread_body most owner text = or_else None (do
   b ← block most most 1 0
   gives (Some (body_of o b.0 at)))
 
--- one more argument of a task, behind these
-abbrev pub argument : List Ident → Language (List Ident)
-argument xs = do
+-- one more parameter of a task, after these
+abbrev pub parameter : List Ident → Language (List Ident)
+parameter xs = do
   sign (codes ",")
   x ← limited_name (at_most ARGUMENTS limit.Arguments (length xs))
   gives (xs ++ x ∷ [])
 
--- the arguments that a task declares behind `with`, or nothing
-abbrev pub arguments : Language (List Ident)
-arguments = or_else [] (do
+-- the parameters that a task declares after `with`, or nothing
+abbrev pub parameters : Language (List Ident)
+parameters = or_else [] (do
   word (codes "with")
   x ← name
-  repeat argument (x ∷ []))
+  repeat parameter (x ∷ []))
 
 -- a task, after so many others
 abbrev pub task : ℕ → ℕ → Language Task
@@ -49,7 +49,7 @@ task most before = do
   limited_word (codes "task") (at_most TASKS limit.Tasks before)
   x ← name
   o ← options OfTask
-  args ← arguments
+  args ← parameters
   b ← block most most 1 0
   gives (record {
     name = x;

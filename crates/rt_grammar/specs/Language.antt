@@ -1,4 +1,4 @@
--- How a grammar is written: a language relates the marks of a text to what that text means. This is an attribute grammar
+-- How a grammar is written: a language relates the marks of a text to what the text means. This is an attribute grammar
 -- (Knuth, Semantics of Context-Free Languages, 1968). Its forms are these: one token, a form and another after it, a
 -- choice, a repetition, a list.
 use Rattle.std.specs.Prelude.{◌≡◌, ◌⊎◌, ℕ, zero, suc, Bool, true, List, [], ◌∷◌, ◌++◌, Option, Some}

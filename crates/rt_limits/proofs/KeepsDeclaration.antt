@@ -17,7 +17,7 @@ use Rattle.rt_grammar.specs.Resources.{interrupt, interrupts, monotonic, first_v
 use Rattle.rt_grammar.specs.Resources.{shared_resources, local, locals}
 use Rattle.rt_grammar.specs.Options.{Options, no_options, Owner, OfTask, is_init, binds_option, priority_option}
 use Rattle.rt_grammar.specs.Options.{capacity_option, listed_resource, shared_option, local_option, option, options}
-use Rattle.rt_grammar.specs.Bodies.{or_empty, body_of, thread_body, arguments, task}
+use Rattle.rt_grammar.specs.Bodies.{or_empty, body_of, thread_body, parameters, task}
 use Rattle.rt_limits.proofs.Keeps.{Keeps, AreFew, none_are_few, one_more_is_few, keeps_gives, keeps_then, keeps_or}
 use Rattle.rt_limits.proofs.Keeps.{keeps_or_else, keeps_only_if, keeps_as, keeps_repeat, keeps_all, keeps_few}
 use Rattle.rt_limits.proofs.KeepsTokens.{still_below, between, keeps_word, keeps_sign, keeps_this_name, keeps_name}
@@ -248,8 +248,8 @@ keeps_thread_body most owner text =
     (λ o k. keeps_then (keeps_block most) (λ b h.
     keeps_gives (body_kept owner o b.0 b.1 at k h)))))
 
-keeps_arguments : Keeps arguments (AreFew IsPrintableName ARGUMENTS)
-keeps_arguments =
+keeps_parameters : Keeps parameters (AreFew IsPrintableName ARGUMENTS)
+keeps_parameters =
     keeps_or_else (none_are_few IsPrintableName ARGUMENTS)
     (keeps_then keeps_word (λ at under. keeps_then keeps_name (λ x h.
     keeps_repeat (AreFew IsPrintableName ARGUMENTS)
@@ -261,7 +261,7 @@ keeps_arguments =
 keeps_task : (most before : ℕ) → Keeps (task most before) (λ t. IsPrintableTask t × (before < TASKS))
 keeps_task most before =
     keeps_then keeps_word (λ at under. keeps_then keeps_name
-    (λ x h. keeps_then (keeps_options OfTask) (λ o k. keeps_then keeps_arguments
+    (λ x h. keeps_then (keeps_options OfTask) (λ o k. keeps_then keeps_parameters
     (λ args g. keeps_then (keeps_block most) (λ b l.
     keeps_gives (
       record {

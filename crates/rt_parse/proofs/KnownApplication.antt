@@ -11,7 +11,7 @@ use Rattle.rt_grammar.specs.Limits.{within}
 use Rattle.rt_grammar.specs.Resources.{interrupt, interrupts, monotonic, first_value, lock_free, locked_resource}
 use Rattle.rt_grammar.specs.Resources.{shared_resources, local, locals}
 use Rattle.rt_grammar.specs.Options.{Owner, OfInit, OfIdle, OfTask, Options, listed_resource, option, options}
-use Rattle.rt_grammar.specs.Bodies.{thread_body, arguments, task}
+use Rattle.rt_grammar.specs.Bodies.{thread_body, parameters, task}
 use Rattle.rt_grammar.specs.Declaration.{dispatchers, fpu, head, application}
 use Rattle.rt_parse.proofs.Known.{Known, IsToken, known_gives, known_then, known_or, known_or_else, known_only_if}
 use Rattle.rt_parse.proofs.Known.{known_repeat, known_word, known_sign, known_this_name, known_name, known_number}
@@ -97,14 +97,14 @@ known_thread_body : (most : ℕ) (owner : Owner) (first : List ℕ) → Known (t
 known_thread_body most owner first = known_or_else None (known_then known_word
     (λ at. known_then (known_options owner) (λ o. known_then (known_block most most 1 0) (λ b. known_gives _))))
 
-known_arguments : Known arguments
-known_arguments = known_or_else [] (known_then known_word
+known_parameters : Known parameters
+known_parameters = known_or_else [] (known_then known_word
     (λ at. known_then (known_name _)
     (λ x. known_repeat (λ xs. known_then known_sign (λ at. known_then (known_name _) (λ x. known_gives _))) _)))
 
 known_task : (most n : ℕ) → Known (task most n)
 known_task most n = known_then known_word (λ at. known_then (known_name _)
-    (λ x. known_then (known_options OfTask) (λ o. known_then known_arguments
+    (λ x. known_then (known_options OfTask) (λ o. known_then known_parameters
     (λ args. known_then (known_block most most 1 0) (λ b. known_gives _)))))
 
 known_application : (most : ℕ) → Known (application most)

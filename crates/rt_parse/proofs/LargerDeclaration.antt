@@ -10,7 +10,7 @@ use Rattle.rt_grammar.specs.Tokens.{word, limited_word, name}
 use Rattle.rt_grammar.specs.Limits.{at_most}
 use Rattle.rt_grammar.specs.Resources.{interrupts, monotonic, shared_resources, locals}
 use Rattle.rt_grammar.specs.Options.{Owner, OfInit, OfIdle, OfTask, options}
-use Rattle.rt_grammar.specs.Bodies.{arguments, body_of, thread_body, task}
+use Rattle.rt_grammar.specs.Bodies.{parameters, body_of, thread_body, task}
 use Rattle.rt_grammar.specs.Declaration.{head, application}
 use Rattle.rt_parse.proofs.Larger.{Grows, grows_behind, grows_before, grows_then, grows_or_else, grows_repeat}
 use Rattle.rt_parse.proofs.Larger.{grows_adds}
@@ -28,7 +28,7 @@ larger_task m n most before =
     grows_behind (limited_word (codes "task") (at_most TASKS limit.Tasks before)) (λ at.
     grows_behind name (λ x.
     grows_behind (options OfTask) (λ o.
-    grows_behind arguments (λ args.
+    grows_behind parameters (λ args.
     grows_before (λ b. gives (record {
       name = x;
       binds = o.binds;

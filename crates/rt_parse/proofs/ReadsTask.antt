@@ -14,7 +14,7 @@ use Rattle.rt_grammar.specs.Limits.{nesting_limit, at_most}
 use Rattle.rt_grammar.specs.Simple.{Counted}
 use Rattle.rt_grammar.specs.Statement.{block, inside}
 use Rattle.rt_grammar.specs.Options.{Options, Owner, OfTask, options}
-use Rattle.rt_grammar.specs.Bodies.{body_of, thread_body, argument, arguments, task}
+use Rattle.rt_grammar.specs.Bodies.{body_of, thread_body, parameter, parameters, task}
 use Rattle.rt_parse.specs.Inside.ReadingBodies.{thread_at, thread_body_at, argument_at, parameters_at}
 use Rattle.rt_parse.specs.Inside.ReadingBodies.{task_arguments_at, task_at, body_block_at}
 use Rattle.rt_parse.proofs.Exact.{IsInhabited, Avoids, Starts, nothing}
@@ -49,7 +49,7 @@ body_form most le = record {
       body_some most most 1 0 (omega arith);
 }
 
--- what is behind options or arguments begins with the sign of a block
+-- what is behind options or parameters begins with the sign of a block
 behind_block : {A B : Type 0} (goes : Token → Bool) → ((t : Token) → is_this_sign (codes "{") t ≡ true → goes t ≡ false)
     → (most : ℕ) (M : Counted Block → Language A) (K : A → Language B) → Avoids goes (block most most 1 0 >>= M >>= K)
 behind_block goes apart most M K = avoids_apart (is_this_sign (codes "{")) goes apart
@@ -81,7 +81,7 @@ thread_body_form most le owner text = form_optional (is_this_word text) None (th
     (λ n. omega arith) (form_goes {goes = nothing} (λ x t e. absurd cc) (thread_form most le owner text))
 
 argument_form : {B : Type 0} {before : Token → Bool} (xs : List Ident)
-    → Form B before nothing nothing suc (λ x. x) (argument xs) (argument_at xs)
+    → Form B before nothing nothing suc (λ x. x) (parameter xs) (argument_at xs)
 unfolding argument_at
 argument_form xs = form_fewer (λ n. omega arith)
     (form_then _ form_sign (λ at. form_map (λ x. xs ++ x ∷ []) (λ x. xs ++ x ∷ [])
@@ -91,7 +91,7 @@ abbrev more_arguments : List Ident → Token → Bool
 more_arguments xs t = is_this_word (codes "with") t || is_this_sign (codes ",") t
 
 parameters_of : Language (List Ident)
-parameters_of = word (codes "with") >>= λ at. name >>= λ x. repeat argument (x ∷ [])
+parameters_of = word (codes "with") >>= λ at. name >>= λ x. repeat parameter (x ∷ [])
 
 parameters_starts : Starts (is_this_word (codes "with")) parameters_of
 unfolding parameters_of
@@ -106,10 +106,11 @@ parameters_form = form_fewer (λ n. omega arith)
       reads = reads_repeat (is_this_sign (codes ",")) argument_at
           (λ xs. starts_then _ (starts_sign (codes ",") free)) (λ xs. (argument_form xs).reads) (x ∷ []);
       some =
-          some_repeat argument (x ∷ []);
+          some_repeat parameter (x ∷ []);
     })))
 
-arguments_form : {B : Type 0} {before : Token → Bool} → Form B before more_arguments nothing (λ n. n) (λ x. x) arguments
+arguments_form : {B : Type 0} {before : Token → Bool}
+    → Form B before more_arguments nothing (λ n. n) (λ x. x) parameters
     task_arguments_at
 unfolding task_arguments_at parameters_of
 arguments_form = form_optional (is_this_word (codes "with")) [] parameters_starts
@@ -121,12 +122,12 @@ block_no_argument : (xs : List Ident) (t : Token) → is_this_sign (codes "{") t
 block_no_argument xs t e = or_neither (is_this_word (codes "with") t) (is_this_sign (codes ",") t)
     (sign_no_word (codes "{") (codes "with") t e) (signs_apart (codes "{") (codes ",") refl t e)
 
--- behind options come arguments or the block
+-- behind options come parameters or the block
 arguments_apart : {A B : Type 0} (most : ℕ) (M : List Ident → Counted Block → Language A) (K : A → Language B)
-    → Avoids (is_this_sign (codes "(")) (arguments >>= (λ args. block most most 1 0 >>= M args) >>= K)
+    → Avoids (is_this_sign (codes "(")) (parameters >>= (λ args. block most most 1 0 >>= M args) >>= K)
 unfolding parameters_of
 arguments_apart most M K = avoids_within (is_this_sign (codes "("))
-    (then_then' arguments (λ args. block most most 1 0 >>= M args) K)
+    (then_then' parameters (λ args. block most most 1 0 >>= M args) K)
     (avoids_or_then (is_this_sign (codes "(")) (gives []) parameters_of (λ args. block most most 1 0 >>= M args >>= K)
     (avoids_gives_then (is_this_sign (codes "(")) [] (λ args. block most most 1 0 >>= M args >>= K)
     (behind_block (is_this_sign (codes "(")) (signs_apart (codes "{") (codes "(") refl) most (M []) K))
@@ -144,7 +145,7 @@ task_is x o args b = record {
 }
 
 pub task_starts : (most n : ℕ) → Starts (is_this_word (codes "task")) (task most n)
-task_starts most n = starts_then (λ at. name >>= λ x. options OfTask >>= λ o. arguments >>= λ args. block most most 1 0
+task_starts most n = starts_then (λ at. name >>= λ x. options OfTask >>= λ o. parameters >>= λ args. block most most 1 0
     >>= λ b. gives (task_is x o args b)) (starts_word (codes "task") (at_most TASKS limit.Tasks n))
 
 pub task_form : {B : Type 0} {before : Token → Bool} (most : ℕ) → suc PARENTHESES ≤ most → (n : ℕ)

@@ -4,7 +4,7 @@ use Rattle.rt_ids.specs.declared.limits.TheConstants.{PARENTHESES}
 use Rattle.rt_grammar.specs.Tokens.{free}
 use Rattle.rt_grammar.specs.Resources.{interrupts, monotonic, shared_resources, locals}
 use Rattle.rt_grammar.specs.Options.{Owner, OfInit, OfIdle, OfTask, options}
-use Rattle.rt_grammar.specs.Bodies.{arguments, thread_body, task}
+use Rattle.rt_grammar.specs.Bodies.{parameters, thread_body, task}
 use Rattle.rt_grammar.specs.Declaration.{head, application}
 use Rattle.rt_parse.proofs.Exact.{IsInhabited}
 use Rattle.rt_parse.proofs.ExactStarts.{some_gives, some_left}
@@ -23,8 +23,8 @@ interrupts_some = (interrupts_form {B = ℕ} {before = λ t. false}).some
 shrinks_options : (owner : Owner) → Shrinks (options owner) (options owner)
 shrinks_options owner = shrinks_same (some_left (some_gives _))
 
-shrinks_arguments : Shrinks arguments arguments
-shrinks_arguments = shrinks_same (some_left (some_gives []))
+shrinks_parameters : Shrinks parameters parameters
+shrinks_parameters = shrinks_same (some_left (some_gives []))
 
 module _ (most most' : ℕ) (enough : suc PARENTHESES ≤ most') where
   shrinks_thread_body : (owner : Owner) (first : List ℕ) → Shrinks (thread_body most owner first)
@@ -35,7 +35,7 @@ module _ (most most' : ℕ) (enough : suc PARENTHESES ≤ most') where
 
   shrinks_task : (n : ℕ) → Shrinks (task most n) (task most' n)
   shrinks_task n = shrinks_then shrinks_word (λ at. shrinks_then (shrinks_name free)
-      (λ x. shrinks_then (shrinks_options OfTask) (λ o. shrinks_then shrinks_arguments
+      (λ x. shrinks_then (shrinks_options OfTask) (λ o. shrinks_then shrinks_parameters
       (λ args. shrinks_then (shrinks_block most most' enough) (λ b. shrinks_gives _)))))
 
   pub shrinks_application : Shrinks (application most) (application most')

@@ -21,7 +21,7 @@ use Rattle.rt_grammar.specs.Tokens.{free, name, limited_name, sign, word, limite
 use Rattle.rt_grammar.specs.Statement.{block}
 use Rattle.rt_grammar.specs.Limits.{at_most}
 use Rattle.rt_grammar.specs.Options.{Options, Owner, OfInit, OfIdle, OfTask, is_init, options}
-use Rattle.rt_grammar.specs.Bodies.{or_empty, body_of, thread_body, argument, arguments, task}
+use Rattle.rt_grammar.specs.Bodies.{or_empty, body_of, thread_body, parameter, parameters, task}
 use Rattle.rt_print.proofs.Reading.{Reads, Any, read_gives, read_then, read_left, read_right, read_none, read_step}
 use Rattle.rt_print.proofs.Reading.{read_space, read_trail, read_same}
 use Rattle.rt_print.proofs.Lexemes.{IsFront, Stops, IsNamed, read_name, read_word, read_sign}
@@ -104,17 +104,17 @@ stops_further (x ∷ xs) Y h = refl
 
 arguments_from : (xs done goal : List Ident) (Y : List ℕ) → ArePrintableNames xs → length (map bare_name done)
     + length xs ≤ 4 → map bare_name done ++ map bare_name xs ≡ goal → Stops Y
-    → Reads (repeat argument done) (λ all. map bare_name all ≡ goal) (further name_text xs ++ Y) Y
-arguments_from [] done goal Y h few e stop = read_none argument _ done Y (sym (append-nil (map bare_name done)) ∙ e)
+    → Reads (repeat parameter done) (λ all. map bare_name all ≡ goal) (further name_text xs ++ Y) Y
+arguments_from [] done goal Y h few e stop = read_none parameter _ done Y (sym (append-nil (map bare_name done)) ∙ e)
 arguments_from (x ∷ xs) done goal Y h few e stop =
     let P : List Ident → Type 0 = λ all. map bare_name all ≡ map bare_name done ++ bare_name x ∷ [] in
     let Q : List Ident → Type 0 = λ all. map bare_name all ≡ goal in
     let F = further name_text xs ++ Y in
     let N = x.name ++ F in
     let fits : length done < 4 = omega (arith, few, length-map done bare_name) in
-    read_same (repeat argument done) Q (44 ∷ 32 ∷ N) (further name_text (x ∷ xs) ++ Y) Y
+    read_same (repeat parameter done) Q (44 ∷ 32 ∷ N) (further name_text (x ∷ xs) ++ Y) Y
     (ap (λ (t : List ℕ). 44 ∷ 32 ∷ t) (append_assoc x.name (further name_text xs) Y))
-    (read_step argument P Q done (44 ∷ 32 ∷ N) F Y
+    (read_step parameter P Q done (44 ∷ 32 ∷ N) F Y
     (read_then (sign (codes ",")) _ Any P (44 ∷ 32 ∷ N) (32 ∷ N) F (read_sign (codes ",") free (32 ∷ N) refl refl)
     (λ c u.
     read_space _ P N F
@@ -133,13 +133,13 @@ arguments_from (x ∷ xs) done goal Y h few e stop =
     (map bare_name xs) ∙ e) stop))
 
 arguments_read : (xs : List Ident) (Y : List ℕ) → ArePrintableNames xs → length xs ≤ 4 → Stops Y
-    → Reads arguments (AreNames xs) (arguments_text xs ++ Y) Y
+    → Reads parameters (AreNames xs) (arguments_text xs ++ Y) Y
 arguments_read [] Y h few stop = read_left (gives []) _ (AreNames []) Y Y (read_gives (AreNames []) [] Y refl)
 arguments_read (x ∷ xs) Y h few stop =
     let P = AreNames (x ∷ xs) in
     let F = further name_text xs ++ Y in
     let N = x.name ++ F in
-    read_same arguments P (codes " with " ++ N) (arguments_text (x ∷ xs) ++ Y) Y
+    read_same parameters P (codes " with " ++ N) (arguments_text (x ∷ xs) ++ Y) Y
     (ap (λ (t : List ℕ). codes " with " ++ t) (append_assoc x.name (further name_text xs) Y))
     (read_right (gives []) _ P (codes " with " ++ N) Y
     (read_space _ P (codes "with " ++ N) Y
@@ -196,7 +196,7 @@ task_reads t before Y h few =
     read_then (options OfTask) _ A P O G Y
     (options_reads OfTask A (task_options t) G (binds_left t.binds t.priority t.capacity t.body.shared t.body.local _ G
     (task_options_of t h) none_read)) (λ o a.
-    read_then arguments _ (AreNames t.args) P G (32 ∷ B) Y (arguments_read t.args (32 ∷ B) h.args h.few_args refl)
+    read_then parameters _ (AreNames t.args) P G (32 ∷ B) Y (arguments_read t.args (32 ∷ B) h.args h.few_args refl)
     (λ xs e.
     read_space _ P B Y
     (read_then (block 16 16 1 0) _ (IsBlock t.body.block 0) P B Y Y (whole_block_reads t.body.block Y h.body.block)
