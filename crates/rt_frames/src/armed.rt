@@ -7,8 +7,8 @@ ghost use Rattle.rt_frames.specs.Inside.Flags.{flags_with, HasFlags, delayed_tar
 use crate::flags::{self, Flags, NUMBERS};
 use rt_app::{App, Body, Spawn, Stmt, Task, Value};
 
-/// Messages that may be armed at most: of as many tasks as a byte can tell, each of the greatest capacity.
-pub(crate) const MOST_ARMED: u32 = 65_280;
+/// Messages that may be armed at most: the greatest capacity, which is a byte, of a task for each number of a byte.
+pub(crate) const MOST_ARMED: u32 = NUMBERS as u32 * u8::MAX as u32;
 
 /// Flags the task of a spawn, where it is one after a delay.
 fn flag_spawn(armed: &mut Flags, spawn: &Spawn)

@@ -1,10 +1,10 @@
 ghost use Rattle.std.specs.Prelude.{◌≡◌, ◌∷◌, [], count_by, false};
 ghost use Rattle.rt_frames.specs.Inside.Flags.{flags_with, HasFlags};
 
-/// Numbers that a byte can tell.
+/// How many numbers a byte can hold.
 pub(crate) const NUMBERS: usize = 256;
 
-/// A flag for each number that a byte can tell.
+/// A flag for each number that a byte can hold.
 pub(crate) type Flags = [bool; NUMBERS];
 
 /// No flags.

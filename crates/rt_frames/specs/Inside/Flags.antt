@@ -1,4 +1,4 @@
--- Tables of flags, one for each number that a byte can tell.
+-- Tables of flags, one for each number that a byte can hold.
 use Rattle.std.specs.Prelude.{◌≡◌, ℕ, Bool, true, false, nat_lt, List, [], ◌∷◌, map, filter, length, get_or}
 use Rattle.std.specs.Prelude.{slice_set, Option, Some, None, if◌then◌else◌}
 use Rattle.rt_app.specs.declared.app.Mono.{Mono}
