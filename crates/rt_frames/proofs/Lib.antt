@@ -10,4 +10,4 @@ pub mod Tables
 pub mod Sections
 pub mod Within
 pub mod Listed
-pub mod Quiet
+pub mod NoPend

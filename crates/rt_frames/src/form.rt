@@ -11,66 +11,66 @@ use rt_app::costs::BRIEF_INIT_COST;
 use rt_app::{App, Body, Stmt, Task};
 use rt_ids::BodyId;
 
-/// Whether no `pend` stands in a statement.
+/// Whether a statement holds no `pend`.
 #[cycle(block)]
-fn is_statement_quiet(stmt: &Stmt) -> bool
+fn statement_holds_no_pend(stmt: &Stmt) -> bool
     ensures { result ≡ forms.statement_holds_no_pend (statement_of stmt.now) }
 {
     match stmt {
         Stmt::Bind(_variable, _value) => true,
         Stmt::Assign(_atom, _expr, _at) => true,
-        Stmt::Branch(_condition, first, second) => is_block_quiet(first) && is_block_quiet(second),
-        Stmt::Repeat(_variable, _first, _last, turn) => is_block_quiet(turn),
-        Stmt::Locked(_resource, inner, _at) => is_block_quiet(inner),
+        Stmt::Branch(_condition, first, second) => holds_no_pend(first) && holds_no_pend(second),
+        Stmt::Repeat(_variable, _first, _last, turn) => holds_no_pend(turn),
+        Stmt::Locked(_resource, inner, _at) => holds_no_pend(inner),
         Stmt::Emit(_expr) => true,
         Stmt::Pend(_irq) => false,
         Stmt::Call(_spawn) => true,
     }
 }
 
-/// Whether no `pend` stands in statements.
+/// Whether statements hold no `pend`.
 #[cycle(block)]
-fn is_block_quiet(stmts: &[Stmt]) -> bool
+fn holds_no_pend(stmts: &[Stmt]) -> bool
     ensures { result ≡ forms.holds_no_pend (block_of stmts.now) }
 {
     for stmt in stmts {
-        if !is_statement_quiet(stmt) {
+        if !statement_holds_no_pend(stmt) {
             return false;
         }
     }
     true
 }
 
-/// Whether no `pend` stands in `init` or `idle`, where it is declared.
-fn is_thread_quiet(body: &Option<Body>) -> bool
+/// Whether `init` or `idle` holds no `pend`, where it is declared.
+fn body_holds_no_pend(body: &Option<Body>) -> bool
     ensures { result ≡ forms.body_holds_no_pend (option_map body_of body.now) }
 {
     match body {
         None => true,
-        Some(body) => is_block_quiet(&body.block),
+        Some(body) => holds_no_pend(&body.block),
     }
 }
 
-/// Whether no `pend` stands in tasks.
-fn are_tasks_quiet(tasks: &[Task]) -> bool
+/// Whether tasks hold no `pend`.
+fn tasks_hold_no_pend(tasks: &[Task]) -> bool
     ensures { result ≡ list_all (λ t. forms.holds_no_pend (task_of t).body.block) tasks.now }
 {
-    tasks.iter().all(|task| is_block_quiet(&task.body.block))
+    tasks.iter().all(|task| holds_no_pend(&task.body.block))
 }
 
-/// Whether no `pend` stands in `init` and `idle`.
-fn are_threads_quiet(app: &App) -> bool
+/// Whether neither `init` nor `idle` holds a `pend`.
+fn threads_hold_no_pend(app: &App) -> bool
     ensures { let all = app_of app.now in
         result ≡ (forms.body_holds_no_pend all.init && forms.body_holds_no_pend all.idle) }
 {
-    is_thread_quiet(&app.init) && is_thread_quiet(&app.idle)
+    body_holds_no_pend(&app.init) && body_holds_no_pend(&app.idle)
 }
 
-/// Whether no `pend` stands in any body.
-fn are_bodies_quiet(app: &App) -> bool
+/// Whether no body holds a `pend`.
+fn bodies_hold_no_pend(app: &App) -> bool
     ensures { result ≡ list_all (λ m. forms.holds_no_pend m.body.block) (members (app_of app.now)) }
 {
-    are_threads_quiet(app) && are_tasks_quiet(&app.tasks)
+    threads_hold_no_pend(app) && tasks_hold_no_pend(&app.tasks)
 }
 
 /// Whether each task binds an interrupt.
@@ -88,11 +88,11 @@ fn has_hardware_alone(app: &App) -> bool
 }
 
 /// Whether an application has hardware tasks alone, no monotonic, and no `pend` in any of its bodies: the form that
-/// response times are told for.
+/// response times are given for.
 pub fn has_response_times(app: &App) -> bool
     ensures { result ≡ forms.has_response_times (app_of app.now) }
 {
-    has_hardware_alone(app) && are_bodies_quiet(app)
+    has_hardware_alone(app) && bodies_hold_no_pend(app)
 }
 
 /// Whether an `init` holds no `pend` and costs few core steps.
@@ -100,7 +100,7 @@ fn has_brief_init(app: &App) -> bool
     ensures { let all = app_of app.now in
         result ≡ (forms.body_holds_no_pend all.init && forms.is_brief all) }
 {
-    is_thread_quiet(&app.init) && body_cost(app, BodyId::Init) <= BRIEF_INIT_COST
+    body_holds_no_pend(&app.init) && body_cost(app, BodyId::Init) <= BRIEF_INIT_COST
 }
 
 /// Whether an application has hardware tasks alone, no monotonic, and an `init` without a `pend` that costs few core

@@ -62,8 +62,8 @@ fn timer_at(ceilings: &Ceilings) -> u8
     ceilings.timer.unwrap_or(0)
 }
 
-/// The level of a task, and 0 where there is none.
-fn level_of(app: &App, task: TaskId) -> u8
+/// The priority of a task, and 0 where there is none.
+fn task_priority(app: &App, task: TaskId) -> u8
     ensures { result ≡ task_priority (app_of app.now) task }
 {
     match app.task(task) {
@@ -100,7 +100,7 @@ fn spawn_wait(app: &App, ceilings: &Ceilings, measure: &Measure, priority: u8, s
     match spawn {
         Spawn::Soon(task, _args, _at) => {
             let free = free_at(ceilings, usize::from(task.0));
-            let ready = ready_at(ceilings, level_of(app, *task));
+            let ready = ready_at(ceilings, task_priority(app, *task));
             if_reaches(priority, free, FREE_COST).max(if_reaches(priority, ready, READY_COST))
         }
         Spawn::After(_word, _delay, task, _args, _at) => {

@@ -4,7 +4,7 @@ use Rattle.std.specs.List.{list_all}
 use Rattle.rt_app.specs.View.{task_of, app_of}
 use Rattle.rt_app.specs.Level.{is_software}
 use Rattle.rt_app.specs.Forms.{has_no_software}
-use Rattle.rt_frames.proofs.Quiet.{none_software, both_say, first_says, none_is}
+use Rattle.rt_frames.proofs.NoPend.{none_software, both_say, first_says, none_is}
 use Rattle.rt_frames.proofs.form.has_hardware_alone.Goals as goal
 
 pub returns-then-bind_all : goal.returns-then-bind_all
