@@ -4,7 +4,6 @@ ghost use Rattle.rt_report.specs.Report.{line};
 use rt_ids::{NoMemory, push_bytes, push_number};
 
 /// Appends a line of a word, a name and a number.
-#[tactic(auto, unfolding(crate::specs::Report::line))]
 pub(crate) fn push_line(
     out: &mut Vec<u8>,
     word: &[u8],
@@ -13,12 +12,7 @@ pub(crate) fn push_line(
 ) -> Result<(), NoMemory>
     ensures { OnOk result (out.new.items ≡ out.old.items ++ line word.now name.now number) }
 {
-    push_bytes(out, word)?;
-    push_bytes(out, b" ")?;
-    push_bytes(out, name)?;
-    push_bytes(out, b" ")?;
-    push_number(out, number)?;
-    push_bytes(out, b"\n")
+    push_dotted(out, word, b"", name, number)
 }
 
 /// Appends a line of a word, a prefix with a name, and a number.
