@@ -8,22 +8,21 @@ ghost use Rattle.rt_grammar.specs.Bodies.{or_empty};
 ghost use Rattle.rt_parse.specs.Inside.Reading.{Gives, begins_with, repeat_at};
 ghost use Rattle.rt_parse.specs.Inside.ReadingList.{items_at, adds_at};
 ghost use Rattle.rt_parse.specs.Inside.ReadingOptions.{binds_at, priority_at, capacity_at, shared_list_at};
-ghost use Rattle.rt_parse.specs.Inside.ReadingOptions.{local_list_at, takes, option_at, some_options_at, options_at};
-ghost use Rattle.rt_parse.specs.Inside.ReadingBodies.{thread_at, thread_body_at, one_argument_at, argument_at};
-ghost use Rattle.rt_parse.specs.Inside.ReadingBodies.{parameters_at, task_arguments_at, task_is, task_block_at};
-ghost use Rattle.rt_parse.specs.Inside.ReadingBodies.{task_at};
+ghost use Rattle.rt_parse.specs.Inside.ReadingOptions.{local_list_at, takes, option_at, options_at};
+ghost use Rattle.rt_parse.specs.Inside.ReadingBodies.{thread_body_at, one_argument_at, argument_at, task_arguments_at};
+ghost use Rattle.rt_parse.specs.Inside.ReadingBodies.{task_is, task_block_at, task_at};
 ghost use Rattle.rt_parse.specs.Inside.ReadingDeclaration.{app_is, bodies_at, declarations_at, application_at, text_at};
-ghost use Rattle.rt_parse.specs.Inside.DeclarationView.{declared_view, opening_view, options_view, owner_view};
+ghost use Rattle.rt_parse.specs.Inside.DeclarationView.{declared_view, head_view, options_view, owner_view};
 ghost use Rattle.rt_parse.specs.Inside.DeclarationView.{items_of};
 
 use crate::declaration::{
-    Opening, heading, interrupts, locals, monotonic, names, shared_resources,
+    Head, first_declaration, interrupts, locals, monotonic, names, shared_resources,
 };
 use crate::list::{comma, goes_past, list};
 use crate::statement::block;
 use crate::stop::Stop;
 use crate::tokens::{
-    begins_sign, begins_word, fault_found, limit_if, limited_name, limited_word, name, number,
+    at_most, begins_sign, begins_word, fault_found, limited_name, limited_word, name, number,
     number_within, sign, word,
 };
 use rt_ast::{
@@ -160,33 +159,33 @@ fn local_list<'a>(
 }
 
 impl BodyOptions {
-    fn may_bind(&self, owner: Owner) -> bool
+    fn may_have_binds(&self, owner: Owner) -> bool
         ensures { result ≡ is_task (owner_view owner) && is_none (options_view self.now).binds }
     {
         owner.is_task() && self.binds.is_none()
     }
 
-    fn may_rank(&self, owner: Owner) -> bool
+    fn may_have_priority(&self, owner: Owner) -> bool
         ensures { result ≡ is_task (owner_view owner) && is_none (options_view self.now).priority }
     {
         owner.is_task() && self.priority.is_none()
     }
 
-    fn may_hold(&self, owner: Owner) -> bool
+    fn may_have_capacity(&self, owner: Owner) -> bool
         ensures { result ≡ is_task (owner_view owner) && is_none (options_view self.now).capacity }
     {
         owner.is_task() && self.capacity.is_none()
     }
 
     #[tactic(auto, using(crate::proofs::Options::is_none_items))]
-    fn may_share(&self, owner: Owner) -> bool
+    fn may_list_shared(&self, owner: Owner) -> bool
         ensures { result ≡ not (is_init (owner_view owner)) && is_none (options_view self.now).shared }
     {
         !owner.is_init() && self.shared.is_none()
     }
 
     #[tactic(auto, using(crate::proofs::Options::is_none_items))]
-    fn may_keep(&self) -> bool
+    fn may_list_local(&self) -> bool
         ensures { result ≡ is_none (options_view self.now).local }
     {
         self.local.is_none()
@@ -214,15 +213,15 @@ fn option<'a>(
     ensures { Gives (λ x. (options_view x.0, x.1)) result
         (option_at (owner_view owner) (options_view options) tokens.entry) }
 {
-    if takes(&tokens, options.may_bind(owner), b"binds") {
+    if takes(&tokens, options.may_have_binds(owner), b"binds") {
         binds(alloc, tokens, options)
-    } else if takes(&tokens, options.may_rank(owner), b"priority") {
+    } else if takes(&tokens, options.may_have_priority(owner), b"priority") {
         priority(tokens, options)
-    } else if takes(&tokens, options.may_hold(owner), b"capacity") {
+    } else if takes(&tokens, options.may_have_capacity(owner), b"capacity") {
         capacity(tokens, options)
-    } else if takes(&tokens, options.may_share(owner), b"shared") {
+    } else if takes(&tokens, options.may_list_shared(owner), b"shared") {
         shared_list(alloc, tokens, options)
-    } else if takes(&tokens, options.may_keep(), b"local") {
+    } else if takes(&tokens, options.may_list_local(), b"local") {
         local_list(alloc, tokens, options)
     } else {
         Err(Stop::At(fault_found(&tokens)))
@@ -311,7 +310,7 @@ fn argument<'a>(
     ensures { Gives (λ x. x) result (one_argument_at before tokens.entry) }
 {
     let (_, tokens) = sign(tokens, b",")?;
-    let limit = limit_if(before >= ARGUMENTS, Limit::Arguments);
+    let limit = at_most(ARGUMENTS, Limit::Arguments, before);
     limited_name(alloc, tokens, limit)
 }
 
@@ -396,7 +395,7 @@ fn task<'a>(
 ) -> Result<(TaskTree, Tokens<'a>), Stop>
     ensures { Gives (λ x. (task_of x.0, x.1)) result (task_at before tokens.entry) }
 {
-    let limit = limit_if(before >= TASKS, Limit::Tasks);
+    let limit = at_most(TASKS, Limit::Tasks, before);
     let (_, tokens) = limited_word(tokens, b"task", limit)?;
     let (name, tokens) = name(alloc, tokens)?;
     let (options, tokens) = options(alloc, tokens, Owner::Task)?;
@@ -421,7 +420,7 @@ fn tasks<'a>(alloc: Global, tokens: Tokens<'a>) -> Result<(Vec<TaskTree>, Tokens
 /// What is declared before the bodies.
 #[derive(Drop)]
 struct Declared {
-    first: Opening,
+    first: Head,
     irqs: Vec<IrqTree>,
     mono: Option<MonoTree>,
     shared: Vec<SharedTree>,
@@ -478,9 +477,9 @@ fn bodies<'a>(
 fn declarations<'a>(
     alloc: Global,
     tokens: Tokens<'a>,
-    first: Opening,
+    first: Head,
 ) -> Result<(AppTree, Tokens<'a>), Stop>
-    ensures { Gives (λ x. (app_of x.0, x.1)) result (declarations_at (opening_view first) tokens.entry) }
+    ensures { Gives (λ x. (app_of x.0, x.1)) result (declarations_at (head_view first) tokens.entry) }
 {
     let (irqs, tokens) = interrupts(alloc, tokens)?;
     let (mono, tokens) = monotonic(alloc, tokens)?;
@@ -501,7 +500,7 @@ fn declarations<'a>(
 fn application<'a>(alloc: Global, tokens: Tokens<'a>) -> Result<(AppTree, Tokens<'a>), Stop>
     ensures { Gives (λ x. (app_of x.0, x.1)) result (application_at tokens.entry) }
 {
-    let (first, tokens) = heading(alloc, tokens)?;
+    let (first, tokens) = first_declaration(alloc, tokens)?;
     declarations(alloc, tokens, first)
 }
 

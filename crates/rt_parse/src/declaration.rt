@@ -1,51 +1,27 @@
-// The parser of declarations, bodies and the whole application.
+// The parser of declarations: the first one, interrupts, the monotonic and resources; and of a listed resource.
 
-ghost use Rattle.std.specs.Prelude.{◌≡◌, ◌-◌, ◌&&◌, [], ◌∷◌, codes, length, map, not, is_none};
-ghost use Rattle.rt_lex.specs.Token.{is_this_sign, is_this_word};
-ghost use Rattle.rt_ast.specs.View.{block_of, body_of, task_of, app_of, option_map};
-ghost use Rattle.rt_grammar.specs.Limits.{at_most};
-ghost use Rattle.rt_parse.specs.Inside.DeclarationView.{opening_view};
-ghost use Rattle.rt_parse.specs.Inside.Reading.{Gives, begins_with, repeat_at, name_at};
-ghost use Rattle.rt_parse.specs.Inside.ReadingList.{items_at, adds_at, names_at};
+ghost use Rattle.rt_parse.specs.Inside.DeclarationView.{head_view};
+ghost use Rattle.rt_parse.specs.Inside.Reading.{Gives, name_at};
+ghost use Rattle.rt_parse.specs.Inside.ReadingList.{names_at};
 ghost use Rattle.rt_parse.specs.Inside.ReadingResources.{interrupt_at, interrupts_at, clock_priority_at, clock_at};
 ghost use Rattle.rt_parse.specs.Inside.ReadingResources.{monotonic_at, first_value_at, lock_free_at};
-ghost use Rattle.rt_parse.specs.Inside.ReadingResources.{locked_resource_at};
-ghost use Rattle.rt_parse.specs.Inside.ReadingResources.{resource_at, resources_at, shared_resources_at, local_at};
-ghost use Rattle.rt_parse.specs.Inside.ReadingResources.{local_resources_at, locals_at};
-ghost use Rattle.rt_parse.specs.Inside.ReadingOptions.{binds_at, priority_at, capacity_at, ref_resource_at};
-ghost use Rattle.rt_parse.specs.Inside.ReadingOptions.{named_resource_at, listed_resource_at, shared_list_at};
-ghost use Rattle.rt_parse.specs.Inside.ReadingOptions.{local_list_at};
-ghost use Rattle.rt_parse.specs.Inside.ReadingOptions.{takes, option_at, some_options_at, options_at};
-ghost use Rattle.rt_parse.specs.Inside.ReadingBodies.{body_block_at, thread_at, thread_body_at, argument_at};
-ghost use Rattle.rt_parse.specs.Inside.ReadingBodies.{parameters_at, task_arguments_at, task_at};
+ghost use Rattle.rt_parse.specs.Inside.ReadingResources.{locked_resource_at, resource_at, shared_resources_at};
+ghost use Rattle.rt_parse.specs.Inside.ReadingResources.{local_at, locals_at};
+ghost use Rattle.rt_parse.specs.Inside.ReadingOptions.{listed_resource_at};
 ghost use Rattle.rt_parse.specs.Inside.ReadingDeclaration.{dispatchers_at, extension_at, fpu_at, behind_comma_at};
 ghost use Rattle.rt_parse.specs.Inside.ReadingDeclaration.{features_at, head_rest_at, priority_bits_at, head_at};
 
-use crate::list::{Item, comma, goes_past, list};
-use crate::statement::block;
+use crate::list::{Item, list};
 use crate::stop::Stop;
 use crate::tokens::{
-    begins_sign, begins_this_name, begins_word, fault_found, limit_if, limited_name, limited_word,
-    name, number, number_within, sign, this_name, word,
+    at_most, begins_sign, begins_this_name, begins_word, limited_name, limited_word, name, number,
+    number_within, sign, this_name, word,
 };
-use rt_ast::{
-    AppTree, BodyTree, Ident, IrqTree, ListedTree, LocalTree, MonoTree, Number, SharedTree, Stmt,
-    TaskTree,
-};
+use rt_ast::{Ident, IrqTree, ListedTree, LocalTree, MonoTree, SharedTree};
 use rt_ids::Limit;
-use rt_ids::limits::{
-    ARGUMENTS, CAPACITY, IRQ_NUMBERS, IRQS, LEAST_BITS, LOCALS, MOST_BITS, NESTING, SHARED,
-    STATEMENTS, TASKS,
-};
+use rt_ids::limits::{IRQ_NUMBERS, IRQS, LEAST_BITS, LOCALS, MOST_BITS, SHARED};
 use rt_lex::Tokens;
 use std::alloc::Global;
-
-/// The limit on a number of things, at one behind so many.
-fn at_most(most: usize, limit: Limit, before: usize) -> Option<Limit>
-    ensures { result ≡ at_most most limit before }
-{
-    limit_if(before >= most, limit)
-}
 
 impl Item for Ident {
     ghost reads = { λ _. name_at };
@@ -174,7 +150,7 @@ fn features<'a>(alloc: Global, tokens: Tokens<'a>) -> Result<((Vec<Ident>, bool)
 
 /// The first declaration.
 #[derive(Drop)]
-pub(crate) struct Opening {
+pub(crate) struct Head {
     pub(crate) name: Ident,
     pub(crate) bits: u32,
     pub(crate) fpu: bool,
@@ -187,19 +163,19 @@ fn head_rest<'a>(
     tokens: Tokens<'a>,
     name: Ident,
     bits: u32,
-) -> Result<(Opening, Tokens<'a>), Stop>
-    ensures { Gives (λ x. (opening_view x.0, x.1)) result (head_rest_at name bits tokens.entry) }
+) -> Result<(Head, Tokens<'a>), Stop>
+    ensures { Gives (λ x. (head_view x.0, x.1)) result (head_rest_at name bits tokens.entry) }
 {
     let ((dispatchers, fpu), tokens) = features(alloc, tokens)?;
     let (_, tokens) = sign(tokens, b")")?;
     let (_, tokens) = sign(tokens, b";")?;
-    let opening = Opening {
+    let head = Head {
         name,
         bits,
         fpu,
         dispatchers,
     };
-    Ok((opening, tokens))
+    Ok((head, tokens))
 }
 
 /// The first declaration from its parenthesis on.
@@ -207,8 +183,8 @@ fn priority_bits<'a>(
     alloc: Global,
     tokens: Tokens<'a>,
     name: Ident,
-) -> Result<(Opening, Tokens<'a>), Stop>
-    ensures { Gives (λ x. (opening_view x.0, x.1)) result (priority_bits_at name tokens.entry) }
+) -> Result<(Head, Tokens<'a>), Stop>
+    ensures { Gives (λ x. (head_view x.0, x.1)) result (priority_bits_at name tokens.entry) }
 {
     let (_, tokens) = sign(tokens, b"(")?;
     let (_, tokens) = word(tokens, b"bits")?;
@@ -218,8 +194,11 @@ fn priority_bits<'a>(
 }
 
 #[tactic(auto, unfolding(crate::specs::Inside::ReadingDeclaration::head_at))]
-pub(crate) fn heading<'a>(alloc: Global, tokens: Tokens<'a>) -> Result<(Opening, Tokens<'a>), Stop>
-    ensures { Gives (λ x. (opening_view x.0, x.1)) result (head_at tokens.entry) }
+pub(crate) fn first_declaration<'a>(
+    alloc: Global,
+    tokens: Tokens<'a>,
+) -> Result<(Head, Tokens<'a>), Stop>
+    ensures { Gives (λ x. (head_view x.0, x.1)) result (head_at tokens.entry) }
 {
     let (_, tokens) = word(tokens, b"app")?;
     let (name, tokens) = name(alloc, tokens)?;

@@ -1,6 +1,6 @@
 // The parser of expressions.
 
-ghost use Rattle.std.specs.Prelude.{◌≡◌, [], ◌∷◌, length, MatchOption, ◌≤◌, ◌-◌, Option, None, Some, Ok, false};
+ghost use Rattle.std.specs.Prelude.{◌≡◌, ◌≤◌, length, MatchOption, None, Some, Ok, false};
 ghost use Rattle.rt_lex.specs.Token.{view};
 ghost use Rattle.rt_ast.specs.View.{expression_of};
 ghost use Rattle.rt_grammar.specs.Expression.{op_of, comparisons, strengths};

@@ -1,20 +1,16 @@
 // The parser of statements and blocks. A reader is told how many blocks may still be opened inside each other, and how
 // many statements the body may still have; it answers how many it may have behind.
 
-ghost use Rattle.std.specs.Prelude.{◌≡◌, ◌-◌, [], codes, length, map, Ok};
-ghost use Rattle.rt_lex.specs.Token.{is_this_sign};
+ghost use Rattle.std.specs.Prelude.{◌≡◌, [], codes, length, map, Ok};
 ghost use Rattle.rt_ast.specs.Tree as tree;
 ghost use Rattle.rt_ast.specs.View.{expression_of, statement_of, spawn_of, value_of, block_of};
 ghost use Rattle.rt_parse.specs.Inside.Reading.{Gives, begins_with, repeat_at};
 ghost use Rattle.rt_parse.specs.Inside.ReadingList.{items_at, adds_at};
 ghost use Rattle.rt_parse.specs.Inside.ReadingExpression.{expression_at};
 ghost use Rattle.rt_parse.specs.Inside.ReadingSpawn.{is_spawn, arguments_at, enclosed_expression_at, delayed_task_at};
-ghost use Rattle.rt_parse.specs.Inside.ReadingSpawn.{soon_at};
-ghost use Rattle.rt_parse.specs.Inside.ReadingSpawn.{after_at, cancel_at, move_at, spawn_at, now_at, call_value_at};
-ghost use Rattle.rt_parse.specs.Inside.ReadingSpawn.{calc_at, value_at};
+ghost use Rattle.rt_parse.specs.Inside.ReadingSpawn.{soon_at, after_at, cancel_at, move_at, spawn_at, value_at};
 ghost use Rattle.rt_parse.specs.Inside.ReadingSimple.{counted_limit, bind_at, assign_at, emit_at, pend_at, call_at};
-ghost use Rattle.rt_parse.specs.Inside.ReadingNested.{nested_limit, else_block_at, else_at, branch_at, loop_at};
-ghost use Rattle.rt_parse.specs.Inside.ReadingNested.{further_at, lock_at};
+ghost use Rattle.rt_parse.specs.Inside.ReadingNested.{nested_limit, else_at, branch_at, loop_at, further_at, lock_at};
 ghost use Rattle.rt_parse.specs.Inside.ReadingStatement.{simple_at, compound_at, statement_at, one_more_at, is_inside};
 ghost use Rattle.rt_parse.specs.Inside.ReadingStatement.{braced_block_at, closed_block_at, block_at, inside_at};
 ghost use Rattle.rt_parse.specs.Inside.ReadingStatement.{below_at};

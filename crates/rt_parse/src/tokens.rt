@@ -1,17 +1,16 @@
 // One token.
 
-ghost use Rattle.std.specs.Prelude.{◌≡◌, ◌≤◌, nat_le, ◌&&◌, [], ◌∷◌};
+ghost use Rattle.std.specs.Prelude.{◌≡◌, nat_le, ◌&&◌, [], ◌∷◌};
 ghost use Rattle.rt_ids.specs.declared.limit.Limit.{Limit};
 ghost use Rattle.rt_ids.specs.declared.refusal.Refusal.TheVariants as refusal;
 ghost use Rattle.rt_parse.specs.declared.stop.Stop.TheVariants.{At};
 ghost use Rattle.rt_lex.specs.Token.{view, is_this_sign, is_this_word, is_this_name};
-ghost use Rattle.rt_grammar.specs.Tokens.{free, limit_if, word_of, sign_of, name_of, ident_of, number_of, name_limit};
-ghost use Rattle.rt_grammar.specs.Tokens.{number_limit};
-ghost use Rattle.rt_parse.specs.Inside.Reading.{Gives, Leaves, begins_with, token_at, fault_found_at, wrong_token};
+ghost use Rattle.rt_grammar.specs.Tokens.{limit_if};
+ghost use Rattle.rt_parse.specs.Inside.Reading.{Gives, Leaves, begins_with, fault_found_at, wrong_token};
 ghost use Rattle.rt_parse.specs.Inside.Reading.{limited_word_at, word_at, limited_sign_at, sign_at, limited_name_at};
 ghost use Rattle.rt_parse.specs.Inside.Reading.{name_at, this_name_at, number_at, limited_number_at, unless_limited};
 ghost use Rattle.rt_parse.specs.Inside.ReadingExpression.{is_name};
-ghost use Rattle.rt_grammar.specs.Limits.{within, turn_limit};
+ghost use Rattle.rt_grammar.specs.Limits.{within, at_most, turn_limit};
 
 use crate::stop::{Found, Stop};
 use rt_ast::{Ident, Number};
@@ -45,6 +44,13 @@ pub(crate) fn limit_if(passed: bool, limit: Limit) -> Option<Limit>
     ensures { result ≡ limit_if passed limit }
 {
     if passed { Some(limit) } else { None }
+}
+
+/// The limit on a number of things, at one after so many others.
+pub(crate) fn at_most(most: usize, limit: Limit, before: usize) -> Option<Limit>
+    ensures { result ≡ at_most most limit before }
+{
+    limit_if(before >= most, limit)
 }
 
 /// What is wrong with the next token: no text of the grammar goes on so.

@@ -2,8 +2,8 @@
 use Rattle.std.specs.Prelude.{List, Option, Some, None}
 use Rattle.std.specs.Prelude.{Vec}
 use Rattle.rt_grammar.specs.Options as grammar
-use Rattle.rt_grammar.specs.Declaration.{Head}
-use Rattle.rt_parse.specs.declared.declaration.Opening.{Opening}
+use Rattle.rt_grammar.specs.Declaration as declaration
+use Rattle.rt_parse.specs.declared.declaration.Head.{Head}
 use Rattle.rt_parse.specs.declared.body.BodyOptions.{BodyOptions}
 use Rattle.rt_parse.specs.declared.body.Declared.{Declared}
 use Rattle.rt_parse.specs.Inside.ReadingDeclaration as reading
@@ -11,13 +11,13 @@ use Rattle.rt_parse.specs.declared.body.Owner.{Owner}
 use Rattle.rt_parse.specs.declared.body.Owner.TheVariants as owner
 
 -- the first declaration
-abbrev pub opening_view : Opening → Head
-opening_view h = record { name = h.name; bits = h.bits; dispatchers = h.dispatchers.items; fpu = h.fpu }
+abbrev pub head_view : Head → declaration.Head
+head_view h = record { name = h.name; bits = h.bits; dispatchers = h.dispatchers.items; fpu = h.fpu }
 
 -- what is declared before the bodies
 abbrev pub declared_view : Declared → reading.Declared
 declared_view d = record {
-  first = opening_view d.first;
+  first = head_view d.first;
   irqs = d.irqs.items;
   mono = d.mono;
   shared = d.shared.items;
