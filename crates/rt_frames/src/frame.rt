@@ -36,7 +36,7 @@ const NOTHING: Parts = Parts {
     spawns: 0,
 };
 
-/// Of statements, one behind the other.
+/// Of statements, one after the other.
 fn both(first: Parts, second: Parts) -> Parts
     ensures { result ≡ both first second }
 {
@@ -188,7 +188,7 @@ fn expression_words(parts: &Parts) -> u32
     parts.depth.max(u32::from(parts.has_loop))
 }
 
-/// Where the parts of a body's frame begin: in front stand its variables, the arguments first.
+/// Where the parts of a body's frame begin. Its variables come first, the arguments before the others.
 #[derive(Clone, Copy)]
 pub struct Slots {
     /// The first slot where expressions are evaluated.

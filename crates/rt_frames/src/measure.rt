@@ -46,7 +46,7 @@ fn capped_cost(sum: u32) -> u32
     sum.min(BODY_COST + 1)
 }
 
-/// Of a lock, and of its section, round a block of this sum.
+/// Of a lock and its section, around a block of this sum.
 fn lock_cost(inner: u32) -> u32
     ensures { result ≡ cost.lock_cost inner }
 {
@@ -67,7 +67,7 @@ fn expression_cost(expr: &Expr) -> u32
     }
 }
 
-/// The core steps of expressions, one behind the other.
+/// The core steps of expressions, one after the other.
 fn expressions_cost(exprs: &[Expr]) -> u32
     ensures { result ≡ cost.expressions_cost (map expression_of exprs.now) }
 {
@@ -218,7 +218,7 @@ impl Measure {
         }
     }
 
-    /// Of statements, one behind the other.
+    /// Of statements, one after the other.
     #[cycle(block)]
     fn block(&self, stmts: &[Stmt]) -> u32
         ensures { result ≡ cost.block_cost self.now (block_of stmts.now) }

@@ -10,7 +10,7 @@ use rt_ids::TaskId;
 use std::marker::Model;
 
 /// The rows of the messages of an application that may be armed. Each place of a task that is named in a `spawn_after`
-/// has one, by task and place, and a message in it goes by the row's number. Contracts see the application.
+/// has one, by task and place, and the row's number stands for the message in it. Contracts see the application.
 #[derive(Drop)]
 pub struct ArmedRows<'a> {
     app: &'a App,

@@ -56,7 +56,7 @@ impl Owner {
     }
 }
 
-/// What stands between a body's parentheses, as far as it was read.
+/// The options of a body that were read so far.
 #[derive(Drop)]
 struct BodyOptions {
     binds: Option<Ident>,
@@ -66,6 +66,7 @@ struct BodyOptions {
     local: Option<Vec<Ident>>,
 }
 
+/// A body's options, before any was read.
 fn no_options() -> BodyOptions
     ensures { options_view result ≡ no_options }
 {
@@ -78,6 +79,7 @@ fn no_options() -> BodyOptions
     }
 }
 
+/// The interrupt that a task is bound to, added to the options so far.
 #[tactic(auto, unfolding(crate::specs::Inside::ReadingOptions::binds_at))]
 fn binds<'a>(
     alloc: Global,
@@ -93,6 +95,7 @@ fn binds<'a>(
     Ok((BodyOptions { binds, ..options }, tokens))
 }
 
+/// The priority of a task, added to the options so far.
 #[tactic(auto, unfolding(crate::specs::Inside::ReadingOptions::priority_at))]
 fn priority<'a>(tokens: Tokens<'a>, options: BodyOptions) -> Result<(BodyOptions, Tokens<'a>), Stop>
     ensures { Gives (λ x. (options_view x.0, x.1)) result (priority_at (options_view options) tokens.entry) }
@@ -110,6 +113,7 @@ fn priority<'a>(tokens: Tokens<'a>, options: BodyOptions) -> Result<(BodyOptions
     ))
 }
 
+/// The capacity of a task, added to the options so far.
 #[tactic(auto, unfolding(crate::specs::Inside::ReadingOptions::capacity_at))]
 fn capacity<'a>(tokens: Tokens<'a>, options: BodyOptions) -> Result<(BodyOptions, Tokens<'a>), Stop>
     ensures { Gives (λ x. (options_view x.0, x.1)) result (capacity_at (options_view options) tokens.entry) }
@@ -127,6 +131,7 @@ fn capacity<'a>(tokens: Tokens<'a>, options: BodyOptions) -> Result<(BodyOptions
     ))
 }
 
+/// The shared resources that a body lists, added to the options so far.
 #[tactic(auto, unfolding(crate::specs::Inside::ReadingOptions::shared_list_at))]
 fn shared_list<'a>(
     alloc: Global,
@@ -143,6 +148,7 @@ fn shared_list<'a>(
     Ok((BodyOptions { shared, ..options }, tokens))
 }
 
+/// The local resources that a body lists, added to the options so far.
 #[tactic(auto, unfolding(crate::specs::Inside::ReadingOptions::local_list_at))]
 fn local_list<'a>(
     alloc: Global,
@@ -159,24 +165,28 @@ fn local_list<'a>(
 }
 
 impl BodyOptions {
+    /// Whether `binds` may still come here.
     fn may_have_binds(&self, owner: Owner) -> bool
         ensures { result ≡ is_task (owner_view owner) && is_none (options_view self.now).binds }
     {
         owner.is_task() && self.binds.is_none()
     }
 
+    /// Whether `priority` may still come here.
     fn may_have_priority(&self, owner: Owner) -> bool
         ensures { result ≡ is_task (owner_view owner) && is_none (options_view self.now).priority }
     {
         owner.is_task() && self.priority.is_none()
     }
 
+    /// Whether `capacity` may still come here.
     fn may_have_capacity(&self, owner: Owner) -> bool
         ensures { result ≡ is_task (owner_view owner) && is_none (options_view self.now).capacity }
     {
         owner.is_task() && self.capacity.is_none()
     }
 
+    /// Whether `shared` may still come here.
     #[tactic(auto, using(crate::proofs::Options::is_none_items))]
     fn may_list_shared(&self, owner: Owner) -> bool
         ensures { result ≡ not (is_init (owner_view owner)) && is_none (options_view self.now).shared }
@@ -184,6 +194,7 @@ impl BodyOptions {
         !owner.is_init() && self.shared.is_none()
     }
 
+    /// Whether `local` may still come here.
     #[tactic(auto, using(crate::proofs::Options::is_none_items))]
     fn may_list_local(&self) -> bool
         ensures { result ≡ is_none (options_view self.now).local }
@@ -192,7 +203,7 @@ impl BodyOptions {
     }
 }
 
-/// Whether an option may stand here, and comes next.
+/// Whether an option may come here, and comes next.
 fn takes(tokens: &Tokens<'_>, allowed: bool, option: &[u8]) -> bool
     ensures { result ≡ begins_with (takes allowed option.now) tokens.now }
 {
@@ -202,7 +213,7 @@ fn takes(tokens: &Tokens<'_>, allowed: bool, option: &[u8]) -> bool
     }
 }
 
-/// One more option, of which each stands at most once.
+/// One more option. Each comes at most once.
 #[tactic(auto, unfolding(crate::specs::Inside::ReadingOptions::option_at))]
 fn option<'a>(
     alloc: Global,
@@ -300,7 +311,7 @@ fn thread_body<'a>(
     Ok((Some(body), tokens))
 }
 
-/// One more argument, behind so many.
+/// One more argument, after so many others.
 #[tactic(auto, unfolding(crate::specs::Inside::ReadingBodies::one_argument_at))]
 fn argument<'a>(
     alloc: Global,
@@ -314,7 +325,7 @@ fn argument<'a>(
     limited_name(alloc, tokens, limit)
 }
 
-/// The arguments behind the first one.
+/// The arguments of a task, of which the first was read.
 fn more_arguments<'a>(
     alloc: Global,
     tokens: Tokens<'a>,
@@ -347,6 +358,7 @@ fn task_arguments<'a>(alloc: Global, tokens: Tokens<'a>) -> Result<(Vec<Ident>, 
     more_arguments(alloc, tokens, first)
 }
 
+/// The tree of a task, from what was read of it.
 fn task_tree(
     alloc: Global,
     name: Ident,
@@ -372,7 +384,7 @@ fn task_tree(
     }
 }
 
-/// A task's arguments and its block, behind its options.
+/// A task's arguments and its block, after its options.
 fn task_block<'a>(
     alloc: Global,
     tokens: Tokens<'a>,
@@ -386,7 +398,7 @@ fn task_block<'a>(
     Ok((task_tree(alloc, name, options, args, block), tokens))
 }
 
-/// One more task, behind so many.
+/// One more task, after so many others.
 #[tactic(auto, unfolding(crate::specs::Inside::ReadingBodies::task_at))]
 fn task<'a>(
     alloc: Global,
@@ -459,7 +471,7 @@ fn app_tree(
     }
 }
 
-/// The bodies of an application, behind what it declares.
+/// The bodies of an application, after what it declares.
 fn bodies<'a>(
     alloc: Global,
     tokens: Tokens<'a>,
@@ -473,7 +485,7 @@ fn bodies<'a>(
     Ok((app_tree(declared, init, idle, tasks), tokens))
 }
 
-/// An application behind its first declaration.
+/// An application after its first declaration.
 fn declarations<'a>(
     alloc: Global,
     tokens: Tokens<'a>,
@@ -504,7 +516,7 @@ fn application<'a>(alloc: Global, tokens: Tokens<'a>) -> Result<(AppTree, Tokens
     declarations(alloc, tokens, first)
 }
 
-/// An application, and nothing behind it.
+/// An application, and nothing after it.
 #[tactic(auto, unfolding(crate::specs::Inside::ReadingDeclaration::text_at))]
 pub(crate) fn whole(alloc: Global, tokens: Tokens<'_>) -> Result<AppTree, Stop>
     ensures { Gives app_of result (text_at tokens.entry) }

@@ -44,6 +44,7 @@ pub(crate) fn names<'a>(alloc: Global, tokens: Tokens<'a>) -> Result<(Vec<Ident>
     list(alloc, tokens, b"]")
 }
 
+/// A declared interrupt, after so many others.
 #[tactic(auto, unfolding(crate::specs::Inside::ReadingResources::interrupt_at))]
 fn interrupt<'a>(
     alloc: Global,
@@ -72,6 +73,7 @@ impl Item for IrqTree {
     }
 }
 
+/// The declared interrupts.
 #[tactic(auto, unfolding(crate::specs::Inside::ReadingResources::interrupts_at))]
 pub(crate) fn interrupts<'a>(
     alloc: Global,
@@ -84,7 +86,7 @@ pub(crate) fn interrupts<'a>(
     list(alloc, tokens, b"}")
 }
 
-/// The dispatchers, behind their comma.
+/// The dispatchers, after their comma.
 #[tactic(auto, unfolding(crate::specs::Inside::ReadingDeclaration::dispatchers_at))]
 fn dispatchers<'a>(alloc: Global, tokens: Tokens<'a>) -> Result<(Vec<Ident>, Tokens<'a>), Stop>
     ensures { Gives (λ x. (x.0.items, x.1)) result (dispatchers_at tokens.entry) }
@@ -94,7 +96,7 @@ fn dispatchers<'a>(alloc: Global, tokens: Tokens<'a>) -> Result<(Vec<Ident>, Tok
     names(alloc, tokens)
 }
 
-/// That the core has the floating-point extension, behind its comma.
+/// That the core has the floating-point extension, after its comma.
 #[tactic(auto, unfolding(crate::specs::Inside::ReadingDeclaration::extension_at))]
 fn extension(tokens: Tokens<'_>) -> Result<(bool, Tokens<'_>), Stop>
     ensures { Gives (λ x. x) result (extension_at tokens.entry) }
@@ -105,7 +107,7 @@ fn extension(tokens: Tokens<'_>) -> Result<(bool, Tokens<'_>), Stop>
     Ok((true, tokens))
 }
 
-/// Whether the core has the floating-point extension, behind the dispatchers.
+/// Whether the core has the floating-point extension, after the dispatchers.
 #[tactic(auto, unfolding(crate::specs::Inside::ReadingDeclaration::fpu_at))]
 fn fpu(tokens: Tokens<'_>) -> Result<(bool, Tokens<'_>), Stop>
     ensures { Gives (λ x. x) result (fpu_at tokens.entry) }
@@ -117,8 +119,7 @@ fn fpu(tokens: Tokens<'_>) -> Result<(bool, Tokens<'_>), Stop>
     extension(tokens)
 }
 
-/// What stands behind the first comma, which the token there tells: the extension, or the dispatchers and perhaps the
-/// extension.
+/// What follows the first comma, by the next token: the extension, or the dispatchers and perhaps the extension.
 #[tactic(auto, unfolding(crate::specs::Inside::ReadingDeclaration::behind_comma_at))]
 fn behind_comma<'a>(
     alloc: Global,
@@ -148,7 +149,7 @@ fn features<'a>(alloc: Global, tokens: Tokens<'a>) -> Result<((Vec<Ident>, bool)
     behind_comma(alloc, tokens)
 }
 
-/// The first declaration.
+/// What the first declaration says.
 #[derive(Drop)]
 pub(crate) struct Head {
     pub(crate) name: Ident,
@@ -157,7 +158,7 @@ pub(crate) struct Head {
     pub(crate) dispatchers: Vec<Ident>,
 }
 
-/// The first declaration behind its priority bits.
+/// The first declaration after its priority bits.
 fn head_rest<'a>(
     alloc: Global,
     tokens: Tokens<'a>,
@@ -193,6 +194,7 @@ fn priority_bits<'a>(
     head_rest(alloc, tokens, name, bits.value)
 }
 
+/// The first declaration.
 #[tactic(auto, unfolding(crate::specs::Inside::ReadingDeclaration::head_at))]
 pub(crate) fn first_declaration<'a>(
     alloc: Global,
@@ -205,7 +207,7 @@ pub(crate) fn first_declaration<'a>(
     priority_bits(alloc, tokens, name)
 }
 
-/// A monotonic's priority, behind its interrupt.
+/// A monotonic's priority, after its interrupt.
 fn clock_priority<'a>(
     tokens: Tokens<'a>,
     binds: Ident,
@@ -221,6 +223,7 @@ fn clock_priority<'a>(
     Ok((Some(MonoTree { binds, priority }), tokens))
 }
 
+/// The monotonic from its word on.
 #[tactic(auto, unfolding(crate::specs::Inside::ReadingResources::clock_at))]
 fn clock<'a>(alloc: Global, tokens: Tokens<'a>) -> Result<(Option<MonoTree>, Tokens<'a>), Stop>
     ensures { Gives (λ x. x) result (clock_at tokens.entry) }
@@ -248,6 +251,7 @@ pub(crate) fn monotonic<'a>(
     }
 }
 
+/// The first value of a resource.
 #[tactic(auto, unfolding(crate::specs::Inside::ReadingResources::first_value_at))]
 fn first_value(tokens: Tokens<'_>) -> Result<(u32, Tokens<'_>), Stop>
     ensures { Gives (λ x. x) result (first_value_at tokens.entry) }
@@ -257,6 +261,7 @@ fn first_value(tokens: Tokens<'_>) -> Result<(u32, Tokens<'_>), Stop>
     Ok((number.value, tokens))
 }
 
+/// A shared resource that is `lock_free`, after so many others.
 #[tactic(auto, unfolding(crate::specs::Inside::ReadingResources::lock_free_at))]
 fn lock_free<'a>(
     alloc: Global,
@@ -280,6 +285,7 @@ fn lock_free<'a>(
     ))
 }
 
+/// A shared resource that is not `lock_free`, after so many others.
 #[tactic(auto, unfolding(crate::specs::Inside::ReadingResources::locked_resource_at))]
 fn locked_resource<'a>(
     alloc: Global,
@@ -302,7 +308,7 @@ fn locked_resource<'a>(
     ))
 }
 
-/// A shared resource, lock-free or not.
+/// A shared resource, `lock_free` or not, after so many others.
 #[tactic(auto, unfolding(crate::specs::Inside::ReadingResources::resource_at))]
 fn resource<'a>(
     alloc: Global,
@@ -330,6 +336,7 @@ impl Item for SharedTree {
     }
 }
 
+/// The shared resources, where any are declared.
 #[tactic(auto, unfolding(crate::specs::Inside::ReadingResources::shared_resources_at, crate::specs::Inside::ReadingResources::resources_at))]
 pub(crate) fn shared_resources<'a>(
     alloc: Global,
@@ -345,6 +352,7 @@ pub(crate) fn shared_resources<'a>(
     list(alloc, tokens, b"}")
 }
 
+/// A local resource, after so many others.
 #[tactic(auto, unfolding(crate::specs::Inside::ReadingResources::local_at))]
 fn local<'a>(
     alloc: Global,
@@ -371,6 +379,7 @@ impl Item for LocalTree {
     }
 }
 
+/// The local resources, where any are declared.
 #[tactic(auto, unfolding(crate::specs::Inside::ReadingResources::locals_at, crate::specs::Inside::ReadingResources::local_resources_at))]
 pub(crate) fn locals<'a>(
     alloc: Global,

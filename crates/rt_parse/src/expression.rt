@@ -349,7 +349,7 @@ fn comparison(alloc: Global, tokens: &mut Tokens<'_>, more: u32) -> Result<Measu
     }
 }
 
-/// An expression that stands in no other.
+/// An expression that is part of no other.
 #[tactic(auto, unfolding(crate::specs::Inside::ReadingExpression::expression_at))]
 pub(crate) fn expression<'a>(alloc: Global, tokens: Tokens<'a>) -> Result<(Expr, Tokens<'a>), Stop>
     ensures { Gives (λ x. (expression_of x.0, x.1)) result (expression_at tokens.entry) }

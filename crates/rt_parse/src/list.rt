@@ -9,12 +9,12 @@ use crate::tokens::{begins_sign, sign};
 use rt_lex::Tokens;
 use std::alloc::Global;
 
-/// What stands in a list.
+/// An item of a list.
 pub(crate) trait Item: Sized {
-    /// How it is read behind so many.
+    /// How it is read after so many others.
     ghost reads: { ℕ → Reader Self };
 
-    /// Reads one, behind so many.
+    /// Reads one, after so many others.
     fn read<'a>(
         alloc: Global,
         tokens: Tokens<'a>,

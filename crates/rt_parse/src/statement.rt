@@ -1,5 +1,5 @@
-// The parser of statements and blocks. A reader is told how many blocks may still be opened inside each other, and how
-// many statements the body may still have; it answers how many it may have behind.
+// The parser of statements and blocks. `left` is how many blocks may still be opened inside each other, and `room` how
+// many statements the body may still have. A function also gives how many the body may have after what it read.
 
 ghost use Rattle.std.specs.Prelude.{◌≡◌, [], codes, length, map, Ok};
 ghost use Rattle.rt_ast.specs.Tree as tree;
@@ -57,6 +57,7 @@ fn expressions<'a>(alloc: Global, tokens: Tokens<'a>) -> Result<(Vec<Expr>, Toke
     Ok((items, rest))
 }
 
+/// The arguments of a message, in parentheses.
 #[tactic(auto, unfolding(crate::specs::Inside::ReadingSpawn::arguments_at))]
 fn arguments<'a>(alloc: Global, tokens: Tokens<'a>) -> Result<(Vec<Expr>, Tokens<'a>), Stop>
     ensures { Gives (λ x. (map expression_of x.0.items, x.1)) result (arguments_at tokens.entry) }
@@ -76,7 +77,7 @@ fn enclosed_expression<'a>(alloc: Global, tokens: Tokens<'a>) -> Result<(Expr, T
     Ok((expr, tokens))
 }
 
-/// A delay, and the task behind it.
+/// A delay, and the task after it.
 #[tactic(auto, unfolding(crate::specs::Inside::ReadingSpawn::delayed_task_at))]
 fn delayed_task<'a>(alloc: Global, tokens: Tokens<'a>) -> Result<((Expr, Ident), Tokens<'a>), Stop>
     ensures { Gives (λ x. ((expression_of x.0.0, x.0.1), x.1)) result (delayed_task_at tokens.entry) }
@@ -86,6 +87,7 @@ fn delayed_task<'a>(alloc: Global, tokens: Tokens<'a>) -> Result<((Expr, Ident),
     Ok(((delay, task), tokens))
 }
 
+/// A `spawn`, whose first word may pass a limit.
 #[tactic(auto, unfolding(crate::specs::Inside::ReadingSpawn::soon_at))]
 fn soon<'a>(
     alloc: Global,
@@ -100,6 +102,7 @@ fn soon<'a>(
     Ok((Spawn::Soon(task, args), tokens))
 }
 
+/// A `spawn_after`, whose first word may pass a limit.
 #[tactic(auto, unfolding(crate::specs::Inside::ReadingSpawn::after_at))]
 fn after<'a>(
     alloc: Global,
@@ -114,6 +117,7 @@ fn after<'a>(
     Ok((Spawn::After(at, delay, task, args), tokens))
 }
 
+/// A `cancel`, whose first word may pass a limit.
 #[tactic(auto, unfolding(crate::specs::Inside::ReadingSpawn::cancel_at))]
 fn cancel<'a>(
     alloc: Global,
@@ -128,6 +132,7 @@ fn cancel<'a>(
     Ok((Spawn::Cancel(at, task, handle), tokens))
 }
 
+/// A `reschedule_after`, whose first word may pass a limit.
 #[tactic(auto, unfolding(crate::specs::Inside::ReadingSpawn::move_at))]
 fn reschedule<'a>(
     alloc: Global,
@@ -195,6 +200,7 @@ fn value<'a>(alloc: Global, tokens: Tokens<'a>) -> Result<(Value, Tokens<'a>), S
     }
 }
 
+/// A `let`.
 #[tactic(auto, unfolding(crate::specs::Inside::ReadingSimple::bind_at))]
 fn bind<'a>(alloc: Global, tokens: Tokens<'a>, room: u32) -> Result<((Stmt, u32), Tokens<'a>), Stop>
     ensures { Gives (λ x. ((statement_of x.0.0, x.0.1), x.1)) result (bind_at room tokens.entry) }
@@ -210,6 +216,7 @@ fn bind<'a>(alloc: Global, tokens: Tokens<'a>, room: u32) -> Result<((Stmt, u32)
     ))
 }
 
+/// An assignment.
 #[tactic(auto, unfolding(crate::specs::Inside::ReadingSimple::assign_at))]
 fn assign<'a>(
     alloc: Global,
@@ -225,6 +232,7 @@ fn assign<'a>(
     Ok(((Stmt::Assign(target, expr), room.saturating_sub(1)), tokens))
 }
 
+/// An `emit`.
 #[tactic(auto, unfolding(crate::specs::Inside::ReadingSimple::emit_at))]
 fn emit<'a>(alloc: Global, tokens: Tokens<'a>, room: u32) -> Result<((Stmt, u32), Tokens<'a>), Stop>
     ensures { Gives (λ x. ((statement_of x.0.0, x.0.1), x.1)) result (emit_at room tokens.entry) }
@@ -235,6 +243,7 @@ fn emit<'a>(alloc: Global, tokens: Tokens<'a>, room: u32) -> Result<((Stmt, u32)
     Ok(((Stmt::Emit(expr), room.saturating_sub(1)), tokens))
 }
 
+/// A `pend`.
 #[tactic(auto, unfolding(crate::specs::Inside::ReadingSimple::pend_at))]
 fn pend<'a>(alloc: Global, tokens: Tokens<'a>, room: u32) -> Result<((Stmt, u32), Tokens<'a>), Stop>
     ensures { Gives (λ x. ((statement_of x.0.0, x.0.1), x.1)) result (pend_at room tokens.entry) }
@@ -255,6 +264,7 @@ fn call<'a>(alloc: Global, tokens: Tokens<'a>, room: u32) -> Result<((Stmt, u32)
     Ok(((Stmt::Call(spawn), room.saturating_sub(1)), tokens))
 }
 
+/// The second block of an `if`, which is empty without an `else`.
 #[cycle(statement)]
 #[tactic(auto, unfolding(crate::specs::Inside::ReadingNested::else_at, crate::specs::Inside::ReadingNested::else_block_at))]
 fn else_block<'a>(
@@ -273,6 +283,7 @@ fn else_block<'a>(
     }
 }
 
+/// An `if`.
 #[cycle(statement)]
 #[tactic(auto, unfolding(crate::specs::Inside::ReadingNested::branch_at))]
 fn branch<'a>(
@@ -312,6 +323,7 @@ fn repeat<'a>(
     Ok(((repeat, room), tokens))
 }
 
+/// A `lock`.
 #[cycle(statement)]
 #[tactic(auto, unfolding(crate::specs::Inside::ReadingNested::lock_at))]
 fn lock<'a>(
@@ -328,7 +340,7 @@ fn lock<'a>(
     Ok(((Stmt::lock(resource, inner), room), tokens))
 }
 
-/// A statement that begins with another word, in which no block stands.
+/// A statement that begins with another word and holds no block.
 fn simple<'a>(
     alloc: Global,
     tokens: Tokens<'a>,
@@ -456,7 +468,7 @@ pub(crate) fn block<'a>(
     }
 }
 
-/// What is behind a further name of a lock, where so many blocks may be opened, the one round it included.
+/// What follows a further name of a lock, where so many blocks may be opened, the one around it included.
 #[cycle(statement)]
 #[tactic(auto, unfolding(crate::specs::Inside::ReadingStatement::below_at, crate::specs::Inside::ReadingStatement::nothing_at))]
 fn below<'a>(
@@ -482,7 +494,7 @@ fn only(alloc: Global, statement: Stmt) -> Result<Vec<Stmt>, Stop>
     Ok(block)
 }
 
-/// A further name of a lock, which counts as a statement and as the block round it.
+/// A further name of a lock, which counts as a statement and as the block around it.
 #[cycle(statement)]
 #[tactic(auto, unfolding(crate::specs::Inside::ReadingNested::further_at))]
 fn further<'a>(
@@ -502,7 +514,7 @@ fn further<'a>(
     Ok(((locked, room), tokens))
 }
 
-/// What is behind a lock's name: its block, or a further name.
+/// What follows a lock's name: its block, or a further name.
 #[cycle(statement)]
 #[tactic(auto, using(crate::proofs::Blocks::inside_is))]
 fn inside<'a>(

@@ -80,7 +80,7 @@ pub(crate) fn wrong_token(token: Option<Token<'_>>) -> Found
     }
 }
 
-/// A word that may pass a limit. Answers its offset.
+/// A word that may pass a limit. Gives its offset.
 #[tactic(auto, unfolding(crate::specs::Inside::Reading::token_at))]
 pub(crate) fn limited_word<'a>(
     mut tokens: Tokens<'a>,
@@ -95,6 +95,7 @@ pub(crate) fn limited_word<'a>(
     }
 }
 
+/// A word. Gives its offset.
 pub(crate) fn word<'a>(tokens: Tokens<'a>, word: &[u8]) -> Result<(u32, Tokens<'a>), Stop>
     ensures { Gives (λ x. x) result (word_at word.now tokens.entry) }
 {
@@ -111,7 +112,7 @@ pub(crate) fn begins_this_name(tokens: &Tokens<'_>, name: &[u8]) -> bool
     }
 }
 
-/// A name that has a meaning where it stands.
+/// A name that has a meaning here, a contextual keyword. Gives its offset.
 #[tactic(auto, unfolding(crate::specs::Inside::Reading::token_at))]
 pub(crate) fn this_name<'a>(mut tokens: Tokens<'a>, name: &[u8]) -> Result<(u32, Tokens<'a>), Stop>
     ensures { Gives (λ x. x) result (this_name_at name.now tokens.entry) }
@@ -141,7 +142,7 @@ pub(crate) fn is_pair(token: &Token<'_>, first: u8, second: u8) -> bool
         && token.text[1] == second
 }
 
-/// Takes a sign that may pass a limit. Answers its offset.
+/// Takes a sign that may pass a limit. Gives its offset.
 #[tactic(auto, unfolding(crate::specs::Inside::Reading::token_at))]
 pub(crate) fn take_sign(
     tokens: &mut Tokens<'_>,
@@ -159,7 +160,7 @@ pub(crate) fn take_sign(
     }
 }
 
-/// A sign that may pass a limit. Answers its offset.
+/// A sign that may pass a limit. Gives its offset.
 pub(crate) fn limited_sign<'a>(
     mut tokens: Tokens<'a>,
     sign: &[u8],
@@ -171,6 +172,7 @@ pub(crate) fn limited_sign<'a>(
     Ok((at, tokens))
 }
 
+/// A sign. Gives its offset.
 pub(crate) fn sign<'a>(tokens: Tokens<'a>, sign: &[u8]) -> Result<(u32, Tokens<'a>), Stop>
     ensures { Gives (λ x. x) result (sign_at sign.now tokens.entry) }
 {
@@ -211,6 +213,7 @@ pub(crate) fn limited_name<'a>(
     Ok((name, tokens))
 }
 
+/// A name. Its own limit is judged, and no other.
 pub(crate) fn name<'a>(alloc: Global, tokens: Tokens<'a>) -> Result<(Ident, Tokens<'a>), Stop>
     ensures { Gives (λ x. x) result (name_at tokens.entry) }
 {
@@ -243,6 +246,7 @@ pub(crate) fn number(mut tokens: Tokens<'_>) -> Result<(Number, Tokens<'_>), Sto
     Ok((number, tokens))
 }
 
+/// Whether a token is a name.
 fn is_name(token: &Token<'_>) -> bool
     ensures { result ≡ is_name (view token.now) }
 {
@@ -262,7 +266,7 @@ pub(crate) fn begins_name(tokens: &Tokens<'_>) -> bool
     }
 }
 
-/// That what stands at this offset passes a limit.
+/// That what is at this offset passes a limit.
 fn past_limit(at: u32, limit: Limit) -> Stop
     ensures { result ≡ At (record { at = Some at; refusal = refusal.Limit limit }) }
 {
@@ -287,6 +291,7 @@ fn unless_limited<T: Drop>(
     }
 }
 
+/// Whether a number is from the least to the greatest.
 fn is_within(value: u32, least: u32, greatest: u32) -> bool
     ensures { result ≡ nat_le least value && nat_le value greatest }
 {
@@ -308,7 +313,7 @@ pub(crate) fn number_within(
     unless_limited(number.at, limit, number, tokens)
 }
 
-/// The number behind the last turn of a loop that begins at the first one.
+/// The number that a loop from the first one does not reach. The limit is on its turns.
 pub(crate) fn last_number(tokens: Tokens<'_>, first: u32) -> Result<(Number, Tokens<'_>), Stop>
     ensures { Gives (λ x. x) result (limited_number_at (turn_limit first) tokens.entry) }
 {

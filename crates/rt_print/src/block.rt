@@ -21,7 +21,7 @@ fn push_call(out: &mut Vec<u8>, task: &Ident, args: &[Expr]) -> Result<(), NoMem
     push_bytes(out, b")")
 }
 
-/// Appends a word with an open parenthesis, and a delay behind it.
+/// Appends a word with an open parenthesis, and a delay after it.
 fn push_delay(out: &mut Vec<u8>, word: &[u8], delay: &Expr) -> Result<(), NoMemory>
     ensures { OnOk result (out.new.items
         ≡ out.old.items ++ (word.now ++ expression_text (expression_of delay.now) ++ codes ") ")) }
@@ -78,7 +78,7 @@ fn push_value(out: &mut Vec<u8>, value: &Value) -> Result<(), NoMemory>
     }
 }
 
-/// The margin of a block that stands in a block of this margin.
+/// The margin of what a block of this margin holds.
 fn deeper_margin(alloc: Global, margin: &[u8]) -> Result<Vec<u8>, NoMemory>
     ensures { IfOk result (λ within. within.items ≡ deeper margin.now) }
 {
@@ -153,7 +153,7 @@ fn push_lock(out: &mut Vec<u8>, name: &Ident) -> Result<(), NoMemory>
     push_bytes(out, b" ")
 }
 
-/// Appends a statement that stands behind this margin.
+/// Appends a statement with this margin.
 #[cycle(block)]
 fn push_statement(
     alloc: Global,
@@ -192,7 +192,7 @@ fn push_statement(
     }
 }
 
-/// Appends a block in braces, the closing one behind this margin.
+/// Appends a block in braces, the closing one after this margin.
 #[cycle(block)]
 pub(crate) fn push_block(
     alloc: Global,
@@ -229,7 +229,7 @@ fn push_else(
     push_block(alloc, out, margin, stmts)
 }
 
-/// Appends statements, a line each behind this margin.
+/// Appends statements, a line each after this margin.
 #[cycle(block)]
 fn push_lines(
     alloc: Global,

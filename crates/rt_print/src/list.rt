@@ -10,7 +10,7 @@ use crate::text::push_name;
 use rt_ast::{Expr, Ident};
 use rt_ids::{NoMemory, push_bytes};
 
-/// What stands in a list.
+/// An item of a list.
 pub(crate) trait Item {
     /// Its text.
     ghost text: { Self → List ℕ };
@@ -36,7 +36,7 @@ impl Item for Expr {
     }
 }
 
-/// Appends items, each behind a comma.
+/// Appends items, each after a comma.
 fn push_further<T: Item>(out: &mut Vec<u8>, items: &[T]) -> Result<(), NoMemory>
     ensures { OnOk result (out.new.items ≡ out.old.items ++ further T.text items.now) }
 {

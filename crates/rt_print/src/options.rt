@@ -10,7 +10,7 @@ use crate::text::push_name;
 use rt_ast::{BodyTree, Ident, ListedTree, Number, TaskTree};
 use rt_ids::{NoMemory, push_bytes, push_number};
 
-/// Appends what stands before an option: an open parenthesis before the first.
+/// Appends what comes before an option: an open parenthesis before the first, and a comma before each other.
 fn push_opening(out: &mut Vec<u8>, opened: bool) -> Result<(), NoMemory>
     ensures { OnOk result (out.new.items ≡ out.old.items ++ opening_text opened) }
 {
@@ -32,7 +32,7 @@ fn push_closing(out: &mut Vec<u8>, opened: bool) -> Result<(), NoMemory>
     }
 }
 
-/// Appends the interrupt that a task binds, where it binds one. It tells whether there were options so far.
+/// Appends the interrupt that a task binds, where it binds one. Gives whether there were options so far.
 fn push_binds(out: &mut Vec<u8>, opened: bool, binds: &Option<Ident>) -> Result<bool, NoMemory>
     ensures text { OnOk result (out.new.items ≡ out.old.items ++ opened_text opened (binds_option_text binds.now)) }
     ensures any { IfOk result (λ any. any ≡ (opened || has_any (binds_option_text binds.now))) }
@@ -48,7 +48,7 @@ fn push_binds(out: &mut Vec<u8>, opened: bool, binds: &Option<Ident>) -> Result<
     }
 }
 
-/// Appends a task's priority, where it has one. It tells whether there were options so far.
+/// Appends a task's priority, where it has one. Gives whether there were options so far.
 fn push_priority(
     out: &mut Vec<u8>,
     opened: bool,
@@ -69,7 +69,7 @@ fn push_priority(
     }
 }
 
-/// Appends a task's capacity, where it has one. It tells whether there were options so far.
+/// Appends a task's capacity, where it has one. Gives whether there were options so far.
 fn push_capacity(out: &mut Vec<u8>, opened: bool, capacity: Option<u32>) -> Result<bool, NoMemory>
     ensures text { OnOk result (out.new.items ≡ out.old.items ++ opened_text opened (capacity_option_text capacity)) }
     ensures any { IfOk result (λ any. any ≡ (opened || has_any (capacity_option_text capacity))) }
@@ -95,7 +95,7 @@ impl Item for ListedTree {
     }
 }
 
-/// Appends the shared resources that a body lists, where it lists any. It tells whether there were options so far.
+/// Appends the shared resources that a body lists, where it lists any. Gives whether there were options so far.
 fn push_shared(out: &mut Vec<u8>, opened: bool, shared: &[ListedTree]) -> Result<bool, NoMemory>
     ensures text { OnOk result (out.new.items ≡ out.old.items ++ opened_text opened (shared_option_text shared.now)) }
     ensures any { IfOk result (λ any. any ≡ (opened || has_any (shared_option_text shared.now))) }
@@ -109,7 +109,7 @@ fn push_shared(out: &mut Vec<u8>, opened: bool, shared: &[ListedTree]) -> Result
     Ok(true)
 }
 
-/// Appends the local resources that a body lists, where it lists any. It tells whether there were options so far.
+/// Appends the local resources that a body lists, where it lists any. Gives whether there were options so far.
 fn push_local(out: &mut Vec<u8>, opened: bool, local: &[Ident]) -> Result<bool, NoMemory>
     ensures text { OnOk result (out.new.items ≡ out.old.items ++ opened_text opened (local_option_text local.now)) }
     ensures any { IfOk result (λ any. any ≡ (opened || has_any (local_option_text local.now))) }
@@ -123,7 +123,7 @@ fn push_local(out: &mut Vec<u8>, opened: bool, local: &[Ident]) -> Result<bool, 
     Ok(true)
 }
 
-/// Appends a body's options behind others, and the end of them all.
+/// Appends a body's options after others, and the end of them all.
 fn push_rest(out: &mut Vec<u8>, opened: bool, body: &BodyTree) -> Result<(), NoMemory>
     ensures { OnOk result (out.new.items
         ≡ out.old.items ++ (opened_text opened (body_options (view.body_of body.now))

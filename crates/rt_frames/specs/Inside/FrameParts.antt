@@ -26,8 +26,7 @@ expression_parts e = record {
   depth = saturated_number (depth e);
   has_loop = false;
   locks = 0;
-  spawns =
-      0;
+  spawns = 0;
 }
 
 -- what a spawn needs

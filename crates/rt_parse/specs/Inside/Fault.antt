@@ -1,4 +1,4 @@
--- What was found wrong, with its line and column. What has no offset stands at the end of the text.
+-- What was found wrong, with its line and column. What has no offset is at the end of the text.
 use Rattle.std.specs.Prelude.{ℕ, List, length, Option, Some, None}
 use Rattle.rt_ids.specs.declared.refusal.Fault.{Fault}
 use Rattle.rt_lex.specs.Place.{place_of}

@@ -1,5 +1,5 @@
--- Reading as a function on lists of tokens. A reader gives what it read and the tokens behind, or the first thing that
--- it found wrong. It looks one token ahead.
+-- Reading as a function on lists of tokens. A reader gives what it read and the tokens after it, or the first thing
+-- that it found wrong. It looks one token ahead.
 use Rattle.std.specs.Prelude.{◌≡◌, ℕ, zero, suc, Bool, false, List, [], ◌∷◌, Option, Some, None, Result, Ok, Err}
 use Rattle.std.specs.Prelude.{if◌then◌else◌}
 use Rattle.rt_ids.specs.declared.limit.Limit.{Limit}
@@ -35,7 +35,7 @@ abbrev pub Leaves : {X Y : Type 0} → (X → Y) → Result X Stop → List Toke
 Leaves view (Ok x) behind read = read ≡ Ok (view x, behind)
 Leaves view (Err e) behind read = Stops e read
 
--- one step, and behind it the next, which goes by what the first gave; a step that failed is the last
+-- one step, and after it the next, which depends on what the first gave; a step that failed is the last
 infixl 10 ◌>>=◌
 abbrev pub ◌>>=◌ : {A B E : Type 0} → Result A E → (A → Result B E) → Result B E
 (Ok x) >>= f = f x
@@ -70,7 +70,7 @@ abbrev pub unless_limited : {A : Type 0} → ℕ → Option Limit → A → List
 unless_limited at None x tokens = Ok (x, tokens)
 unless_limited at (Some what) x tokens = Err (record { at = Some at; refusal = refusal.Limit what })
 
--- a token and those behind it, by what the token means, if it means something
+-- a token and those after it, by what the token means, if it means something
 abbrev pub take_meaning : {A : Type 0} → Option A → (A → Option Limit) → Token → List Token
     → Result (A × List Token) Found
 take_meaning None limit t tokens = Err (fault_found_at (t ∷ tokens))

@@ -31,13 +31,13 @@ unfoldable pub thread_body_at : Owner → List ℕ → Reader (Option Body)
 thread_body_at owner text tokens =
     if begins_with (is_this_word text) tokens then thread_at owner text tokens else Ok (None, tokens)
 
--- one more argument behind so many
+-- one more argument after so many others
 unfoldable pub one_argument_at : ℕ → Reader Ident
 one_argument_at before tokens = do
   a ← sign_at (codes ",") tokens
   limited_name_at (at_most ARGUMENTS limit.Arguments before) a.1
 
--- one more argument behind these
+-- one more argument after these
 unfoldable pub argument_at : List Ident → Reader (List Ident)
 argument_at xs tokens = do
   a ← sign_at (codes ",") tokens
@@ -68,14 +68,14 @@ task_is name o args block =
       body = body_of o block name.at;
     }
 
--- a task's arguments and its block, behind its options
+-- a task's arguments and its block, after its options
 abbrev pub task_block_at : Ident → Options → Reader Task
 task_block_at name o tokens = do
   args ← task_arguments_at tokens
   b ← body_block_at args.1
   Ok (task_is name o args.0 b.0.0, b.1)
 
--- a task behind so many
+-- a task after so many others
 unfoldable pub task_at : ℕ → Reader Task
 task_at before tokens = do
   a ← limited_word_at (codes "task") (at_most TASKS limit.Tasks before) tokens

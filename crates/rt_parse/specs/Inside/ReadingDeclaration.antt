@@ -21,14 +21,14 @@ use Rattle.rt_parse.specs.Inside.ReadingList.{adds_at, names_at}
 use Rattle.rt_parse.specs.Inside.ReadingResources.{interrupts_at, monotonic_at, shared_resources_at, locals_at}
 use Rattle.rt_parse.specs.Inside.ReadingBodies.{thread_body_at, task_at}
 
--- the dispatchers behind their comma
+-- the dispatchers after their comma
 unfoldable pub dispatchers_at : Reader (List Ident)
 dispatchers_at tokens = do
   a ← word_at (codes "dispatchers") tokens
   b ← sign_at (codes "=") a.1
   names_at b.1
 
--- the floating-point extension behind its comma
+-- the floating-point extension after its comma
 unfoldable pub extension_at : Reader Bool
 extension_at tokens = do
   a ← this_name_at (codes "fpu") tokens
@@ -42,29 +42,29 @@ comma_extension_at tokens = do
   a ← sign_at (codes ",") tokens
   extension_at a.1
 
--- whether the extension is there, behind the dispatchers
+-- whether the extension is there, after the dispatchers
 unfoldable pub fpu_at : Reader Bool
 fpu_at tokens = if begins_with (is_this_sign (codes ",")) tokens then comma_extension_at tokens else Ok (false, tokens)
 
--- The dispatchers, and whether the extension is there. Both parts begin with a comma, so that the token behind the
--- first comma tells which of them stands there.
+-- The dispatchers, and whether the extension is there. Both parts begin with a comma, so the token after the first
+-- comma decides which of them comes.
 abbrev pub Features : Type 0
 Features = List Ident × Bool
 
--- the extension alone, behind its comma
+-- the extension alone, after its comma
 abbrev pub alone_at : Reader Features
 alone_at tokens = do
   on ← extension_at tokens
   Ok (([], on.0), on.1)
 
--- the dispatchers behind their comma, and the extension if it is there
+-- the dispatchers after their comma, and the extension if it is there
 abbrev pub dispatcher_features_at : Reader Features
 dispatcher_features_at tokens = do
   ds ← dispatchers_at tokens
   on ← fpu_at ds.1
   Ok ((ds.0, on.0), on.1)
 
--- what stands behind the first comma: the extension alone, or the dispatchers first
+-- what follows the first comma: the extension alone, or the dispatchers first
 unfoldable pub behind_comma_at : Reader Features
 behind_comma_at tokens = if begins_with (is_this_name (codes "fpu")) tokens then alone_at tokens
     else dispatcher_features_at tokens
@@ -80,7 +80,7 @@ unfoldable pub features_at : Reader Features
 features_at tokens = if begins_with (is_this_sign (codes ",")) tokens then comma_features_at tokens
     else Ok (([], false), tokens)
 
--- the first declaration behind its priority bits
+-- the first declaration after its priority bits
 abbrev pub head_rest_at : Ident → ℕ → Reader Head
 head_rest_at name bits tokens = do
   fs ← features_at tokens
@@ -128,7 +128,7 @@ app_is d init idle tasks = record {
   tasks = tasks;
 }
 
--- the bodies of an application, behind what it declares
+-- the bodies of an application, after what it declares
 abbrev pub bodies_at : Declared → Reader App
 bodies_at d tokens = do
   init ← thread_body_at OfInit (codes "init") tokens
@@ -136,7 +136,7 @@ bodies_at d tokens = do
   tasks ← repeat_at (is_this_word (codes "task")) (adds_at task_at) (length idle.1) [] idle.1
   Ok (app_is d init.0 idle.0 tasks.0, tasks.1)
 
--- an application behind its first declaration
+-- an application after its first declaration
 abbrev pub declarations_at : Head → Reader App
 declarations_at first tokens = do
   irqs ← interrupts_at tokens
@@ -156,7 +156,7 @@ abbrev pub is_end : List Token → Bool
 is_end [] = true
 is_end (t ∷ tokens) = false
 
--- an application behind which no token is left
+-- an application after which no token is left
 abbrev pub whole_at : App → List Token → Result App Found
 whole_at app tokens = if is_end tokens then Ok app else Err (fault_found_at tokens)
 

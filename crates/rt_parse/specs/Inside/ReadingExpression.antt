@@ -39,7 +39,7 @@ unfoldable pub chains_at : List Signs → Reader Measured → Reader Measured
 chains_at [] atom tokens = atom tokens
 chains_at (signs ∷ stronger) atom tokens = chain_at signs (chains_at stronger atom) tokens
 
--- the comparison behind its left side, or none
+-- the comparison after its left side, or none
 unfoldable pub comparison_tail_at : Reader Measured → Measured → Reader Measured
 comparison_tail_at operand left tokens =
     if begins_with (is_of comparisons) tokens then joined_operand_at comparisons operand left tokens else Ok
@@ -117,7 +117,7 @@ abbrev pub unless_deep : ℕ → Option Kept → Reader Expression
 unless_deep at (Some k) tokens = Ok (k.tree, tokens)
 unless_deep at None tokens = Err (record { at = Some at; refusal = refusal.Limit limit.Depth })
 
--- an expression that stands in no other
+-- an expression that is part of no other
 unfoldable pub expression_at : Reader Expression
 expression_at tokens = do
   e ← comparison_at (atom_at PARENTHESES) tokens

@@ -11,7 +11,7 @@ abbrev pub comma_at : List ℕ → List Token → Result (List Token) Found
 comma_at closing tokens =
     if begins_with (is_this_sign closing) tokens then Ok tokens else (sign_at (codes ",") tokens >>= λ got. Ok got.1)
 
--- items up to the sign that closes the list, with a comma between each two, and perhaps one behind the last; at most so
+-- items up to the sign that closes the list, with a comma between each two, and perhaps one after the last; at most so
 -- many
 unfoldable pub items_at : {S : Type 0} → List ℕ → (S → Reader S) → ℕ → S → Reader S
 items_at closing item zero s tokens = sign_at closing tokens >>= λ end. Ok (s, end.1)

@@ -1,5 +1,5 @@
--- The readers of statements in which blocks stand. They are told how a block is read, and how many statements the body
--- may still have.
+-- The readers of statements that hold blocks. Each takes the reader of a block, and how many statements the body may
+-- still have.
 use Rattle.std.specs.Prelude.{ℕ, ◌-◌, nat_eq, codes, Option, Ok, if◌then◌else◌}
 use Rattle.rt_ids.specs.declared.limit.Limit.{Limit}
 use Rattle.rt_ids.specs.declared.limit.Limit.TheVariants as limit

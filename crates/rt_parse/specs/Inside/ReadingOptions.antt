@@ -71,11 +71,11 @@ local_list_at o tokens = do
   xs ← names_at b.1
   Ok (record o { local = Some xs.0 }, xs.1)
 
--- whether an option may stand here, and comes next
+-- whether an option may come here, and comes next
 abbrev pub takes : Bool → List ℕ → Token → Bool
 takes allowed text t = allowed && is_this_word text t
 
--- one option more, behind these
+-- one more option, after these
 unfoldable pub option_at : Owner → Options → Reader Options
 option_at owner o tokens =
     if begins_with (takes (is_task owner && is_none o.binds) (codes "binds")) tokens then binds_at o tokens

@@ -13,7 +13,7 @@ use Rattle.rt_parse.specs.Inside.Reading.{Reader, ◌>>=◌, begins_with, limite
 use Rattle.rt_parse.specs.Inside.Reading.{limited_name_at, name_at, number_at, limited_number_at}
 use Rattle.rt_parse.specs.Inside.ReadingList.{items_at, adds_at}
 
--- a declared interrupt behind so many
+-- a declared interrupt after so many others
 unfoldable pub interrupt_at : ℕ → Reader IrqTree
 interrupt_at before tokens = do
   x ← limited_name_at (at_most IRQS limit.Interrupts before) tokens
@@ -28,7 +28,7 @@ interrupts_at tokens = do
   b ← sign_at (codes "{") a.1
   items_at (codes "}") (adds_at interrupt_at) (length b.1) [] b.1
 
--- a monotonic's priority, behind its interrupt
+-- a monotonic's priority, after its interrupt
 abbrev pub clock_priority_at : Ident → Reader (Option MonoTree)
 clock_priority_at irq tokens = do
   e ← sign_at (codes ",") tokens
@@ -61,7 +61,7 @@ first_value_at tokens = do
   n ← number_at a.1
   Ok (n.0.value, n.1)
 
--- a shared resource that is `lock_free`, behind so many
+-- a shared resource that is `lock_free`, after so many others
 unfoldable pub lock_free_at : ℕ → Reader SharedTree
 lock_free_at before tokens = do
   a ← limited_word_at (codes "lock_free") (at_most SHARED limit.Shared before) tokens
@@ -69,14 +69,14 @@ lock_free_at before tokens = do
   n ← first_value_at x.1
   Ok (record { name = x.0; first = n.0; lock_free = true }, n.1)
 
--- a shared resource that is not `lock_free`, behind so many
+-- a shared resource that is not `lock_free`, after so many others
 unfoldable pub locked_resource_at : ℕ → Reader SharedTree
 locked_resource_at before tokens = do
   x ← limited_name_at (at_most SHARED limit.Shared before) tokens
   n ← first_value_at x.1
   Ok (record { name = x.0; first = n.0; lock_free = false }, n.1)
 
--- a shared resource behind so many
+-- a shared resource after so many others
 unfoldable pub resource_at : ℕ → Reader SharedTree
 resource_at before tokens =
     if begins_with (is_this_word (codes "lock_free")) tokens then lock_free_at before tokens
@@ -94,7 +94,7 @@ unfoldable pub shared_resources_at : Reader (List SharedTree)
 shared_resources_at tokens = if begins_with (is_this_word (codes "shared")) tokens then resources_at tokens else Ok
     ([], tokens)
 
--- a local resource behind so many
+-- a local resource after so many others
 unfoldable pub local_at : ℕ → Reader LocalTree
 local_at before tokens = do
   x ← limited_name_at (at_most LOCALS limit.Locals before) tokens

@@ -1,5 +1,5 @@
--- The readers of statements in which no block stands. They are told how many statements the body may still have, and
--- give, besides what they read, how many it may have behind.
+-- The readers of statements that hold no block. Each takes how many statements the body may still have, and gives,
+-- besides what it read, how many the body may have after it.
 use Rattle.std.specs.Prelude.{ℕ, ◌-◌, nat_eq, codes, Option, Ok}
 use Rattle.rt_ids.specs.declared.limit.Limit.{Limit}
 use Rattle.rt_ids.specs.declared.limit.Limit.TheVariants as limit

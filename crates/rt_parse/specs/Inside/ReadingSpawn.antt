@@ -23,7 +23,7 @@ enclosed_expression_at tokens = do
   b ← sign_at (codes ")") e.1
   Ok (e.0, b.1)
 
--- a delay, and the task behind it
+-- a delay, and the task after it
 unfoldable pub delayed_task_at : Reader (Expression × Ident)
 delayed_task_at tokens = do
   delay ← enclosed_expression_at tokens

@@ -1,5 +1,5 @@
--- The readers of statements and blocks. They are told how many blocks may still be opened inside each other, and how
--- many statements the body may still have; and they give, besides what they read, how many it may have behind.
+-- The readers of statements and blocks. Each takes how many blocks may still be opened inside each other, and how many
+-- statements the body may still have; it gives, besides what it read, how many the body may have after it.
 use Rattle.std.specs.Prelude.{ℕ, zero, suc, Bool, not, codes, List, [], ◌∷◌, ◌++◌, length, Some, Ok, Err, if◌then◌else◌}
 use Rattle.rt_ids.specs.declared.limit.Limit.TheVariants as limit
 use Rattle.rt_lex.specs.Token.{Token, is_this_word, is_this_sign}
@@ -12,18 +12,18 @@ use Rattle.rt_parse.specs.Inside.ReadingExpression.{is_name}
 use Rattle.rt_parse.specs.Inside.ReadingSimple.{bind_at, assign_at, emit_at, pend_at, call_at}
 use Rattle.rt_parse.specs.Inside.ReadingNested.{branch_at, loop_at, further_at, lock_at}
 
--- a reader that is told how many blocks may be opened, and how many statements may come
+-- a reader that takes how many blocks may be opened, and how many statements may come
 abbrev pub Blocks : Type 0
 Blocks = ℕ → ℕ → Reader (Counted Block)
 
--- a statement that begins with another word, in which no block stands
+-- a statement that begins with another word and holds no block
 abbrev pub simple_at : ℕ → Reader (Counted Statement)
 simple_at room tokens =
     if begins_with (is_this_word (codes "emit")) tokens then emit_at room tokens
     else if begins_with (is_this_word (codes "pend")) tokens then pend_at room tokens
     else call_at room tokens
 
--- a statement in which blocks stand, or a simple one
+-- a statement that holds blocks, or a simple one
 abbrev pub compound_at : (ℕ → Reader (Counted Block)) → (ℕ → Reader (Counted Block)) → ℕ → Reader (Counted Statement)
 compound_at block inside room tokens =
     if begins_with (is_this_word (codes "if")) tokens then branch_at block room tokens
@@ -39,7 +39,7 @@ statement_at block inside room tokens =
     else if begins_with (is_this_word (codes "let")) tokens then bind_at room tokens
     else compound_at block inside room tokens
 
--- one more statement behind these
+-- one more statement after these
 unfoldable pub one_more_at : (ℕ → Reader (Counted Block)) → (ℕ → Reader (Counted Block)) → Counted (List Statement)
     → Reader (Counted (List Statement))
 one_more_at block inside so_far tokens = do
@@ -50,7 +50,7 @@ one_more_at block inside so_far tokens = do
 abbrev pub is_inside : Token → Bool
 is_inside t = not (is_this_sign (codes "}") t)
 
--- a block, inside which these readers read blocks and what is behind a lock's name
+-- a block, inside which these readers read blocks and what follows a lock's name
 unfoldable pub braced_block_at : (ℕ → Reader (Counted Block)) → (ℕ → Reader (Counted Block)) → ℕ
     → Reader (Counted Block)
 braced_block_at block inside room tokens = do
@@ -69,13 +69,13 @@ closed_block_at tokens = do
 unfoldable pub nothing_at : ℕ → Reader (Counted Block)
 nothing_at room tokens = Err (fault_found_at tokens)
 
--- a block, and what is behind a lock's name, where so many blocks may be opened
+-- a block, and what follows a lock's name, where so many blocks may be opened
 unfoldable mutual
   pub block_at : ℕ → ℕ → Reader (Counted Block)
   block_at zero room tokens = closed_block_at tokens
   block_at (suc left) room tokens = braced_block_at (block_at left) (inside_at left) room tokens
 
-  -- what is behind a lock's name, where so many blocks may be opened
+  -- what follows a lock's name, where so many blocks may be opened
   pub inside_at : ℕ → ℕ → Reader (Counted Block)
   inside_at zero room tokens =
       if begins_with (is_this_sign (codes ",")) tokens then further_at nothing_at 0 room tokens
@@ -84,7 +84,7 @@ unfoldable mutual
       if begins_with (is_this_sign (codes ",")) tokens then further_at (inside_at left) (suc left) room tokens
       else braced_block_at (block_at left) (inside_at left) room tokens
 
--- behind a further name, of which so many may come
+-- what follows a further name of a lock, where so many blocks may be opened, the one around it included
 unfoldable pub below_at : ℕ → ℕ → Reader (Counted Block)
 below_at zero room tokens = nothing_at room tokens
 below_at (suc left) room tokens = inside_at left room tokens
