@@ -1,4 +1,4 @@
--- The numbers below a bound that pass a test, as flags tell them, and what is summed over levels.
+-- The numbers below a bound that pass a test, as flags hold them, and what is summed over levels.
 use Rattle.std.proofs.Common.{◌≡◌, ℕ, zero, suc, ◌+◌, ◌-◌, ◌*◌, ◌^◌, ◌<◌, ◌≤◌, ◌==◌, nat_lt, Bool, true, false, ◌&&◌}
 use Rattle.std.proofs.Common.{◌||◌, List, [], ◌∷◌, ◌++◌, length, get_or, take, min, map, filter, cond, if◌then◌else◌}
 use Rattle.std.proofs.Common.{refl, sym, ap, ◌∙◌, subst, arith, add-one}

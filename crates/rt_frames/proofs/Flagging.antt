@@ -1,4 +1,4 @@
--- Flags that are set one behind the other, and what a flag then says.
+-- Flags that are set one after the other, and what a flag then says.
 use Rattle.std.proofs.Common.{◌≡◌, ℕ, zero, suc, ◌<◌, ◌≢◌, ⊎_elim, ◌==◌, nat_lt, Bool, true, false, ◌||◌, List, [], ◌∷◌}
 use Rattle.std.proofs.Common.{◌++◌, length, get_or, set, replicate, refl, sym, ap, ◌∙◌, cond, arith}
 use Rattle.std.specs.List.{list_any, AllByRecursion}

@@ -1,4 +1,4 @@
--- Between the tokens of a text stand blanks and comments alone.
+-- Between the tokens of a text are blanks and comments alone.
 use Rattle.std.proofs.Common.{◌≡◌, ℕ, zero, suc, ◌+◌, ◌-◌, ◌≤◌, Bool, true, false, cond, eqb, not, List, [], ◌∷◌, ◌++◌}
 use Rattle.std.proofs.Common.{length, take, drop, Option, Some, None, refl, sym, ap, subst, ◌∙◌, arith, append_assoc}
 use Rattle.std.proofs.Common.{length-append, inl, inr}
@@ -22,12 +22,12 @@ use Rattle.rt_lex.specs.Tokens.{tokens, tokens_at, with_front}
 use Rattle.rt_lex.specs.Gap.{Standing, Outside, Slash, Inside, Lost, after_byte, standing_after, HaveGaps}
 use Rattle.rt_lex.proofs.Lexing.{takes, by_test}
 
--- a reading that is inside a comment stands at the end of its line
+-- an automaton that is inside a comment is at the end of its line
 abbrev Stops : List ℕ → Type 0
 Stops [] = Unit {0}
 Stops (b ∷ text) = b ≡ 10
 
--- where a reading may stand before this text
+-- the states that the automaton may have before this text
 abbrev MayStand : Standing → List ℕ → Type 0
 MayStand Outside text = Unit {0}
 MayStand Slash text = ⊥
@@ -56,12 +56,12 @@ stops_at b text false e h =
     let n : 1 + prefix_len (λ c. not (eqb c 10)) text ≡ suc (prefix_len (λ c. not (eqb c 10)) text) = omega arith in
     rw n h
 
--- behind a comment stands a line feed or nothing
+-- a line feed or nothing follows a comment
 comment_stops : (text : List ℕ) → Stops (drop (prefix_len (λ c. not (eqb c 10)) text) text)
 comment_stops [] = tt
 comment_stops (b ∷ text) = stops_at b text (eqb b 10) refl (comment_stops text)
 
--- what a front does to a reading that may stand before it
+-- what a front does to a state that the automaton may have before it
 pub record Skipped (text : List ℕ) (front : Front) (s : Standing) : Type 0 where
   pub may : MayStand (fold after_byte s (take front.len text)) (drop front.len text)
 
@@ -136,14 +136,14 @@ front_does b text s may =
     (makes 1 (cond (is_short_sign b) kind.Sign kind.Foreign)) (λ f. inr ((λ n. cc), made))
     (λ f. inr ((λ n. cc), made))))))
 
--- a reading that may stand at the end of the text
+-- a state that the automaton may have at the end of the text
 last_gap : (s : Standing) → MayStand s [] → (s ≡ Lost → ⊥) × (s ≡ Slash → ⊥)
 last_gap Outside may = (λ e. cc, λ e. cc)
 last_gap Slash may = absurd may
 last_gap Inside may = (λ e. cc, λ e. cc)
 last_gap Lost may = absurd may
 
--- so far the bytes from an offset on are a gap, and this text stands behind them
+-- so far the bytes from an offset on are a gap, and this text follows them
 record Reads (src : List ℕ) (from at : ℕ) (text gap : List ℕ) : Type 0 where
   here : drop at src ≡ text
   whole : drop from src ≡ gap ++ text

@@ -96,7 +96,7 @@ front_fits b text =
     by_test (λ f. FitsIn f whole) (is_letter b) name _ (name_fits b text) (λ e.
     by_test (λ f. FitsIn f whole) (is_digit b) number sign (number_fits b text) (λ e. sign_fits b text))))
 
--- the tokens behind a front of at least one byte
+-- the tokens after a front of at least one byte
 behind_front : (len at b : ℕ) (text : List ℕ) → 0 < len → tokens_at (suc at + pred len) (drop (pred len) text)
     ≡ tokens_at (at + len) (drop len (b ∷ text))
 behind_front zero at b text h = absurd (omega arith)

@@ -1,4 +1,4 @@
--- The tokens of a text lie in it one behind the other, and each is the longest that fits.
+-- The tokens of a text lie in it one after the other, and each is the longest that fits.
 use Rattle.std.proofs.Common.{◌≡◌, ℕ, zero, suc, ◌+◌, ◌<◌, ◌≤◌, List, [], ◌∷◌, length, take, drop, Option, Some, None}
 use Rattle.std.proofs.Common.{refl, ap, arith}
 use Rattle.std.specs.Prelude.{pred}
@@ -14,7 +14,7 @@ use Rattle.rt_lex.proofs.Lexing.{front_fits}
 use Rattle.rt_lex.proofs.Longest.{front_is_longest}
 use Rattle.rt_lex.proofs.OfKind.{front_has_kind}
 
--- the tokens from here on lie behind each offset that is not past them
+-- the tokens from here on lie after each offset that is not past them
 lie_with : (src : List ℕ) (kind : Option Kind) (at len from : ℕ) (text : List ℕ) (more : List Token) → drop at src
     ≡ text → len ≤ length text → 0 < len → from ≤ at
     → ((start : ℕ) → start ≤ at + len → LieIn src start more) → LieIn src from (with_front kind at (take len text) more)

@@ -322,7 +322,7 @@ begins_at src t (b ∷ rest) (x ∷ text) e s some w =
 begins : (src : List ℕ) (t : Token) → IsSlice src t → IsLongest src t → IsViablePrefix src t
 begins src t s l = begins_at src t (drop t.at src) t.text refl s.slice l.some (whole_or t.kind t.text l.kind)
 
--- more bytes than stand before a token are no gap
+-- more bytes than come before a token are no gap
 crosses : (src : List ℕ) (from : ℕ) (t : Token) → from ≤ t.at → IsViablePrefix src t
     → standing_after (take (t.at - from) (drop from src)) ≡ Outside → starts_with eqb (drop t.at src) (47 ∷ 47 ∷ [])
     ≡ false
@@ -356,7 +356,7 @@ stuck_no_gap Slash h f g = g refl
 stuck_no_gap Inside h f g = h
 stuck_no_gap Lost h f g = f refl
 
--- where a token stands, the rest of the text is no gap
+-- where a token is, the rest of the text is no gap
 token_no_gap : (src : List ℕ) (from : ℕ) (t : Token) (tokens : List Token) → LieIn src from (t ∷ tokens)
     → IsLongest src t → HaveGaps src from (t ∷ tokens) → IsLastGap (drop from src) → ⊥
 token_no_gap src from t tokens lie l gaps last =
@@ -366,7 +366,7 @@ token_no_gap src from t tokens lie l gaps last =
     stuck_no_gap (standing_after (drop from src)) (subst (λ (x : List ℕ). Stuck (standing_after x)) all stuck) last.0
     last.1
 
--- no token stands before the first of another list
+-- no token comes before the first of another list
 no_earlier : (src : List ℕ) (from : ℕ) (t u : Token) (ts us : List Token) → LieIn src from (t ∷ ts) → IsLongest src t
     → HaveGaps src from (t ∷ ts) → HaveGaps src from (u ∷ us) → t.at < u.at → ⊥
 no_earlier src from t u ts us lie l gaps others far =

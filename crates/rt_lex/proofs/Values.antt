@@ -7,7 +7,7 @@ use Rattle.std.proofs.lemmas.List.{at_drop_more, at_drop_all}
 use Rattle.rt_lex.specs.Bytes.{digit_value}
 use Rattle.rt_lex.specs.Number.{in_32_bits}
 
--- the value of digits behind others of this value
+-- the value of digits after others of this value
 abbrev pub value_from : ℕ → ℕ → List ℕ → ℕ
 value_from base value digits = fold (λ n b. n * base + digit_value b) value digits
 

@@ -79,7 +79,7 @@ pub keeps_repeat : {S : Type 0} (P : S → Type 0) {step : S → Language S} →
     → P s → Keeps (repeat step s) P
 keeps_repeat P steps s h = record { kept = λ marks x l all. (keeps_times P l.0 steps s h).kept marks x l.1 all }
 
--- Items one behind the other.
+-- Items one after the other.
 
 pub keeps_all : {A : Type 0} {P : A → Type 0} {item : ℕ → Language A} → ((n : ℕ) → Keeps (item n) P) → (xs : List A)
     → AllByRecursion P xs → Keeps (adds item xs) (AllByRecursion P)

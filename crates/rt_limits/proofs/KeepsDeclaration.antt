@@ -115,7 +115,7 @@ keeps_locals =
 
 -- Options.
 
--- those that stand between a body's parentheses so far are printable, and `init` lists nothing shared
+-- the options of a body so far are printable, and `init` lists nothing shared
 record AreOptionsKept (owner : Owner) (o : Options) : Type 0 where
   binds : IfThere IsPrintableName o.binds
   priority : IfThere IsPrintablePriority o.priority

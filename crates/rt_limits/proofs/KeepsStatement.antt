@@ -73,7 +73,7 @@ keeps_value most =
     (keeps_or (keeps_then (keeps_spawn most free) (λ s h. keeps_gives h.printable))
     (keeps_then (keeps_expression most) (λ e h. keeps_gives h)))
 
--- What is kept of a statement and of a block behind so many statements: a block of this nesting, or a statement in one.
+-- What is kept of a statement and of a block after so many statements: a block of this nesting, or a statement in one.
 
 record IsStatementKept (nesting before : ℕ) (s : Counted Statement) : Type 0 where
   printable : IsPrintableStatement s.0

@@ -1,4 +1,4 @@
--- The statements of a block, and what is behind a lock's name.
+-- The statements of a block, and what follows a lock's name.
 use Rattle.std.proofs.Common.{◌≡◌, ℕ, zero, suc, cond, codes, List, [], ◌∷◌, map, refl, ap}
 use Rattle.rt_lex.specs.Token.{Token, is_this_sign}
 use Rattle.rt_ast.specs.Tree.{Then}

@@ -93,7 +93,7 @@ module _ {S : Type 0} (starts : Token → Bool) (step : S → Reader S) (shorter
           subst (λ (ts : List Token). (begins_with test ts ≡ false) × (begins_with starts ts ≡ false))
           (same_rest s y (t ∷ tokens) rest e) (none, is)
 
--- What the strengths read behind their first atom.
+-- What the strengths read after their first atom.
 
 abbrev chain_on : Signs → List Signs → Reader Measured → Measured × List Token → Result (Measured × List Token) Found
 chain_on signs stronger atom x = repeat_at (is_of signs) (joined_operand_at signs (chains_at stronger atom))
@@ -132,7 +132,7 @@ joined_ends signs operand left tokens y rest e =
     let q = bind_ok (operand p.0.1) (λ right. Ok (joined_measure p.0.0 left right.0, right.1)) (y, rest) p.2 in
     (p.0.1, q.0.0, q.1 ∙ ap (λ (ts : List Token). Ok (q.0.0, ts)) (same_rest _ y q.0.1 rest q.2))
 
--- behind what strengths read no operator of theirs comes next
+-- after what strengths read no operator of theirs comes next
 chains_end : (all : List Signs) (atom : Reader Measured) → IsShorter atom
     → (tokens : List Token) (x : Measured) (rest : List Token) → chains_at all atom tokens ≡ Ok (x, rest)
     → begins_with (is_of_some all) rest ≡ false
@@ -148,7 +148,7 @@ chains_end (signs ∷ stronger) atom h tokens x rest e =
     (length p.0.1) p.0.0 p.0.1 (omega arith) (chains_end stronger atom h tokens p.0.0 p.0.1 p.1) x rest p.2 in
     none_of_either signs stronger rest q.1 q.0
 
--- An operator that comes next is read with its right side, and all strengths go on behind it.
+-- An operator that comes next is read with its right side, and all strengths go on after it.
 
 own_goes_on : (signs : Signs) (stronger : List Signs) (atom : Reader Measured) (left : Measured) (tokens : List Token)
     → IsShorter atom
@@ -191,7 +191,7 @@ weaker_goes_on (signs ∷ weaker) all atom left tokens step e =
     ap (λ r. r >>= chain_on signs (weaker ++ all) atom) (weaker_goes_on weaker all atom left tokens step e)
     ∙ read_then step (λ x. behind_at (weaker ++ all) atom x.0 x.1) (chain_on signs (weaker ++ all) atom)
 
--- of an operator that stands somewhere in the strengths
+-- of an operator of one of the strengths
 pub goes_on : (weaker : List Signs) (signs : Signs) (stronger : List Signs) (atom : Reader Measured) (left : Measured)
     (tokens : List Token) → IsShorter atom
     → begins_with (is_of signs) tokens ≡ true → begins_with (is_of_some stronger) tokens ≡ false

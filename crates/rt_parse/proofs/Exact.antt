@@ -94,10 +94,10 @@ abbrev pub IsExactUnless : {B : Type 0} → (Token → Bool) → Language B → 
 IsExactUnless stops language read most = (tokens : List Token) → length tokens ≤ most → begins_with stops tokens ≡ false
     → Outcome language tokens (read tokens)
 
--- A reader of a form, which gives the value of what the form means: it is exact for the form with any language behind
--- it that some text is in and that does not begin with the tokens that go on with the form. What is read behind it
--- never begins with a token that it stops before, so the reader behind it may do anything there. It takes enough tokens
--- for a reader behind it that is exact on fewer. It is used where such a token does not come next.
+-- A reader of a form, which gives the value of what the form means: it is exact for the form with any language after
+-- it that some text is in and that does not begin with the tokens that go on with the form. What is read after it
+-- never begins with a token that it stops before, so the reader after it may do anything there. It takes enough tokens
+-- for a reader after it that is exact on fewer. It is used where such a token does not come next.
 pub record ReadsAfter {A C : Type 0} (B : Type 0) (before : Token → Bool) (goes stops : A → Token → Bool)
     (longer : ℕ → ℕ) (value : A → C) (form : Language A) (reader : Reader C) : Type 1 where
   pub exact : (behind : A → Language B) (read : C → List Token → Result B Found) (most : ℕ)

@@ -20,7 +20,7 @@ pub begins_with-or : (test test' : Token → Bool) (tokens : List Token) → beg
 begins_with-or test test' [] e f = refl
 begins_with-or test test' (t ∷ tokens) e f = or_neither (test t) (test' t) e f
 
--- the outcome for the form that the next token tells
+-- the outcome for the form that the next token decides
 pub outcome_left : {A B : Type 0} (test : Token → Bool) (L M : Language A) (K : A → Language B) (tokens : List Token)
     (read : Result B Found)
     → Avoids test (M >>= K) → begins_with test tokens ≡ true → Outcome (L >>= K) tokens read

@@ -1,4 +1,4 @@
--- The end of an expression that stands in no other, where its depth is judged; and the end of a text.
+-- The end of an expression that is part of no other, where its depth is judged; and the end of a text.
 use Rattle.std.proofs.Common.{◌≡◌, ℕ, ◌≤◌, Bool, true, false, List, [], ◌∷◌, ◌++◌, Option, Some, None, Result, Ok, Err}
 use Rattle.std.proofs.Common.{refl, sym, ap, ◌∙◌, subst, inl, arith}
 use Rattle.std.specs.Prelude.{nat_lt, if◌then◌else◌}
@@ -39,7 +39,7 @@ module _ {B : Type 0} (e : Operand × Bool) (K : Expression → Language B) wher
   behind_ends marks y (x, front, back, (em, ex), k, f) =
       (back, f ∙ ap (λ (ms : List Mark). ms ++ back) em, subst (λ (z : Expression). K z back y) ex k)
 
-  -- whatever goes on with an expression does not stand behind its end
+  -- whatever goes on with an expression does not come after its end
   pub ends_avoids : Avoids (goes_on e.1) (ends e >>= K)
   unfolding ends_mark
   ends_avoids marks y l = let b : (back : List Mark) × (marks ≡ ends_mark ∷ back) × K e.0.tree back y =

@@ -35,7 +35,7 @@ closed {C} closing reader (suc n) c tokens e =
     (reading.◌>>=◌ (reader c tokens) (λ x. reading.◌>>=◌ (comma_at closing x.1)
     (λ behind. items_at closing reader n x.0 behind)))) e
 
--- the rest of a list behind an item
+-- the rest of a list after an item
 behind_item : {C : Type 0} → List ℕ → (C → Reader C) → ℕ → C → Reader C
 behind_item closing reader n c tokens = reading.◌>>=◌ (comma_at closing tokens)
     (λ behind. items_at closing reader n c behind)
@@ -148,7 +148,7 @@ module _ {S B C : Type 0} {goes : S → Token → Bool} {value : S → C} (closi
     next_some : (s : S) → IsInhabited (next_of closing item behind s)
     next_some s = some_left (end_some s)
 
-    -- what stands behind an item goes on with none
+    -- what follows an item goes on with none
     next_avoids : (s : S) → Avoids (goes s) (next_of closing item behind s)
     next_avoids s = avoids_or (goes s)
         (avoids_apart (is_this_sign closing) (goes s) (goes_closing s) (starts_sign closing free) (λ z. behind s))
@@ -176,7 +176,7 @@ module _ {S B C : Type 0} {goes : S → Token → Bool} {value : S → C} (closi
         next_some next_avoids
         (λ x tokens lt stop. next_exact n m x rest le tokens lt) tokens lt (begins_with-none tokens)))
 
-    -- where no item may stand, only the closing sign goes on
+    -- where no item may come, only the closing sign goes on
     rest_none : (s : S) (tokens : List Token) → ((marks : List Mark) (x : S) → item s marks x → ⊥)
         → begins_with (is_this_sign closing) tokens ≡ false → Outcome (rest_of closing item behind s) tokens
         (Err (fault_found_at tokens))

@@ -105,7 +105,7 @@ pub read_then : {A B C E : Type 0} (r : Result A E) (f : A → Result B E) (g : 
 read_then (Ok x) f g = refl
 read_then (Err e) f g = refl
 
--- A repetition is nothing, or a step and the repetition behind it.
+-- A repetition is nothing, or a step and the repetition after it.
 
 pub repeat_then : {S B : Type 0} (step : S → Language S) (s : S) (K : S → Language B)
     → IsWithinLanguage (K s or (step s >>= λ x. repeat step x >>= K)) (repeat step s >>= K)

@@ -7,7 +7,7 @@ use Rattle.rt_grammar.specs.Tokens.{sign, list}
 use Rattle.rt_parse.proofs.ExactLaws.{IsWithinLanguage, then_then, then_then', gives_then, gives_then', or_then}
 use Rattle.rt_parse.proofs.ExactLaws.{or_then', repeat_then, repeat_then'}
 
--- a form, and another behind it that adds no meaning
+-- a form, and another after it that adds no meaning
 through : {A X B : Type 0} (L : Language A) (S : Language X) (M : A → Language B)
     → IsWithinLanguage (L >>= λ x. S >>= λ z. M x) ((L >>= λ x. S >>= λ z. gives x) >>= M)
 through L S M marks y (x, front, back, l, (z, f, b, s, m, e'), e) = (
@@ -42,7 +42,7 @@ then_left L M N marks y (x, front, back, l, m, e) = (x, front, back, l, inl m, e
 then_right : {A B : Type 0} (L : Language A) (M N : A → Language B) → IsWithinLanguage (L >>= N) (L >>= λ x. M x or N x)
 then_right L M N marks y (x, front, back, l, n, e) = (x, front, back, l, inr n, e)
 
--- What stands behind an item: the sign that closes the list, or a comma and the rest of the list.
+-- What follows an item: the sign that closes the list, or a comma and the rest of the list.
 module _ {S B : Type 0} (closing : List ℕ) (item : S → Language S) (behind : S → Language B) where
   abbrev pub end_of : S → Language B
   end_of x = sign closing >>= λ z. behind x

@@ -101,7 +101,7 @@ module _ {B : Type 0} (K M N : Language B) (tokens : List Token)
     },
   )
 
--- Tokens begin with a mark, behind which the language goes on as another.
+-- Tokens begin with a mark, after which the language goes on as another.
 pub record IsMarked {B : Type 0} (L K : Language B) (mark : Mark) (tokens behind : List Token) : Type 0 where
   pub into : (marks : List Mark) (y : B) → K marks y → L (mark ∷ marks) y
   pub fits : (marks : List Mark) (rest : List Token) → Fits marks behind rest → Fits (mark ∷ marks) tokens rest

@@ -17,7 +17,7 @@ use Rattle.rt_parse.proofs.ExactStarts.{starts_then, blocked_starts, blocked_avo
 use Rattle.rt_parse.proofs.ExactStarts.{some_repeat}
 use Rattle.rt_parse.proofs.ExactChoice.{begins_with-or}
 
--- behind a step comes another, or what is behind the repetition
+-- after a step comes another, or what follows the repetition
 pub repeat_avoids : {S B : Type 0} (test goes : Token → Bool) (step : S → Language S) (s : S) → Starts test (step s)
     → Avoids goes (step s)
     → (K : S → Language B) → Avoids (λ t. test t || goes t) (K s) → Avoids goes (repeat step s >>= K)

@@ -1,4 +1,4 @@
--- The tokens of the grammar: that each stands somewhere, that different ones are apart, and their readers.
+-- The tokens of the grammar: that some text has each, that different ones are apart, and their readers.
 use Rattle.std.proofs.Common.{◌≡◌, ℕ, suc, Bool, true, false, List, [], Option, Some, None, refl, sym, ap, subst}
 use Rattle.std.specs.Prelude.{bytes_eq, if◌then◌else◌}
 use Rattle.std.proofs.lemmas.Slice.Eq.{bytes_eq-Decides}
@@ -20,7 +20,7 @@ use Rattle.rt_parse.proofs.ExactStarts.{starts_token, some_token}
 at_kind : Kind → List ℕ → Token
 at_kind kind text = record { at = 0; kind = kind; text = text }
 
--- Each stands somewhere.
+-- Some text has each.
 
 pub means_word : (text : List ℕ) → (t : Token) × (x : ℕ) × (word_of text t ≡ Some x)
 unfolding at_kind

@@ -96,7 +96,7 @@ pub avoids_or_then : {A B : Type 0} (goes : Token → Bool) (L M : Language A) (
     → Avoids goes (L >>= K) → Avoids goes (M >>= K) → Avoids goes ((L or M) >>= K)
 avoids_or_then goes L M K l m = avoids_within goes (or_then' L M K) (avoids_or goes l m)
 
--- a repetition begins as a step does, or as what is behind it
+-- a repetition begins as a step does, or as what follows it
 pub avoids_repeat_then : {S B : Type 0} (goes : Token → Bool) (step : S → Language S) (s : S) (K : S → Language B)
     → Avoids goes (K s) → Avoids goes (step s >>= λ x. repeat step x >>= K) → Avoids goes (repeat step s >>= K)
 avoids_repeat_then goes step s K k m = avoids_within goes (repeat_then' step s K) (avoids_or goes k m)

@@ -1,4 +1,4 @@
--- Readers of one form behind another, and facts of readers weakened.
+-- Readers of one form after another, and facts of readers weakened.
 use Rattle.std.proofs.Common.{◌≡◌, ℕ, ◌≤◌, Bool, true, false, List, [], ◌∷◌, ◌++◌, Result, Ok, refl, sym, ap, subst}
 use Rattle.std.proofs.Common.{arith}
 use Rattle.rt_lex.specs.Token.{Token}
@@ -106,7 +106,7 @@ reads_fewer {longer = longer} {shorter = shorter} less reads = record {
       omega arith) stop;
 }
 
--- more tokens may stand before the form and go on with it, and fewer stop its reader
+-- more tokens may come before the form and go on with it, and fewer stop its reader
 pub reads_wider : {A B C : Type 0} {before before' : Token → Bool} {goes goes' stops stops' : A → Token → Bool}
     {longer : ℕ → ℕ} {value : A → C} {L : Language A} {reader : Reader C}
     → ((t : Token) → before t ≡ true → before' t ≡ true) → ((x : A) (t : Token) → goes x t ≡ true → goes' x t ≡ true)

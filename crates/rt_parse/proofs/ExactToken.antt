@@ -1,4 +1,4 @@
--- Readers of one token, of nothing, and of one form behind another.
+-- Readers of one token, of nothing, and of one form after another.
 use Rattle.std.proofs.Common.{◌≡◌, ℕ, suc, ◌≤◌, Bool, false, List, [], ◌∷◌, ◌++◌, length, Option, Some, None, Result}
 use Rattle.std.proofs.Common.{Ok, refl, sym, ap, ◌∙◌, subst, arith}
 use Rattle.rt_ids.specs.declared.limit.Limit.{Limit}
@@ -26,7 +26,7 @@ Avoids-nothing x language [] y l = tt
 Avoids-nothing x language (Takes t limit ∷ marks) y l = refl
 Avoids-nothing x language (Ends compares deep ∷ marks) y l = λ t e. absurd cc
 
--- what stands in a text that begins with one token
+-- what a text that begins with one token has
 pub record IsBehindToken {A B : Type 0} (meaning : Token → Option A) (limit : A → Option Limit) (K : A → Language B)
     (marks : List Mark) (y : B) : Type 0 where
   pub t : Token

@@ -22,7 +22,7 @@ grows_then {L = L} {M = M} {N = N} {O = O} first next =
           (same_then L M N first.into marks y both);
     }
 
--- behind a form that stays the same
+-- after a form that stays the same
 pub grows_behind : {A B : Type 0} (L : Language A) {N O : A → Language B} → ((x : A) → Grows (N x) (O x))
     → Grows (L >>= N) (L >>= O)
 grows_behind L {N = N} {O = O} next = record { into = then_same L N O (λ x. (next x).into) }

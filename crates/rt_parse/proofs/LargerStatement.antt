@@ -147,7 +147,7 @@ larger_braced m n most blocks insides nesting before =
     grows_before (λ all. sign (codes "}") >> gives (block_of all.0, all.1))
     (grows_repeat (larger_one_more m n most blocks insides nesting) ([], before)))
 
--- what is in braces and what is behind a lock's name grow together
+-- what is in braces and what follows a lock's name grow together
 record BothGrow (m deep n deeper : ℕ) : Type 0 where
   blocks : BlocksGrow (block m deep) (block n deeper)
   insides : BlocksGrow (inside m deep) (inside n deeper)

@@ -42,7 +42,7 @@ module _ (judge : ℕ → Option Limit) where
   number_then [] = refl
   number_then (t ∷ tokens) = by_kind t.kind t.text t.at tokens
 
--- what stopped a reader stops what is behind it
+-- what stopped a reader stops what follows it
 pub still_stops : {A B : Type 0} (why : Stop) (read : Result A Found) (next : A → Result B Found) → Stops why read
     → Stops why (read >>= next)
 still_stops stop.Memory read next h = tt

@@ -20,7 +20,7 @@ pub is_some_op : (signs : Signs) (t : Token) → is_some (op_of signs t) ≡ is_
 is_some_op [] t = refl
 is_some_op (x ∷ signs) t = chosen (is_this_sign x.0 t) x.1 (op_of signs t) (is_of signs t) (is_some_op signs t)
 
--- A text of one byte, or of two, as its bytes tell.
+-- A text of one byte, or of two, by its bytes.
 
 pub one_byte : (text : List ℕ) (b : ℕ) → length text ≡ 1 → bytes_eq text (b ∷ []) ≡ nat_eq (slice_index text 0) b
 one_byte [] b e = absurd cc

@@ -55,7 +55,7 @@ locals_on most f = locals >>= λ ls. init_on most (f ls)
 abbrev shared_on : ℕ → (List SharedTree → List LocalTree → Option Body → Option Body → List Task → App) → Language App
 shared_on most f = shared_resources >>= λ ss. locals_on most (f ss)
 
--- What is behind a part that may be left out does not begin with its word.
+-- What follows a part that may be left out does not begin with its word.
 
 optional_apart : {A B C : Type 0} (text other : List ℕ) (x : A) (L : Language A) (M : A → Language B)
     (K : B → Language C) → bytes_eq other text ≡ false → Starts (is_this_word other) L

@@ -1,5 +1,5 @@
--- The readers of blocks and of what is behind a lock's name. They are told how many blocks may be opened inside each
--- other, where the grammar tells the nesting; and where none may, the limit on nesting is passed at the next one.
+-- The readers of blocks and of what follows a lock's name. Each takes how many blocks may be opened inside each
+-- other, where the grammar has the nesting; and where none may, the limit on nesting is passed at the next one.
 use Rattle.std.proofs.Common.{◌≡◌, ℕ, zero, suc, ◌+◌, ◌-◌, ◌≤◌, Bool, true, false, List, [], ◌∷◌, ◌++◌, length, Option}
 use Rattle.std.proofs.Common.{Some, None, Err, refl, sym, ap, ◌∙◌, subst, arith}
 use Rattle.std.specs.Prelude.{nat_lt, nat_eq, not, codes, ◌||◌, if◌then◌else◌}
@@ -198,7 +198,7 @@ pub record ReadsBlocks (B : Type 0) (most left deep nesting : ℕ) : Type 1 wher
   pub inside_reads : (n : ℕ) → Reads B nothing nothing suc spent (inside most deep nesting n)
       (inside_at left (STATEMENTS - n))
 
--- what is behind a lock's name is a block, or a further name
+-- what follows a lock's name is a block, or a further name
 either_reads : {B : Type 0} (most : ℕ) (blocks insides : Blocks) (nesting n : ℕ) (block_what name_what : Option Limit)
     (reader reader' : Reader (Counted Block))
     → Reads B nothing nothing suc spent (braced_with block_what most blocks insides nesting n) reader

@@ -1,4 +1,4 @@
--- The reader of a token that always passes a limit, behind which nothing is read.
+-- The reader of a token that always passes a limit, after which nothing is read.
 use Rattle.std.proofs.Common.{◌≡◌, ℕ, List, [], ◌∷◌, Option, Some, None, Result, refl, sym}
 use Rattle.std.specs.Prelude.{Bool}
 use Rattle.rt_ids.specs.declared.limit.Limit.{Limit}

@@ -65,7 +65,7 @@ chains_reads ((x ∷ signs) ∷ stronger) atom reader apart some reads =
     op_first left = starts_then (λ o. chains stronger atom >>= λ right. gives (joined_operand o left right))
         (starts_token (λ o. None) (is_of (x ∷ signs)) (op_starts (x ∷ signs)))
 
--- Laws of reading: what comes behind a comparison comes behind each of its branches.
+-- Laws of reading: what comes after a comparison comes after each of its branches.
 
 join_then : {C : Type 0} (read : Result (Op × List Token) Found) (operand : Reader Measured) (left : Measured)
     (f : Measured × List Token → Result C Found)

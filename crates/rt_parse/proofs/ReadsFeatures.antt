@@ -1,6 +1,6 @@
 -- The reader of the first declaration. The dispatchers and the floating-point extension both begin with a comma, and
--- each may be left out. So they have the texts of one form that may be left out: it begins with a comma, behind which
--- the next token tells whether the extension stands alone.
+-- each may be left out. So they have the texts of one form that may be left out: it begins with a comma, after which
+-- the next token decides whether the extension comes alone.
 use Rattle.std.proofs.Common.{ℕ, suc, Bool, true, false, List, [], refl, inl, inr, arith}
 use Rattle.std.specs.Prelude.{codes}
 use Rattle.rt_ids.specs.declared.limit.Limit.TheVariants as limit
@@ -25,7 +25,7 @@ use Rattle.rt_parse.proofs.ReadsForm.{Form, form_word, form_sign, form_this_name
 use Rattle.rt_parse.proofs.ReadsForm.{form_seq, form_map, form_fewer, form_goes, form_optional, form_same}
 use Rattle.rt_parse.proofs.ReadsHead.{names_form}
 
--- what stands behind the comma of each
+-- what follows the comma of each
 abbrev named : Language (List Ident)
 named = word (codes "dispatchers") >>= λ at. sign (codes "=") >>= λ at. names
 

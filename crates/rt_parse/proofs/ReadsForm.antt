@@ -1,4 +1,4 @@
--- A form that is read and that some text is in, so that it may stand behind another.
+-- A form that is read and that some text is in, so that it may come after another.
 use Rattle.std.proofs.Common.{◌≡◌, ℕ, suc, ◌≤◌, Bool, true, List, Option, Ok, refl}
 use Rattle.std.specs.Prelude.{if◌then◌else◌}
 use Rattle.rt_ids.specs.declared.limit.Limit.{Limit}

@@ -1,4 +1,4 @@
--- The readers of the declarations behind the first.
+-- The readers of the declarations after the first.
 use Rattle.std.proofs.Common.{◌≡◌, ℕ, suc, ◌-◌, Bool, true, false, List, [], length, Option, Some, None, Err, refl}
 use Rattle.std.proofs.Common.{arith}
 use Rattle.std.specs.Prelude.{codes, ◌||◌, bytes_eq}

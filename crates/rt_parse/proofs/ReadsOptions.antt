@@ -1,4 +1,4 @@
--- The readers of a body's options, which stand in any order, each at most once: where none may stand, any token is
+-- The readers of a body's options, which come in any order, each at most once: where none may come, any token is
 -- wrong.
 use Rattle.std.proofs.Common.{◌≡◌, ℕ, suc, Bool, true, false, List, [], ◌∷◌, Some, Result, Err, refl, sym, ◌∙◌, subst}
 use Rattle.std.proofs.Common.{inl, inr, arith}
@@ -62,7 +62,7 @@ no_take : {C : Type 0} (text : List ℕ) (reader reader' : Reader C) (tokens : L
 no_take text reader reader' [] = refl
 no_take text reader reader' (t ∷ tokens) = refl
 
--- one option that may stand here or not, or others
+-- one option that may come here or not, or others
 choice_or_none : {A B : Type 0} {L M : Language A} {reader reader' : Reader A} (allowed : Bool) (text : List ℕ)
     (texts : List (List ℕ)) → is_other text texts ≡ true
     → Starts (is_this_word text) L → Starts (of_words texts) M → Form B (λ t. false) nothing nothing suc (λ x. x) L

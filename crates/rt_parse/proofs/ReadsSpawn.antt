@@ -1,5 +1,5 @@
--- The readers of values and of the statements with no blocks. They are told how many statements may come, where the
--- grammar tells how many stand before.
+-- The readers of values and of the statements with no blocks. Each takes how many statements may come, where the
+-- grammar has how many come before.
 use Rattle.std.proofs.Common.{◌≡◌, ℕ, suc, ◌-◌, ◌≤◌, Bool, List, [], ◌∷◌, Option, Err, refl, ap, arith}
 use Rattle.std.specs.Prelude.{nat_le, nat_eq, codes}
 use Rattle.rt_ids.specs.declared.limit.Limit.{Limit}
@@ -31,7 +31,7 @@ use Rattle.rt_parse.proofs.ReadsExpression.{expression_reads}
 use Rattle.rt_parse.proofs.ReadsWords.{of_words, starts_one, starts_words, reads_words, list_some, adds_list_reads}
 use Rattle.rt_parse.proofs.ReadsForm.{Form, form_word, form_sign, form_name, form_then, form_map, form_fewer, form_same}
 
--- how what is read of a body is read: with the number of statements that may come behind it
+-- how what is read of a body is read: with the number of statements that may come after it
 abbrev pub spent : {A : Type 0} → Counted A → Counted A
 spent x = (x.0, STATEMENTS - x.1)
 
@@ -60,7 +60,7 @@ reads_counted_name n = reads_same (λ marks y l. l) (λ marks y l. l)
 pub name_some : (what : Option Limit) → IsInhabited (limited_name what)
 name_some what = some_token means_name
 
--- a sign, behind which all is read
+-- a sign, after which all is read
 pub sign_gives_some : {A : Type 0} (text : List ℕ) (x : A) → IsInhabited (sign text >>= λ end. gives x)
 sign_gives_some text x = some_then (some_sign text free) (λ end. some_gives x)
 
@@ -105,7 +105,7 @@ module _ (most : ℕ) (what : Option Limit) where
   pub spawn_starts : Starts (of_words spawn_words) (spawn most what)
   spawn_starts = starts_words (codes "spawn") of_after soon_starts afters_start
 
--- A delay in parentheses and a task, and behind them another form: at once, as it is read, and one by one.
+-- A delay in parentheses and a task, and after them another form: at once, as it is read, and one by one.
 
 abbrev delayed : ℕ → Language (Expression × Ident)
 delayed most = handle most >>= λ delay. name >>= λ task. gives (delay, task)

@@ -47,7 +47,7 @@ words_no_name (x ∷ texts) t e = go (words_no_name texts t) (is_this_word x t) 
     go next true f e = word_no_name t.kind _ f
     go next false f e = next e
 
--- behind one more statement
+-- after one more statement
 module _ {B : Type 0} (inside : ℕ → Language (Counted Block)) (reader : ℕ → Reader (Counted Block))
     (reads : (n : ℕ) → Reads B nothing nothing suc spent (inside n) (reader (STATEMENTS - n))) where
   pub reads_less : (n : ℕ) → Reads B nothing nothing suc spent (inside (suc n)) (reader ((STATEMENTS - n) - 1))
@@ -130,7 +130,7 @@ module _ {B : Type 0} (most : ℕ) (enough : suc PARENTHESES ≤ most) (block : 
           (Repeat x first.value last.value turn.0, turn.1))
       in_some x = some_then (some_word (codes "in") free) (λ at. first_some x)
 
-  -- what is behind a lock's name is read by the reader
+  -- what follows a lock's name is read by the reader
   lock_reads : {before : Token → Bool} (n : ℕ) → ReadsAfter B before nothing nothing suc spent (lock block nesting n)
       (lock_at reader (STATEMENTS - n))
   unfolding lock_at

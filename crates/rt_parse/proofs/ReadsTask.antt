@@ -49,7 +49,7 @@ body_form most le = record {
       body_some most most 1 0 (omega arith);
 }
 
--- what is behind options or parameters begins with the sign of a block
+-- what follows options or parameters begins with the sign of a block
 behind_block : {A B : Type 0} (goes : Token → Bool) → ((t : Token) → is_this_sign (codes "{") t ≡ true → goes t ≡ false)
     → (most : ℕ) (M : Counted Block → Language A) (K : A → Language B) → Avoids goes (block most most 1 0 >>= M >>= K)
 behind_block goes apart most M K = avoids_apart (is_this_sign (codes "{")) goes apart
@@ -122,7 +122,7 @@ block_no_argument : (xs : List Ident) (t : Token) → is_this_sign (codes "{") t
 block_no_argument xs t e = or_neither (is_this_word (codes "with") t) (is_this_sign (codes ",") t)
     (sign_no_word (codes "{") (codes "with") t e) (signs_apart (codes "{") (codes ",") refl t e)
 
--- behind options come parameters or the block
+-- after options come parameters or the block
 arguments_apart : {A B : Type 0} (most : ℕ) (M : List Ident → Counted Block → Language A) (K : A → Language B)
     → Avoids (is_this_sign (codes "(")) (parameters >>= (λ args. block most most 1 0 >>= M args) >>= K)
 unfolding parameters_of

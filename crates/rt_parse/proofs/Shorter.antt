@@ -118,7 +118,7 @@ no_longer_repeat starts step h zero s = no_longer_ok s
 no_longer_repeat starts step h (suc n) s = no_longer_if (begins_with starts) _ _
     (no_longer_then (h s) (λ x. no_longer_repeat starts step h n x)) (no_longer_ok s)
 
--- what a reader of the code gave is behind a token at least
+-- what a reader of the code gave comes after a token at least
 pub given_shorter : {A : Type 0} {reader : Reader A} → IsShorter reader
     → (tokens : List Token) (result : Result (A × List Token) Stop) → Gives (λ x. x) result (reader tokens)
     → IfOk result (λ x. length x.1 < length tokens)

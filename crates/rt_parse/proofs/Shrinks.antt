@@ -159,7 +159,7 @@ pub shrinks_adds : {A : Type 0} {item item' : ℕ → Language A} → ((n : ℕ)
     → Shrinks (adds item xs) (adds item' xs)
 shrinks_adds items xs = shrinks_then (items _) (λ x. shrinks_gives (xs ++ x ∷ []))
 
--- a token that always passes a limit, whatever stands behind it
+-- a token that always passes a limit, whatever follows it
 pub shrinks_closed : {A B : Type 0} {meaning : Token → Option A} {limit : A → Option Limit} {M M' : A → Language B}
     → IsAlways limit → IsInhabited (token meaning limit >>= M')
     → Shrinks (token meaning limit >>= M) (token meaning limit >>= M')

@@ -32,7 +32,7 @@ fits_front (Ends compares deep ∷ marks) (u ∷ before) more left (stop, fits) 
     let f = fits_front marks (u ∷ before) more left fits le in
     (Ends compares deep ∷ f.0, f.1, ap (λ (ms : List Mark). Ends compares deep ∷ ms) f.2, (stop, f.3))
 
--- marks of some tokens begin with marks that any tokens may stand behind: all up to the last token
+-- marks of some tokens begin with marks that any tokens may follow: all up to the last token
 fits_behind : (marks : List Mark) (before rest : List Token) → Fits marks before []
     → (front : List Mark) × (back : List Mark) × (marks ≡ front ++ back) × Fits front (before ++ rest) rest
 fits_behind marks [] rest fits = ([], marks, refl, refl)
@@ -72,7 +72,7 @@ begins_by marks before more left r le =
       },
     )
 
--- where these tokens begin a text, some text goes as far as them, whatever stands behind
+-- where these tokens begin a text, some text goes as far as them, whatever follows
 pub reaches_by : (before rest : List Token) → IsViablePrefix before → (marks : List Mark)
     × Reaches text (before ++ rest) marks rest
 reaches_by before rest (marks, r) =

@@ -38,7 +38,7 @@ suffix_shorter : (front rest ts : List Token) → ts ≡ front ++ rest → lengt
 suffix_shorter front rest ts e = let n : length ts ≡ length (front ++ rest) = ap length e in
     let m : length (front ++ rest) ≡ _ = length-append front rest in omega (arith, n, m)
 
--- what a front leaves, the marks behind it start from
+-- the marks after a front start from what it leaves
 pub front_fits : (a b : List Mark) (ts left rest : List Token) → IsFront a b → Fits a ts left → Fits b ts rest
     → (more : List Mark) × (b ≡ a ++ more) × Fits more left rest
 front_fits a b ts left rest (more, e) fits fits' =

@@ -49,7 +49,7 @@ pub long_refused : (src : List ℕ) → TEXT_BYTES < length src → IsRefused sr
 long_refused src long = record { at = 0; stands = (long, refl); place = refl }
 
 module _ (src : List ℕ) (short : length src ≤ TEXT_BYTES) where
-  -- what the reader finds wrong, behind tokens that begin a text
+  -- what the reader finds wrong, after tokens that begin a text
   module _ (before : List Token) (begins : IsViablePrefix before) (unlimited : IsUnlimited (tokens src))
       (none : (app : App) → IsSpelled (tokens src) app → ⊥) where
     wrong_refused : (rest : List Token) → tokens src ≡ before ++ rest

@@ -47,7 +47,7 @@ same_body b p c body o blk at a e = rw (
   e,
 ) refl
 
--- a block, and the line feed behind it
+-- a block, and the line feed after it
 whole_block_reads : (b : Block) (Y : List ℕ) → IsPrintableBlock b → Reads (block 16 16 1 0) (IsBlock b 0)
     (block_text [] b ++ 10 ∷ Y) Y
 whole_block_reads b Y h = read_trail (block 16 16 1 0) (IsBlock b 0) (block_text [] b ++ 10 ∷ Y) Y

@@ -48,7 +48,7 @@ none_is : {A B : Type 0} (f : A → B) (x : Option A) → option_map f x ≡ Non
 none_is f None e = refl
 none_is f (Some x) e = absurd cc
 
--- what is left of the options between parentheses, of which the first stands next
+-- what is left of the options between parentheses, of which the first comes next
 abbrev pub Left : Owner → (Options → Type 0) → List ℕ → List (List ℕ) → Options → Type 0
 Left owner Q Y [] o = Q o
 Left owner Q Y (x ∷ xs) o = Reads (list (codes ")") (option owner) o) Q
@@ -78,7 +78,7 @@ options_reads owner Q (x ∷ xs) Y h =
     (read_then (sign (codes "(")) (λ c. list (codes ")") (option owner) no_options) Any Q (40 ∷ (S ++ 41 ∷ Y))
     (S ++ 41 ∷ Y) Y (read_sign (codes "(") free (S ++ 41 ∷ Y) refl refl) (λ c u. h)))
 
--- an option's word and the sign behind it
+-- an option's word and the sign after it
 read_word_is : {A : Type 0} (w : List ℕ) (L : Language A) (P : A → Type 0) (Z Y : List ℕ)
     → IsFront w kind.Word (codes " = " ++ Z) → Reads L P Z Y
     → Reads (word w >> (sign (codes "=") >> L)) P (w ++ (codes " = " ++ Z)) Y

@@ -124,7 +124,7 @@ dispatchers_read (x ∷ xs) Y h =
 abbrev IsOn : Bool → Bool → Type 0
 IsOn on read = read ≡ on
 
--- the extension, and the parenthesis behind it
+-- the extension, and the parenthesis after it
 fpu_reads : (on : Bool) (Y : List ℕ) → Reads fpu (IsOn on) (fpu_text on ++ 41 ∷ Y) (41 ∷ Y)
 fpu_reads false Y =
     read_left (gives false) _ (IsOn false) (41 ∷ Y) (41 ∷ Y) (read_gives (IsOn false) false (41 ∷ Y) refl)

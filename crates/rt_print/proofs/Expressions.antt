@@ -119,7 +119,7 @@ op_is_in op.Le = inr (λ at. refl)
 op_is_in op.Gt = inr (λ at. refl)
 op_is_in op.Ge = inr (λ at. refl)
 
--- a form ends behind this expression
+-- a form ends after this expression
 abbrev EndsAt : {A : Type 0} → (Operand → Bool → Language A) → Expression → (A → Type 0) → List ℕ → Type 0
 EndsAt ended e Q Y = (x : Operand) (compares : Bool) → IsOperand e x → Reads (ended x compares) Q Y Y
 

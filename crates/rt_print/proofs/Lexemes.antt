@@ -33,7 +33,7 @@ use Rattle.rt_grammar.specs.Tokens.{free, word_of, sign_of, name_of, ident_of, n
 use Rattle.rt_grammar.specs.Tokens.{limited_word, limited_sign, limited_name, this_name, limited_number}
 use Rattle.rt_print.proofs.Reading.{Reads, Any, read_token}
 
--- a text begins with this token where this stands behind it
+-- a text begins with this token where this follows it
 abbrev pub IsFront : List ℕ → Kind → List ℕ → Type 0
 IsFront [] k Y = ⊥
 IsFront (b ∷ text) k Y = front_of b (b ∷ (text ++ Y)) ≡ makes (length (b ∷ text)) k

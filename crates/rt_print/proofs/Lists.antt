@@ -13,7 +13,7 @@ use Rattle.rt_print.proofs.Reading.{read_same}
 use Rattle.rt_print.proofs.Lexemes.{Stops, read_sign}
 use Rattle.rt_print.proofs.Expressions.{Plain, plain_comma}
 
--- a text behind a whole item of a list
+-- a text after a whole item of a list
 pub record IsEnd (X : List ℕ) : Type 0 where
   pub stops : Stops X
   pub plain : Plain X
@@ -39,7 +39,7 @@ list_more closing item s marks x h =
       h.5 ∙ ap (λ (u : List Mark). h.1 ++ u) r.5 ∙ sym (append_assoc h.1 r.1 r.2),
     )
 
--- an item, and more of the list behind it
+-- an item, and more of the list after it
 pub list_step : {S : Type 0} (closing : List ℕ) (item : S → Language S) (P Q : S → Type 0) (s : S) (X Z Y : List ℕ)
     → Reads (item s) P X (44 ∷ 32 ∷ Z)
     → ((t : S) → P t → Reads (list closing item t) Q Z Y) → Reads (list closing item s) Q X Y

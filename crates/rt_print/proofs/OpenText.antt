@@ -1,4 +1,4 @@
--- Options one behind the other, and options in parentheses.
+-- Options one after the other, and options in parentheses.
 use Rattle.std.proofs.Common.{◌≡◌, ℕ, Bool, true, false, ◌||◌, List, [], ◌∷◌, ◌++◌, Result, OnOk, codes, refl, sym, ap}
 use Rattle.std.proofs.Common.{◌∙◌, append_assoc, append-nil}
 use Rattle.rt_lemmas.proofs.Bools.{or_false, or_true, or_regrouped}
@@ -35,7 +35,7 @@ pub options_are : (os : List (List ℕ)) → opened_text false os ++ closing_tex
 options_are [] = refl
 options_are (o ∷ os) = ap (λ (t : List ℕ). 40 ∷ ((o ++ t) ++ codes ")")) (further_opened os)
 
--- what is left of options, of which some stand here
+-- what is left of options, of which some come here
 abbrev left : Bool → List (List ℕ) → List ℕ
 left opened os = opened_text opened os ++ closing_text (opened || has_any os)
 

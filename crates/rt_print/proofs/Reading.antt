@@ -171,7 +171,7 @@ pub read_same : {A : Type 0} (L : Language A) (P : A → Type 0) (X X' Y : List 
     → Reads L P X' Y
 read_same L P X X' Y e h = subst (λ (x : List ℕ). Reads L P x Y) (sym e) h
 
--- a line feed behind it
+-- a line feed after it
 pub read_trail : {A : Type 0} (L : Language A) (P : A → Type 0) (X Y : List ℕ) → Reads L P X (10 ∷ Y) → Reads L P X Y
 read_trail L P X Y h at =
     let r = h at in
@@ -186,7 +186,7 @@ read_trail L P X Y h at =
       within = r.within;
     }
 
--- a form that stands here
+-- a form that comes here
 pub read_only_if : {A : Type 0} (here : Bool) (L : Language A) (P : A → Type 0) (X Y : List ℕ) → here ≡ true
     → Reads L P X Y → Reads (only_if here L) P X Y
 read_only_if here L P X Y e h = read_as L (only_if here L) P P X Y (λ marks x m. (e, m)) (λ x p. p) h

@@ -185,7 +185,7 @@ spawn_reads (Move at delay task e) most what Y h m w =
 abbrev pub IsValue : Value → Value → Type 0
 IsValue v u = bare_value u ≡ bare_value v
 
--- a bound value, and the semicolon behind it
+-- a bound value, and the semicolon after it
 pub value_reads : (v : Value) (most : ℕ) (Y : List ℕ) → IsPrintableValue v → 16 ≤ most
     → Reads (value most) (IsValue v) (value_text v ++ 59 ∷ Y) (59 ∷ Y)
 value_reads (Calc e) most Y h m =

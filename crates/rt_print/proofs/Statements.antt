@@ -28,7 +28,7 @@ use Rattle.rt_print.proofs.Lexemes.{IsNamed, IsNumber, read_name, read_number, r
 use Rattle.rt_print.proofs.Expressions.{IsTree, expression_reads, Plain, plain_semicolon, plain_block}
 use Rattle.rt_print.proofs.Spawns.{IsSpawn, IsValue, spawn_reads, value_reads}
 
--- what is read of a statement behind so many, and of a block
+-- what is read of a statement after so many, and of a block
 pub record IsStatement (s : Statement) (before : ℕ) (c : Counted Statement) : Type 0 where
   pub same : bare_statement c.0 ≡ bare_statement s
   pub count : c.1 ≡ before + statements_in s
@@ -46,7 +46,7 @@ nested_free nesting h = rw (le-ltb 16 nesting h) refl
 turned_free : (first last : ℕ) → last - first ≤ 1000 → turn_limit first last ≡ None
 turned_free first last h = rw (le-ltb 1000 (last - first) h) refl
 
--- a semicolon, and a statement's meaning behind it
+-- a semicolon, and a statement's meaning after it
 read_done : {A : Type 0} (P : A → Type 0) (x : A) (Y : List ℕ) → P x → Reads (sign (codes ";") >> gives x) P (59 ∷ Y) Y
 read_done P x Y p = read_then (sign (codes ";")) (λ c. gives x) Any P (59 ∷ Y) Y Y
     (read_sign (codes ";") free Y refl refl) (λ c u. read_gives P x Y p)
@@ -121,7 +121,7 @@ call_reads s most before Y h m few =
     (spawn_reads s most (statement_limit before) (59 ∷ Y) h m (counted_free before few)) (λ t f.
     read_done P (Spawns t, suc before) Y (record { same = ap Spawns f; count = one_count before }))
 
--- the statements read behind others
+-- the statements read after others
 pub record AreStatements (b : Block) (before : ℕ) (others : List Statement) (c : Counted (List Statement)) : Type
     0 where
   pub own : List Statement
@@ -386,7 +386,7 @@ call_statement s margin most deep nesting before Y h i m d n few =
     (read_right _ _ P _ Y (read_right _ _ P _ Y (read_right _ _ P _ Y
     (read_right _ (call most before) P _ Y (call_reads s most before Y h m (omega (arith, few))))))))))
 
--- one more statement behind others
+-- one more statement after others
 record IsAdded (s : Statement) (before : ℕ) (others : List Statement) (c : Counted (List Statement)) : Type 0 where
   own : Statement
   all : c.0 ≡ others ++ own ∷ []

@@ -34,7 +34,7 @@ block-returns-in-Some t c =
     rw (ap (λ left. block_at left c.args.room c.args.tokens) e ∙ block_suc c.in-Some.fewer c.args.room c.args.tokens)
     c.braced_block.ensures
 
--- one more statement behind those so far, or what stops it
+-- one more statement after those so far, or what stops it
 more : (left room room' : ℕ) (so_far : List Statement) (s : Statement) (rest behind : List Token)
     → statement_at (block_at left) (inside_at left) room rest ≡ Ok ((s, room'), behind)
     → one_more_at (block_at left) (inside_at left) (so_far, room) rest ≡ Ok ((so_far ++ s ∷ [], room'), behind)
