@@ -2,7 +2,6 @@ ghost use Rattle.std.specs.Prelude.{◌≡◌, ◌≤◌, ◌∷◌, [], ◌++�
 ghost use Rattle.rt_ids.specs.declared.limits.TheConstants.{TASKS};
 ghost use Rattle.rt_app.specs.View.{body_of, task_of, app_of};
 ghost use Rattle.rt_app.specs.Bodies.{thread_members, task_members, members};
-ghost use Rattle.rt_app.specs.BodyCost as cost;
 ghost use Rattle.rt_app.specs.Ceiling.{ceilings};
 ghost use Rattle.rt_app.specs.Level.{is_armed};
 ghost use Rattle.rt_app.specs.Stack as stack;

@@ -1,4 +1,4 @@
-ghost use Rattle.std.specs.Prelude.{◌≡◌, ◌+◌, ◌-◌, ◌^◌, min, option_map, sum_by};
+ghost use Rattle.std.specs.Prelude.{◌≡◌, ◌-◌, ◌^◌, min, option_map, sum_by};
 ghost use Rattle.rt_app.specs.View.{body_of, app_of};
 ghost use Rattle.rt_app.specs.Bodies.{body_at};
 ghost use Rattle.rt_app.specs.Level.{levels};

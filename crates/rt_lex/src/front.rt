@@ -1,6 +1,6 @@
 // What a text begins with: a blank, a comment, or the longest token that fits.
 
-ghost use Rattle.std.specs.Prelude.{◌≡◌, not, ◌==◌, ◌∷◌, List, ℕ, take, take_while};
+ghost use Rattle.std.specs.Prelude.{◌≡◌, ◌∷◌, List, ℕ, take, take_while};
 ghost use Rattle.rt_lex.specs.Bytes.{is_blank, is_hex_digit};
 ghost use Rattle.rt_ids.specs.Byte.{is_digit, is_name_byte};
 ghost use Rattle.rt_lex.specs.Spelling.{is_long_sign, is_short_sign};

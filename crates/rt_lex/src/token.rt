@@ -1,4 +1,4 @@
-ghost use Rattle.std.specs.Prelude.{◌≡◌, ◌<◌, drop};
+ghost use Rattle.std.specs.Prelude.{◌≡◌, ◌<◌};
 ghost use Rattle.rt_lex.specs.Bytes.{digit_value};
 ghost use Rattle.rt_lex.specs.Number.{value_of, number_value, in_32_bits};
 ghost use Rattle.rt_lex.specs.Token.{view, is_this_word, is_this_name, is_this_sign};

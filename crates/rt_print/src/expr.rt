@@ -1,6 +1,6 @@
-ghost use Rattle.std.specs.Prelude.{◌≡◌, ◌++◌, codes, map, OnOk};
+ghost use Rattle.std.specs.Prelude.{◌≡◌, ◌++◌, codes, OnOk};
 ghost use Rattle.rt_ast.specs.View.{expression_of};
-ghost use Rattle.rt_ast.specs.CanonicalExpression.{separated_list, sign_text, operand_text, expression_text};
+ghost use Rattle.rt_ast.specs.CanonicalExpression.{sign_text, operand_text, expression_text};
 
 use crate::text::push_name;
 use rt_ast::Expr;

@@ -1,4 +1,4 @@
-ghost use Rattle.std.specs.Prelude.{◌≡◌, ◌++◌, ◌||◌, false, IfOk, OnOk};
+ghost use Rattle.std.specs.Prelude.{◌≡◌, ◌++◌, ◌||◌, IfOk, OnOk};
 ghost use Rattle.rt_ast.specs.View as view;
 ghost use Rattle.rt_ast.specs.CanonicalOptions.{listed_text, binds_option_text, priority_option_text};
 ghost use Rattle.rt_ast.specs.CanonicalOptions.{capacity_option_text, shared_option_text, local_option_text};
