@@ -10,10 +10,12 @@ use Rattle.rt_parse.specs.Inside.Reading.{begins_with}
 use Rattle.rt_parse.specs.Inside.ReadingNested.{further_at}
 use Rattle.rt_parse.specs.Inside.ReadingStatement.{block_at, inside_at, below_at}
 
-pub block_is : (statements : List Stmt) → grammar.block_of (map statement_of statements) ≡ code.block_of statements
-block_is [] = refl
-block_is (s ∷ statements) = ap (Then (statement_of s)) (block_is statements)
+-- the block of statements is the same in the code and in the grammar
+pub block : (statements : List Stmt) → grammar.block_of (map statement_of statements) ≡ code.block_of statements
+block [] = refl
+block (s ∷ statements) = ap (Then (statement_of s)) (block statements)
 
+-- what follows a lock's name is a further name after a comma, and else the block
 pub inside_is : (left room : ℕ) (tokens : List Token) →
     inside_at left room tokens ≡ cond (begins_with (is_this_sign (codes ",")) tokens)
     (further_at (below_at left) left room tokens) (block_at left room tokens)

@@ -134,7 +134,6 @@ module _ {A B C : Type 0} {goes : A → Token → Bool} {value : A → C} (atom 
       (ended left false or compared left)
       (λ tokens. reading.◌>>=◌ (comparison_tail_at (chains_at strengths reader) (measure left) tokens)
       (λ e. ended_at e.0 e.1))
-  unfolding comparison_tail_at
   choice_reads left = reads_same (λ marks y l. l) (λ marks y l. l)
       (λ tokens. compare_then (chains_at strengths reader) (measure left) tokens ended_at
       (begins_with (is_of comparisons) tokens))

@@ -16,7 +16,7 @@ use Rattle.rt_grammar.specs.Simple.{Counted, bind, assign, emit, pend, call}
 use Rattle.rt_grammar.specs.Statement.{Blocks, branch, loop, lock, statement}
 use Rattle.rt_parse.specs.Inside.Reading.{Reader}
 use Rattle.rt_parse.specs.Inside.ReadingExpression.{is_name, is_name_kind}
-use Rattle.rt_parse.specs.Inside.ReadingNested.{else_block_at, else_at, branch_at, loop_at, lock_at}
+use Rattle.rt_parse.specs.Inside.ReadingNested.{else_at, branch_at, loop_at, lock_at}
 use Rattle.rt_parse.specs.Inside.ReadingStatement.{statement_at}
 use Rattle.rt_parse.proofs.Exact.{IsInhabited, Starts, ReadsAfter, Reads, nothing}
 use Rattle.rt_parse.proofs.ExactThen.{some_then, reads_then, reads_map, reads_fewer, reads_same, reads_any}
@@ -60,7 +60,7 @@ module _ {B : Type 0} (most : ℕ) (enough : suc PARENTHESES ≤ most) (block : 
     → Reads B nothing nothing suc spent (block (suc nesting) n) (reader (STATEMENTS - n))) where
   else_reads : {before : Token → Bool} (n : ℕ) → ReadsAfter B before (λ x. is_else) nothing (λ n. n) spent
       (or_else (Empty, n) (word (codes "else") >> block (suc nesting) n)) (else_at reader (STATEMENTS - n))
-  unfolding else_at else_block_at
+  unfolding else_at
   else_reads n = reads_optional is_else (Empty, n) (starts_then (λ at. block (suc nesting) n)
       (starts_word (codes "else") free)) (λ t f. f) (λ n. omega arith)
       (reads_any (reads_then _ reads_word (λ at. reads n) (λ at. some n)))

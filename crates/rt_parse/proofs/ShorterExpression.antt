@@ -40,7 +40,6 @@ shorter_chains (signs ∷ stronger) atom h = shorter_chain signs (chains_at stro
 
 no_longer_compared : (operand : Reader Measured) (left : Measured) → IsShorter operand
     → IsNoLonger (comparison_tail_at operand left)
-unfolding comparison_tail_at
 no_longer_compared operand left h =
     no_longer_if (begins_with (is_of comparisons)) _ _ (shorter_no_longer (shorter_joined comparisons operand left h))
     (no_longer_ok left)

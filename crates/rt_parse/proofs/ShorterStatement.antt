@@ -11,7 +11,7 @@ use Rattle.rt_parse.specs.Inside.ReadingSpawn.{arguments_at, enclosed_expression
 use Rattle.rt_parse.specs.Inside.ReadingSpawn.{cancel_at}
 use Rattle.rt_parse.specs.Inside.ReadingSpawn.{move_at, spawn_at, now_at, call_value_at, calc_at, value_at, is_spawn}
 use Rattle.rt_parse.specs.Inside.ReadingSimple.{bind_at, assign_at, emit_at, pend_at, call_at}
-use Rattle.rt_parse.specs.Inside.ReadingNested.{else_block_at, else_at, branch_at, loop_at, further_at, lock_at}
+use Rattle.rt_parse.specs.Inside.ReadingNested.{else_at, branch_at, loop_at, further_at, lock_at}
 use Rattle.rt_parse.specs.Inside.ReadingStatement.{statement_at, one_more_at, is_inside, braced_block_at}
 use Rattle.rt_parse.specs.Inside.ReadingStatement.{closed_block_at, nothing_at, block_at, inside_at}
 use Rattle.rt_parse.proofs.Shorter.{IsShorter, IsNoLonger, shorter_no_longer, shorter_then, no_longer_then}
@@ -113,7 +113,7 @@ AreShorter block = (room : ℕ) → IsShorter (block room)
 
 pub no_longer_else : (block : ℕ → Reader (Counted Block)) → AreShorter block → (room : ℕ)
     → IsNoLonger (else_at block room)
-unfolding else_at else_block_at
+unfolding else_at
 no_longer_else block h room =
     no_longer_if (begins_with (is_this_word (codes "else"))) _ _
     (shorter_no_longer (shorter_then (shorter_token _ _) (λ _. shorter_no_longer (h room)))) (no_longer_ok _)
@@ -184,7 +184,6 @@ shorter_closed_block =
     shorter_then (shorter_token _ _) (λ _. shorter_no_longer (shorter_err (Counted Block) fault_found_at))
 
 shorter_nothing : AreShorter nothing_at
-unfolding nothing_at
 shorter_nothing room = shorter_err (Counted Block) fault_found_at
 
 mutual

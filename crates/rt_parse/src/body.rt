@@ -8,9 +8,10 @@ ghost use Rattle.rt_grammar.specs.Bodies.{or_empty};
 ghost use Rattle.rt_parse.specs.Inside.Reading.{Gives, begins_with, repeat_at};
 ghost use Rattle.rt_parse.specs.Inside.ReadingList.{items_at, adds_at};
 ghost use Rattle.rt_parse.specs.Inside.ReadingOptions.{binds_at, priority_at, capacity_at, shared_list_at};
-ghost use Rattle.rt_parse.specs.Inside.ReadingOptions.{local_list_at, takes, option_at, options_at};
-ghost use Rattle.rt_parse.specs.Inside.ReadingBodies.{thread_body_at, one_argument_at, argument_at, task_arguments_at};
-ghost use Rattle.rt_parse.specs.Inside.ReadingBodies.{task_is, task_block_at, task_at};
+ghost use Rattle.rt_parse.specs.Inside.ReadingOptions.{local_list_at, takes, option_at, some_options_at, options_at};
+ghost use Rattle.rt_parse.specs.Inside.ReadingBodies.{thread_at, thread_body_at, one_argument_at, argument_at};
+ghost use Rattle.rt_parse.specs.Inside.ReadingBodies.{parameters_at, task_arguments_at, task_is, task_block_at};
+ghost use Rattle.rt_parse.specs.Inside.ReadingBodies.{task_at};
 ghost use Rattle.rt_parse.specs.Inside.ReadingDeclaration.{app_is, bodies_at, declarations_at, application_at, text_at};
 ghost use Rattle.rt_parse.specs.Inside.DeclarationView.{declared_view, head_view, options_view, owner_view};
 ghost use Rattle.rt_parse.specs.Inside.DeclarationView.{items_of};
@@ -259,8 +260,21 @@ fn option_list<'a>(
     Ok((options, rest))
 }
 
+/// The options of a body from their parenthesis on.
+#[tactic(auto, unfolding(crate::specs::Inside::ReadingOptions::some_options_at))]
+fn some_options<'a>(
+    alloc: Global,
+    tokens: Tokens<'a>,
+    owner: Owner,
+) -> Result<(BodyOptions, Tokens<'a>), Stop>
+    ensures { Gives (λ x. (options_view x.0, x.1)) result (some_options_at (owner_view owner) tokens.entry) }
+{
+    let (_, tokens) = sign(tokens, b"(")?;
+    option_list(alloc, tokens, owner)
+}
+
 /// The options of a body, where there are any.
-#[tactic(auto, unfolding(crate::specs::Inside::ReadingOptions::options_at, crate::specs::Inside::ReadingOptions::some_options_at))]
+#[tactic(auto, unfolding(crate::specs::Inside::ReadingOptions::options_at))]
 fn options<'a>(
     alloc: Global,
     tokens: Tokens<'a>,
@@ -268,11 +282,11 @@ fn options<'a>(
 ) -> Result<(BodyOptions, Tokens<'a>), Stop>
     ensures { Gives (λ x. (options_view x.0, x.1)) result (options_at (owner_view owner) tokens.entry) }
 {
-    if !begins_sign(&tokens, b"(") {
-        return Ok((no_options(), tokens));
+    if begins_sign(&tokens, b"(") {
+        some_options(alloc, tokens, owner)
+    } else {
+        Ok((no_options(), tokens))
     }
-    let (_, tokens) = sign(tokens, b"(")?;
-    option_list(alloc, tokens, owner)
 }
 
 /// The items of a list, or none.
@@ -285,20 +299,16 @@ fn or_empty<T: Drop>(alloc: Global, list: Option<Vec<T>>) -> Vec<T>
     }
 }
 
-/// The body of `init` or `idle`, where there is one.
-#[tactic(auto, unfolding(crate::specs::Inside::ReadingBodies::thread_body_at, crate::specs::Inside::ReadingBodies::thread_at))]
-fn thread_body<'a>(
+/// The body of `init` or `idle` from its word on.
+#[tactic(auto, unfolding(crate::specs::Inside::ReadingBodies::thread_at))]
+fn thread<'a>(
     alloc: Global,
     tokens: Tokens<'a>,
     owner: Owner,
     text: &[u8],
 ) -> Result<(Option<BodyTree>, Tokens<'a>), Stop>
-    ensures { Gives (λ x. (option_map body_of x.0, x.1)) result
-        (thread_body_at (owner_view owner) text.now tokens.entry) }
+    ensures { Gives (λ x. (option_map body_of x.0, x.1)) result (thread_at (owner_view owner) text.now tokens.entry) }
 {
-    if !begins_word(&tokens, text) {
-        return Ok((None, tokens));
-    }
     let (at, tokens) = word(tokens, text)?;
     let (options, tokens) = options(alloc, tokens, owner)?;
     let ((block, _), tokens) = block(alloc, tokens, NESTING, STATEMENTS as u32)?;
@@ -309,6 +319,24 @@ fn thread_body<'a>(
         at,
     };
     Ok((Some(body), tokens))
+}
+
+/// The body of `init` or `idle`, where there is one.
+#[tactic(auto, unfolding(crate::specs::Inside::ReadingBodies::thread_body_at))]
+fn thread_body<'a>(
+    alloc: Global,
+    tokens: Tokens<'a>,
+    owner: Owner,
+    text: &[u8],
+) -> Result<(Option<BodyTree>, Tokens<'a>), Stop>
+    ensures { Gives (λ x. (option_map body_of x.0, x.1)) result
+        (thread_body_at (owner_view owner) text.now tokens.entry) }
+{
+    if begins_word(&tokens, text) {
+        thread(alloc, tokens, owner, text)
+    } else {
+        Ok((None, tokens))
+    }
 }
 
 /// One more argument, after so many others.
@@ -345,17 +373,26 @@ fn more_arguments<'a>(
     Ok((arguments, rest))
 }
 
-/// The arguments of a task, where there are any.
-#[tactic(auto, unfolding(crate::specs::Inside::ReadingBodies::task_arguments_at, crate::specs::Inside::ReadingBodies::parameters_at))]
-fn task_arguments<'a>(alloc: Global, tokens: Tokens<'a>) -> Result<(Vec<Ident>, Tokens<'a>), Stop>
-    ensures { Gives (λ x. (x.0.items, x.1)) result (task_arguments_at tokens.entry) }
+/// The arguments of a task from `with` on.
+#[tactic(auto, unfolding(crate::specs::Inside::ReadingBodies::parameters_at))]
+fn parameters<'a>(alloc: Global, tokens: Tokens<'a>) -> Result<(Vec<Ident>, Tokens<'a>), Stop>
+    ensures { Gives (λ x. (x.0.items, x.1)) result (parameters_at tokens.entry) }
 {
-    if !begins_word(&tokens, b"with") {
-        return Ok((Vec::new(alloc), tokens));
-    }
     let (_, tokens) = word(tokens, b"with")?;
     let (first, tokens) = name(alloc, tokens)?;
     more_arguments(alloc, tokens, first)
+}
+
+/// The arguments of a task, where there are any.
+#[tactic(auto, unfolding(crate::specs::Inside::ReadingBodies::task_arguments_at))]
+fn task_arguments<'a>(alloc: Global, tokens: Tokens<'a>) -> Result<(Vec<Ident>, Tokens<'a>), Stop>
+    ensures { Gives (λ x. (x.0.items, x.1)) result (task_arguments_at tokens.entry) }
+{
+    if begins_word(&tokens, b"with") {
+        parameters(alloc, tokens)
+    } else {
+        Ok((Vec::new(alloc), tokens))
+    }
 }
 
 /// The tree of a task, from what was read of it.

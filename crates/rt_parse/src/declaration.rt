@@ -5,9 +5,9 @@ ghost use Rattle.rt_parse.specs.Inside.Reading.{Gives, name_at};
 ghost use Rattle.rt_parse.specs.Inside.ReadingList.{names_at};
 ghost use Rattle.rt_parse.specs.Inside.ReadingResources.{interrupt_at, interrupts_at, clock_priority_at, clock_at};
 ghost use Rattle.rt_parse.specs.Inside.ReadingResources.{monotonic_at, first_value_at, lock_free_at};
-ghost use Rattle.rt_parse.specs.Inside.ReadingResources.{locked_resource_at, resource_at, shared_resources_at};
-ghost use Rattle.rt_parse.specs.Inside.ReadingResources.{local_at, locals_at};
-ghost use Rattle.rt_parse.specs.Inside.ReadingOptions.{listed_resource_at};
+ghost use Rattle.rt_parse.specs.Inside.ReadingResources.{locked_resource_at, resource_at, resources_at};
+ghost use Rattle.rt_parse.specs.Inside.ReadingResources.{shared_resources_at, local_at, local_resources_at, locals_at};
+ghost use Rattle.rt_parse.specs.Inside.ReadingOptions.{ref_resource_at, named_resource_at, listed_resource_at};
 ghost use Rattle.rt_parse.specs.Inside.ReadingDeclaration.{dispatchers_at, extension_at, fpu_at, behind_comma_at};
 ghost use Rattle.rt_parse.specs.Inside.ReadingDeclaration.{features_at, head_rest_at, priority_bits_at, head_at};
 
@@ -336,20 +336,29 @@ impl Item for SharedTree {
     }
 }
 
+/// The shared resources from their word on.
+#[tactic(auto, unfolding(crate::specs::Inside::ReadingResources::resources_at))]
+fn resources<'a>(alloc: Global, tokens: Tokens<'a>) -> Result<(Vec<SharedTree>, Tokens<'a>), Stop>
+    ensures { Gives (λ x. (x.0.items, x.1)) result (resources_at tokens.entry) }
+{
+    let (_, tokens) = word(tokens, b"shared")?;
+    let (_, tokens) = sign(tokens, b"{")?;
+    list(alloc, tokens, b"}")
+}
+
 /// The shared resources, where any are declared.
-#[tactic(auto, unfolding(crate::specs::Inside::ReadingResources::shared_resources_at, crate::specs::Inside::ReadingResources::resources_at))]
+#[tactic(auto, unfolding(crate::specs::Inside::ReadingResources::shared_resources_at))]
 pub(crate) fn shared_resources<'a>(
     alloc: Global,
     tokens: Tokens<'a>,
 ) -> Result<(Vec<SharedTree>, Tokens<'a>), Stop>
     ensures { Gives (λ x. (x.0.items, x.1)) result (shared_resources_at tokens.entry) }
 {
-    if !begins_word(&tokens, b"shared") {
-        return Ok((Vec::new(alloc), tokens));
+    if begins_word(&tokens, b"shared") {
+        resources(alloc, tokens)
+    } else {
+        Ok((Vec::new(alloc), tokens))
     }
-    let (_, tokens) = word(tokens, b"shared")?;
-    let (_, tokens) = sign(tokens, b"{")?;
-    list(alloc, tokens, b"}")
 }
 
 /// A local resource, after so many others.
@@ -379,36 +388,64 @@ impl Item for LocalTree {
     }
 }
 
+/// The local resources from their word on.
+#[tactic(auto, unfolding(crate::specs::Inside::ReadingResources::local_resources_at))]
+fn local_resources<'a>(
+    alloc: Global,
+    tokens: Tokens<'a>,
+) -> Result<(Vec<LocalTree>, Tokens<'a>), Stop>
+    ensures { Gives (λ x. (x.0.items, x.1)) result (local_resources_at tokens.entry) }
+{
+    let (_, tokens) = word(tokens, b"local")?;
+    let (_, tokens) = sign(tokens, b"{")?;
+    list(alloc, tokens, b"}")
+}
+
 /// The local resources, where any are declared.
-#[tactic(auto, unfolding(crate::specs::Inside::ReadingResources::locals_at, crate::specs::Inside::ReadingResources::local_resources_at))]
+#[tactic(auto, unfolding(crate::specs::Inside::ReadingResources::locals_at))]
 pub(crate) fn locals<'a>(
     alloc: Global,
     tokens: Tokens<'a>,
 ) -> Result<(Vec<LocalTree>, Tokens<'a>), Stop>
     ensures { Gives (λ x. (x.0.items, x.1)) result (locals_at tokens.entry) }
 {
-    if !begins_word(&tokens, b"local") {
-        return Ok((Vec::new(alloc), tokens));
+    if begins_word(&tokens, b"local") {
+        local_resources(alloc, tokens)
+    } else {
+        Ok((Vec::new(alloc), tokens))
     }
-    let (_, tokens) = word(tokens, b"local")?;
-    let (_, tokens) = sign(tokens, b"{")?;
-    list(alloc, tokens, b"}")
+}
+
+/// A shared resource that a body lists by reference, from its `&` on.
+#[tactic(auto, unfolding(crate::specs::Inside::ReadingOptions::ref_resource_at))]
+fn ref_resource<'a>(alloc: Global, tokens: Tokens<'a>) -> Result<(ListedTree, Tokens<'a>), Stop>
+    ensures { Gives (λ x. x) result (ref_resource_at tokens.entry) }
+{
+    let (at, tokens) = sign(tokens, b"&")?;
+    let (name, tokens) = name(alloc, tokens)?;
+    let by_ref = true;
+    Ok((ListedTree { name, by_ref, at }, tokens))
+}
+
+/// A shared resource that a body lists by its name.
+#[tactic(auto, unfolding(crate::specs::Inside::ReadingOptions::named_resource_at))]
+fn named_resource<'a>(alloc: Global, tokens: Tokens<'a>) -> Result<(ListedTree, Tokens<'a>), Stop>
+    ensures { Gives (λ x. x) result (named_resource_at tokens.entry) }
+{
+    let (name, tokens) = name(alloc, tokens)?;
+    let (by_ref, at) = (false, name.at);
+    Ok((ListedTree { name, by_ref, at }, tokens))
 }
 
 /// A shared resource that a body lists, by its name or by reference.
-#[tactic(auto, unfolding(crate::specs::Inside::ReadingOptions::listed_resource_at, crate::specs::Inside::ReadingOptions::ref_resource_at, crate::specs::Inside::ReadingOptions::named_resource_at))]
+#[tactic(auto, unfolding(crate::specs::Inside::ReadingOptions::listed_resource_at))]
 fn listed_resource<'a>(alloc: Global, tokens: Tokens<'a>) -> Result<(ListedTree, Tokens<'a>), Stop>
     ensures { Gives (λ x. x) result (listed_resource_at tokens.entry) }
 {
     if begins_sign(&tokens, b"&") {
-        let (at, tokens) = sign(tokens, b"&")?;
-        let (name, tokens) = name(alloc, tokens)?;
-        let by_ref = true;
-        Ok((ListedTree { name, by_ref, at }, tokens))
+        ref_resource(alloc, tokens)
     } else {
-        let (name, tokens) = name(alloc, tokens)?;
-        let (by_ref, at) = (false, name.at);
-        Ok((ListedTree { name, by_ref, at }, tokens))
+        named_resource(alloc, tokens)
     }
 }
 

@@ -338,7 +338,7 @@ fn compare(
 
 /// At most one comparison.
 #[cycle(expression)]
-#[tactic(auto, unfolding(crate::specs::Inside::ReadingExpression::comparison_at, crate::specs::Inside::ReadingExpression::comparison_tail_at))]
+#[tactic(auto, unfolding(crate::specs::Inside::ReadingExpression::comparison_at))]
 fn comparison(alloc: Global, tokens: &mut Tokens<'_>, more: u32) -> Result<Measured, Stop>
     ensures { Leaves measured_view result tokens.new (comparison_at (atom_at more) tokens.old) }
 {

@@ -8,7 +8,8 @@ ghost use Rattle.rt_parse.specs.Inside.Reading.{Gives, begins_with, repeat_at};
 ghost use Rattle.rt_parse.specs.Inside.ReadingList.{items_at, adds_at};
 ghost use Rattle.rt_parse.specs.Inside.ReadingExpression.{expression_at};
 ghost use Rattle.rt_parse.specs.Inside.ReadingSpawn.{is_spawn, arguments_at, enclosed_expression_at, delayed_task_at};
-ghost use Rattle.rt_parse.specs.Inside.ReadingSpawn.{soon_at, after_at, cancel_at, move_at, spawn_at, value_at};
+ghost use Rattle.rt_parse.specs.Inside.ReadingSpawn.{soon_at, after_at, cancel_at, move_at, spawn_at, now_at};
+ghost use Rattle.rt_parse.specs.Inside.ReadingSpawn.{call_value_at, calc_at, value_at};
 ghost use Rattle.rt_parse.specs.Inside.ReadingSimple.{counted_limit, bind_at, assign_at, emit_at, pend_at, call_at};
 ghost use Rattle.rt_parse.specs.Inside.ReadingNested.{nested_limit, else_at, branch_at, loop_at, further_at, lock_at};
 ghost use Rattle.rt_parse.specs.Inside.ReadingStatement.{simple_at, compound_at, statement_at, one_more_at, is_inside};
@@ -183,20 +184,44 @@ fn begins_spawn(tokens: &Tokens<'_>) -> bool
     }
 }
 
+/// `now` as a value.
+#[tactic(auto, unfolding(crate::specs::Inside::ReadingSpawn::now_at))]
+fn now_value(tokens: Tokens<'_>) -> Result<(Value, Tokens<'_>), Stop>
+    ensures { Gives (λ x. (value_of x.0, x.1)) result (now_at tokens.entry) }
+{
+    let (at, tokens) = word(tokens, b"now")?;
+    Ok((Value::Now(at), tokens))
+}
+
+/// A spawn as a value.
+#[tactic(auto, unfolding(crate::specs::Inside::ReadingSpawn::call_value_at))]
+fn call_value<'a>(alloc: Global, tokens: Tokens<'a>) -> Result<(Value, Tokens<'a>), Stop>
+    ensures { Gives (λ x. (value_of x.0, x.1)) result (call_value_at tokens.entry) }
+{
+    let (spawn, tokens) = spawn(alloc, tokens, None)?;
+    Ok((Value::Call(spawn), tokens))
+}
+
+/// An expression as a value.
+#[tactic(auto, unfolding(crate::specs::Inside::ReadingSpawn::calc_at))]
+fn calc_value<'a>(alloc: Global, tokens: Tokens<'a>) -> Result<(Value, Tokens<'a>), Stop>
+    ensures { Gives (λ x. (value_of x.0, x.1)) result (calc_at tokens.entry) }
+{
+    let (expr, tokens) = expression(alloc, tokens)?;
+    Ok((Value::Calc(expr), tokens))
+}
+
 /// What a variable is bound to.
-#[tactic(auto, unfolding(crate::specs::Inside::ReadingSpawn::value_at, crate::specs::Inside::ReadingSpawn::now_at, crate::specs::Inside::ReadingSpawn::call_value_at, crate::specs::Inside::ReadingSpawn::calc_at))]
+#[tactic(auto, unfolding(crate::specs::Inside::ReadingSpawn::value_at))]
 fn value<'a>(alloc: Global, tokens: Tokens<'a>) -> Result<(Value, Tokens<'a>), Stop>
     ensures { Gives (λ x. (value_of x.0, x.1)) result (value_at tokens.entry) }
 {
     if begins_word(&tokens, b"now") {
-        let (at, tokens) = word(tokens, b"now")?;
-        Ok((Value::Now(at), tokens))
+        now_value(tokens)
     } else if begins_spawn(&tokens) {
-        let (spawn, tokens) = spawn(alloc, tokens, None)?;
-        Ok((Value::Call(spawn), tokens))
+        call_value(alloc, tokens)
     } else {
-        let (expr, tokens) = expression(alloc, tokens)?;
-        Ok((Value::Calc(expr), tokens))
+        calc_value(alloc, tokens)
     }
 }
 
@@ -266,7 +291,7 @@ fn call<'a>(alloc: Global, tokens: Tokens<'a>, room: u32) -> Result<((Stmt, u32)
 
 /// The second block of an `if`, which is empty without an `else`.
 #[cycle(statement)]
-#[tactic(auto, unfolding(crate::specs::Inside::ReadingNested::else_at, crate::specs::Inside::ReadingNested::else_block_at))]
+#[tactic(auto, unfolding(crate::specs::Inside::ReadingNested::else_at))]
 fn else_block<'a>(
     alloc: Global,
     tokens: Tokens<'a>,
@@ -426,7 +451,7 @@ fn statements<'a>(
 
 /// A block, inside which so many blocks may be opened.
 #[cycle(statement)]
-#[tactic(auto, unfolding(crate::specs::Inside::ReadingStatement::braced_block_at), using(crate::proofs::Blocks::block_is))]
+#[tactic(auto, unfolding(crate::specs::Inside::ReadingStatement::braced_block_at), using(crate::proofs::Blocks::block))]
 fn braced_block<'a>(
     alloc: Global,
     tokens: Tokens<'a>,
@@ -470,7 +495,7 @@ pub(crate) fn block<'a>(
 
 /// What follows a further name of a lock, where so many blocks may be opened, the one around it included.
 #[cycle(statement)]
-#[tactic(auto, unfolding(crate::specs::Inside::ReadingStatement::below_at, crate::specs::Inside::ReadingStatement::nothing_at))]
+#[tactic(auto, unfolding(crate::specs::Inside::ReadingStatement::below_at))]
 fn below<'a>(
     alloc: Global,
     tokens: Tokens<'a>,

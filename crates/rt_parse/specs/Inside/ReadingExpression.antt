@@ -40,7 +40,7 @@ chains_at [] atom tokens = atom tokens
 chains_at (signs ∷ stronger) atom tokens = chain_at signs (chains_at stronger atom) tokens
 
 -- the comparison after its left side, or none
-unfoldable pub comparison_tail_at : Reader Measured → Measured → Reader Measured
+abbrev pub comparison_tail_at : Reader Measured → Measured → Reader Measured
 comparison_tail_at operand left tokens =
     if begins_with (is_of comparisons) tokens then joined_operand_at comparisons operand left tokens else Ok
     (left, tokens)

@@ -18,7 +18,7 @@ abbrev pub nested_limit : ℕ → Option Limit
 nested_limit left = limit_if (nat_eq left 0) limit.Nesting
 
 -- the second block of an `if` from `else` on
-unfoldable pub else_block_at : (ℕ → Reader (Counted Block)) → ℕ → Reader (Counted Block)
+abbrev pub else_block_at : (ℕ → Reader (Counted Block)) → ℕ → Reader (Counted Block)
 else_block_at block room tokens = do
   a ← word_at (codes "else") tokens
   block room a.1

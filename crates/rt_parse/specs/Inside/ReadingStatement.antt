@@ -66,7 +66,7 @@ closed_block_at tokens = do
   Err (fault_found_at a.1)
 
 -- no text, so that any token is wrong
-unfoldable pub nothing_at : ℕ → Reader (Counted Block)
+abbrev pub nothing_at : ℕ → Reader (Counted Block)
 nothing_at room tokens = Err (fault_found_at tokens)
 
 -- a block, and what follows a lock's name, where so many blocks may be opened
