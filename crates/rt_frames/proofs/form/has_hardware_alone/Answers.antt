@@ -1,4 +1,4 @@
-use Rattle.std.proofs.Common.{sym, ap, ◌∙◌, map, not}
+use Rattle.std.proofs.Common.{ap, ◌∙◌, not}
 use Rattle.std.specs.Prelude.{is_none}
 use Rattle.std.specs.List.{list_all}
 use Rattle.rt_app.specs.View.{task_of, app_of}
