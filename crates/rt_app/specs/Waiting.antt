@@ -1,9 +1,9 @@
 -- How long a job of a priority may wait for jobs of lower ones, in core steps: for one section of one of them, since no
 -- other can begin while it is pending (Baker, Stack-Based Scheduling of Realtime Processes, 1991, on blocking). A
--- section counts where its ceiling is at least the priority, its body is of lower priority, and it lies in no other
--- section of its body of such a ceiling: that one holds the priority off already. (In a loop of no turns it can cost
--- more than that one.) `init` counts for nothing. The code walks each body once a priority, and does not look into a
--- section that counts.
+-- section counts where its ceiling is at least the priority, and its body is of lower priority. A section inside such a
+-- section does not count, since its steps are among those of the outer one. (In a `for` of no turns it may have a
+-- greater cost than the outer one, but is never entered.) `init` counts for nothing. The code walks each body once a
+-- priority, and does not look into a section that counts.
 use Rattle.std.specs.Prelude.{ℕ, ◌+◌, Bool, max, ◌&&◌, nat_lt, nat_le, List, [], ◌∷◌, ◌++◌, map, filter}
 use Rattle.std.specs.Prelude.{Option, Some, None, if◌then◌else◌}
 use Rattle.rt_ids.specs.Lists.{greatest}
