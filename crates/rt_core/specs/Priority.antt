@@ -14,7 +14,9 @@ abbrev pub value_or_none : Option Handler → ℕ
 value_or_none None = THREAD_VALUE
 value_or_none (Some h) = h.value
 
--- the priority value of the handler that runs, which was entered last, or that of the thread
+-- The priority value of the handler that was entered last, or that of the thread. The manual (ARMv7-M Architecture
+-- Reference Manual, section B1.5.4) takes the most urgent of all active ones. It is this one, since a handler is
+-- entered only where it is more urgent than the execution priority, and the last entered returns first.
 abbrev pub running_value : List Context → ℕ
 running_value [] = THREAD_VALUE
 running_value (x ∷ below) = x.value
