@@ -15,8 +15,9 @@ use Rattle.rt_laws.specs.State.{Job, State}
 abbrev pub greatest_ceiling : App → List Section → ℕ
 greatest_ceiling app xs = greatest (map (ceiling app) xs)
 
--- Baker's system ceiling (1991): the greatest of the priorities of all started jobs and of the ceilings of all their
--- open sections
+-- What the priority of a job must be above for it to start: Baker's system ceiling (1991), which is the greatest
+-- ceiling of the open sections of all jobs, or the greatest priority of a started job, whichever is greater. Baker
+-- compares the two apart.
 abbrev pub system_ceiling : App → List Job → ℕ
 system_ceiling app jobs = greatest (map (λ job. max job.priority (greatest_ceiling app job.sections)) jobs)
 

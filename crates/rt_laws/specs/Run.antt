@@ -26,7 +26,7 @@ pub record Run (app : App) (items : List Item) (total : ℕ) : Type 0 where
   pub steps : steps_of labels ≡ total
   pub allowed : RunsOn app (first app) labels
 
--- the stack bytes in use after an exception entry are within the bound
+-- the depth that a take states is within the stack bound; whether it is the true one is not judged
 abbrev pub IsWithinStack : App → What → Type 0
 IsWithinStack app (what.Take irq depth) = depth ≤ stack_bytes app
 IsWithinStack app w = Unit {0}

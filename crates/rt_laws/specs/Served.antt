@@ -1,9 +1,10 @@
 -- That messages are served, in every run (Baker, Stack-Based Scheduling of Realtime Processes, 1991; the RTIC 1 book,
 -- software tasks and the monotonic). Where a message is ready and no job has the section of its ready queue open, the
 -- dispatcher of the level is about to enter that section: its interrupt is pending, or it has started and its next
--- action enters its own section, which its cost tells from those of the bodies that it runs. The same holds of the
--- timer handler, where a message is due and no job has the section of the timer queue open. The code posts the
--- interrupt, or sets the alarm, inside the section.
+-- action enters its own section. A body that a dispatcher runs may enter the same section, at `READY_COST`. The
+-- dispatcher's own costs more, by `READY_TASK_COST` for each task of the level, so the two differ. The same holds of
+-- the timer handler, where a message is due and no job has the section of the timer queue open. The timer handler runs
+-- no body, so each entering by it is its own. The code posts the interrupt, or sets the alarm, inside the section.
 use Rattle.std.specs.Prelude.{◌≡◌, ℕ, ◌⊎◌, true, false, Contains, List, [], ◌∷◌, slice_index_or, Some}
 use Rattle.rt_ids.specs.Choice.{IsIn}
 use Rattle.rt_ids.specs.Location.{Guarded}
