@@ -1,4 +1,4 @@
--- Every run of an accepted application keeps the three properties.
+-- Every run of an accepted application keeps the three properties, and its sections nest.
 use Rattle.std.proofs.Common.{◌≡◌, ℕ, ◌<◌, List, [], ◌∷◌, sym, subst, arith}
 use Rattle.std.specs.List.{AllByRecursion}
 use Rattle.rt_ids.specs.Location.{Guarded}
@@ -15,7 +15,7 @@ use Rattle.rt_laws.specs.Observer.{Seen, Observer, first_sight, sees}
 use Rattle.rt_laws.specs.Waiting.{WaitsWell, ServesWell}
 use Rattle.rt_laws.specs.Properties.{AtEach, AreExclusive, FindsFree, LeavesInnermost}
 use Rattle.rt_laws.specs.ByItems.{after_all}
-use Rattle.rt_laws.specs.Laws.{RunsKeepQueues, RunsKeepHandles, RunsKeepLaws, RunsNestSections, JudgedTracesKeepLaws}
+use Rattle.rt_laws.specs.Laws.{RunsKeepQueues, RunsKeepHandles, RunsKeepLaws, JudgedTracesKeepLaws}
 use Rattle.rt_laws.specs.Laws.{IsHighestFirst, TheHighestRuns}
 use Rattle.rt_laws.proofs.Well.{IsAbove, StackWell, StateWell}
 use Rattle.rt_laws.proofs.Happens.{first_well, happens, after_well}
@@ -63,13 +63,10 @@ runs_keep_laws app accepted labels runs = record {
   one_section = at_each app accepted (λ v label behind. WaitsWell app v label behind × ServesWell app v label behind)
       (one_section app accepted) labels (first app) (first_sight app)
       (first_well app accepted) runs;
+  nested = at_each app accepted (λ v label behind. LeavesInnermost v label)
+      (λ s v label behind well may runs. leaves_innermost app s v label well may) labels (first app)
+      (first_sight app) (first_well app accepted) runs;
 }
-
-pub runs_nest_sections : RunsNestSections
-runs_nest_sections app accepted labels runs =
-    at_each app accepted (λ v label behind. LeavesInnermost v label)
-    (λ s v label behind well may runs. leaves_innermost app s v label well may) labels (first app) (first_sight app)
-    (first_well app accepted) runs
 
 pub judged_traces_keep_laws : JudgedTracesKeepLaws
 judged_traces_keep_laws app trace accepted judged = runs_keep_laws app accepted judged.run.labels judged.run.allowed

@@ -11,23 +11,18 @@ use Rattle.rt_laws.specs.ByItems.{after_all}
 use Rattle.rt_laws.specs.Queues.{KeepsQueues}
 use Rattle.rt_laws.specs.Handles.{KeepsHandles}
 use Rattle.rt_laws.specs.Served.{ServesReady, ServesDue}
-use Rattle.rt_laws.specs.Properties.{SectionsNest, KeepsLaws}
+use Rattle.rt_laws.specs.Properties.{KeepsLaws}
 
 -- every run keeps Baker's three properties (1991): sections are exclusive, no job finds one taken, and none waits for
--- more than one section of one lower job
+-- more than one section of one lower job; and its sections nest
 abbrev pub RunsKeepLaws : Type 0
 RunsKeepLaws = (app : App) → IsAccepted app → (labels : List Label) → RunsOn app (first app) labels
     → KeepsLaws app labels
 
--- in every trace that is judged right the three properties hold too
+-- every trace that is judged right keeps them too
 abbrev pub JudgedTracesKeepLaws : Type 0
 JudgedTracesKeepLaws =
     (app : App) (trace : Trace) → IsAccepted app → (judged : Judged app trace) → KeepsLaws app judged.run.labels
-
--- each leave is of the section that the running job entered last, as the observer takes it
-abbrev pub RunsNestSections : Type 0
-RunsNestSections = (app : App) → IsAccepted app → (labels : List Label) → RunsOn app (first app) labels
-    → SectionsNest app labels
 
 -- The running job, which is the last started, has a greater priority than every other.
 abbrev pub IsHighestFirst : List Job → Type 0

@@ -57,7 +57,7 @@ is_pended irq v = record v { pending = slice_set v.pending irq true }
 abbrev pub seen_after_enter : Section → ℕ → Seen → Seen
 seen_after_enter x step job = record job { inside = x ∷ job.inside; since = step ∷ job.since }
 
--- the innermost section is left, because sections nest
+-- the innermost section is left, whichever one the leave names; that it names this one is said by `SectionsNest`
 abbrev pub seen_after_leave : Seen → Seen
 seen_after_leave job = record job { inside = drop 1 job.inside; since = drop 1 job.since }
 

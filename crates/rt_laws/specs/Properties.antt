@@ -1,6 +1,7 @@
 -- The three properties that Baker proves of his protocol (Stack-Based Scheduling of Realtime Processes, 1991), of
 -- what a run shows, from the first label to the last: sections exclude each other, no job finds a section taken, and
--- a job waits for one section of one lower job at most.
+-- a job waits for one section of one lower job at most. The observer who reads them takes each leave to be of the
+-- section entered last; that it is so, which is that sections nest, is kept beside the three.
 use Rattle.std.specs.Prelude.{◌≡◌, ℕ, List, [], ◌∷◌, slice_get, take, Some}
 use Rattle.std.specs.List.{AllByRecursion}
 use Rattle.rt_ids.specs.Choice.{IsIn}
@@ -50,8 +51,10 @@ LeavesInnermost v label = Unit {0}
 abbrev pub SectionsNest : App → List Label → Type 0
 SectionsNest app labels = AtEach (λ v label behind. LeavesInnermost v label) app (first_sight app) labels
 
--- the three properties of a run
+-- the three properties of a run, and that its sections nest, by which the three are read
 pub record KeepsLaws (app : App) (labels : List Label) : Type 0 where
   pub exclusive : Exclusive app labels
   pub never_waits : NeverWaits app labels
   pub one_section : OneSection app labels
+  -- each leave is of the section entered last, so the observer is right about what jobs are inside
+  pub nested : SectionsNest app labels

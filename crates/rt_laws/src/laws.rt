@@ -7,7 +7,6 @@ ghost use Rattle.rt_laws.specs.Laws.{
   RunsKeepHandles,
   RunsKeepLaws,
   RunsKeepQueues,
-  RunsNestSections,
   RunsServeDue,
   RunsServeReady,
   TheHighestRuns,
@@ -23,7 +22,8 @@ pub fn candidates_are_highest()
 {}
 
 /// Every run of an accepted application keeps sections exclusive, finds no section taken, and lets no interrupt wait
-/// for more than one outermost section of one lower job, within the waiting bound.
+/// for more than one outermost section of one lower job, within the waiting bound. Each section that is left is the one
+/// that the running job entered last.
 pub fn runs_keep_laws()
     ensures { RunsKeepLaws }
 {}
@@ -43,11 +43,6 @@ pub fn runs_are_by_items()
 /// The running job, which is the last started, is the one of the greatest priority.
 pub fn the_highest_runs()
     ensures { TheHighestRuns }
-{}
-
-/// Each section that is left is the one that the running job entered last.
-pub fn runs_nest_sections()
-    ensures { RunsNestSections }
 {}
 
 /// In every run a place is taken where one is left and refused where none is, messages start in the order in which they
