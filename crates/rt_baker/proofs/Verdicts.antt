@@ -12,7 +12,7 @@ use Rattle.rt_app.specs.Accepted.{IsAccepted}
 use Rattle.rt_laws.specs.State as laws
 use Rattle.rt_laws.specs.State.{first}
 use Rattle.rt_laws.specs.Allowed.{May, after}
-use Rattle.rt_laws.specs.Run.{RunsOn, IsWithinStack, IsTold, Judged}
+use Rattle.rt_laws.specs.Run.{RunsOn, IsWithinStack, StatesTotal, Judged}
 use Rattle.rt_laws.specs.ByItems.{label_of, steps_after, after_all, silent, Comes}
 use Rattle.rt_laws.proofs.ByItems.{runs_are_by_items}
 use Rattle.rt_laws.proofs.Keeping.{judged_traces_keep_laws}
@@ -22,7 +22,7 @@ use Rattle.rt_baker.specs.declared.done.Done.{Done}
 use Rattle.rt_baker.specs.declared.judge.Judge.{Judge}
 use Rattle.rt_baker.specs.declared.verdict.Verdict.{Verdict}
 use Rattle.rt_baker.specs.Audit.{front, IsRight, IsWrongAt, IsVerdict}
-use Rattle.rt_baker.specs.Judge.{steps_done, state_after, steps_done_after, AreRight, Follows, FailsAt, Stands}
+use Rattle.rt_baker.specs.Judge.{steps_done, state_after, steps_done_after, AreRight, Follows, FailsAt, HasComeTo}
 use Rattle.rt_baker.specs.Judge.{HasJudged}
 use Rattle.rt_baker.specs.Judge.{MayTake}
 use Rattle.rt_baker.specs.Inside.Judging.{MayGoOn, Judges, Passes, Behind, ItemComes, ItemJudged, Ends, TotalJudged}
@@ -179,14 +179,14 @@ fails_here app xs n x old new h judged = record {
 follows : (app : App) (xs : List Item) (j : Judge) → j.wrong ≡ None → HasJudged app xs j
     → Follows app xs j.state (steps_done j.done)
 follows app xs j is h =
-    let s : Stands app xs j.state j.done None =
-    subst (λ (o : Option ℕ). Stands app xs j.state j.done o) is h.stands in s
+    let s : HasComeTo app xs j.state j.done None =
+    subst (λ (o : Option ℕ). HasComeTo app xs j.state j.done o) is h.come_to in s
 
 fails : (app : App) (xs : List Item) (j : Judge) (index : ℕ) → j.wrong ≡ Some index → HasJudged app xs j
     → FailsAt app xs index
 fails app xs j index is h =
-    let s : Stands app xs j.state j.done (Some index) =
-    subst (λ (o : Option ℕ). Stands app xs j.state j.done o) is h.stands in s
+    let s : HasComeTo app xs j.state j.done (Some index) =
+    subst (λ (o : Option ℕ). HasComeTo app xs j.state j.done o) is h.come_to in s
 
 pub judged_none : (app : App) (s : AuditorState) (stack : ℕ) (d : Done) → stack ≡ stack_bytes app
     → StateIs app s (first app)
@@ -194,7 +194,7 @@ pub judged_none : (app : App) (s : AuditorState) (stack : ℕ) (d : Done) → st
 judged_none app s stack d bound is none = record {
   counted = refl;
   bounded = bound;
-  stands = record { right = record { come = tt; depths = tt }; is = is; steps = none };
+  come_to = record { right = record { come = tt; depths = tt }; is = is; steps = none };
 }
 
 pub judge_early : (app : App) (j : Judge) → IsAccepted app → j.wrong ≡ None → MayTake app j → MayGoOn app j.state
@@ -225,7 +225,7 @@ judged_wrong app x j n new o more is none judged xs h =
     record {
       counted = one_more app x j n more xs h;
       bounded = h.bounded;
-      stands = subst (λ (index : ℕ). FailsAt app (xs ++ x ∷ []) index) (sym h.counted) here;
+      come_to = subst (λ (index : ℕ). FailsAt app (xs ++ x ∷ []) index) (sym h.counted) here;
     }
 
 -- another right one came
@@ -239,8 +239,8 @@ judged_right app x j n new o d more is some judged xs h =
     record {
       counted = one_more app x j n more xs h;
       bounded = h.bounded;
-      stands =
-          subst (λ (p : Option ℕ). Stands app (xs ++ x ∷ []) new d p) (sym is)
+      come_to =
+          subst (λ (p : Option ℕ). HasComeTo app (xs ++ x ∷ []) new d p) (sym is)
           (follows_more app xs (steps_done j.done) x j.state new d (follows app xs j is h) judges);
     }
 
@@ -281,14 +281,14 @@ judged_items app xs None right ends =
     let m : ℕ = steps_done_after app (first app) 0 xs in
     record {
       total = m;
-      told = tt;
+      stated = tt;
       run = runs_are_by_items.of_items app xs m
           (run_from app xs (first app) 0 m right.come (le_refl m) (run_here app (state_after app (first app) 0 xs) m));
       depths = right.depths;
     }
 judged_items app xs (Some total) right ends = record {
   total = total;
-  told = refl;
+  stated = refl;
   run = runs_are_by_items.of_items app xs total (run_from app xs (first app) 0 total right.come ends.0 ends.1);
   depths = right.depths;
 }
@@ -300,11 +300,11 @@ right_items app trace judged = record {
   depths = judged.depths;
 }
 
-told_ends : (app : App) (t : laws.State) (n : ℕ) (o : Option ℕ) (total : ℕ) → IsTold o total → n ≤ total
+stated_ends : (app : App) (t : laws.State) (n : ℕ) (o : Option ℕ) (total : ℕ) → StatesTotal o total → n ≤ total
     → RunsOn app t (silent (total - n)) → Ends app t n o
-told_ends app t n None total told le runs = tt
-told_ends app t n (Some k) total told le runs =
-    subst (λ (m : ℕ). Ends app t n (Some m)) (sym told) (le, runs)
+stated_ends app t n None total stated le runs = tt
+stated_ends app t n (Some k) total stated le runs =
+    subst (λ (m : ℕ). Ends app t n (Some m)) (sym stated) (le, runs)
 
 right_ends : (app : App) (trace : Trace) → Judged app trace
     → Ends app (state_after app (first app) 0 trace.items) (steps_done_after app (first app) 0 trace.items)
@@ -312,9 +312,9 @@ right_ends : (app : App) (trace : Trace) → Judged app trace
 right_ends app trace judged =
     let ends = run_ends app trace.items (first app) 0 judged.total
     (runs_are_by_items.by_items app trace.items judged.total judged.run) in
-    told_ends app (state_after app (first app) 0 trace.items) (steps_done_after app (first app) 0 trace.items)
+    stated_ends app (state_after app (first app) 0 trace.items) (steps_done_after app (first app) 0 trace.items)
     trace.total
-    judged.total judged.told ends.0 ends.1
+    judged.total judged.stated ends.0 ends.1
 
 judged_fronts : (app : App) (trace : Trace) (m n : ℕ) → AreRight app (take m trace.items) → n ≤ m
     → Judged app (front n trace)

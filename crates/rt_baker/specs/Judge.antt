@@ -55,16 +55,16 @@ module _ (app : App) where
     pub wrong : AreRight (take (suc index) items) → ⊥
 
   -- No item is wrong, or the one at this index is the first that is.
-  abbrev pub Stands : List Item → AuditorState → Done → Option ℕ → Type 0
-  Stands items s done None = Follows items s (steps_done done)
-  Stands items s done (Some index) = FailsAt items index
+  abbrev pub HasComeTo : List Item → AuditorState → Done → Option ℕ → Type 0
+  HasComeTo items s done None = Follows items s (steps_done done)
+  HasComeTo items s done (Some index) = FailsAt items index
 
   -- These items were judged. The judge keeps the state after them where all are right, and else which is the first that
   -- is wrong.
   pub record HasJudged (items : List Item) (judge : Judge) : Type 0 where
     pub counted : judge.items ≡ length items
     pub bounded : judge.stack ≡ stack_bytes app
-    pub stands : Stands items judge.state judge.done judge.wrong
+    pub come_to : HasComeTo items judge.state judge.done judge.wrong
 
   -- Some items were judged, so few that there may be another.
   pub record MayTake (judge : Judge) : Type 0 where

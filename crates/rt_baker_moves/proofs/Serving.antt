@@ -22,37 +22,38 @@ use Rattle.rt_laws.specs.Services.{handler_cost}
 use Rattle.rt_baker_work.specs.declared.code.Handler.TheVariants as handler
 use Rattle.rt_baker_work.specs.Code.{handler_of}
 use Rattle.rt_baker_moves.specs.declared.machine.Served.{Served}
-use Rattle.rt_baker_moves.specs.Machine.{IsServed}
+use Rattle.rt_baker_moves.specs.Machine.{IsServiceOf}
 use Rattle.rt_baker_moves.specs.Inside.Serving.{levels_of, has_number, serves, level_services}
 
-is_served : (app : App) (s : Served) (o : Option Service) (v : Service) → o ≡ Some v → handler_of s.handler ≡ v.handler
-    → s.priority ≡ v.priority → s.cost ≡ handler_cost app v.handler → IsServed app (Some s) o
-is_served app s o v is h l c = subst (λ (o : Option Service). IsServed app (Some s) o) (sym is) (h, l, c)
+is_service_of : (app : App) (s : Served) (o : Option Service) (v : Service) → o ≡ Some v
+    → handler_of s.handler ≡ v.handler → s.priority ≡ v.priority → s.cost ≡ handler_cost app v.handler
+    → IsServiceOf app (Some s) o
+is_service_of app s o v is h l c = subst (λ (o : Option Service). IsServiceOf app (Some s) o) (sym is) (h, l, c)
 
-found_one : (app : App) (s : Served) (o : Option Service) → IsServed app (Some s) o → (v : Service) × (o ≡ Some v)
+found_one : (app : App) (s : Served) (o : Option Service) → IsServiceOf app (Some s) o → (v : Service) × (o ≡ Some v)
 found_one app s None h = absurd h
 found_one app s (Some v) h = (v, refl)
 
-found_none : (app : App) (o : Option Service) → IsServed app None o → o ≡ None
+found_none : (app : App) (o : Option Service) → IsServiceOf app None o → o ≡ None
 found_none app None h = refl
 found_none app (Some v) h = absurd h
 
 -- what serves is found in front, or behind where it is not
 pub served_in_front : (app : App) (a : Option Served) (s : Served) (test : Service → Bool) (xs ys : List Service)
-    → a ≡ Some s → IsServed app a (find test xs) → IsServed app (Some s) (find test (xs ++ ys))
+    → a ≡ Some s → IsServiceOf app a (find test xs) → IsServiceOf app (Some s) (find test (xs ++ ys))
 served_in_front app a s test xs ys is h =
-    let served : IsServed app (Some s) (find test xs) =
-    subst (λ (a : Option Served). IsServed app a (find test xs)) is h in
+    let served : IsServiceOf app (Some s) (find test xs) =
+    subst (λ (a : Option Served). IsServiceOf app a (find test xs)) is h in
     let one = found_one app s (find test xs) served in
-    subst (λ (o : Option Service). IsServed app (Some s) o) (sym (find-append test xs ys
+    subst (λ (o : Option Service). IsServiceOf app (Some s) o) (sym (find-append test xs ys
     ∙ ap (λ (o : Option Service). option_or o (find test ys)) one.1 ∙ sym one.1)) served
 
 pub served_behind : (app : App) (a b : Option Served) (test : Service → Bool) (xs ys : List Service) → a ≡ None
-    → IsServed app a (find test xs) → IsServed app b (find test ys) → IsServed app b (find test (xs ++ ys))
+    → IsServiceOf app a (find test xs) → IsServiceOf app b (find test ys) → IsServiceOf app b (find test (xs ++ ys))
 served_behind app a b test xs ys is none h =
-    let unserved : IsServed app None (find test xs) =
-    subst (λ (a : Option Served). IsServed app a (find test xs)) is none in
-    subst (λ (o : Option Service). IsServed app b o) (sym (find-append test xs ys
+    let unserved : IsServiceOf app None (find test xs) =
+    subst (λ (a : Option Served). IsServiceOf app a (find test xs)) is none in
+    subst (λ (o : Option Service). IsServiceOf app b o) (sym (find-append test xs ys
     ∙ ap (λ (o : Option Service). option_or o (find test ys)) (found_none app (find test xs) unserved))) h
 
 -- The service of a task or of a level comes first, where its interrupt has the number, and else those behind it.
@@ -95,21 +96,21 @@ module _ (app : App) (irq : ℕ) where
   pub level_served : (rows : List ReadyCeiling) (i : ℕ) (r : ReadyCeiling) (here : Bool) (cost : ℕ) (all : List ℕ)
       → i < length rows → r ≡ get_or rows i r → here ≡ is_some_and (has_number app irq) (dispatcher_of app r.level)
       → here ≡ true → cost ≡ dispatcher_cost app r.level → found (level_services app all) ≡ levels_from rows i
-      → IsServed app (Some (record { handler = handler.Dispatches r.level; priority = r.level; cost = cost }))
+      → IsServiceOf app (Some (record { handler = handler.Dispatches r.level; priority = r.level; cost = cost }))
       (found (level_services app all))
   level_served rows i r here cost all within is test passes costs left =
       let one = level_first r.level (dispatcher_of app r.level) (level_services app (levels_of (drop (i + 1) rows)))
       (sym test ∙ passes) in
       let s : Served = record { handler = handler.Dispatches r.level; priority = r.level; cost = cost } in
-      is_served app s _ (dispatching r.level one.0) (left ∙ rows_split rows i r within is ∙ one.1) refl refl costs
+      is_service_of app s _ (dispatching r.level one.0) (left ∙ rows_split rows i r within is ∙ one.1) refl refl costs
 
   pub timer_served : (o : Option Mono) (mono : Mono) (here : Bool) (cost : ℕ) → o ≡ Some mono
       → here ≡ has_number app irq mono.irq → here ≡ true → cost ≡ timer_cost app
-      → IsServed app (Some (record { handler = handler.Times; priority = mono.priority; cost = cost }))
+      → IsServiceOf app (Some (record { handler = handler.Times; priority = mono.priority; cost = cost }))
       (found (timer_service o))
   timer_served o mono here cost is test passes costs =
       let s : Served = record { handler = handler.Times; priority = mono.priority; cost = cost } in
-      is_served app s _ (timing mono) (ap (λ (o : Option Mono). found (timer_service o)) is
+      is_service_of app s _ (timing mono) (ap (λ (o : Option Mono). found (timer_service o)) is
       ∙ ap (λ (b : Bool). if b then Some (timing mono) else None) (sym test ∙ passes)) refl refl costs
 
 -- the same of the tasks of an application of the code
@@ -138,12 +139,12 @@ module _ (a : code_app.App) (irq : ℕ) where
   pub task_served : (n : ℕ) (t : code_task.Task) (here : Bool) (cost : ℕ) → n < length a.tasks.items
       → t ≡ get_or a.tasks.items n t → here ≡ is_some_and (has_number app irq) t.binds → here ≡ true
       → cost ≡ body_cost (cost_measure app) (body_of t.body) → tasks_from 0 ≡ tasks_from n
-      → IsServed app (Some (record { handler = handler.Runs n; priority = t.priority; cost = cost })) (tasks_from 0)
+      → IsServiceOf app (Some (record { handler = handler.Runs n; priority = t.priority; cost = cost })) (tasks_from 0)
   task_served n t here cost within is test passes costs left =
       let one = bound_first app irq n (task_of t) t.binds (task_services (n + 1) (map task_of (drop (n + 1)
       a.tasks.items))) (sym test ∙ passes) in
       let s : Served = record { handler = handler.Runs n; priority = t.priority; cost = cost } in
-      is_served app s _ (running app irq n (task_of t) one.0) (left ∙ tasks_split n t within is ∙ one.1) refl refl
+      is_service_of app s _ (running app irq n (task_of t) one.0) (left ∙ tasks_split n t within is ∙ one.1) refl refl
       (costs ∙ body_cost_at n t within is)
 
 -- as many levels are above one as rows

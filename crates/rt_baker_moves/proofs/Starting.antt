@@ -30,7 +30,7 @@ use Rattle.rt_baker_work.specs.Todo.{enter_body, task_body, start_message, fire_
 use Rattle.rt_baker_work.specs.Work.{Work, no_work, Becomes, IsSettled}
 use Rattle.rt_baker_work.specs.Handlers.{run_handler}
 use Rattle.rt_baker_moves.specs.declared.machine.Served.{Served}
-use Rattle.rt_baker_moves.specs.Machine.{IsServed}
+use Rattle.rt_baker_moves.specs.Machine.{IsServiceOf}
 use Rattle.rt_baker_moves.specs.Job.{AuditorJob, finish, rest_of, with_rest}
 use Rattle.rt_baker_moves.specs.State.{AuditorState, StateIs}
 use Rattle.rt_baker_moves.specs.Inside.Acts.{held_with_job}
@@ -236,12 +236,12 @@ handler_stands app irq p cost h v s new t does_it at takes l held =
 
 -- an interrupt is taken: nothing serves it, or its handler starts
 pub none_taken : (app : App) → IsAccepted app → (irq : ℕ) (o : Option Served) (s mid : AuditorState)
-    → IsServed app o (service_at app irq) → o ≡ None → mid ≡ held_after_take irq s → (depth : ℕ) (t : laws.State)
+    → IsServiceOf app o (service_at app irq) → o ≡ None → mid ≡ held_after_take irq s → (depth : ℕ) (t : laws.State)
     → StateIs app s t → StateIs app mid (machine.after app t (Stepped (Some (what.Take irq depth))))
 none_taken app accepted irq o s mid serves none cleared depth t h = go (service_at app irq) (subst (λ (x : Option
-    Served). IsServed app x (service_at app irq)) none serves)
+    Served). IsServiceOf app x (service_at app irq)) none serves)
   where
-    go : (v : Option Service) → IsServed app None v → StateIs app mid
+    go : (v : Option Service) → IsServiceOf app None v → StateIs app mid
         (machine.state_after_start app (taken_from irq t) irq v)
     go None is =
         subst (λ (k : AuditorState). StateIs app k (taken_from irq t)) (sym cleared)
@@ -250,14 +250,14 @@ none_taken app accepted irq o s mid serves none cleared depth t h = go (service_
 
 pub one_taken : (app : App) → IsAccepted app
     → (irq : ℕ) (o : Option Served) (served : Served) (s mid new : AuditorState)
-    → IsServed app o (service_at app irq) → o ≡ Some served → mid ≡ held_after_take irq s
+    → IsServiceOf app o (service_at app irq) → o ≡ Some served → mid ≡ held_after_take irq s
     → Launches app (laws.Serving irq) served.priority served.cost (run_handler app (handler_of served.handler)) mid new
     → (depth : ℕ) (t : laws.State) → StateIs app s t
     → StateIs app new (machine.after app t (Stepped (Some (what.Take irq depth))))
 one_taken app accepted irq o served s mid new serves one cleared l depth t h = go (service_at app irq) (subst (λ (x :
-    Option Served). IsServed app x (service_at app irq)) one serves)
+    Option Served). IsServiceOf app x (service_at app irq)) one serves)
   where
-    go : (v : Option Service) → IsServed app (Some served) v
+    go : (v : Option Service) → IsServiceOf app (Some served) v
         → StateIs app new (machine.state_after_start app (taken_from irq t) irq v)
     go None is = absurd is
     go (Some v) is =

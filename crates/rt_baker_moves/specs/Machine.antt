@@ -13,17 +13,17 @@ use Rattle.rt_baker_moves.specs.declared.machine.Served.{Served}
 use Rattle.rt_baker_moves.specs.declared.machine.Machine.{Machine}
 
 -- what serves an interrupt, as the definitions have it
-abbrev pub IsServed : App → Option Served → Option handlers.Service → Type 0
-IsServed app None None = Unit {0}
-IsServed app (Some s) (Some v) =
+abbrev pub IsServiceOf : App → Option Served → Option handlers.Service → Type 0
+IsServiceOf app None None = Unit {0}
+IsServiceOf app (Some s) (Some v) =
     (handler_of s.handler ≡ v.handler) × (s.priority ≡ v.priority) × (s.cost ≡ handler_cost app v.handler)
-IsServed app a b = ⊥
+IsServiceOf app a b = ⊥
 
 -- the tables hold what the definitions say of the application: what serves each interrupt, and the ceilings
 pub record IsMachine (m : Machine) : Type 0 where
   pub code : IsCode m.code.now
   -- what serves the interrupts, by number
   pub serves : (irq : ℕ) → irq < IRQ_NUMBERS
-      → IsServed (app_of m.code.now.app.now) (slice_index_or m.served.now irq None) (service_at (app_of
+      → IsServiceOf (app_of m.code.now.app.now) (slice_index_or m.served.now irq None) (service_at (app_of
       m.code.now.app.now) irq)
   pub guards : m.ceilings.now ≡ ceilings (app_of m.code.now.app.now)

@@ -9,7 +9,7 @@ use Rattle.rt_app.specs.Ceiling.{ceilings}
 use Rattle.rt_app.specs.Sending.{dispatcher_number}
 use Rattle.rt_laws.specs.Services.{service_at}
 use Rattle.rt_baker_moves.specs.declared.tables.Tables.{Tables}
-use Rattle.rt_baker_moves.specs.Machine.{IsServed}
+use Rattle.rt_baker_moves.specs.Machine.{IsServiceOf}
 
 -- the tables hold what the definitions say of the application
 pub record AreTables (app : App) (t : Tables) : Type 0 where
@@ -22,5 +22,5 @@ pub record AreTables (app : App) (t : Tables) : Type 0 where
   pub addressed : t.handle_section ≡ handle_section_cost app
   -- what serves the interrupts, by number
   pub serving : (irq : ℕ) → irq < IRQ_NUMBERS
-      → IsServed app (slice_index_or t.served.items irq None) (service_at app irq)
+      → IsServiceOf app (slice_index_or t.served.items irq None) (service_at app irq)
   pub guards : t.ceilings ≡ ceilings app

@@ -8,7 +8,7 @@ ghost use Rattle.rt_app.specs.Level.{is_of_level, levels};
 ghost use Rattle.rt_app.specs.Sending.{dispatcher_number};
 ghost use Rattle.rt_app.specs.View.{task_of, app_of};
 ghost use Rattle.rt_laws.specs.Services.{service_at};
-ghost use Rattle.rt_baker_moves.specs.Machine.{IsServed};
+ghost use Rattle.rt_baker_moves.specs.Machine.{IsServiceOf};
 ghost use Rattle.rt_baker_moves.specs.Inside.Serving.{levels_of, has_number, serves, level_services};
 
 use crate::machine::Served;
@@ -46,7 +46,7 @@ fn hardware(app: &App, measure: &Measure, irq: u16) -> Option<Served>
     requires few { length (app_of app.now).tasks ≤ TASKS }
     requires measured { measure.now ≡ costs.cost_measure (app_of app.now) }
     ensures { let all = app_of app.now in
-        IsServed all result (find (serves all irq) (task_services 0 all.tasks)) }
+        IsServiceOf all result (find (serves all irq) (task_services 0 all.tasks)) }
 {
     for number in 0..app.tasks.len() {
         let task = &app.tasks[number];
@@ -136,7 +136,7 @@ fn served_dispatcher(
     requires measured { measure.now ≡ costs.cost_measure (app_of app.now) }
     requires rows { levels_of rows.now ≡ levels (app_of app.now) }
     ensures { let all = app_of app.now in
-        IsServed all result (find (serves all irq) (level_services all (levels all))) }
+        IsServiceOf all result (find (serves all irq) (level_services all (levels all))) }
 {
     for row in rows {
         if dispatches(app, rows, row.level, irq) {
@@ -153,7 +153,7 @@ fn served_dispatcher(
 /// The timer handler, where its interrupt has this number.
 fn served_timer(app: &App, irq: u16) -> Option<Served>
     ensures { let all = app_of app.now in
-        IsServed all result (find (serves all irq) (timer_service all.mono)) }
+        IsServiceOf all result (find (serves all irq) (timer_service all.mono)) }
 {
     match app.mono {
         None => None,
@@ -175,7 +175,7 @@ fn service(app: &App, measure: &Measure, rows: &[ReadyCeiling], irq: u16) -> Opt
     requires few { length (app_of app.now).tasks ≤ TASKS }
     requires measured { measure.now ≡ costs.cost_measure (app_of app.now) }
     requires rows { levels_of rows.now ≡ levels (app_of app.now) }
-    ensures { IsServed (app_of app.now) result (service_at (app_of app.now) irq) }
+    ensures { IsServiceOf (app_of app.now) result (service_at (app_of app.now) irq) }
 {
     if let Some(task) = hardware(app, measure, irq) {
         return Some(task);
@@ -193,7 +193,7 @@ fn fill(served: &mut [Option<Served>], app: &App, measure: &Measure, rows: &[Rea
     requires measured { measure.now ≡ costs.cost_measure (app_of app.now) }
     requires rows { levels_of rows.now ≡ levels (app_of app.now) }
     ensures { (irq : ℕ) → irq < IRQ_NUMBERS
-        → IsServed (app_of app.now) (slice_index_or served.new irq None) (service_at (app_of app.now) irq) }
+        → IsServiceOf (app_of app.now) (slice_index_or served.new irq None) (service_at (app_of app.now) irq) }
 {
     for irq in 0..IRQ_NUMBERS {
         served[usize::from(irq)] = service(app, measure, rows, irq);
@@ -211,7 +211,7 @@ pub(crate) fn services(
     requires measured { measure.now ≡ costs.cost_measure (app_of app.now) }
     requires rows { levels_of rows.now ≡ levels (app_of app.now) }
     ensures { IfOk result (λ served. (irq : ℕ) → irq < IRQ_NUMBERS
-        → IsServed (app_of app.now) (slice_index_or served.items irq None) (service_at (app_of app.now) irq)) }
+        → IsServiceOf (app_of app.now) (slice_index_or served.items irq None) (service_at (app_of app.now) irq)) }
 {
     let mut served = vec![in alloc; None; usize::from(IRQ_NUMBERS)]?;
     fill(&mut served, app, measure, rows);

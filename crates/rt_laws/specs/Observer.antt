@@ -49,9 +49,9 @@ abbrev pub on_running : (Seen → Seen) → List Seen → List Seen
 on_running f [] = []
 on_running f (job ∷ others) = f job ∷ others
 
--- an interrupt is seen to be pending from now on
-abbrev pub is_pended : ℕ → Observer → Observer
-is_pended irq v = record v { pending = slice_set v.pending irq true }
+-- what an observer knows after an interrupt becomes pending
+abbrev pub sight_after_pend : ℕ → Observer → Observer
+sight_after_pend irq v = record v { pending = slice_set v.pending irq true }
 
 -- a section is entered in this step
 abbrev pub seen_after_enter : Section → ℕ → Seen → Seen
@@ -69,17 +69,17 @@ module _ (app : App) where
   sight_after_item v (what.Ret irq) = record v { jobs = drop 1 v.jobs }
   sight_after_item v (what.Enter x) = record v { jobs = on_running (seen_after_enter x v.steps) v.jobs }
   sight_after_item v (what.Leave x value) = record v { jobs = on_running seen_after_leave v.jobs }
-  sight_after_item v (what.Post irq) = is_pended irq v
-  sight_after_item v what.Alarm = is_pended (timer_number app) v
+  sight_after_item v (what.Post irq) = sight_after_pend irq v
+  sight_after_item v what.Alarm = sight_after_pend (timer_number app) v
   -- `init` ends, and the thread goes on below all tasks
   sight_after_item v (what.End body.Init) = record v { jobs = on_running (λ job. record job { priority = 0 }) v.jobs }
   sight_after_item v w = v
 
   -- what an observer knows after a label
   abbrev pub sees : Observer → Label → Observer
-  sees v (Arrived irq) = is_pended irq v
+  sees v (Arrived irq) = sight_after_pend irq v
   sees v Ticked = v
-  sees v Rang = is_pended (timer_number app) v
+  sees v Rang = sight_after_pend (timer_number app) v
   sees v (Stepped None) = record v { steps = suc v.steps }
   sees v (Stepped (Some w)) = record (sight_after_item v w) { steps = suc v.steps }
 

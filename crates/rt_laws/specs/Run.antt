@@ -32,13 +32,13 @@ IsWithinStack app (what.Take irq depth) = depth ≤ stack_bytes app
 IsWithinStack app w = Unit {0}
 
 -- the trace states the total of core steps that there are, or it states none and may end with its last item
-abbrev pub IsTold : Option ℕ → ℕ → Type 0
-IsTold None total = Unit {0}
-IsTold (Some told) total = told ≡ total
+abbrev pub StatesTotal : Option ℕ → ℕ → Type 0
+StatesTotal None total = Unit {0}
+StatesTotal (Some stated) total = stated ≡ total
 
 -- a trace is judged right: it is a run, of as many steps as it states, and within the stack bound
 pub record Judged (app : App) (trace : Trace) : Type 0 where
   pub total : ℕ
-  pub told : IsTold trace.total total
+  pub stated : StatesTotal trace.total total
   pub run : Run app trace.items total
   pub depths : AllByRecursion (λ item. IsWithinStack app item.what) trace.items
