@@ -6,10 +6,10 @@ use Rattle.rt_laws.specs.State.{State, first}
 use Rattle.rt_laws.specs.Allowed.{after}
 use Rattle.rt_laws.specs.Run.{RunsOn}
 use Rattle.rt_laws.specs.Messages.{RunsKeepMessages}
-use Rattle.rt_laws.proofs.Keeping.{runs_keep_queues, runs_keep_handles}
+use Rattle.rt_laws.proofs.Keeping.{queues_kept, handles_kept}
 use Rattle.rt_laws.proofs.Placed.{places_counted}
-use Rattle.rt_laws.proofs.ReadyRuns.{runs_serve_ready}
-use Rattle.rt_laws.proofs.TimerRuns.{runs_serve_due}
+use Rattle.rt_laws.proofs.ReadyRuns.{ready_served}
+use Rattle.rt_laws.proofs.TimerRuns.{due_served}
 
 front_runs_on : (app : App) (n : ℕ) (labels : List Label) (s : State) → RunsOn app s labels
     → RunsOn app s (take n labels)
@@ -20,11 +20,11 @@ front_runs_on app (suc n) (label ∷ labels) s runs =
 
 pub runs_keep_messages : RunsKeepMessages
 runs_keep_messages app accepted labels runs = record {
-  in_order = λ n. runs_keep_queues app accepted (take n labels) (until n);
-  handled = λ n. runs_keep_handles app accepted (take n labels) (until n);
+  in_order = λ n. queues_kept app accepted (take n labels) (until n);
+  handled = λ n. handles_kept app accepted (take n labels) (until n);
   places_counted = λ n. places_counted app accepted (take n labels) (until n);
-  ready_served = λ n. runs_serve_ready app accepted (take n labels) (until n);
-  due_served = λ n. runs_serve_due app accepted (take n labels) (until n);
+  ready_served = λ n. ready_served app accepted (take n labels) (until n);
+  due_served = λ n. due_served app accepted (take n labels) (until n);
 }
   where
     until : (n : ℕ) → RunsOn app (first app) (take n labels)

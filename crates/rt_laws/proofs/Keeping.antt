@@ -15,8 +15,9 @@ use Rattle.rt_laws.specs.Observer.{Seen, Observer, first_sight, sees}
 use Rattle.rt_laws.specs.Waiting.{WaitsWell, ServesWell}
 use Rattle.rt_laws.specs.Properties.{AtEach, AreExclusive, FindsFree, LeavesInnermost}
 use Rattle.rt_laws.specs.ByItems.{after_all}
-use Rattle.rt_laws.specs.Laws.{RunsKeepQueues, RunsKeepHandles, RunsKeepLaws, JudgedTracesKeepLaws}
-use Rattle.rt_laws.specs.Laws.{IsHighestFirst, TheHighestRuns}
+use Rattle.rt_laws.specs.Queues.{KeepsQueues}
+use Rattle.rt_laws.specs.Handles.{KeepsHandles}
+use Rattle.rt_laws.specs.Laws.{RunsKeepLaws, JudgedTracesKeepLaws, IsHighestFirst, TheHighestRuns}
 use Rattle.rt_laws.proofs.Well.{IsAbove, StackWell, StateWell}
 use Rattle.rt_laws.proofs.Happens.{first_well, happens, after_well}
 use Rattle.rt_laws.proofs.Handled.{are_handled}
@@ -110,12 +111,14 @@ the_highest_runs app accepted labels runs =
     let behind = run_well app accepted labels runs in
     highest_first app (after_all app (first app) labels).jobs behind.0.jobs behind.1.stack
 
-pub runs_keep_handles : RunsKeepHandles
-runs_keep_handles app accepted labels runs =
+pub handles_kept : (app : App) → IsAccepted app → (labels : List Label) → RunsOn app (first app) labels
+    → KeepsHandles (after_all app (first app) labels)
+handles_kept app accepted labels runs =
     are_handled (timer_content ((after_all app (first app) labels).values (Guarded section.Timer)))
     (run_well app accepted labels runs).1.queued.handles
 
-pub runs_keep_queues : RunsKeepQueues
-runs_keep_queues app accepted labels runs =
+pub queues_kept : (app : App) → IsAccepted app → (labels : List Label) → RunsOn app (first app) labels
+    → KeepsQueues app (after_all app (first app) labels)
+queues_kept app accepted labels runs =
     let s : State = after_all app (first app) labels in
     all_in_order app s.time s.values s.jobs (run_well app accepted labels runs).1.order

@@ -30,8 +30,7 @@ use Rattle.rt_laws.specs.Allowed.{MayStep, May, state_after_start, state_after_s
 use Rattle.rt_laws.specs.Run.{RunsOn}
 use Rattle.rt_laws.specs.ByItems.{after_all}
 use Rattle.rt_laws.specs.Observer.{Seen, Observer, first_sight, sees}
-use Rattle.rt_laws.specs.Served.{IsOpen, BeginsWith}
-use Rattle.rt_laws.specs.Laws.{RunsServeReady}
+use Rattle.rt_laws.specs.Served.{IsOpen, BeginsWith, ServesReady}
 use Rattle.rt_laws.proofs.Order.{some_ceiling}
 use Rattle.rt_laws.proofs.Pending.{priority_is, starts_above, still_beside}
 use Rattle.rt_laws.proofs.Fine.{first_queued, IsFine, Queued, reached_same}
@@ -188,8 +187,9 @@ module _ (app : App) (accepted : IsAccepted app) (p : ℕ) (of_level : Contains 
       all_served labels (after app s label) (sees app v label) (next_well app accepted s v label well runs.0)
       (next_kept s v label well keeps runs.0) runs.1
 
-pub runs_serve_ready : RunsServeReady
-runs_serve_ready app accepted labels runs p of_level =
+pub ready_served : (app : App) → IsAccepted app → (labels : List Label) → RunsOn app (first app) labels
+    → ServesReady app (after_all app (first app) labels)
+ready_served app accepted labels runs p of_level =
     keeps_level app p (after_all app (first app) labels)
     (all_served app accepted p of_level labels (first app) (first_sight app) (first_well app accepted)
     (first_kept app accepted p of_level) runs)

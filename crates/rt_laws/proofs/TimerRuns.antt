@@ -30,8 +30,7 @@ use Rattle.rt_laws.specs.Allowed.{MayStep, May, state_after_start, state_after_s
 use Rattle.rt_laws.specs.Run.{RunsOn}
 use Rattle.rt_laws.specs.ByItems.{after_all}
 use Rattle.rt_laws.specs.Observer.{Seen, Observer, first_sight, sees}
-use Rattle.rt_laws.specs.Served.{IsOpen, BeginsWith}
-use Rattle.rt_laws.specs.Laws.{RunsServeDue}
+use Rattle.rt_laws.specs.Served.{IsOpen, BeginsWith, ServesDue}
 use Rattle.rt_laws.proofs.Order.{some_ceiling}
 use Rattle.rt_laws.proofs.Pending.{priority_is, starts_above, still_beside}
 use Rattle.rt_laws.proofs.Fine.{first_queued, IsFine, Queued, reached_same}
@@ -219,8 +218,9 @@ module _ (app : App) (accepted : IsAccepted app) (mono : Mono) (timed : app.mono
       all_served labels (after app s label) (sees app v label) (next_well app accepted s v label well runs.0)
       (next_kept s v label well kept runs.0) runs.1
 
-pub runs_serve_due : RunsServeDue
-runs_serve_due app accepted labels runs mono timed =
+pub due_served : (app : App) → IsAccepted app → (labels : List Label) → RunsOn app (first app) labels
+    → ServesDue app (after_all app (first app) labels)
+due_served app accepted labels runs mono timed =
     keeps_due app (after_all app (first app) labels)
     (all_served app accepted mono timed labels (first app) (first_sight app) (first_well app accepted)
     (first_kept app accepted mono timed) runs)

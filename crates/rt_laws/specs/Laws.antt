@@ -1,4 +1,4 @@
--- What holds of every run of Baker's machine on an accepted application.
+-- What holds of every run of Baker's machine on an accepted application. What holds of messages is in `Messages`.
 use Rattle.std.specs.Prelude.{◌<◌, List, [], ◌∷◌}
 use Rattle.std.specs.List.{AllByRecursion}
 use Rattle.rt_trace.specs.Label.{Label}
@@ -8,9 +8,6 @@ use Rattle.rt_app.specs.Accepted.{IsAccepted}
 use Rattle.rt_laws.specs.State.{Job, first}
 use Rattle.rt_laws.specs.Run.{RunsOn, Judged}
 use Rattle.rt_laws.specs.ByItems.{after_all}
-use Rattle.rt_laws.specs.Queues.{KeepsQueues}
-use Rattle.rt_laws.specs.Handles.{KeepsHandles}
-use Rattle.rt_laws.specs.Served.{ServesReady, ServesDue}
 use Rattle.rt_laws.specs.Properties.{KeepsLaws}
 
 -- every run keeps Baker's three properties (1991): sections are exclusive, no job finds one taken, and none waits for
@@ -34,27 +31,3 @@ abbrev pub TheHighestRuns : Type 0
 TheHighestRuns =
     (app : App) → IsAccepted app → (labels : List Label) → RunsOn app (first app) labels
     → IsHighestFirst (after_all app (first app) labels).jobs
-
--- each queue is kept in order: see `Queues`
-abbrev pub RunsKeepQueues : Type 0
-RunsKeepQueues =
-    (app : App) → IsAccepted app → (labels : List Label) → RunsOn app (first app) labels
-    → KeepsQueues app (after_all app (first app) labels)
-
--- handles are those of one armed message each: see `Handles`
-abbrev pub RunsKeepHandles : Type 0
-RunsKeepHandles =
-    (app : App) → IsAccepted app → (labels : List Label) → RunsOn app (first app) labels
-    → KeepsHandles (after_all app (first app) labels)
-
--- messages that are ready are served: see `Served`
-abbrev pub RunsServeReady : Type 0
-RunsServeReady =
-    (app : App) → IsAccepted app → (labels : List Label) → RunsOn app (first app) labels
-    → ServesReady app (after_all app (first app) labels)
-
--- messages that are due are served: see `Served`
-abbrev pub RunsServeDue : Type 0
-RunsServeDue =
-    (app : App) → IsAccepted app → (labels : List Label) → RunsOn app (first app) labels
-    → ServesDue app (after_all app (first app) labels)

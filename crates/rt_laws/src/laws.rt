@@ -2,15 +2,7 @@ ghost use Rattle.rt_laws.specs.ByItems.{FrontsAreRuns, RunsAreByItems};
 ghost use Rattle.rt_laws.specs.Counts.{CountsRiseByOne};
 ghost use Rattle.rt_laws.specs.Instants.{EqualInstantsFireInOrder};
 ghost use Rattle.rt_laws.specs.Messages.{RunsKeepMessages};
-ghost use Rattle.rt_laws.specs.Laws.{
-  JudgedTracesKeepLaws,
-  RunsKeepHandles,
-  RunsKeepLaws,
-  RunsKeepQueues,
-  RunsServeDue,
-  RunsServeReady,
-  TheHighestRuns,
-};
+ghost use Rattle.rt_laws.specs.Laws.{JudgedTracesKeepLaws, RunsKeepLaws, TheHighestRuns};
 ghost use Rattle.rt_laws.specs.Preemption.{CandidateIsHighest};
 ghost use Rattle.rt_laws.specs.Silent.{SilentStepsByCost};
 
@@ -28,7 +20,7 @@ pub fn runs_keep_laws()
     ensures { RunsKeepLaws }
 {}
 
-/// So does every trace that is judged right.
+/// Every trace that is judged right keeps these laws too.
 pub fn judged_traces_keep_laws()
     ensures { JudgedTracesKeepLaws }
 {}
@@ -45,29 +37,6 @@ pub fn the_highest_runs()
     ensures { TheHighestRuns }
 {}
 
-/// In every run a place is taken where one is left and refused where none is, messages start in the order in which they
-/// became ready, and of armed messages the least fires, not before its instant.
-pub fn runs_keep_queues()
-    ensures { RunsKeepQueues }
-{}
-
-/// In every run each armed message has a handle that was given, and no other armed message has it.
-pub fn runs_keep_handles()
-    ensures { RunsKeepHandles }
-{}
-
-/// In every run messages that are ready are served: where no job has the section of their queue open, the dispatcher of
-/// their level is pending, or has started and stands before that section.
-pub fn runs_serve_ready_messages()
-    ensures { RunsServeReady }
-{}
-
-/// In every run messages that are due are served: where no alarm is owed and no job has the section of the timer queue
-/// open, the interrupt of the monotonic is pending, or its handler has started and stands before that section.
-pub fn runs_serve_due_messages()
-    ensures { RunsServeDue }
-{}
-
 /// How many silent steps may pass, and what they lead to, is told from the costs at once.
 pub fn silent_steps_are_told_by_cost()
     ensures { SilentStepsByCost }
@@ -78,8 +47,12 @@ pub fn fronts_are_runs()
     ensures { FrontsAreRuns }
 {}
 
-/// In every run, at every moment: queues are in order, handles are of one message each, the places that are out are
-/// those in transit, armed and ready, and messages that are ready or due are served.
+/// In every run, at every moment: a place is taken where one is left and refused where none is; messages start in the
+/// order in which they became ready; of armed messages the least fires, not before its instant; each armed message has
+/// a handle that was given, and no other armed message has it; and the places that are out are those in transit, armed
+/// and ready. Where messages are ready and no job has the section of their queue open, the dispatcher of their level is
+/// pending, or has started and is about to enter that section. Where messages are due, no alarm is owed and no job has
+/// the section of the timer queue open, the same holds of the monotonic's handler.
 pub fn runs_keep_messages()
     ensures { RunsKeepMessages }
 {}
