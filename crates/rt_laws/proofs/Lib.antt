@@ -28,6 +28,7 @@ pub mod Counted
 pub mod Placed
 pub mod Instants
 pub mod Passing
+pub mod Beginnings
 pub mod Readying
 pub mod Dispatchers
 pub mod ReadyServed

@@ -1,6 +1,6 @@
 -- Every run of an accepted application serves the messages that are ready.
 use Rattle.std.proofs.Common.{◌≡◌, ℕ, ◌≤◌, ◌==◌, ◌^◌, Bool, true, false, Contains, List, [], ◌∷◌, slice_set, length-set}
-use Rattle.std.proofs.Common.{Option, Some, None, option_map, refl, sym, ap, subst, ◌∙◌, inl, inr, arith}
+use Rattle.std.proofs.Common.{Option, Some, None, option_map, refl, ap, subst, ◌∙◌, inl, inr, arith}
 use Rattle.std.proofs.lemmas.Bool.{eqb-true}
 use Rattle.std.proofs.lemmas.Option.{none-some}
 use Rattle.rt_lemmas.proofs.Lists.{find_has}
@@ -13,7 +13,6 @@ use Rattle.rt_ids.specs.declared.ids.Section.TheVariants as section
 use Rattle.rt_trace.specs.Label.{Label, Arrived, Ticked, Rang, Stepped}
 use Rattle.rt_trace.specs.declared.item.What.{What}
 use Rattle.rt_trace.specs.declared.item.What.TheVariants as what
-use Rattle.rt_app.specs.BodyCost.{dispatcher_section_cost}
 use Rattle.rt_app.specs.Tree.{App}
 use Rattle.rt_app.specs.Ceiling.{ceiling}
 use Rattle.rt_app.specs.Level.{levels}
@@ -30,7 +29,7 @@ use Rattle.rt_laws.specs.Allowed.{MayStep, May, state_after_start, state_after_s
 use Rattle.rt_laws.specs.Run.{RunsOn}
 use Rattle.rt_laws.specs.ByItems.{after_all}
 use Rattle.rt_laws.specs.Observer.{Seen, Observer, first_sight, sees}
-use Rattle.rt_laws.specs.Served.{IsOpen, BeginsWith, ServesReady}
+use Rattle.rt_laws.specs.Served.{IsOpen, ServesReady}
 use Rattle.rt_laws.proofs.Order.{some_ceiling}
 use Rattle.rt_laws.proofs.Pending.{priority_is, starts_above, still_beside}
 use Rattle.rt_laws.proofs.Fine.{first_queued, IsFine, Queued, reached_same}
@@ -40,7 +39,7 @@ use Rattle.rt_laws.proofs.Happens.{first_well}
 use Rattle.rt_laws.proofs.Keeping.{next_well}
 use Rattle.rt_laws.proofs.Dispatchers.{dispatcher_serves, dispatcher_small}
 use Rattle.rt_laws.proofs.Readying.{init_serves, handler_serves}
-use Rattle.rt_laws.proofs.ReadyServed.{JobServes, IsOutside, IsInside, LevelServed, Open, Nothing, Posted, Stands}
+use Rattle.rt_laws.proofs.ReadyServed.{JobServes, IsOutside, IsInside, LevelServed, Open, Nothing, Posted, Begins}
 use Rattle.rt_laws.proofs.ReadyServed.{Keeps, KeepsState, keeps_level, all_kept, posts_kept}
 use Rattle.rt_laws.proofs.ReadySteps.{differ, outside, inside_too}
 
@@ -117,17 +116,13 @@ module _ (app : App) (accepted : IsAccepted app) (p : ℕ) (of_level : Contains 
           → ServedBehind s irq x
       go (Open there) = Open (inr there)
       go (Nothing none) = Nothing (same ∙ none)
-      go (Stands there) = Stands (inr there)
+      go (Begins there) = Begins (inr there)
       go (Posted yet) = by (irq == dispatcher) refl
         where
           by : (b : Bool) → (irq == dispatcher) ≡ b → ServedBehind s irq x
           by true test =
               let equal = eqb-true irq dispatcher test in
-              Stands (inl (
-                ap Serving equal,
-                subst (λ h. BeginsWith queue (dispatcher_section_cost app p) (handler_doing app h s.values))
-                    (sym (is_its equal).0) (refl, refl),
-              ))
+              Begins (inl (ap Serving equal, (s.values, ap (λ h. handler_doing app h s.values) (is_its equal).0)))
           by false test = Posted (still_beside s.pending irq dispatcher false (differ irq dispatcher test) yet)
 
   -- a silent step
@@ -149,7 +144,7 @@ module _ (app : App) (accepted : IsAccepted app) (p : ℕ) (of_level : Contains 
       go (Open there) = Open there
       go (Nothing none) = Nothing none
       go (Posted yet) = Posted yet
-      go (Stands there) = Stands there
+      go (Begins there) = Begins there
 
   -- a step that gives an item
   given_kept : (s : State) (js : List Job) (vs : List Seen) → StackWell app js vs → Queued app s.values

@@ -9,13 +9,14 @@ use Rattle.rt_ids.specs.Action.{Readies, Starts, effect}
 use Rattle.rt_ids.specs.declared.ids.Section.{Section}
 use Rattle.rt_ids.specs.declared.ids.Section.TheVariants as section
 use Rattle.rt_ids.specs.declared.limits.TheConstants.{IRQ_NUMBERS}
-use Rattle.rt_app.specs.BodyCost.{dispatcher_section_cost}
 use Rattle.rt_app.specs.Tree.{App}
+use Rattle.rt_app.specs.Handlers.{Dispatches}
 use Rattle.rt_app.specs.Sending.{dispatcher_number}
 use Rattle.rt_laws.specs.State.{Job, State}
-use Rattle.rt_laws.specs.Served.{IsOpen, BeginsWith, StandsBefore, IsServed, ServesLevel}
+use Rattle.rt_laws.specs.Served.{IsOpen, HasAllToDo, IsServed, ServesLevel}
 use Rattle.rt_laws.proofs.Pending.{still_set}
 use Rattle.rt_laws.proofs.Readying.{Away, Inside, Serves}
+use Rattle.rt_laws.proofs.Beginnings.{BeginsWith, dispatcher_begins}
 
 pub no_drop : (xs : List Section) (x : Section) → ¬ IsIn xs x → ¬ IsIn (drop 1 xs) x
 no_drop [] x out is = out is
@@ -63,7 +64,7 @@ module _ (app : App) (p : ℕ) where
     Open : IsOpen js queue → LevelServed pending vs js
     Nothing : ready vs ≡ [] → LevelServed pending vs js
     Posted : IsPosted pending → LevelServed pending vs js
-    Stands : StandsBefore js (dispatcher_number app p) queue (dispatcher_section_cost app p) → LevelServed pending vs js
+    Begins : HasAllToDo app js (dispatcher_number app p) (Dispatches p) → LevelServed pending vs js
 
   pub record Keeps (pending : List Bool) (vs : Values) (js : List Job) : Type 0 where
     pub long : length pending ≡ IRQ_NUMBERS
@@ -77,12 +78,11 @@ module _ (app : App) (p : ℕ) where
   pub keeps_level : (s : State) → KeepsState s → ServesLevel app s p
   keeps_level s keeps some closed = go keeps.served
     where
-      go : LevelServed s.pending s.values s.jobs → IsServed s (dispatcher_number app p) queue
-          (dispatcher_section_cost app p)
+      go : LevelServed s.pending s.values s.jobs → IsServed app s (dispatcher_number app p) (Dispatches p)
       go (Open is) = absurd (closed is)
       go (Nothing none) = absurd (some none)
       go (Posted is) = inl is
-      go (Stands is) = inr is
+      go (Begins is) = inr is
 
   -- others change nothing of a job that is inside
   job_kept : (pending later : List Bool) (vs ws : Values) (job : Job)
@@ -117,12 +117,12 @@ module _ (app : App) (p : ℕ) where
       go (Open is) = Open is
       go (Nothing none) = Nothing none
       go (Posted is) = Posted (still_set pending irq (dispatcher_number app p) is)
-      go (Stands is) = Stands is
+      go (Begins is) = Begins is
 
   -- a job that is outside goes on outside
   pub goes_outside : (pending : List Bool) → length pending ≡ IRQ_NUMBERS → (vs ws : Values)
       (job after : Job) (others : List Job)
-      → ¬ IsIn job.sections queue → ¬ BeginsWith queue (dispatcher_section_cost app p) job.rest
+      → ¬ IsIn job.sections queue → ¬ BeginsWith queue job.rest
       → ¬ IsIn after.sections queue → Serves app p Away after.rest → ready ws ≡ ready vs
       → AllServe pending vs others → LevelServed pending vs (job ∷ others)
       → Keeps pending ws (after ∷ others)
@@ -137,8 +137,8 @@ module _ (app : App) (p : ℕ) where
       go (Open (inr is)) = Open (inr is)
       go (Nothing none) = Nothing (same ∙ none)
       go (Posted is) = Posted is
-      go (Stands (inl is)) = absurd (before is.1)
-      go (Stands (inr is)) = Stands (inr is)
+      go (Begins (inl is)) = absurd (before (dispatcher_begins app p job.rest is.1))
+      go (Begins (inr is)) = Begins (inr is)
 
   -- it is inside now
   pub goes_inside : (pending later : List Bool) → length later ≡ IRQ_NUMBERS → (vs ws : Values)

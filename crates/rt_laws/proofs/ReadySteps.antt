@@ -16,7 +16,6 @@ use Rattle.rt_ids.specs.declared.ids.Section.{Section}
 use Rattle.rt_ids.specs.declared.ids.Section.TheVariants as section
 use Rattle.rt_ids.specs.declared.limits.TheConstants.{IRQ_NUMBERS}
 use Rattle.rt_trace.specs.declared.item.What.{What}
-use Rattle.rt_app.specs.BodyCost.{dispatcher_section_cost}
 use Rattle.rt_app.specs.Tree.{App, Body}
 use Rattle.rt_app.specs.Ceiling.{ceiling}
 use Rattle.rt_app.specs.Accepted.{IsAccepted}
@@ -26,7 +25,7 @@ use Rattle.rt_laws.specs.State.{Role, Idle, Job, State, reached_values}
 use Rattle.rt_laws.specs.Giving.{next_instant, is_due, next_item}
 use Rattle.rt_laws.specs.Acting.{job_after_step, state_after_pend, idle_job, answer, alarm_set, state_after_doing}
 use Rattle.rt_laws.specs.Observer.{Seen}
-use Rattle.rt_laws.specs.Served.{IsOpen, BeginsWith}
+use Rattle.rt_laws.specs.Served.{IsOpen}
 use Rattle.rt_laws.proofs.Order.{apart_below}
 use Rattle.rt_laws.proofs.Pending.{still_set}
 use Rattle.rt_laws.proofs.Fine.{Within, reached_same, effect_beside, effect_same, Queued, IsFine, held_after}
@@ -34,8 +33,9 @@ use Rattle.rt_laws.proofs.Fine.{queued_effect}
 use Rattle.rt_laws.proofs.FineHandlers.{idle_fine}
 use Rattle.rt_laws.proofs.Well.{NextKept, IsAbove, JobWell}
 use Rattle.rt_laws.proofs.Readying.{Away, Inside, Serves, idle_serves}
+use Rattle.rt_laws.proofs.Beginnings.{BeginsWith, dispatcher_begins}
 use Rattle.rt_laws.proofs.ReadyServed.{no_drop, no_more, readied, taken, IsPosted, AllServe, LevelServed, Open, Nothing}
-use Rattle.rt_laws.proofs.ReadyServed.{Posted, Stands, Keeps, KeepsState, posts_kept, goes_outside, goes_inside}
+use Rattle.rt_laws.proofs.ReadyServed.{Posted, Begins, Keeps, KeepsState, posts_kept, goes_outside, goes_inside}
 use Rattle.rt_laws.proofs.ReadyServed.{goes_out}
 
 pub differ : (r p : ℕ) → (r == p) ≡ false → ¬ (r ≡ p)
@@ -93,7 +93,7 @@ module _ (app : App) (accepted : IsAccepted app) (p : ℕ) (s : State) (long : l
     below there = untouched (λ own. apart_below app role q others queue above
         (all_at (λ x. Within role q (ceiling app x)) sections own.0 queue well.within own.1) there)
 
-    away : ¬ IsIn sections queue → ¬ BeginsWith queue (dispatcher_section_cost app p) (does action made next)
+    away : ¬ IsIn sections queue → ¬ BeginsWith queue (does action made next)
         → (after : Job) → ¬ IsIn after.sections queue → Serves app p Away after.rest
         → LevelServed app p s.pending s.values (running (does action made next) ∷ others)
         → Keeps app p s.pending (reached_values rest vs) (after ∷ others)
@@ -128,7 +128,7 @@ module _ (app : App) (accepted : IsAccepted app) (p : ℕ) (s : State) (long : l
 
   -- the thread begins `idle`, or waits
   restarts : (o : Option Body) (left_to_do : Doing Values) → ¬ IsIn sections queue
-      → ¬ BeginsWith queue (dispatcher_section_cost app p) left_to_do
+      → ¬ BeginsWith queue left_to_do
       → LevelServed app p s.pending s.values (running left_to_do ∷ others)
       → Keeps app p s.pending (reached_values (idle_job app s.values o).rest s.values)
       (idle_job app s.values o ∷ others)
@@ -167,19 +167,19 @@ module _ (app : App) (accepted : IsAccepted app) (p : ℕ) (s : State) (long : l
       go false test =
           let differs : ¬ (r ≡ p) = differ r p test in
           let apart : ¬ (section.Ready r ≡ section.Ready p) = apart_too r p differs in
-          away (Enters (section.Ready r) cost) made next well asked out (λ here. apart here.0) after
+          away (Enters (section.Ready r) cost) made next well asked out apart after
           (no_more (section.Ready r) queue sections apart out) ((good 0 s.values).1 differs) served
   outside (does (Enters (section.Res r) cost) made next) well asked out good served w is =
       let apart : ¬ (section.Res r ≡ section.Ready p) = λ same. cc in
-      away (Enters (section.Res r) cost) made next well asked out (λ here. apart here.0) _
+      away (Enters (section.Res r) cost) made next well asked out apart _
       (no_more (section.Res r) queue sections apart out) (good 0 s.values) served
   outside (does (Enters (section.Free r) cost) made next) well asked out good served w is =
       let apart : ¬ (section.Free r ≡ section.Ready p) = λ same. cc in
-      away (Enters (section.Free r) cost) made next well asked out (λ here. apart here.0) _
+      away (Enters (section.Free r) cost) made next well asked out apart _
       (no_more (section.Free r) queue sections apart out) (good 0 s.values) served
   outside (does (Enters section.Timer cost) made next) well asked out good served w is =
       let apart : ¬ (section.Timer ≡ section.Ready p) = λ same. cc in
-      away (Enters section.Timer cost) made next well asked out (λ here. apart here.0) _
+      away (Enters section.Timer cost) made next well asked out apart _
       (no_more section.Timer queue sections apart out) (good 0 s.values) served
   outside (does (Leaves x) made next) well asked out good served w is =
       away (Leaves x) made next well asked out (λ no_entry. no_entry) _ (no_drop sections queue out) (good 0 s.values)
@@ -210,8 +210,8 @@ module _ (app : App) (accepted : IsAccepted app) (p : ℕ) (s : State) (long : l
       go (Open (inr is)) = Open is
       go (Nothing none) = Nothing none
       go (Posted is) = Posted is
-      go (Stands (inl is)) = absurd is.1
-      go (Stands (inr is)) = Stands is
+      go (Begins (inl is)) = absurd (dispatcher_begins app p (does Returns made next) is.1)
+      go (Begins (inr is)) = Begins is
   outside (does Clocks made next) well asked out good served w is =
       away Clocks made next well asked out (λ no_entry. no_entry) _ out (good s.time s.values) served
   outside (does action made next) well asked out good served w is =

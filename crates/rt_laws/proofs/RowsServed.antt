@@ -1,5 +1,5 @@
 -- Worked examples: where messages are ready or due and nobody has the section of their queue open, the interrupt of who
--- serves them is pending, and then its handling stands before the section.
+-- serves them is pending, and then a job has all of its handler left to do.
 use Rattle.std.proofs.Common.{◌≡◌, true, false, [], ◌∷◌, slice_index_or, None, inl, refl}
 use Rattle.rt_ids.specs.Lists.{those_below}
 use Rattle.rt_ids.specs.Location.{Guarded}
@@ -8,11 +8,12 @@ use Rattle.rt_ids.specs.declared.ids.BodyId.TheVariants as body
 use Rattle.rt_ids.specs.declared.ids.Section.TheVariants as section
 use Rattle.rt_trace.specs.Label.{Arrived, Ticked, Rang}
 use Rattle.rt_trace.specs.declared.item.What.TheVariants as what
+use Rattle.rt_app.specs.Handlers.{Dispatches, Times}
 use Rattle.rt_laws.specs.State.{State, first}
 use Rattle.rt_laws.specs.Allowed.{after}
 use Rattle.rt_laws.specs.ByItems.{after_all}
 use Rattle.rt_laws.specs.Giving.{next_instant, is_due}
-use Rattle.rt_laws.specs.Served.{StandsBefore}
+use Rattle.rt_laws.specs.Served.{HasAllToDo}
 use Rattle.rt_laws.proofs.RowParts.{labels_of, shows}
 use Rattle.rt_laws.proofs.RowsQueues.{one, timed, arming, armed}
 
@@ -40,9 +41,9 @@ it_is_taken : slice_index_or dispatching.pending 1 false ≡ false
 unfolding one spawned dispatching those_below
 it_is_taken = refl
 
-it_stands : StandsBefore dispatching.jobs 1 (section.Ready 1) 56
+it_begins : HasAllToDo one dispatching.jobs 1 (Dispatches 1)
 unfolding one spawned dispatching those_below
-it_stands = inl (refl, (refl, refl))
+it_begins = inl (refl, (dispatching.values, refl))
 
 -- the alarm has come
 rung : State
@@ -56,6 +57,6 @@ timer_is_posted : slice_index_or rung.pending 2 false ≡ true
 unfolding timed arming armed rung
 timer_is_posted = refl
 
-timer_stands : StandsBefore (after timed rung (shows (what.Take 2 0))).jobs 2 section.Timer 128
+timer_begins : HasAllToDo timed (after timed rung (shows (what.Take 2 0))).jobs 2 Times
 unfolding timed arming armed rung those_below
-timer_stands = inl (refl, (refl, refl))
+timer_begins = inl (refl, (rung.values, refl))

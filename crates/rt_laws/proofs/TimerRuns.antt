@@ -15,7 +15,6 @@ use Rattle.rt_trace.specs.Label.{Label, Arrived, Ticked, Rang, Stepped}
 use Rattle.rt_trace.specs.declared.item.What.{What}
 use Rattle.rt_trace.specs.declared.item.What.TheVariants as what
 use Rattle.rt_app.specs.declared.app.Mono.{Mono}
-use Rattle.rt_app.specs.BodyCost.{timer_section_cost}
 use Rattle.rt_app.specs.Tree.{App}
 use Rattle.rt_app.specs.Ceiling.{ceiling}
 use Rattle.rt_app.specs.Handlers.{Times, Service, services}
@@ -30,7 +29,7 @@ use Rattle.rt_laws.specs.Allowed.{MayStep, May, state_after_start, state_after_s
 use Rattle.rt_laws.specs.Run.{RunsOn}
 use Rattle.rt_laws.specs.ByItems.{after_all}
 use Rattle.rt_laws.specs.Observer.{Seen, Observer, first_sight, sees}
-use Rattle.rt_laws.specs.Served.{IsOpen, BeginsWith, ServesDue}
+use Rattle.rt_laws.specs.Served.{IsOpen, ServesDue}
 use Rattle.rt_laws.proofs.Order.{some_ceiling}
 use Rattle.rt_laws.proofs.Pending.{priority_is, starts_above, still_beside}
 use Rattle.rt_laws.proofs.Fine.{first_queued, IsFine, Queued, reached_same}
@@ -41,7 +40,7 @@ use Rattle.rt_laws.proofs.Keeping.{next_well}
 use Rattle.rt_laws.proofs.Dispatchers.{timer_serves, timer_small}
 use Rattle.rt_laws.proofs.Timing.{init_serves, handler_serves}
 use Rattle.rt_laws.proofs.TimerServed.{armed, set_kept, JobServes, IsOutside, IsInside, QueueServed, Open, Ready}
-use Rattle.rt_laws.proofs.TimerServed.{Stands, Keeps, KeepsState, keeps_due, all_kept, posts_kept, alarm_comes}
+use Rattle.rt_laws.proofs.TimerServed.{Begins, Keeps, KeepsState, keeps_due, all_kept, posts_kept, alarm_comes}
 use Rattle.rt_laws.proofs.ReadySteps.{differ, now_set}
 use Rattle.rt_laws.proofs.TimerSteps.{outside, inside_too}
 
@@ -130,17 +129,13 @@ module _ (app : App) (accepted : IsAccepted app) (mono : Mono) (timed : app.mono
       go : QueueServed app s.pending s.alarm s.values s.jobs → ServedBehind s irq x
       go (Open there) = Open (inr there)
       go (Ready (inl set)) = Ready (inl (set ∙ sym same))
-      go (Stands there) = Stands (inr there)
+      go (Begins there) = Begins (inr there)
       go (Ready (inr yet)) = by (irq == timer) refl
         where
           by : (b : Bool) → (irq == timer) ≡ b → ServedBehind s irq x
           by true test =
               let equal = eqb-true irq timer test in
-              Stands (inl (
-                ap Serving equal,
-                subst (λ h. BeginsWith queue (timer_section_cost app) (handler_doing app h s.values))
-                    (sym (is_its equal).0) (refl, refl),
-              ))
+              Begins (inl (ap Serving equal, (s.values, ap (λ h. handler_doing app h s.values) (is_its equal).0)))
           by false test =
               Ready (inr (still_beside s.pending irq timer false (differ irq timer test) yet))
 
@@ -172,7 +167,7 @@ module _ (app : App) (accepted : IsAccepted app) (mono : Mono) (timed : app.mono
           → QueueServed app s.pending s.alarm s.values (job_after_step job ∷ others)
       go (Open there) = Open there
       go (Ready set) = Ready set
-      go (Stands there) = Stands there
+      go (Begins there) = Begins there
 
   -- a step that gives an item
   given_kept : (s : State) (js : List Job) (vs : List Seen) → StackWell app js vs → Queued app s.values

@@ -7,14 +7,15 @@ use Rattle.rt_ids.specs.Content.{Values, delays, least_instant}
 use Rattle.rt_ids.specs.declared.ids.Section.{Section}
 use Rattle.rt_ids.specs.declared.ids.Section.TheVariants as section
 use Rattle.rt_ids.specs.declared.limits.TheConstants.{IRQ_NUMBERS}
-use Rattle.rt_app.specs.BodyCost.{timer_section_cost}
 use Rattle.rt_app.specs.Tree.{App}
+use Rattle.rt_app.specs.Handlers.{Times}
 use Rattle.rt_laws.specs.Services.{timer_number}
 use Rattle.rt_laws.specs.State.{Role, Serving, Job, State}
 use Rattle.rt_laws.specs.Giving.{is_due}
-use Rattle.rt_laws.specs.Served.{IsOpen, BeginsWith, StandsBefore, IsServed, ServesDue}
+use Rattle.rt_laws.specs.Served.{IsOpen, HasAllToDo, IsServed, ServesDue}
 use Rattle.rt_laws.proofs.Pending.{still_set}
 use Rattle.rt_laws.proofs.Timing.{Away, Inside, Serves}
+use Rattle.rt_laws.proofs.Beginnings.{BeginsWith, timer_begins}
 
 -- the instant that is armed next
 abbrev pub armed : Values → Option ℕ
@@ -28,10 +29,10 @@ module _ (app : App) where
   abbrev pub IsSet : List Bool → Option ℕ → Values → Type 0
   IsSet pending alarm vs = (alarm ≡ armed vs) ⊎ IsPosted pending
 
-  -- the alarm is set or has come, or a job of these stands before the section to set it
+  -- the alarm is set or has come, or a job of these is the timer handler, which has yet to enter the section and set it
   abbrev pub IsSetOr : List Job → List Bool → Option ℕ → Values → Type 0
   IsSetOr js pending alarm vs =
-      IsSet pending alarm vs ⊎ StandsBefore js (timer_number app) section.Timer (timer_section_cost app)
+      IsSet pending alarm vs ⊎ HasAllToDo app js (timer_number app) Times
 
   -- whether a job is the timer handler's
   abbrev pub is_timer : Role → Bool
@@ -55,7 +56,7 @@ module _ (app : App) where
   pub data QueueServed (pending : List Bool) (alarm : Option ℕ) (vs : Values) (js : List Job) : Type 0 where
     Open : IsOpen js section.Timer → QueueServed pending alarm vs js
     Ready : IsSet pending alarm vs → QueueServed pending alarm vs js
-    Stands : StandsBefore js (timer_number app) section.Timer (timer_section_cost app) → QueueServed pending alarm vs js
+    Begins : HasAllToDo app js (timer_number app) Times → QueueServed pending alarm vs js
 
   pub record Keeps (pending : List Bool) (alarm : Option ℕ) (vs : Values) (js : List Job) : Type 0 where
     pub long : length pending ≡ IRQ_NUMBERS
@@ -71,8 +72,7 @@ module _ (app : App) where
   pub keeps_due : (s : State) → KeepsState s → ServesDue app s
   keeps_due s kept mono is not_owing due closed = go kept.keeps.served
     where
-      go : QueueServed s.pending s.alarm s.values s.jobs → IsServed s (timer_number app) section.Timer
-          (timer_section_cost app)
+      go : QueueServed s.pending s.alarm s.values s.jobs → IsServed app s (timer_number app) Times
       go (Open there) = absurd (closed there)
       go (Ready (inl same)) = let late : is_due s.time s.alarm ≡ true = ap (is_due s.time) same ∙ due in
           absurd (both (sym not_owing ∙ kept.owed ∙ late))
@@ -80,7 +80,7 @@ module _ (app : App) where
           both : false ≡ true → ⊥
           both never = cc
       go (Ready (inr yet)) = inl yet
-      go (Stands there) = inr there
+      go (Begins there) = inr there
 
   -- others change nothing of a job that is inside
   pub set_or_kept : (js : List Job) (pending later : List Bool) (alarm new : Option ℕ) (vs ws : Values)
@@ -127,7 +127,7 @@ module _ (app : App) where
       go : QueueServed pending alarm vs js → QueueServed (slice_set pending irq true) alarm vs js
       go (Open is) = Open is
       go (Ready set) = Ready (still set)
-      go (Stands is) = Stands is
+      go (Begins is) = Begins is
 
   -- the alarm comes
   pub alarm_comes : (pending : List Bool) (alarm new : Option ℕ) (vs : Values) (js : List Job)
@@ -141,7 +141,7 @@ module _ (app : App) where
   -- a job that is outside goes on outside
   pub goes_outside : (pending : List Bool) → length pending ≡ IRQ_NUMBERS → (alarm : Option ℕ) (vs ws : Values)
       (job after : Job) (others : List Job)
-      → ¬ IsIn job.sections section.Timer → ¬ BeginsWith section.Timer (timer_section_cost app) job.rest
+      → ¬ IsIn job.sections section.Timer → ¬ BeginsWith section.Timer job.rest
       → ¬ IsIn after.sections section.Timer → Serves (is_timer after.role) Away after.rest → armed ws ≡ armed vs
       → AllServe pending alarm vs others → QueueServed pending alarm vs (job ∷ others)
       → Keeps pending alarm ws (after ∷ others)
@@ -158,8 +158,8 @@ module _ (app : App) where
       go (Open (inl is)) = absurd (out is)
       go (Open (inr is)) = Open (inr is)
       go (Ready set) = Ready (stays set)
-      go (Stands (inl is)) = absurd (before is.1)
-      go (Stands (inr is)) = Stands (inr is)
+      go (Begins (inl is)) = absurd (before (timer_begins app job.rest is.1))
+      go (Begins (inr is)) = Begins (inr is)
 
   -- it is inside now
   pub goes_inside : (pending later : List Bool) → length later ≡ IRQ_NUMBERS → (alarm new : Option ℕ) (vs ws : Values)
@@ -177,7 +177,7 @@ module _ (app : App) where
     served = Open (inl (subst (λ xs. IsIn xs section.Timer) (sym is) (0, refl)));
   }
 
-  -- it leaves, where the alarm is set, or a job below stands before the section
+  -- it leaves, where the alarm is set, or a job below has yet to enter the section
   pub goes_out : (pending : List Bool) → length pending ≡ IRQ_NUMBERS → (alarm : Option ℕ) (vs ws : Values)
       (after : Job) (others : List Job)
       → ¬ IsIn after.sections section.Timer → Serves (is_timer after.role) Away after.rest → armed ws ≡ armed vs
@@ -194,4 +194,4 @@ module _ (app : App) where
     where
       go : IsSetOr others pending alarm vs → QueueServed pending alarm ws (after ∷ others)
       go (inl is) = Ready (set_kept pending pending alarm vs ws (λ yet. yet) same is)
-      go (inr there) = Stands (inr there)
+      go (inr there) = Begins (inr there)

@@ -13,7 +13,6 @@ use Rattle.rt_ids.specs.declared.ids.Section.{Section}
 use Rattle.rt_ids.specs.declared.ids.Section.TheVariants as section
 use Rattle.rt_ids.specs.declared.limits.TheConstants.{IRQ_NUMBERS}
 use Rattle.rt_trace.specs.declared.item.What.{What}
-use Rattle.rt_app.specs.BodyCost.{timer_section_cost}
 use Rattle.rt_app.specs.Tree.{App, Body}
 use Rattle.rt_app.specs.Ceiling.{ceiling}
 use Rattle.rt_app.specs.Accepted.{IsAccepted}
@@ -22,17 +21,18 @@ use Rattle.rt_laws.specs.State.{Role, Idle, Serving, Job, State, reached_values}
 use Rattle.rt_laws.specs.Giving.{next_instant, is_due, next_item}
 use Rattle.rt_laws.specs.Acting.{job_after_step, state_after_pend, idle_job, answer, state_after_doing}
 use Rattle.rt_laws.specs.Observer.{Seen}
-use Rattle.rt_laws.specs.Served.{IsOpen, BeginsWith}
+use Rattle.rt_laws.specs.Served.{IsOpen}
 use Rattle.rt_laws.proofs.Order.{apart_below}
 use Rattle.rt_laws.proofs.Fine.{Within, reached_same, effect_beside, effect_same, Queued, IsFine, held_after}
 use Rattle.rt_laws.proofs.Fine.{queued_effect}
 use Rattle.rt_laws.proofs.FineHandlers.{idle_fine}
 use Rattle.rt_laws.proofs.Well.{NextKept, IsAbove, JobWell}
 use Rattle.rt_laws.proofs.Timing.{Away, Inside, Serves, idle_serves}
+use Rattle.rt_laws.proofs.Beginnings.{BeginsWith, timer_begins}
 use Rattle.rt_laws.proofs.ReadyServed.{no_drop, no_more}
 use Rattle.rt_laws.proofs.ReadySteps.{now_set}
 use Rattle.rt_laws.proofs.TimerServed.{armed, IsSetOr, is_timer, set_kept, set_or_kept, AllServe, QueueServed, Open}
-use Rattle.rt_laws.proofs.TimerServed.{Ready, Stands, Keeps, KeepsState, posts_kept, goes_outside, goes_inside}
+use Rattle.rt_laws.proofs.TimerServed.{Ready, Begins, Keeps, KeepsState, posts_kept, goes_outside, goes_inside}
 use Rattle.rt_laws.proofs.TimerServed.{goes_out}
 
 never : false ≡ true → ⊥
@@ -77,7 +77,7 @@ module _ (app : App) (accepted : IsAccepted app) (s : State) (long : length s.pe
     untouched out = reached_is
         ∙ ap (λ c. least_instant (delays c)) (effect_beside action s.values sections queue asked.0 out)
 
-    away : ¬ IsIn sections queue → ¬ BeginsWith queue (timer_section_cost app) (does action made next) → (after : Job)
+    away : ¬ IsIn sections queue → ¬ BeginsWith queue (does action made next) → (after : Job)
         → ¬ IsIn after.sections queue → Serves (is_timer app after.role) Away after.rest
         → QueueServed app s.pending s.alarm s.values (running (does action made next) ∷ others)
         → Keeps app s.pending s.alarm (reached_values rest vs) (after ∷ others)
@@ -104,7 +104,7 @@ module _ (app : App) (accepted : IsAccepted app) (s : State) (long : length s.pe
 
   -- the thread begins `idle`, or waits
   restarts : (o : Option Body) (left_to_do : Doing Values) → ¬ IsIn sections queue
-      → ¬ BeginsWith queue (timer_section_cost app) left_to_do
+      → ¬ BeginsWith queue left_to_do
       → QueueServed app s.pending s.alarm s.values (running left_to_do ∷ others)
       → Keeps app s.pending s.alarm (reached_values (idle_job app s.values o).rest s.values)
       (idle_job app s.values o ∷ others)
@@ -145,24 +145,24 @@ module _ (app : App) (accepted : IsAccepted app) (s : State) (long : length s.pe
           inl (set_kept app s.pending s.pending s.alarm s.values (reached_values (next 0 s.values) s.values)
           (λ yet. yet)
           (reached_is (Enters section.Timer cost) made next well asked) set)
-      known other (Stands (inl is)) = absurd (never (sym (ap not (its_own is.0)) ∙ other))
-      known other (Stands (inr there)) = inr there
+      known other (Begins (inl is)) = absurd (never (sym (ap not (its_own is.0)) ∙ other))
+      known other (Begins (inr there)) = inr there
   outside (does (Enters (section.Res r) cost) made next) well asked out good served w is =
       let apart : ¬ (section.Res r ≡ section.Timer) = λ same. cc in record {
         owed = owed;
-        keeps = away (Enters (section.Res r) cost) made next well asked out (λ here. apart here.0) _
+        keeps = away (Enters (section.Res r) cost) made next well asked out apart _
             (no_more (section.Res r) queue sections apart out) (good 0 s.values) served;
       }
   outside (does (Enters (section.Free r) cost) made next) well asked out good served w is =
       let apart : ¬ (section.Free r ≡ section.Timer) = λ same. cc in record {
         owed = owed;
-        keeps = away (Enters (section.Free r) cost) made next well asked out (λ here. apart here.0) _
+        keeps = away (Enters (section.Free r) cost) made next well asked out apart _
             (no_more (section.Free r) queue sections apart out) (good 0 s.values) served;
       }
   outside (does (Enters (section.Ready r) cost) made next) well asked out good served w is =
       let apart : ¬ (section.Ready r ≡ section.Timer) = λ same. cc in record {
         owed = owed;
-        keeps = away (Enters (section.Ready r) cost) made next well asked out (λ here. apart here.0) _
+        keeps = away (Enters (section.Ready r) cost) made next well asked out apart _
             (no_more (section.Ready r) queue sections apart out) (good 0 s.values) served;
       }
   outside (does (Leaves x) made next) well asked out good served w is = record {
@@ -193,8 +193,8 @@ module _ (app : App) (accepted : IsAccepted app) (s : State) (long : length s.pe
       go (Open (inl is)) = absurd (out is)
       go (Open (inr is)) = Open is
       go (Ready set) = Ready set
-      go (Stands (inl is)) = absurd is.1
-      go (Stands (inr is)) = Stands is
+      go (Begins (inl is)) = absurd (timer_begins app (does Returns made next) is.1)
+      go (Begins (inr is)) = Begins is
   outside (does Clocks made next) well asked out good served w is = record {
     owed = owed;
     keeps = away Clocks made next well asked out (λ no_entry. no_entry) _ out (good s.time s.values) served;
