@@ -34,7 +34,7 @@ use Rattle.rt_baker_moves.specs.Machine.{IsServiceOf}
 use Rattle.rt_baker_moves.specs.Job.{AuditorJob, finish, rest_of, with_rest}
 use Rattle.rt_baker_moves.specs.State.{AuditorState, StateIs}
 use Rattle.rt_baker_moves.specs.Inside.Acts.{held_with_job}
-use Rattle.rt_baker_moves.specs.Inside.Starts.{held_after_take, IsViablePrefix, Launches}
+use Rattle.rt_baker_moves.specs.Inside.Starts.{held_after_take, HasBegunWith, Launches}
 use Rattle.rt_baker_moves.proofs.Jobs.{kept}
 use Rattle.rt_baker_moves.proofs.Pending.{none_waiting, taken_from, taken_stands}
 use Rattle.rt_baker_moves.proofs.Acts.{settled_reaches, finish_reaches, Stands, with_first, moved_stands}
@@ -86,10 +86,10 @@ init_is app (Some b) vs = refl
 pub job_begins : (app : App) (r : laws.Role) (p cost : ℕ) (j : AuditorJob) (w v : Work) (was is : Store)
     → Becomes app (λ later. later) w was v is → IsSettled v.todos → j ≡ kept r p v cost [] []
     → (first : Later → Later) (start : Work) → start ≡ no_work → Becomes app first start was w was
-    → IsViablePrefix app r p cost first was j is
+    → HasBegunWith app r p cost first was j is
 unfolding behind
 job_begins app r p cost j w v was is runs settles made_so first start empty becomes =
-    subst (λ (k : AuditorJob). IsViablePrefix app r p cost first was k is) (sym made_so)
+    subst (λ (k : AuditorJob). HasBegunWith app r p cost first was k is) (sym made_so)
     (record {
       job = λ rest. refl;
       rest = sym
@@ -101,7 +101,7 @@ job_begins app r p cost j w v was is runs settles made_so first start empty beco
 pub begins_as : (app : App) (r : laws.Role) (p q cost n : ℕ) (first : Later → Later) (was : Store) (j : AuditorJob)
     (is :
     Store) → p ≡ q → cost ≡ n
-    → IsViablePrefix app r p cost first was j is → IsViablePrefix app r q n first was j is
+    → HasBegunWith app r p cost first was j is → HasBegunWith app r q n first was j is
 begins_as app r p q cost n first was j is at takes b = record {
   job = λ rest.
       b.job rest ∙ ap (λ (k : ℕ). laws.new_job r k cost rest) at ∙ ap (λ (k : ℕ). laws.new_job r q k rest) takes;
@@ -124,12 +124,12 @@ with_more s jobs is = record {
 -- it comes first of a state's jobs
 pub launched : (app : App) (r : laws.Role) (p q cost : ℕ) (first : Later → Later) (o s : AuditorState) (j : AuditorJob)
     (is : Store)
-    (js : List AuditorJob) → o ≡ s → p ≡ q → js ≡ j ∷ o.jobs → IsViablePrefix app r p cost first o.store j is
+    (js : List AuditorJob) → o ≡ s → p ≡ q → js ≡ j ∷ o.jobs → HasBegunWith app r p cost first o.store j is
     → Launches app r q cost first s (with_more o js is)
 launched app r p q cost first o s j is js view at grown b = record {
   after = j;
   store = is;
-  begins = subst (λ (h : AuditorState). IsViablePrefix app r q cost first h.store j is) view
+  begins = subst (λ (h : AuditorState). HasBegunWith app r q cost first h.store j is) view
       (begins_as app r p q cost cost first
       o.store j is at refl b);
   is = ap (λ (ks : List AuditorJob). with_more o ks is) grown ∙ ap (λ (h : AuditorState). held_with_job h j is) view;
@@ -139,7 +139,7 @@ launched app r p q cost first o s j is js view at grown b = record {
 begins_stand : (app : App) (r : laws.Role) (p cost : ℕ) (first : Later → Later) (was is : Store) (j : AuditorJob)
     (rest :
     Doing Values) (us : Values)
-    → r ≢ laws.Waiting → IsViablePrefix app r p cost first was j is → rest ≡ first (finish r) [] (contents was)
+    → r ≢ laws.Waiting → HasBegunWith app r p cost first was j is → rest ≡ first (finish r) [] (contents was)
     → Stands app j is (laws.new_job r p cost rest) (reached_values rest us)
 begins_stand app r p cost first was is j rest us busy b alike =
     let role : j.role ≡ r = ap (λ (l : laws.Job). l.role) (b.job over) in
@@ -185,7 +185,7 @@ init_works : laws.Init ≢ laws.Waiting
 init_works e = cc
 
 pub first_stands : (app : App) (was is : Store) (j : AuditorJob) (s : AuditorState)
-    → IsViablePrefix app laws.Init (2 ^ app.bits) (cost_of (cost_measure app) app.init) (enter_body app app.init []) was
+    → HasBegunWith app laws.Init (2 ^ app.bits) (cost_of (cost_measure app) app.init) (enter_body app app.init []) was
     j is
     → contents was ≡ first_values app → s ≡ reset (j ∷ []) is → StateIs app s (laws.first app)
 first_stands app was is j s b fills made_so =

@@ -22,7 +22,8 @@ fn run<'a>(code: &Code<'a>, body: &'a Body, store: &mut Store) -> Result<Job<'a>
     requires code { IsCode code.now }
     requires room { HasRoom store.old }
     ensures { let app = app_of code.now.app.now in
-        IfOk result (λ job. IsBegun app (laws.new_job laws.Idle 0 (body_cost (cost_measure app) (body_of body.entry.now))
+        IfOk result (λ job. IsBegun app (laws.new_job laws.Idle 0
+        (body_cost (cost_measure app) (body_of body.entry.now))
         (body_doing app (body_of body.entry.now) [] (act (Ends body_id.Idle) nothing) (contents store.old))) store.old
         job store.new) }
 {

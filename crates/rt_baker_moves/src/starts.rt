@@ -17,7 +17,7 @@ ghost use Rattle.rt_baker_work.specs.Work.{no_work, Becomes};
 ghost use Rattle.rt_baker_moves.specs.Machine.{IsMachine};
 ghost use Rattle.rt_baker_moves.specs.Job.{role_of};
 ghost use Rattle.rt_baker_moves.specs.State.{StateIs, IsEarly};
-ghost use Rattle.rt_baker_moves.specs.Inside.Starts.{held_after_take, IsViablePrefix, Launches};
+ghost use Rattle.rt_baker_moves.specs.Inside.Starts.{held_after_take, HasBegunWith, Launches};
 
 use crate::candidate::unqueue;
 use crate::job::{Job, Role};
@@ -48,7 +48,7 @@ fn begin_job<'a>(
     ensures { let app = app_of code.now.app.now in
         IfOk result (λ j. (first : Later → Later) (start : kept.Work) → start ≡ no_work
         → Becomes app first start store.old work.entry store.old
-        → IsViablePrefix app (role_of role) priority cost first store.old j store.new) }
+        → HasBegunWith app (role_of role) priority cost first store.old j store.new) }
 {
     settle(code, &mut work, store)?;
     Ok(Job::new(code.alloc, role, priority, cost, work))
@@ -67,8 +67,8 @@ fn first_job<'a>(code: &Code<'a>, store: &mut Store) -> Result<Job<'a>, NoMemory
     requires code { IsCode code.now }
     requires room { HasRoom store.old }
     ensures { let app = app_of code.now.app.now in
-        IfOk result (λ j. IsViablePrefix app laws.Init (2 ^ app.bits) (cost_of (cost_measure app) app.init) (enter_body app
-        app.init []) store.old j store.new) }
+        IfOk result (λ j. HasBegunWith app laws.Init (2 ^ app.bits) (cost_of (cost_measure app) app.init)
+        (enter_body app app.init []) store.old j store.new) }
 {
     let app = code.app;
     let mut work = Work::new(code.alloc);

@@ -16,9 +16,8 @@ use Rattle.rt_baker_moves.specs.Inside.Waiting.{without}
 
 module _ (app : App) where
   -- A job began with this to do, and went on as far as its first action.
-  pub record IsViablePrefix (role : laws.Role) (priority cost : ℕ) (first : Later → Later) (was : Store)
-      (j : AuditorJob) (is :
-      Store) : Type 0 where
+  pub record HasBegunWith (role : laws.Role) (priority cost : ℕ) (first : Later → Later) (was : Store)
+      (j : AuditorJob) (is : Store) : Type 0 where
     pub job : (rest : Doing Values) → with_rest app j rest ≡ laws.new_job role priority cost rest
     pub rest : rest_of app j (contents is) ≡ first (finish role) [] (contents was)
     pub settled : IsSettled j.work.todos
@@ -28,7 +27,7 @@ module _ (app : App) where
     where
       pub after : AuditorJob
       pub store : Store
-      pub begins : IsViablePrefix role priority cost first old.store after store
+      pub begins : HasBegunWith role priority cost first old.store after store
       pub is : new ≡ held_with_job old after store
 
 -- an interrupt is pending no longer
