@@ -35,7 +35,7 @@ impl Done {
         }
     }
 
-    /// Those behind an item, where an alarm is owed or not.
+    /// Those that are done after an item, where an alarm is owed or not.
     pub(crate) fn behind(item: &Item, owing: bool) -> Done
         ensures { steps_done result ≡ steps_after item.now.step (label_of owing item.now.what) }
     {

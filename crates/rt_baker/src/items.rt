@@ -13,7 +13,7 @@ use rt_baker_moves::{Machine, State};
 use rt_ids::NoMemory;
 use rt_trace::{Item, What};
 
-/// Whether the stack bytes in use behind an entry are within these.
+/// Whether the depth that a take states is within so many bytes of stack.
 fn is_within(what: &What, stack: u32) -> bool
     ensures within { IsTrue result → (app : App) → stack ≡ stack_bytes app → IsWithinStack app what.now }
     ensures beyond { IsFalse result → (app : App) → stack ≡ stack_bytes app → IsWithinStack app what.now → ⊥ }
@@ -24,7 +24,7 @@ fn is_within(what: &What, stack: u32) -> bool
     }
 }
 
-/// An item comes behind silent steps up to its number, where they may come. The steps that are done then.
+/// An item comes after silent steps up to its number, where they may come. The steps that are done then.
 fn come_after<'a>(
     state: &mut State<'a>,
     machine: &Machine<'a>,
@@ -73,7 +73,7 @@ pub(crate) fn judge_item<'a>(
     Ok(behind)
 }
 
-/// Whether a trace may end with so many core steps, where they are told.
+/// Whether a trace may end with so many core steps, where it states a total.
 pub(crate) fn judge_total<'a>(
     state: &mut State<'a>,
     machine: &Machine<'a>,

@@ -19,11 +19,11 @@ use rt_trace::Item;
 /// read.
 #[derive(Drop)]
 pub struct Judge<'a> {
-    /// Behind the items that are right.
+    /// The state after the items that are right.
     state: State<'a>,
     /// The bytes of the stack.
     stack: u32,
-    /// The core steps behind the items that are right.
+    /// The core steps that are done after the items that are right.
     done: Done,
     /// How many items came.
     items: u32,
@@ -57,7 +57,7 @@ impl<'a> Judge<'a> {
         })
     }
 
-    /// The next item is judged. Behind a wrong one it is only counted. On an `Err` nothing is known of the judge from
+    /// The next item is judged. After a wrong one it is only counted. On an `Err` nothing is known of the judge from
     /// then on.
     pub fn take(&mut self, machine: &Machine<'a>, item: &Item) -> Result<(), NoMemory>
         requires machine { IsMachine machine.now }
@@ -83,8 +83,8 @@ impl<'a> Judge<'a> {
         }
     }
 
-    /// The verdict on the items that came, as a trace with this number of core steps in all, where it is told. Silent
-    /// steps come up to it, so no item may come from then on.
+    /// The verdict on the items that came, as a trace that states this total of core steps, or none. Silent steps come
+    /// up to it, so no item may come from then on.
     pub fn verdict(&mut self, machine: &Machine<'a>, total: Option<u64>) -> Verdict
         requires { IsMachine machine.now }
         ensures { let app = app_of machine.now.code.now.app.now in

@@ -65,13 +65,14 @@ impl<'a> State<'a> {
         }
     }
 
-    /// The running job does its next action, whatever that is, and runs on to the one behind it.
+    /// The running job does its next action, whatever that is, and runs on to the one after it.
     pub fn advance(&mut self, machine: &Machine<'a>) -> Result<(), NoMemory>
         requires machine { IsMachine machine.now }
         requires early { IsEarly self.old }
         requires settled { AllByRecursion (λ j. IsSettled j.work.todos) self.old.jobs }
         ensures { let app = app_of machine.now.code.now.app.now in
-            OnOk result ((t : laws.State) → StateIs app self.old t → StateIs app self.new (state_after_item app t t.jobs)) }
+            OnOk result ((t : laws.State) → StateIs app self.old t
+            → StateIs app self.new (state_after_item app t t.jobs)) }
     {
         match self.take_running() {
             None => Ok(()),
@@ -123,7 +124,7 @@ impl<'a> State<'a> {
     }
 
     /// The running job, taken out of the state, does this, which was taken off its work, and runs on. It is an action
-    /// or a reading of the clock, since a job stands at such.
+    /// or a reading of the clock, since a job runs on to one of these.
     fn follow(
         &mut self,
         machine: &Machine<'a>,

@@ -29,7 +29,7 @@ fn no_messages(alloc: Global) -> Result<Vec<Vec<Message>>, NoMemory>
     Ok(queues)
 }
 
-/// The first values of shared resources, and behind them a zero for each number of a byte.
+/// The first values of shared resources, and after them a zero for each number of a byte.
 fn shared_values(alloc: Global, shared: &[Shared]) -> Result<Vec<u32>, NoMemory>
     ensures { IfOk result (λ v. v.items ≡ map (λ s. s.first) shared.now ++ replicate NUMBERS 0) }
 {
@@ -42,7 +42,7 @@ fn shared_values(alloc: Global, shared: &[Shared]) -> Result<Vec<u32>, NoMemory>
     Ok(values)
 }
 
-/// The first values of local resources, and behind them a zero for each number of a byte.
+/// The first values of local resources, and after them a zero for each number of a byte.
 fn local_values(alloc: Global, locals: &[Local]) -> Result<Vec<u32>, NoMemory>
     ensures { IfOk result (λ v. v.items ≡ map (λ l. l.first) locals.now ++ replicate NUMBERS 0) }
 {

@@ -31,7 +31,7 @@ pub struct Tables {
     dispatchers: Vec<u16>,
     /// Core steps of a section of the armed messages.
     timer_section: u32,
-    /// Core steps of such a section where a message is told by its handle.
+    /// Core steps of such a section where a message is found by its handle.
     handle_section: u32,
     /// What serves each interrupt, by its number.
     served: Vec<Option<Served>>,
@@ -59,7 +59,7 @@ fn timer_section(measure: &Measure) -> u32
     TIMER_SECTION_COST + MESSAGE_COST * measure.messages()
 }
 
-/// Core steps of such a section where a message is told by its handle.
+/// Core steps of such a section where a message is found by its handle.
 fn handle_section(measure: &Measure) -> u32
     ensures { (app : tree.App) → measure.now ≡ cost_measure app → result ≡ handle_section_cost app }
 {

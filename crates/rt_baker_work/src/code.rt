@@ -27,6 +27,6 @@ pub struct Code<'a> {
     pub dispatchers: &'a [u16],
     /// Core steps of a section of the armed messages.
     pub timer_section: u32,
-    /// Core steps of such a section where a message is told by its handle.
+    /// Core steps of such a section where a message is found by its handle.
     pub handle_section: u32,
 }

@@ -26,7 +26,7 @@ fn section_cost(app: &App, level: u8) -> u32
     READY_COST + READY_TASK_COST * (tasks_of_level(&app.tasks, level) as u32)
 }
 
-/// The handler of an interrupt begins. Its return is no thing to do: it is behind all of them.
+/// The handler of an interrupt begins. Its return is no thing to do: it comes after all of them.
 pub fn handle<'a>(code: &Code<'a>, handler: Handler, work: &mut Work<'a>) -> Result<(), NoMemory>
     requires { IsCode code.now }
     ensures { let app = app_of code.now.app.now in

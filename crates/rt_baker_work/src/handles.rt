@@ -26,7 +26,7 @@ pub(crate) fn told_handle<'a>(variable: u16, work: &mut Work<'a>, store: &Store)
     work.set(variable, store.last_handle() as u32);
 }
 
-/// No armed message has the handle: a variable is told so.
+/// No armed message has the handle: a variable comes to hold 1.
 fn miss<'a>(variable: Option<u16>, work: &mut Work<'a>) -> Result<(), NoMemory>
     ensures same { OnOk result ((app : App) → Pushes app
         (λ later vars. act (Leaves section.Timer) (give_answer variable 1

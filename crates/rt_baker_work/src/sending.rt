@@ -82,7 +82,7 @@ pub(crate) fn make_ready<'a>(
     Ok(())
 }
 
-/// A message is armed, so many ticks from the time that is then. A variable is told its handle.
+/// A message is armed, so many ticks from the time that is then. A variable comes to hold its handle.
 fn arm<'a>(
     code: &Code<'a>,
     variable: Option<u16>,
@@ -105,7 +105,7 @@ fn arm<'a>(
     Ok(())
 }
 
-/// A message goes to its queue, at once or behind a delay. A variable is told that it has a place, or its handle.
+/// A message goes to its queue, at once or after a delay. A variable comes to hold 1, or its handle where it is armed.
 fn send<'a>(
     code: &Code<'a>,
     variable: Option<u16>,
@@ -115,8 +115,8 @@ fn send<'a>(
 ) -> Result<(), NoMemory>
     requires { IsCode code.now }
     ensures same { let app = app_of code.now.app.now in
-        OnOk result (Pushes app (λ later vars. send_message app delay message (λ value. give_answer variable value later vars))
-        work.old work.new) }
+        OnOk result (Pushes app (λ later vars. send_message app delay message (λ value.
+        give_answer variable value later vars)) work.old work.new) }
     ensures lighter { let app = app_of code.now.app.now in
         OnOk result (weights app work.new.todos ≤ weights app work.old.todos + 1) }
 {

@@ -83,7 +83,7 @@ fn address<'a>(code: &Code<'a>, todo: Todo<'a>, work: &mut Work<'a>) -> Result<(
     Ok(())
 }
 
-/// A spawn begins. A variable, where there is one, is told what it gives.
+/// A spawn begins. A variable, where there is one, comes to hold what it gives.
 fn spawn<'a>(
     code: &Code<'a>,
     spawn: &'a Spawn,

@@ -155,7 +155,8 @@ impl Store {
 
     /// Whether some armed message of a task has a handle.
     pub(crate) fn is_armed_as(&self, task: TaskId, handle: u32) -> bool
-        ensures { result ≡ is_some (message_of_handle task handle (delays (contents self.now (Guarded section.Timer)))) }
+        ensures { result
+            ≡ is_some (message_of_handle task handle (delays (contents self.now (Guarded section.Timer)))) }
     {
         by_handle(&self.armed, task, handle).is_some()
     }
@@ -241,7 +242,7 @@ impl Store {
         }
     }
 
-    /// The armed message of a task that has a handle waits for another instant, behind all others.
+    /// The armed message of a task that has a handle waits for another instant, after all others.
     pub(crate) fn put_off(
         &mut self,
         task: TaskId,

@@ -28,8 +28,8 @@ pub enum Todo<'a> {
     Turns(u16, u32, u32, &'a [Stmt]),
     /// A variable comes to hold a number.
     Set(u16, u32),
-    /// Inside the section of its task's places, a message is sent where one is left: the variable that is told, and the
-    /// delay.
+    /// Inside the section of its task's places, a message is sent where one is left: the variable for the answer, and
+    /// the delay.
     Place(Option<u16>, Option<u32>, Message),
     /// Inside the section of a level's messages, the oldest is started.
     Dispatch(u8),
@@ -40,9 +40,9 @@ pub enum Todo<'a> {
     /// A variable comes to hold the handle that was given last.
     Handle(u16),
     /// Inside the section of the armed messages, the message of a task that has a handle is taken back, where there is
-    /// one: the variable that is told, the task, and the handle.
+    /// one: the variable for the answer, the task, and the handle.
     Cancel(Option<u16>, TaskId, u32),
-    /// Likewise it is put off: the variable that is told, the delay, the task, and the handle.
+    /// Likewise it is put off: the variable for the answer, the delay, the task, and the handle.
     Move(Option<u16>, u32, TaskId, u32),
     Act(Action),
     Clock(Reading),

@@ -25,7 +25,7 @@ pub fn judged_traces_keep_laws()
     ensures { JudgedTracesKeepLaws }
 {}
 
-/// A run told item by item, with as many silent steps before each as the step numbers say, is a run, and the other way
+/// A run given item by item, with as many silent steps before each as the step numbers say, is a run, and the other way
 /// round.
 #[tactic(auto, using(crate::proofs::ByItems::runs_are_by_items))]
 pub fn runs_are_by_items()
@@ -37,7 +37,7 @@ pub fn the_highest_runs()
     ensures { TheHighestRuns }
 {}
 
-/// How many silent steps may pass, and what they lead to, is told from the costs at once.
+/// How many silent steps may pass, and what they lead to, follows from the costs at once.
 pub fn silent_steps_are_told_by_cost()
     ensures { SilentStepsByCost }
 {}
