@@ -1,6 +1,7 @@
 -- Where a section opens or closes the core fits again: its mask is set, and what it was is saved; or it is put back.
 use Rattle.std.proofs.Common.{◌≡◌, ℕ, suc, ◌<◌, ◌≤◌, ◌==◌, Bool, true, false, if◌then◌else◌, List, ◌∷◌, drop, length}
 use Rattle.std.proofs.Common.{Option, Some, None, refl, sym, ap, subst, ◌∙◌, arith, length-set, get_or-set_same}
+use Rattle.std.proofs.Common.{slice_get}
 use Rattle.std.specs.List.{AllByRecursion}
 use Rattle.std.proofs.lemmas.Bool.{le-leb}
 use Rattle.rt_ids.specs.Operation.{number_of}
@@ -221,6 +222,7 @@ module _ (img : Image) (checked : IsChecked img) (c : Core) (p : Point) (qs : Li
       fits = fits_inside;
       insides = refl;
       free = free;
+      nested = tt;
       no_trap = tt;
       started = λ before. before;
       ended = λ end. absurd (no_init_end x end);
@@ -288,6 +290,7 @@ module _ (img : Image) (checked : IsChecked img) (c : Core) (p : Point) (qs : Li
       fits = fits_outside;
       insides = ap (λ s. drop 1 (sections s) ∷ insides_of qs) inside;
       free = tt;
+      nested = (ap (λ s. slice_get (sections s) 0) inside, tt);
       no_trap = tt;
       started = λ before. before;
       ended = λ end. absurd (no_init_end_left x _ end);

@@ -1,6 +1,6 @@
 -- What one sees of the jobs by what the core shows: the open sections of each are those of the points.
 use Rattle.std.proofs.Common.{◌≡◌, ℕ, suc, List, [], ◌∷◌, drop, map, slice_get, Option, Some, None, refl, sym, ap}
-use Rattle.std.proofs.Common.{subst}
+use Rattle.std.proofs.Common.{subst, take}
 use Rattle.std.specs.List.{AllByRecursion, Contains}
 use Rattle.std.proofs.lemmas.Option.{same_Some, none-some}
 use Rattle.rt_lemmas.proofs.Lists.{all_unmap, mapped_at}
@@ -11,9 +11,9 @@ use Rattle.rt_trace.specs.Label.{Label, Arrived, Ticked, Rang, Stepped, items_of
 use Rattle.rt_trace.specs.declared.item.What.{What}
 use Rattle.rt_trace.specs.declared.item.What.TheVariants as what
 use Rattle.rt_app.specs.Tree.{App}
-use Rattle.rt_laws.specs.Properties.{AreExclusive, FindsFree}
+use Rattle.rt_laws.specs.Properties.{AreExclusive, FindsFree, LeavesInnermost}
 use Rattle.rt_laws.specs.Observer.{Seen, Observer, IsInside, on_running, seen_after_enter, seen_after_leave, sees}
-use Rattle.rt_safe.specs.Inside.Steps.{on_first, insides_after, FindsNone, IsNoTrapShown}
+use Rattle.rt_safe.specs.Inside.Steps.{on_first, insides_after, FindsNone, LeavesLastEntered, IsNoTrapShown}
 use Rattle.rt_safe.specs.Safe.{IsInit}
 use Rattle.rt_safe.proofs.Apart.{AreApart}
 
@@ -65,6 +65,18 @@ exclusive_of jobs insides same apart i j a b x at_a at_b in_a in_b =
 pub free_of : (v : Observer) (label : Label) → FindsNone (shown_of label) (seen_insides v.jobs) → FindsFree v label
 free_of v (Stepped (Some (what.Enter x))) free = all_unmap (λ job. job.inside) (λ inside. ¬ IsIn inside x) v.jobs free
 free_of v label free = tt
+
+-- a section that is left is the one that the running job entered last
+innermost_of : (x : Section) (jobs : List Seen)
+    → AllByRecursion (λ inside. slice_get inside 0 ≡ Some x) (take 1 (seen_insides jobs))
+    → AllByRecursion (λ job. slice_get job.inside 0 ≡ Some x) (take 1 jobs)
+innermost_of x [] last = tt
+innermost_of x (job ∷ others) last = (last.0, tt)
+
+pub nested_of : (v : Observer) (label : Label) → LeavesLastEntered (shown_of label) (seen_insides v.jobs)
+    → LeavesInnermost v label
+nested_of v (Stepped (Some (what.Leave x value))) last = innermost_of x v.jobs last
+nested_of v label last = tt
 
 -- the running job is inside what is open at its point
 pub inside_of : (jobs : List Seen) (inside : List Section) (others : List (List Section)) (x : Section)

@@ -112,6 +112,7 @@ module _ (img : Image) (checked : IsChecked img) (c : Core) (p : Point) (qs : Li
             fits = entered_fits found.0.0 row.number h at above;
             insides = refl;
             free = tt;
+            nested = tt;
             no_trap = tt;
             started = λ before. handling_differs found.0.0;
             ended = λ is. handling_differs found.0.0;

@@ -15,7 +15,7 @@ use Rattle.rt_code.specs.Image.{Image}
 use Rattle.rt_core.specs.Access.{access}
 use Rattle.rt_core.specs.Core.{reset}
 use Rattle.rt_core.specs.Trace.{core_after, labels, trace, depth_after}
-use Rattle.rt_laws.specs.Properties.{Exclusive, NeverWaits}
+use Rattle.rt_laws.specs.Properties.{Exclusive, NeverWaits, SectionsNest}
 use Rattle.rt_laws.specs.Observer.{Seen, IsInside, first_sight, sees_all}
 use Rattle.rt_points.specs.Rules.{IsContended}
 
@@ -29,6 +29,8 @@ pub record RunsSafely (img : Image) (events : List Event) : Type 0 where
   pub exclusive : (app : App) → Exclusive app (labels img (reset img) events)
   -- where a section is entered no job is inside it
   pub never_waits : (app : App) → NeverWaits app (labels img (reset img) events)
+  -- each leave is of the section entered last, so the observer is right about what jobs are inside
+  pub nested : (app : App) → SectionsNest app (labels img (reset img) events)
 
 -- the running job is `init`: the thread alone, and `init` has not ended
 abbrev pub IsInit : List Label → List Seen → Type 0

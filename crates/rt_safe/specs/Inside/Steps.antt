@@ -1,6 +1,6 @@
 -- What a core step leads to where a core fits: a core that fits again, and an item that says how sections open and
 -- close.
-use Rattle.std.specs.Prelude.{◌≡◌, ◌≢◌, List, [], ◌∷◌, drop, map, Option, Some, None}
+use Rattle.std.specs.Prelude.{◌≡◌, ◌≢◌, List, [], ◌∷◌, drop, take, map, slice_get, Option, Some, None}
 use Rattle.std.specs.List.{AllByRecursion}
 use Rattle.rt_ids.specs.Choice.{IsIn}
 use Rattle.rt_ids.specs.declared.ids.BodyId.TheVariants as body
@@ -37,6 +37,12 @@ abbrev pub FindsNone : Option What → List (List Section) → Type 0
 FindsNone (Some (what.Enter x)) insides = AllByRecursion (λ inside. ¬ IsIn inside x) insides
 FindsNone shown insides = Unit {0}
 
+-- where a section is left it is the one that the running job entered last
+abbrev pub LeavesLastEntered : Option What → List (List Section) → Type 0
+LeavesLastEntered (Some (what.Leave x value)) insides =
+    AllByRecursion (λ inside. slice_get inside 0 ≡ Some x) (take 1 insides)
+LeavesLastEntered shown insides = Unit {0}
+
 -- a step that shows no trap
 abbrev pub IsNoTrapShown : Option What → Type 0
 IsNoTrapShown None = Unit {0}
@@ -52,6 +58,7 @@ pub record Steps (img : Image) (c : Core) (p : Point) (qs : List Point) : Type 0
   pub fits : RunsAtPoints img core point below
   pub insides : insides_after shown (insides_of (p ∷ qs)) ≡ insides_of (point ∷ below)
   pub free : FindsNone shown (insides_of (p ∷ qs))
+  pub nested : LeavesLastEntered shown (insides_of (p ∷ qs))
   pub no_trap : IsNoTrapShown shown
   -- a step leads to `init` only from `init`, and not by its end
   pub started : p.owner ≢ Starting → point.owner ≢ Starting
