@@ -22,15 +22,15 @@ pub data Role : Type 0 where
   Waiting : Role
   Serving : (irq : ℕ) → Role
 
--- a job of the stack (Baker 1991): its priority, what it has left to do and in how many steps, and its open sections
+-- a job of the stack (Baker 1991): its priority, what it has left to do, its remaining budget, and its open sections
 pub record Job : Type 0 where
   pub role : Role
   pub priority : ℕ
   -- what it has left to do, from its next action on
   pub rest : Doing Values
-  -- the core steps that the cost of its body or handler, as `check` prints it of a body, has left
+  -- the remaining budget: core steps that the cost of its body or handler, as `check` prints it of a body, has left
   pub left : ℕ
-  -- the open sections, innermost first, and the steps that the cost of each has left
+  -- the open sections, innermost first, and the remaining budget of each: core steps that its cost has left
   pub sections : List Section
   pub lefts : List ℕ
 
