@@ -7,8 +7,8 @@ use Rattle.std.proofs.lemmas.Bool.{eqb-true, leb-true, lt-ltb, le-leb}
 use Rattle.std.proofs.lemmas.Option.{same_Some, none-some}
 use Rattle.rt_lemmas.proofs.Bools.{and_parts, and_both}
 use Rattle.rt_lemmas.proofs.Lists.{all_front, all_behind, find_has, AreFrom, all_from, first_from, rest_from}
-use Rattle.rt_lemmas.proofs.Membership.{all_append, all_flat_map, any_one, any_passes}
-use Rattle.rt_ids.specs.Lists.{is_some_and, or_zero, then_from, is_empty}
+use Rattle.rt_lemmas.proofs.Membership.{all_append, all_flat_map, any_one}
+use Rattle.rt_ids.specs.Lists.{is_some_and, then_from, is_empty}
 use Rattle.rt_ids.specs.Choice.{IsIn}
 use Rattle.rt_ids.specs.Location.{Guarded}
 use Rattle.rt_ids.specs.Content.{Message, Armed, Values, messages, delays, least}
@@ -19,9 +19,9 @@ use Rattle.rt_ids.specs.declared.ids.Section.TheVariants as section
 use Rattle.rt_ids.proofs.Greatest.{greatest_has}
 use Rattle.rt_app.specs.declared.costs.TheConstants.{FREE_COST, READY_COST}
 use Rattle.rt_app.specs.declared.app.Mono.{Mono}
-use Rattle.rt_app.specs.Tree.{Spawn, Body, Task, App}
+use Rattle.rt_app.specs.Tree.{Body, Task, App}
 use Rattle.rt_app.specs.Variables.{variables}
-use Rattle.rt_app.specs.Bodies.{Member, members, task_priority}
+use Rattle.rt_app.specs.Bodies.{Member, task_priority}
 use Rattle.rt_app.specs.Level.{is_software, is_of_level, is_armed, levels}
 use Rattle.rt_app.specs.Ceiling.{ceiling}
 use Rattle.rt_app.specs.BodyCost.{dispatcher_section_cost, timer_section_cost}
