@@ -26,8 +26,7 @@ use Rattle.rt_core.proofs.Standing.{standing_leads}
 use Rattle.rt_laws.specs.State.{Role, Init, Idle, Waiting, Serving}
 use Rattle.rt_laws.specs.Observer.{Seen, Observer, IsInside}
 use Rattle.rt_laws.proofs.Well.{StackWell, StateWell}
-use Rattle.rt_sim.specs.Guarded as guarded
-use Rattle.rt_sim.specs.Guarded.{IsInit, IsGuarded, is_read_alone}
+use Rattle.rt_sim.specs.Guarded.{IsInit, IsListedAtPriority, MayChange, IsGuarded, is_read_alone}
 use Rattle.rt_sim.specs.Inside.Coupling.{Part, Coupling, runner_of, configuration_of, sections_of, job_of}
 use Rattle.rt_sim.specs.Inside.States.{core_of, state_of}
 use Rattle.rt_sim.specs.Inside.PartInvariant.{who, StandsBy}
@@ -68,10 +67,23 @@ module _ (app : App) (img : Image) (thread : ℕ)
   role_of Waiting is = absurd (cc (is))
   role_of (Serving irq) is = absurd (cc (is))
 
-  -- what it owns it may store to
+  priority_of : (role : Role) (p : ℕ) → runner_of role m.running.priority ≡ AtPriority p → m.running.priority ≡ p
+  priority_of Init p is = absurd (cc (is))
+  priority_of Idle p is = cc (is)
+  priority_of Waiting p is = cc (is)
+  priority_of (Serving irq) p is = cc (is)
+
+  -- what a body of the running job's priority lists is listed at the priority that is seen
+  listed_seen : (vs : List Seen) → StackWell app (state_of m).jobs vs → (r p : ℕ) → m.running.priority ≡ p
+      → is_some_at app (lists r) p ≡ true → IsListedAtPriority app vs r
+  listed_seen [] well r p same is = absurd well
+  listed_seen (seen ∷ seens) well r p same is =
+      subst (λ q. is_some_at app (lists r) q ≡ true) (sym (well.0.priority ∙ same)) is
+
+  -- what it owns it may change
   owned_seen : (v : Observer) → StateWell app (state_of m) v → (r : ℕ)
       → owns (storage app) (who m.running) m.running.held (Guarded (section.Res r)) ≡ true
-      → guarded.MayStore app v.jobs r
+      → MayChange app v.jobs r
   unfolding storage
   owned_seen v well r is = elim (or_cases (is_open m.running.held (section.Res r))
       (is_kept app (who m.running) (Guarded (section.Res r))) is) [
@@ -80,14 +92,16 @@ module _ (app : App) (img : Image) (thread : ℕ)
       ]
     where
       by : (runner : Runner) → who m.running ≡ runner → is_kept app runner (Guarded (section.Res r)) ≡ true
-          → guarded.MayStore app v.jobs r
+          → MayChange app v.jobs r
       by Starting same kept = inr
           (inl (init_seen m.below v.jobs well.stack invariant.stack (role_of m.running.role same)))
-      by (AtPriority p) same kept = inr (inr (and_parts (is_lock_free app r) (is_some_at app (lists r) p) kept).0)
+      by (AtPriority p) same kept =
+          let parts = and_parts (is_lock_free app r) (is_some_at app (lists r) p) kept in
+          inr (inr (parts.0, listed_seen v.jobs well.stack r p (priority_of m.running.role p same) parts.1))
 
   read_seen : (v : Observer) → StateWell app (state_of m) v → (r : ℕ)
       → reads (storage app) (who m.running) m.running.held (Guarded (section.Res r)) ≡ true
-      → guarded.MayStore app v.jobs r ⊎ (is_read_alone app r ≡ true)
+      → MayChange app v.jobs r ⊎ (is_read_alone app r ≡ true)
   unfolding storage
   read_seen v well r is = elim (or_cases (owns (storage app) (who m.running) m.running.held (Guarded (section.Res r)))
       (is_constant app (who m.running) (Guarded (section.Res r))) is) [
@@ -95,7 +109,7 @@ module _ (app : App) (img : Image) (thread : ℕ)
         | inr constant ↦ by (who m.running) constant
       ]
     where
-      by : (runner : Runner) → is_constant app runner (Guarded (section.Res r)) ≡ true → guarded.MayStore app v.jobs r
+      by : (runner : Runner) → is_constant app runner (Guarded (section.Res r)) ≡ true → MayChange app v.jobs r
           ⊎ (is_read_alone app r ≡ true)
       by Starting constant = absurd (cc (constant))
       by (AtPriority p) constant = inr constant
