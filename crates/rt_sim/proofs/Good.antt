@@ -155,13 +155,8 @@ module _ (app : App) (img : Image) (accepted : IsAccepted app) (is_image : IsIma
   runs_well events few declared =
       let whole = reached_by events few declared in
       record {
-        runs = record {
-          labels = labels img (reset img) events;
-          shows = refl;
-          steps = whole.counts;
-          allowed =
-              whole.runs;
-        };
+        runs = whole.runs;
+        counts = whole.counts;
         shows = shows_its_events img events;
         laws = runs_keep_laws app accepted (labels img (reset img) events) whole.runs;
         messages = runs_keep_messages app accepted (labels img (reset img) events) whole.runs;

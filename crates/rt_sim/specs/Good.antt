@@ -1,11 +1,11 @@
 -- A good image of an application: whatever happens, what the core shows is a run of Baker's machine (Stack-Based
 -- Scheduling of Realtime Processes, 1991) with its three properties, messages are kept, the stack stays within the
--- printed bound, nothing traps, and shared resources are touched in their sections alone. No frame, mask or address is
--- named here.
+-- printed bound, nothing traps, and a shared resource is touched inside its section, by `init`, or where RTIC allows it
+-- without one (`Guarded`). No frame, mask or address is named here.
 use Rattle.std.specs.Prelude.{◌≡◌, ℕ, ◌^◌, ◌<◌, ◌≤◌, true, List, [], ◌∷◌, length, take}
 use Rattle.std.specs.List.{AllByRecursion}
 use Rattle.rt_ids.specs.Event.{Event, Arrive, steps}
-use Rattle.rt_trace.specs.Label.{IsNoTrap}
+use Rattle.rt_trace.specs.Label.{IsNoTrap, steps_of}
 use Rattle.rt_trace.specs.Shown.{shown_events}
 use Rattle.rt_app.specs.Tree.{App}
 use Rattle.rt_app.specs.Accepted.{IsAccepted}
@@ -15,7 +15,8 @@ use Rattle.rt_code.specs.Image.{Image}
 use Rattle.rt_core.specs.Core.{reset}
 use Rattle.rt_core.specs.Trace.{labels, trace, depth_after}
 use Rattle.rt_laws.specs.Services.{is_declared}
-use Rattle.rt_laws.specs.Run.{Run}
+use Rattle.rt_laws.specs.State.{first}
+use Rattle.rt_laws.specs.Run.{RunsOn}
 use Rattle.rt_laws.specs.Properties.{KeepsLaws}
 use Rattle.rt_laws.specs.Messages.{KeepsMessages}
 use Rattle.rt_sim.specs.Guarded.{AccessesAreGuarded}
@@ -28,10 +29,13 @@ AreDeclared app (e ∷ events) = AreDeclared app events
 
 -- what holds of one list of events
 pub record RunsWell (app : App) (img : Image) (events : List Event) : Type 0 where
-  -- the trace is a run of Baker's machine, and shows exactly these events
-  pub runs : Run app (trace img events) (steps events)
+  -- What the core does, label by label, is a run of Baker's machine on the application, with as many core steps as the
+  -- events have. The trace is the items of these labels, so it is a run too (`Run`), and it shows exactly these events.
+  pub runs : RunsOn app (first app) (labels img (reset img) events)
+  pub counts : steps_of (labels img (reset img) events) ≡ steps events
   pub shows : shown_events 0 (trace img events) (steps events) ≡ events
-  -- sections are exclusive, no job finds one taken, and none waits for more than one section of one lower job
+  -- Sections are exclusive, and no job finds one taken. None waits for more than one section of one lower job, and the
+  -- steps that it waits are within the waiting bound.
   pub laws : KeepsLaws app (labels img (reset img) events)
   -- At every moment: a spawn finds its task full exactly where all places of the task are out, and the places that are
   -- out are accounted for; messages start first in, first out, and fire in order and not early; a handle is of one

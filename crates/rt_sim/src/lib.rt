@@ -1,6 +1,6 @@
 // Good images: whatever happens to a core that runs an image, what it shows is a run of Baker's machine on the
-// application, within the stack bound, without a trap, and with shared resources touched in their sections alone. A
-// core with such an image, which runs scripts.
+// application, within the stack bound, without a trap, and with shared resources touched only where they may be. A core
+// with such an image, which runs scripts.
 #![tactic(auto)]
 
 pub mod laws;
