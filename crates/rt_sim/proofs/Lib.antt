@@ -29,5 +29,6 @@ pub mod Bodies
 pub mod Access
 pub mod Good
 pub mod Unspent
+pub mod Responding
 pub mod Rows
 pub mod Prepared

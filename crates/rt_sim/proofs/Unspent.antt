@@ -1,6 +1,6 @@
 -- In the traces of images no job's cost is spent: code that stands has a step of its cost left, whichever label one
 -- stops at.
-use Rattle.std.proofs.Common.{◌≡◌, ℕ, zero, suc, ◌+◌, ◌^◌, ◌<◌, ◌≤◌, ◌⊎◌, inl, inr, Bool, true, false, nat_le}
+use Rattle.std.proofs.Common.{◌≡◌, ℕ, zero, suc, ◌^◌, ◌<◌, ◌⊎◌, inl, inr, Bool, true, false, nat_le}
 use Rattle.std.proofs.Common.{if◌then◌else◌, List, [], ◌∷◌, ◌++◌}
 use Rattle.std.proofs.Common.{length, map, take, append_assoc, Option, Some, None, refl, sym, ap, subst, ◌∙◌, arith}
 use Rattle.std.specs.List.{AllByRecursion}
@@ -9,7 +9,7 @@ use Rattle.rt_ids.specs.Location.{Location}
 use Rattle.rt_ids.specs.Entry.{Entry}
 use Rattle.rt_ids.specs.Event.{Event, Arrive, Tick, Step}
 use Rattle.rt_ids.specs.Content.{Values}
-use Rattle.rt_trace.specs.Label.{Label, Arrived, Ticked, Rang, Stepped}
+use Rattle.rt_trace.specs.Label.{Label, Arrived, Ticked, Rang}
 use Rattle.rt_app.specs.Tree.{App}
 use Rattle.rt_app.specs.Accepted.{IsAccepted}
 use Rattle.rt_app.specs.Holding.{storage}
@@ -19,9 +19,9 @@ use Rattle.rt_code.specs.Standing.{Stands}
 use Rattle.rt_core.specs.declared.alarm.Alarm.{Alarm}
 use Rattle.rt_core.specs.Core.{Core, reset}
 use Rattle.rt_core.specs.Transfer.{core_after_pend}
-use Rattle.rt_core.specs.Trace.{ring, tick, happen, labels, core_after}
+use Rattle.rt_core.specs.Trace.{ring, tick, happen, labels}
 use Rattle.rt_laws.specs.State.{Role, Init, Idle, Waiting, Serving, State, first}
-use Rattle.rt_laws.specs.Allowed.{HasStep, after}
+use Rattle.rt_laws.specs.Allowed.{HasStep}
 use Rattle.rt_laws.specs.ByItems.{after_all}
 use Rattle.rt_laws.proofs.ByItems.{after_append}
 use Rattle.rt_sim.specs.Good.{AreDeclared}

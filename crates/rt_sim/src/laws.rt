@@ -1,4 +1,5 @@
 ghost use Rattle.rt_sim.specs.Good.{ImagesAreGood};
+ghost use Rattle.rt_sim.specs.Responding.{ImagesRespond};
 ghost use Rattle.rt_sim.specs.Unspent.{ImagesLeaveSteps};
 
 /// Every image of an accepted application is good: for each list of fewer than 2^31 events in which
@@ -13,4 +14,10 @@ pub fn images_are_good()
 /// left, the thread that waits aside.
 pub fn images_leave_steps()
     ensures { ImagesLeaveSteps }
+{}
+
+/// In every trace of an image of an accepted application whose requests keep limits, each of them is served within the
+/// response time of its priority, which `times` prints.
+pub fn images_respond()
+    ensures { ImagesRespond }
 {}

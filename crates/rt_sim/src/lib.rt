@@ -6,6 +6,6 @@
 pub mod laws;
 pub mod machine;
 
-pub use laws::{images_are_good, images_leave_steps};
+pub use laws::{images_are_good, images_leave_steps, images_respond};
 pub use machine::prepare;
 pub use rt_run::run_script;
