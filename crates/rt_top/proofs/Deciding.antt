@@ -283,7 +283,7 @@ module _ (first second third : Option (List ℕ)) (app : App) (accepted : (text 
       ))
     where
       past : {s : Status} {b : List ℕ} → TellsTimes app ls s b → IsPast s
-      past (outputs.responds rows form are) = is_done
+      past (outputs.responds rows form are hold) = is_done
       past (outputs.no_times form) = is_no
   timed_decided own same s b (replies.refused_limits refusal line met says) =
       limits_decided refusal line (λ more f. subst (λ m. limits.IsRefused app m refusal) (same more f) met) says

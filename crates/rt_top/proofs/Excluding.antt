@@ -154,10 +154,11 @@ deepened_once app a b x y (outputs.no_script form) (outputs.no_script form') = r
 
 timed_once : (app app' : App) → app' ≡ app → (ls ls' : List Limit) (a b : Status) (x y : List ℕ) → TellsTimes app ls a x
     → TellsTimes app' ls' b y → a ≡ b
-timed_once app app' same ls ls' a b x y (outputs.responds rows form are) (outputs.responds rows' form' are') = refl
-timed_once app app' same ls ls' a b x y (outputs.responds rows form are) (outputs.no_times form') =
+timed_once app app' same ls ls' a b x y (outputs.responds rows form are hold)
+    (outputs.responds rows' form' are' hold') = refl
+timed_once app app' same ls ls' a b x y (outputs.responds rows form are hold) (outputs.no_times form') =
     let e = ap has_response_times same in absurd cc
-timed_once app app' same ls ls' a b x y (outputs.no_times form) (outputs.responds rows' form' are') =
+timed_once app app' same ls ls' a b x y (outputs.no_times form) (outputs.responds rows' form' are' hold') =
     let e = ap has_response_times same in absurd cc
 timed_once app app' same ls ls' a b x y (outputs.no_times form) (outputs.no_times form') = refl
 

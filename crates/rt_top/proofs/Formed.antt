@@ -4,12 +4,15 @@ use Rattle.rt_ids.specs.declared.status.Status.{Status}
 use Rattle.rt_ids.specs.declared.status.Status.TheVariants as status
 use Rattle.rt_app.specs.Forms.{has_response_times, has_deepest_script}
 use Rattle.rt_app.specs.Tree.{App}
+use Rattle.rt_app.specs.Accepted.{IsAccepted}
+use Rattle.rt_rta.specs.Limits.{AreLimits}
 use Rattle.rt_rta.specs.Report.{report}
 use Rattle.rt_rta.specs.Response.{AreResponseTimes}
 use Rattle.rt_rta.specs.Text as limits
 use Rattle.rt_rta.specs.declared.limits.Limit.{Limit}
 use Rattle.rt_rta.specs.declared.refusal.LimitsRefused.{LimitsRefused}
 use Rattle.rt_rta.specs.declared.response.ResponseTime.{ResponseTime}
+use Rattle.rt_sim.proofs.Responding.{images_respond}
 use Rattle.rt_top.specs.Outputs.{no_line, TellsDeepest, TellsTimes}
 use Rattle.rt_top.specs.Outputs as outputs
 use Rattle.rt_top.specs.SecondRefusal.{SaysLimits}
@@ -46,15 +49,17 @@ module _ (app : App) (more : List ℕ) where
     times_other form r tells =
         other_replies (AnswersTimes app more) (answered.told ls status.No no_line read (outputs.no_times form)) r tells
 
-    pub times_made : {E : Type 0} → has_response_times app ≡ true → (made : Result (Vec ℕ Global) E)
+    pub times_made : {E : Type 0} → IsAccepted app → AreLimits app ls → has_response_times app ≡ true
+        → (made : Result (Vec ℕ Global) E)
         → IfOk made (λ text. (rows : List ResponseTime) × AreResponseTimes app ls rows × (text.items ≡ report rows))
         → (r : Reply) → Tells status.Done (λ bytes. (rows : List ResponseTime) × AreResponseTimes app ls rows
         × (bytes ≡ report rows)) r
         → Replies (AnswersTimes app more) r
-    times_made form made is r tells =
+    times_made accepted fine form made is r tells =
         replies_as (λ ended bytes. (ended ≡ status.Done)
         × ((rows : List ResponseTime) × AreResponseTimes app ls rows × (bytes ≡ report rows)))
         (AnswersTimes app more)
         (λ ended bytes p. subst (λ s. AnswersTimes app more s bytes) (sym p.0)
         (answered.told ls status.Done bytes read
-        (subst (λ b. TellsTimes app ls status.Done b) (sym p.1.2) (outputs.responds p.1.0 form p.1.1)))) r tells
+        (subst (λ b. TellsTimes app ls status.Done b) (sym p.1.2) (outputs.responds p.1.0 form p.1.1
+        (λ image of_app. images_respond app image accepted of_app form ls fine))))) r tells

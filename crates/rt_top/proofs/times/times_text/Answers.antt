@@ -21,6 +21,7 @@ returns-then-not-has_response_times c =
 pub returns : goal.returns
 returns c =
     times_made (app_of c.args.app.now) c.args.text.now c.in-Ok.limits c.in-Ok.ensures.read
+    c.requires c.in-Ok.ensures.fine
     (sym c.has_response_times.ensures ∙ c.if-not-has_response_times.false)
     c.response_lines.result c.response_lines.ensures c.reply_of_text.result
     (made_tells status.Done (λ bytes. (rows : List ResponseTime) × AreResponseTimes (app_of c.args.app.now)
