@@ -7,9 +7,9 @@ use std::alloc::Global;
 
 /// How many shared resources the tasks take turns with.
 const RESOURCES: u8 = 4;
-/// The lowest priority of a hardware task, and how many priorities they take turns with.
+/// The lowest priority of a hardware task.
 const LOWEST: u8 = 3;
-
+/// How many priorities the hardware tasks take turns with.
 const PRIORITIES: u8 = 12;
 
 /// The text of the demonstration application with so many hardware tasks, each with a lock, a message that is sent at

@@ -1,10 +1,10 @@
 /// A seam for tests: it is told what comes next, and may hold it. No contract says that it is told, or of what: a call
 /// of it leaves nothing that a clause could name.
 pub trait Gate {
-    /// Comes before the latches that belong to core step `n`, from 0.
+    /// Comes before the latches that belong to core step `n`, from 0. In a pair of cores: of the first core.
     fn before_step(&self, n: u64);
 
-    /// Comes before pend `n` of the device of this number, from 0.
+    /// Comes before pend `n` of the device of this number, from 0; in a pair, of the core of this number.
     fn before_pend(&self, device: u8, n: u64);
 }
 

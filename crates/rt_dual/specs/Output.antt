@@ -33,7 +33,9 @@ abbrev pub core_text : List ℕ → Image → List Event → Course → List ℕ
 core_text head img events course =
     head ++ listing img ++ codes "trace\n" ++ course_text img events course ++ account img course
 
--- The texts of both cores, for courses of which each has the pends that the other core forwards by its trace.
+-- The texts of both cores, for courses of which each has the pends that the other core forwards by its trace. Nothing
+-- orders the calls on one core's words against those on the other's: two posts that each need the other first are
+-- allowed.
 pub record IsPairText (first second : Image) (script : List Line) (bytes : List ℕ) : Type 0 where
   pub one : Course
   pub two : Course
@@ -51,6 +53,6 @@ pub record TookPart (first second : Image) (script : List Line) (before after : 
   pub is : IsPairText first second script bytes
   pub took : TookPrefix before after bytes
 
--- the core has done the first of the events of these turns, for words that looks may find
+-- the core has done the first of the events of these turns, for some words of the looks
 abbrev pub HasBegun : List Turn → Machine → Machine → Type 0
 HasBegun ts old new = (found : List (List ℕ)) × HasDone (interleaving ts found) old new

@@ -10,19 +10,26 @@ use itoa::Buffer;
 use rt_ids::{Irq, Names};
 use rt_outside::{Failed, Sink, put_all};
 
-/// How often an interrupt was raised, merged and latched, and whether it was left, over the pends of all devices.
+/// How often an interrupt was raised, merged and latched, and whether it was left, over the pends of all lines: of the
+/// devices, or of the other core of a pair.
 #[derive(Clone, Copy)]
 pub struct AccountRow {
+    /// The interrupt.
     pub irq: Irq,
+    /// Pends that found it not pending.
     pub raised: u64,
+    /// Pends that found it pending.
     pub merged: u64,
+    /// Latched words with its bit.
     pub latched: u64,
+    /// 1 where it is left pending, else 0.
     pub left: u64,
 }
 
 /// A row for each declared interrupt, in order.
 #[derive(Drop)]
 pub struct Account {
+    /// The rows, in the order in which the interrupts are declared.
     pub rows: Vec<AccountRow>,
 }
 

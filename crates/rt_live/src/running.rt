@@ -20,7 +20,7 @@ use std::alloc::Global;
 use std::marker::{Send, Sync};
 use std::thread::Threads;
 
-/// Why a live run has no account.
+/// Why a run of a core beside devices, or of two cores, did not come to its end.
 #[derive(Debug)]
 pub enum LiveFail {
     /// The sink failed.

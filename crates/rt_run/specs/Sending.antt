@@ -11,7 +11,7 @@ use Rattle.rt_trace.specs.Text.{text}
 use Rattle.rt_trace.specs.declared.item.Item.{Item}
 use Rattle.rt_run.specs.Done.{Leads}
 
--- what events show, and the lines of it
+-- the items that events show, counted from the machine's core steps
 abbrev pub shown_items : Machine → List Event → List Item
 shown_items m events = items_of m.steps (labels m.image m.core events)
 

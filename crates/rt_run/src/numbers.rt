@@ -4,7 +4,7 @@ ghost use Rattle.rt_run.specs.Numbers.{HasNumbers, HasLevel};
 use rt_ids::Section;
 use rt_trace::What;
 
-/// The numbers of an item are in range, as each is that the code holds.
+/// Every number of an item is in the range of its type. It does nothing; its contract says so to proofs.
 pub fn numbers_fit(what: &What)
     ensures { HasNumbers what.now }
 {

@@ -23,8 +23,8 @@ abbrev pub request_of : List ℕ → ℕ → Line
 request_of [] index = Ticks 1
 request_of (irq ∷ irqs) index = Pends (slice_index (irq ∷ irqs) (index % length (irq ∷ irqs))) 1
 
--- The line of a word, by its rest by 8: up to 64 steps for a rest below 5, up to 16 ticks for 5, and a request for 6
--- and 7. What is left of the word by 8 says how many, or which interrupt.
+-- The line of a word, by its remainder by 8: up to 64 steps for a remainder below 5, up to 16 ticks for 5, and a
+-- request for 6 and 7. The quotient by 8 says how many, or which interrupt.
 abbrev pub line_of : List ℕ → ℕ → Line
 line_of irqs word =
     if nat_lt (word % 8) 5 then Steps (1 + word / 8 % 64)

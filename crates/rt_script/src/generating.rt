@@ -11,13 +11,13 @@ use std::alloc::Global;
 
 /// How many words are drawn for a script; each gives a line.
 const WORDS: u32 = 200;
-/// What a line asks for goes by its word's rest by this number; what is left of the word says how often.
+/// The remainder of a word by this number says what its line asks for; the quotient says how many, or which interrupt.
 const KINDS: u32 = 8;
-/// Of these rests so many are for steps, and the one behind them for ticks.
+/// So many of these remainders, the lowest, are for steps, and the next one is for ticks.
 const STEP_KINDS: u32 = 5;
-/// A line has up to so many steps, or up to so many ticks.
+/// A line has up to so many steps.
 const MOST_STEPS: u32 = 64;
-
+/// A line has up to so many ticks.
 const MOST_TICKS: u32 = 16;
 
 /// The script of a number and a stream: 200 lines of steps, ticks and requests of the declared interrupts, which are

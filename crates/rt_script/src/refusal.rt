@@ -18,7 +18,7 @@ pub enum ScriptRefused {
     /// The line's device has a number over 15.
     #[error("line {0}: 5 too many devices")]
     TooManyDevices(u32),
-    /// Memory was wanted.
+    /// Memory was wanted and not there.
     #[error("out of memory")]
     NoMemory,
 }

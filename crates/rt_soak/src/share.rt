@@ -21,7 +21,7 @@ pub(crate) struct Plan {
 }
 
 impl Plan {
-    /// The number of the first run of a worker, and of the worker behind it.
+    /// The number of the first run of a worker; for the number of workers itself, the number of all runs.
     fn first_of(&self, worker: usize) -> u32
         requires count { self.now.count ≤ 10000 }
         requires workers { self.now.workers ≤ 64 }

@@ -15,7 +15,8 @@ use atomic_table::Seat;
 use std::marker::{Brand, Model};
 
 /// The core's line, which makes and gathers the lines of devices, and latches words. Contracts see its words, its calls
-/// with the answers that they got, the numbers that it made, and the lines that it gathered.
+/// with the answers that they got, the numbers that it made, the lines that it gathered, and how many calls it had when
+/// it last made or gathered a line.
 #[derive(Drop)]
 pub struct CoreLine {
     pub(crate) seat: Seat<(), View>,

@@ -14,7 +14,9 @@ use std::marker::Model;
 /// How often a line's pends raised each interrupt, and how often they merged into one that was pending, by number.
 #[derive(Drop)]
 pub struct Tally {
+    /// How often each interrupt was raised.
     pub raised: [u32; 512],
+    /// How often a pend of each interrupt merged.
     pub merged: [u32; 512],
 }
 

@@ -20,7 +20,9 @@ use std::marker::Model;
 /// What a row of words ended with: the bits that were left, and how often each interrupt was latched, by number.
 #[derive(Drop)]
 pub struct Left {
+    /// The words that were left: interrupt n is bit n mod 32 of word n / 32.
     pub bits: [u32; 16],
+    /// How often the core's line latched each interrupt.
     pub latched: [u32; 512],
 }
 

@@ -8,7 +8,7 @@ use Rattle.rt_soak.specs.Soak.{items_of_run}
 use Rattle.rt_soak.specs.declared.run.Run.{Run}
 use Rattle.rt_soak.specs.Inside.Totals.{Part, IsSmall}
 
--- the first run of a worker: all workers have as many runs, but for one
+-- the first run of a worker; any two workers' numbers of runs differ by at most one
 abbrev pub first_of : ℕ → ℕ → ℕ → ℕ
 first_of count workers worker = worker * count / workers
 
