@@ -145,10 +145,12 @@ fn beside<R: Threads + Sync, G: Gate + Sync>(
     requires second_declared { HasNamesAt right.old.core_id second.old.image.names script.now }
     ensures first_ok { OnOk result.0 (Ends (turns (events_at left.old.core_id script.now)) first.old first.new left.old
         left.new) }
-    ensures first_err { OnErr result.0 (IsViablePrefix (turns (events_at left.old.core_id script.now)) first.old first.new) }
+    ensures first_err { OnErr result.0
+        (IsViablePrefix (turns (events_at left.old.core_id script.now)) first.old first.new) }
     ensures second_ok { OnOk result.1
         (Ends (turns (events_at right.old.core_id script.now)) second.old second.new right.old right.new) }
-    ensures second_err { OnErr result.1 (IsViablePrefix (turns (events_at right.old.core_id script.now)) second.old second.new) }
+    ensures second_err { OnErr result.1
+        (IsViablePrefix (turns (events_at right.old.core_id script.now)) second.old second.new) }
 {
     join_mut(
         rt,

@@ -31,7 +31,8 @@ fn tell<G: Gate>(core_id: CoreId, step: u64, gate: &G) {
     }
 }
 
-/// One core step behind a look, and what it pends on the other core. The gate is told of it before the look.
+/// One core step behind a look, and what it pends on the other core. The gate is told of the first core's steps alone,
+/// before the look; no clause says so.
 fn step<G: Gate>(
     core: &mut Core,
     side: &mut Side,
@@ -110,8 +111,8 @@ fn own_line<G: Gate>(
     ensures ok { OnOk result (Runs (repeated_turns (count_of asked.now) (turn_of side.old.core_id asked.now))
         core.old core.new side.old side.new) }
     ensures none_held { OnOk result (held.new ≡ []) }
-    ensures err { OnErr result (IsViablePrefix (repeated_turns (count_of asked.now) (turn_of side.old.core_id asked.now))
-        core.old core.new) }
+    ensures err { OnErr result
+        (IsViablePrefix (repeated_turns (count_of asked.now) (turn_of side.old.core_id asked.now)) core.old core.new) }
 {
     for _done in 0..asked.count() {
         turn(core, side, words, there, asked, held, gate)?;
@@ -172,7 +173,8 @@ pub(crate) fn run_side<G: Gate>(
 ) -> Result<(), Failed>
     requires can { CanRun (count script.now + 1) core.old side.old words.now there.now }
     requires declared { HasNamesAt side.old.core_id core.old.image.names script.now }
-    ensures ok { OnOk result (Ends (turns (events_at side.old.core_id script.now)) core.old core.new side.old side.new) }
+    ensures ok { OnOk result
+        (Ends (turns (events_at side.old.core_id script.now)) core.old core.new side.old side.new) }
     ensures err { OnErr result (IsViablePrefix (turns (events_at side.old.core_id script.now)) core.old core.new) }
 {
     let mut held = LineBuffer::new();
