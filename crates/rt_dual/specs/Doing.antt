@@ -5,7 +5,7 @@ use Rattle.rt_outside.specs.Bytes.{Took}
 use Rattle.rt_run.specs.Done.{Leads}
 use Rattle.rt_script.specs.declared.line.Line.{Line}
 use Rattle.rt_dual.specs.Course.{first_events, second_events, course_events}
-use Rattle.rt_dual.specs.Output.{IsPairText}
+use Rattle.rt_dual.specs.Output.{IsPairText, TookPart}
 
 -- The texts of both cores were taken, and each core has done the events of its trace there and no other: its own, with
 -- what the looks found in the same course.
@@ -16,3 +16,11 @@ pub record HasPaired (script : List Line) (first first' second second' : Machine
   pub took : Took before after bytes
   pub one_leads : Leads (course_events (first_events script) is.one) first first'
   pub two_leads : Leads (course_events (second_events script) is.two) second second'
+
+-- A beginning of the texts of both cores was taken, and each core has done all the events of its trace there and no
+-- other.
+pub record HasPairedPart (script : List Line) (first first' second second' : Machine) (before after : Option (List ℕ))
+    : Type 0 where
+  pub part : TookPart first.image second.image script before after
+  pub one_leads : Leads (course_events (first_events script) part.is.one) first first'
+  pub two_leads : Leads (course_events (second_events script) part.is.two) second second'

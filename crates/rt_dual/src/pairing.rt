@@ -6,7 +6,7 @@ ghost use Rattle.rt_outside.specs.Bytes.{Took, TookPrefix};
 ghost use Rattle.rt_outside.specs.Faults.{Rose, HasCause};
 ghost use Rattle.rt_script.specs.Script.{IsScript, HasNames, count};
 ghost use Rattle.rt_dual.specs.Course.{first_events, second_events, turns};
-ghost use Rattle.rt_dual.specs.Doing.{HasPaired};
+ghost use Rattle.rt_dual.specs.Doing.{HasPaired, HasPairedPart};
 ghost use Rattle.rt_dual.specs.Output.{IsPairText, TookPart, HasBegun};
 ghost use Rattle.rt_dual.specs.Inside.Both.{AreBefore, HaveEnded, CanWrite, IsWritten};
 ghost use Rattle.rt_dual.specs.Inside.Own.{events_at, HasNamesAt};
@@ -63,13 +63,18 @@ pub fn pair<R: Threads + Sync, K: Sink, G: Gate + Sync>(
     ensures fault { IsErrOf result LiveFail.Fault → Rose (K.faults out.old) (K.faults out.new) }
     ensures quiet { ¬ IsErrOf result LiveFail.Fault → K.faults out.new ≡ K.faults out.old }
 
-    // After either refusal, as behind a whole run, each core has done the first of its events and no others.
+    // After either refusal, as behind a whole run, each core has done the first of its events and no others. Where memory
+    // is not there no clause says for which words of its looks.
     ensures first_begun { HasBegun (turns (first_events script.now)) first.old first.new }
     ensures second_begun { HasBegun (turns (second_events script.now)) second.old second.new }
 
     // Behind a whole run each core has done all the events of its trace that was taken.
     ensures all { OnOk result
         (HasPaired script.now first.old first.new second.old second.new (K.taken out.old) (K.taken out.new)) }
+
+    // At a fault each core has done all the events of its trace in the text of which a beginning was taken.
+    ensures begun { IsErrOf result LiveFail.Fault →
+        HasPairedPart script.now first.old first.new second.old second.new (K.taken out.old) (K.taken out.new) }
 {
     let lines = script.lines();
     let Ok(mut both) = both_of(alloc, first.image(), second.image()) else {

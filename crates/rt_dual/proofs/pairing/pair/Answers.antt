@@ -58,8 +58,8 @@ pub returns-in-Ok-put_both-clause-ok : goal.returns-in-Ok-put_both-clause-ok
 returns-in-Ok-put_both-clause-ok g c =
     let all = returns-in-Ok-put_both-clause-all g c in (all.bytes, all.is, all.took)
 
-pub returns-in-Err-clause-part : goal.returns-in-Err-clause-part
-returns-in-Err-clause-part g c =
+pub returns-in-Err-clause-begun : goal.returns-in-Err-clause-begun
+returns-in-Err-clause-begun g c =
     let a = c.args.first.now in
     let b = c.args.second.now in
     let x = c.run_both.new.first in
@@ -79,10 +79,17 @@ returns-in-Err-clause-part g c =
     (subst (λ (i : Image). IsWritten c.image-3.result.now i new wrote.0) (c.image-4.ensures ∙ ended.right.leads.image)
     wrote.1) in
     λ _. record {
-      bytes = wrote.0;
-      is =
-          pair_text c.args.script.now a x b y old new wrote.0 c.requires.first_fresh c.requires.second_fresh before
-          ended
-          written;
-      took = wrote.2;
+      part = record {
+        bytes = wrote.0;
+        is =
+            pair_text c.args.script.now a x b y old new wrote.0 c.requires.first_fresh c.requires.second_fresh before
+            ended
+            written;
+        took = wrote.2;
+      };
+      one_leads = ended.left.leads;
+      two_leads = ended.right.leads;
     }
+
+pub returns-in-Err-clause-part : goal.returns-in-Err-clause-part
+returns-in-Err-clause-part g c = λ fault. (returns-in-Err-clause-begun g c fault).part
