@@ -1,6 +1,6 @@
 -- Bytes that come from a source and go to a sink. Each object tells what it has left or has taken, or tells
 -- nothing, as a file does: then these facts say only that it goes on telling nothing.
-use Rattle.std.specs.Prelude.{ℕ, ◌≡◌, ◌<◌, List, [], ◌++◌, length, take, Option, Some, None}
+use Rattle.std.specs.Prelude.{ℕ, ◌≡◌, ◌<◌, ◌≤◌, List, [], ◌++◌, length, take, Option, Some, None}
 
 -- a read moved the first n bytes of what was left into the buffer's front; none in a buffer with room is the end
 pub record MovesTold (before after buffer : List ℕ) (n : ℕ) : Type 0 where
@@ -39,10 +39,10 @@ Took (Some before) (Some after) bytes = after ≡ before ++ bytes
 Took None (Some after) bytes = ⊥
 Took (Some before) None bytes = ⊥
 
--- these bytes begin with those
-abbrev pub IsPrefix : List ℕ → List ℕ → Type 0
-IsPrefix front bytes = (rest : List ℕ) × (front ++ rest ≡ bytes)
+-- these bytes begin with those, and go on
+abbrev pub IsProperPrefix : List ℕ → List ℕ → Type 0
+IsProperPrefix front bytes = (rest : List ℕ) × (1 ≤ length rest) × (front ++ rest ≡ bytes)
 
--- what was taken grew by a beginning of these bytes
+-- what was taken grew by a beginning of these bytes, not by all of them
 abbrev pub TookPrefix : Option (List ℕ) → Option (List ℕ) → List ℕ → Type 0
-TookPrefix before after bytes = (front : List ℕ) × IsPrefix front bytes × Took before after front
+TookPrefix before after bytes = (front : List ℕ) × IsProperPrefix front bytes × Took before after front

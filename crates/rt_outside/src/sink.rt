@@ -22,7 +22,7 @@ pub trait Sink {
         ensures quiet { OnOk result (faults self.new ≡ faults self.old) };
 }
 
-/// Writes all bytes, in as many pieces as the sink takes them.
+/// Writes all bytes, in as many pieces as the sink takes them. At a fault it took a beginning of them, not all.
 pub fn put_all<K: Sink>(sink: &mut K, bytes: &[u8]) -> Result<(), Failed>
     ensures ok { OnOk result (Took (K.taken sink.old) (K.taken sink.new) bytes.now) }
     ensures err { OnErr result (TookPrefix (K.taken sink.old) (K.taken sink.new) bytes.now) }

@@ -1,5 +1,5 @@
 -- How what was taken and what is held grow, and how a fault is told on.
-use Rattle.std.proofs.Common.{◌≡◌, ℕ, List, [], ◌++◌, Option, Some, None, Result, Ok, Err, OnOk}
+use Rattle.std.proofs.Common.{◌≡◌, ◌≤◌, ℕ, List, [], ◌++◌, length, length-append, Option, Some, None, Result, Ok, Err, OnOk}
 use Rattle.std.proofs.Common.{ap, sym}
 use Rattle.std.proofs.Common.{subst, ◌∙◌, append_assoc, arith}
 use Rattle.std.specs.Prelude.{IsErr}
@@ -25,13 +25,14 @@ took_on (Some before) (Some mid) None x y first then = absurd then
 -- a beginning of more
 pub part_more : (a b : Option (List ℕ)) (x y : List ℕ) → TookPrefix a b x → TookPrefix a b (x ++ y)
 part_more a b x y part =
-    (part.0, (part.1.0 ++ y, sym (append_assoc part.0 part.1.0 y) ∙ ap (λ t. t ++ y) part.1.1), part.2)
+    let longer : 1 ≤ length (part.1.0 ++ y) = omega (arith, length-append part.1.0 y, part.1.1) in
+    (part.0, (part.1.0 ++ y, longer, sym (append_assoc part.0 part.1.0 y) ∙ ap (λ t. t ++ y) part.1.2), part.2)
 
 -- all, and a beginning of what is behind
 pub part_on : (a b c : Option (List ℕ)) (x y : List ℕ) → Took a b x → TookPrefix b c y → TookPrefix a c (x ++ y)
 part_on a b c x y took part = (
   x ++ part.0,
-  (part.1.0, append_assoc x part.0 part.1.0 ∙ ap (λ t. x ++ t) part.1.1),
+  (part.1.0, part.1.1, append_assoc x part.0 part.1.0 ∙ ap (λ t. x ++ t) part.1.2),
   took_on a b c x part.0 took part.2,
 )
 

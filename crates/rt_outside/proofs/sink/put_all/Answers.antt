@@ -1,4 +1,4 @@
-use Rattle.std.proofs.Common.{take, drop, arith, ◌∙◌, length-drop}
+use Rattle.std.proofs.Common.{◌≤◌, length, take, drop, arith, ◌∙◌, length-drop}
 use Rattle.std.proofs.lemmas.List.{take-append-drop}
 use Rattle.rt_lemmas.proofs.Results.{on_err_from}
 use Rattle.rt_outside.proofs.Moving.{Took-more}
@@ -8,9 +8,11 @@ pub returns-in_err-done-clause-err : goal.returns-in_err-done-clause-err
 returns-in_err-done-clause-err g c =
     let done = c.loop-turn.done in
     let bytes = c.args.bytes.now in
+    let short : 1 ≤ length (drop done bytes) =
+    omega (arith, length-drop done bytes, c.loop-turn.invariant.within) in
     on_err_from c.from_residual.result (
       take done bytes,
-      (drop done bytes, take-append-drop done bytes),
+      (drop done bytes, short, take-append-drop done bytes),
       rw c.in_err-done.ensures.err c.loop-turn.invariant.took,
     )
 
