@@ -66,7 +66,12 @@ look_more (Looks ∷ ts) (ws ∷ found) last few =
     )
 
 broken_done : (es : List Event) (a b : Machine) (x y : Option (List ℕ)) → Breaks es a b x y → HasDone es a b
-broken_done es a b x y cut = record { done = cut.done; rest = cut.rest; parts = cut.parts; leads = cut.leads }
+broken_done es a b x y cut = record {
+  done = cut.done ++ cut.last ∷ [];
+  rest = cut.rest;
+  parts = cut.parts ∙ sym (append_assoc cut.done (cut.last ∷ []) cut.rest);
+  leads = cut.leads;
+}
 
 module _ (ts : List Turn) (calls calls' : List Call) (a b : Machine) (x y : Option (List ℕ)) where
   -- a fault in them

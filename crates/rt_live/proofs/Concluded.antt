@@ -1,16 +1,17 @@
 -- From what a run tells and what its words tell when they are closed: the text that was written is one that `live`
 -- allows, or a beginning of one.
 use Rattle.std.proofs.Common.{◌≡◌, ◌≢◌, ◌⊎◌, ℕ, ◌<◌, List, [], ◌∷◌, ◌++◌, map, flat_map, replicate}
-use Rattle.std.proofs.Common.{Option, Contains, get_or, sym, ap, subst, ◌∙◌, arith, ⊎_elim, Some}
+use Rattle.std.proofs.Common.{Option, Contains, get_or, sym, ap, subst, ◌∙◌, arith, ⊎_elim, inr, Some, append_assoc}
 use Rattle.std.specs.List.{AllByRecursion}
 use Rattle.rt_lemmas.proofs.Membership.{all_has}
 use Rattle.rt_core.specs.Machine.{Machine, IsFresh}
-use Rattle.rt_outside.specs.Bytes.{Took, TookPrefix}
-use Rattle.rt_run.proofs.Scripted.{all_done}
+use Rattle.rt_outside.specs.Bytes.{Took, TookAtLeast, TookPrefix}
+use Rattle.rt_run.specs.Sending.{lines_of}
 use Rattle.rt_run.proofs.Taking.{part_more, part_on, took_on}
 use Rattle.rt_devices.specs.Work.{interrupt_asked}
 use Rattle.rt_devices.specs.declared.device.Device.{Device}
 use Rattle.rt_script.specs.Script.{HasDeviceInRange, pends}
+use Rattle.rt_trace.specs.Text.{total_text}
 use Rattle.rt_words.specs.Ending.{calls_in}
 use Rattle.rt_words.specs.History.{part}
 use Rattle.rt_words.specs.Lines.{numbers}
@@ -27,9 +28,10 @@ use Rattle.rt_live.specs.Doing.{HasLived, HasWritten, HasWrittenPart}
 use Rattle.rt_live.specs.Output.{IsLiveText, IsBalanced}
 use Rattle.rt_live.specs.Ready.{Prepared, IsReady, IsCounted, irqs_of}
 use Rattle.rt_live.specs.Interleaving.{turns, latches, interleaving}
-use Rattle.rt_live.specs.Written.{live_text}
+use Rattle.rt_live.specs.Written.{live_text, TookToTotal}
 use Rattle.rt_live.specs.declared.account.AccountRow.{AccountRow}
 use Rattle.rt_live.proofs.Closing.{cut_before, closes_whole}
+use Rattle.rt_live.proofs.Ended.{text_is}
 use Rattle.rt_live.proofs.Extending.{IsCutHistory, Settles}
 use Rattle.rt_live.proofs.Finishing.{all_zeros}
 use Rattle.rt_live.proofs.Numbered.{not_asked}
@@ -127,14 +129,14 @@ module _ (ready : Prepared) (is : IsReady ready) (gone : ready.devices ≡ [])
           }
 
       -- a fault came in the line of the total
-      pub total_part : (x y : Option (List ℕ)) → TookPrefix x y (live_text old.image ready.script all.ends.found)
+      pub total_part : (x y : Option (List ℕ)) → TookToTotal old ready.script all.ends.found x y
           → HasWrittenPart ready.script old next x y
       total_part x y part =
           let text : List ℕ = live_text old.image ready.script all.ends.found in
           let account : List ℕ = account_behind old.image closed.history in
           record {
-            part = record { bytes = text ++ account; is = whole_text; took = part_more x y text account part };
-            done = all_done (interleaving (turns ready.script) all.ends.found) old next all.ends.leads;
+            part = record { bytes = text ++ account; is = whole_text; took = part_more x y text account part.1 };
+            done = inr (all.ends.leads, part.0);
           }
 
       -- a fault came in a line of the account
@@ -143,6 +145,11 @@ module _ (ready : Prepared) (is : IsReady ready) (gone : ready.devices ≡ [])
           → TookPrefix y z (account_text old.image.names rows) → HasWrittenPart ready.script old next x z
       account_part irqs x y z took part =
           let text : List ℕ = live_text old.image ready.script all.ends.found in
+          let lines : List ℕ = lines_of old (interleaving (turns ready.script) all.ends.found) in
+          let total : List ℕ = total_text next.steps in
+          let more : text ++ part.0 ≡ lines ++ (total ++ part.0) =
+          ap (λ (t : List ℕ). t ++ part.0) (sym (text_is old next ready.script all.ends.found fresh all.ends.leads))
+          ∙ append_assoc lines total part.0 in
           record {
             part = record {
               bytes = text ++ account_behind old.image closed.history;
@@ -151,7 +158,10 @@ module _ (ready : Prepared) (is : IsReady ready) (gone : ready.devices ≡ [])
                   subst (λ (rs : List AccountRow). TookPrefix x z (text ++ account_text old.image.names rs))
                   (account_declared irqs) (part_on x y z text (account_text old.image.names rows) took part);
             };
-            done = all_done (interleaving (turns ready.script) all.ends.found) old next all.ends.leads;
+            done = inr (
+              all.ends.leads,
+              (total ++ part.0, subst (Took x z) more (took_on x y z text part.0 took part.2)),
+            );
           }
 
       low : (rs : List AccountRow) → AllByRecursion (IsCounted ready.line.gathered) rs
@@ -183,16 +193,13 @@ module _ (ready : Prepared) (is : IsReady ready) (gone : ready.devices ≡ [])
 
     -- a fault came in the line of the total
     pub completed_part : (x y : Option (List ℕ))
-        → Completes (turns ready.script) ready.line old next
-        (λ found. TookPrefix x y (live_text old.image ready.script found))
+        → Completes (turns ready.script) ready.line old next (λ found. TookToTotal old ready.script found x y)
         → HasWrittenPart ready.script old next x y
-    completed_part x y all =
-        total_part (λ found. TookPrefix x y (live_text old.image ready.script found)) all x y all.ends.wrote
+    completed_part x y all = total_part (λ found. TookToTotal old ready.script found x y) all x y all.ends.wrote
 
     -- what `go` tells of a fault
     pub failed_part : (x y : Option (List ℕ))
         → Halts (turns ready.script) ready.line old next x y
-        ⊎ Completes (turns ready.script) ready.line old next
-        (λ found. TookPrefix x y (live_text old.image ready.script found))
+        ⊎ Completes (turns ready.script) ready.line old next (λ found. TookToTotal old ready.script found x y)
         → HasWrittenPart ready.script old next x y
     failed_part x y failed = ⊎_elim (halted_part x y) (completed_part x y) failed

@@ -8,11 +8,11 @@ use Rattle.rt_code.specs.Image.{Image}
 use Rattle.rt_core.specs.Core.{Core, reset}
 use Rattle.rt_core.specs.Machine.{Machine, IsFresh}
 use Rattle.rt_core.specs.Trace.{labels}
-use Rattle.rt_outside.specs.Bytes.{Took, TookPrefix}
+use Rattle.rt_outside.specs.Bytes.{Took, TookAtLeast, TookPrefix}
 use Rattle.rt_run.specs.Done.{Leads}
 use Rattle.rt_run.specs.Sending.{lines_of}
 use Rattle.rt_run.proofs.Advancing.{leads_on, lines_split}
-use Rattle.rt_run.proofs.Taking.{took_on, part_on}
+use Rattle.rt_run.proofs.Taking.{took_on, part_on, least_on}
 use Rattle.rt_script.specs.Script.{core_events}
 use Rattle.rt_script.specs.declared.line.Line.{Line}
 use Rattle.rt_trace.specs.Label.{items_of}
@@ -20,7 +20,7 @@ use Rattle.rt_trace.specs.Text.{text, total_text}
 use Rattle.rt_words.specs.declared.call.Call.{Call}
 use Rattle.rt_live.specs.Interleaving.{Turn, Happens, Looks, looks, arrivals_from, turns, interleaving}
 use Rattle.rt_live.specs.Going.{IsWholeLook, Goes, Ends}
-use Rattle.rt_live.specs.Written.{live_text}
+use Rattle.rt_live.specs.Written.{live_text, TookToTotal}
 use Rattle.rt_live.specs.Inside.Own.{own_turns}
 use Rattle.rt_live.proofs.Turning.{calls_on}
 use Rattle.rt_live.proofs.Woven.{looks-append, interleaving_on, steps_behind}
@@ -55,11 +55,16 @@ module _ (ts : List Turn) (calls calls' : List Call) (a b : Machine) (x y z : Op
 
   -- or a beginning of it
   pub ended_cut : TookPrefix y z (held ++ total_text total)
-      → Ends ts calls calls' a b (λ found. TookPrefix x z (lines_and_total ts a b.steps found))
+      → Ends ts calls calls' a b
+      (λ found. TookAtLeast x z (lines_of a (interleaving ts found))
+      × TookPrefix x z (lines_and_total ts a b.steps found))
   ended_cut part =
-      ends (λ found. TookPrefix x z (lines_and_total ts a b.steps found))
-      (part_on x y z (lines_of a (interleaving ts run.found)) (total_text b.steps) run.sends.took
-      (subst (TookPrefix y z) last_bytes part))
+      let lines : List ℕ = lines_of a (interleaving ts run.found) in
+      ends (λ found. TookAtLeast x z (lines_of a (interleaving ts found))
+      × TookPrefix x z (lines_and_total ts a b.steps found)) (
+        (part.0, took_on x y z lines part.0 run.sends.took part.2),
+        part_on x y z lines (total_text b.steps) run.sends.took (subst (TookPrefix y z) last_bytes part),
+      )
 
 -- the core's own events are as many steps as they are woven
 own_steps : (es : List Event) (found : List (List ℕ)) → length found ≡ looks (map Happens es)
@@ -87,7 +92,7 @@ all_turns script calls calls' a b x y fresh run =
     ) in e)
 
 -- the whole text
-text_is : (m n : Machine) (script : List Line) (found : List (List ℕ)) → IsFresh m
+pub text_is : (m n : Machine) (script : List Line) (found : List (List ℕ)) → IsFresh m
     → Leads (interleaving (turns script) found) m n
     → lines_and_total (turns script) m n.steps found ≡ live_text m.image script found
 text_is m n script found fresh run =
@@ -127,6 +132,14 @@ module _ (script : List Line) (us : List Turn) (calls calls' calls'' : List Call
         ∙ ap (λ vs. lines_and_total vs a c.steps found) all
         ∙ text_is a c script found fresh (subst (λ vs. Leads (interleaving vs found) a c) all leads)
 
+    -- the lines of both are those of all events
+    pub both_events : lines_of a (interleaving ts own.found) ++ lines_of b (interleaving us last.found)
+        ≡ lines_of a (interleaving (turns script) found)
+    both_events =
+        sym (lines_split (interleaving ts own.found) (interleaving us last.found) a b own.sends.leads)
+        ∙ ap (lines_of a) (sym (interleaving_on ts us own.found last.found own.many))
+        ∙ ap (λ vs. lines_of a (interleaving vs found)) all
+
     -- the core's own turns, and those behind them, are all
     pub both_end : (whole : List (List ℕ) → Type 0) → whole found → Ends (turns script) calls calls'' a c whole
     both_end whole this =
@@ -150,10 +163,15 @@ module _ (script : List Line) (us : List Turn) (calls calls' calls'' : List Call
         last.wrote))
 
     -- or the total was cut
-    pub total_cut : Ends us calls' calls'' b c (λ found. TookPrefix y z (lines_and_total us b c.steps found))
-        → Ends (turns script) calls calls'' a c (λ found. TookPrefix x z (live_text a.image script found))
+    pub total_cut : Ends us calls' calls'' b c
+        (λ found. TookAtLeast y z (lines_of b (interleaving us found))
+        × TookPrefix y z (lines_and_total us b c.steps found))
+        → Ends (turns script) calls calls'' a c (λ found. TookToTotal a script found x z)
     total_cut last =
-        both_end _ last (λ found. TookPrefix x z (live_text a.image script found))
-        (subst (TookPrefix x z) (both_lines _ last)
-        (part_on x y z (lines_of a (interleaving ts own.found)) (lines_and_total us b c.steps last.found) own.sends.took
-        last.wrote))
+        let lines : List ℕ = lines_of a (interleaving ts own.found) in
+        both_end _ last (λ found. TookToTotal a script found x z) (
+          subst (TookAtLeast x z) (both_events _ last)
+              (least_on x y z lines (lines_of b (interleaving us last.found)) own.sends.took last.wrote.0),
+          subst (TookPrefix x z) (both_lines _ last)
+              (part_on x y z lines (lines_and_total us b c.steps last.found) own.sends.took last.wrote.1),
+        )

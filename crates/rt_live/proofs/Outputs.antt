@@ -10,6 +10,7 @@ use Rattle.rt_core.specs.Trace.{core_after, labels, trace}
 use Rattle.rt_outside.specs.Bytes.{TookPrefix}
 use Rattle.rt_run.specs.Sending.{Breaks, lines_of}
 use Rattle.rt_run.proofs.Advancing.{lines_split}
+use Rattle.rt_run.proofs.Sent.{breaks_before}
 use Rattle.rt_run.proofs.Taking.{part_more}
 use Rattle.rt_script.specs.Script.{HasDeviceInRange, core_events}
 use Rattle.rt_script.specs.declared.line.Line.{Line}
@@ -83,9 +84,13 @@ pub part_cut : (m next : Machine) (script : List Line) (found : List (List ℕ))
 part_cut m next script found last words history x y fresh cut whole settles short few breaks =
     let e : Extends script (turns script) found last =
     extend script found last words history cut (turns script) whole settles short few in
-    let all : interleaving (turns script) e.all ≡ breaks.done ++ (breaks.rest ++ e.behind) =
-    e.interleavings ∙ ap (λ es. es ++ e.behind) breaks.parts ∙ append_assoc breaks.done breaks.rest e.behind in
-    let begins = text_begins m script e.all breaks.done (breaks.rest ++ e.behind) fresh all in
+    let of_all : Breaks (interleaving (turns script) e.all) m next x y =
+    subst (λ es. Breaks es m next x y) (sym e.interleavings)
+    (breaks_before (interleaving (turns script) found ++ look_arrivals last) e.behind m next x y breaks) in
+    let came : List Event = of_all.done ++ of_all.last ∷ [] in
+    let parts : interleaving (turns script) e.all ≡ came ++ of_all.rest =
+    of_all.parts ∙ sym (append_assoc of_all.done (of_all.last ∷ []) of_all.rest) in
+    let begins = text_begins m script e.all came of_all.rest fresh parts in
     let account : List ℕ = account_behind m.image e.history in
     record {
       part = record {
@@ -93,11 +98,11 @@ part_cut m next script found last words history x y fresh cut whole settles shor
         is = extended_text m.image script found last e;
         took =
             subst (TookPrefix x y)
-            (sym (append_assoc (lines_of m breaks.done) begins.0 account)
+            (sym (append_assoc (lines_of m came) begins.0 account)
             ∙ ap (λ (t : List ℕ). t ++ account) (sym begins.1))
-            (part_more x y (lines_of m breaks.done) (begins.0 ++ account) breaks.took);
+            (part_more x y (lines_of m came) (begins.0 ++ account) of_all.cut);
       };
-      done = record { done = breaks.done; rest = breaks.rest ++ e.behind; parts = all; leads = breaks.leads };
+      done = inl of_all;
     }
 
 -- there is a look alone

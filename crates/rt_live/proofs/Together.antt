@@ -12,7 +12,7 @@ use Rattle.rt_live.specs.Latched.{Halts, Completes}
 use Rattle.rt_live.specs.Doing.{HasLived, HasWritten, HasWrittenPart}
 use Rattle.rt_live.specs.Ready.{Prepared, IsReady, irqs_of}
 use Rattle.rt_live.specs.Interleaving.{turns}
-use Rattle.rt_live.specs.Written.{live_text}
+use Rattle.rt_live.specs.Written.{live_text, TookToTotal}
 use Rattle.rt_live.specs.declared.account.AccountRow.{AccountRow}
 use Rattle.rt_live.proofs.Concluded.{failed_part, has_lived, has_written, account_part}
 
@@ -22,11 +22,11 @@ module _ (ready : Prepared) (is : IsReady ready) (gone : ready.devices ≡ []) (
     (old next : Machine) (fresh : IsFresh old) (x y : Option (List ℕ)) where
   -- the sink failed while the core ran
   pub run_part : Halts (turns script) ready.line old next x y
-      ⊎ Completes (turns script) ready.line old next (λ found. TookPrefix x y (live_text old.image script found))
+      ⊎ Completes (turns script) ready.line old next (λ found. TookToTotal old script found x y)
       → HasWrittenPart script old next x y
   run_part =
       subst (λ (s : List Line). Halts (turns s) ready.line old next x y
-      ⊎ Completes (turns s) ready.line old next (λ found. TookPrefix x y (live_text old.image s found))
+      ⊎ Completes (turns s) ready.line old next (λ found. TookToTotal old s found x y)
       → HasWrittenPart s old next x y) same
       (failed_part ready is gone ranges rows closed old next fresh x y)
 

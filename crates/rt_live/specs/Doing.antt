@@ -1,8 +1,10 @@
 -- What the core has done when a run under `live` has answered: the events of the trace that was taken.
-use Rattle.std.specs.Prelude.{ℕ, List, Option}
+use Rattle.std.specs.Prelude.{ℕ, ◌⊎◌, List, Option}
+use Rattle.rt_ids.specs.Event.{Event}
 use Rattle.rt_core.specs.Machine.{Machine}
-use Rattle.rt_outside.specs.Bytes.{Took}
-use Rattle.rt_run.specs.Done.{Leads, HasDone}
+use Rattle.rt_outside.specs.Bytes.{Took, TookAtLeast}
+use Rattle.rt_run.specs.Done.{Leads}
+use Rattle.rt_run.specs.Sending.{Breaks, lines_of}
 use Rattle.rt_script.specs.declared.line.Line.{Line}
 use Rattle.rt_live.specs.Interleaving.{turns, interleaving}
 use Rattle.rt_live.specs.Output.{IsLiveText, TookPart, Lives}
@@ -21,7 +23,13 @@ pub record HasWritten (script : List Line) (old new : Machine) (before after : O
   pub took : Took before after bytes
   pub leads : Leads (interleaving (turns script) is.found) old new
 
--- a beginning of such a text was taken, and the core has done the first of the events of its trace and no other
+-- The core has done these events up to the fault: it came in the lines of one of them, the last that the core did, or
+-- behind the lines of all.
+abbrev pub HasDoneToFault : List Event → Machine → Machine → Option (List ℕ) → Option (List ℕ) → Type 0
+HasDoneToFault events old new before after =
+    Breaks events old new before after ⊎ (Leads events old new × TookAtLeast before after (lines_of old events))
+
+-- a beginning of such a text was taken, and the core has done the events of its trace up to the fault and no other
 pub record HasWrittenPart (script : List Line) (old new : Machine) (before after : Option (List ℕ)) : Type 0 where
   pub part : TookPart old.image script before after
-  pub done : HasDone (interleaving (turns script) part.is.found) old new
+  pub done : HasDoneToFault (interleaving (turns script) part.is.found) old new before after

@@ -1,9 +1,12 @@
 -- The text that `live` writes of a run: the trace of the image, from reset, under the interleaving of the script's own
 -- events with what the looks found, with its total of core steps. It is this project's own.
-use Rattle.std.specs.Prelude.{ℕ, List, Some}
+use Rattle.std.specs.Prelude.{ℕ, List, Option, Some}
 use Rattle.rt_ids.specs.Event.{steps}
 use Rattle.rt_code.specs.Image.{Image}
+use Rattle.rt_core.specs.Machine.{Machine}
 use Rattle.rt_core.specs.Trace.{trace}
+use Rattle.rt_outside.specs.Bytes.{TookAtLeast, TookPrefix}
+use Rattle.rt_run.specs.Sending.{lines_of}
 use Rattle.rt_script.specs.declared.line.Line.{Line}
 use Rattle.rt_trace.specs.Text.{trace_text}
 use Rattle.rt_live.specs.Interleaving.{turns, interleaving}
@@ -15,3 +18,9 @@ live_text img script found =
       items = trace img (interleaving (turns script) found);
       total = Some (steps (interleaving (turns script) found));
     })
+
+-- the lines of the whole trace were taken, and of the line of its total a beginning, not all
+abbrev pub TookToTotal : Machine → List Line → List (List ℕ) → Option (List ℕ) → Option (List ℕ) → Type 0
+TookToTotal m script found before after =
+    TookAtLeast before after (lines_of m (interleaving (turns script) found))
+    × TookPrefix before after (live_text m.image script found)

@@ -1,6 +1,6 @@
 // The end of a run: the last look, the added steps, and the total.
 ghost use Rattle.std.specs.Prelude.{◌≡◌, ◌+◌, ◌-◌, ◌*◌, ◌^◌, ◌<◌, ◌∷◌, ◌++◌, ◌⊎◌, length, replicate, OnOk, OnErr};
-ghost use Rattle.rt_outside.specs.Bytes.{Took, TookPrefix};
+ghost use Rattle.rt_outside.specs.Bytes.{Took, TookAtLeast, TookPrefix};
 ghost use Rattle.rt_outside.specs.Faults.{HasCause};
 ghost use Rattle.rt_ids.specs.Event.{Step};
 ghost use Rattle.rt_run.specs.Sending.{lines_of};
@@ -36,7 +36,9 @@ pub(crate) fn end<K: Sink, G: Gate>(
         (Stops (Looks ∷ replicate core.old.steps (Happens Step)) line.old.calls line.new.calls core.old core.new
         (K.taken out.old) (K.taken out.new)
         ⊎ Ends (Looks ∷ replicate core.old.steps (Happens Step)) line.old.calls line.new.calls core.old core.new
-        (λ found. TookPrefix (K.taken out.old) (K.taken out.new)
+        (λ found. TookAtLeast (K.taken out.old) (K.taken out.new)
+        (lines_of core.old (interleaving (Looks ∷ replicate core.old.steps (Happens Step)) found))
+        × TookPrefix (K.taken out.old) (K.taken out.new)
         (lines_of core.old (interleaving (Looks ∷ replicate core.old.steps (Happens Step)) found)
         ++ total_text core.new.steps))) }
     ensures same { IsSameLine line.old line.new }

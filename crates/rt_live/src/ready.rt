@@ -1,7 +1,7 @@
 ghost use Rattle.std.specs.Prelude.{◌≡◌, ◌⊎◌, [], map, IfOk, OnOk, OnErr};
 ghost use Rattle.rt_code.specs.Lines.{HasLines};
 ghost use Rattle.rt_core.specs.Machine.{IsFresh};
-ghost use Rattle.rt_outside.specs.Bytes.{Took, TookPrefix};
+ghost use Rattle.rt_outside.specs.Bytes.{Took};
 ghost use Rattle.rt_outside.specs.Faults.{HasCause};
 ghost use Rattle.rt_script.specs.Script.{HasNames};
 ghost use Rattle.rt_live.specs.Closed.{Closes};
@@ -10,7 +10,7 @@ ghost use Rattle.rt_live.specs.Account.{declared_irqs};
 ghost use Rattle.rt_live.specs.Latched.{Halts, Completes};
 ghost use Rattle.rt_live.specs.Ready.{IsReady, irqs_of};
 ghost use Rattle.rt_live.specs.Interleaving.{turns};
-ghost use Rattle.rt_live.specs.Written.{live_text};
+ghost use Rattle.rt_live.specs.Written.{live_text, TookToTotal};
 
 use crate::account::{Account, AccountRow};
 use crate::beside::beside;
@@ -124,8 +124,7 @@ impl<'a> Ready<'a> {
         ensures err { OnErr result
             (Halts (turns self.old.script) self.new.line core.old core.new (K.taken out.old) (K.taken out.new)
             ⊎ Completes (turns self.old.script) self.new.line core.old core.new
-            (λ found. TookPrefix (K.taken out.old) (K.taken out.new)
-            (live_text core.old.image self.old.script found))) }
+            (λ found. TookToTotal core.old self.old.script found (K.taken out.old) (K.taken out.new))) }
         ensures cause { HasCause (K.faults out.old) (K.faults out.new) result }
         ensures quiet { OnOk result (K.faults out.new ≡ K.faults out.old) }
 

@@ -56,8 +56,8 @@ pub fn live<R: Threads + Sync, K: Sink + Send, G: Gate + Sync>(
     ensures fault { IsErrOf result LiveFail.Fault → Rose (K.faults out.old) (K.faults out.new) }
     ensures quiet { ¬ IsErrOf result LiveFail.Fault → K.faults out.new ≡ K.faults out.old }
 
-    // The core has done the events of the trace that was taken, at a fault the first of them, and none where memory was
-    // not there.
+    // The core has done the events of the trace that was taken, at a fault those up to it, and none where memory was not
+    // there.
     ensures all { IfOk result (λ account.
         HasLived script.now core.old core.new (K.taken out.old) (K.taken out.new) account.rows.items) }
     ensures begun { IsErrOf result LiveFail.Fault →
@@ -97,7 +97,7 @@ pub fn run_beside<R: Threads + Sync, K: Sink + Send, G: Gate + Sync>(
     ensures cause { HasCause (K.faults out.old) (K.faults out.new) result }
     ensures quiet { OnOk result (K.faults out.new ≡ K.faults out.old) }
 
-    // The core has done the events of the trace that was taken, at a fault the first of them.
+    // The core has done the events of the trace that was taken, at a fault those up to it.
     ensures all { OnOk result
         (HasWritten ready.entry.script core.old core.new (K.taken out.old) (K.taken out.new)) }
     ensures begun { OnErr result

@@ -39,6 +39,10 @@ Took (Some before) (Some after) bytes = after ≡ before ++ bytes
 Took None (Some after) bytes = ⊥
 Took (Some before) None bytes = ⊥
 
+-- what was taken grew by these bytes, and perhaps by more
+abbrev pub TookAtLeast : Option (List ℕ) → Option (List ℕ) → List ℕ → Type 0
+TookAtLeast before after bytes = (more : List ℕ) × Took before after (bytes ++ more)
+
 -- these bytes begin with those, and go on
 abbrev pub IsProperPrefix : List ℕ → List ℕ → Type 0
 IsProperPrefix front bytes = (rest : List ℕ) × (1 ≤ length rest) × (front ++ rest ≡ bytes)

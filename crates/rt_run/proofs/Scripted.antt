@@ -1,10 +1,11 @@
 -- A run line by line of a script, from a fresh core to the text of the whole trace.
 use Rattle.std.proofs.Common.{◌≡◌, ℕ, ◌+◌, ◌<◌, ◌≤◌, List, [], ◌∷◌, ◌++◌, length, flat_map, take, drop}
-use Rattle.std.proofs.Common.{Option, refl, ap, sym, subst, ◌∙◌, get_or, arith}
+use Rattle.std.proofs.Common.{Option, if◌then◌else◌, refl, ap, sym, subst, ◌∙◌, get_or, arith}
 use Rattle.std.proofs.lemmas.Grind.{flat_map-append}
 use Rattle.std.proofs.lemmas.List.{append-nil, take_more, take-append-drop, length-append, length-replicate}
 use Rattle.std.proofs.lemmas.List.Sums.{sum_by-cons, sum_by-take-le}
 use Rattle.rt_ids.specs.Event.{Event, Arrive, Tick, Step, steps}
+use Rattle.rt_ids.specs.Lists.{is_empty}
 use Rattle.rt_ids.specs.declared.limits.TheConstants.{SCRIPT_EVENTS}
 use Rattle.rt_outside.specs.Bytes.{Took, TookPrefix}
 use Rattle.rt_code.specs.Image.{Image}
@@ -16,8 +17,8 @@ use Rattle.rt_script.specs.declared.line.Line.{Line}
 use Rattle.rt_script.specs.declared.line.Line.TheVariants.{Steps, Ticks, Pends, Device}
 use Rattle.rt_trace.specs.Label.{items_of}
 use Rattle.rt_trace.specs.Text.{text, total_text}
-use Rattle.rt_run.specs.Done.{Leads, HasDone}
-use Rattle.rt_run.specs.Sending.{lines_of}
+use Rattle.rt_run.specs.Done.{Leads}
+use Rattle.rt_run.specs.Sending.{BreaksOff, lines_of}
 use Rattle.rt_run.specs.Inside.Writing.{Writes, Cut}
 use Rattle.rt_run.specs.Written.{text_of}
 use Rattle.rt_run.proofs.Taking.{part_more, wrote_all, wrote_cut}
@@ -101,6 +102,18 @@ text_is m script fresh =
 
 module _ (m n : Machine) (script : List Line) (fresh : IsFresh m) (x y : Option (List ℕ)) (held : List ℕ)
     (empty : held ≡ []) where
+  -- what a fault at one of the lines leaves done
+  pub cut_off : Cut (events script) m n x y held → BreaksOff (events script) m n x y
+  cut_off cut = record {
+    done = cut.done;
+    rest = cut.rest;
+    parts = cut.parts;
+    leads = cut.leads;
+    cut =
+        part_more x y (lines_of m cut.done) (if is_empty cut.rest then total_text n.steps else [])
+        (subst (λ h. TookPrefix x y (h ++ lines_of m cut.done)) empty cut.took);
+  }
+
   -- a fault at one of the lines
   pub cut_text : Cut (events script) m n x y held → TookPrefix x y (text_of m.image script)
   cut_text cut =
@@ -127,16 +140,22 @@ module _ (m n : Machine) (script : List Line) (fresh : IsFresh m) (x y : Option 
         subst (Took x z) whole
         (wrote_all x y z held kept (lines_of m (events script)) (total_text total) run.wrote took)
 
+    -- what a fault behind all events leaves done
+    pub total_off : TookPrefix y z (kept ++ total_text total) → BreaksOff (events script) m n x z
+    total_off took = record {
+      done = events script;
+      rest = [];
+      parts = sym (append-nil (events script));
+      leads = run.leads;
+      cut =
+          subst (TookPrefix x z)
+          (ap (λ h. h ++ (lines_of m (events script) ++ total_text total)) empty
+          ∙ ap (λ k. lines_of m (events script) ++ total_text k) counted)
+          (wrote_cut x y z held kept (lines_of m (events script)) (total_text total) run.wrote took);
+    }
+
     -- a fault at the last of the lines, or behind it
     pub total_cut : TookPrefix y z (kept ++ total_text total) → TookPrefix x z (text_of m.image script)
     total_cut took =
         subst (TookPrefix x z) whole
         (wrote_cut x y z held kept (lines_of m (events script)) (total_text total) run.wrote took)
-
--- what a fault leaves done
-pub part_done : (es : List Event) (a b : Machine) (x y : Option (List ℕ)) (held : List ℕ) → Cut es a b x y held
-    → HasDone es a b
-part_done es a b x y held cut = record { done = cut.done; rest = cut.rest; parts = cut.parts; leads = cut.leads }
-
-pub all_done : (es : List Event) (a b : Machine) → Leads es a b → HasDone es a b
-all_done es a b run = record { done = es; rest = []; parts = sym (append-nil es); leads = run }

@@ -1,13 +1,16 @@
 -- Events whose lines went out at once, runs that go on where others ended, and runs in which a fault came.
-use Rattle.std.proofs.Common.{◌≡◌, ℕ, List, [], ◌++◌, Option, refl, ap, sym, subst, ◌∙◌}
+use Rattle.std.proofs.Common.{◌≡◌, ◌⊎◌, inl, inr, ℕ, List, [], ◌∷◌, ◌++◌, length, Option, refl, ap, sym, subst, ◌∙◌}
+use Rattle.std.proofs.Common.{append_assoc, arith, length-append}
 use Rattle.std.proofs.lemmas.List.{append-nil}
 use Rattle.rt_ids.specs.Event.{Event}
 use Rattle.rt_core.specs.Machine.{Machine}
-use Rattle.rt_outside.specs.Bytes.{Took, TookPrefix}
+use Rattle.rt_core.specs.Trace.{labels}
+use Rattle.rt_outside.specs.Bytes.{Took, TookAtLeast, TookPrefix}
+use Rattle.rt_run.specs.Done.{Leads}
 use Rattle.rt_run.specs.Sending.{Sends, Breaks, lines_of}
 use Rattle.rt_run.specs.Inside.Writing.{Writes, Cut}
-use Rattle.rt_run.proofs.Taking.{took_on, part_on}
-use Rattle.rt_run.proofs.Advancing.{nothing_yet, goes_on, cut_behind, cut_before}
+use Rattle.rt_run.proofs.Taking.{took_on, part_on, least_on}
+use Rattle.rt_run.proofs.Advancing.{nothing_yet, goes_on, leads_on, lines_split}
 
 module _ (es : List Event) (a b : Machine) (x : Option (List ℕ)) (held : List ℕ) (empty : held ≡ []) where
   behind : (y : Option (List ℕ)) (kept : List ℕ) (run : Writes es a b x y held kept)
@@ -24,24 +27,55 @@ module _ (es : List Event) (a b : Machine) (x : Option (List ℕ)) (held : List 
     }
 
     -- or a beginning of it
-    pub sent_part : TookPrefix y z kept → Breaks es a b x z
-    sent_part part = record {
-      done = es;
-      rest = [];
-      parts = sym (append-nil es);
-      leads = run.leads;
-      took = subst (TookPrefix x z) (behind y kept run) (part_on x y z run.wrote.front kept run.wrote.took part);
-    }
+    sent_part : TookPrefix y z kept → TookPrefix x z (lines_of a es)
+    sent_part part =
+        subst (TookPrefix x z) (behind y kept run) (part_on x y z run.wrote.front kept run.wrote.took part)
 
-  -- a fault came at the events
-  pub broken : (y : Option (List ℕ)) → Cut es a b x y held → Breaks es a b x y
-  broken y cut = record {
-    done = cut.done;
-    rest = cut.rest;
-    parts = cut.parts;
-    leads = cut.leads;
-    took = subst (λ h. TookPrefix x y (h ++ lines_of a cut.done)) empty cut.took;
-  }
+-- no event has no line
+no_lines : (m : Machine) → lines_of m [] ≡ []
+unfolding labels
+no_lines m = refl
+
+-- a fault in the lines of one event
+at_event : (e : Event) (a b : Machine) (x y : Option (List ℕ)) → Leads (e ∷ []) a b
+    → TookPrefix x y (lines_of a (e ∷ [])) → Breaks (e ∷ []) a b x y
+at_event e a b x y run part = record {
+  done = [];
+  last = e;
+  rest = [];
+  parts = refl;
+  leads = run;
+  took = subst (TookAtLeast x y) (sym (no_lines a)) (part.0, part.2);
+  cut = part;
+}
+
+-- nothing goes on in no bytes
+not_in_none : (x y : Option (List ℕ)) → TookPrefix x y [] → ⊥
+not_in_none x y part = omega (arith, part.1.1, length-append part.0 part.1.0, ap length part.1.2)
+
+-- the first of one event are none or all
+first_of_one : (e : Event) (done rest : List Event) → e ∷ [] ≡ done ++ rest → (done ≡ []) ⊎ (done ≡ e ∷ [])
+first_of_one e [] rest parts = inl refl
+first_of_one e (d ∷ []) rest parts = let same : e ≡ d = cc in inr (ap (λ (f : Event). f ∷ []) (sym same))
+first_of_one e (d ∷ f ∷ ds) rest parts = let none : [] ≡ f ∷ (ds ++ rest) = cc in absurd cc
+
+module _ (e : Event) (a b : Machine) (x : Option (List ℕ)) (held : List ℕ) (empty : held ≡ []) where
+  -- an event came, and of what was held a beginning went out
+  pub sent_cut : (y z : Option (List ℕ)) (kept : List ℕ) → Writes (e ∷ []) a b x y held kept → TookPrefix y z kept
+      → Breaks (e ∷ []) a b x z
+  sent_cut y z kept run part = at_event e a b x z run.leads (sent_part (e ∷ []) a b x held empty y z kept run part)
+
+  -- a fault came at the event
+  pub broken : (y : Option (List ℕ)) → Cut (e ∷ []) a b x y held → Breaks (e ∷ []) a b x y
+  broken y cut = elim (first_of_one e cut.done cut.rest cut.parts) [
+    | inl none ↦ absurd (not_in_none x y
+        (subst (TookPrefix x y) (ap (lines_of a) none ∙ no_lines a) part))
+    | inr all ↦ at_event e a b x y (subst (λ es. Leads es a b) all cut.leads)
+        (subst (λ es. TookPrefix x y (lines_of a es)) all part)
+  ]
+    where
+      part : TookPrefix x y (lines_of a cut.done)
+      part = subst (λ h. TookPrefix x y (h ++ lines_of a cut.done)) empty cut.took
 
 -- the same, with a buffer that is empty
 unsent : (es : List Event) (a b : Machine) (x y : Option (List ℕ)) → Sends es a b x y → Writes es a b x y [] []
@@ -50,10 +84,6 @@ unsent es a b x y run = record {
   lined = run.lined;
   wrote = record { front = lines_of a es; took = run.took; parts = sym (append-nil (lines_of a es)) };
 }
-
-with_buffer : (es : List Event) (a b : Machine) (x y : Option (List ℕ)) → Breaks es a b x y → Cut es a b x y []
-with_buffer es a b x y cut =
-    record { done = cut.done; rest = cut.rest; parts = cut.parts; leads = cut.leads; took = cut.took }
 
 without : (es : List Event) (a b : Machine) (x y : Option (List ℕ)) → Writes es a b x y [] [] → Sends es a b x y
 without es a b x y run = record {
@@ -77,11 +107,31 @@ sends_on es fs a b c x y z first second =
 pub breaks_behind : (es fs : List Event) (a b c : Machine) (x y z : Option (List ℕ)) → Sends es a b x y
     → Breaks fs b c y z → Breaks (es ++ fs) a c x z
 breaks_behind es fs a b c x y z first cut =
-    broken (es ++ fs) a c x [] refl z
-    (cut_behind es fs a b c x y z [] [] (unsent es a b x y first) (with_buffer fs b c y z cut))
+    let came : List Event = cut.done ++ cut.last ∷ [] in
+    let all : es ++ came ≡ (es ++ cut.done) ++ cut.last ∷ [] = sym (append_assoc es cut.done (cut.last ∷ [])) in
+    record {
+      done = es ++ cut.done;
+      last = cut.last;
+      rest = cut.rest;
+      parts = ap (λ t. es ++ t) cut.parts ∙ sym (append_assoc es cut.done (cut.last ∷ cut.rest));
+      leads = subst (λ t. Leads t a c) all (leads_on es came a b c first.leads cut.leads);
+      took =
+          subst (TookAtLeast x z) (sym (lines_split es cut.done a b first.leads))
+          (least_on x y z (lines_of a es) (lines_of b cut.done) first.took cut.took);
+      cut =
+          subst (TookPrefix x z) (sym (lines_split es came a b first.leads) ∙ ap (lines_of a) all)
+          (part_on x y z (lines_of a es) (lines_of b came) first.took cut.cut);
+    }
 
 -- a fault, with more to come
 pub breaks_before : (es fs : List Event) (a b : Machine) (x y : Option (List ℕ)) → Breaks es a b x y
     → Breaks (es ++ fs) a b x y
-breaks_before es fs a b x y cut =
-    broken (es ++ fs) a b x [] refl y (cut_before es fs a b x y [] (with_buffer es a b x y cut))
+breaks_before es fs a b x y cut = record {
+  done = cut.done;
+  last = cut.last;
+  rest = cut.rest ++ fs;
+  parts = ap (λ t. t ++ fs) cut.parts ∙ append_assoc cut.done (cut.last ∷ cut.rest) fs;
+  leads = cut.leads;
+  took = cut.took;
+  cut = cut.cut;
+}

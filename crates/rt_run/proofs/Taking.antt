@@ -4,7 +4,7 @@ use Rattle.std.proofs.Common.{ap, sym}
 use Rattle.std.proofs.Common.{subst, ◌∙◌, append_assoc, arith}
 use Rattle.std.specs.Prelude.{IsErr}
 use Rattle.std.proofs.lemmas.List.{append-nil}
-use Rattle.rt_outside.specs.Bytes.{Took, TookPrefix}
+use Rattle.rt_outside.specs.Bytes.{Took, TookAtLeast, TookPrefix}
 use Rattle.rt_outside.specs.Faults.{Rose, HasCause}
 use Rattle.rt_run.specs.Inside.Writing.{Wrote}
 
@@ -35,6 +35,11 @@ part_on a b c x y took part = (
   (part.1.0, part.1.1, append_assoc x part.0 part.1.0 ∙ ap (λ t. x ++ t) part.1.2),
   took_on a b c x part.0 took part.2,
 )
+
+-- all, and no fewer than the first of what is behind
+pub least_on : (a b c : Option (List ℕ)) (x y : List ℕ) → Took a b x → TookAtLeast b c y → TookAtLeast a c (x ++ y)
+least_on a b c x y took more =
+    (more.0, subst (Took a c) (sym (append_assoc x y more.0)) (took_on a b c x (y ++ more.0) took more.1))
 
 -- nothing was written
 pub wrote_none : (a : Option (List ℕ)) (held : List ℕ) → Wrote a a held held []

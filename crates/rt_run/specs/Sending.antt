@@ -1,13 +1,14 @@
 -- Events that come to a machine, and the lines of what they show, where nothing of them is held back.
-use Rattle.std.specs.Prelude.{◌≡◌, ℕ, List, ◌++◌, flat_map, Option}
+use Rattle.std.specs.Prelude.{◌≡◌, ℕ, List, [], ◌∷◌, ◌++◌, flat_map, if◌then◌else◌, Option}
 use Rattle.std.specs.List.{AllByRecursion}
 use Rattle.rt_ids.specs.Event.{Event}
+use Rattle.rt_ids.specs.Lists.{is_empty}
 use Rattle.rt_core.specs.Machine.{Machine}
 use Rattle.rt_core.specs.Trace.{labels}
-use Rattle.rt_outside.specs.Bytes.{Took, TookPrefix}
+use Rattle.rt_outside.specs.Bytes.{Took, TookAtLeast, TookPrefix}
 use Rattle.rt_trace.specs.Label.{items_of}
 use Rattle.rt_trace.specs.Lined.{HasLine}
-use Rattle.rt_trace.specs.Text.{text}
+use Rattle.rt_trace.specs.Text.{text, total_text}
 use Rattle.rt_trace.specs.declared.item.Item.{Item}
 use Rattle.rt_run.specs.Done.{Leads}
 
@@ -25,11 +26,22 @@ pub record Sends (events : List Event) (old new : Machine) (before after : Optio
   pub lined : AllByRecursion (HasLine old.image.names) (shown_items old events)
   pub took : Took before after (lines_of old events)
 
--- A fault came: the first of these events lead from the old machine to the new one, and a beginning of their lines was
--- taken.
+-- A fault came in the lines of one of these events. Those before it and this one lead from the old machine to the new
+-- one. The lines of those before it were taken, and of its own a beginning, not all.
 pub record Breaks (events : List Event) (old new : Machine) (before after : Option (List ℕ)) : Type 0 where
+  pub done : List Event
+  pub last : Event
+  pub rest : List Event
+  pub parts : events ≡ done ++ last ∷ rest
+  pub leads : Leads (done ++ last ∷ []) old new
+  pub took : TookAtLeast before after (lines_of old done)
+  pub cut : TookPrefix before after (lines_of old (done ++ last ∷ []))
+
+-- A fault came while lines may be held back. The first of these events lead from the old machine to the new one. A
+-- beginning was taken, and not all, of their lines and, where no event is left, of the line of the total behind them.
+pub record BreaksOff (events : List Event) (old new : Machine) (before after : Option (List ℕ)) : Type 0 where
   pub done : List Event
   pub rest : List Event
   pub parts : events ≡ done ++ rest
   pub leads : Leads done old new
-  pub took : TookPrefix before after (lines_of old done)
+  pub cut : TookPrefix before after (lines_of old done ++ (if is_empty rest then total_text new.steps else []))

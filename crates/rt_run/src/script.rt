@@ -7,7 +7,8 @@ ghost use Rattle.rt_code.specs.Lines.{HasLines};
 ghost use Rattle.rt_core.specs.Machine.{IsFresh};
 ghost use Rattle.rt_script.specs.Script.{IsScript, HasName, HasNames, events, line_events, count_of};
 ghost use Rattle.rt_trace.specs.Lined.{IsDeclared};
-ghost use Rattle.rt_run.specs.Done.{Leads, HasDone};
+ghost use Rattle.rt_run.specs.Done.{Leads};
+ghost use Rattle.rt_run.specs.Sending.{BreaksOff};
 ghost use Rattle.rt_run.specs.Written.{text_of};
 ghost use Rattle.rt_run.specs.Writable.{IsWritable};
 ghost use Rattle.rt_run.specs.Inside.Writing.{Writes, Cut};
@@ -155,9 +156,11 @@ pub fn run_script<K: Sink>(core: &mut Core, script: &Script, out: &mut K) -> Res
     // The text is short enough to be read as a trace.
     ensures short { OnOk result (length (text_of core.old.image script.now) < TRACE_BYTES) }
 
-    // At a fault a beginning of the text was taken, and the core has done the first of its events.
+    // At a fault a beginning of the text was taken, and the core has done the first of its events, those at least of
+    // which lines were taken.
     ensures err { OnErr result (TookPrefix (K.taken out.old) (K.taken out.new) (text_of core.old.image script.now)) }
-    ensures part { OnErr result (HasDone (events script.now) core.old core.new) }
+    ensures part { OnErr result
+        (BreaksOff (events script.now) core.old core.new (K.taken out.old) (K.taken out.new)) }
     ensures cause { HasCause (K.faults out.old) (K.faults out.new) result }
     ensures quiet { OnOk result (K.faults out.new ≡ K.faults out.old) }
 {

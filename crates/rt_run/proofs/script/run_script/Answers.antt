@@ -5,8 +5,7 @@ use Rattle.rt_ids.specs.Event.{steps}
 use Rattle.rt_script.specs.Script.{IsScript, HasNames, events}
 use Rattle.rt_script.specs.declared.line.Line.{Line}
 use Rattle.rt_run.proofs.Known.{steps_below}
-use Rattle.rt_run.proofs.Scripted.{events_length, ran_same, cut_same, cut_text, finished, total_cut, part_done}
-use Rattle.rt_run.proofs.Scripted.{all_done}
+use Rattle.rt_run.proofs.Scripted.{events_length, ran_same, cut_same, cut_text, cut_off, finished, total_cut, total_off}
 use Rattle.rt_run.proofs.Brief.{text_short}
 use Rattle.rt_run.proofs.script.run_script.Goals as goal
 
@@ -48,7 +47,8 @@ returns-in_err-run_lines-clause-part g c =
     let held = c.new-held.result in
     let cut = cut_same _ c.args.script.now core after _ _ held c.lines-lines.ensures.lines
     c.in_err-run_lines.ensures.err in
-    on_err_from c.from_residual.result (part_done (events c.args.script.now) core after _ _ held cut)
+    on_err_from c.from_residual.result
+    (cut_off core after c.args.script.now c.requires.fresh _ _ held c.new-held.ensures cut)
 
 pub returns-clause-ok : goal.returns-clause-ok
 returns-clause-ok g c =
@@ -90,7 +90,10 @@ returns-clause-part g c =
     let after = c.run_lines.new.core in
     let held = c.new-held.result in
     let run = ran_same _ script core after _ _ held _ c.lines-lines.ensures.lines c.in_ok-run_lines.ensures.ok in
-    on_err_weaker c.put_end.result (λ _. all_done (events script) core after run.leads) c.put_end.ensures.err
+    on_err_weaker c.put_end.result
+    (total_off core after script c.requires.fresh _ _ held c.new-held.ensures _ c.run_lines.new.held run c.steps.result
+    c.steps.ensures)
+    c.put_end.ensures.err
 
 pub returns-clause-short : goal.returns-clause-short
 returns-clause-short g c =

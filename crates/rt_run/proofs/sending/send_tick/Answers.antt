@@ -3,13 +3,13 @@ use Rattle.std.proofs.lemmas.Result.{on_ok_weaker, on_err_weaker}
 use Rattle.rt_lemmas.proofs.Results.{on_err_from}
 use Rattle.rt_ids.specs.Event.{Tick}
 use Rattle.rt_run.proofs.Taking.{cause_on}
-use Rattle.rt_run.proofs.Sent.{sent, sent_part, broken}
+use Rattle.rt_run.proofs.Sent.{sent, sent_cut, broken}
 use Rattle.rt_run.proofs.sending.send_tick.Goals as goal
 
 pub returns-in_err-run_tick-clause-err : goal.returns-in_err-run_tick-clause-err
 returns-in_err-run_tick-clause-err g c =
     on_err_from c.from_residual.result
-    (broken (Tick ∷ []) c.args.core.now _ _ c.args.held.now c.requires.empty _ c.in_err-run_tick.ensures.err)
+    (broken Tick c.args.core.now _ _ c.args.held.now c.requires.empty _ c.in_err-run_tick.ensures.err)
 
 pub returns-clause-ok : goal.returns-clause-ok
 returns-clause-ok g c =
@@ -21,7 +21,7 @@ returns-clause-ok g c =
 pub returns-clause-err : goal.returns-clause-err
 returns-clause-err g c =
     on_err_weaker c.put_held.result
-    (sent_part (Tick ∷ []) c.args.core.now c.run_tick.new.core _ c.args.held.now c.requires.empty _ _
+    (sent_cut Tick c.args.core.now c.run_tick.new.core _ c.args.held.now c.requires.empty _ _
     c.run_tick.new.held
     c.in_ok-run_tick.ensures.ok)
     c.put_held.ensures.err
