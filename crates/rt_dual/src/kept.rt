@@ -1,6 +1,7 @@
 ghost use Rattle.std.specs.Prelude.{◌≡◌, ◌++◌, ℕ, ◌<◌, ◌≤◌, [], Some, length, take, IfOk, OnOk, OnErr};
 ghost use Rattle.rt_outside.specs.Bytes.{Took};
 ghost use Rattle.rt_outside.specs.Faults.{HasCause};
+ghost use Rattle.rt_outside.specs.Memory.{next_fault};
 
 use rt_outside::{Failed, Sink};
 use std::alloc::Global;
@@ -10,14 +11,15 @@ use std::alloc::Global;
 #[derive(Drop)]
 pub struct Kept {
     pub bytes: Vec<u8>,
-    /// How often memory was not there.
+    /// How often memory was not there; stands still at its type's end.
     pub failed: u64,
 }
 
 impl Kept {
-    /// No bytes.
+    /// No bytes, and no want of memory yet.
     pub fn new(alloc: Global) -> Kept
-        ensures { result.bytes.items ≡ [] }
+        ensures empty { result.bytes.items ≡ [] }
+        ensures quiet { result.failed ≡ 0 }
     {
         Kept {
             bytes: Vec::new(alloc),
@@ -39,6 +41,7 @@ impl Sink for Kept {
         ensures err { OnErr result (Some self.new.bytes.items ≡ Some self.old.bytes.items) }
         ensures cause { HasCause self.old.failed self.new.failed result }
         ensures quiet { OnOk result (self.new.failed ≡ self.old.failed) }
+        ensures counted { OnErr result (self.new.failed ≡ next_fault self.old.failed) }
     {
         match self.bytes.extend_from_slice(piece) {
             Ok(()) => Ok(piece.len()),

@@ -2,13 +2,14 @@
 ghost use Rattle.std.specs.Prelude.{◌≡◌, ◌+◌, ◌^◌, ◌<◌, [], ◌∷◌, ◌++◌, Some, IfOk, OnOk, OnErr};
 ghost use Rattle.rt_core.specs.Stepping as stepping;
 ghost use Rattle.rt_ids.specs.Event.{Step};
+ghost use Rattle.rt_outside.specs.Faults.{HasCause};
 ghost use Rattle.rt_run.specs.Done.{HasDone};
 ghost use Rattle.rt_run.specs.Sending.{Sends};
 ghost use Rattle.rt_run.specs.Writable.{IsWritable};
 
 use crate::kept::Kept;
 use rt_core::Core;
-use rt_outside::Failed;
+use rt_outside::{Failed, put_all};
 use rt_run::numbers_fit;
 use rt_trace::{Item, What, line};
 
@@ -20,6 +21,8 @@ pub(crate) fn show_step(core: &mut Core, trace: &mut Kept) -> Result<Option<What
         (Sends (Step ∷ []) core.old core.new (Some trace.old.bytes.items) (Some trace.new.bytes.items)) }
     ensures shown { IfOk result (λ shown. shown ≡ (stepping.step core.old.image core.old.core).1) }
     ensures err { OnErr result (HasDone (Step ∷ []) core.old core.new) }
+    ensures cause { HasCause trace.old.failed trace.new.failed result }
+    ensures quiet { OnOk result (trace.new.failed ≡ trace.old.failed) }
 {
     let Some(what) = core.step() else {
         return Ok(None);
@@ -27,8 +30,6 @@ pub(crate) fn show_step(core: &mut Core, trace: &mut Kept) -> Result<Option<What
     numbers_fit(&what);
     let step = core.steps() - 1;
     let text = line(&Item { step, what }, &core.image().names);
-    match trace.bytes.extend_from_slice(text.as_slice()) {
-        Ok(()) => Ok(Some(what)),
-        Err(_) => Err(Failed),
-    }
+    put_all(trace, text.as_slice())?;
+    Ok(Some(what))
 }

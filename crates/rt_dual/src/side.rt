@@ -1,4 +1,5 @@
 ghost use Rattle.std.specs.Prelude.{◌≡◌, ◌+◌, ◌-◌, ◌^◌, ◌<◌, length, option_to_list};
+ghost use Rattle.rt_devices.specs.Work.{saturating_count};
 ghost use Rattle.rt_dual.specs.Inside.Ringing.{Rings, MayRing, irq_of_shown, IsSameBut};
 
 use crate::core_id::CoreId;
@@ -34,6 +35,8 @@ impl Side {
         requires may { MayRing self.old.routes there.now }
         requires room { length self.old.bell.calls < 2 ^ 32 - 1 }
         ensures rings { Rings (option_to_list (irq_of_shown self.old.routes shown.now)) self.old.bell self.new.bell }
+        ensures count { self.new.rung
+            ≡ saturating_count self.old.rung (length (option_to_list (irq_of_shown self.old.routes shown.now))) }
         ensures rest { IsSameBut self.old self.new }
     {
         let Some(irq) = irq_of_shown(&self.routes, shown) else {

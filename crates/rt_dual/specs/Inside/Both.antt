@@ -24,6 +24,7 @@ pub record IsBefore (core_id : CoreId) (img other : Image) (half : Half) (side f
   pub at : side.core_id ≡ core_id
   pub routes : AreRoutes img other.names side.routes
   pub kept : side.trace.bytes.items ≡ []
+  pub unrung : side.rung ≡ 0
 
 -- both sides are so
 pub record AreBefore (first second : Image) (both : Both) : Type 0 where

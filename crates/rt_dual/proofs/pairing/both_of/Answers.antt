@@ -22,7 +22,8 @@ returns c =
             are_routes first second.names c.routes_of.result (λ i there. one.made.in_range i ((one.made.may i).1 there))
             (λ irq less. c.routes_of.ensures.there irq less ∙ ap (λ (n : Names). forward first n irq) second_names)
             c.routes_of.ensures.above;
-        kept = c.new.ensures;
+        kept = c.new.ensures.empty;
+        unrung = refl;
       };
       two = record {
         made = two.made;
@@ -33,6 +34,7 @@ returns c =
             (λ i there. two.made.in_range i ((two.made.may i).1 there))
             (λ irq less. c.routes_of-2.ensures.there irq less ∙ ap (λ (n : Names). forward second n irq) first_names)
             c.routes_of-2.ensures.above;
-        kept = c.new-2.ensures;
+        kept = c.new-2.ensures.empty;
+        unrung = refl;
       };
     }

@@ -1,4 +1,5 @@
-use Rattle.std.proofs.Common.{◌≡◌, suc, List, ℕ, [], ◌∷◌, ◌++◌, Some, is_ok, if◌then◌else◌, ap, sym, subst, ◌∙◌, arith}
+use Rattle.std.proofs.Common.{◌≡◌, suc, List, ℕ, [], ◌∷◌, Some, ap, sym, subst, ◌∙◌, arith}
+use Rattle.rt_lemmas.proofs.Results.{on_err_from}
 use Rattle.rt_ids.specs.Event.{Step}
 use Rattle.rt_ids.specs.Names.{Names}
 use Rattle.rt_code.specs.Image.{Image}
@@ -36,8 +37,8 @@ returns-in_default-clause-ok c =
           (took_none (Some kept));
     }
 
-pub returns-in-Ok-clause-ok : goal.returns-in-Ok-clause-ok
-returns-in-Ok-clause-ok c =
+pub returns-clause-ok : goal.returns-clause-ok
+returns-clause-ok c =
     let core = c.args.core.now in
     let run = step_leads core c.step.new.self c.step.ensures.state in
     let named = ap (λ (i : Image). i.names) (c.behind-core.view_is ∙ c.image.ensures ∙ run.image) in
@@ -46,7 +47,7 @@ returns-in-Ok-clause-ok c =
     let words = subst (λ (n : Names). HasWords n c.in-Some.what) (sym named)
     (subst (ShowsWords core.image.names) (sym c.step.ensures.item ∙ c.in-Some.is) shows) in
     let kept : List ℕ = c.args.trace.now.bytes.items in
-    let piece : List ℕ = c.as_slice.result.now in
+    let after : List ℕ = c.put_all.new.sink.bytes.items in
     record {
       leads = run;
       lined =
@@ -56,14 +57,15 @@ returns-in-Ok-clause-ok c =
             operands = operands c.behind-core.inside.names c.in-Some.what words c.numbers_fit.ensures;
           });
       took =
-          c.extend_from_slice.ensures.items ∙ ap (λ r. if is_ok r then kept ++ piece else kept) c.in-Ok.is
-          ∙ ap (λ t. kept ++ t)
+          subst (Took (Some kept) (Some after))
           (c.as_slice.ensures.value ∙ c.line-text.ensures
           ∙ sym (step_lines core c.behind-core.inside.names c.step.result c.in-Some.what c.steps-step.result named
-          c.step.ensures.item c.in-Some.is counted));
+          c.step.ensures.item c.in-Some.is counted))
+          c.in_ok-put_all.ensures.ok;
     }
 
-pub returns-in-Err-clause-err : goal.returns-in-Err-clause-err
-returns-in-Err-clause-err c =
+pub returns-in_err-put_all-clause-err : goal.returns-in_err-put_all-clause-err
+returns-in_err-put_all-clause-err c =
     let core = c.args.core.now in
-    all_done (Step ∷ []) core c.step.new.self (step_leads core c.step.new.self c.step.ensures.state)
+    on_err_from c.from_residual.result
+    (all_done (Step ∷ []) core c.step.new.self (step_leads core c.step.new.self c.step.ensures.state))
