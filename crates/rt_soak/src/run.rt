@@ -1,4 +1,4 @@
-ghost use Rattle.std.specs.Prelude.{◌≡◌, ◌+◌, ◌<◌, ◌≤◌, ◌^◌, [], length, flat_map, IfOk};
+ghost use Rattle.std.specs.Prelude.{◌≡◌, ◌+◌, ◌<◌, ◌≤◌, ◌^◌, [], length, flat_map, IfOk, OnErr};
 ghost use Rattle.std.specs.List.{AllByRecursion};
 ghost use Rattle.rt_count.specs.Summary.{summary_of};
 ghost use Rattle.rt_soak.specs.Inside.Totals.{IsSmall, IsBounded, IsThere, AreFew, runs_in, summary_with_runs};
@@ -33,6 +33,9 @@ pub(crate) fn total(parts: &[Result<Vec<Run>, NoMemory>]) -> Result<Summary, NoM
     requires each { AllByRecursion AreFew parts.now }
     ensures there { IfOk result (λ s. AllByRecursion IsThere parts.now) }
     ensures total { IfOk result (λ s. s ≡ summary_with_runs (summary_of 0 []) (flat_map runs_in parts.now)) }
+
+    // It takes no memory itself.
+    ensures wanted { OnErr result (¬ AllByRecursion IsThere parts.now) }
 {
     let mut summary = Summary::of_silent_runs(0);
     for part in parts {
