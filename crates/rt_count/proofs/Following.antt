@@ -2,6 +2,7 @@
 use Rattle.std.proofs.Common.{◌≡◌, ℕ, ◌+◌, ◌-◌, ◌<◌, ◌≤◌, List, [], ◌∷◌, ◌++◌, length, take, replicate, Option, Some}
 use Rattle.std.proofs.Common.{None}
 use Rattle.std.proofs.Common.{Bool, true, false, if◌then◌else◌, get_or, refl, ap, sym, subst, ◌∙◌, append_assoc, arith}
+use Rattle.std.proofs.lemmas.Grind.{fold-append}
 use Rattle.std.proofs.lemmas.List.{append-nil, replicate_more, replicate-append-replicate}
 use Rattle.rt_ids.specs.Event.{Event, Arrive, Tick, Step}
 use Rattle.rt_core.specs.Core.{reset}
@@ -14,7 +15,6 @@ use Rattle.rt_script.specs.declared.line.Line.TheVariants.{Steps, Ticks, Pends, 
 use Rattle.rt_trace.specs.Label.{Ticked, Rang, Stepped, items_of}
 use Rattle.rt_trace.specs.declared.item.Item.{Item}
 use Rattle.rt_trace.specs.declared.item.What.{What}
-use Rattle.rt_trace.specs.declared.item.What.TheVariants as what
 use Rattle.rt_run.specs.Done.{Leads}
 use Rattle.rt_run.specs.Sending.{shown_items}
 use Rattle.rt_run.proofs.Advancing.{stands_still, leads_on, items_split}
@@ -22,27 +22,26 @@ use Rattle.rt_run.proofs.Scripted.{events_more}
 use Rattle.rt_run.proofs.Reached.{reached_leads, reached_nothing, reached_item}
 use Rattle.rt_count.specs.Summary.{summary_of}
 use Rattle.rt_count.specs.Joining.{IsWithin}
-use Rattle.rt_count.specs.Inside.Adding.{summary_with_item}
+use Rattle.rt_count.specs.Inside.Adding.{summary_with_item, summary_with_items}
 use Rattle.rt_count.specs.Inside.Counting.{Counted}
 use Rattle.rt_count.specs.declared.summary.Summary.{Summary}
 use Rattle.rt_count.proofs.Items.{summary_push}
 
 pub nothing_yet : (m : Machine) (s : Summary) → Counted [] m m s s
 unfolding labels
-nothing_yet m s = record {
-  leads = stands_still m;
-  counts = λ runs items is. is ∙ ap (summary_of runs) (sym (append-nil items));
-}
+nothing_yet m s = record { leads = stands_still m; counts = refl }
 
 -- one run and one that goes on are one
 pub goes_on : (es fs : List Event) (a b c : Machine) (x y z : Summary) → Counted es a b x y → Counted fs b c y z
     → Counted (es ++ fs) a c x z
 goes_on es fs a b c x y z first second = record {
   leads = leads_on es fs a b c first.leads second.leads;
-  counts = λ runs items is.
-      second.counts runs (items ++ shown_items a es) (first.counts runs items is)
-      ∙ ap (summary_of runs) (append_assoc items (shown_items a es) (shown_items b fs)
-      ∙ ap (λ t. items ++ t) (sym (items_split es fs a b first.leads)));
+  counts =
+      second.counts
+      ∙ ap (λ (s : Summary). summary_with_items s (shown_items b fs)) first.counts
+      ∙ sym (fold-append (λ (before : Summary) (item : Item). summary_with_item before item.what) x
+      (shown_items a es) (shown_items b fs))
+      ∙ ap (summary_with_items x) (sym (items_split es fs a b first.leads));
 }
 
 -- equal events, one more behind some
@@ -79,9 +78,7 @@ steps_silent most a b s shown goes none =
     all)
     (record {
       leads = reached_leads most a b shown goes;
-      counts = λ runs items is.
-          is ∙ ap (summary_of runs) (sym (append-nil items) ∙ ap (λ more. items ++ more)
-          (sym (reached_nothing most a b shown goes none)));
+      counts = ap (summary_with_items s) (sym (reached_nothing most a b shown goes none));
     })
 
 -- and others, of which the last shows an item
@@ -90,9 +87,7 @@ pub steps_shown : (most : ℕ) (a b : Machine) (s t : Summary) (shown : Option W
     → t ≡ summary_with_item s w → Counted (replicate goes.done Step) a b s t
 steps_shown most a b s t shown w goes some more = record {
   leads = reached_leads most a b shown goes;
-  counts = λ runs items is.
-      more ∙ ap (λ (before : Summary). summary_with_item before w) is ∙ summary_push (b.steps - 1) w items runs
-      ∙ ap (λ behind. summary_of runs (items ++ behind)) (sym (reached_item most a b shown w goes some));
+  counts = more ∙ ap (summary_with_items s) (sym (reached_item most a b shown w goes some));
 }
 
 -- a tick, and the alarm where it comes, count as nothing
@@ -101,35 +96,39 @@ pub tick_uncounted : (a b : Machine) (s : Summary) (came : Bool) → Leads (Tick
 unfolding labels
 tick_uncounted a b s came run shown = record {
   leads = run;
-  counts = λ runs items is.
-      is ∙ by came runs items
-      ∙ ap (λ ls. summary_of runs (items ++ items_of a.steps ls))
+  counts =
+      by came
+      ∙ ap (λ ls. summary_with_items s (items_of a.steps ls))
       (sym (append-nil (happen a.image a.core Tick).1 ∙ shown));
 }
   where
-    by : (came : Bool) (runs : ℕ) (items : List Item) → summary_of runs items
-        ≡ summary_of runs (items ++ items_of a.steps (Ticked ∷ (if came then Rang ∷ [] else [])))
-    by false runs items = summary_push a.steps what.Tick items runs
-    by true runs items =
-        summary_push a.steps what.Tick items runs
-        ∙ summary_push a.steps what.Alarm (items ++ record { step = a.steps; what = what.Tick } ∷ []) runs
-        ∙ ap (summary_of runs) (append_assoc items (record { step = a.steps; what = what.Tick } ∷ [])
-        (record { step = a.steps; what = what.Alarm } ∷ []))
+    by : (came : Bool)
+        → s ≡ summary_with_items s (items_of a.steps (Ticked ∷ (if came then Rang ∷ [] else [])))
+    by false = refl
+    by true = refl
 
 -- and so does a request
 pub pend_uncounted : (a b : Machine) (s : Summary) (irq : ℕ) → Leads (Arrive irq ∷ []) a b
     → Counted (Arrive irq ∷ []) a b s s
 unfolding labels happen
-pend_uncounted a b s irq run = record {
-  leads = run;
-  counts = λ runs items is. is ∙ summary_push a.steps (what.Pend irq) items runs;
-}
+pend_uncounted a b s irq run = record { leads = run; counts = refl }
+
+-- a summary of items, with more of them
+counted_on : (runs : ℕ) (items more : List Item)
+    → summary_with_items (summary_of runs items) more ≡ summary_of runs (items ++ more)
+counted_on runs items [] = ap (summary_of runs) (sym (append-nil items))
+counted_on runs items (item ∷ more) =
+    ap (λ (s : Summary). summary_with_items s more) (summary_push item.step item.what items runs)
+    ∙ counted_on runs (items ++ item ∷ []) more
+    ∙ ap (summary_of runs) (append_assoc items (item ∷ []) more)
 
 -- a whole run, from a fresh core
 pub run_is : (script : List Line) (a b : Machine) (s t : Summary) (runs : ℕ) → IsFresh a → s ≡ summary_of runs []
     → Counted (events script) a b s t → t ≡ summary_of runs (trace a.image (events script))
 run_is script a b s t runs fresh is run =
-    run.counts runs [] is
+    run.counts
+    ∙ ap (λ (before : Summary). summary_with_items before (shown_items a (events script))) is
+    ∙ counted_on runs [] (shown_items a (events script))
     ∙ ap (λ c. summary_of runs (items_of a.steps (labels a.image c (events script)))) fresh.core
     ∙ ap (λ k. summary_of runs (items_of k (labels a.image (reset a.image) (events script)))) fresh.steps
 
