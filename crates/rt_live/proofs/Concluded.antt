@@ -5,7 +5,7 @@ use Rattle.std.proofs.Common.{Option, Contains, get_or, sym, ap, subst, ◌∙�
 use Rattle.std.specs.List.{AllByRecursion}
 use Rattle.rt_lemmas.proofs.Membership.{all_has}
 use Rattle.rt_core.specs.Machine.{Machine, IsFresh}
-use Rattle.rt_outside.specs.Bytes.{Took, TookAtLeast, TookPrefix}
+use Rattle.rt_outside.specs.Bytes.{Took, TookPrefix}
 use Rattle.rt_run.specs.Sending.{lines_of}
 use Rattle.rt_run.proofs.Taking.{part_more, part_on, took_on}
 use Rattle.rt_devices.specs.Work.{interrupt_asked}

@@ -26,8 +26,8 @@ pub record Goes (ts : List Turn) (calls calls' : List Call) (old new : Machine) 
   pub sends : Sends (interleaving ts found) old new before after
 
 -- A fault of the sink came in these turns. The last look may be cut: it then found fewer words than there are. The line
--- made the latches of the looks and of the cut one, and the core the first of the events of the interleaving with what
--- the cut look found behind them; a beginning of their lines was written.
+-- made the latches of the looks and of the cut one. The core did the events of the interleaving, with what the cut look
+-- found behind them, up to the one in whose lines the fault came.
 pub record Stops (ts : List Turn) (calls calls' : List Call) (old new : Machine) (before after : Option (List ℕ))
     : Type 0 where
   pub found : List (List ℕ)

@@ -28,11 +28,14 @@ pub record Prepared : Type 0 where
 abbrev pub irqs_of : List AccountRow → List ℕ
 irqs_of rows = map (λ row. row.irq) rows
 
--- a device's line is of these words and has made no call, and the device is to make its pends of the script
+-- a device's line is of these words and has made no call, no answer is counted, and the device is to make its pends of
+-- the script
 pub record IsWaiting (row : Row) (script : List Line) (device : Device) : Type 0 where
   pub words : device.line.words ≡ row
   pub number : device.line.number ≡ device.number
   pub unused : device.line.calls ≡ []
+  pub none_raised : device.raised ≡ 0
+  pub none_merged : device.merged ≡ 0
   pub asks : requests device.script.items ≡ pends script device.number
   pub may : AllByRecursion (λ entry. IsPending row.may entry.0) device.script.items
 

@@ -3,7 +3,7 @@ ghost use Rattle.rt_code.specs.Lines.{HasLines};
 ghost use Rattle.rt_core.specs.Machine.{IsFresh};
 ghost use Rattle.rt_outside.specs.Bytes.{Took};
 ghost use Rattle.rt_outside.specs.Faults.{HasCause};
-ghost use Rattle.rt_script.specs.Script.{HasNames};
+ghost use Rattle.rt_script.specs.Script.{IsScript, HasNames};
 ghost use Rattle.rt_live.specs.Closed.{Closes};
 ghost use Rattle.rt_live.specs.Devices.{devices};
 ghost use Rattle.rt_live.specs.Account.{declared_irqs};
@@ -85,6 +85,7 @@ impl<'a> Ready<'a> {
     pub fn of(alloc: Global, core: &Core, script: &'a Script) -> Result<Ready<'a>, NoMemory>
         requires { HasNames core.now.image.names script.now }
         ensures script { IfOk result (λ ready. ready.script ≡ script.now) }
+        ensures read { IfOk result (λ ready. IsScript ready.script) }
         ensures rows { IfOk result (λ ready. irqs_of ready.rows ≡ declared_irqs core.now.image.names) }
         ensures devices { IfOk result (λ ready. map (λ device. device.number) ready.devices ≡ devices script.now) }
         ensures unused { IfOk result (λ ready. ready.line.calls ≡ []) }

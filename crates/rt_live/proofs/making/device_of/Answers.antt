@@ -14,6 +14,8 @@ returns-clause-device c =
         words = ap (λ (l : Line). l.words) line;
         number = ap (λ (l : Line). l.number) line;
         unused = ap (λ (l : Line). l.calls) line;
+        none_raised = refl;
+        none_merged = refl;
         asks = ap requests entries ∙ entries_request c.args.number c.args.lines.now;
         may =
             subst (AllByRecursion (λ entry. IsPending c.args.words.now.may entry.0)) (sym entries)

@@ -63,3 +63,6 @@ returns-clause-rows c =
     (c.behind-core.view_is ∙ c.image.ensures) in
     rows_declared names c.args.script.now c.requires c.in_ok-rows.rows.items
     (c.in_ok-rows.ensures ∙ ap (λ (n : Names). map empty_row (declared_irqs n)) named)
+
+pub returns-clause-read : goal.returns-clause-read
+returns-clause-read c = c.lines.ensures.script
