@@ -4,7 +4,7 @@ use Rattle.std.proofs.Common.{Option, if◌then◌else◌, refl, ap, sym, subst,
 use Rattle.std.proofs.lemmas.Grind.{flat_map-append}
 use Rattle.std.proofs.lemmas.List.{append-nil, take_more, take-append-drop, length-append, length-replicate}
 use Rattle.std.proofs.lemmas.List.Sums.{sum_by-cons, sum_by-take-le}
-use Rattle.rt_ids.specs.Event.{Event, Arrive, Tick, Step, steps}
+use Rattle.rt_ids.specs.Event.{Arrive, Tick, Step, steps}
 use Rattle.rt_ids.specs.Lists.{is_empty}
 use Rattle.rt_ids.specs.declared.limits.TheConstants.{SCRIPT_EVENTS}
 use Rattle.rt_outside.specs.Bytes.{Took, TookPrefix}
@@ -17,7 +17,6 @@ use Rattle.rt_script.specs.declared.line.Line.{Line}
 use Rattle.rt_script.specs.declared.line.Line.TheVariants.{Steps, Ticks, Pends, Device}
 use Rattle.rt_trace.specs.Label.{items_of}
 use Rattle.rt_trace.specs.Text.{text, total_text}
-use Rattle.rt_run.specs.Done.{Leads}
 use Rattle.rt_run.specs.Sending.{BreaksOff, lines_of}
 use Rattle.rt_run.specs.Inside.Writing.{Writes, Cut}
 use Rattle.rt_run.specs.Written.{text_of}
