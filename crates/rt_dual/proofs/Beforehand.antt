@@ -22,7 +22,7 @@ use Rattle.rt_script.specs.declared.line.Line.{Line}
 use Rattle.rt_words.specs.Lines.{Core as CoreLine, Line as BellLine}
 use Rattle.rt_words.specs.Object.{IsPending}
 use Rattle.rt_live.specs.Account.{declared_irqs}
-use Rattle.rt_live.specs.Inside.Able.{IsAble, MayArrive}
+use Rattle.rt_live.specs.Able.{IsAble, MayArrive}
 use Rattle.rt_live.specs.Ready.{IsCounted}
 use Rattle.rt_live.specs.Interleaving.{Looks}
 use Rattle.rt_live.proofs.Readied.{declared_at}

@@ -26,8 +26,7 @@ use Rattle.rt_trace.specs.declared.item.What.TheVariants as what
 use Rattle.rt_words.specs.Ending.{calls_in}
 use Rattle.rt_words.specs.History.{part}
 use Rattle.rt_words.specs.Lines.{Row, Core as CoreLine, Line as BellLine}
-use Rattle.rt_live.specs.Account.{account_of, account_text, declared_irqs}
-use Rattle.rt_live.specs.Inside.Working.{empty_row}
+use Rattle.rt_live.specs.Account.{account_of, account_text, declared_irqs, empty_row}
 use Rattle.rt_live.specs.Ready.{irqs_of}
 use Rattle.rt_live.specs.Interleaving.{latches, interleaving}
 use Rattle.rt_live.specs.declared.account.AccountRow.{AccountRow}

@@ -13,9 +13,7 @@ use Rattle.rt_words.specs.Lines.{Row, Core, Line, numbers, count as row_count, I
 use Rattle.rt_words.specs.Object.{IsPending, pending_bit}
 use Rattle.rt_words.specs.declared.device_line.Tally.{Tally}
 use Rattle.rt_words.specs.declared.view.Part.{Part}
-use Rattle.rt_live.specs.Account.{account_of, row_of, declared_irqs}
-use Rattle.rt_live.specs.Inside.Settled.{settled_row}
-use Rattle.rt_live.specs.Inside.Working.{empty_row, with_counts}
+use Rattle.rt_live.specs.Account.{account_of, row_of, declared_irqs, settled_row, empty_row, with_counts}
 use Rattle.rt_live.specs.Ready.{IsCounted, irqs_of}
 use Rattle.rt_live.specs.declared.account.AccountRow.{AccountRow}
 use Rattle.rt_live.proofs.Tallied.{all_counted, same_irqs}

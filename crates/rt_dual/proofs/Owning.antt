@@ -14,8 +14,7 @@ use Rattle.rt_core.specs.Machine.{Machine}
 use Rattle.rt_script.specs.Script.{HasName, HasNames, count, count_of, events, line_events}
 use Rattle.rt_script.specs.declared.line.Line.{Line}
 use Rattle.rt_script.specs.declared.line.Line.TheVariants.{Steps, Ticks, Pends, Device}
-use Rattle.rt_live.specs.Interleaving.{Turn, Happens}
-use Rattle.rt_live.specs.Inside.Own.{repeated_turns}
+use Rattle.rt_live.specs.Interleaving.{Turn, Happens, repeated_turns}
 use Rattle.rt_live.proofs.Owning.{repeated_add}
 use Rattle.rt_dual.specs.Course.{is_of_both}
 use Rattle.rt_dual.specs.Inside.Own.{events_at, own_turns, request_of, turn_of, HasNameAt, HasNamesAt}

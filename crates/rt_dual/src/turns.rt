@@ -4,8 +4,7 @@ ghost use Rattle.std.specs.Prelude.{◌≡◌, ◌+◌, ◌^◌, ◌<◌, [], �
 ghost use Rattle.rt_ids.specs.Event.{Step};
 ghost use Rattle.rt_script.specs.Script.{count, count_of};
 ghost use Rattle.rt_run.specs.Writable.{IsWritable};
-ghost use Rattle.rt_live.specs.Interleaving.{Happens, Looks};
-ghost use Rattle.rt_live.specs.Inside.Own.{repeated_turns};
+ghost use Rattle.rt_live.specs.Interleaving.{Happens, Looks, repeated_turns};
 ghost use Rattle.rt_dual.specs.Course.{turns};
 ghost use Rattle.rt_dual.specs.Inside.Own.{turn_of, request_of, own_turns, events_at, HasNameAt, HasNamesAt};
 ghost use Rattle.rt_dual.specs.Inside.Own.{IsDeclaredAt};

@@ -21,12 +21,11 @@ use Rattle.rt_words.specs.Lines.{Row, Core, numbers}
 use Rattle.rt_words.specs.Object.{pending_bit}
 use Rattle.rt_words.specs.declared.view.Part.{Part}
 use Rattle.rt_words.proofs.Lists.{dec_in, of_map}
-use Rattle.rt_live.specs.Account.{account_of, row_of}
+use Rattle.rt_live.specs.Account.{account_of, row_of, settled_row}
 use Rattle.rt_live.specs.Closed.{Closes}
 use Rattle.rt_live.specs.Devices.{devices, is_of_device}
 use Rattle.rt_live.specs.Gathering.{part_of, line_after_gathering}
 use Rattle.rt_live.specs.Ready.{Prepared, IsReady, IsWaiting, HasMade, IsCounted, irqs_of}
-use Rattle.rt_live.specs.Inside.Settled.{settled_row}
 use Rattle.rt_live.specs.Inside.Working.{calls_gathered, calls_made}
 use Rattle.rt_live.specs.declared.account.AccountRow.{AccountRow}
 use Rattle.rt_live.proofs.Numbered.{contains_front, contains_behind}

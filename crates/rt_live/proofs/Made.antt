@@ -27,11 +27,12 @@ use Rattle.rt_words.specs.Lines.{Row, Core, IsUnused}
 use Rattle.rt_words.specs.Object.{IsPending, pending_bit}
 use Rattle.rt_words.proofs.Bits as bits
 use Rattle.rt_words.proofs.Bits.{with_bit, pend_same, pend_other}
+use Rattle.rt_live.specs.Account.{empty_row}
 use Rattle.rt_live.specs.Devices.{is_of_device}
 use Rattle.rt_live.specs.Ready.{irqs_of}
 use Rattle.rt_live.specs.declared.account.AccountRow.{AccountRow}
 use Rattle.rt_live.specs.Inside.Making.{MayPend, HasMadeLines}
-use Rattle.rt_live.specs.Inside.Working.{entries_of, empty_row}
+use Rattle.rt_live.specs.Inside.Working.{entries_of}
 
 -- an interrupt stands in a list with one more exactly where it stood there or is that one
 pub contains_push : {X : Type 0} (xs : List X) (y x : X) → Contains xs x ⊎ (x ≡ y) → Contains (xs ++ y ∷ []) x

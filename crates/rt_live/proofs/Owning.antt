@@ -15,10 +15,10 @@ use Rattle.rt_script.specs.declared.line.Line.{Line}
 use Rattle.rt_script.specs.declared.line.Line.TheVariants.{Steps, Ticks, Pends, Device}
 use Rattle.rt_words.specs.Lines.{Row, Core}
 use Rattle.rt_words.specs.declared.call.Call.{Call}
-use Rattle.rt_live.specs.Interleaving.{Turn, Happens, Looks}
+use Rattle.rt_live.specs.Interleaving.{Turn, Happens, Looks, repeated_turns}
 use Rattle.rt_live.specs.Going.{Goes, Stops, IsSameLine}
-use Rattle.rt_live.specs.Inside.Able.{IsAble, MayArrive}
-use Rattle.rt_live.specs.Inside.Own.{own_turn, own_turns, repeated_turns}
+use Rattle.rt_live.specs.Able.{IsAble, MayArrive}
+use Rattle.rt_live.specs.Inside.Own.{own_turn, own_turns}
 use Rattle.rt_live.proofs.Turning.{goes_on, stops_behind, stops_before}
 
 -- what turns ask stays so behind others

@@ -26,15 +26,15 @@ use Rattle.rt_trace.specs.Lined.{IsDeclared}
 use Rattle.rt_words.specs.Lines.{Row, Core, numbers, count as row_count}
 use Rattle.rt_words.specs.Object.{IsPending}
 use Rattle.rt_words.specs.declared.view.Part.{Part}
-use Rattle.rt_live.specs.Account.{declared_irqs}
+use Rattle.rt_live.specs.Account.{declared_irqs, empty_row}
 use Rattle.rt_live.specs.Devices.{devices, is_of_device}
 use Rattle.rt_live.specs.Going.{IsSameLine}
 use Rattle.rt_live.specs.Ready.{Prepared, IsReady, IsWaiting, HasMade, PendsOneOf, IsCounted, irqs_of}
 use Rattle.rt_live.specs.declared.account.AccountRow.{AccountRow}
-use Rattle.rt_live.specs.Inside.Able.{IsAble}
+use Rattle.rt_live.specs.Able.{IsAble}
 use Rattle.rt_live.specs.Inside.Making.{MayPend, HasMadeLines}
 use Rattle.rt_live.specs.Gathering.{part_of, line_after_gathering}
-use Rattle.rt_live.specs.Inside.Working.{CanWork, AllWork, calls_gathered, calls_made, empty_row}
+use Rattle.rt_live.specs.Inside.Working.{CanWork, AllWork, calls_gathered, calls_made}
 use Rattle.rt_live.proofs.Tallied.{same_words, same_made, gathered_parts, since_within}
 
 -- a device that has made its pends of the script

@@ -14,10 +14,11 @@ use Rattle.rt_words.specs.declared.device_line.Tally.{Tally}
 use Rattle.rt_words.specs.Object.{pending_bit}
 use Rattle.rt_words.specs.declared.view.Part.{Part}
 use Rattle.rt_words.specs.declared.words.Left.{Left}
+use Rattle.rt_live.specs.Account.{with_counts, settled_row}
 use Rattle.rt_live.specs.Ready.{IsCounted, irqs_of}
 use Rattle.rt_live.specs.declared.account.AccountRow.{AccountRow}
 use Rattle.rt_live.specs.Gathering.{line_after_gathering, part_of}
-use Rattle.rt_live.specs.Inside.Working.{calls_gathered, calls_made, with_counts, with_left}
+use Rattle.rt_live.specs.Inside.Working.{calls_gathered, calls_made}
 
 -- how often gathered lines did it is no more than their calls
 times_below : (times : List Call → ℕ) → ((calls : List Call) → times calls ≤ length calls) → (parts : List Part)
@@ -72,7 +73,7 @@ ended_with row latches left = record row { latched = latches; left = left }
 -- a row that was filled in
 pub filled : (left : Left) (row same : AccountRow) (latches stands : ℕ) → same ≡ row
     → latches ≡ slice_index left.latched row.irq → stands ≡ pending_bit left.bits row.irq
-    → ended_with same latches stands ≡ with_left left row
+    → ended_with same latches stands ≡ settled_row left.latched left.bits row
 filled left row same latches stands is l s =
     ap (λ (x : AccountRow). ended_with x latches stands) is
     ∙ ap (λ n. ended_with row n stands) l ∙ ap (λ n. ended_with row (slice_index left.latched row.irq) n) s

@@ -1,6 +1,4 @@
 -- What the functions of this crate ask of each other.
-pub mod Able
 pub mod Own
 pub mod Working
 pub mod Making
-pub mod Settled

@@ -23,6 +23,11 @@ pub data Turn : Type 0 where
 abbrev pub turns : List Line → List Turn
 turns script = map Happens (core_events script) ++ Looks ∷ replicate (steps (core_events script)) (Happens Step)
 
+-- these turns so many times
+abbrev pub repeated_turns : ℕ → List Turn → List Turn
+repeated_turns zero ts = []
+repeated_turns (suc n) ts = ts ++ repeated_turns n ts
+
 -- how many looks are among them
 abbrev pub looks : List Turn → ℕ
 looks [] = zero

@@ -1,4 +1,5 @@
 pub mod Interleaving
+pub mod Able
 pub mod Going
 pub mod Written
 pub mod Devices

@@ -4,7 +4,7 @@ ghost use Rattle.std.specs.Thread.{IsSync};
 ghost use Rattle.rt_outside.specs.Faults.{HasCause};
 ghost use Rattle.rt_script.specs.Script.{count, HasNames};
 ghost use Rattle.rt_live.specs.Going.{Goes, Stops, IsSameLine};
-ghost use Rattle.rt_live.specs.Inside.Able.{IsAble};
+ghost use Rattle.rt_live.specs.Able.{IsAble};
 ghost use Rattle.rt_live.specs.Inside.Own.{own_turns};
 ghost use Rattle.rt_live.specs.Inside.Working.{CanWork, AllWork};
 

@@ -7,7 +7,7 @@ ghost use Rattle.rt_run.specs.Sending.{lines_of};
 ghost use Rattle.rt_trace.specs.Text.{total_text};
 ghost use Rattle.rt_live.specs.Going.{Stops, Ends, IsSameLine};
 ghost use Rattle.rt_live.specs.Interleaving.{Happens, Looks, interleaving};
-ghost use Rattle.rt_live.specs.Inside.Able.{IsAble};
+ghost use Rattle.rt_live.specs.Able.{IsAble};
 
 use crate::turns::last_turns;
 use rt_core::Core;

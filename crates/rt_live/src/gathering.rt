@@ -1,9 +1,10 @@
 // Lines of devices that have ended, gathered into the account.
 ghost use Rattle.std.specs.Prelude.{◌≡◌, ◌+◌, ◌^◌, ◌<◌, ◌≤◌, [], ◌∷◌, length, map};
 ghost use Rattle.std.specs.List.{AllByRecursion};
+ghost use Rattle.rt_live.specs.Account.{with_counts};
 ghost use Rattle.rt_live.specs.Ready.{IsCounted, irqs_of};
 ghost use Rattle.rt_live.specs.Gathering.{line_after_gathering, part_of};
-ghost use Rattle.rt_live.specs.Inside.Working.{calls_gathered, calls_made, with_counts};
+ghost use Rattle.rt_live.specs.Inside.Working.{calls_gathered, calls_made};
 
 use crate::account::AccountRow;
 use rt_devices::Device;

@@ -1,6 +1,6 @@
 // What the words ended with, entered into the account.
 ghost use Rattle.std.specs.Prelude.{◌≡◌, map};
-ghost use Rattle.rt_live.specs.Inside.Settled.{settled_row};
+ghost use Rattle.rt_live.specs.Account.{settled_row};
 
 use crate::account::AccountRow;
 use rt_words::Left;

@@ -5,10 +5,10 @@ ghost use Rattle.rt_ids.specs.declared.limits.TheConstants.{IRQ_NUMBERS};
 ghost use Rattle.rt_words.specs.Lines.{IsUnused};
 ghost use Rattle.rt_words.specs.Object.{IsPending};
 ghost use Rattle.rt_live.specs.Devices.{devices, is_of_device};
-ghost use Rattle.rt_live.specs.Account.{declared_irqs};
+ghost use Rattle.rt_live.specs.Account.{declared_irqs, empty_row};
 ghost use Rattle.rt_live.specs.Ready.{IsWaiting, irqs_of};
 ghost use Rattle.rt_live.specs.Inside.Making.{MayPend, HasMadeLines};
-ghost use Rattle.rt_live.specs.Inside.Working.{empty_row, entries_of};
+ghost use Rattle.rt_live.specs.Inside.Working.{entries_of};
 
 use crate::account::AccountRow;
 use rt_devices::Device;

@@ -9,9 +9,9 @@ ghost use Rattle.rt_run.specs.Sending.{Sends, Breaks};
 ghost use Rattle.rt_run.specs.Writable.{IsWritable};
 ghost use Rattle.rt_script.specs.Script.{count, count_of, HasName, HasNames};
 ghost use Rattle.rt_live.specs.Going.{Goes, Stops, IsSameLine};
-ghost use Rattle.rt_live.specs.Interleaving.{Happens, Looks};
-ghost use Rattle.rt_live.specs.Inside.Able.{IsAble, BitsMayArrive, MayArrive};
-ghost use Rattle.rt_live.specs.Inside.Own.{own_turn, own_turns, repeated_turns};
+ghost use Rattle.rt_live.specs.Interleaving.{Happens, Looks, repeated_turns};
+ghost use Rattle.rt_live.specs.Able.{IsAble, BitsMayArrive, MayArrive};
+ghost use Rattle.rt_live.specs.Inside.Own.{own_turn, own_turns};
 
 use rt_core::Core;
 use rt_devices::Gate;

@@ -11,8 +11,7 @@ use Rattle.rt_words.specs.Ending.{calls_in}
 use Rattle.rt_words.specs.Lines.{Row, Core, Line, count}
 use Rattle.rt_words.specs.Object.{IsPending}
 use Rattle.rt_words.specs.declared.call.Call.{Call}
-use Rattle.rt_live.specs.Account.{account_of, declared_irqs}
-use Rattle.rt_live.specs.Inside.Working.{empty_row}
+use Rattle.rt_live.specs.Account.{account_of, declared_irqs, empty_row}
 use Rattle.rt_live.specs.Ready.{IsCounted}
 use Rattle.rt_live.specs.declared.account.AccountRow.{AccountRow}
 use Rattle.rt_live.specs.declared.turns.TheConstants.{WORDS}

@@ -8,7 +8,7 @@ use Rattle.rt_trace.specs.Text.{total_text}
 use Rattle.rt_words.specs.Lines.{Row}
 use Rattle.rt_live.specs.Going.{IsWholeLook, IsSameLine}
 use Rattle.rt_live.specs.Interleaving.{Turn, looks, latches, interleaving}
-use Rattle.rt_live.specs.Inside.Able.{IsAble}
+use Rattle.rt_live.specs.Able.{IsAble}
 use Rattle.rt_dual.specs.Inside.Ringing.{Rings, MayRing, irqs_rung}
 use Rattle.rt_dual.specs.declared.side.Side.{Side}
 

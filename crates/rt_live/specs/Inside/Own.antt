@@ -1,5 +1,5 @@
 -- The turns of the lines of a script that are the core's own.
-use Rattle.std.specs.Prelude.{ℕ, zero, suc, List, [], ◌∷◌, ◌++◌, map}
+use Rattle.std.specs.Prelude.{List, [], ◌∷◌, map}
 use Rattle.rt_ids.specs.Event.{Arrive, Tick, Step}
 use Rattle.rt_script.specs.Script.{core_events}
 use Rattle.rt_script.specs.declared.line.Line.{Line}
@@ -12,11 +12,6 @@ own_turn (Steps n) = Happens Step ∷ []
 own_turn (Ticks n) = Happens Tick ∷ []
 own_turn (Pends irq n) = Happens (Arrive irq) ∷ []
 own_turn (Device d irq n) = []
-
--- these turns so many times
-abbrev pub repeated_turns : ℕ → List Turn → List Turn
-repeated_turns zero ts = []
-repeated_turns (suc n) ts = ts ++ repeated_turns n ts
 
 -- the turns of the core's own events
 abbrev pub own_turns : List Line → List Turn

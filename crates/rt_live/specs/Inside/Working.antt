@@ -1,6 +1,5 @@
 -- Devices that work, and lines that are gathered.
 use Rattle.std.specs.Prelude.{◌≡◌, ℕ, ◌+◌, ◌-◌, ◌^◌, ◌<◌, ◌==◌, if◌then◌else◌, List, [], ◌∷◌, length, sum_by}
-use Rattle.std.specs.Prelude.{slice_index}
 use Rattle.std.specs.Prelude.{slice_index_or}
 use Rattle.std.specs.List.{AllByRecursion}
 use Rattle.rt_devices.specs.Work.{requests, Works}
@@ -8,11 +7,8 @@ use Rattle.rt_devices.specs.declared.device.Device.{Device}
 use Rattle.rt_script.specs.declared.line.Line.{Line}
 use Rattle.rt_script.specs.declared.line.Line.TheVariants.{Steps, Ticks, Pends, Device as DeviceLine}
 use Rattle.rt_words.specs.Lines.{Row}
-use Rattle.rt_words.specs.Object.{IsPending, pending_bit}
-use Rattle.rt_words.specs.declared.device_line.Tally.{Tally}
+use Rattle.rt_words.specs.Object.{IsPending}
 use Rattle.rt_words.specs.declared.view.Part.{Part}
-use Rattle.rt_words.specs.declared.words.Left.{Left}
-use Rattle.rt_live.specs.declared.account.AccountRow.{AccountRow}
 
 -- a device can make the pends of its script
 pub record CanWork (row : Row) (device : Device) : Type 0 where
@@ -32,23 +28,6 @@ calls_gathered parts = sum_by (λ p. length p.calls) parts
 -- how many calls all devices have made
 abbrev pub calls_made : List Device → ℕ
 calls_made devices = sum_by (λ d. length d.line.calls) devices
-
--- a row with a line's counts added
-abbrev pub with_counts : Tally → AccountRow → AccountRow
-with_counts tally row =
-    record row {
-      raised = row.raised + slice_index tally.raised row.irq;
-      merged = row.merged + slice_index tally.merged row.irq;
-    }
-
--- a row with what was latched and left
-abbrev pub with_left : Left → AccountRow → AccountRow
-with_left left row =
-    record row { latched = slice_index left.latched row.irq; left = pending_bit left.bits row.irq }
-
--- a row of which nothing is counted yet
-abbrev pub empty_row : ℕ → AccountRow
-empty_row irq = record { irq = irq; raised = 0; merged = 0; latched = 0; left = 0 }
 
 -- what a line has the device of a number pend, with how often
 abbrev pub entries_of : ℕ → Line → List (ℕ × ℕ)

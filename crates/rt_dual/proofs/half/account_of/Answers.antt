@@ -1,8 +1,7 @@
 use Rattle.std.proofs.Common.{◌≡◌, ◌++◌, [], List, ℕ, length, map, take, drop, ap, sym, subst, ◌∙◌, arith}
 use Rattle.std.specs.List.{AllByRecursion}
 use Rattle.std.proofs.lemmas.List.{take_at}
-use Rattle.rt_live.specs.Inside.Settled.{settled_row}
-use Rattle.rt_live.specs.Inside.Working.{with_counts}
+use Rattle.rt_live.specs.Account.{settled_row, with_counts}
 use Rattle.rt_live.specs.Ready.{IsCounted, irqs_of}
 use Rattle.rt_live.specs.declared.account.AccountRow.{AccountRow}
 use Rattle.rt_live.proofs.Tallied.{counts_fit}

@@ -1,7 +1,7 @@
 use Rattle.std.proofs.Common.{◌≡◌, [], sym, subst, ◌∙◌, arith}
 use Rattle.rt_lemmas.proofs.Results.{on_err_from}
 use Rattle.rt_code.specs.Image.{Image}
-use Rattle.rt_live.specs.Inside.Own.{repeated_turns}
+use Rattle.rt_live.specs.Interleaving.{repeated_turns}
 use Rattle.rt_script.specs.Script.{count_of}
 use Rattle.rt_dual.specs.Inside.Own.{turn_of, HasNameAt}
 use Rattle.rt_dual.specs.Inside.Running.{Runs, IsViablePrefix}

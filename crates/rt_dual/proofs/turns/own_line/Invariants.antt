@@ -1,5 +1,5 @@
 use Rattle.std.proofs.Common.{◌≡◌, []}
-use Rattle.rt_live.specs.Inside.Own.{repeated_turns}
+use Rattle.rt_live.specs.Interleaving.{repeated_turns}
 use Rattle.rt_dual.specs.Inside.Own.{turn_of}
 use Rattle.rt_dual.specs.Inside.Running.{Runs}
 use Rattle.rt_dual.proofs.turns.own_line.Given as goal

@@ -4,7 +4,7 @@ use Rattle.std.proofs.lemmas.Option.{slice_get-get_or}
 use Rattle.rt_lemmas.proofs.Membership.{all_at}
 use Rattle.rt_lemmas.proofs.Results.{on_err_from}
 use Rattle.rt_code.specs.Image.{Image}
-use Rattle.rt_live.specs.Inside.Own.{repeated_turns}
+use Rattle.rt_live.specs.Interleaving.{repeated_turns}
 use Rattle.rt_script.specs.Script.{count, count_of}
 use Rattle.rt_script.specs.declared.line.Line.{Line}
 use Rattle.rt_dual.specs.Inside.Own.{own_turns, turn_of, HasNameAt}

@@ -1,7 +1,7 @@
 use Rattle.std.proofs.Common.{◌≡◌, ap, sym, ◌∙◌, slice_index, slice_set, arith}
 use Rattle.std.proofs.lemmas.Grind.{common_steps}
 use Rattle.std.proofs.lemmas.List.Edits.{map_over_more}
-use Rattle.rt_live.specs.Inside.Working.{with_counts}
+use Rattle.rt_live.specs.Account.{with_counts}
 use Rattle.rt_live.proofs.Tallied.{counts_added}
 use Rattle.rt_live.proofs.gathering.add_counts.Goals as goal
 

@@ -1,5 +1,5 @@
 use Rattle.std.proofs.Common.{◌≡◌, ◌++◌, map, take, drop}
-use Rattle.rt_live.specs.Inside.Working.{with_counts}
+use Rattle.rt_live.specs.Account.{with_counts}
 use Rattle.rt_live.proofs.gathering.add_counts.Given as goal
 
 abbrev pub invariant-loop-row : goal.invariant-loop-row

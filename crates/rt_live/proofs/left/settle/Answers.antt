@@ -2,7 +2,7 @@ use Rattle.std.proofs.Common.{◌≡◌, ℕ, ◌<◌, ◌/◌, ◌%◌, length,
 use Rattle.std.proofs.lemmas.Nat.Bits.{shr_and_one}
 use Rattle.rt_lemmas.proofs.Rows.{changed}
 use Rattle.rt_words.specs.Object.{pending_bit}
-use Rattle.rt_live.specs.Inside.Settled.{settled_row}
+use Rattle.rt_live.specs.Account.{settled_row}
 use Rattle.rt_live.specs.declared.account.AccountRow.{AccountRow}
 use Rattle.rt_live.proofs.left.settle.Goals as goal
 

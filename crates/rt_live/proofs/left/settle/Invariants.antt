@@ -1,5 +1,5 @@
 use Rattle.std.proofs.Common.{◌≡◌, ◌++◌, map, take, drop}
-use Rattle.rt_live.specs.Inside.Settled.{settled_row}
+use Rattle.rt_live.specs.Account.{settled_row}
 use Rattle.rt_live.proofs.left.settle.Given as goal
 
 abbrev pub invariant-loop-row : goal.invariant-loop-row

@@ -5,7 +5,7 @@ use Rattle.rt_code.specs.Image.{Image}
 use Rattle.rt_run.proofs.Known.{still_writable}
 use Rattle.rt_words.specs.Lines.{Core}
 use Rattle.rt_live.specs.Interleaving.{look_arrivals, latches, arrivals_from}
-use Rattle.rt_live.specs.Inside.Able.{MayArrive}
+use Rattle.rt_live.specs.Able.{MayArrive}
 use Rattle.rt_live.proofs.Looking.{finds_none, find_more, find_cut, looks_alone}
 use Rattle.rt_live.proofs.Owning.{one_call_on, same_line}
 use Rattle.rt_live.proofs.Woven.{no_steps, length-latches}

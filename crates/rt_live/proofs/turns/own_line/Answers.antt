@@ -2,9 +2,9 @@ use Rattle.std.proofs.Common.{◌≡◌, refl, sym, subst, ◌∙◌, arith}
 use Rattle.rt_lemmas.proofs.Results.{on_err_from}
 use Rattle.rt_code.specs.Image.{Image}
 use Rattle.rt_script.specs.Script.{HasName}
-use Rattle.rt_live.specs.Interleaving.{interleaving}
+use Rattle.rt_live.specs.Interleaving.{interleaving, repeated_turns}
 use Rattle.rt_live.specs.Going.{Goes}
-use Rattle.rt_live.specs.Inside.Own.{own_turn, repeated_turns}
+use Rattle.rt_live.specs.Inside.Own.{own_turn}
 use Rattle.rt_live.proofs.Turning.{goes_none, steps_below, time_below, calls_below}
 use Rattle.rt_live.proofs.Owning.{still_able, same_line_on, few_turns, once_more, once_cut, same_line}
 use Rattle.rt_live.proofs.turns.own_line.Goals as goal

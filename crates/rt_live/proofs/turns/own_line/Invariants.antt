@@ -1,6 +1,7 @@
 use Rattle.std.proofs.Common.{◌≡◌, []}
+use Rattle.rt_live.specs.Interleaving.{repeated_turns}
 use Rattle.rt_live.specs.Going.{Goes, IsSameLine}
-use Rattle.rt_live.specs.Inside.Own.{own_turn, repeated_turns}
+use Rattle.rt_live.specs.Inside.Own.{own_turn}
 use Rattle.rt_live.proofs.turns.own_line.Given as goal
 
 abbrev pub invariant-loop-done : goal.invariant-loop-done

@@ -3,7 +3,7 @@ use Rattle.std.proofs.lemmas.List.{take_at}
 use Rattle.rt_words.specs.Lines.{Core}
 use Rattle.rt_live.specs.Closed.{Closes}
 use Rattle.rt_live.specs.Ready.{Prepared, IsReady, irqs_of}
-use Rattle.rt_live.specs.Inside.Settled.{settled_row}
+use Rattle.rt_live.specs.Account.{settled_row}
 use Rattle.rt_live.specs.declared.account.AccountRow.{AccountRow}
 use Rattle.rt_live.proofs.Closed.{all_gathered, closes, room_for_all, gathering_words}
 use Rattle.rt_live.proofs.ready.Ready.close.Goals as goal

@@ -20,7 +20,7 @@ use Rattle.rt_live.proofs.Owning.{own_turns_length}
 use Rattle.rt_code.specs.Image.{Image}
 use Rattle.rt_run.proofs.Known.{still_writable}
 use Rattle.rt_live.specs.Interleaving.{Happens, Looks, interleaving}
-use Rattle.rt_live.specs.Inside.Able.{MayArrive}
+use Rattle.rt_live.specs.Able.{MayArrive}
 use Rattle.rt_live.specs.Inside.Own.{own_turns}
 use Rattle.rt_live.proofs.Tallied.{same_calls, same_words, since_within}
 use Rattle.rt_live.proofs.Turning.{steps_below, calls_below}

@@ -6,10 +6,9 @@ use Rattle.rt_ids.specs.Names.{Names}
 use Rattle.rt_ids.specs.declared.limits.TheConstants.{IRQ_NUMBERS}
 use Rattle.rt_script.specs.declared.line.Line.{Line}
 use Rattle.rt_words.specs.Object.{IsPending}
-use Rattle.rt_live.specs.Account.{declared_irqs}
+use Rattle.rt_live.specs.Account.{declared_irqs, empty_row}
 use Rattle.rt_live.specs.Devices.{devices}
 use Rattle.rt_live.specs.Inside.Making.{MayPend, HasMadeLines}
-use Rattle.rt_live.specs.Inside.Working.{empty_row}
 use Rattle.rt_live.specs.Ready.{IsWaiting, irqs_of}
 use Rattle.rt_live.specs.declared.account.AccountRow.{AccountRow}
 use Rattle.rt_live.proofs.Readied.{rows_declared, all_may_pend, made_ready}
