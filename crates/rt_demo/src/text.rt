@@ -1,9 +1,13 @@
 ghost use Rattle.std.specs.Prelude.{◌≡◌, ◌≤◌, ◌++◌, flat_map, IfOk, OnOk};
 ghost use Rattle.rt_ids.specs.Lists.{numbers_below};
 ghost use Rattle.rt_demo.specs.Demo as spec;
+ghost use Rattle.rt_demo.specs.declared.text.TheConstants.{MOST_TASKS};
 
 use rt_ids::{NoMemory, push_bytes, push_number};
 use std::alloc::Global;
+
+/// Hardware tasks of the application at most.
+pub const MOST_TASKS: u8 = 48;
 
 /// How many shared resources the tasks take turns with.
 const RESOURCES: u8 = 4;
@@ -16,7 +20,7 @@ const PRIORITIES: u8 = 12;
 /// once and one that is sent by the timer.
 pub fn demo(alloc: Global, n: u8) -> Result<Vec<u8>, NoMemory>
     requires some { 1 ≤ n }
-    requires most { n ≤ 48 }
+    requires most { n ≤ MOST_TASKS }
     ensures { IfOk result (λ text. text.items ≡ spec.demo n) }
 {
     let mut out = Vec::new(alloc);

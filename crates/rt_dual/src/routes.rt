@@ -8,8 +8,11 @@ use rt_ids::limits::IRQ_NUMBERS;
 use rt_ids::{Irq, Names};
 use rt_trace::What;
 
+/// Places of the table: one for each interrupt number, 0 to 495.
+const PLACES: usize = 496;
+
 /// For each interrupt number of a core the one that a post of it pends on the other core.
-pub type Routes = [Option<Irq>; 496];
+pub type Routes = [Option<Irq>; PLACES];
 
 /// Whether an image enables an interrupt.
 fn is_enabled(image: &Image, irq: Irq) -> bool
@@ -37,7 +40,7 @@ pub fn routes_of(image: &Image, other: &Names) -> Routes
     ensures there { (irq : ℕ) → irq < IRQ_NUMBERS → slice_index_or result irq None ≡ forward image.now other.now irq }
     ensures above { (irq : ℕ) → IRQ_NUMBERS ≤ irq → slice_index_or result irq None ≡ None }
 {
-    let mut routes = [None; 496];
+    let mut routes = [None; PLACES];
     for number in 0..IRQ_NUMBERS {
         if let Some(irq) = Irq::new(number) {
             routes[usize::from(number)] = route(image, other, irq);

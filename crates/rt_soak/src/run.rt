@@ -2,6 +2,7 @@ ghost use Rattle.std.specs.Prelude.{◌≡◌, ◌+◌, ◌<◌, ◌≤◌, ◌^
 ghost use Rattle.std.specs.List.{AllByRecursion};
 ghost use Rattle.rt_count.specs.Summary.{summary_of};
 ghost use Rattle.rt_soak.specs.Inside.Totals.{IsSmall, IsBounded, IsThere, AreFew, runs_in, summary_with_runs};
+ghost use Rattle.rt_soak.specs.declared.soaking.TheConstants.{MOST_WORKERS};
 
 use rt_count::Summary;
 use rt_ids::NoMemory;
@@ -29,7 +30,7 @@ fn add_runs(summary: &mut Summary, runs: &[Run])
 
 /// Counts the runs of all workers, in order. Where one of them wanted memory there is no answer.
 pub(crate) fn total(parts: &[Result<Vec<Run>, NoMemory>]) -> Result<Summary, NoMemory>
-    requires few { length parts.now ≤ 64 }
+    requires few { length parts.now ≤ MOST_WORKERS }
     requires each { AllByRecursion AreFew parts.now }
     ensures there { IfOk result (λ s. AllByRecursion IsThere parts.now) }
     ensures total { IfOk result (λ s. s ≡ summary_with_runs (summary_of 0 []) (flat_map runs_in parts.now)) }

@@ -2,6 +2,7 @@ ghost use Rattle.std.specs.Prelude.{◌≡◌, ◌+◌, ◌<◌, ◌≤◌, leng
 ghost use Rattle.std.specs.List.{AllByRecursion};
 ghost use Rattle.rt_soak.specs.Inside.Sharing.{first_of, run_of, AreRuns};
 ghost use Rattle.rt_soak.specs.Inside.Totals.{IsSmall};
+ghost use Rattle.rt_soak.specs.declared.soaking.TheConstants.{MOST_RUNS, MOST_WORKERS};
 
 use crate::run::Run;
 use rt_core::Core;
@@ -23,8 +24,8 @@ pub(crate) struct Plan {
 impl Plan {
     /// The number of the first run of a worker; for the number of workers itself, the number of all runs.
     fn first_of(&self, worker: usize) -> u32
-        requires count { self.now.count ≤ 10000 }
-        requires workers { self.now.workers ≤ 64 }
+        requires count { self.now.count ≤ MOST_RUNS }
+        requires workers { self.now.workers ≤ MOST_WORKERS }
         requires some { 0 < self.now.workers }
         requires worker { worker ≤ self.now.workers }
         ensures { result ≡ first_of self.now.count self.now.workers worker }
@@ -64,10 +65,10 @@ fn runs_between(
     end: u32,
 ) -> Result<Vec<Run>, NoMemory>
     requires rising { first ≤ end }
-    requires few { end ≤ 10000 }
+    requires few { end ≤ MOST_RUNS }
     ensures runs { IfOk result (λ runs. AreRuns core.now.image irqs.now number first end runs.items) }
     ensures small { IfOk result (λ runs. AllByRecursion IsSmall runs.items) }
-    ensures few { IfOk result (λ runs. length runs.items ≤ 10000) }
+    ensures few { IfOk result (λ runs. length runs.items ≤ MOST_RUNS) }
 {
     let mut own = core.fresh(alloc)?;
     let mut runs = Vec::with_capacity(alloc, (end - first) as usize)?;
@@ -86,13 +87,13 @@ pub(crate) fn share(
     plan: Plan,
     worker: usize,
 ) -> Result<Vec<Run>, NoMemory>
-    requires count { plan.count ≤ 10000 }
-    requires workers { plan.workers ≤ 64 }
+    requires count { plan.count ≤ MOST_RUNS }
+    requires workers { plan.workers ≤ MOST_WORKERS }
     requires worker { worker < plan.workers }
     ensures runs { IfOk result (λ runs. AreRuns core.now.image irqs.now plan.number
         (first_of plan.count plan.workers worker) (first_of plan.count plan.workers (worker + 1)) runs.items) }
     ensures small { IfOk result (λ runs. AllByRecursion IsSmall runs.items) }
-    ensures few { IfOk result (λ runs. length runs.items ≤ 10000) }
+    ensures few { IfOk result (λ runs. length runs.items ≤ MOST_RUNS) }
 {
     let first = plan.first_of(worker);
     let end = plan.first_of(worker + 1);

@@ -3,6 +3,7 @@ ghost use Rattle.rt_app.specs.Accepted.{IsAccepted};
 ghost use Rattle.rt_app.specs.View.{app_of};
 ghost use Rattle.rt_soak.specs.Soak.{IsSoak};
 ghost use Rattle.rt_soak.specs.Inside.Sharing.{IsShare};
+ghost use Rattle.rt_soak.specs.declared.soaking.TheConstants.{MOST_RUNS, MOST_WORKERS};
 
 use crate::run::{Run, total};
 use crate::share::{Plan, share};
@@ -14,6 +15,12 @@ use rt_sim::prepare;
 use std::alloc::Global;
 use std::thread;
 use std::thread::Threads;
+
+/// Runs of a soak at most.
+pub const MOST_RUNS: u32 = 10_000;
+
+/// Workers of a soak at most.
+pub const MOST_WORKERS: u8 = 64;
 
 /// The numbers of declared interrupts, in order.
 fn numbers_of(alloc: Global, irqs: &[IrqDecl]) -> Result<Vec<Irq>, NoMemory>
@@ -34,8 +41,8 @@ fn shares<R: Threads + Sync>(
     irqs: &[Irq],
     plan: Plan,
 ) -> Result<Vec<Result<Vec<Run>, NoMemory>>, NoMemory>
-    requires count { plan.count ≤ 10000 }
-    requires workers { plan.workers ≤ 64 }
+    requires count { plan.count ≤ MOST_RUNS }
+    requires workers { plan.workers ≤ MOST_WORKERS }
     ensures all { IfOk result (λ parts. vec_len parts ≡ plan.workers) }
     ensures each { IfOk result (λ parts. (w : ℕ) (d : _) → w < plan.workers
         → IsShare core.now.image irqs.now plan.number plan.count plan.workers w (slice_index_or parts.items w d)) }
@@ -64,9 +71,9 @@ pub fn soak<R: Threads + Sync>(
 ) -> Result<Summary, NoMemory>
     requires accepted { IsAccepted (app_of app.now) }
     requires some { 1 ≤ count }
-    requires few { count ≤ 10000 }
+    requires few { count ≤ MOST_RUNS }
     requires worker { 1 ≤ workers }
-    requires workers { workers ≤ 64 }
+    requires workers { workers ≤ MOST_WORKERS }
     ensures { IfOk result (λ summary. IsSoak (app_of app.now) number count summary) }
 {
     let core = prepare(alloc, app)?;

@@ -6,7 +6,7 @@ ghost use Rattle.rt_words.specs.Lines.{count, numbers};
 ghost use Rattle.rt_words.specs.Inside.Steps.{view_after_reserve};
 ghost use Rattle.rt_words.specs.declared.call.Call.{Call};
 
-use crate::counts::count_bits;
+use crate::counts::{COUNTS, count_bits};
 use crate::device_line::{DeviceLine, Tally};
 use crate::rule::{Gather, Latch, Look, Numbered, Reserve, SplitOff, Take};
 use crate::view::View;
@@ -20,7 +20,7 @@ use std::marker::{Brand, Model};
 #[derive(Drop)]
 pub struct CoreLine {
     pub(crate) seat: Seat<(), View>,
-    pub(crate) latched: [u32; 512],
+    pub(crate) latched: [u32; COUNTS],
 }
 
 impl Model for CoreLine {

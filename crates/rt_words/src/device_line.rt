@@ -3,7 +3,7 @@ ghost use Rattle.rt_words.specs.Object.{IsPending};
 ghost use Rattle.rt_words.specs.declared.call.Call.{Call};
 
 use crate::call::Pended;
-use crate::counts::no_counts;
+use crate::counts::{COUNTS, no_counts};
 use crate::rule::Pend;
 use crate::view::View;
 use crate::words::Words;
@@ -15,9 +15,9 @@ use std::marker::Model;
 #[derive(Drop)]
 pub struct Tally {
     /// How often each interrupt was raised.
-    pub raised: [u32; 512],
+    pub raised: [u32; COUNTS],
     /// How often a pend of each interrupt merged.
-    pub merged: [u32; 512],
+    pub merged: [u32; COUNTS],
 }
 
 impl Tally {

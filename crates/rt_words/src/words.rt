@@ -8,7 +8,7 @@ ghost use Rattle.rt_words.specs.Ending.{AllGathered, LatchedAreZero, OneHistory}
 ghost use Rattle.rt_words.specs.Lines.{count, IsUnused};
 
 use crate::core_line::CoreLine;
-use crate::counts::no_counts;
+use crate::counts::{COUNTS, no_counts};
 use crate::rule::Law;
 use crate::view::View;
 use atomic_table::{Closed, Table};
@@ -23,7 +23,7 @@ pub struct Left {
     /// The words that were left: interrupt n is bit n mod 32 of word n / 32.
     pub bits: [u32; 16],
     /// How often the core's line latched each interrupt.
-    pub latched: [u32; 512],
+    pub latched: [u32; COUNTS],
 }
 
 /// A row of atomic words with the bits of pending interrupts: interrupt n is bit n mod 32 of word n / 32. Threads share

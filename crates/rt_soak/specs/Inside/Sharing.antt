@@ -7,6 +7,7 @@ use Rattle.rt_count.specs.Summary.{summary_of}
 use Rattle.rt_soak.specs.Soak.{items_of_run}
 use Rattle.rt_soak.specs.declared.run.Run.{Run}
 use Rattle.rt_soak.specs.Inside.Totals.{Part, IsSmall}
+use Rattle.rt_soak.specs.declared.soaking.TheConstants.{MOST_RUNS}
 
 -- the first run of a worker; any two workers' numbers of runs differ by at most one
 abbrev pub first_of : ℕ → ℕ → ℕ → ℕ
@@ -25,5 +26,5 @@ AreRuns image irqs number first end runs =
 abbrev pub IsShare : Image → List ℕ → (number count workers worker : ℕ) → Part → Type 0
 IsShare image irqs number count workers worker (Ok runs) =
     AreRuns image irqs number (first_of count workers worker) (first_of count workers (worker + 1)) runs.items
-    × (length runs.items ≤ 10000) × AllByRecursion IsSmall runs.items
+    × (length runs.items ≤ MOST_RUNS) × AllByRecursion IsSmall runs.items
 IsShare image irqs number count workers worker (Err e) = Unit {0}

@@ -7,6 +7,7 @@ use Rattle.rt_ids.specs.declared.memory.NoMemory.{NoMemory}
 use Rattle.rt_count.specs.Joining.{joined_summary, IsWithin}
 use Rattle.rt_count.specs.declared.summary.Summary.{Summary}
 use Rattle.rt_soak.specs.declared.run.Run.{Run}
+use Rattle.rt_soak.specs.declared.soaking.TheConstants.{MOST_RUNS}
 
 -- a summary with runs behind it, one after another
 abbrev pub summary_with_runs : Summary → List Run → Summary
@@ -37,5 +38,5 @@ IsThere (Err e) = ⊥
 
 -- the runs of a worker are no more than those of all may be
 abbrev pub AreFew : Part → Type 0
-AreFew (Ok runs) = (length runs.items ≤ 10000) × AllByRecursion IsSmall runs.items
+AreFew (Ok runs) = (length runs.items ≤ MOST_RUNS) × AllByRecursion IsSmall runs.items
 AreFew (Err e) = Unit {0}
