@@ -138,12 +138,12 @@ abbrev pub pair_text : (script : List Line) (a a' b b' : Machine) (old new : Bot
     → IsWritten a.image b.image new bytes → IsPairText a.image b.image script bytes
 pair_text script a a' b b' old new bytes fresh_a fresh_b before ended written =
     let one : Course = record {
-      found = ended.left.found;
+      found = ended.first_side.found;
       history = written.one_settled.history;
       left = written.one_settled.left;
     } in
     let two : Course = record {
-      found = ended.right.found;
+      found = ended.second_side.found;
       history = written.two_settled.history;
       left = written.two_settled.left;
     } in
@@ -151,33 +151,33 @@ pair_text script a a' b b' old new bytes fresh_a fresh_b before ended written =
       one = one;
       two = two;
       is_one =
-          is_course First b.image (first_events script) a a' old.one new.one old.left new.left old.right new.right
+          is_course First b.image (first_events script) a a' old.first_half new.first_half old.first_side new.first_side old.second_side new.second_side
           fresh_a
-          before.one ended.one ended.left written.one written.one_settled
+          before.one ended.first_half ended.first_side written.one written.one_settled
           (forwarded_irqs b.image a.image.names (course_items b.image (second_events script) two))
-          (rang a.image (second_events script) b b' fresh_b old.right new.right old.one.words 2 before.one.made.silent
-          before.two.routes ended.right)
-          (known a.image (second_events script) b b' fresh_b old.right new.right old.one.words 2 before.one.made.silent
-          before.two.routes ended.right);
+          (rang a.image (second_events script) b b' fresh_b old.second_side new.second_side old.first_half.words 2 before.one.made.silent
+          before.two.routes ended.second_side)
+          (known a.image (second_events script) b b' fresh_b old.second_side new.second_side old.first_half.words 2 before.one.made.silent
+          before.two.routes ended.second_side);
       is_two =
-          is_course Second a.image (second_events script) b b' old.two new.two old.right new.right old.left new.left
+          is_course Second a.image (second_events script) b b' old.second_half new.second_half old.second_side new.second_side old.first_side new.first_side
           fresh_b
-          before.two ended.two ended.right written.two written.two_settled
+          before.two ended.second_half ended.second_side written.two written.two_settled
           (forwarded_irqs a.image b.image.names (course_items a.image (first_events script) one))
-          (rang b.image (first_events script) a a' fresh_a old.left new.left old.two.words 1 before.two.made.silent
-          before.one.routes ended.left)
-          (known b.image (first_events script) a a' fresh_a old.left new.left old.two.words 1 before.two.made.silent
-          before.one.routes ended.left);
+          (rang b.image (first_events script) a a' fresh_a old.first_side new.first_side old.second_half.words 1 before.two.made.silent
+          before.one.routes ended.first_side)
+          (known b.image (first_events script) a a' fresh_a old.first_side new.first_side old.second_half.words 1 before.two.made.silent
+          before.one.routes ended.first_side);
       written =
           written.written
-          ∙ ap (λ t. t ++ (new.two.front.items ++ (new.right.trace.bytes.items
+          ∙ ap (λ t. t ++ (new.second_half.front.items ++ (new.second_side.trace.bytes.items
           ++ account_text b.image.names written.two)))
-          (core_written First b.image (first_events script) a a' old.one new.one old.left new.left old.right new.right
+          (core_written First b.image (first_events script) a a' old.first_half new.first_half old.first_side new.first_side old.second_side new.second_side
           fresh_a
-          before.one ended.one ended.left written.one written.one_settled)
+          before.one ended.first_half ended.first_side written.one written.one_settled)
           ∙ ap (λ t. core_text (codes "core 1\n") a.image (first_events script) one ++ t)
-          (core_written Second a.image (second_events script) b b' old.two new.two old.right new.right old.left new.left
-          fresh_b before.two ended.two ended.right written.two written.two_settled);
+          (core_written Second a.image (second_events script) b b' old.second_half new.second_half old.second_side new.second_side old.first_side new.first_side
+          fresh_b before.two ended.second_half ended.second_side written.two written.two_settled);
     }
 
 -- and each core has done the events of its trace in it
@@ -188,8 +188,8 @@ has_paired script a a' b b' old new bytes fresh_a fresh_b before ended written x
   bytes = bytes;
   is = pair_text script a a' b b' old new bytes fresh_a fresh_b before ended written;
   took = took;
-  one_leads = ended.left.leads;
-  two_leads = ended.right.leads;
+  one_leads = ended.first_side.leads;
+  two_leads = ended.second_side.leads;
 }
 
 -- the text of a core, part by part

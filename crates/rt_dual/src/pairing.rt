@@ -92,12 +92,14 @@ pub fn pair<R: Threads + Sync, K: Sink, G: Gate + Sync>(
 /// All that is made for two cores before they run.
 #[derive(Drop)]
 pub struct Both {
-    /// What belongs to each of them.
-    pub one: Half,
-    pub two: Half,
-    /// What the thread of each of them has.
-    pub left: Side,
-    pub right: Side,
+    /// What belongs to the first core.
+    pub first_half: Half,
+    /// What belongs to the second core.
+    pub second_half: Half,
+    /// What the thread of the first core has.
+    pub first_side: Side,
+    /// What the thread of the second core has.
+    pub second_side: Side,
 }
 
 /// Makes what the cores of two images want of memory before they run.
@@ -105,29 +107,29 @@ pub struct Both {
 fn both_of(alloc: Global, first: &Image, second: &Image) -> Result<Both, NoMemory>
     ensures { IfOk result (AreBefore first.now second.now) }
 {
-    let (one, lines_one) = half_of(alloc, CoreId::First, first)?;
-    let (two, lines_two) = half_of(alloc, CoreId::Second, second)?;
-    let left = Side {
+    let (first_half, first_lines) = half_of(alloc, CoreId::First, first)?;
+    let (second_half, second_lines) = half_of(alloc, CoreId::Second, second)?;
+    let first_side = Side {
         core_id: CoreId::First,
-        line: lines_one.own,
-        bell: lines_two.bell,
+        line: first_lines.own,
+        bell: second_lines.bell,
         rung: 0,
         routes: routes_of(first, &second.names),
         trace: Kept::new(alloc),
     };
-    let right = Side {
+    let second_side = Side {
         core_id: CoreId::Second,
-        line: lines_two.own,
-        bell: lines_one.bell,
+        line: second_lines.own,
+        bell: first_lines.bell,
         rung: 0,
         routes: routes_of(second, &first.names),
         trace: Kept::new(alloc),
     };
     Ok(Both {
-        one,
-        two,
-        left,
-        right,
+        first_half,
+        second_half,
+        first_side,
+        second_side,
     })
 }
 
@@ -203,11 +205,11 @@ fn run_both<R: Threads + Sync, G: Gate + Sync>(
     let ends = beside(
         rt,
         first,
-        &mut both.left,
-        &both.one.words,
+        &mut both.first_side,
+        &both.first_half.words,
         second,
-        &mut both.right,
-        &both.two.words,
+        &mut both.second_side,
+        &both.second_half.words,
         script,
         gate,
     );
@@ -229,25 +231,35 @@ fn put_both<K: Sink>(both: Both, first: &Image, second: &Image, out: &mut K) -> 
     ensures quiet { OnOk result (K.faults out.new ≡ K.faults out.old) }
 {
     let Both {
-        one,
-        two,
-        left,
-        right,
+        first_half,
+        second_half,
+        first_side,
+        second_side,
     } = both;
-    let account_one = account_of(one.words, left.line, right.bell, one.rows);
-    let account_two = account_of(two.words, right.line, left.bell, two.rows);
+    let first_account = account_of(
+        first_half.words,
+        first_side.line,
+        second_side.bell,
+        first_half.rows,
+    );
+    let second_account = account_of(
+        second_half.words,
+        second_side.line,
+        first_side.bell,
+        second_half.rows,
+    );
     put_core(
         out,
-        &one.front,
-        &left.trace.bytes,
-        &account_one,
+        &first_half.front,
+        &first_side.trace.bytes,
+        &first_account,
         &first.names,
     )?;
     put_core(
         out,
-        &two.front,
-        &right.trace.bytes,
-        &account_two,
+        &second_half.front,
+        &second_side.trace.bytes,
+        &second_account,
         &second.names,
     )
 }

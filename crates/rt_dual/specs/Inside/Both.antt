@@ -28,27 +28,27 @@ pub record IsBefore (core_id : CoreId) (img other : Image) (half : Half) (side f
 
 -- both sides are so
 pub record AreBefore (first second : Image) (both : Both) : Type 0 where
-  pub one : IsBefore First first second both.one both.left both.right
-  pub two : IsBefore Second second first both.two both.right both.left
+  pub one : IsBefore First first second both.first_half both.first_side both.second_side
+  pub two : IsBefore Second second first both.second_half both.second_side both.first_side
 
 -- The words of both cores are closed, and this is what is written of them.
 pub record IsWritten (first second : Image) (both : Both) (bytes : List ℕ) : Type 0 where
   pub one : List AccountRow
   pub two : List AccountRow
-  pub one_settled : Settles both.left.line.calls both.right.bell (irqs_of both.one.rows.items) one
-  pub two_settled : Settles both.right.line.calls both.left.bell (irqs_of both.two.rows.items) two
+  pub one_settled : Settles both.first_side.line.calls both.second_side.bell (irqs_of both.first_half.rows.items) one
+  pub two_settled : Settles both.second_side.line.calls both.first_side.bell (irqs_of both.second_half.rows.items) two
   pub written : bytes
-      ≡ (both.one.front.items ++ (both.left.trace.bytes.items ++ account_text first.names one))
-      ++ (both.two.front.items ++ (both.right.trace.bytes.items ++ account_text second.names two))
+      ≡ (both.first_half.front.items ++ (both.first_side.trace.bytes.items ++ account_text first.names one))
+      ++ (both.second_half.front.items ++ (both.second_side.trace.bytes.items ++ account_text second.names two))
 
 -- the words of both cores can be closed
 pub record CanWrite (both : Both) : Type 0 where
-  pub one : CanClose both.one.words both.left.line both.right.bell both.one.rows.items
-  pub two : CanClose both.two.words both.right.line both.left.bell both.two.rows.items
+  pub one : CanClose both.first_half.words both.first_side.line both.second_side.bell both.first_half.rows.items
+  pub two : CanClose both.second_half.words both.second_side.line both.first_side.bell both.second_half.rows.items
 
 -- both cores have ended, and nothing changed but what their sides have
 pub record HaveEnded (script : List Line) (a a' b b' : Machine) (old new : Both) : Type 0 where
-  pub one : new.one ≡ old.one
-  pub two : new.two ≡ old.two
-  pub left : Ends (turns (events_at First script)) a a' old.left new.left
-  pub right : Ends (turns (events_at Second script)) b b' old.right new.right
+  pub first_half : new.first_half ≡ old.first_half
+  pub second_half : new.second_half ≡ old.second_half
+  pub first_side : Ends (turns (events_at First script)) a a' old.first_side new.first_side
+  pub second_side : Ends (turns (events_at Second script)) b b' old.second_side new.second_side

@@ -9,8 +9,8 @@ pub returns : goal.returns
 returns c =
     let first = c.args.first.now in
     let second = c.args.second.now in
-    let one = c.in_ok-one.ensures in
-    let two = c.in_ok-two.ensures in
+    let one = c.in_ok-first_half.ensures in
+    let two = c.in_ok-second_half.ensures in
     let first_names = ap (λ (i : Image). i.names) c.first.view_is in
     let second_names = ap (λ (i : Image). i.names) c.second.view_is in
     record {

@@ -21,9 +21,9 @@ text_of img half side rows = half.front.items ++ (side.trace.bytes.items ++ acco
 
 -- and of both
 both_written : (first second : Image) (both : Both) (one two : List AccountRow)
-    → Settles both.left.line.calls both.right.bell (irqs_of both.one.rows.items) one
-    → Settles both.right.line.calls both.left.bell (irqs_of both.two.rows.items) two
-    → IsWritten first second both (text_of first both.one both.left one ++ text_of second both.two both.right two)
+    → Settles both.first_side.line.calls both.second_side.bell (irqs_of both.first_half.rows.items) one
+    → Settles both.second_side.line.calls both.first_side.bell (irqs_of both.second_half.rows.items) two
+    → IsWritten first second both (text_of first both.first_half both.first_side one ++ text_of second both.second_half both.second_side two)
 both_written first second both one two settled_one settled_two =
     record { one = one; two = two; one_settled = settled_one; two_settled = settled_two; written = refl }
 
@@ -32,17 +32,17 @@ returns-in_err-put_core-clause-err g c =
     let both = c.args.both in
     let x = g.K.Sink.taken c.args.out.now in
     let y = g.K.Sink.taken c.put_core.new.out in
-    let one : List AccountRow = c.account_of-account_one.result.rows.items in
-    let two : List AccountRow = c.account_of-account_two.result.rows.items in
-    let text_one = text_of c.args.first.now both.one both.left one in
-    let text_two = text_of c.args.second.now both.two both.right two in
-    let same_one = same_text c.deref.result.now both.one.front.items c.deref-2.result.now both.left.trace.bytes.items
+    let one : List AccountRow = c.account_of-first_account.result.rows.items in
+    let two : List AccountRow = c.account_of-second_account.result.rows.items in
+    let text_one = text_of c.args.first.now both.first_half both.first_side one in
+    let text_two = text_of c.args.second.now both.second_half both.second_side two in
+    let same_one = same_text c.deref.result.now both.first_half.front.items c.deref-2.result.now both.first_side.trace.bytes.items
     c.first.inside.names c.args.first.now.names one c.deref.ensures.value c.deref-2.ensures.value
     (ap (λ (i : Image). i.names) c.first.view_is) in
     on_err_from c.from_residual.result (
       text_one ++ text_two,
-      both_written c.args.first.now c.args.second.now both one two c.account_of-account_one.ensures
-          c.account_of-account_two.ensures,
+      both_written c.args.first.now c.args.second.now both one two c.account_of-first_account.ensures
+          c.account_of-second_account.ensures,
       part_more x y text_one text_two (subst (TookPrefix x y) same_one c.in_err-put_core.ensures.err),
     )
 
@@ -52,20 +52,20 @@ returns-clause-ok g c =
     let x = g.K.Sink.taken c.args.out.now in
     let y = g.K.Sink.taken c.put_core.new.out in
     let z = g.K.Sink.taken c.put_core-2.new.out in
-    let one : List AccountRow = c.account_of-account_one.result.rows.items in
-    let two : List AccountRow = c.account_of-account_two.result.rows.items in
-    let text_one = text_of c.args.first.now both.one both.left one in
-    let text_two = text_of c.args.second.now both.two both.right two in
-    let same_one = same_text c.deref.result.now both.one.front.items c.deref-2.result.now both.left.trace.bytes.items
+    let one : List AccountRow = c.account_of-first_account.result.rows.items in
+    let two : List AccountRow = c.account_of-second_account.result.rows.items in
+    let text_one = text_of c.args.first.now both.first_half both.first_side one in
+    let text_two = text_of c.args.second.now both.second_half both.second_side two in
+    let same_one = same_text c.deref.result.now both.first_half.front.items c.deref-2.result.now both.first_side.trace.bytes.items
     c.first.inside.names c.args.first.now.names one c.deref.ensures.value c.deref-2.ensures.value
     (ap (λ (i : Image). i.names) c.first.view_is) in
-    let same_two = same_text c.deref-3.result.now both.two.front.items c.deref-4.result.now both.right.trace.bytes.items
+    let same_two = same_text c.deref-3.result.now both.second_half.front.items c.deref-4.result.now both.second_side.trace.bytes.items
     c.second.inside.names c.args.second.now.names two c.deref-3.ensures.value c.deref-4.ensures.value
     (ap (λ (i : Image). i.names) c.second.view_is) in
     on_ok_weaker c.put_core-2.result (λ took. (
       text_one ++ text_two,
-      both_written c.args.first.now c.args.second.now both one two c.account_of-account_one.ensures
-          c.account_of-account_two.ensures,
+      both_written c.args.first.now c.args.second.now both one two c.account_of-first_account.ensures
+          c.account_of-second_account.ensures,
       took_on x y z text_one text_two (subst (Took x y) same_one c.in_ok-put_core.ensures.ok)
           (subst (Took y z) same_two took),
     )) c.put_core-2.ensures.ok
@@ -76,20 +76,20 @@ returns-clause-err g c =
     let x = g.K.Sink.taken c.args.out.now in
     let y = g.K.Sink.taken c.put_core.new.out in
     let z = g.K.Sink.taken c.put_core-2.new.out in
-    let one : List AccountRow = c.account_of-account_one.result.rows.items in
-    let two : List AccountRow = c.account_of-account_two.result.rows.items in
-    let text_one = text_of c.args.first.now both.one both.left one in
-    let text_two = text_of c.args.second.now both.two both.right two in
-    let same_one = same_text c.deref.result.now both.one.front.items c.deref-2.result.now both.left.trace.bytes.items
+    let one : List AccountRow = c.account_of-first_account.result.rows.items in
+    let two : List AccountRow = c.account_of-second_account.result.rows.items in
+    let text_one = text_of c.args.first.now both.first_half both.first_side one in
+    let text_two = text_of c.args.second.now both.second_half both.second_side two in
+    let same_one = same_text c.deref.result.now both.first_half.front.items c.deref-2.result.now both.first_side.trace.bytes.items
     c.first.inside.names c.args.first.now.names one c.deref.ensures.value c.deref-2.ensures.value
     (ap (λ (i : Image). i.names) c.first.view_is) in
-    let same_two = same_text c.deref-3.result.now both.two.front.items c.deref-4.result.now both.right.trace.bytes.items
+    let same_two = same_text c.deref-3.result.now both.second_half.front.items c.deref-4.result.now both.second_side.trace.bytes.items
     c.second.inside.names c.args.second.now.names two c.deref-3.ensures.value c.deref-4.ensures.value
     (ap (λ (i : Image). i.names) c.second.view_is) in
     on_err_weaker c.put_core-2.result (λ part. (
       text_one ++ text_two,
-      both_written c.args.first.now c.args.second.now both one two c.account_of-account_one.ensures
-          c.account_of-account_two.ensures,
+      both_written c.args.first.now c.args.second.now both one two c.account_of-first_account.ensures
+          c.account_of-second_account.ensures,
       part_on x y z text_one text_two (subst (Took x y) same_one c.in_ok-put_core.ensures.ok)
           (subst (TookPrefix y z) same_two part),
     )) c.put_core-2.ensures.err
