@@ -31,7 +31,7 @@ use Rattle.rt_dual.specs.Forwarded.{enables, forward, namesake}
 use Rattle.rt_dual.specs.Inside.Both.{IsBefore, AreBefore, HaveEnded, CanWrite}
 use Rattle.rt_dual.specs.Inside.Halves.{IsMade, CanClose}
 use Rattle.rt_dual.specs.Inside.Own.{events_at, number_of, other_of, own_turns}
-use Rattle.rt_dual.specs.Inside.Ringing.{AreRoutes, MayRing}
+use Rattle.rt_dual.specs.Inside.Forwarding.{AreRoutes, MayForward}
 use Rattle.rt_dual.specs.Inside.Running.{CanRun, Ends}
 use Rattle.rt_dual.specs.declared.half.Half.{Half}
 use Rattle.rt_dual.specs.declared.pairing.Both.{Both}
@@ -133,7 +133,7 @@ module _ (core_id : CoreId) (m : Machine) (other : Image) (half far_half : Half)
     few = omega (arith, fresh.steps, scripted.few);
     early = omega (arith, ap (λ (c : Core). c.time) fresh.core, scripted.few);
     room = omega (arith, ap (λ (l : CoreLine). length l.calls) before.made.unused, scripted.few);
-    ring_room = omega (arith, ap (λ (l : BellLine). length l.calls) beyond.made.silent, scripted.few);
+    forward_room = omega (arith, ap (λ (l : BellLine). length l.calls) beyond.made.silent, scripted.few);
   }
 
 -- the words of a core can be closed when both have ended
@@ -142,7 +142,7 @@ module _ (core_id : CoreId) (m : Machine) (other : Image) (half half' : Half) (s
     (scripted : IsScript script) (n o p : Machine) (run : Ends (turns (events_at core_id script)) m n side side')
     (ran : Ends (turns (events_at (other_of core_id) script)) o p far far') where
   number_is : far'.bell.number ≡ number_of (other_of core_id)
-  number_is = ap (λ (l : BellLine). l.number) ran.rings.line ∙ ap (λ (l : BellLine). l.number) before.made.silent
+  number_is = ap (λ (l : BellLine). l.number) ran.forwards.line ∙ ap (λ (l : BellLine). l.number) before.made.silent
 
   words_are : half'.words ≡ half.words
   words_are = ap (λ (h : Half). h.words) same
@@ -152,7 +152,7 @@ module _ (core_id : CoreId) (m : Machine) (other : Image) (half half' : Half) (s
     own_words =
         ap (λ (l : CoreLine). l.words) run.line.1 ∙ ap (λ (l : CoreLine). l.words) before.made.unused ∙ sym words_are;
     bell_words =
-        ap (λ (l : BellLine). l.words) ran.rings.line ∙ ap (λ (l : BellLine). l.words) before.made.silent
+        ap (λ (l : BellLine). l.words) ran.forwards.line ∙ ap (λ (l : BellLine). l.words) before.made.silent
         ∙ sym words_are;
     made =
         ap (λ (l : CoreLine). l.made) run.line.1 ∙ ap (λ (l : CoreLine). l.made) before.made.unused

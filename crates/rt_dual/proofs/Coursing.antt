@@ -37,7 +37,7 @@ use Rattle.rt_dual.specs.Output.{IsPairText, account, core_text, course_text}
 use Rattle.rt_dual.specs.Inside.Both.{IsBefore, AreBefore, HaveEnded, IsWritten}
 use Rattle.rt_dual.specs.Inside.Halves.{IsMade, Settles, front}
 use Rattle.rt_dual.specs.Inside.Own.{events_at, number_of, other_of, line_of}
-use Rattle.rt_dual.specs.Inside.Ringing.{AreRoutes, irq_rung, irqs_rung}
+use Rattle.rt_dual.specs.Inside.Forwarding.{AreRoutes, irq_routed, irqs_routed}
 use Rattle.rt_dual.specs.Inside.Running.{Ends}
 use Rattle.rt_dual.specs.declared.half.Half.{Half}
 use Rattle.rt_dual.specs.declared.pairing.Both.{Both}
@@ -48,14 +48,14 @@ use Rattle.rt_dual.proofs.Halving.{irqs_empty}
 
 -- the table pends what the definition forwards
 module _ (img : Image) (other : Names) (routes : List (Option ℕ)) (are : AreRoutes img other routes) where
-  one_forwarded : (w : What) → irq_rung routes w ≡ forward_of img other w
+  one_forwarded : (w : What) → irq_routed routes w ≡ forward_of img other w
   one_forwarded (what.Post irq) = are irq
   one_forwarded w = refl
 
-  pub all_forwarded : (items : List Item) → irqs_rung routes items ≡ forwarded_irqs img other items
+  pub all_forwarded : (items : List Item) → irqs_routed routes items ≡ forwarded_irqs img other items
   all_forwarded [] = refl
   all_forwarded (x ∷ items) =
-      ap (λ (o : Option ℕ). cons_option o (irqs_rung routes items)) (one_forwarded x.what)
+      ap (λ (o : Option ℕ). cons_option o (irqs_routed routes items)) (one_forwarded x.what)
       ∙ ap (cons_option (forward_of img other x.what)) (all_forwarded items)
 
 -- what a fresh core shows is the trace of its image
@@ -78,14 +78,14 @@ module _ (other : Image) (es : List Event) (m n : Machine) (fresh : IsFresh m) (
     (silent : side.bell ≡ record { words = words; number = k; calls = [] })
     (are : AreRoutes m.image other.names side.routes) (run : Ends (turns es) m n side side') where
   pub known : side'.bell.number ≡ k
-  known = ap (λ (l : BellLine). l.number) run.rings.line ∙ ap (λ (l : BellLine). l.number) silent
+  known = ap (λ (l : BellLine). l.number) run.forwards.line ∙ ap (λ (l : BellLine). l.number) silent
 
-  pub rang : map interrupt_asked side'.bell.calls
+  pub forwarded_asked : map interrupt_asked side'.bell.calls
       ≡ map (λ irq. Some irq) (forwarded_irqs m.image other.names (trace m.image (interleaving (turns es) run.found)))
-  rang =
-      ap (λ (l : BellLine). map interrupt_asked l.calls) run.rings.line
-      ∙ ap (λ (l : BellLine). map interrupt_asked (l.calls ++ run.rings.calls)) silent
-      ∙ run.rings.asked
+  forwarded_asked =
+      ap (λ (l : BellLine). map interrupt_asked l.calls) run.forwards.line
+      ∙ ap (λ (l : BellLine). map interrupt_asked (l.calls ++ run.forwards.calls)) silent
+      ∙ run.forwards.asked
       ∙ ap (map (λ irq. Some irq))
       (all_forwarded m.image other.names side.routes are (shown_items m (interleaving (turns es) run.found))
       ∙ ap (forwarded_irqs m.image other.names) (fresh_items m fresh (interleaving (turns es) run.found)))
@@ -101,7 +101,7 @@ module _ (core_id : CoreId) (other : Image) (es : List Event) (m n : Machine) (h
 
   pub is_course : (pends : List ℕ) → map interrupt_asked far'.bell.calls ≡ map (λ irq. Some irq) pends
       → far'.bell.number ≡ number_of (other_of core_id) → IsCourse es (number_of (other_of core_id)) pends course
-  is_course pends rings number_is = record {
+  is_course pends forwards number_is = record {
     many = run.many;
     whole = run.whole;
     legal = closed.legal;
@@ -110,7 +110,7 @@ module _ (core_id : CoreId) (other : Image) (es : List Event) (m n : Machine) (h
         ∙ ap (λ (l : CoreLine). l.calls ++ flat_map latches run.found) before.made.unused;
     pended =
         ap (λ k. map interrupt_asked (part closed.history k)) (sym number_is) ∙ ap (map interrupt_asked) closed.other
-        ∙ rings;
+        ∙ forwards;
     others = λ number ne other_ne. closed.others number ne (λ e. other_ne (e ∙ number_is));
   }
 
@@ -155,7 +155,7 @@ pair_text script a a' b b' old new bytes fresh_a fresh_b before ended written =
           fresh_a
           before.one ended.first_half ended.first_side written.one written.one_settled
           (forwarded_irqs b.image a.image.names (course_items b.image (second_events script) two))
-          (rang a.image (second_events script) b b' fresh_b old.second_side new.second_side old.first_half.words 2 before.one.made.silent
+          (forwarded_asked a.image (second_events script) b b' fresh_b old.second_side new.second_side old.first_half.words 2 before.one.made.silent
           before.two.routes ended.second_side)
           (known a.image (second_events script) b b' fresh_b old.second_side new.second_side old.first_half.words 2 before.one.made.silent
           before.two.routes ended.second_side);
@@ -164,7 +164,7 @@ pair_text script a a' b b' old new bytes fresh_a fresh_b before ended written =
           fresh_b
           before.two ended.second_half ended.second_side written.two written.two_settled
           (forwarded_irqs a.image b.image.names (course_items a.image (first_events script) one))
-          (rang b.image (first_events script) a a' fresh_a old.first_side new.first_side old.second_half.words 1 before.two.made.silent
+          (forwarded_asked b.image (first_events script) a a' fresh_a old.first_side new.first_side old.second_half.words 1 before.two.made.silent
           before.one.routes ended.first_side)
           (known b.image (first_events script) a a' fresh_a old.first_side new.first_side old.second_half.words 1 before.two.made.silent
           before.one.routes ended.first_side);

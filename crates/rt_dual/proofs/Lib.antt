@@ -1,4 +1,4 @@
-pub mod Ringing
+pub mod Forwarding
 pub mod Cutting
 pub mod Running
 pub mod Owning

@@ -22,12 +22,12 @@ use Rattle.rt_live.proofs.Owning.{still_able, same_line, same_line_on}
 use Rattle.rt_live.proofs.Turning.{calls_on}
 use Rattle.rt_live.proofs.Woven.{looks-append, interleaving_on, steps_woven, ticks_woven, looks_below, all_latches}
 use Rattle.rt_live.proofs.Woven.{look_steps, no_steps}
-use Rattle.rt_dual.specs.Inside.Ringing.{Rings, MayRing, IsSameBut, irqs_rung, irq_of_shown}
+use Rattle.rt_dual.specs.Inside.Forwarding.{Forwards, MayForward, IsSameBut, irqs_routed, irq_of_shown}
 use Rattle.rt_dual.specs.Inside.Running.{CanRun, Runs, IsViablePrefix, Ends}
 use Rattle.rt_dual.specs.declared.kept.Kept.{Kept}
 use Rattle.rt_dual.specs.declared.side.Side.{Side}
 use Rattle.rt_dual.proofs.Cutting.{all_done, done_behind}
-use Rattle.rt_dual.proofs.Ringing.{rings_none, rings_on, rung_split, silent, step_rings}
+use Rattle.rt_dual.proofs.Forwarding.{forwards_none, forwards_on, routed_split, silent, step_forwards}
 
 -- no turn was done
 pub runs_none : (m : Machine) (s : Side) → Runs [] m m s s
@@ -38,7 +38,7 @@ runs_none m s = record {
   whole = tt;
   latched = sym (append-nil s.line.calls);
   sends = sends_none m (Some s.trace.bytes.items);
-  rings = rings_none s.bell;
+  forwards = forwards_none s.bell;
   few = omega arith;
   line = same_line s.line;
   core_id = refl;
@@ -64,12 +64,12 @@ runs_on ts us a b c s t u first second = record {
       subst (λ es. Sends es a c (Some s.trace.bytes.items) (Some u.trace.bytes.items)) (sym woven)
       (sends_on (interleaving ts first.found) (interleaving us second.found) a b c (Some s.trace.bytes.items)
       (Some t.trace.bytes.items) (Some u.trace.bytes.items) first.sends second.sends);
-  rings =
-      subst (λ is. Rings is s.bell u.bell) (sym rung)
-      (rings_on (irqs_rung s.routes (shown_items a (interleaving ts first.found)))
-      (irqs_rung s.routes (shown_items b (interleaving us second.found))) s.bell t.bell u.bell first.rings
-      (subst (λ rs. Rings (irqs_rung rs (shown_items b (interleaving us second.found))) t.bell u.bell) first.routes
-      second.rings));
+  forwards =
+      subst (λ is. Forwards is s.bell u.bell) (sym routed)
+      (forwards_on (irqs_routed s.routes (shown_items a (interleaving ts first.found)))
+      (irqs_routed s.routes (shown_items b (interleaving us second.found))) s.bell t.bell u.bell first.forwards
+      (subst (λ rs. Forwards (irqs_routed rs (shown_items b (interleaving us second.found))) t.bell u.bell) first.routes
+      second.forwards));
   few = omega (arith, first.few, second.few, length-append ts us);
   line = same_line_on s.line t.line u.line first.line second.line;
   core_id = second.core_id ∙ first.core_id;
@@ -80,12 +80,12 @@ runs_on ts us a b c s t u first second = record {
         ++ interleaving us second.found
     woven = interleaving_on ts us first.found second.found first.many
 
-    rung : irqs_rung s.routes (shown_items a (interleaving (ts ++ us) (first.found ++ second.found)))
-        ≡ irqs_rung s.routes (shown_items a (interleaving ts first.found))
-        ++ irqs_rung s.routes (shown_items b (interleaving us second.found))
-    rung =
-        ap (λ es. irqs_rung s.routes (shown_items a es)) woven
-        ∙ rung_split s.routes (interleaving ts first.found) (interleaving us second.found) a b first.sends.leads
+    routed : irqs_routed s.routes (shown_items a (interleaving (ts ++ us) (first.found ++ second.found)))
+        ≡ irqs_routed s.routes (shown_items a (interleaving ts first.found))
+        ++ irqs_routed s.routes (shown_items b (interleaving us second.found))
+    routed =
+        ap (λ es. irqs_routed s.routes (shown_items a es)) woven
+        ∙ routed_split s.routes (interleaving ts first.found) (interleaving us second.found) a b first.sends.leads
 
 -- a look alone
 pub looked : (a b : Machine) (s : Side) (l : Core) (k : Kept)
@@ -97,10 +97,10 @@ looked a b s l k run same = record {
   whole = run.whole;
   latched = run.latched;
   sends = run.sends;
-  rings =
-      subst (λ is. Rings is s.bell s.bell)
+  forwards =
+      subst (λ is. Forwards is s.bell s.bell)
       (sym (silent s.routes a.image a.core a.steps (interleaving (Looks ∷ []) run.found) (look_steps run.found)))
-      (rings_none s.bell);
+      (forwards_none s.bell);
   few = omega arith;
   line = same;
   core_id = refl;
@@ -117,11 +117,11 @@ happened e ts no_look is no_step a b s k sends = record {
   whole = tt;
   latched = sym (append-nil s.line.calls);
   sends = subst (λ es. Sends es a b (Some s.trace.bytes.items) (Some k.bytes.items)) (sym is) sends;
-  rings =
-      subst (λ is. Rings is s.bell s.bell)
-      (sym (ap (λ es. irqs_rung s.routes (shown_items a es)) is ∙ silent s.routes a.image a.core a.steps (e ∷ [])
+  forwards =
+      subst (λ is. Forwards is s.bell s.bell)
+      (sym (ap (λ es. irqs_routed s.routes (shown_items a es)) is ∙ silent s.routes a.image a.core a.steps (e ∷ [])
       no_step))
-      (rings_none s.bell);
+      (forwards_none s.bell);
   few = omega arith;
   line = same_line s.line;
   core_id = refl;
@@ -134,10 +134,10 @@ module _ (a b : Machine) (s : Side) (l : Core) (k : Kept)
   pub stepped : (c : Machine) (m : Kept) → IsSameLine s.line l
       → Sends (Step ∷ []) b c (Some k.bytes.items) (Some m.bytes.items)
       → (shown : Option What) → shown ≡ (step b.image b.core).1 → (u : Side)
-      → Rings (option_to_list (irq_of_shown s.routes shown)) s.bell u.bell
+      → Forwards (option_to_list (irq_of_shown s.routes shown)) s.bell u.bell
       → length u.bell.calls ≤ length s.bell.calls + 1
       → IsSameBut (record s { line = l; trace = m }) u → Runs (Happens Step ∷ []) a c s u
-  stepped c m same sends shown is u rings few rest =
+  stepped c m same sends shown is u forwards few rest =
       at run.found run.many run.whole run.latched run.sends
     where
       at : (found : List (List ℕ)) → length found ≡ 1 → AllByRecursion IsWholeLook found
@@ -156,7 +156,7 @@ module _ (a b : Machine) (s : Side) (l : Core) (k : Kept)
             (sym rest.trace)
             (sends_on (look_arrivals ws) (Step ∷ []) a b c (Some s.trace.bytes.items) (Some k.bytes.items)
             (Some m.bytes.items) alone sends);
-        rings = subst (λ is. Rings is s.bell u.bell) (sym rung) rings;
+        forwards = subst (λ is. Forwards is s.bell u.bell) (sym routed) forwards;
         few = few;
         line = subst (λ (x : Core). IsSameLine s.line x) (sym rest.line) same;
         core_id = rest.core_id;
@@ -168,13 +168,13 @@ module _ (a b : Machine) (s : Side) (l : Core) (k : Kept)
               subst (λ es. Sends es a b (Some s.trace.bytes.items) (Some k.bytes.items)) (append-nil (look_arrivals ws))
               came
 
-          rung : irqs_rung s.routes (shown_items a (look_arrivals ws ++ Step ∷ []))
+          routed : irqs_routed s.routes (shown_items a (look_arrivals ws ++ Step ∷ []))
               ≡ option_to_list (irq_of_shown s.routes shown)
-          rung =
-              rung_split s.routes (look_arrivals ws) (Step ∷ []) a b alone.leads
-              ∙ ap (λ is. is ++ irqs_rung s.routes (shown_items b (Step ∷ [])))
+          routed =
+              routed_split s.routes (look_arrivals ws) (Step ∷ []) a b alone.leads
+              ∙ ap (λ is. is ++ irqs_routed s.routes (shown_items b (Step ∷ [])))
               (silent s.routes a.image a.core a.steps (look_arrivals ws) (no_steps (arrivals_from 0 ws)))
-              ∙ step_rings s.routes b shown is
+              ∙ step_forwards s.routes b shown is
       at (ws ∷ vs ∷ found) many whole latched came = absurd (omega (arith, many))
 
   -- or the step was not shown
@@ -202,8 +202,8 @@ pub can_on : (ts : List Turn) (n k : ℕ) (a b : Machine) (s t : Side) (words th
     → length ts + n ≤ k → CanRun k a s words there → CanRun n b t words there
 can_on ts n k a b s t words there run fits can = record {
   able = still_able (interleaving ts run.found) a b s.line t.line words run.sends.leads run.line can.able;
-  bell = ap (λ (l : Line). l.words) run.rings.line ∙ can.bell;
-  may = subst (λ rs. MayRing rs there) (sym run.routes) can.may;
+  bell = ap (λ (l : Line). l.words) run.forwards.line ∙ can.bell;
+  may = subst (λ rs. MayForward rs there) (sym run.routes) can.may;
   few = omega (arith, run.sends.leads.steps, steps_woven ts run.found, fits, can.few);
   early = omega (
     arith,
@@ -223,7 +223,7 @@ can_on ts n k a b s t words there run fits can = record {
         fits,
         can.room,
       );
-  ring_room = omega (arith, run.few, fits, can.ring_room);
+  forward_room = omega (arith, run.few, fits, can.forward_room);
 }
 
 -- fewer turns can be done too
@@ -254,7 +254,7 @@ ended ts a b s t k held total run empty counted took = record {
       ∙ ap (λ n. t.trace.bytes.items ++ total_text n) counted
       ∙ ap (λ x. x ++ total_text b.steps) run.sends.took
       ∙ append_assoc s.trace.bytes.items (lines_of a (interleaving ts run.found)) (total_text b.steps);
-  rings = run.rings;
+  forwards = run.forwards;
   few = run.few;
   line = run.line;
 }

@@ -113,7 +113,7 @@ fn both_of(alloc: Global, first: &Image, second: &Image) -> Result<Both, NoMemor
         core_id: CoreId::First,
         line: first_lines.own,
         bell: second_lines.bell,
-        rung: 0,
+        forwarded: 0,
         routes: routes_of(first, &second.names),
         trace: Kept::new(alloc),
     };
@@ -121,7 +121,7 @@ fn both_of(alloc: Global, first: &Image, second: &Image) -> Result<Both, NoMemor
         core_id: CoreId::Second,
         line: second_lines.own,
         bell: first_lines.bell,
-        rung: 0,
+        forwarded: 0,
         routes: routes_of(second, &first.names),
         trace: Kept::new(alloc),
     };

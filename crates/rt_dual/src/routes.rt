@@ -1,7 +1,7 @@
 ghost use Rattle.std.specs.Prelude.{◌≡◌, ℕ, ◌<◌, ◌≤◌, None, slice_index_or};
 ghost use Rattle.rt_ids.specs.declared.limits.TheConstants.{IRQ_NUMBERS};
 ghost use Rattle.rt_dual.specs.Forwarded.{enables, forward};
-ghost use Rattle.rt_dual.specs.Inside.Ringing.{irq_of_shown};
+ghost use Rattle.rt_dual.specs.Inside.Forwarding.{irq_of_shown};
 
 use rt_code::Image;
 use rt_ids::limits::IRQ_NUMBERS;

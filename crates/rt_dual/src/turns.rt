@@ -49,7 +49,7 @@ fn step<G: Gate>(
     tell(side.core_id, core.steps(), gate);
     look(core, &mut side.line, words, &mut side.trace, held)?;
     let shown = show_step(core, &mut side.trace)?;
-    side.ring(there, &shown, gate);
+    side.forward(there, &shown, gate);
     Ok(())
 }
 

@@ -9,7 +9,7 @@ use Rattle.rt_live.specs.declared.account.AccountRow.{AccountRow}
 use Rattle.rt_script.specs.declared.line.Line.{Line}
 use Rattle.rt_dual.specs.Inside.Halves.{IsMade, CanClose, Settles, front}
 use Rattle.rt_dual.specs.Inside.Own.{number_of, other_of, events_at}
-use Rattle.rt_dual.specs.Inside.Ringing.{AreRoutes}
+use Rattle.rt_dual.specs.Inside.Forwarding.{AreRoutes}
 use Rattle.rt_dual.specs.Inside.Running.{Ends}
 use Rattle.rt_dual.specs.declared.half.Half.{Half}
 use Rattle.rt_dual.specs.declared.pairing.Both.{Both}
@@ -17,14 +17,14 @@ use Rattle.rt_dual.specs.declared.core_id.CoreId.{CoreId}
 use Rattle.rt_dual.specs.declared.core_id.CoreId.TheVariants.{First, Second}
 use Rattle.rt_dual.specs.declared.side.Side.{Side}
 
--- the side of a core with what belongs to it, before its first event; the other side rings on its words
+-- the side of a core with what belongs to it, before its first event; the other side pends on its words
 pub record IsBefore (core_id : CoreId) (img other : Image) (half : Half) (side far : Side) : Type 0 where
   pub made : IsMade img.names (number_of (other_of core_id)) half.words side.line far.bell half.rows.items
   pub front : half.front.items ≡ front core_id img
   pub at : side.core_id ≡ core_id
   pub routes : AreRoutes img other.names side.routes
   pub kept : side.trace.bytes.items ≡ []
-  pub unrung : side.rung ≡ 0
+  pub none_forwarded : side.forwarded ≡ 0
 
 -- both sides are so
 pub record AreBefore (first second : Image) (both : Both) : Type 0 where

@@ -9,18 +9,18 @@ use Rattle.rt_words.specs.Lines.{Row}
 use Rattle.rt_live.specs.Going.{IsWholeLook, IsSameLine}
 use Rattle.rt_live.specs.Interleaving.{Turn, looks, latches, interleaving}
 use Rattle.rt_live.specs.Able.{IsAble}
-use Rattle.rt_dual.specs.Inside.Ringing.{Rings, MayRing, irqs_rung}
+use Rattle.rt_dual.specs.Inside.Forwarding.{Forwards, MayForward, irqs_routed}
 use Rattle.rt_dual.specs.declared.side.Side.{Side}
 
--- so many turns can be done on the side of a core with these words, which rings on those of the other core
+-- so many turns can be done on the side of a core with these words, which pends on those of the other core
 pub record CanRun (n : ℕ) (m : Machine) (side : Side) (words there : Row) : Type 0 where
   pub able : IsAble m side.line words
   pub bell : side.bell.words ≡ there
-  pub may : MayRing side.routes there
+  pub may : MayForward side.routes there
   pub few : m.steps + n < 2 ^ 31
   pub early : m.core.time + n < 2 ^ 31
   pub room : length side.line.calls + 16 * n < 2 ^ 32 - 1
-  pub ring_room : length side.bell.calls + n < 2 ^ 32 - 1
+  pub forward_room : length side.bell.calls + n < 2 ^ 32 - 1
 
 -- All of these turns were done. The core's line made the latches of their looks, and the line of the other core's words
 -- the pends of what the core showed. The lines of the events of the interleaving were kept.
@@ -30,7 +30,7 @@ pub record Runs (ts : List Turn) (a b : Machine) (old new : Side) : Type 0 where
   pub whole : AllByRecursion IsWholeLook found
   pub latched : new.line.calls ≡ old.line.calls ++ flat_map latches found
   pub sends : Sends (interleaving ts found) a b (Some old.trace.bytes.items) (Some new.trace.bytes.items)
-  pub rings : Rings (irqs_rung old.routes (shown_items a (interleaving ts found))) old.bell new.bell
+  pub forwards : Forwards (irqs_routed old.routes (shown_items a (interleaving ts found))) old.bell new.bell
   pub few : length new.bell.calls ≤ length old.bell.calls + length ts
   pub line : IsSameLine old.line new.line
   pub core_id : new.core_id ≡ old.core_id
@@ -45,7 +45,7 @@ pub record Ends (ts : List Turn) (a b : Machine) (old new : Side) : Type 0 where
   pub leads : Leads (interleaving ts found) a b
   pub kept : new.trace.bytes.items
       ≡ old.trace.bytes.items ++ (lines_of a (interleaving ts found) ++ total_text b.steps)
-  pub rings : Rings (irqs_rung old.routes (shown_items a (interleaving ts found))) old.bell new.bell
+  pub forwards : Forwards (irqs_routed old.routes (shown_items a (interleaving ts found))) old.bell new.bell
   pub few : length new.bell.calls ≤ length old.bell.calls + length ts
   pub line : IsSameLine old.line new.line
 

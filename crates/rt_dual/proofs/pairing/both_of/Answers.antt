@@ -23,7 +23,7 @@ returns c =
             (λ irq less. c.routes_of.ensures.there irq less ∙ ap (λ (n : Names). forward first n irq) second_names)
             c.routes_of.ensures.above;
         kept = c.new.ensures.empty;
-        unrung = refl;
+        none_forwarded = refl;
       };
       two = record {
         made = two.made;
@@ -35,6 +35,6 @@ returns c =
             (λ irq less. c.routes_of-2.ensures.there irq less ∙ ap (λ (n : Names). forward second n irq) first_names)
             c.routes_of-2.ensures.above;
         kept = c.new-2.ensures.empty;
-        unrung = refl;
+        none_forwarded = refl;
       };
     }

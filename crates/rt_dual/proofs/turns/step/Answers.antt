@@ -5,9 +5,9 @@ use Rattle.rt_live.specs.Interleaving.{Happens, Looks, interleaving}
 use Rattle.rt_ids.specs.Event.{Step}
 use Rattle.rt_live.proofs.Looking.{step_look_cut}
 use Rattle.rt_live.proofs.Woven.{look_steps}
-use Rattle.rt_dual.specs.Inside.Ringing.{irq_of_shown}
+use Rattle.rt_dual.specs.Inside.Forwarding.{irq_of_shown}
 use Rattle.rt_dual.proofs.Cutting.{stopped}
-use Rattle.rt_dual.proofs.Ringing.{ring_few}
+use Rattle.rt_dual.proofs.Forwarding.{forward_few}
 use Rattle.rt_dual.proofs.Running.{stepped, step_begun}
 use Rattle.rt_dual.proofs.turns.step.Goals as goal
 
@@ -40,5 +40,5 @@ returns-clause-ok g c =
     let shown = c.in_ok-shown.shown in
     stepped c.args.core.now c.look.new.core side c.look.new.line c.look.new.out c.in_ok-look.ensures.ok
     c.show_step.new.core c.show_step.new.trace c.look.ensures.same c.in_ok-shown.ensures.ok shown
-    c.in_ok-shown.ensures.shown c.ring.new.self c.ring.ensures.rings
-    (ring_few (irq_of_shown side.routes shown) side.bell c.ring.new.self.bell c.ring.ensures.rings) c.ring.ensures.rest
+    c.in_ok-shown.ensures.shown c.forward.new.self c.forward.ensures.forwards
+    (forward_few (irq_of_shown side.routes shown) side.bell c.forward.new.self.bell c.forward.ensures.forwards) c.forward.ensures.rest

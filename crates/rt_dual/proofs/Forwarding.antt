@@ -20,7 +20,7 @@ use Rattle.rt_trace.specs.Label.{Label, Rang, Stepped, items_of}
 use Rattle.rt_trace.specs.declared.item.Item.{Item}
 use Rattle.rt_trace.specs.declared.item.What.{What}
 use Rattle.rt_words.specs.Lines.{Line}
-use Rattle.rt_dual.specs.Inside.Ringing.{Rings, irq_rung, irqs_rung, irq_of_shown}
+use Rattle.rt_dual.specs.Inside.Forwarding.{Forwards, irq_routed, irqs_routed, irq_of_shown}
 
 one_more : (o : Option ℕ) (all front behind : List ℕ) → all ≡ front ++ behind
     → cons_option o all ≡ cons_option o front ++ behind
@@ -28,21 +28,21 @@ one_more None all front behind same = same
 one_more (Some n) all front behind same = ap (λ is. n ∷ is) same
 
 -- items, and those behind them
-pub rung-append : (routes : List (Option ℕ)) (xs ys : List Item)
-    → irqs_rung routes (xs ++ ys) ≡ irqs_rung routes xs ++ irqs_rung routes ys
-rung-append routes [] ys = refl
-rung-append routes (x ∷ xs) ys =
-    one_more (irq_rung routes x.what) (irqs_rung routes (xs ++ ys)) (irqs_rung routes xs) (irqs_rung routes ys)
-    (rung-append routes xs ys)
+pub routed-append : (routes : List (Option ℕ)) (xs ys : List Item)
+    → irqs_routed routes (xs ++ ys) ≡ irqs_routed routes xs ++ irqs_routed routes ys
+routed-append routes [] ys = refl
+routed-append routes (x ∷ xs) ys =
+    one_more (irq_routed routes x.what) (irqs_routed routes (xs ++ ys)) (irqs_routed routes xs) (irqs_routed routes ys)
+    (routed-append routes xs ys)
 
 -- no pend
-pub rings_none : (a : Line) → Rings [] a a
-rings_none a =
+pub forwards_none : (a : Line) → Forwards [] a a
+forwards_none a =
     record { calls = []; asked = refl; line = ap (λ cs. record a { calls = cs }) (sym (append-nil a.calls)) }
 
 -- pends, and those behind them
-pub rings_on : (is js : List ℕ) (a b c : Line) → Rings is a b → Rings js b c → Rings (is ++ js) a c
-rings_on is js a b c first second = record {
+pub forwards_on : (is js : List ℕ) (a b c : Line) → Forwards is a b → Forwards js b c → Forwards (is ++ js) a c
+forwards_on is js a b c first second = record {
   calls = first.calls ++ second.calls;
   asked =
       map-append interrupt_asked first.calls second.calls
@@ -55,55 +55,55 @@ rings_on is js a b c first second = record {
 }
 
 -- an alarm is no post
-ring_silent : (routes : List (Option ℕ)) (n : ℕ) (c : Core) (alarm : Option Alarm) (rest : List Label)
-    → irqs_rung routes (items_of n ((ring c alarm).1 ++ rest)) ≡ irqs_rung routes (items_of n rest)
-ring_silent routes n c None rest = refl
-ring_silent routes n c (Some alarm) rest =
+alarm_silent : (routes : List (Option ℕ)) (n : ℕ) (c : Core) (alarm : Option Alarm) (rest : List Label)
+    → irqs_routed routes (items_of n ((ring c alarm).1 ++ rest)) ≡ irqs_routed routes (items_of n rest)
+alarm_silent routes n c None rest = refl
+alarm_silent routes n c (Some alarm) rest =
     one (nat_le alarm.instant c.time) (record (core_after_pend c alarm.irq) { alarm = None }) c
   where
     one : (due : Bool) (x y : Core)
-        → irqs_rung routes (items_of n ((if◌then◌else◌ {A = Core × List Label} due (x, Rang ∷ []) (y, [])).1 ++ rest))
-        ≡ irqs_rung routes (items_of n rest)
+        → irqs_routed routes (items_of n ((if◌then◌else◌ {A = Core × List Label} due (x, Rang ∷ []) (y, [])).1 ++ rest))
+        ≡ irqs_routed routes (items_of n rest)
     one true x y = refl
     one false x y = refl
 
 -- events without a step pend nothing
 pub silent : (routes : List (Option ℕ)) (img : Image) (c : Core) (n : ℕ) (es : List Event) → steps es ≡ 0
-    → irqs_rung routes (items_of n (labels img c es)) ≡ []
+    → irqs_routed routes (items_of n (labels img c es)) ≡ []
 unfolding labels happen
 silent routes img c n [] none = refl
 silent routes img c n (Arrive irq ∷ es) none = silent routes img (core_after_pend c irq) n es none
 silent routes img c n (Tick ∷ es) none =
-    ring_silent routes n (record c { time = suc c.time }) c.alarm (labels img (happen img c Tick).0 es)
+    alarm_silent routes n (record c { time = suc c.time }) c.alarm (labels img (happen img c Tick).0 es)
     ∙ silent routes img (happen img c Tick).0 n es none
 silent routes img c n (Step ∷ es) none = absurd (omega (arith, none))
 
 -- a step pends what it shows
-pub step_rings : (routes : List (Option ℕ)) (m : Machine) (shown : Option What) → shown ≡ (step m.image m.core).1
-    → irqs_rung routes (shown_items m (Step ∷ [])) ≡ option_to_list (irq_of_shown routes shown)
+pub step_forwards : (routes : List (Option ℕ)) (m : Machine) (shown : Option What) → shown ≡ (step m.image m.core).1
+    → irqs_routed routes (shown_items m (Step ∷ [])) ≡ option_to_list (irq_of_shown routes shown)
 unfolding labels happen
-step_rings routes m shown is =
-    ap (λ (s : Option What). irqs_rung routes (items_of m.steps (Stepped s ∷ []))) (sym is) ∙ one shown
+step_forwards routes m shown is =
+    ap (λ (s : Option What). irqs_routed routes (items_of m.steps (Stepped s ∷ []))) (sym is) ∙ one shown
   where
     listed : (o : Option ℕ) → cons_option o [] ≡ option_to_list o
     listed None = refl
     listed (Some n) = refl
 
     one : (s : Option What)
-        → irqs_rung routes (items_of m.steps (Stepped s ∷ [])) ≡ option_to_list (irq_of_shown routes s)
+        → irqs_routed routes (items_of m.steps (Stepped s ∷ [])) ≡ option_to_list (irq_of_shown routes s)
     one None = refl
-    one (Some w) = listed (irq_rung routes w)
+    one (Some w) = listed (irq_routed routes w)
 
 -- what events pend, and those behind them
-pub rung_split : (routes : List (Option ℕ)) (es fs : List Event) (a b : Machine) → Leads es a b
-    → irqs_rung routes (shown_items a (es ++ fs)) ≡ irqs_rung routes (shown_items a es)
-    ++ irqs_rung routes (shown_items b fs)
-rung_split routes es fs a b run =
-    ap (irqs_rung routes) (items_split es fs a b run) ∙ rung-append routes (shown_items a es) (shown_items b fs)
+pub routed_split : (routes : List (Option ℕ)) (es fs : List Event) (a b : Machine) → Leads es a b
+    → irqs_routed routes (shown_items a (es ++ fs)) ≡ irqs_routed routes (shown_items a es)
+    ++ irqs_routed routes (shown_items b fs)
+routed_split routes es fs a b run =
+    ap (irqs_routed routes) (items_split es fs a b run) ∙ routed-append routes (shown_items a es) (shown_items b fs)
 
 -- an item pends once at most
-pub ring_few : (o : Option ℕ) (a b : Line) → Rings (option_to_list o) a b → length b.calls ≤ length a.calls + 1
-ring_few o a b run =
+pub forward_few : (o : Option ℕ) (a b : Line) → Forwards (option_to_list o) a b → length b.calls ≤ length a.calls + 1
+forward_few o a b run =
     omega (
       arith,
       ap (λ (l : Line). length l.calls) run.line,
