@@ -5,7 +5,7 @@ use Rattle.std.proofs.Common.{length-append, length-drop, length-take-le}
 use Rattle.std.specs.List.{AllByRecursion}
 use Rattle.std.proofs.lemmas.List.{length-replicate, take-append-drop, replicate-append-replicate, take_all}
 use Rattle.rt_words.specs.declared.call.Call.{Call}
-use Rattle.rt_words.specs.History.{Leads}
+use Rattle.rt_words.specs.History.{LeavesWords}
 use Rattle.rt_live.specs.Going.{IsWholeLook}
 use Rattle.rt_live.specs.Interleaving.{latches_from, latches}
 use Rattle.rt_live.proofs.Onward.{entries, zeros, calls_lead, looked_from, looked, latches_on}
@@ -16,12 +16,12 @@ pub record Finishes (words last : List ℕ) (count : ℕ) : Type 0 where
   pub added : List (List ℕ)
   pub calls : List Call
   pub all : latches last ++ calls ≡ flat_map latches added
-  pub leads : Leads words (entries 255 calls) (zeros 16)
+  pub leads : LeavesWords words (entries 255 calls) (zeros 16)
   pub many : length added ≡ count
   pub whole : AllByRecursion IsWholeLook added
 
 -- looks that find nothing
-silent : (n : ℕ) → Leads (zeros 16) (entries 255 (flat_map latches (replicate n (zeros 16)))) (zeros 16)
+silent : (n : ℕ) → LeavesWords (zeros 16) (entries 255 (flat_map latches (replicate n (zeros 16)))) (zeros 16)
 silent zero = refl
 silent (suc n) =
     calls_lead 255 (zeros 16) (zeros 16) (zeros 16) (latches (zeros 16)) (flat_map latches (replicate n (zeros 16)))
@@ -48,7 +48,7 @@ looks_more words (suc n) long none =
       all = refl;
       leads =
           calls_lead 255 words (zeros 16) (zeros 16) (latches words) calls
-          (subst (λ m. Leads words (entries 255 (latches words)) (zeros m)) long (looked words)) (silent n);
+          (subst (λ m. LeavesWords words (entries 255 (latches words)) (zeros m)) long (looked words)) (silent n);
       many = ap suc (length-replicate n (zeros 16));
       whole = (long, all_whole n);
     }
@@ -59,14 +59,14 @@ left_from m words = take m words ++ zeros (16 - m)
 
 -- a look is finished from the word of this number on
 rest_looked : (m : ℕ) (words : List ℕ) → length words ≡ 16 → m ≤ 16
-    → Leads words (entries 255 (latches_from m (drop m words))) (left_from m words)
+    → LeavesWords words (entries 255 (latches_from m (drop m words))) (left_from m words)
 rest_looked m words long few =
     let front : List ℕ = take m words in
     let rest : List ℕ = drop m words in
     let behind : length rest ≡ 16 - m = length-drop m words ∙ ap (λ k. k - m) long in
     let first : length front ≡ m = length-take-le m words (omega (arith, long, few)) in
-    subst (λ (w : List ℕ). Leads w (entries 255 (latches_from m rest)) (left_from m words)) (take-append-drop m words)
-    (subst (λ k. Leads (front ++ rest) (entries 255 (latches_from m rest)) (front ++ zeros k)) behind
+    subst (λ (w : List ℕ). LeavesWords w (entries 255 (latches_from m rest)) (left_from m words)) (take-append-drop m words)
+    (subst (λ k. LeavesWords (front ++ rest) (entries 255 (latches_from m rest)) (front ++ zeros k)) behind
     (looked_from m front rest first))
 
 left_long : (m : ℕ) (words : List ℕ) → length words ≡ 16 → m ≤ 16 → length (left_from m words) ≡ 16

@@ -7,14 +7,14 @@ use mathlib.Core.List.{map-append}
 use Rattle.rt_words.specs.declared.call.Call.{Call}
 use Rattle.rt_words.specs.declared.call.Call.TheVariants.{Pend, Latch}
 use Rattle.rt_words.specs.Object.{after}
-use Rattle.rt_words.specs.History.{Leads, part}
+use Rattle.rt_words.specs.History.{LeavesWords, part}
 use Rattle.rt_words.specs.declared.call.Entry.{Entry}
 use Rattle.rt_live.specs.Interleaving.{latches_from, latches}
 
 -- a history, and one that goes on
-pub leads_on : (a b c : List ℕ) (front behind : List Entry) → Leads a front b → Leads b behind c
-    → Leads a (front ++ behind) c
-leads_on a b c [] behind first then = subst (λ (w : List ℕ). Leads w behind c) (sym first) then
+pub leads_on : (a b c : List ℕ) (front behind : List Entry) → LeavesWords a front b → LeavesWords b behind c
+    → LeavesWords a (front ++ behind) c
+leads_on a b c [] behind first then = subst (λ (w : List ℕ). LeavesWords w behind c) (sym first) then
 leads_on a b c (e ∷ es) behind first then = (first.0, leads_on (after a e.call) b c es behind first.1 then)
 
 -- what a call leaves is as many words
@@ -22,7 +22,7 @@ pub as_many : (words : List ℕ) (c : Call) → length (after words c) ≡ lengt
 as_many words (Pend n a) = length-set words _ _
 as_many words (Latch k word) = length-set words _ _
 
-pub led_as_many : (a b : List ℕ) (history : List Entry) → Leads a history b → length b ≡ length a
+pub led_as_many : (a b : List ℕ) (history : List Entry) → LeavesWords a history b → length b ≡ length a
 led_as_many a b [] leads = ap length (sym leads)
 led_as_many a b (e ∷ es) leads = led_as_many (after a e.call) b es leads.1 ∙ as_many a e.call
 
@@ -31,10 +31,10 @@ abbrev pub entries : ℕ → List Call → List Entry
 entries number calls = map (λ c. record { line = number; call = c }) calls
 
 -- calls of one line, and more of them
-pub calls_lead : (number : ℕ) (a b c : List ℕ) (front behind : List Call) → Leads a (entries number front) b
-    → Leads b (entries number behind) c → Leads a (entries number (front ++ behind)) c
+pub calls_lead : (number : ℕ) (a b c : List ℕ) (front behind : List Call) → LeavesWords a (entries number front) b
+    → LeavesWords b (entries number behind) c → LeavesWords a (entries number (front ++ behind)) c
 calls_lead number a b c front behind first then =
-    subst (λ (es : List Entry). Leads a es c) (sym (map-append (λ c. record { line = number; call = c }) front behind))
+    subst (λ (es : List Entry). LeavesWords a es c) (sym (map-append (λ c. record { line = number; call = c }) front behind))
     (leads_on a b c (entries number front) (entries number behind) first then)
 
 pub part_on : (front behind : List Entry) (n : ℕ) → part (front ++ behind) n ≡ part front n ++ part behind n
@@ -72,7 +72,7 @@ set_behind (y ∷ done) x rest = ap (λ (t : List ℕ). y ∷ t) (set_behind don
 
 -- The core latches each word behind the first ones: it finds them as they stand, and leaves them 0.
 pub looked_from : (k : ℕ) (done rest : List ℕ) → length done ≡ k
-    → Leads (done ++ rest) (entries 255 (latches_from k rest)) (done ++ zeros (length rest))
+    → LeavesWords (done ++ rest) (entries 255 (latches_from k rest)) (done ++ zeros (length rest))
 looked_from k done [] long = refl
 looked_from k done (x ∷ rest) long =
     let there : x ≡ get_or (done ++ x ∷ rest) k 0 =
@@ -81,9 +81,9 @@ looked_from k done (x ∷ rest) long =
     sym (ap (λ n. set (done ++ x ∷ rest) n 0) long) ∙ set_behind done x rest ∙ sym (append_assoc done (0 ∷ []) rest) in
     let longer : length (done ++ 0 ∷ []) ≡ suc k = omega (arith, long, length-append done (0 ∷ [])) in (
       there,
-      subst (λ (w : List ℕ). Leads w (entries 255 (latches_from (suc k) rest)) (done ++ zeros (length (x ∷ rest))))
+      subst (λ (w : List ℕ). LeavesWords w (entries 255 (latches_from (suc k) rest)) (done ++ zeros (length (x ∷ rest))))
           (sym left)
-          (subst (λ (w : List ℕ). Leads ((done ++ 0 ∷ []) ++ rest) (entries 255 (latches_from (suc k) rest)) w)
+          (subst (λ (w : List ℕ). LeavesWords ((done ++ 0 ∷ []) ++ rest) (entries 255 (latches_from (suc k) rest)) w)
           (append_assoc done (0 ∷ []) (zeros (length rest)))
           (looked_from (suc k) (done ++ 0 ∷ []) rest longer)),
     )
@@ -98,5 +98,5 @@ latches_on k (x ∷ xs) ys =
     (let e : suc k + length xs ≡ k + length (x ∷ xs) = omega arith in e))
 
 -- a look at every word, from its beginning
-pub looked : (words : List ℕ) → Leads words (entries 255 (latches words)) (zeros (length words))
+pub looked : (words : List ℕ) → LeavesWords words (entries 255 (latches words)) (zeros (length words))
 looked words = looked_from 0 [] words refl

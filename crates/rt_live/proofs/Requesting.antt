@@ -15,7 +15,7 @@ use Rattle.rt_words.specs.declared.call.Pended.TheVariants.{Raised, Merged}
 use Rattle.rt_words.specs.declared.call.Call.{Call}
 use Rattle.rt_words.specs.declared.call.Call.TheVariants.{Pend}
 use Rattle.rt_words.specs.Object.{IsAnswered, after, pending_bit}
-use Rattle.rt_words.specs.History.{Leads, part}
+use Rattle.rt_words.specs.History.{LeavesWords, part}
 use Rattle.rt_words.specs.declared.call.Entry.{Entry}
 use Rattle.rt_live.proofs.Onward.{leads_on, entries, part_on, part_own, part_other, zeros}
 use Rattle.rt_live.proofs.Extending.{IsCutHistory}
@@ -49,7 +49,7 @@ words_behind words [] = words
 words_behind words (irq ∷ irqs) = words_behind (after words (Pend irq (answer words irq))) irqs
 
 pends_lead : (number : ℕ) (words irqs : List ℕ)
-    → Leads words (entries number (pend_calls words irqs)) (words_behind words irqs)
+    → LeavesWords words (entries number (pend_calls words irqs)) (words_behind words irqs)
 unfolding pend_calls words_behind
 pends_lead number words [] = refl
 pends_lead number words (irq ∷ irqs) =
@@ -72,7 +72,7 @@ module _ (script : List Line) where
   words_below zero words = words
   words_below (suc n) words = words_below n (words_behind words (pends script n))
 
-  below_leads : (n : ℕ) (words : List ℕ) → Leads words (history_below n words) (words_below n words)
+  below_leads : (n : ℕ) (words : List ℕ) → LeavesWords words (history_below n words) (words_below n words)
   unfolding history_below words_below
   below_leads zero words = refl
   below_leads (suc n) words =

@@ -11,7 +11,7 @@ use Rattle.rt_words.specs.declared.call.Pended.TheVariants.{Raised, Merged}
 use Rattle.rt_words.specs.declared.call.Call.{Call}
 use Rattle.rt_words.specs.declared.call.Call.TheVariants.{Latch, Pend}
 use Rattle.rt_words.specs.Object.{pending_bit, after, IsAnswered}
-use Rattle.rt_words.specs.History.{Entry, Leads, IsLegal}
+use Rattle.rt_words.specs.History.{Entry, LeavesWords, IsLegal}
 use Rattle.rt_words.specs.Account.{raises, latches, raised_count, latched_count}
 use Rattle.rt_words.specs.Ending.{calls_in}
 use Rattle.rt_words.proofs.Bits.{blank, blank_long, zeros, zero_here, pend_same, pend_other, bit_elsewhere}
@@ -84,7 +84,7 @@ as_long : (words : List ℕ) (c : Call) → length (after words c) ≡ length wo
 as_long words (Pend n a) = length-set words _ _
 as_long words (Latch k word) = length-set words _ _
 
-accounts_from : (words last : List ℕ) (history : List Entry) (irq : ℕ) → Leads words history last
+accounts_from : (words last : List ℕ) (history : List Entry) (irq : ℕ) → LeavesWords words history last
     → irq / 32 < length words
     → pending_bit words irq + raised_count irq (calls_in history) ≡ latched_count irq (calls_in history)
     + pending_bit last irq

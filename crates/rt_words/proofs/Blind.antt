@@ -14,7 +14,7 @@ use Rattle.rt_words.specs.declared.call.Call.{Call}
 use Rattle.rt_words.specs.declared.call.Call.TheVariants.{Latch, Pend}
 use Rattle.rt_words.specs.declared.view.View.{View}
 use Rattle.rt_words.specs.Object.{IsAnswered}
-use Rattle.rt_words.specs.History.{Entry, Leads, IsLegal, part}
+use Rattle.rt_words.specs.History.{Entry, LeavesWords, IsLegal, part}
 use Rattle.rt_words.specs.Inside.Rule.{padded_words, Standing, Kept}
 use Rattle.rt_words.specs.Inside.Seats.{Seat, number_of, InUse, Seated}
 use Rattle.rt_words.specs.Inside.Steps.{newcomer, device}
@@ -103,7 +103,7 @@ standing = record {
 }
 
 -- behind the pend, the core's latch of 0 alone is not legal
-illegal : (more : List Entry) (last : List ℕ) → Leads (padded_words word) more last → part more 255 ≡ Latch 0 0 ∷ []
+illegal : (more : List Entry) (last : List ℕ) → LeavesWords (padded_words word) more last → part more 255 ≡ Latch 0 0 ∷ []
     → ((n : ℕ) → n ≢ 255 → part more n ≡ []) → ⊥
 illegal [] last leads own others = absurd cc
 illegal (e ∷ es) last leads own others = dite (ℕ_discrete e.line 255)

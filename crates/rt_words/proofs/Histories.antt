@@ -5,18 +5,18 @@ use Rattle.std.proofs.lemmas.List.Elements.{filter-append}
 use mathlib.Core.List.{map-append}
 use Rattle.rt_words.specs.declared.call.Call.{Call}
 use Rattle.rt_words.specs.Object.{IsAnswered, after}
-use Rattle.rt_words.specs.History.{Entry, Leads, part}
+use Rattle.rt_words.specs.History.{Entry, LeavesWords, part}
 
 abbrev pub entry : ℕ → Call → Entry
 entry n c = record { line = n; call = c }
 
-pub Leads-push : (words last : List ℕ) (history : List Entry) (e : Entry) → Leads words history last
-    → IsAnswered last e.call → Leads words (history ++ e ∷ []) (after last e.call)
-Leads-push words last [] e h a = (
+pub LeavesWords-push : (words last : List ℕ) (history : List Entry) (e : Entry) → LeavesWords words history last
+    → IsAnswered last e.call → LeavesWords words (history ++ e ∷ []) (after last e.call)
+LeavesWords-push words last [] e h a = (
   subst (λ (w : List ℕ). IsAnswered w e.call) (sym h) a,
   ap (λ (w : List ℕ). after w e.call) h,
 )
-Leads-push words last (x ∷ xs) e h a = (h.0, Leads-push (after words x.call) last xs e h.1 a)
+LeavesWords-push words last (x ∷ xs) e h a = (h.0, LeavesWords-push (after words x.call) last xs e h.1 a)
 
 abbrev of_line : ℕ → Entry → Bool
 of_line n e = eqb e.line n

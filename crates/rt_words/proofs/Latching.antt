@@ -16,7 +16,7 @@ use Rattle.rt_words.specs.Inside.Seats.{Seat}
 use Rattle.rt_words.specs.Inside.Steps.{view_after_call, latch_step}
 use Rattle.rt_words.proofs.Lists.{in_push, drop_push}
 use Rattle.rt_words.proofs.Bits.{blank, zero_padding, zero_here, zero_below, zero_pending, get_or_padding, bit_of_word}
-use Rattle.rt_words.proofs.Histories.{entry, Leads-push}
+use Rattle.rt_words.proofs.Histories.{entry, LeavesWords-push}
 use Rattle.rt_words.proofs.Seeing.{prefix_self, seen_more, extends}
 use Rattle.rt_words.proofs.Seats.{know_set, core_knows, seated_latch}
 
@@ -69,7 +69,7 @@ latched_standing may words views history core k st =
     record {
       row = zero_row may words k st.row;
       legal = subst (λ (l : List ℕ). IsLegal (history ++ entry 255 c ∷ []) l) (zero_padded words k)
-          (Leads-push _ (padded_words words) history (entry 255 c) st.legal
+          (LeavesWords-push _ (padded_words words) history (entry 255 c) st.legal
           (sym (get_or_padding words (16 - length words) k)));
       seated = seated_latch history views core more c st.seated;
       seen = seen_more history (entry 255 c ∷ []) views 0 (view_after_call core more c) st.seen (prefix_self more);

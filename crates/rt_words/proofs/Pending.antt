@@ -22,7 +22,7 @@ use Rattle.rt_words.specs.Inside.Rule.{IsRow, padded_words, Standing, Kept}
 use Rattle.rt_words.specs.Inside.Seats.{Seat}
 use Rattle.rt_words.specs.Inside.Steps.{view_after_call, Extends, answer_at, pend_step}
 use Rattle.rt_words.proofs.Bits.{blank, set_padding, get_or_padding, with_bit, pend_other}
-use Rattle.rt_words.proofs.Histories.{entry, Leads-push}
+use Rattle.rt_words.proofs.Histories.{entry, LeavesWords-push}
 use Rattle.rt_words.proofs.Seeing.{prefix_self, seen_more, extends}
 use Rattle.rt_words.proofs.Seats.{know_set, numbered, seated_pend}
 
@@ -106,7 +106,7 @@ pended_standing may words views history core id irq v st at stage may_be c is =
       row = pend_row may words irq may_be st.row;
       legal = subst (λ (x : List ℕ). IsLegal (history ++ entry v.line c ∷ []) x)
           (ap (λ (x : Call). after (padded_words words) x) is ∙ pend_padded words irq (answer_at n (irq % 32)) l)
-          (Leads-push _ (padded_words words) history (entry v.line c) st.legal a);
+          (LeavesWords-push _ (padded_words words) history (entry v.line c) st.legal a);
       seated = seated_pend history views core id v more c st.seated at stage;
       seen = seen_more history (entry v.line c ∷ []) views id (view_after_call v more c) st.seen (prefix_self more);
       same_may = know_set may views id (view_after_call v more c) st.same_may (st.same_may id v at);

@@ -5,14 +5,14 @@ pub use Rattle.rt_words.specs.declared.call.Entry.{Entry}
 use Rattle.rt_words.specs.Object.{IsAnswered, after}
 
 -- each call got the answer of the words that it met, from the first words on, and the last words are left
-abbrev pub Leads : List ℕ → List Entry → List ℕ → Type 0
-Leads words [] last = words ≡ last
-Leads words (e ∷ es) last = IsAnswered words e.call × Leads (after words e.call) es last
+abbrev pub LeavesWords : List ℕ → List Entry → List ℕ → Type 0
+LeavesWords words [] last = words ≡ last
+LeavesWords words (e ∷ es) last = IsAnswered words e.call × LeavesWords (after words e.call) es last
 
 -- the history is legal (Herlihy and Wing, Linearizability, 1990): one thread could have made these calls, from words of
 -- 0 on
 abbrev pub IsLegal : List Entry → List ℕ → Type 0
-IsLegal history last = Leads (replicate 16 0) history last
+IsLegal history last = LeavesWords (replicate 16 0) history last
 
 -- the calls of one line, in their order
 abbrev pub part : List Entry → ℕ → List Call
