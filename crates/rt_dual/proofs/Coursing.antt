@@ -28,7 +28,7 @@ use Rattle.rt_words.specs.History.{part}
 use Rattle.rt_words.specs.Lines.{Row, Core as CoreLine, Line as BellLine}
 use Rattle.rt_live.specs.Account.{account_of, account_text, declared_irqs, empty_row}
 use Rattle.rt_live.specs.Ready.{irqs_of}
-use Rattle.rt_live.specs.Interleaving.{latches, interleaving}
+use Rattle.rt_live.specs.Interleaving.{look_calls, interleaving}
 use Rattle.rt_live.specs.declared.account.AccountRow.{AccountRow}
 use Rattle.rt_dual.specs.Course.{Course, IsCourse, turns, course_events, course_items, first_events, second_events}
 use Rattle.rt_dual.specs.Doing.{HasPaired}
@@ -107,7 +107,7 @@ module _ (core_id : CoreId) (other : Image) (es : List Event) (m n : Machine) (h
     legal = closed.legal;
     own =
         closed.core ∙ run.latched
-        ∙ ap (λ (l : CoreLine). l.calls ++ flat_map latches run.found) before.made.unused;
+        ∙ ap (λ (l : CoreLine). l.calls ++ flat_map look_calls run.found) before.made.unused;
     pended =
         ap (λ k. map interrupt_asked (part closed.history k)) (sym number_is) ∙ ap (map interrupt_asked) closed.other
         ∙ forwards;

@@ -16,7 +16,7 @@ use Rattle.rt_outside.specs.Bytes.{Took}
 use Rattle.rt_trace.specs.Text.{total_text}
 use Rattle.rt_trace.specs.declared.item.What.{What}
 use Rattle.rt_words.specs.Lines.{Row, Core, Line}
-use Rattle.rt_live.specs.Interleaving.{Turn, Happens, Looks, looks, look_arrivals, arrivals_from, latches, interleaving}
+use Rattle.rt_live.specs.Interleaving.{Turn, Happens, Looks, looks, look_arrivals, arrivals_from, look_calls, interleaving}
 use Rattle.rt_live.specs.Going.{IsWholeLook, Goes, IsSameLine}
 use Rattle.rt_live.proofs.Owning.{still_able, same_line, same_line_on}
 use Rattle.rt_live.proofs.Turning.{calls_on}
@@ -141,7 +141,7 @@ module _ (a b : Machine) (s : Side) (l : Core) (k : Kept)
       at run.found run.many run.whole run.latched run.sends
     where
       at : (found : List (List ℕ)) → length found ≡ 1 → AllByRecursion IsWholeLook found
-          → l.calls ≡ s.line.calls ++ flat_map latches found
+          → l.calls ≡ s.line.calls ++ flat_map look_calls found
           → Sends (interleaving (Looks ∷ []) found) a b (Some s.trace.bytes.items) (Some k.bytes.items)
           → Runs (Happens Step ∷ []) a c s u
       at [] many whole latched came = absurd (omega (arith, many))
@@ -216,7 +216,7 @@ can_on ts n k a b s t words there run fits can = record {
       omega (
         arith,
         ap length run.latched,
-        length-append s.line.calls (flat_map latches run.found),
+        length-append s.line.calls (flat_map look_calls run.found),
         all_latches run.found run.whole,
         run.many,
         looks_below ts,

@@ -13,7 +13,7 @@ use Rattle.rt_trace.specs.declared.item.Item.{Item}
 use Rattle.rt_words.specs.History.{IsLegal, part}
 use Rattle.rt_words.specs.declared.call.Entry.{Entry}
 use Rattle.rt_live.specs.Going.{IsWholeLook}
-use Rattle.rt_live.specs.Interleaving.{Turn, Happens, Looks, looks, latches, interleaving}
+use Rattle.rt_live.specs.Interleaving.{Turn, Happens, Looks, looks, look_calls, interleaving}
 
 -- the script's events without the requests of interrupts, which are all the first core's
 abbrev pub is_of_both : Event → Bool
@@ -55,6 +55,6 @@ pub record IsCourse (events : List Event) (other : ℕ) (pends : List ℕ) (cour
   pub many : length course.found ≡ looks (turns events)
   pub whole : AllByRecursion IsWholeLook course.found
   pub legal : IsLegal course.history course.left
-  pub own : part course.history 255 ≡ flat_map latches course.found
+  pub own : part course.history 255 ≡ flat_map look_calls course.found
   pub pended : map interrupt_asked (part course.history other) ≡ map (λ irq. Some irq) pends
   pub others : (number : ℕ) → number ≢ 255 → number ≢ other → part course.history number ≡ []

@@ -14,7 +14,7 @@ use Rattle.rt_core.specs.Machine.{Machine}
 use Rattle.rt_run.specs.Sending.{Sends, Breaks}
 use Rattle.rt_run.proofs.Sent.{sends_none, sends_on, breaks_behind, breaks_before}
 use Rattle.rt_words.specs.declared.call.Call.TheVariants.{Latch}
-use Rattle.rt_live.specs.Interleaving.{arrivals_from, look_arrivals, latches_from, latches}
+use Rattle.rt_live.specs.Interleaving.{arrivals_from, look_arrivals, look_calls_from, look_calls}
 
 abbrev test : ℕ → ℕ → Bool
 test word bit = bit_at word bit == 1
@@ -138,16 +138,16 @@ arrived_more words word k many =
     ∙ map-append Arrive (arrivals_from 0 words) (arrivals k word)
 
 latches_from-append : (k : ℕ) (words : List ℕ) (word : ℕ)
-    → latches_from k (words ++ word ∷ []) ≡ latches_from k words ++ Latch (k + length words) word ∷ []
+    → look_calls_from k (words ++ word ∷ []) ≡ look_calls_from k words ++ Latch (k + length words) word ∷ []
 latches_from-append k [] word = ap (λ n. Latch n word ∷ []) (let e : k ≡ k + 0 = omega arith in e)
 latches_from-append k (w ∷ words) word =
     ap (λ cs. Latch k w ∷ cs)
     (latches_from-append (suc k) words word
-    ∙ ap (λ n. latches_from (suc k) words ++ Latch n word ∷ [])
+    ∙ ap (λ n. look_calls_from (suc k) words ++ Latch n word ∷ [])
     (let e : suc k + length words ≡ k + suc (length words) = omega arith in e))
 
 pub latches_more : (words : List ℕ) (word k : ℕ) → length words ≡ k
-    → latches (words ++ word ∷ []) ≡ latches words ++ Latch k word ∷ []
+    → look_calls (words ++ word ∷ []) ≡ look_calls words ++ Latch k word ∷ []
 latches_more words word k many =
     latches_from-append 0 words word
-    ∙ ap (λ n. latches words ++ Latch n word ∷ []) (let e : 0 + length words ≡ k = omega (arith, many) in e)
+    ∙ ap (λ n. look_calls words ++ Latch n word ∷ []) (let e : 0 + length words ≡ k = omega (arith, many) in e)

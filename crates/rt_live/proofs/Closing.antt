@@ -15,20 +15,20 @@ use Rattle.rt_devices.specs.Work.{interrupt_asked}
 use Rattle.rt_live.specs.Devices.{devices}
 use Rattle.rt_live.specs.Going.{LatchedLast}
 use Rattle.rt_live.specs.History.{IsHistory}
-use Rattle.rt_live.specs.Interleaving.{latches}
+use Rattle.rt_live.specs.Interleaving.{look_calls}
 use Rattle.rt_live.proofs.Extending.{IsCutHistory}
 use Rattle.rt_live.proofs.Finishing.{all_zeros}
 use Rattle.rt_live.proofs.Numbered.{not_asked}
 use Rattle.rt_live.proofs.Onward.{led_as_many, zeros}
 
 -- a look that was cut before its first word is none
-pub cut_before : (found : List (List ℕ)) → flat_map latches (found ++ [] ∷ []) ≡ flat_map latches found
-cut_before found = flat_map-append latches found ([] ∷ []) ∙ append-nil (flat_map latches found)
+pub cut_before : (found : List (List ℕ)) → flat_map look_calls (found ++ [] ∷ []) ≡ flat_map look_calls found
+cut_before found = flat_map-append look_calls found ([] ∷ []) ∙ append-nil (flat_map look_calls found)
 
 -- the history is that of the script's devices and of the core's looks, where the lines are theirs
 pub closes_cut : (script : List Line) (found : List (List ℕ)) (last bits : List ℕ) (line : Core)
     (h : OneHistory line bits)
-    → AllByRecursion HasDeviceInRange script → line.calls ≡ flat_map latches (found ++ last ∷ [])
+    → AllByRecursion HasDeviceInRange script → line.calls ≡ flat_map look_calls (found ++ last ∷ [])
     → AllGathered line.made line.gathered
     → ((p : Part) → Contains line.gathered p → map interrupt_asked p.calls
     ≡ map (λ irq. Some irq) (pends script p.line))

@@ -27,7 +27,7 @@ use Rattle.rt_live.specs.Latched.{Halts, Completes}
 use Rattle.rt_live.specs.Doing.{HasLived, HasWritten, HasWrittenPart}
 use Rattle.rt_live.specs.Output.{IsLiveText, IsBalanced}
 use Rattle.rt_live.specs.Ready.{Prepared, IsReady, IsCounted, irqs_of}
-use Rattle.rt_live.specs.Interleaving.{turns, latches, interleaving}
+use Rattle.rt_live.specs.Interleaving.{turns, look_calls, interleaving}
 use Rattle.rt_live.specs.Written.{live_text, TookToTotal}
 use Rattle.rt_live.specs.declared.account.AccountRow.{AccountRow}
 use Rattle.rt_live.proofs.Closing.{cut_before, closes_whole}
@@ -62,7 +62,7 @@ module _ (ready : Prepared) (is : IsReady ready) (gone : ready.devices ≡ [])
         (λ there. out (subst (λ (ns : List ℕ). Contains ns number) (sym named) there))))
   ]
 
-  cut_history : (found : List (List ℕ)) (last : List ℕ) → ready.line.calls ≡ flat_map latches (found ++ last ∷ [])
+  cut_history : (found : List (List ℕ)) (last : List ℕ) → ready.line.calls ≡ flat_map look_calls (found ++ last ∷ [])
       → IsCutHistory ready.script found last closed.left closed.history
   cut_history found last latched =
       record { legal = closed.legal; core = closed.core ∙ latched; devices = asked }

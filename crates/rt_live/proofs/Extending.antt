@@ -17,7 +17,7 @@ use Rattle.rt_words.specs.History.{IsLegal, part}
 use Rattle.rt_words.specs.declared.call.Entry.{Entry}
 use Rattle.rt_live.specs.Going.{IsWholeLook}
 use Rattle.rt_live.specs.History.{IsHistory}
-use Rattle.rt_live.specs.Interleaving.{Turn, looks, look_arrivals, latches, interleaving}
+use Rattle.rt_live.specs.Interleaving.{Turn, looks, look_arrivals, look_calls, interleaving}
 use Rattle.rt_live.proofs.Onward.{leads_on, led_as_many, entries, part_on, part_own, part_other, zeros}
 use Rattle.rt_live.proofs.Further.{interleaving_finished}
 use Rattle.rt_live.proofs.Finishing.{Finishes, FinishesLook, looks_more, finish, nothing_left}
@@ -26,7 +26,7 @@ use Rattle.rt_live.proofs.Finishing.{Finishes, FinishesLook, looks_more, finish,
 pub record IsCutHistory (script : List Line) (found : List (List ℕ)) (last words : List ℕ) (history : List Entry)
     : Type 0 where
   pub legal : IsLegal history words
-  pub core : part history 255 ≡ flat_map latches (found ++ last ∷ [])
+  pub core : part history 255 ≡ flat_map look_calls (found ++ last ∷ [])
   pub devices : (number : ℕ) → number ≢ 255
       → map interrupt_asked (part history number) ≡ map (λ irq. Some irq) (pends script number)
 
@@ -48,15 +48,15 @@ pub record Extends (script : List Line) (ts : List Turn) (found : List (List ℕ
 module _ (script : List Line) (found : List (List ℕ)) (last words : List ℕ) (history : List Entry)
     (cut : IsCutHistory script found last words history) where
   core_all : (count : ℕ) (more : Finishes words last count)
-      → part (history ++ entries 255 more.calls) 255 ≡ flat_map latches (found ++ more.added)
+      → part (history ++ entries 255 more.calls) 255 ≡ flat_map look_calls (found ++ more.added)
   core_all count more =
       part_on history (entries 255 more.calls) 255
       ∙ ap (λ (t : List Call). part history 255 ++ t) (part_own 255 more.calls)
-      ∙ ap (λ (t : List Call). t ++ more.calls) (cut.core ∙ flat_map-append latches found (last ∷ []))
-      ∙ append_assoc (flat_map latches found) (latches last ++ []) more.calls
-      ∙ ap (λ (t : List Call). flat_map latches found ++ (t ++ more.calls)) (append-nil (latches last))
-      ∙ ap (λ (t : List Call). flat_map latches found ++ t) more.all
-      ∙ sym (flat_map-append latches found more.added)
+      ∙ ap (λ (t : List Call). t ++ more.calls) (cut.core ∙ flat_map-append look_calls found (last ∷ []))
+      ∙ append_assoc (flat_map look_calls found) (look_calls last ++ []) more.calls
+      ∙ ap (λ (t : List Call). flat_map look_calls found ++ (t ++ more.calls)) (append-nil (look_calls last))
+      ∙ ap (λ (t : List Call). flat_map look_calls found ++ t) more.all
+      ∙ sym (flat_map-append look_calls found more.added)
 
   others_stay : (calls : List Call) (number : ℕ) → number ≢ 255
       → part (history ++ entries 255 calls) number ≡ part history number

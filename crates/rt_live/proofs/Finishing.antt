@@ -7,7 +7,7 @@ use Rattle.std.proofs.lemmas.List.{length-replicate, take-append-drop, replicate
 use Rattle.rt_words.specs.declared.call.Call.{Call}
 use Rattle.rt_words.specs.History.{LeavesWords}
 use Rattle.rt_live.specs.Going.{IsWholeLook}
-use Rattle.rt_live.specs.Interleaving.{latches_from, latches}
+use Rattle.rt_live.specs.Interleaving.{look_calls_from, look_calls}
 use Rattle.rt_live.proofs.Onward.{entries, zeros, calls_lead, looked_from, looked, latches_on}
 
 -- From these words on, behind a look that found these first words: so many looks more, the begun one with them, and
@@ -15,16 +15,16 @@ use Rattle.rt_live.proofs.Onward.{entries, zeros, calls_lead, looked_from, looke
 pub record Finishes (words last : List ℕ) (count : ℕ) : Type 0 where
   pub added : List (List ℕ)
   pub calls : List Call
-  pub all : latches last ++ calls ≡ flat_map latches added
+  pub all : look_calls last ++ calls ≡ flat_map look_calls added
   pub leads : LeavesWords words (entries 255 calls) (zeros 16)
   pub many : length added ≡ count
   pub whole : AllByRecursion IsWholeLook added
 
 -- looks that find nothing
-silent : (n : ℕ) → LeavesWords (zeros 16) (entries 255 (flat_map latches (replicate n (zeros 16)))) (zeros 16)
+silent : (n : ℕ) → LeavesWords (zeros 16) (entries 255 (flat_map look_calls (replicate n (zeros 16)))) (zeros 16)
 silent zero = refl
 silent (suc n) =
-    calls_lead 255 (zeros 16) (zeros 16) (zeros 16) (latches (zeros 16)) (flat_map latches (replicate n (zeros 16)))
+    calls_lead 255 (zeros 16) (zeros 16) (zeros 16) (look_calls (zeros 16)) (flat_map look_calls (replicate n (zeros 16)))
     (looked (zeros 16)) (silent n)
 
 all_whole : (n : ℕ) → AllByRecursion IsWholeLook (replicate n (zeros 16))
@@ -42,13 +42,13 @@ looks_more words zero long none = record {
   whole = tt;
 }
 looks_more words (suc n) long none =
-    let calls : List Call = flat_map latches (replicate n (zeros 16)) in record {
+    let calls : List Call = flat_map look_calls (replicate n (zeros 16)) in record {
       added = words ∷ replicate n (zeros 16);
-      calls = latches words ++ calls;
+      calls = look_calls words ++ calls;
       all = refl;
       leads =
-          calls_lead 255 words (zeros 16) (zeros 16) (latches words) calls
-          (subst (λ m. LeavesWords words (entries 255 (latches words)) (zeros m)) long (looked words)) (silent n);
+          calls_lead 255 words (zeros 16) (zeros 16) (look_calls words) calls
+          (subst (λ m. LeavesWords words (entries 255 (look_calls words)) (zeros m)) long (looked words)) (silent n);
       many = ap suc (length-replicate n (zeros 16));
       whole = (long, all_whole n);
     }
@@ -59,14 +59,14 @@ left_from m words = take m words ++ zeros (16 - m)
 
 -- a look is finished from the word of this number on
 rest_looked : (m : ℕ) (words : List ℕ) → length words ≡ 16 → m ≤ 16
-    → LeavesWords words (entries 255 (latches_from m (drop m words))) (left_from m words)
+    → LeavesWords words (entries 255 (look_calls_from m (drop m words))) (left_from m words)
 rest_looked m words long few =
     let front : List ℕ = take m words in
     let rest : List ℕ = drop m words in
     let behind : length rest ≡ 16 - m = length-drop m words ∙ ap (λ k. k - m) long in
     let first : length front ≡ m = length-take-le m words (omega (arith, long, few)) in
-    subst (λ (w : List ℕ). LeavesWords w (entries 255 (latches_from m rest)) (left_from m words)) (take-append-drop m words)
-    (subst (λ k. LeavesWords (front ++ rest) (entries 255 (latches_from m rest)) (front ++ zeros k)) behind
+    subst (λ (w : List ℕ). LeavesWords w (entries 255 (look_calls_from m rest)) (left_from m words)) (take-append-drop m words)
+    (subst (λ k. LeavesWords (front ++ rest) (entries 255 (look_calls_from m rest)) (front ++ zeros k)) behind
     (looked_from m front rest first))
 
 left_long : (m : ℕ) (words : List ℕ) → length words ≡ 16 → m ≤ 16 → length (left_from m words) ≡ 16
@@ -99,17 +99,17 @@ finish words last n long short none =
     let left : List ℕ = left_from m words in
     let behind : length rest ≡ 16 - m = length-drop m words ∙ ap (λ k. k - m) long in
     let more : Finishes left [] n = looks_more left n (left_long m words long short) none in
-    let now : List Call = latches_from m rest in
-    let joined : latches last ++ now ≡ latches (last ++ rest) =
-    ap (λ k. latches last ++ latches_from k rest) (let e : m ≡ 0 + m = omega arith in e)
+    let now : List Call = look_calls_from m rest in
+    let joined : look_calls last ++ now ≡ look_calls (last ++ rest) =
+    ap (λ k. look_calls last ++ look_calls_from k rest) (let e : m ≡ 0 + m = omega arith in e)
     ∙ sym (latches_on 0 last rest) in
     let all : Finishes words last (suc n) = record {
       added = (last ++ rest) ∷ more.added;
       calls = now ++ more.calls;
       all =
-          sym (append_assoc (latches last) now more.calls)
+          sym (append_assoc (look_calls last) now more.calls)
           ∙ ap (λ (t : List Call). t ++ more.calls) joined
-          ∙ ap (λ (t : List Call). latches (last ++ rest) ++ t) more.all;
+          ∙ ap (λ (t : List Call). look_calls (last ++ rest) ++ t) more.all;
       leads =
           calls_lead 255 words left (zeros 16) now more.calls (rest_looked m words long short) more.leads;
       many = ap suc more.many;

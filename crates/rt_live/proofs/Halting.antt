@@ -7,7 +7,7 @@ use Rattle.rt_words.specs.Lines.{Core}
 use Rattle.rt_words.specs.declared.call.Call.{Call}
 use Rattle.rt_live.specs.Going.{Goes, Stops, Ends, LatchedLast}
 use Rattle.rt_live.specs.Latched.{LatchedSo, Halts}
-use Rattle.rt_live.specs.Interleaving.{Turn, Looks, latches}
+use Rattle.rt_live.specs.Interleaving.{Turn, Looks, look_calls}
 use Rattle.rt_live.proofs.Closing.{cut_before}
 use Rattle.rt_live.proofs.Settling.{latched_own, latched_added}
 use Rattle.rt_live.proofs.Woven.{looks-append}
@@ -52,7 +52,7 @@ module _ (ts us : List Turn) (line : Core) (calls : List Call) (a b c : Machine)
         late =
             so_late (ts ++ Looks ∷ us) (first.found ++ cut.found) _ cut.last _ line same.0 same.1
             (latched_added ts us first.found cut.found cut.last line (drop line.since calls) first.many cut.whole
-            (behind_calls line calls (flat_map latches (cut.found ++ cut.last ∷ [])) within cut.latched));
+            (behind_calls line calls (flat_map look_calls (cut.found ++ cut.last ∷ [])) within cut.latched));
       }
 
   -- all was done
@@ -61,7 +61,7 @@ module _ (ts us : List Turn) (line : Core) (calls : List Call) (a b c : Machine)
   latched_last wrote last =
       let late : LatchedSo (ts ++ Looks ∷ us) (first.found ++ last.found) [] line =
       latched_added ts us first.found last.found [] line (drop line.since calls) first.many last.whole
-      (behind_calls line calls (flat_map latches last.found) within last.latched
+      (behind_calls line calls (flat_map look_calls last.found) within last.latched
       ∙ ap (λ cs. drop line.since calls ++ cs) (sym (cut_before last.found))) in
       late.all
       (omega (

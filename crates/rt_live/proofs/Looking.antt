@@ -11,7 +11,7 @@ use Rattle.rt_run.specs.Sending.{Sends, Breaks}
 use Rattle.rt_run.proofs.Sent.{sends_none, sends_on, breaks_behind, breaks_before}
 use Rattle.rt_words.specs.declared.call.Call.{Call}
 use Rattle.rt_words.specs.declared.call.Call.TheVariants.{Latch}
-use Rattle.rt_live.specs.Interleaving.{Turn, Happens, Looks, looks, look_arrivals, latches, interleaving}
+use Rattle.rt_live.specs.Interleaving.{Turn, Happens, Looks, looks, look_arrivals, look_calls, interleaving}
 use Rattle.rt_live.specs.Going.{IsWholeLook, Goes, Stops}
 use Rattle.rt_live.proofs.Bits.{arrived_more, latches_more}
 
@@ -19,7 +19,7 @@ use Rattle.rt_live.proofs.Bits.{arrived_more, latches_more}
 pub record Finds (k : ℕ) (calls calls' : List Call) (old new : Machine) (before after : Option (List ℕ)) : Type 0 where
   pub found : List ℕ
   pub many : length found ≡ k
-  pub latched : calls' ≡ calls ++ latches found
+  pub latched : calls' ≡ calls ++ look_calls found
   pub sends : Sends (look_arrivals found) old new before after
 
 pub finds_none : (calls : List Call) (m : Machine) (x : Option (List ℕ)) → Finds 0 calls calls m m x x
@@ -37,7 +37,7 @@ module _ (calls calls' : List Call) (a b : Machine) (x y : Option (List ℕ)) wh
     found = finds.found ∷ [];
     many = refl;
     whole = (finds.many ∙ all, tt);
-    latched = finds.latched ∙ ap (λ cs. calls ++ cs) (sym (append-nil (latches finds.found)));
+    latched = finds.latched ∙ ap (λ cs. calls ++ cs) (sym (append-nil (look_calls finds.found)));
     sends = subst (λ es. Sends es a b x y) (sym (append-nil (look_arrivals finds.found))) finds.sends;
   }
 
@@ -49,10 +49,10 @@ module _ (calls calls' : List Call) (a b : Machine) (x y : Option (List ℕ)) wh
     many : length words ≡ suc k
     many = omega (arith, length-append finds.found (word ∷ []), finds.many)
 
-    latched : calls'' ≡ calls ++ latches words
+    latched : calls'' ≡ calls ++ look_calls words
     latched =
         call ∙ ap (λ cs. cs ++ Latch k word ∷ []) finds.latched
-        ∙ append_assoc calls (latches finds.found) (Latch k word ∷ [])
+        ∙ append_assoc calls (look_calls finds.found) (Latch k word ∷ [])
         ∙ ap (λ cs. calls ++ cs) (sym (latches_more finds.found word k finds.many))
 
     -- one word more
@@ -76,8 +76,8 @@ module _ (calls calls' : List Call) (a b : Machine) (x y : Option (List ℕ)) wh
             subst (λ es. Breaks es a c x z) (sym (arrived_more finds.found word k finds.many))
             (breaks_behind (look_arrivals finds.found) (map Arrive (arrivals k word)) a b c x y z finds.sends breaks)
 
-        all_calls : calls'' ≡ calls ++ (latches words ++ [])
-        all_calls = latched ∙ ap (λ cs. calls ++ cs) (sym (append-nil (latches words)))
+        all_calls : calls'' ≡ calls ++ (look_calls words ++ [])
+        all_calls = latched ∙ ap (λ cs. calls ++ cs) (sym (append-nil (look_calls words)))
 
         in_midst : suc k < 16 → Stops (Looks ∷ []) calls calls'' a c x z
         in_midst less = record {
@@ -110,7 +110,7 @@ module _ (calls calls' : List Call) (a b c : Machine) (x y z : Option (List ℕ)
   step_alone run step = at run.found run.many run.whole run.latched run.sends
     where
       at : (found : List (List ℕ)) → length found ≡ 1 → AllByRecursion IsWholeLook found
-          → calls' ≡ calls ++ flat_map latches found → Sends (interleaving (Looks ∷ []) found) a b x y
+          → calls' ≡ calls ++ flat_map look_calls found → Sends (interleaving (Looks ∷ []) found) a b x y
           → Goes (Happens Step ∷ []) calls calls' a c x z
       at [] many whole latched sends = absurd (omega (arith, many))
       at (ws ∷ []) many whole latched sends = record {
@@ -130,7 +130,7 @@ module _ (calls calls' : List Call) (a b c : Machine) (x y z : Option (List ℕ)
   step_cut run breaks = at run.found run.many run.whole run.latched run.sends
     where
       at : (found : List (List ℕ)) → length found ≡ 1 → AllByRecursion IsWholeLook found
-          → calls' ≡ calls ++ flat_map latches found → Sends (interleaving (Looks ∷ []) found) a b x y
+          → calls' ≡ calls ++ flat_map look_calls found → Sends (interleaving (Looks ∷ []) found) a b x y
           → Stops (Happens Step ∷ []) calls calls' a c x z
       at [] many whole latched sends = absurd (omega (arith, many))
       at (ws ∷ []) many whole latched sends = record {
@@ -153,7 +153,7 @@ pub step_look_cut : (calls calls' : List Call) (a b : Machine) (x y : Option (Li
 step_look_cut calls calls' a b x y cut = at cut.found cut.last cut.few cut.whole cut.short cut.latched cut.breaks
   where
     at : (found : List (List ℕ)) (last : List ℕ) → IsFew (Looks ∷ []) found last → AllByRecursion IsWholeLook found
-        → length last < 16 → calls' ≡ calls ++ flat_map latches (found ++ last ∷ [])
+        → length last < 16 → calls' ≡ calls ++ flat_map look_calls (found ++ last ∷ [])
         → Breaks (interleaving (Looks ∷ []) found ++ look_arrivals last) a b x y
         → Stops (Happens Step ∷ []) calls calls' a b x y
     at [] last few whole short latched breaks = record {

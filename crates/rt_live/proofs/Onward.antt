@@ -9,7 +9,7 @@ use Rattle.rt_words.specs.declared.call.Call.TheVariants.{Pend, Latch}
 use Rattle.rt_words.specs.Object.{after}
 use Rattle.rt_words.specs.History.{LeavesWords, part}
 use Rattle.rt_words.specs.declared.call.Entry.{Entry}
-use Rattle.rt_live.specs.Interleaving.{latches_from, latches}
+use Rattle.rt_live.specs.Interleaving.{look_calls_from, look_calls}
 
 -- a history, and one that goes on
 pub leads_on : (a b c : List ℕ) (front behind : List Entry) → LeavesWords a front b → LeavesWords b behind c
@@ -72,7 +72,7 @@ set_behind (y ∷ done) x rest = ap (λ (t : List ℕ). y ∷ t) (set_behind don
 
 -- The core latches each word behind the first ones: it finds them as they stand, and leaves them 0.
 pub looked_from : (k : ℕ) (done rest : List ℕ) → length done ≡ k
-    → LeavesWords (done ++ rest) (entries 255 (latches_from k rest)) (done ++ zeros (length rest))
+    → LeavesWords (done ++ rest) (entries 255 (look_calls_from k rest)) (done ++ zeros (length rest))
 looked_from k done [] long = refl
 looked_from k done (x ∷ rest) long =
     let there : x ≡ get_or (done ++ x ∷ rest) k 0 =
@@ -81,22 +81,22 @@ looked_from k done (x ∷ rest) long =
     sym (ap (λ n. set (done ++ x ∷ rest) n 0) long) ∙ set_behind done x rest ∙ sym (append_assoc done (0 ∷ []) rest) in
     let longer : length (done ++ 0 ∷ []) ≡ suc k = omega (arith, long, length-append done (0 ∷ [])) in (
       there,
-      subst (λ (w : List ℕ). LeavesWords w (entries 255 (latches_from (suc k) rest)) (done ++ zeros (length (x ∷ rest))))
+      subst (λ (w : List ℕ). LeavesWords w (entries 255 (look_calls_from (suc k) rest)) (done ++ zeros (length (x ∷ rest))))
           (sym left)
-          (subst (λ (w : List ℕ). LeavesWords ((done ++ 0 ∷ []) ++ rest) (entries 255 (latches_from (suc k) rest)) w)
+          (subst (λ (w : List ℕ). LeavesWords ((done ++ 0 ∷ []) ++ rest) (entries 255 (look_calls_from (suc k) rest)) w)
           (append_assoc done (0 ∷ []) (zeros (length rest)))
           (looked_from (suc k) (done ++ 0 ∷ []) rest longer)),
     )
 
-pub latches_on : (k : ℕ) (xs ys : List ℕ) → latches_from k (xs ++ ys) ≡ latches_from k xs
-    ++ latches_from (k + length xs) ys
-latches_on k [] ys = ap (λ n. latches_from n ys) (let e : k ≡ k + 0 = omega arith in e)
+pub latches_on : (k : ℕ) (xs ys : List ℕ) → look_calls_from k (xs ++ ys) ≡ look_calls_from k xs
+    ++ look_calls_from (k + length xs) ys
+latches_on k [] ys = ap (λ n. look_calls_from n ys) (let e : k ≡ k + 0 = omega arith in e)
 latches_on k (x ∷ xs) ys =
     ap (λ (t : List Call). Latch k x ∷ t)
     (latches_on (suc k) xs ys
-    ∙ ap (λ n. latches_from (suc k) xs ++ latches_from n ys)
+    ∙ ap (λ n. look_calls_from (suc k) xs ++ look_calls_from n ys)
     (let e : suc k + length xs ≡ k + length (x ∷ xs) = omega arith in e))
 
 -- a look at every word, from its beginning
-pub looked : (words : List ℕ) → LeavesWords words (entries 255 (latches words)) (zeros (length words))
+pub looked : (words : List ℕ) → LeavesWords words (entries 255 (look_calls words)) (zeros (length words))
 looked words = looked_from 0 [] words refl

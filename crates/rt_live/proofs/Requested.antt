@@ -31,7 +31,7 @@ use Rattle.rt_words.proofs.Bits as bits
 use Rattle.rt_words.proofs.Lists.{in_head, in_tail, in_cases, in_none}
 use Rattle.rt_words.proofs.Parting.{by_parts}
 use Rattle.rt_live.specs.History.{IsHistory, line_asks, device_pends}
-use Rattle.rt_live.specs.Interleaving.{latches, latches_from}
+use Rattle.rt_live.specs.Interleaving.{look_calls, look_calls_from}
 use Rattle.rt_live.proofs.Requesting.{none_asked}
 
 abbrev one_if : Bool → ℕ
@@ -75,19 +75,19 @@ pends_count irq (Pend n Merged ∷ cs) (i ∷ irqs) e =
 
 look_counts_none : (irq k : ℕ) (words : List ℕ) (calls : List Call) → raised_count irq calls ≡ 0
     → merged_count irq calls ≡ 0
-    → (raised_count irq (latches_from k words ++ calls) ≡ 0) × (merged_count irq (latches_from k words ++ calls) ≡ 0)
+    → (raised_count irq (look_calls_from k words ++ calls) ≡ 0) × (merged_count irq (look_calls_from k words ++ calls) ≡ 0)
 look_counts_none irq k [] calls r m = (r, m)
 look_counts_none irq k (w ∷ ws) calls r m =
     let rest = look_counts_none irq (suc k) ws calls r m in (
-      omega (arith, rest.0, count_first (raises irq) (Latch k w) (latches_from (suc k) ws ++ calls)),
-      omega (arith, rest.1, count_first (merges irq) (Latch k w) (latches_from (suc k) ws ++ calls)),
+      omega (arith, rest.0, count_first (raises irq) (Latch k w) (look_calls_from (suc k) ws ++ calls)),
+      omega (arith, rest.1, count_first (merges irq) (Latch k w) (look_calls_from (suc k) ws ++ calls)),
     )
 
 looks_count_none : (irq : ℕ) (found : List (List ℕ))
-    → (raised_count irq (flat_map latches found) ≡ 0) × (merged_count irq (flat_map latches found) ≡ 0)
+    → (raised_count irq (flat_map look_calls found) ≡ 0) × (merged_count irq (flat_map look_calls found) ≡ 0)
 looks_count_none irq [] = (refl, refl)
 looks_count_none irq (ws ∷ found) =
-    let rest = looks_count_none irq found in look_counts_none irq 0 ws (flat_map latches found) rest.0 rest.1
+    let rest = looks_count_none irq found in look_counts_none irq 0 ws (flat_map look_calls found) rest.0 rest.1
 
 -- the parts of the numbers below this one, the highest first
 parts_below : List Entry → ℕ → List Part
@@ -240,9 +240,9 @@ module _ (script : List Line) (found : List (List ℕ)) (history : List Entry) (
       empty (c ∷ cs) e = absurd cc
 
   counted : (p : Call → Bool) → count_by p (calls_in history)
-      ≡ count_by p (flat_map latches found) + sum_by (λ (q : Part). count_by p q.calls) (parts_below history 16)
+      ≡ count_by p (flat_map look_calls found) + sum_by (λ (q : Part). count_by p q.calls) (parts_below history 16)
   counted p =
-      by_parts p history (flat_map latches found) (parts_below history 16) is.core (below_is history 16)
+      by_parts p history (flat_map look_calls found) (parts_below history 16) is.core (below_is history 16)
       (λ h. let l = below_all history 16 255 h in omega (arith, l)) (below_apart history 16)
       (λ n ne out. none_above n ne (below_has history 16 n out))
 

@@ -10,7 +10,7 @@ use Rattle.rt_run.specs.Sending.{Sends, Breaks}
 use Rattle.rt_run.proofs.Known.{time_led}
 use Rattle.rt_run.proofs.Sent.{sends_none, sends_on, breaks_behind, breaks_before}
 use Rattle.rt_words.specs.declared.call.Call.{Call}
-use Rattle.rt_live.specs.Interleaving.{Turn, looks, look_arrivals, latches, interleaving}
+use Rattle.rt_live.specs.Interleaving.{Turn, looks, look_arrivals, look_calls, interleaving}
 use Rattle.rt_live.specs.Going.{IsWholeLook, Goes, Stops}
 use Rattle.rt_live.proofs.Woven.{looks-append, interleaving_on, interleaving_short, steps_woven, ticks_woven}
 use Rattle.rt_live.proofs.Woven.{looks_below, all_latches}
@@ -27,12 +27,12 @@ goes_none calls m x = record {
 
 -- the calls of looks and of those behind them
 pub calls_on : (calls calls' calls'' : List Call) (found more : List (List ℕ)) → calls' ≡ calls
-    ++ flat_map latches found
-    → calls'' ≡ calls' ++ flat_map latches more → calls'' ≡ calls ++ flat_map latches (found ++ more)
+    ++ flat_map look_calls found
+    → calls'' ≡ calls' ++ flat_map look_calls more → calls'' ≡ calls ++ flat_map look_calls (found ++ more)
 calls_on calls calls' calls'' found more first second =
-    second ∙ ap (λ cs. cs ++ flat_map latches more) first
-    ∙ append_assoc calls (flat_map latches found) (flat_map latches more)
-    ∙ ap (λ cs. calls ++ cs) (sym (flat_map-append latches found more))
+    second ∙ ap (λ cs. cs ++ flat_map look_calls more) first
+    ∙ append_assoc calls (flat_map look_calls found) (flat_map look_calls more)
+    ∙ ap (λ cs. calls ++ cs) (sym (flat_map-append look_calls found more))
 
 module _ (ts us : List Turn) (a b c : Machine) (x y z : Option (List ℕ)) (calls calls' calls'' : List Call) where
   -- turns, and those behind them
@@ -64,7 +64,7 @@ module _ (ts us : List Turn) (a b c : Machine) (x y z : Option (List ℕ)) (call
     short = cut.short;
     latched =
         calls_on calls calls' calls'' first.found (cut.found ++ cut.last ∷ []) first.latched cut.latched
-        ∙ ap (λ fs. calls ++ flat_map latches fs) (sym (append_assoc first.found cut.found (cut.last ∷ [])));
+        ∙ ap (λ fs. calls ++ flat_map look_calls fs) (sym (append_assoc first.found cut.found (cut.last ∷ [])));
     breaks =
         subst (λ es. Breaks es a c x z) events
         (breaks_behind (interleaving ts first.found) (interleaving us cut.found ++ look_arrivals cut.last) a b c x y z
@@ -157,7 +157,7 @@ module _ (ts : List Turn) (a b : Machine) (x y : Option (List ℕ)) (calls calls
       omega (
         arith,
         ap length run.latched,
-        length-append calls (flat_map latches run.found),
+        length-append calls (flat_map look_calls run.found),
         all_latches run.found run.whole,
         run.many,
         looks_below ts,

@@ -6,7 +6,7 @@ use Rattle.std.proofs.lemmas.List.{length-append}
 use Rattle.rt_ids.specs.Event.{Event, Arrive, Tick, Step, steps}
 use Rattle.rt_run.proofs.Advancing.{steps-append}
 use Rattle.rt_run.proofs.Known.{ticks}
-use Rattle.rt_live.specs.Interleaving.{Turn, Happens, Looks, looks, arrivals_from, look_arrivals, latches_from, latches}
+use Rattle.rt_live.specs.Interleaving.{Turn, Happens, Looks, looks, arrivals_from, look_arrivals, look_calls_from, look_calls}
 use Rattle.rt_live.specs.Interleaving.{interleaving}
 use Rattle.rt_live.specs.Going.{IsWholeLook}
 
@@ -102,19 +102,19 @@ looks_below (Happens Step ∷ ts) = omega (arith, looks_below ts)
 looks_below (Happens Tick ∷ ts) = omega (arith, looks_below ts)
 looks_below (Happens (Arrive irq) ∷ ts) = omega (arith, looks_below ts)
 
-pub length-latches : (k : ℕ) (words : List ℕ) → length (latches_from k words) ≡ length words
+pub length-latches : (k : ℕ) (words : List ℕ) → length (look_calls_from k words) ≡ length words
 length-latches k [] = refl
 length-latches k (word ∷ words) = ap suc (length-latches (suc k) words)
 
 -- the calls of whole looks
 pub all_latches : (found : List (List ℕ)) → AllByRecursion IsWholeLook found
-    → length (flat_map latches found) ≡ 16 * length found
+    → length (flat_map look_calls found) ≡ 16 * length found
 all_latches [] whole = refl
 all_latches (ws ∷ found) whole =
-    let e : length (latches ws ++ flat_map latches found) ≡ 16 * suc (length found) =
+    let e : length (look_calls ws ++ flat_map look_calls found) ≡ 16 * suc (length found) =
     omega (
       arith,
-      length-append (latches ws) (flat_map latches found),
+      length-append (look_calls ws) (flat_map look_calls found),
       length-latches 0 ws,
       whole.0,
       all_latches found whole.1,

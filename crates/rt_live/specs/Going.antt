@@ -8,7 +8,7 @@ use Rattle.rt_run.specs.Sending.{Sends, Breaks}
 use Rattle.rt_words.specs.Lines.{Core}
 use Rattle.rt_words.specs.declared.call.Call.{Call}
 use Rattle.rt_words.specs.declared.call.Call.TheVariants.{Latch}
-use Rattle.rt_live.specs.Interleaving.{Turn, looks, look_arrivals, latches, interleaving}
+use Rattle.rt_live.specs.Interleaving.{Turn, looks, look_arrivals, look_calls, interleaving}
 use Rattle.rt_live.specs.declared.turns.TheConstants.{WORDS}
 
 -- a look found a word of each number
@@ -22,7 +22,7 @@ pub record Goes (ts : List Turn) (calls calls' : List Call) (old new : Machine) 
   pub found : List (List ℕ)
   pub many : length found ≡ looks ts
   pub whole : AllByRecursion IsWholeLook found
-  pub latched : calls' ≡ calls ++ flat_map latches found
+  pub latched : calls' ≡ calls ++ flat_map look_calls found
   pub sends : Sends (interleaving ts found) old new before after
 
 -- A fault of the sink came in these turns. The last look may be cut: it then found fewer words than there are. The line
@@ -35,7 +35,7 @@ pub record Stops (ts : List Turn) (calls calls' : List Call) (old new : Machine)
   pub few : (length found < looks ts) ⊎ ((last ≡ []) × (length found ≤ looks ts))
   pub whole : AllByRecursion IsWholeLook found
   pub short : length last < WORDS
-  pub latched : calls' ≡ calls ++ flat_map latches (found ++ last ∷ [])
+  pub latched : calls' ≡ calls ++ flat_map look_calls (found ++ last ∷ [])
   pub breaks : Breaks (interleaving ts found ++ look_arrivals last) old new before after
 
 -- All of these turns were done, as far as the line and the core go, and this was written of what the looks found.
@@ -44,7 +44,7 @@ pub record Ends (ts : List Turn) (calls calls' : List Call) (old new : Machine) 
   pub found : List (List ℕ)
   pub many : length found ≡ looks ts
   pub whole : AllByRecursion IsWholeLook found
-  pub latched : calls' ≡ calls ++ flat_map latches found
+  pub latched : calls' ≡ calls ++ flat_map look_calls found
   pub leads : Leads (interleaving ts found) old new
   pub wrote : written found
 

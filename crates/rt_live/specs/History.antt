@@ -6,14 +6,14 @@ use Rattle.rt_script.specs.declared.line.Line.{Line}
 use Rattle.rt_script.specs.declared.line.Line.TheVariants.{Steps, Ticks, Pends, Device}
 use Rattle.rt_words.specs.History.{IsLegal, part}
 use Rattle.rt_words.specs.declared.call.Entry.{Entry}
-use Rattle.rt_live.specs.Interleaving.{latches}
+use Rattle.rt_live.specs.Interleaving.{look_calls}
 
 -- One thread could have made these calls on sixteen words, and it left nothing pending. The core's line, of the number
 -- 255, latched what was found, look behind look. Each other line pended what the device of its number pends in the
 -- script, in order and no other; so a number of which the script has no device has no call.
 pub record IsHistory (script : List Line) (found : List (List ℕ)) (history : List Entry) : Type 0 where
   pub legal : IsLegal history (replicate 16 0)
-  pub core : part history 255 ≡ flat_map latches found
+  pub core : part history 255 ≡ flat_map look_calls found
   pub devices : (number : ℕ) → number ≢ 255
       → map interrupt_asked (part history number) ≡ map (λ irq. Some irq) (pends script number)
 

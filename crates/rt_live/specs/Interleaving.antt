@@ -46,13 +46,13 @@ abbrev pub look_arrivals : List ℕ → List Event
 look_arrivals words = map Arrive (arrivals_from 0 words)
 
 -- the calls of a look that found these words, from the word of this number on
-abbrev pub latches_from : ℕ → List ℕ → List Call
-latches_from k [] = []
-latches_from k (word ∷ words) = Latch k word ∷ latches_from (suc k) words
+abbrev pub look_calls_from : ℕ → List ℕ → List Call
+look_calls_from k [] = []
+look_calls_from k (word ∷ words) = Latch k word ∷ look_calls_from (suc k) words
 
 -- the calls of a whole look that found these words, from word 0 up
-abbrev pub latches : List ℕ → List Call
-latches words = latches_from 0 words
+abbrev pub look_calls : List ℕ → List Call
+look_calls words = look_calls_from 0 words
 
 -- the events of these turns, whose looks found these words, one list of words for each look; a turn that wants a look
 -- that is not there ends them

@@ -4,13 +4,13 @@ use Rattle.rt_core.specs.Machine.{Machine}
 use Rattle.rt_words.specs.Lines.{Core}
 use Rattle.rt_words.specs.declared.call.Call.{Call}
 use Rattle.rt_live.specs.Going.{Stops, Ends, LatchedLast}
-use Rattle.rt_live.specs.Interleaving.{Turn, looks, latches}
+use Rattle.rt_live.specs.Interleaving.{Turn, looks, look_calls}
 
 -- Of turns whose looks found these words, the last of them perhaps cut: where no look is to come behind that one, its
 -- latches came behind the last line that was gathered, and where no look is to come at all, every word was latched
 -- behind it.
 pub record LatchedSo (ts : List Turn) (found : List (List ℕ)) (last : List ℕ) (line : Core) : Type 0 where
-  pub begun : looks ts ≤ suc (length found) → (call : Call) → Contains (latches last) call
+  pub begun : looks ts ≤ suc (length found) → (call : Call) → Contains (look_calls last) call
       → Contains (drop line.since line.calls) call
   pub all : looks ts ≤ length found → LatchedLast line
 

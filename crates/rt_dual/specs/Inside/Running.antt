@@ -7,7 +7,7 @@ use Rattle.rt_run.specs.Sending.{Sends, shown_items, lines_of}
 use Rattle.rt_trace.specs.Text.{total_text}
 use Rattle.rt_words.specs.Lines.{Row}
 use Rattle.rt_live.specs.Going.{IsWholeLook, IsSameLine}
-use Rattle.rt_live.specs.Interleaving.{Turn, looks, latches, interleaving}
+use Rattle.rt_live.specs.Interleaving.{Turn, looks, look_calls, interleaving}
 use Rattle.rt_live.specs.Able.{IsAble}
 use Rattle.rt_dual.specs.Inside.Forwarding.{Forwards, MayForward, irqs_routed}
 use Rattle.rt_dual.specs.declared.side.Side.{Side}
@@ -28,7 +28,7 @@ pub record Runs (ts : List Turn) (a b : Machine) (old new : Side) : Type 0 where
   pub found : List (List ℕ)
   pub many : length found ≡ looks ts
   pub whole : AllByRecursion IsWholeLook found
-  pub latched : new.line.calls ≡ old.line.calls ++ flat_map latches found
+  pub latched : new.line.calls ≡ old.line.calls ++ flat_map look_calls found
   pub sends : Sends (interleaving ts found) a b (Some old.trace.bytes.items) (Some new.trace.bytes.items)
   pub forwards : Forwards (irqs_routed old.routes (shown_items a (interleaving ts found))) old.bell new.bell
   pub few : length new.bell.calls ≤ length old.bell.calls + length ts
@@ -41,7 +41,7 @@ pub record Ends (ts : List Turn) (a b : Machine) (old new : Side) : Type 0 where
   pub found : List (List ℕ)
   pub many : length found ≡ looks ts
   pub whole : AllByRecursion IsWholeLook found
-  pub latched : new.line.calls ≡ old.line.calls ++ flat_map latches found
+  pub latched : new.line.calls ≡ old.line.calls ++ flat_map look_calls found
   pub leads : Leads (interleaving ts found) a b
   pub kept : new.trace.bytes.items
       ≡ old.trace.bytes.items ++ (lines_of a (interleaving ts found) ++ total_text b.steps)

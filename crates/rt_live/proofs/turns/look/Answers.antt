@@ -4,7 +4,7 @@ use Rattle.std.proofs.lemmas.List.{length-append}
 use Rattle.rt_code.specs.Image.{Image}
 use Rattle.rt_run.proofs.Known.{still_writable}
 use Rattle.rt_words.specs.Lines.{Core}
-use Rattle.rt_live.specs.Interleaving.{look_arrivals, latches, arrivals_from}
+use Rattle.rt_live.specs.Interleaving.{look_arrivals, look_calls, arrivals_from}
 use Rattle.rt_live.specs.Able.{MayArrive}
 use Rattle.rt_live.proofs.Looking.{finds_none, find_more, find_cut, looks_alone}
 use Rattle.rt_live.proofs.Owning.{one_call_on, same_line}
@@ -28,7 +28,7 @@ latch-found-requires-clause-room g c =
     omega (
       arith,
       ap length finds.latched,
-      length-append c.args.line.now.calls (latches finds.found),
+      length-append c.args.line.now.calls (look_calls finds.found),
       length-latches 0 finds.found,
       finds.many,
       c.requires.room,
