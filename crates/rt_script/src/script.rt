@@ -25,9 +25,9 @@ impl Model for Script {
 
     ghost view = { λ script. script.lines.items };
 
-    ghost use Rattle.rt_script.specs.Inside.Counted.{IsCounted};
+    ghost use Rattle.rt_script.specs.Inside.Counted.{HasEventCount};
 
-    ghost invariant = { λ script. IsCounted script.lines.items script.events };
+    ghost invariant = { λ script. HasEventCount script.lines.items script.events };
 }
 
 impl Script {

@@ -4,6 +4,6 @@ use Rattle.rt_script.specs.Script.{IsScript, count}
 use Rattle.rt_script.specs.declared.line.Line.{Line}
 
 -- a script of so many events
-pub record IsCounted (lines : List Line) (events : ℕ) : Type 0 where
+pub record HasEventCount (lines : List Line) (events : ℕ) : Type 0 where
   pub counted : events ≡ count lines
   pub script : IsScript lines
