@@ -178,11 +178,13 @@ pub can_write : (script : List Line) (a a' b b' : Machine) (old new : Both) → 
     → AreBefore a.image b.image old → HaveEnded script a a' b b' old new → CanWrite new
 can_write script a a' b b' old new scripted before ended = record {
   one =
-      can_close First a b.image old.first_half new.first_half old.first_side new.first_side old.second_side new.second_side before.one ended.first_half script
+      can_close First a b.image old.first_half new.first_half old.first_side new.first_side old.second_side
+      new.second_side before.one ended.first_half script
       scripted
       a' b b' ended.first_side ended.second_side;
   two =
-      can_close Second b a.image old.second_half new.second_half old.second_side new.second_side old.first_side new.first_side before.two ended.second_half script
+      can_close Second b a.image old.second_half new.second_half old.second_side new.second_side old.first_side
+      new.first_side before.two ended.second_half script
       scripted
       b' a a' ended.second_side ended.first_side;
 }

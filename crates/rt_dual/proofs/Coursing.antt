@@ -151,32 +151,40 @@ pair_text script a a' b b' old new bytes fresh_a fresh_b before ended written =
       one = one;
       two = two;
       is_one =
-          is_course First b.image (first_events script) a a' old.first_half new.first_half old.first_side new.first_side old.second_side new.second_side
+          is_course First b.image (first_events script) a a' old.first_half new.first_half old.first_side
+          new.first_side old.second_side new.second_side
           fresh_a
           before.one ended.first_half ended.first_side written.one written.one_settled
           (forwarded_irqs b.image a.image.names (course_items b.image (second_events script) two))
-          (forwarded_asked a.image (second_events script) b b' fresh_b old.second_side new.second_side old.first_half.words 2 before.one.made.silent
+          (forwarded_asked a.image (second_events script) b b' fresh_b old.second_side new.second_side
+          old.first_half.words 2 before.one.made.silent
           before.two.routes ended.second_side)
-          (known a.image (second_events script) b b' fresh_b old.second_side new.second_side old.first_half.words 2 before.one.made.silent
+          (known a.image (second_events script) b b' fresh_b old.second_side new.second_side old.first_half.words 2
+          before.one.made.silent
           before.two.routes ended.second_side);
       is_two =
-          is_course Second a.image (second_events script) b b' old.second_half new.second_half old.second_side new.second_side old.first_side new.first_side
+          is_course Second a.image (second_events script) b b' old.second_half new.second_half old.second_side
+          new.second_side old.first_side new.first_side
           fresh_b
           before.two ended.second_half ended.second_side written.two written.two_settled
           (forwarded_irqs a.image b.image.names (course_items a.image (first_events script) one))
-          (forwarded_asked b.image (first_events script) a a' fresh_a old.first_side new.first_side old.second_half.words 1 before.two.made.silent
+          (forwarded_asked b.image (first_events script) a a' fresh_a old.first_side new.first_side
+          old.second_half.words 1 before.two.made.silent
           before.one.routes ended.first_side)
-          (known b.image (first_events script) a a' fresh_a old.first_side new.first_side old.second_half.words 1 before.two.made.silent
+          (known b.image (first_events script) a a' fresh_a old.first_side new.first_side old.second_half.words 1
+          before.two.made.silent
           before.one.routes ended.first_side);
       written =
           written.written
           ∙ ap (λ t. t ++ (new.second_half.front.items ++ (new.second_side.trace.bytes.items
           ++ account_text b.image.names written.two)))
-          (core_written First b.image (first_events script) a a' old.first_half new.first_half old.first_side new.first_side old.second_side new.second_side
+          (core_written First b.image (first_events script) a a' old.first_half new.first_half old.first_side
+          new.first_side old.second_side new.second_side
           fresh_a
           before.one ended.first_half ended.first_side written.one written.one_settled)
           ∙ ap (λ t. core_text (codes "core 1\n") a.image (first_events script) one ++ t)
-          (core_written Second a.image (second_events script) b b' old.second_half new.second_half old.second_side new.second_side old.first_side new.first_side
+          (core_written Second a.image (second_events script) b b' old.second_half new.second_half old.second_side
+          new.second_side old.first_side new.first_side
           fresh_b before.two ended.second_half ended.second_side written.two written.two_settled);
     }
 

@@ -16,7 +16,8 @@ use Rattle.rt_outside.specs.Bytes.{Took}
 use Rattle.rt_trace.specs.Text.{total_text}
 use Rattle.rt_trace.specs.declared.item.What.{What}
 use Rattle.rt_words.specs.Lines.{Row, Core, Line}
-use Rattle.rt_live.specs.Interleaving.{Turn, Happens, Looks, looks, look_arrivals, arrivals_from, look_calls, interleaving}
+use Rattle.rt_live.specs.Interleaving.{Turn, Happens, Looks, looks, look_arrivals, arrivals_from, look_calls}
+use Rattle.rt_live.specs.Interleaving.{interleaving}
 use Rattle.rt_live.specs.Going.{IsWholeLook, Goes, IsSameLine}
 use Rattle.rt_live.proofs.Owning.{still_able, same_line, same_line_on}
 use Rattle.rt_live.proofs.Turning.{calls_on}

@@ -63,8 +63,8 @@ pub fn pair<R: Threads + Sync, K: Sink, G: Gate + Sync>(
     ensures fault { IsErrOf result LiveFail.Fault → Rose (K.faults out.old) (K.faults out.new) }
     ensures quiet { ¬ IsErrOf result LiveFail.Fault → K.faults out.new ≡ K.faults out.old }
 
-    // After either refusal, as behind a whole run, each core has done the first of its events and no others. Where memory
-    // is not there no clause says for which words of its looks.
+    // After either refusal, as behind a whole run, each core has done the first of its events and no others. Where
+    // memory is not there no clause says for which words of its looks.
     ensures first_begun { HasBegun (turns (first_events script.now)) first.old first.new }
     ensures second_begun { HasBegun (turns (second_events script.now)) second.old second.new }
 

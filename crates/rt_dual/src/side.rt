@@ -34,7 +34,8 @@ impl Side {
         requires words { self.old.bell.words ≡ there.now }
         requires may { MayForward self.old.routes there.now }
         requires room { length self.old.bell.calls < 2 ^ 32 - 1 }
-        ensures forwards { Forwards (option_to_list (irq_of_shown self.old.routes shown.now)) self.old.bell self.new.bell }
+        ensures forwards { Forwards (option_to_list (irq_of_shown self.old.routes shown.now)) self.old.bell
+            self.new.bell }
         ensures count { self.new.forwarded
             ≡ saturating_count self.old.forwarded (length (option_to_list (irq_of_shown self.old.routes shown.now))) }
         ensures rest { IsSameBut self.old self.new }

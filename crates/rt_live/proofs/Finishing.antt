@@ -24,7 +24,8 @@ pub record Finishes (words last : List ℕ) (count : ℕ) : Type 0 where
 silent : (n : ℕ) → LeavesWords (zeros 16) (entries 255 (flat_map look_calls (replicate n (zeros 16)))) (zeros 16)
 silent zero = refl
 silent (suc n) =
-    calls_lead 255 (zeros 16) (zeros 16) (zeros 16) (look_calls (zeros 16)) (flat_map look_calls (replicate n (zeros 16)))
+    calls_lead 255 (zeros 16) (zeros 16) (zeros 16) (look_calls (zeros 16))
+    (flat_map look_calls (replicate n (zeros 16)))
     (looked (zeros 16)) (silent n)
 
 all_whole : (n : ℕ) → AllByRecursion IsWholeLook (replicate n (zeros 16))
@@ -65,7 +66,8 @@ rest_looked m words long few =
     let rest : List ℕ = drop m words in
     let behind : length rest ≡ 16 - m = length-drop m words ∙ ap (λ k. k - m) long in
     let first : length front ≡ m = length-take-le m words (omega (arith, long, few)) in
-    subst (λ (w : List ℕ). LeavesWords w (entries 255 (look_calls_from m rest)) (left_from m words)) (take-append-drop m words)
+    subst (λ (w : List ℕ). LeavesWords w (entries 255 (look_calls_from m rest)) (left_from m words))
+    (take-append-drop m words)
     (subst (λ k. LeavesWords (front ++ rest) (entries 255 (look_calls_from m rest)) (front ++ zeros k)) behind
     (looked_from m front rest first))
 

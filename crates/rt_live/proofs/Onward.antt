@@ -34,7 +34,8 @@ entries number calls = map (λ c. record { line = number; call = c }) calls
 pub calls_lead : (number : ℕ) (a b c : List ℕ) (front behind : List Call) → LeavesWords a (entries number front) b
     → LeavesWords b (entries number behind) c → LeavesWords a (entries number (front ++ behind)) c
 calls_lead number a b c front behind first then =
-    subst (λ (es : List Entry). LeavesWords a es c) (sym (map-append (λ c. record { line = number; call = c }) front behind))
+    subst (λ (es : List Entry). LeavesWords a es c)
+    (sym (map-append (λ c. record { line = number; call = c }) front behind))
     (leads_on a b c (entries number front) (entries number behind) first then)
 
 pub part_on : (front behind : List Entry) (n : ℕ) → part (front ++ behind) n ≡ part front n ++ part behind n
@@ -81,7 +82,8 @@ looked_from k done (x ∷ rest) long =
     sym (ap (λ n. set (done ++ x ∷ rest) n 0) long) ∙ set_behind done x rest ∙ sym (append_assoc done (0 ∷ []) rest) in
     let longer : length (done ++ 0 ∷ []) ≡ suc k = omega (arith, long, length-append done (0 ∷ [])) in (
       there,
-      subst (λ (w : List ℕ). LeavesWords w (entries 255 (look_calls_from (suc k) rest)) (done ++ zeros (length (x ∷ rest))))
+      subst (λ (w : List ℕ). LeavesWords w (entries 255 (look_calls_from (suc k) rest))
+          (done ++ zeros (length (x ∷ rest))))
           (sym left)
           (subst (λ (w : List ℕ). LeavesWords ((done ++ 0 ∷ []) ++ rest) (entries 255 (look_calls_from (suc k) rest)) w)
           (append_assoc done (0 ∷ []) (zeros (length rest)))

@@ -75,7 +75,8 @@ pends_count irq (Pend n Merged ∷ cs) (i ∷ irqs) e =
 
 look_counts_none : (irq k : ℕ) (words : List ℕ) (calls : List Call) → raised_count irq calls ≡ 0
     → merged_count irq calls ≡ 0
-    → (raised_count irq (look_calls_from k words ++ calls) ≡ 0) × (merged_count irq (look_calls_from k words ++ calls) ≡ 0)
+    → (raised_count irq (look_calls_from k words ++ calls) ≡ 0)
+    × (merged_count irq (look_calls_from k words ++ calls) ≡ 0)
 look_counts_none irq k [] calls r m = (r, m)
 look_counts_none irq k (w ∷ ws) calls r m =
     let rest = look_counts_none irq (suc k) ws calls r m in (

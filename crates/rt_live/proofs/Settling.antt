@@ -87,7 +87,8 @@ latched_added ts us own found last line front many whole since = record {
       subst (λ (cs : List Call). Contains cs call) (sym since)
       (contains_behind front (flat_map look_calls (found ++ last ∷ [])) call
       (subst (λ (cs : List Call). Contains cs call) (sym (flat_map-append look_calls found (last ∷ [])))
-      (contains_behind (flat_map look_calls found) (look_calls last ++ []) call (contains_front (look_calls last) [] call is))));
+      (contains_behind (flat_map look_calls found) (look_calls last ++ []) call
+      (contains_front (look_calls last) [] call is))));
   all = λ done. first found whole since (omega (
     arith,
     done,

@@ -6,7 +6,8 @@ use Rattle.std.proofs.lemmas.List.{length-append}
 use Rattle.rt_ids.specs.Event.{Event, Arrive, Tick, Step, steps}
 use Rattle.rt_run.proofs.Advancing.{steps-append}
 use Rattle.rt_run.proofs.Known.{ticks}
-use Rattle.rt_live.specs.Interleaving.{Turn, Happens, Looks, looks, arrivals_from, look_arrivals, look_calls_from, look_calls}
+use Rattle.rt_live.specs.Interleaving.{Turn, Happens, Looks, looks, arrivals_from, look_arrivals, look_calls_from}
+use Rattle.rt_live.specs.Interleaving.{look_calls}
 use Rattle.rt_live.specs.Interleaving.{interleaving}
 use Rattle.rt_live.specs.Going.{IsWholeLook}
 

@@ -56,8 +56,8 @@ pub fn live<R: Threads + Sync, K: Sink + Send, G: Gate + Sync>(
     ensures fault { IsErrOf result LiveFail.Fault → Rose (K.faults out.old) (K.faults out.new) }
     ensures quiet { ¬ IsErrOf result LiveFail.Fault → K.faults out.new ≡ K.faults out.old }
 
-    // The core has done the events of the trace that was taken, at a fault those up to it, and none where memory was not
-    // there.
+    // The core has done the events of the trace that was taken, at a fault those up to it, and none where memory was
+    // not there.
     ensures all { IfOk result (λ account.
         HasLived script.now core.old core.new (K.taken out.old) (K.taken out.new) account.rows.items) }
     ensures begun { IsErrOf result LiveFail.Fault →

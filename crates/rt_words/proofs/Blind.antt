@@ -103,7 +103,8 @@ standing = record {
 }
 
 -- behind the pend, the core's latch of 0 alone is not legal
-illegal : (more : List Entry) (last : List ℕ) → LeavesWords (padded_words word) more last → part more 255 ≡ Latch 0 0 ∷ []
+illegal : (more : List Entry) (last : List ℕ) → LeavesWords (padded_words word) more last
+    → part more 255 ≡ Latch 0 0 ∷ []
     → ((n : ℕ) → n ≢ 255 → part more n ≡ []) → ⊥
 illegal [] last leads own others = absurd cc
 illegal (e ∷ es) last leads own others = dite (ℕ_discrete e.line 255)

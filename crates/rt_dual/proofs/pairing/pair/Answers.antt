@@ -49,7 +49,8 @@ returns-in-Ok-put_both-clause-all g c =
     let wrote = c.in-Ok-put_both.ensures.ok in
     let written : IsWritten a.image b.image new wrote.0 =
     subst (λ (i : Image). IsWritten i b.image new wrote.0) (c.image-3.ensures ∙ ended.first_side.leads.image)
-    (subst (λ (i : Image). IsWritten c.image-3.result.now i new wrote.0) (c.image-4.ensures ∙ ended.second_side.leads.image)
+    (subst (λ (i : Image). IsWritten c.image-3.result.now i new wrote.0) (c.image-4.ensures
+    ∙ ended.second_side.leads.image)
     wrote.1) in
     has_paired c.args.script.now a x b y old new wrote.0 c.requires.first_fresh c.requires.second_fresh before ended
     written (g.K.Sink.taken c.args.out.now) (g.K.Sink.taken c.put_both.new.out) wrote.2
@@ -76,7 +77,8 @@ returns-in-Err-clause-begun g c =
     let wrote = c.in-Err.ensures.err in
     let written : IsWritten a.image b.image new wrote.0 =
     subst (λ (i : Image). IsWritten i b.image new wrote.0) (c.image-3.ensures ∙ ended.first_side.leads.image)
-    (subst (λ (i : Image). IsWritten c.image-3.result.now i new wrote.0) (c.image-4.ensures ∙ ended.second_side.leads.image)
+    (subst (λ (i : Image). IsWritten c.image-3.result.now i new wrote.0) (c.image-4.ensures
+    ∙ ended.second_side.leads.image)
     wrote.1) in
     λ _. record {
       part = record {

@@ -23,7 +23,8 @@ text_of img half side rows = half.front.items ++ (side.trace.bytes.items ++ acco
 both_written : (first second : Image) (both : Both) (one two : List AccountRow)
     → Settles both.first_side.line.calls both.second_side.bell (irqs_of both.first_half.rows.items) one
     → Settles both.second_side.line.calls both.first_side.bell (irqs_of both.second_half.rows.items) two
-    → IsWritten first second both (text_of first both.first_half both.first_side one ++ text_of second both.second_half both.second_side two)
+    → IsWritten first second both (text_of first both.first_half both.first_side one
+    ++ text_of second both.second_half both.second_side two)
 both_written first second both one two settled_one settled_two =
     record { one = one; two = two; one_settled = settled_one; two_settled = settled_two; written = refl }
 
@@ -36,7 +37,8 @@ returns-in_err-put_core-clause-err g c =
     let two : List AccountRow = c.account_of-second_account.result.rows.items in
     let text_one = text_of c.args.first.now both.first_half both.first_side one in
     let text_two = text_of c.args.second.now both.second_half both.second_side two in
-    let same_one = same_text c.deref.result.now both.first_half.front.items c.deref-2.result.now both.first_side.trace.bytes.items
+    let same_one = same_text c.deref.result.now both.first_half.front.items c.deref-2.result.now
+    both.first_side.trace.bytes.items
     c.first.inside.names c.args.first.now.names one c.deref.ensures.value c.deref-2.ensures.value
     (ap (λ (i : Image). i.names) c.first.view_is) in
     on_err_from c.from_residual.result (
@@ -56,10 +58,12 @@ returns-clause-ok g c =
     let two : List AccountRow = c.account_of-second_account.result.rows.items in
     let text_one = text_of c.args.first.now both.first_half both.first_side one in
     let text_two = text_of c.args.second.now both.second_half both.second_side two in
-    let same_one = same_text c.deref.result.now both.first_half.front.items c.deref-2.result.now both.first_side.trace.bytes.items
+    let same_one = same_text c.deref.result.now both.first_half.front.items c.deref-2.result.now
+    both.first_side.trace.bytes.items
     c.first.inside.names c.args.first.now.names one c.deref.ensures.value c.deref-2.ensures.value
     (ap (λ (i : Image). i.names) c.first.view_is) in
-    let same_two = same_text c.deref-3.result.now both.second_half.front.items c.deref-4.result.now both.second_side.trace.bytes.items
+    let same_two = same_text c.deref-3.result.now both.second_half.front.items c.deref-4.result.now
+    both.second_side.trace.bytes.items
     c.second.inside.names c.args.second.now.names two c.deref-3.ensures.value c.deref-4.ensures.value
     (ap (λ (i : Image). i.names) c.second.view_is) in
     on_ok_weaker c.put_core-2.result (λ took. (
@@ -80,10 +84,12 @@ returns-clause-err g c =
     let two : List AccountRow = c.account_of-second_account.result.rows.items in
     let text_one = text_of c.args.first.now both.first_half both.first_side one in
     let text_two = text_of c.args.second.now both.second_half both.second_side two in
-    let same_one = same_text c.deref.result.now both.first_half.front.items c.deref-2.result.now both.first_side.trace.bytes.items
+    let same_one = same_text c.deref.result.now both.first_half.front.items c.deref-2.result.now
+    both.first_side.trace.bytes.items
     c.first.inside.names c.args.first.now.names one c.deref.ensures.value c.deref-2.ensures.value
     (ap (λ (i : Image). i.names) c.first.view_is) in
-    let same_two = same_text c.deref-3.result.now both.second_half.front.items c.deref-4.result.now both.second_side.trace.bytes.items
+    let same_two = same_text c.deref-3.result.now both.second_half.front.items c.deref-4.result.now
+    both.second_side.trace.bytes.items
     c.second.inside.names c.args.second.now.names two c.deref-3.ensures.value c.deref-4.ensures.value
     (ap (λ (i : Image). i.names) c.second.view_is) in
     on_err_weaker c.put_core-2.result (λ part. (

@@ -41,4 +41,5 @@ returns-clause-ok g c =
     stepped c.args.core.now c.look.new.core side c.look.new.line c.look.new.out c.in_ok-look.ensures.ok
     c.show_step.new.core c.show_step.new.trace c.look.ensures.same c.in_ok-shown.ensures.ok shown
     c.in_ok-shown.ensures.shown c.forward.new.self c.forward.ensures.forwards
-    (forward_few (irq_of_shown side.routes shown) side.bell c.forward.new.self.bell c.forward.ensures.forwards) c.forward.ensures.rest
+    (forward_few (irq_of_shown side.routes shown) side.bell c.forward.new.self.bell c.forward.ensures.forwards)
+    c.forward.ensures.rest
