@@ -1,7 +1,7 @@
 -- What is made for two cores lets them run, and lets their words be closed when they have ended.
-use Rattle.std.proofs.Common.{◌≡◌, ◌≢◌, ℕ, suc, ◌+◌, ◌*◌, ◌^◌, ◌<◌, ◌≤◌, ◌==◌, Bool, true, false, cond, if◌then◌else◌}
+use Rattle.std.proofs.Common.{◌≡◌, ℕ, ◌+◌, ◌<◌, ◌≤◌, ◌==◌, Bool, true, false, cond, if◌then◌else◌}
 use Rattle.std.proofs.Common.{List, []}
-use Rattle.std.proofs.Common.{◌∷◌, ◌++◌, map, length, find, option_map, option_and_then, slice_index_or, Option, Some}
+use Rattle.std.proofs.Common.{◌∷◌, map, length, find, option_map, option_and_then, slice_index_or, Option, Some}
 use Rattle.std.proofs.Common.{None}
 use Rattle.std.proofs.Common.{Contains, bytes_eq, inl, inr, refl, sym, ap, subst, ◌∙◌, arith}
 use Rattle.std.specs.List.{AllByRecursion}
@@ -20,9 +20,8 @@ use Rattle.rt_run.proofs.Known.{fresh_known}
 use Rattle.rt_script.specs.Script.{IsScript, count}
 use Rattle.rt_script.specs.declared.line.Line.{Line}
 use Rattle.rt_words.specs.Lines.{Core as CoreLine, Line as BellLine}
-use Rattle.rt_words.specs.Object.{IsPending}
 use Rattle.rt_live.specs.Account.{declared_irqs}
-use Rattle.rt_live.specs.Able.{IsAble, MayArrive}
+use Rattle.rt_live.specs.Able.{IsAble}
 use Rattle.rt_live.specs.Ready.{IsCounted}
 use Rattle.rt_live.specs.Interleaving.{Looks}
 use Rattle.rt_live.proofs.Readied.{declared_at}
@@ -31,7 +30,7 @@ use Rattle.rt_dual.specs.Forwarded.{enables, forward, namesake}
 use Rattle.rt_dual.specs.Inside.Both.{IsBefore, AreBefore, HaveEnded, CanWrite}
 use Rattle.rt_dual.specs.Inside.Halves.{IsMade, CanClose}
 use Rattle.rt_dual.specs.Inside.Own.{events_at, number_of, other_of, own_turns}
-use Rattle.rt_dual.specs.Inside.Forwarding.{AreRoutes, MayForward}
+use Rattle.rt_dual.specs.Inside.Forwarding.{AreRoutes}
 use Rattle.rt_dual.specs.Inside.Running.{CanRun, Ends}
 use Rattle.rt_dual.specs.declared.half.Half.{Half}
 use Rattle.rt_dual.specs.declared.pairing.Both.{Both}

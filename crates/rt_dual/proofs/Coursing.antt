@@ -1,6 +1,6 @@
 -- What is written of two cores that have ended is a text that the definitions allow.
-use Rattle.std.proofs.Common.{◌≡◌, ◌≢◌, ℕ, ◌+◌, ◌<◌, List, [], ◌∷◌, ◌++◌, map, filter_map, flat_map, codes, length}
-use Rattle.std.proofs.Common.{slice_index_or, Option, Some, None, option_to_list, refl, sym, ap, subst, ◌∙◌}
+use Rattle.std.proofs.Common.{◌≡◌, ℕ, List, [], ◌∷◌, ◌++◌, map, flat_map, codes}
+use Rattle.std.proofs.Common.{Option, Some, refl, sym, ap, ◌∙◌}
 use Rattle.std.proofs.Common.{append_assoc, arith}
 use Rattle.std.proofs.Common.{Result, Ok, Err, OnOk, is_err, false}
 use Rattle.std.proofs.lemmas.Bool.{false≢true}
@@ -9,11 +9,10 @@ use Rattle.std.proofs.lemmas.List.{append-nil}
 use Rattle.rt_ids.specs.Event.{Event, steps}
 use Rattle.rt_ids.specs.Names.{Names}
 use Rattle.rt_code.specs.Image.{Image}
-use Rattle.rt_core.specs.Core.{Core, reset}
+use Rattle.rt_core.specs.Core.{Core}
 use Rattle.rt_core.specs.Machine.{Machine, IsFresh}
 use Rattle.rt_core.specs.Trace.{labels, trace}
 use Rattle.rt_devices.specs.Work.{interrupt_asked}
-use Rattle.rt_listing.specs.Listing.{listing}
 use Rattle.rt_outside.specs.Bytes.{Took}
 use Rattle.rt_run.specs.Done.{Leads}
 use Rattle.rt_run.specs.Sending.{shown_items, lines_of}
@@ -26,17 +25,17 @@ use Rattle.rt_trace.specs.declared.item.What.TheVariants as what
 use Rattle.rt_words.specs.Ending.{calls_in}
 use Rattle.rt_words.specs.History.{part}
 use Rattle.rt_words.specs.Lines.{Row, Core as CoreLine, Line as BellLine}
-use Rattle.rt_live.specs.Account.{account_of, account_text, declared_irqs, empty_row}
+use Rattle.rt_live.specs.Account.{account_of, account_text, declared_irqs}
 use Rattle.rt_live.specs.Ready.{irqs_of}
 use Rattle.rt_live.specs.Interleaving.{look_calls, interleaving}
 use Rattle.rt_live.specs.declared.account.AccountRow.{AccountRow}
-use Rattle.rt_dual.specs.Course.{Course, IsCourse, turns, course_events, course_items, first_events, second_events}
+use Rattle.rt_dual.specs.Course.{Course, IsCourse, turns, course_items, first_events, second_events}
 use Rattle.rt_dual.specs.Doing.{HasPaired}
-use Rattle.rt_dual.specs.Forwarded.{forward, forward_of, forwarded_irqs}
+use Rattle.rt_dual.specs.Forwarded.{forward_of, forwarded_irqs}
 use Rattle.rt_dual.specs.Output.{IsPairText, account, core_text, course_text}
 use Rattle.rt_dual.specs.Inside.Both.{IsBefore, AreBefore, HaveEnded, IsWritten}
-use Rattle.rt_dual.specs.Inside.Halves.{IsMade, Settles, front}
-use Rattle.rt_dual.specs.Inside.Own.{events_at, number_of, other_of, line_of}
+use Rattle.rt_dual.specs.Inside.Halves.{Settles, front}
+use Rattle.rt_dual.specs.Inside.Own.{number_of, other_of, line_of}
 use Rattle.rt_dual.specs.Inside.Forwarding.{AreRoutes, irq_routed, irqs_routed}
 use Rattle.rt_dual.specs.Inside.Running.{Ends}
 use Rattle.rt_dual.specs.declared.half.Half.{Half}

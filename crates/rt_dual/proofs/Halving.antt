@@ -1,5 +1,5 @@
 -- What is made for a core before it runs, and what its words tell when they are closed.
-use Rattle.std.proofs.Common.{◌≡◌, ◌≢◌, ℕ, ◌+◌, ◌^◌, ◌<◌, ◌≤◌, List, [], ◌∷◌, ◌++◌, map, length, get_or, Contains}
+use Rattle.std.proofs.Common.{◌≡◌, ◌≢◌, ℕ, ◌<◌, List, [], ◌∷◌, map, length, get_or, Contains}
 use Rattle.std.proofs.Common.{⊎_elim, refl, sym, ap, subst, ◌∙◌, arith}
 use Rattle.std.specs.Prelude.{◌↔◌}
 use Rattle.std.specs.List.{AllByRecursion}
@@ -17,7 +17,7 @@ use Rattle.rt_live.specs.Account.{account_of, row_of, declared_irqs, settled_row
 use Rattle.rt_live.specs.Ready.{IsCounted, irqs_of}
 use Rattle.rt_live.specs.declared.account.AccountRow.{AccountRow}
 use Rattle.rt_live.proofs.Tallied.{all_counted, same_irqs}
-use Rattle.rt_dual.specs.Inside.Halves.{IsMade, CanClose, Settles}
+use Rattle.rt_dual.specs.Inside.Halves.{IsMade, Settles}
 
 -- the interrupts of empty rows
 pub irqs_empty : (irqs : List ℕ) → irqs_of (map empty_row irqs) ≡ irqs

@@ -1,7 +1,7 @@
 -- Where posts go on the other core.
-use Rattle.std.proofs.Common.{◌≡◌, ℕ, ◌<◌, ◌≤◌, Bool, true, false, if◌then◌else◌, List, [], ◌∷◌, length, map}
+use Rattle.std.proofs.Common.{◌≡◌, ℕ, false, if◌then◌else◌, List}
 use Rattle.std.proofs.Common.{option_map}
-use Rattle.std.proofs.Common.{option_and_then, slice_index_or, Option, Some, None, refl, ap, sym, ◌∙◌, arith}
+use Rattle.std.proofs.Common.{option_and_then, Option, Some, None, refl, ap, sym, ◌∙◌}
 use Rattle.std.proofs.lemmas.Option.{none-some, same_Some}
 use Rattle.rt_code.specs.Image.{Image}
 use Rattle.rt_ids.specs.Names.{Names, irq_of}

@@ -1,4 +1,4 @@
-use Rattle.std.proofs.Common.{◌≡◌, ℕ, [], ◌∷◌, List, length, ap, sym, subst, ◌∙◌}
+use Rattle.std.proofs.Common.{◌≡◌, ℕ, [], ◌∷◌, List, length, ap, subst, ◌∙◌}
 use Rattle.std.specs.Prelude.{◌↔◌, Contains}
 use Rattle.rt_words.specs.Lines.{Core}
 use Rattle.rt_words.specs.Object.{IsPending}

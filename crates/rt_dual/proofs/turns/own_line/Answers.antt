@@ -1,4 +1,4 @@
-use Rattle.std.proofs.Common.{◌≡◌, [], sym, subst, ◌∙◌, arith}
+use Rattle.std.proofs.Common.{◌≡◌, sym, subst, ◌∙◌, arith}
 use Rattle.rt_lemmas.proofs.Results.{on_err_from}
 use Rattle.rt_code.specs.Image.{Image}
 use Rattle.rt_live.specs.Interleaving.{repeated_turns}

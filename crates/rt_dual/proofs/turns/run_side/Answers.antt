@@ -1,4 +1,4 @@
-use Rattle.std.proofs.Common.{◌≡◌, ◌+◌, ◌∷◌, [], ℕ, length, sym, ap, subst, ◌∙◌, arith}
+use Rattle.std.proofs.Common.{◌+◌, ◌∷◌, [], arith}
 use Rattle.std.proofs.lemmas.Result.{on_ok_weaker}
 use Rattle.rt_lemmas.proofs.Results.{on_err_from}
 use Rattle.rt_live.specs.Interleaving.{Looks}

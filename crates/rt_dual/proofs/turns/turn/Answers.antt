@@ -1,10 +1,10 @@
-use Rattle.std.proofs.Common.{[], refl, ap, subst}
+use Rattle.std.proofs.Common.{[], refl, ap}
 use Rattle.std.proofs.lemmas.Result.{on_ok_weaker, on_err_weaker}
 use Rattle.rt_ids.specs.Event.{Tick}
 use Rattle.rt_script.specs.declared.line.Line.{Line}
 use Rattle.rt_live.specs.Interleaving.{looks, interleaving}
 use Rattle.rt_live.proofs.Looking.{event_cut}
-use Rattle.rt_dual.specs.Inside.Own.{turn_of, HasNameAt}
+use Rattle.rt_dual.specs.Inside.Own.{turn_of}
 use Rattle.rt_dual.proofs.Cutting.{stopped}
 use Rattle.rt_dual.proofs.Running.{happened}
 use Rattle.rt_dual.proofs.turns.turn.Goals as goal
