@@ -10,9 +10,10 @@ pub enum Status {
     App,
     /// The words are no command.
     Usage,
-    /// The second text, a script or a trace, was refused.
+    /// A script, a trace, limits or a listing was refused.
     Text,
-    /// The trace is not one of the application's.
+    /// The answer is no: the trace is not one of the application's, the image breaks a rule, or the application is not
+    /// of the form that the command is for.
     No,
     /// A source failed.
     Read,
