@@ -1,4 +1,4 @@
--- What an answer that may be a refusal leads to.
+-- What comes of an answer that may be a refusal.
 use Rattle.std.specs.Prelude.{Result, Ok, Err}
 
 -- the answer of f where there is a value

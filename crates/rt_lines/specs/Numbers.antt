@@ -9,7 +9,7 @@ use Rattle.rt_ids.specs.Byte.{is_digit}
 abbrev pub are_digits : ℕ → List ℕ → Bool
 are_digits most word = nat_le 1 (length word) && nat_le (length word) most && list_all is_digit word
 
--- 0 stands in front of no other digit
+-- the first digit is not 0, or there is no other
 abbrev pub has_no_leading_zero : List ℕ → Bool
 has_no_leading_zero word = not (slice_index word 0 == 48) || (length word == 1)
 
@@ -17,7 +17,7 @@ has_no_leading_zero word = not (slice_index word 0 == 48) || (length word == 1)
 abbrev pub short_number : List ℕ → Option ℕ
 short_number word = if are_digits 9 word then Some (digits_value 10 word) else None
 
--- A number below this bound of 32 bits, without a leading zero. It has ten digits at most.
+-- A number below this bound, without a leading zero. The bound is 2^32 at most, so ten digits are enough.
 abbrev pub number_below : ℕ → List ℕ → Option ℕ
 number_below bound word =
     if are_digits 10 word && has_no_leading_zero word && nat_lt (digits_value 10 word) bound

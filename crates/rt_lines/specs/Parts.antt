@@ -1,16 +1,15 @@
--- The lines and words of a text. A line ends with a line feed, which the last may lack; words stand between single
--- spaces. This is this project's own form of texts; `str::lines` of Rust takes a carriage return off each line
--- besides.
+-- The lines and words of a text. A line ends with a line feed, which the last may lack; single spaces separate words.
+-- This is this project's own form of texts; `str::lines` of Rust also takes a carriage return off each line.
 use Rattle.std.specs.Prelude.{ℕ, ◌==◌, not, List, [], ◌∷◌, filter, Option, Some, None, if◌then◌else◌}
 use Rattle.std.specs.List.{slice_split}
 use Rattle.std.specs.Borrow.{Bor}
 use Rattle.rt_ids.specs.Lists.{is_empty}
 
--- what stands between bytes of this value
+-- the parts of a text that bytes of this value separate
 abbrev pub parts : ℕ → List ℕ → List (List ℕ)
 parts byte text = slice_split (λ b. b == byte) text
 
--- what stands behind the last line feed is a line only where it is not empty
+-- what comes after the last line feed is a line only where it is not empty
 abbrev pub lines_of_parts : List (List ℕ) → List (List ℕ)
 lines_of_parts [] = []
 lines_of_parts (x ∷ []) = if is_empty x then [] else x ∷ []

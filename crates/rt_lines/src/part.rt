@@ -1,15 +1,15 @@
 ghost use Rattle.std.specs.Prelude.{◌≡◌, ◌<◌, ◌==◌, ◌∷◌, [], length, position, MatchOption, IfNone, IfSome};
 ghost use Rattle.rt_lines.specs.Parts.{parts, lines, words_of};
 
-/// Where a byte first stands in a text.
+/// The index of the first byte of this value in a text.
 fn place_of(text: &[u8], byte: u8) -> Option<usize>
     ensures { result ≡ position (λ b. b == byte) text.now }
 {
     text.iter().position(|b| *b == byte)
 }
 
-/// The part of a text in front of the first byte of a value, and what stands behind that byte; None where there is
-/// no such byte.
+/// The part of a text in front of the first byte of a value, and the part after that byte; None where there is no such
+/// byte.
 pub fn cut(text: &[u8], byte: u8) -> (&[u8], Option<&[u8]>)
     ensures parts { MatchOption result.1 (parts byte text.now ≡ result.0.now ∷ [])
         (λ rest. parts byte text.now ≡ result.0.now ∷ parts byte rest.now) }
@@ -22,7 +22,7 @@ pub fn cut(text: &[u8], byte: u8) -> (&[u8], Option<&[u8]>)
     }
 }
 
-/// The first line of a text that is not empty, without its line feed, and the text behind it.
+/// The first line of a text that is not empty, without its line feed, and the text after it.
 pub fn first_line(text: &[u8]) -> (&[u8], &[u8])
     requires { 0 < length text.now }
     ensures lines { lines text.now ≡ result.0.now ∷ lines result.1.now }
@@ -35,8 +35,8 @@ pub fn first_line(text: &[u8]) -> (&[u8], &[u8])
     }
 }
 
-/// The first of the words that are left, and the words behind it; None where no word is left. Words stand between
-/// single spaces.
+/// The first of the words that are left, and the words after it; None where no word is left. Single spaces separate
+/// words.
 pub fn next_word(words: Option<&[u8]>) -> Option<(&[u8], Option<&[u8]>)>
     ensures { MatchOption result (words_of words.entry ≡ [])
         (λ next. words_of words.entry ≡ next.0.now ∷ words_of next.1) }

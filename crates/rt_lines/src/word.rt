@@ -18,8 +18,8 @@ fn without_spaces(text: &[u8]) -> &[u8]
     rest
 }
 
-/// The first word of a text whose words one or more spaces separate, and what stands behind it; None where there is
-/// no word.
+/// The first word of a text whose words one or more spaces separate, and the text after it; None where there is no
+/// word.
 pub fn next_spaced_word(text: &[u8]) -> Option<(&[u8], &[u8])>
     ensures { MatchOption result (spaced_words text.now ≡ [])
         (λ next. spaced_words text.now ≡ next.0.now ∷ spaced_words next.1.now) }
