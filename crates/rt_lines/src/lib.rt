@@ -5,6 +5,6 @@ pub mod number;
 pub mod part;
 pub mod word;
 
-pub use number::{number_below, short_number};
+pub use number::{all_digits, number_below, short_number};
 pub use part::{cut, first_line, next_word};
 pub use word::next_spaced_word;

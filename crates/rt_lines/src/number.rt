@@ -4,11 +4,16 @@ ghost use Rattle.std.specs.Str.Parse.{digits_value};
 ghost use Rattle.rt_ids.specs.Byte.{is_digit};
 ghost use Rattle.rt_lines.specs.Numbers as spec;
 
+/// The most digits of a short number.
+const SHORT_DIGITS: usize = 9;
+/// The most digits of a number of 32 bits.
+const MOST_DIGITS: usize = 10;
+
 /// The number that a word of one to nine digits spells. It may begin with 0.
 pub fn short_number(word: &[u8]) -> Option<u32>
     ensures { result ≡ spec.short_number word.now }
 {
-    if are_digits(word, 9) {
+    if are_digits(word, SHORT_DIGITS) {
         Some(value_of(word) as u32)
     } else {
         None
@@ -20,7 +25,7 @@ pub fn number_below(word: &[u8], bound: u64) -> Option<u64>
     requires { bound ≤ 2 ^ 32 }
     ensures { result ≡ spec.number_below bound word.now }
 {
-    if are_digits(word, 10) && has_no_leading_zero(word) {
+    if are_digits(word, MOST_DIGITS) && has_no_leading_zero(word) {
         let value = value_of(word);
         if value < bound { Some(value) } else { None }
     } else {
@@ -35,14 +40,14 @@ fn are_digits(word: &[u8], most: usize) -> bool
     !word.is_empty() && word.len() <= most && all_digits(word)
 }
 
-/// Whether all bytes are digits.
-fn all_digits(word: &[u8]) -> bool
+/// Whether all bytes are decimal digits.
+pub fn all_digits(word: &[u8]) -> bool
     ensures { result ≡ list_all is_digit word.now }
 {
     word.iter().all(|b| *b >= b'0' && *b <= b'9')
 }
 
-/// Whether 0 stands in front of no other digit.
+/// Whether the first digit is not 0, or there is no other.
 fn has_no_leading_zero(word: &[u8]) -> bool
     ensures { result ≡ spec.has_no_leading_zero word.now }
 {
