@@ -23,7 +23,10 @@ const USAGE: &[u8] =
 
 /// Runs the command that the words name, and answers its status. `app` is the source of the application, of `verify`
 /// that of the listing; `second` is that of the script, the trace or the limits. `pair` has its second application in
-/// `second` and its script in `third`, which no other command reads. All that is written goes to `out`.
+/// `second` and its script in `third`, which no other command reads. All that is written goes to `out`. `rt` starts the
+/// threads of `live`, `soak` and `pair`; `gate` is a seam for tests. What is written is promised for sources and a sink
+/// that tell their bytes; where they tell nothing, as files and standard output do, only the clauses on faults and
+/// statuses say anything. The statuses are those of `Status`, whose numbers are the exit statuses.
 pub fn rtic<R: Threads + Sync, A: Source, B: Source, C: Source, K: Sink + Send, G: Gate + Sync>(
     rt: &R,
     alloc: Global,
@@ -46,15 +49,15 @@ pub fn rtic<R: Threads + Sync, A: Source, B: Source, C: Source, K: Sink + Send, 
     // trace, of N items, is a run of Baker's machine on the application with each depth within the stack bound, so
     // sections were exclusive, no lock was found taken, and waiting kept within its bound. Also every spawn was full
     // exactly where the capacity was out, messages started first in, first out, fired in order and not before their
-    // instant, and ready and due messages were served; of `run` and `build` likewise for every list of events. With `no
-    // N` and `No` it is none, and N is the number of the first item that is wrong, from 1, or one more than there are
-    // items where only the total is.
+    // instant, and ready and due messages were served; of `run` and `build` likewise for each such list of events. With
+    // `no N` and `No` it is none, and N is the number of the first item that is wrong, from 1, or one more than there
+    // are items where only the total is.
     //
     // `verify` takes the listing of any image, whatever made it, and no application. With `yes` and `Done` the image
     // keeps the seven rules, and it is safe: for every list of events that a core may be given, nothing traps, the
-    // stack stays in the image's region, sections are exclusive, no lock is found taken, and each cell for which
-    // contexts contend is touched inside its one section alone. With `no K` and `No`, K is the least of the rules that
-    // the image breaks. A text that is no listing is refused at its first wrong line with `Text`.
+    // stack stays in the image's region, sections are exclusive, no lock is found taken, and outside `init` each cell
+    // for which owners contend is touched inside its one section alone. With `no K` and `No`, K is the least of the
+    // rules that the image breaks. A text that is no listing is refused at its first wrong line with `Text`.
     //
     // `pair` takes two applications and a script over the names of the first. At `Done` it has written, for each of two
     // cores, the listing of an image of its application, and that image's trace beside the other core, with an account
@@ -67,7 +70,8 @@ pub fn rtic<R: Threads + Sync, A: Source, B: Source, C: Source, K: Sink + Send, 
     ensures complete { (c : Command) (due : Status) → Names (texts words.now) c →
         IsDue c (inputs (A.left app.old) (B.left second.old) (C.left third.old)) due →
         ¬ Rose (A.faults app.old) (A.faults app.new) → ¬ Rose (B.faults second.old) (B.faults second.new) →
-        ¬ Rose (C.faults third.old) (C.faults third.new) → ¬ Rose (K.faults out.old) (K.faults out.new) → (result ≡ due) ⊎ (result ≡ Status.Memory) }
+        ¬ Rose (C.faults third.old) (C.faults third.new) → ¬ Rose (K.faults out.old) (K.faults out.new) →
+        (result ≡ due) ⊎ (result ≡ Status.Memory) }
 
     // Words that are no command give the usage line.
     ensures usage { ¬ IsCommand (texts words.now) →
