@@ -49,7 +49,8 @@ pub(crate) fn decide<
         (K.taken out.old) (K.taken out.new) (K.faults out.old) (K.faults out.new) result }
     ensures first_kept { reads (command_word command) ≡ 0 → IsKept A.left A.faults app.old app.new }
     ensures second_kept { let t = inputs (A.left app.old) (B.left second.old) (C.left third.old) in
-        (reads (command_word command) ≤ 1) ⊎ IsFirstRefused (command_word command) t → IsKept B.left B.faults second.old second.new }
+        (reads (command_word command) ≤ 1) ⊎ IsFirstRefused (command_word command) t →
+        IsKept B.left B.faults second.old second.new }
     ensures third_kept { let t = inputs (A.left app.old) (B.left second.old) (C.left third.old) in
         (reads (command_word command) ≤ 2) ⊎ IsApplicationRefused (command_word command) t →
         IsKept C.left C.faults third.old third.new }
@@ -84,7 +85,8 @@ fn decide_two<R: Threads + Sync, A: Source, B: Source, K: Sink + Send, G: Gate +
         (K.taken out.old) (K.taken out.new) (K.faults out.old) (K.faults out.new) result }
     ensures first_kept { reads (command_word command) ≡ 0 → IsKept A.left A.faults app.old app.new }
     ensures kept { (third : Option (List ℕ)) → let t = inputs (A.left app.old) (B.left second.old) third in
-        (reads (command_word command) ≤ 1) ⊎ IsFirstRefused (command_word command) t → IsKept B.left B.faults second.old second.new }
+        (reads (command_word command) ≤ 1) ⊎ IsFirstRefused (command_word command) t →
+        IsKept B.left B.faults second.old second.new }
     ensures first_heard { (A.faults app.new ≡ A.faults app.old) ⊎ (result ≡ Status.Read) }
     ensures second_heard { (B.faults second.new ≡ B.faults second.old) ⊎ (result ≡ Status.Read) }
     ensures sink_heard { (K.faults out.new ≡ K.faults out.old) ⊎ (result ≡ Status.Write) }

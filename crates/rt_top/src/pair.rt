@@ -47,9 +47,8 @@ pub(crate) fn pair<R: Threads + Sync, A: Source, B: Source, C: Source, K: Sink, 
         (K.taken out.old) (K.taken out.new) (K.faults out.old) (K.faults out.new) result }
     ensures second_kept { IsFirstRefused word.Pair (inputs (A.left app.old) (B.left second.old) (C.left third.old)) →
         IsKept B.left B.faults second.old second.new }
-    ensures third_kept { IsApplicationRefused word.Pair (inputs (A.left app.old) (B.left second.old) (C.left third.old))
-        →
-        IsKept C.left C.faults third.old third.new }
+    ensures third_kept { let t = inputs (A.left app.old) (B.left second.old) (C.left third.old) in
+        IsApplicationRefused word.Pair t → IsKept C.left C.faults third.old third.new }
     ensures first_heard { (A.faults app.new ≡ A.faults app.old) ⊎ (result ≡ Status.Read) }
     ensures second_heard { (B.faults second.new ≡ B.faults second.old) ⊎ (result ≡ Status.Read) }
     ensures third_heard { (C.faults third.new ≡ C.faults third.old) ⊎ (result ≡ Status.Read) }
