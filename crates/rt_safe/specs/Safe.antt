@@ -1,7 +1,7 @@
 -- A safe image: whatever happens to a core that runs it, nothing traps, the stack stays in its region, sections are
--- exclusive and none is found taken (Baker, Stack-Based Scheduling of Realtime Processes, 1991), and cells for which
--- owners contend are touched inside their section. Who is inside what is read from what the core shows. It is said of
--- all lists of events; no point, rule, mask or frame is named here but for the cells that are meant.
+-- exclusive and none is found taken (Baker, Stack-Based Scheduling of Realtime Processes, 1991), and outside `init`
+-- cells for which owners contend are touched inside their section. Who is inside what is read from what the core shows.
+-- It is said of all lists of events; no point, rule, mask or frame is named here but for the cells that are meant.
 use Rattle.std.specs.Prelude.{◌≡◌, ℕ, ◌≤◌, ◌⊎◌, List, [], ◌∷◌, take, Some}
 use Rattle.std.specs.List.{AllByRecursion, Contains}
 use Rattle.rt_ids.specs.Event.{Event}
