@@ -13,8 +13,8 @@ use std::marker::Model;
 use std::rt::Files;
 
 /// A file as a source. It is opened at the first read, and a file that does not open fails at each read. An empty path
-/// is an empty input. What no contract says, and what is trusted of the runtime: that a file opens where there is one
-/// at the path, and that a read of an open file gives what the file holds.
+/// is an empty input. What no contract says, and what is trusted here: that the file at this path is opened, and that a
+/// read of an open file gives what the file holds.
 #[derive(Drop)]
 pub struct FileSource<'a, R: Files> {
     rt: &'a R,

@@ -9,7 +9,8 @@ use crate::{Failed, Sink};
 use std::marker::Model;
 
 /// Standard output as a sink. It has no buffer: what a write took is out when the call returns. What no contract says,
-/// and what is trusted of the runtime: that standard output takes the first bytes of a piece, as many as it says.
+/// and what is trusted here: that a write hands its piece to standard output, and that this takes the first bytes, as
+/// many as it says.
 #[derive(Drop)]
 pub struct OutSink<'a, R: Print> {
     rt: &'a R,
