@@ -1,5 +1,5 @@
--- What the program is to write, and its status, for a command and the texts that its sources hold. Each command has a
--- line in each of these tables, and a file of its own for what is long.
+-- What the program is to write, and its status, for a command and the texts that its sources hold. Each table has a
+-- line for each command, or one for all others. What is long is in files of its own.
 use Rattle.std.specs.Prelude.{◌≡◌, ℕ, ◌≤◌, ◌⊎◌, List, Option, Some, None}
 use Rattle.rt_ids.specs.declared.status.Status.{Status}
 use Rattle.rt_ids.specs.declared.status.Status.TheVariants as status
