@@ -105,8 +105,9 @@ impl<R: Files> Source for FileSource<'_, R> {
         ensures cause { HasCause self.old.faults self.new.faults result }
         ensures quiet { OnOk result (self.new.faults ≡ self.old.faults) }
 
-        // An empty path is an empty input. Any other is opened at the first read, and only then.
+        // An empty path is an empty input, and nothing is opened. Any other is opened at the first read, and only then.
         ensures empty { self.old.path ≡ [] → result ≡ Ok 0 }
+        ensures unopened { self.old.path ≡ [] → self.new.opening ≡ self.old.opening }
         ensures opens { self.old.path ≢ [] → self.new.opening ≢ Untried }
         ensures once { self.old.opening ≢ Untried → self.new.opening ≡ self.old.opening }
         ensures missing { self.old.path ≢ [] → self.new.opening ≡ Missing → IsErr result }
