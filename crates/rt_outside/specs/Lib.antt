@@ -1,5 +1,6 @@
 pub mod Faults
 pub mod Bytes
+pub mod Lines
 pub mod Memory
 pub mod Outside
 pub mod Inside

@@ -3,6 +3,7 @@ ghost use Rattle.std.specs.Prelude.{OnErr, IsErrOf, IfSome, MatchOption};
 ghost use Rattle.rt_lines.specs.Parts.{lines, parts};
 ghost use Rattle.rt_outside.specs.Faults.{Rose};
 ghost use Rattle.rt_outside.specs.Bytes.{GaveAll, GaveCount};
+ghost use Rattle.rt_outside.specs.Lines.{HasHanded};
 ghost use Rattle.rt_outside.specs.Inside.Handed.{HoldsLast, IsUnended};
 
 use crate::source::PIECE;
@@ -25,7 +26,8 @@ pub trait LineSink {
 
 /// Reads all bytes up to the end of the source, where the first read gives none, and reads no further. Their lines go
 /// to the sink as soon as they end, so that no more of the text is kept than a piece of it and a line; says how many
-/// lines there are. After an error the source has lost what was taken, and the sink has had lines of it.
+/// lines there are. After an error the source has lost what was taken, and the sink has had the first lines of it; no
+/// clause says which where memory is not there.
 pub fn read_lines<S: Source, L: LineSink>(
     alloc: Global,
     source: &mut S,
@@ -42,6 +44,12 @@ pub fn read_lines<S: Source, L: LineSink>(
     ensures not_longer { OnErr result
         (¬ IsErrOf result ReadFail.TooLong → (n : ℕ) × (n ≤ limit)
         × GaveCount (S.left source.old) (S.left source.new) n) }
+
+    // Where the text is too long or the source fails, the sink has had the first lines of what was taken.
+    ensures long_handed { IsErrOf result ReadFail.TooLong →
+        HasHanded (L.came sink.new) (S.left source.old) (S.left source.new) }
+    ensures fault_handed { IsErrOf result ReadFail.Fault →
+        HasHanded (L.came sink.new) (S.left source.old) (S.left source.new) }
 
     // A fault is told, and nothing else is told as one.
     ensures fault { IsErrOf result ReadFail.Fault → Rose (S.faults source.old) (S.faults source.new) }

@@ -2,6 +2,7 @@ use Rattle.std.proofs.Common.{◌≤◌, ◌+◌, ◌-◌, ◌++◌, ℕ, List, 
 use Rattle.std.proofs.Common.{length-take-le}
 use Rattle.rt_lemmas.proofs.Results.{on_err_from}
 use Rattle.rt_outside.specs.Inside.Handed.{HoldsLast}
+use Rattle.rt_outside.proofs.Handing.{handed_text, handed_piece}
 use Rattle.rt_outside.proofs.Moving.{Gave-more, length-moved, take-front}
 use Rattle.rt_outside.proofs.lines.read_lines.Goals as goal
 
@@ -106,3 +107,18 @@ loop-turn-preserved g c =
       );
       quiet = c.in_ok-moved.ensures.quiet ∙ c.loop-turn.invariant.quiet;
     }
+
+pub returns-in_err-moved-clause-fault_handed : goal.returns-in_err-moved-clause-fault_handed
+returns-in_err-moved-clause-fault_handed g c =
+    λ _. handed_text (g.L.LineSink.came c.loop-turn.sink) c.loop-turn.invariant.text.0 c.loop-turn.held.items
+    c.loop-turn.count _ _ c.loop-turn.invariant.text.3
+    (rw c.in_err-moved.ensures.err c.loop-turn.invariant.text.1)
+
+pub returns-then-taken-most-clause-long_handed : goal.returns-then-taken-most-clause-long_handed
+returns-then-taken-most-clause-long_handed g c =
+    let text = c.loop-turn.invariant.text.0 in
+    let moved = c.in_ok-moved.moved in
+    let buffer = c.read.new.buffer in
+    λ _. handed_piece (g.L.LineSink.came c.loop-turn.sink) text c.loop-turn.held.items (take moved buffer)
+    c.loop-turn.count _ _ c.loop-turn.invariant.text.3
+    (Gave-more _ _ _ text buffer moved c.loop-turn.invariant.text.1 c.in_ok-moved.ensures.moved)
