@@ -1,7 +1,7 @@
-ghost use Rattle.std.specs.Prelude.{◌≡◌, ◌≤◌, ℕ, true, ◌&&◌, IfSome, IfNone};
-ghost use Rattle.std.specs.List.{list_all};
-ghost use Rattle.rt_ids.specs.Byte.{is_digit};
+ghost use Rattle.std.specs.Prelude.{◌≤◌, ℕ, IfSome, IfNone};
 ghost use Rattle.rt_top.specs.Words.{IsNumber};
+
+use rt_lines::all_digits;
 
 /// The most digits of a number among the program's words.
 const MOST_DIGITS: usize = 20;
@@ -18,11 +18,4 @@ pub(crate) fn number_in(word: &str, least: u64, most: u64) -> Option<u64>
         Ok(number) if least <= number && number <= most => Some(number),
         _ => None,
     }
-}
-
-/// Whether all bytes are decimal digits.
-fn all_digits(word: &[u8]) -> bool
-    ensures { result ≡ list_all is_digit word.now }
-{
-    word.iter().all(|b| *b >= b'0' && *b <= b'9')
 }
