@@ -70,7 +70,6 @@ fn run_live<R: Threads + Sync, K: Sink + Send, G: Gate + Sync>(
         (K.taken out.old) (K.taken out.new) (K.faults out.old) (K.faults out.new) result }
     ensures heard { (K.faults out.new ≡ K.faults out.old) ⊎ (result ≡ Status.Write) }
 {
-    let _lines = script.lines();
     let Ok(front) = heading(alloc, core.image()) else {
         return Status::Memory;
     };
