@@ -9,7 +9,7 @@ use Rattle.rt_top.specs.Words.{Command, Run, Check, Fmt, Build, Audit, Live, Soa
 use Rattle.rt_top.specs.Words.{Names, reads}
 use Rattle.rt_top.specs.Refusal.{RefusesText, RefusesApplication}
 use Rattle.rt_top.specs.SecondRefusal.{RefusesScript, RefusesTrace, RefusesLimits}
-use Rattle.rt_top.specs.Outputs.{IsFormatted, IsChecked, IsListed, IsRun, IsAudited, IsLive, IsSoaked, IsDeepened}
+use Rattle.rt_top.specs.Outputs.{IsFormatted, IsCheckReport, IsListed, IsRun, IsAudited, IsLive, IsSoaked, IsDeepened}
 use Rattle.rt_top.specs.Outputs.{IsTimed}
 use Rattle.rt_top.specs.Verified.{IsVerified}
 use Rattle.rt_top.specs.Paired.{RefusesOther, RefusesPairScript, IsPaired}
@@ -63,7 +63,7 @@ abbrev pub Writes : Command → Inputs → Status → List ℕ → Type 0
 Writes Run t ended bytes =
     (ended ≡ status.Done) × (text more : List ℕ) × (t.first ≡ Some text) × (t.second ≡ Some more)
     × IsRun text more bytes
-Writes Check t ended bytes = (ended ≡ status.Done) × (text : List ℕ) × (t.first ≡ Some text) × IsChecked text bytes
+Writes Check t ended bytes = (ended ≡ status.Done) × (text : List ℕ) × (t.first ≡ Some text) × IsCheckReport text bytes
 Writes Fmt t ended bytes = (ended ≡ status.Done) × (text : List ℕ) × (t.first ≡ Some text) × IsFormatted text bytes
 Writes Build t ended bytes = (ended ≡ status.Done) × (text : List ℕ) × (t.first ≡ Some text) × IsListed text bytes
 Writes Audit t ended bytes =

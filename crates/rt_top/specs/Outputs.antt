@@ -46,8 +46,8 @@ abbrev pub check_report : App → List ℕ
 check_report app = report app (ceilings app) (bounds app)
 
 -- `check`: the ceilings, costs, frames and bounds of the application
-abbrev pub IsChecked : List ℕ → List ℕ → Type 0
-IsChecked text bytes = (app : App) × IsApplication text app × (bytes ≡ check_report app)
+abbrev pub IsCheckReport : List ℕ → List ℕ → Type 0
+IsCheckReport text bytes = (app : App) × IsApplication text app × (bytes ≡ check_report app)
 
 -- An image of the application of a text, which a core runs, and which is good: whatever happens to it, what it shows is
 -- a run of Baker's machine on the application, within the printed bounds.

@@ -31,16 +31,16 @@ pub record IsNumber (word : List ℕ) (n : ℕ) : Type 0 where
   pub digits : list_all is_digit word ≡ true
   pub value : digits_value 10 word ≡ n
 
--- the numbers of `soak` are in range
-pub record IsSoak (words : List (List ℕ)) (number count workers : ℕ) : Type 0 where
+-- the words name `soak`, with these numbers, which are in range
+pub record NamesSoak (words : List (List ℕ)) (number count workers : ℕ) : Type 0 where
   pub app : List ℕ
-  pub word : List ℕ
-  pub times : List ℕ
-  pub threads : List ℕ
-  pub named : words ≡ codes "soak" ∷ app ∷ word ∷ times ∷ threads ∷ []
-  pub is_number : IsNumber word number × (number < 2 ^ 64)
-  pub is_count : IsNumber times count × (1 ≤ count) × (count ≤ 10000)
-  pub is_workers : IsNumber threads workers × (1 ≤ workers) × (workers ≤ 64)
+  pub number_word : List ℕ
+  pub count_word : List ℕ
+  pub workers_word : List ℕ
+  pub named : words ≡ codes "soak" ∷ app ∷ number_word ∷ count_word ∷ workers_word ∷ []
+  pub is_number : IsNumber number_word number × (number < 2 ^ 64)
+  pub is_count : IsNumber count_word count × (1 ≤ count) × (count ≤ 10000)
+  pub is_workers : IsNumber workers_word workers × (1 ≤ workers) × (workers ≤ 64)
 
 -- the words name this command
 abbrev pub Names : List (List ℕ) → Command → Type 0
@@ -50,7 +50,7 @@ Names words Fmt = (app : List ℕ) × (words ≡ codes "fmt" ∷ app ∷ [])
 Names words Build = (app : List ℕ) × (words ≡ codes "build" ∷ app ∷ [])
 Names words Audit = (app trace : List ℕ) × (words ≡ codes "audit" ∷ app ∷ trace ∷ [])
 Names words Live = (app script : List ℕ) × (words ≡ codes "live" ∷ app ∷ script ∷ [])
-Names words (Soak number count workers) = IsSoak words number count workers
+Names words (Soak number count workers) = NamesSoak words number count workers
 Names words (Demo n) = (word : List ℕ) × (words ≡ codes "demo" ∷ word ∷ []) × IsNumber word n × (1 ≤ n) × (n ≤ 48)
 Names words Deepest = (app : List ℕ) × (words ≡ codes "deepest" ∷ app ∷ [])
 Names words Times = (app limits : List ℕ) × (words ≡ codes "times" ∷ app ∷ limits ∷ [])

@@ -20,9 +20,9 @@ returns-in_ok-workers-in-len5-clause-some c =
     let verb = is_word (get_or words 0 d).now (codes "soak") c.eq.result c.eq.ensures c.if-eq.true in
     record {
       app = (get_or words 1 d).now;
-      word = (get_or words 2 d).now;
-      times = (get_or words 3 d).now;
-      threads = (get_or words 4 d).now;
+      number_word = (get_or words 2 d).now;
+      count_word = (get_or words 3 d).now;
+      workers_word = (get_or words 4 d).now;
       named = five_of words d c.in-len5.len_at_least c.in-len5.len_below
           ∙ ap (λ w. w ∷ (get_or words 1 d).now ∷ (get_or words 2 d).now ∷ (get_or words 3 d).now
           ∷ (get_or words 4 d).now ∷ []) verb;
