@@ -27,8 +27,8 @@ use Rattle.rt_top.specs.Outputs.{check_report, TellsSoak, TellsDeepest, TellsTim
 use Rattle.rt_top.specs.Outputs as outputs
 use Rattle.rt_top.specs.Defined.{Inputs, inputs, RefusesFirst, RefusesSecond, Defined, refused, faulty, output, IsTold}
 use Rattle.rt_top.specs.Defined.{IsFirstRefused, IsSecondRefused, AreTold, AreReadTold}
-use Rattle.rt_top.specs.Inside.Replies.{Replies, AnswersAudit, AnswersTimes, run_text}
-use Rattle.rt_top.specs.Inside.Started.{HasScript, IsStarted, AnswersRefusal, ShowsLive}
+use Rattle.rt_top.specs.Inside.Replies.{Replies, AnswersAudit, AnswersTimes}
+use Rattle.rt_top.specs.Inside.Started.{HasSecondScript, IsStarted, AnswersRefusal, ShowsRun, ShowsLive}
 use Rattle.rt_top.specs.Inside.Meant.{command_word}
 use Rattle.rt_top.specs.Inside.Replies as replies
 use Rattle.rt_top.specs.Inside.Decides.{Tells, Stops, Halts, Lists, IsPast, is_done, is_text, is_no, AnswersTrace}
@@ -132,35 +132,35 @@ module _ (c : Command) (t : Inputs) (passes : IsFirstRefused c t → ⊥) (none 
   }
 
 -- the commands that read a script
-pub script_reads : (c : Command) → HasScript c → 2 ≤ reads c
+pub script_reads : (c : Command) → HasSecondScript c → 2 ≤ reads c
 script_reads Run has = omega arith
 script_reads Live has = omega arith
 script_reads other has = absurd has
 
-script_alone : (c : Command) → HasScript c → (t : Inputs) → IsSecondRefused c t → ⊥
+script_alone : (c : Command) → HasSecondScript c → (t : Inputs) → IsSecondRefused c t → ⊥
 script_alone Run has t r = r.5
 script_alone Live has t r = r.5
 script_alone other has t r = absurd has
 
-pub refuses_first : (c : Command) → HasScript c → (text line : List ℕ) → RefusesApplication text line
+pub refuses_first : (c : Command) → HasSecondScript c → (text line : List ℕ) → RefusesApplication text line
     → RefusesFirst c text line
 refuses_first Run has text line r = r
 refuses_first Live has text line r = r
 refuses_first other has text line r = absurd has
 
-first_refuses : (c : Command) → HasScript c → (text line : List ℕ) → RefusesFirst c text line
+first_refuses : (c : Command) → HasSecondScript c → (text line : List ℕ) → RefusesFirst c text line
     → RefusesApplication text line
 first_refuses Run has text line r = r
 first_refuses Live has text line r = r
 first_refuses other has text line r = absurd has
 
-refuses_second : (c : Command) → HasScript c → (text more line : List ℕ) → RefusesScript text more line
+refuses_second : (c : Command) → HasSecondScript c → (text more line : List ℕ) → RefusesScript text more line
     → RefusesSecond c text more line
 refuses_second Run has text more line r = r
 refuses_second Live has text more line r = r
 refuses_second other has text more line r = absurd has
 
-pub script_reads_first : (c : Command) → HasScript c → 1 ≤ reads c
+pub script_reads_first : (c : Command) → HasSecondScript c → 1 ≤ reads c
 script_reads_first c has = let two = script_reads c has in omega (arith, two)
 
 -- the application of the first text
@@ -291,7 +291,7 @@ module _ (first second third : Option (List ℕ)) (app : App) (accepted : (text 
   -- a listing
   pub listed_decided : IsAccepted app → (bytes : List ℕ) → Lists app bytes
       → IsDecided Build u status.Done bytes
-  listed_decided is_accepted bytes (image, of_application, runnable, says) = record {
+  listed_decided is_accepted bytes l = record {
     which = inr (is_done, λ r. application_passes r.0 r.1 app (accepted r.0 r.2) r.3, λ r. r.5);
     defined = λ told.
         let text = told_text first (told.0 (omega arith)) in
@@ -301,23 +301,27 @@ module _ (first second third : Option (List ℕ)) (app : App) (accepted : (text 
           text.1,
           record {
             app = app;
-            image = image;
+            image = l.image;
             is = record {
               of_text = accepted text.0 text.1;
-              of_application = of_application;
-              runnable = runnable;
-              good = images_are_good app image is_accepted of_application;
+              good = record {
+                of_application = l.of_application;
+                runnable = l.runnable;
+                listable = l.listable;
+                good = images_are_good app l.image is_accepted l.of_application;
+              };
+              numbers = l.numbers;
             };
-            written = says;
+            written = l.says;
           },
         );
   }
 
   -- the refusal of a script, of a command that reads one
-  pub script_passes : (c : Command) → HasScript c → IsFirstRefused c u → ⊥
+  pub script_passes : (c : Command) → HasSecondScript c → IsFirstRefused c u → ⊥
   script_passes c has r = application_passes r.0 r.1 app (accepted r.0 r.2) (first_refuses c has r.0 r.1 r.3)
 
-  script_decided : (c : Command) → HasScript c → (refusal : ScriptRefused) (line : List ℕ)
+  script_decided : (c : Command) → HasSecondScript c → (refusal : ScriptRefused) (line : List ℕ)
       → ((more : List ℕ) → second ≡ Some more → script.IsRefused (names_of app) more refusal)
       → SaysScript refusal line → IsDecided c u status.Text line
   script_decided c has refusal line met says =
@@ -326,12 +330,12 @@ module _ (first second third : Option (List ℕ)) (app : App) (accepted : (text 
       faulty text more line e f (refuses_second c has text more line
       (record { app = app; of_text = accepted text e; refusal = refusal; refused = met more f; says = says })))
 
-  pub long_script_decided : (c : Command) → HasScript c → ((more : List ℕ) → second ≡ Some more
+  pub long_script_decided : (c : Command) → HasSecondScript c → ((more : List ℕ) → second ≡ Some more
       → SCRIPT_BYTES < length more)
       → (line : List ℕ) → SaysScript in_script.TooLong line → IsDecided c u status.Text line
   long_script_decided c has long line says = script_decided c has in_script.TooLong line long says
 
-  pub refusal_decided : (c : Command) → HasScript c → (own : List ℕ)
+  pub refusal_decided : (c : Command) → HasSecondScript c → (own : List ℕ)
       → ((more : List ℕ) → second ≡ Some more → own ≡ more)
       → (ended : Status) (line : List ℕ) → AnswersRefusal app own ended line → IsDecided c u ended line
   refusal_decided c has own same ended line a =
@@ -342,9 +346,9 @@ module _ (first second third : Option (List ℕ)) (app : App) (accepted : (text 
 -- what a run writes
 module _ (first second third : Option (List ℕ)) (image : Image) (asked : List Line)
     (s : IsStarted first second image asked) where
-  pub run_decided : (ended : Status) (bytes : List ℕ) → (ended ≡ status.Done) × (bytes ≡ run_text image asked)
+  pub run_decided : (ended : Status) (bytes : List ℕ) → ShowsRun image asked ended bytes
       → IsDecided Run (inputs first second third) ended bytes
-  run_decided ended bytes (is, written) =
+  run_decided ended bytes (is, numbers, written) =
       subst (λ e. IsDecided Run (inputs first second third) e bytes) (sym is)
       (past_decided Run (inputs first second third) (script_passes first second third s.app s.of_text Run tt) (λ r. r.5)
       (omega arith) status.Done bytes is_done
@@ -357,12 +361,7 @@ module _ (first second third : Option (List ℕ)) (image : Image) (asked : List 
         record {
           app = s.app;
           image = image;
-          is = record {
-            of_text = s.of_text text e;
-            of_application = s.good.of_application;
-            runnable = s.good.runnable;
-            good = s.good.good;
-          };
+          is = record { of_text = s.of_text text e; good = s.good; numbers = numbers };
           script = asked;
           read = s.read more f;
           written = written;
@@ -372,7 +371,7 @@ module _ (first second third : Option (List ℕ)) (image : Image) (asked : List 
   -- and what it writes beside the devices
   pub live_decided : (ended : Status) (bytes : List ℕ) → ShowsLive image asked ended bytes
       → IsDecided Live (inputs first second third) ended bytes
-  live_decided ended bytes (is, shown, live, written) =
+  live_decided ended bytes (is, numbers, shown, live, written) =
       subst (λ e. IsDecided Live (inputs first second third) e bytes) (sym is)
       (past_decided Live (inputs first second third) (script_passes first second third s.app s.of_text Live tt)
       (λ r. r.5) (omega arith) status.Done bytes is_done
@@ -385,12 +384,7 @@ module _ (first second third : Option (List ℕ)) (image : Image) (asked : List 
         record {
           app = s.app;
           image = image;
-          is = record {
-            of_text = s.of_text text e;
-            of_application = s.good.of_application;
-            runnable = s.good.runnable;
-            good = s.good.good;
-          };
+          is = record { of_text = s.of_text text e; good = s.good; numbers = numbers };
           script = asked;
           read = s.read more f;
           shown = shown;

@@ -10,6 +10,7 @@ use Rattle.rt_app.specs.Tree.{App}
 use Rattle.rt_build.specs.Accepted.{IsApplication}
 use Rattle.rt_code.specs.Image.{Image}
 use Rattle.rt_dual.specs.Output.{IsPairText, TookPart}
+use Rattle.rt_listing.specs.Numbers.{HasShortNumbers}
 use Rattle.rt_outside.specs.Bytes.{Took}
 use Rattle.rt_outside.specs.Faults.{Rose}
 use Rattle.rt_script.specs.Text as script
@@ -19,13 +20,12 @@ use Rattle.rt_script.specs.declared.refusal.ScriptRefused.TheVariants as in_scri
 use Rattle.rt_top.specs.Words.{Command, Pair, reads}
 use Rattle.rt_top.specs.Refusal.{RefusesApplication}
 use Rattle.rt_top.specs.SecondRefusal.{SaysScript}
-use Rattle.rt_top.specs.Outputs.{IsGoodImage}
+use Rattle.rt_top.specs.Outputs.{IsGoodOf}
 use Rattle.rt_top.specs.Defined.{Inputs, inputs, Defined, second_refused, third_faulty, output, IsTold, IsFirstRefused}
 use Rattle.rt_top.specs.Defined.{IsSecondRefused, IsApplicationRefused, AreTold, AreReadTold}
 use Rattle.rt_top.specs.Inside.Decides.{Tells, Stops, Halts, IsPast, is_done, is_text, is_no, IsDecided, HasFailed}
 use Rattle.rt_top.specs.Inside.Decides.{Decides, EndsAs, Concludes}
 use Rattle.rt_top.specs.Inside.Replies.{WantsMemory}
-use Rattle.rt_top.specs.Inside.Started.{IsGoodOf}
 use Rattle.rt_top.specs.Inside.Pairing.{IsOfSecond, ShowsPair, AnswersPair}
 use Rattle.rt_top.specs.Inside.Pairing as pairing
 use Rattle.rt_top.specs.declared.reply.Reply.{Reply}
@@ -45,16 +45,6 @@ pub second_tells : {E : Type 0} (ended : Status) (own line : List ℕ) → own �
 second_tells ended own line same made says r is none =
     subst (λ l. Tells ended (λ bytes. bytes ≡ codes "second " ++ l) r) same
     (made_tells ended (λ bytes. bytes ≡ codes "second " ++ own) made says r is none)
-
--- an image that was prepared is good for the text of its application
-good_image : (text : List ℕ) (app : App) (image : Image) → IsApplication text app → IsGoodOf app image
-    → IsGoodImage text app image
-good_image text app image of_text good = record {
-  of_text = of_text;
-  of_application = good.of_application;
-  runnable = good.runnable;
-  good = good.good;
-}
 
 module _ (first second third : Option (List ℕ)) (one : App) (is_one : (text : List ℕ) → first ≡ Some text
     → IsApplication text one) where
@@ -165,8 +155,8 @@ module _ (first second third : Option (List ℕ)) (one : App) (is_one : (text : 
             second = other;
             first_image = image;
             second_image = shows.second;
-            is_first = good_image u one image (is_one u e) good;
-            is_second = good_image more other shows.second (is_other more f) shows.good;
+            is_first = record { of_text = is_one u e; good = good; numbers = shows.first_numbers };
+            is_second = record { of_text = is_other more f; good = shows.good; numbers = shows.second_numbers };
             script = asked;
             read = subst (λ m. script.IsScriptText (names_of one) m asked) (same last g) read;
             written = shows.is;
@@ -175,9 +165,17 @@ module _ (first second third : Option (List ℕ)) (one : App) (is_one : (text : 
 
 -- A run of two cores was written, or the sink failed.
 module _ (image second : Image) (other : App) (asked : List Line) (good : IsGoodOf other second)
+    (first_numbers : HasShortNumbers image) (second_numbers : HasShortNumbers second)
     (before after : Option (List ℕ)) (fb fa : ℕ) where
   shows : (bytes : List ℕ) → IsPairText image second asked bytes → ShowsPair image other asked status.Done bytes
-  shows bytes is = record { done = refl; second = second; good = good; is = is }
+  shows bytes is = record {
+    done = refl;
+    second = second;
+    good = good;
+    first_numbers = first_numbers;
+    second_numbers = second_numbers;
+    is = is;
+  }
 
   pub pair_ends : (bytes : List ℕ) × IsPairText image second asked bytes × Took before after bytes
       → EndsAs (ShowsPair image other asked) WantsMemory before after fb fa status.Done

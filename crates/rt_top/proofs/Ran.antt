@@ -9,6 +9,7 @@ use Rattle.rt_app.specs.Tree.{App}
 use Rattle.rt_build.specs.Accepted.{IsApplication}
 use Rattle.rt_code.specs.Image.{Image}
 use Rattle.rt_listing.specs.Listing.{listing}
+use Rattle.rt_listing.specs.Numbers.{HasShortNumbers}
 use Rattle.rt_live.specs.Output.{IsLiveText}
 use Rattle.rt_run.specs.Written.{text_of}
 use Rattle.rt_script.specs.Text as script
@@ -17,7 +18,8 @@ use Rattle.rt_script.specs.declared.refusal.ScriptRefused.{ScriptRefused}
 use Rattle.rt_top.specs.SecondRefusal.{SaysScript}
 use Rattle.rt_top.specs.Inside.Decides.{Tells, EndsAs}
 use Rattle.rt_top.specs.Inside.Replies.{WantsMemory, Replies, run_text}
-use Rattle.rt_top.specs.Inside.Started.{IsGoodOf, IsStarted, AnswersRefusal, ShowsLive}
+use Rattle.rt_top.specs.Outputs.{IsGoodOf}
+use Rattle.rt_top.specs.Inside.Started.{IsStarted, AnswersRefusal, ShowsRun, ShowsLive}
 use Rattle.rt_top.specs.declared.reply.Reply.{Reply}
 use Rattle.rt_top.proofs.Giving.{replies_as}
 
@@ -27,17 +29,14 @@ pub run_bytes : (image : Image) (asked : List Line) (front : List ℕ) → front
 run_bytes image asked front is = ap (λ l. l ++ text_of image asked) is
 
 -- a run was written, or the sink failed
-module _ (image : Image) (asked : List Line) (bytes : List ℕ) (same : bytes ≡ run_text image asked)
-    (before after : Option (List ℕ)) (fb fa : ℕ) where
-  abbrev IsRunText : Status → List ℕ → Type 0
-  IsRunText ended text = (ended ≡ status.Done) × (text ≡ run_text image asked)
-
-  pub whole_ends : Took before after bytes → EndsAs IsRunText WantsMemory before after fb fa status.Done
-  whole_ends took = inl (status.Done, bytes, (refl, same), inl (refl, took))
+module _ (image : Image) (asked : List Line) (numbers : HasShortNumbers image) (bytes : List ℕ)
+    (same : bytes ≡ run_text image asked) (before after : Option (List ℕ)) (fb fa : ℕ) where
+  pub whole_ends : Took before after bytes → EndsAs (ShowsRun image asked) WantsMemory before after fb fa status.Done
+  whole_ends took = inl (status.Done, bytes, (refl, numbers, same), inl (refl, took))
 
   pub part_ends : Rose fb fa → TookPrefix before after bytes
-      → EndsAs IsRunText WantsMemory before after fb fa status.Write
-  part_ends rose part = inl (status.Done, bytes, (refl, same), inr (refl, rose, part))
+      → EndsAs (ShowsRun image asked) WantsMemory before after fb fa status.Write
+  part_ends rose part = inl (status.Done, bytes, (refl, numbers, same), inr (refl, rose, part))
 
 -- the refusal of a script's text
 pub refused_replies : (app : App) (more : List ℕ) (refusal : ScriptRefused)
@@ -64,10 +63,10 @@ started_by first second app of_text own same (Ok both) image asked good read = r
 started_by first second app of_text own same (Err e) image asked good read = tt
 
 -- what `live` shows was written behind what stands in front of it, or the sink failed
-module _ (image : Image) (asked : List Line) (front : List ℕ) (is : front ≡ listing image ++ codes "trace\n")
-    (before after : Option (List ℕ)) (fb fa : ℕ) where
+module _ (image : Image) (asked : List Line) (numbers : HasShortNumbers image) (front : List ℕ)
+    (is : front ≡ listing image ++ codes "trace\n") (before after : Option (List ℕ)) (fb fa : ℕ) where
   shows : (shown : List ℕ) → IsLiveText image asked shown → ShowsLive image asked status.Done (front ++ shown)
-  shows shown live = (refl, shown, live, ap (λ l. l ++ shown) is)
+  shows shown live = (refl, numbers, shown, live, ap (λ l. l ++ shown) is)
 
   pub live_ends : (shown : List ℕ) × IsLiveText image asked shown × Took before after (front ++ shown)
       → EndsAs (ShowsLive image asked) WantsMemory before after fb fa status.Done

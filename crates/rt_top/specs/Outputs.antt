@@ -16,10 +16,12 @@ use Rattle.rt_baker.specs.declared.verdict.Verdict.TheVariants as judged
 use Rattle.rt_build.specs.Accepted.{IsApplication}
 use Rattle.rt_build.specs.Image.{IsImageOf}
 use Rattle.rt_code.specs.Image.{Image}
+use Rattle.rt_code.specs.Listable.{IsListable}
 use Rattle.rt_code.specs.Runnable.{IsRunnable}
 use Rattle.rt_count.specs.Text.{summary_text}
 use Rattle.rt_count.specs.declared.summary.Summary.{Summary}
 use Rattle.rt_listing.specs.Listing.{listing}
+use Rattle.rt_listing.specs.Numbers.{HasShortNumbers}
 use Rattle.rt_live.specs.Output.{IsLiveText}
 use Rattle.rt_reach.specs.Reached.{ReachesTheBound}
 use Rattle.rt_report.specs.Report.{report}
@@ -49,13 +51,20 @@ check_report app = report app (ceilings app) (bounds app)
 abbrev pub IsCheckReport : List ℕ → List ℕ → Type 0
 IsCheckReport text bytes = (app : App) × IsApplication text app × (bytes ≡ check_report app)
 
--- An image of the application of a text, which a core runs, and which is good: whatever happens to it, what it shows is
--- a run of Baker's machine on the application, within the printed bounds.
-pub record IsGoodImage (text : List ℕ) (app : App) (image : Image) : Type 0 where
-  pub of_text : IsApplication text app
+-- An image of the application, which a core runs, and which is good: whatever happens to it, what it shows is a run of
+-- Baker's machine on the application, within the printed bounds. Each name that its listing needs is there.
+pub record IsGoodOf (app : App) (image : Image) : Type 0 where
   pub of_application : IsImageOf app image
   pub runnable : IsRunnable image
+  pub listable : IsListable image
   pub good : Good app image
+
+-- A good image of the application of a text. It has only short numbers, so its listing is of it alone: of the images
+-- over its names that are listable and have only short numbers no other has this listing (`TellsImagesApart`).
+pub record IsGoodImage (text : List ℕ) (app : App) (image : Image) : Type 0 where
+  pub of_text : IsApplication text app
+  pub good : IsGoodOf app image
+  pub numbers : HasShortNumbers image
 
 -- `build`: the listing of a good image
 pub record IsListed (text bytes : List ℕ) : Type 0 where

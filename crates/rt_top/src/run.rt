@@ -4,14 +4,15 @@ ghost use Rattle.rt_outside.specs.Faults.{Rose, HasCause};
 ghost use Rattle.rt_code.specs.Lines.{HasLines};
 ghost use Rattle.rt_core.specs.Machine.{IsFresh};
 ghost use Rattle.rt_listing.specs.Listing.{listing};
+ghost use Rattle.rt_listing.specs.Numbers.{HasShortNumbers};
 ghost use Rattle.rt_script.specs.Script.{HasNames};
 ghost use Rattle.rt_run.specs.Written.{text_of};
-ghost use Rattle.rt_ids.specs.declared.status.Status.TheVariants as status;
 ghost use Rattle.rt_top.specs.Words as word;
 ghost use Rattle.rt_top.specs.Ends.{IsKept};
 ghost use Rattle.rt_top.specs.Defined.{inputs, IsFirstRefused};
 ghost use Rattle.rt_top.specs.Inside.Decides.{Concludes, EndsAs};
-ghost use Rattle.rt_top.specs.Inside.Replies.{WantsMemory, run_text};
+ghost use Rattle.rt_top.specs.Inside.Replies.{WantsMemory};
+ghost use Rattle.rt_top.specs.Inside.Started.{ShowsRun};
 
 use crate::start::start;
 use rt_code::Image;
@@ -53,8 +54,8 @@ fn run_script<K: Sink>(alloc: Global, core: &mut Core, script: &Script, out: &mu
     requires fresh { IsFresh core.old }
     requires lines { HasLines core.old.image }
     requires names { HasNames core.old.image.names script.now }
-    ensures ends { EndsAs (λ ended bytes. (ended ≡ status.Done) × (bytes ≡ run_text core.old.image script.now))
-        WantsMemory (K.taken out.old) (K.taken out.new) (K.faults out.old) (K.faults out.new) result }
+    ensures ends { EndsAs (ShowsRun core.old.image script.now) WantsMemory
+        (K.taken out.old) (K.taken out.new) (K.faults out.old) (K.faults out.new) result }
     ensures heard { (K.faults out.new ≡ K.faults out.old) ⊎ (result ≡ Status.Write) }
 {
     let Ok(front) = heading(alloc, core.image()) else {
@@ -68,7 +69,8 @@ fn run_script<K: Sink>(alloc: Global, core: &mut Core, script: &Script, out: &mu
 
 /// The listing of an image, with the line that stands in front of a trace.
 pub(crate) fn heading(alloc: Global, image: &Image) -> Result<Vec<u8>, NoMemory>
-    ensures { IfOk result (λ text. text.items ≡ listing image.now ++ codes "trace\n") }
+    ensures text { IfOk result (λ text. text.items ≡ listing image.now ++ codes "trace\n") }
+    ensures numbers { IfOk result (λ _. HasShortNumbers image.now) }
 {
     let mut text = listing(alloc, image)?;
     push_bytes(&mut text, b"trace\n")?;

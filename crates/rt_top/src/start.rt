@@ -9,10 +9,11 @@ ghost use Rattle.rt_script.specs.Script.{HasNames};
 ghost use Rattle.rt_script.specs.Text.{IsScriptText};
 ghost use Rattle.rt_top.specs.Words as word;
 ghost use Rattle.rt_top.specs.Ends.{IsKept};
+ghost use Rattle.rt_top.specs.Outputs.{IsGoodOf};
 ghost use Rattle.rt_top.specs.Defined.{inputs, IsFirstRefused};
 ghost use Rattle.rt_top.specs.Inside.Decides.{Concludes, EndsAs};
 ghost use Rattle.rt_top.specs.Inside.Replies.{WantsMemory};
-ghost use Rattle.rt_top.specs.Inside.Started.{HasScript, IsStarted, IsGoodOf, AnswersRefusal};
+ghost use Rattle.rt_top.specs.Inside.Started.{HasSecondScript, IsStarted, AnswersRefusal};
 
 use crate::reading::{read_accepted, read_within};
 use crate::reply::{finish, refuse_script};
@@ -40,12 +41,12 @@ pub(crate) fn start<A: Source, B: Source, K: Sink>(
     ensures names { IfOk result (λ both. HasNames both.0.image.names both.1) }
     ensures untouched { OnOk result (K.taken out.new ≡ K.taken out.old) }
     ensures still { OnOk result (K.faults out.new ≡ K.faults out.old) }
-    ensures ends { IfErr result (λ ended. (c : word.Command) → HasScript c → (third : Option (List ℕ)) →
+    ensures ends { IfErr result (λ ended. (c : word.Command) → HasSecondScript c → (third : Option (List ℕ)) →
         Concludes c (inputs (A.left app.old) (B.left second.old) third)
         (Rose (A.faults app.old) (A.faults app.new) × IsKept B.left B.faults second.old second.new)
         (Rose (B.faults second.old) (B.faults second.new))
         (K.taken out.old) (K.taken out.new) (K.faults out.old) (K.faults out.new) ended) }
-    ensures kept { (c : word.Command) → HasScript c → (third : Option (List ℕ)) →
+    ensures kept { (c : word.Command) → HasSecondScript c → (third : Option (List ℕ)) →
         IsFirstRefused c (inputs (A.left app.old) (B.left second.old) third) →
         IsKept B.left B.faults second.old second.new }
     ensures first_heard { (A.faults app.new ≡ A.faults app.old) ⊎ IsErrOf result Status.Read }

@@ -10,8 +10,10 @@ use Rattle.rt_app.specs.Tree.{App}
 use Rattle.rt_build.specs.Accepted.{IsBroken}
 use Rattle.rt_build.specs.Image.{IsImageOf}
 use Rattle.rt_code.specs.Image.{Image}
+use Rattle.rt_code.specs.Listable.{IsListable}
 use Rattle.rt_code.specs.Runnable.{IsRunnable}
 use Rattle.rt_listing.specs.Listing.{listing}
+use Rattle.rt_listing.specs.Numbers.{HasShortNumbers}
 use Rattle.rt_top.specs.Words as word
 use Rattle.rt_top.specs.Refusal.{refusal_line}
 use Rattle.rt_top.specs.Ends.{Wrote}
@@ -39,9 +41,14 @@ pub record IsBrokenBy (text : List ℕ) (a : tree.App) (line : List ℕ) : Type 
   pub broken : IsBroken text a fault
   pub says : line ≡ refusal_line fault
 
--- the bytes are the listing of an image of the application, which a core runs
-abbrev pub Lists : App → List ℕ → Type 0
-Lists app bytes = (image : Image) × IsImageOf app image × IsRunnable image × (bytes ≡ listing image)
+-- the bytes are the listing of an image of the application, which a core runs, and of no other
+pub record Lists (app : App) (bytes : List ℕ) : Type 0 where
+  pub image : Image
+  pub of_application : IsImageOf app image
+  pub runnable : IsRunnable image
+  pub listable : IsListable image
+  pub numbers : HasShortNumbers image
+  pub says : bytes ≡ listing image
 
 -- a status behind the applications, which are not refused then
 pub data IsPast : Status → Type 0 where

@@ -6,10 +6,12 @@ use Rattle.rt_app.specs.Names.{names_of}
 use Rattle.rt_app.specs.Tree.{App}
 use Rattle.rt_code.specs.Image.{Image}
 use Rattle.rt_dual.specs.Output.{IsPairText}
+use Rattle.rt_listing.specs.Numbers.{HasShortNumbers}
 use Rattle.rt_script.specs.Text.{IsScriptText}
 use Rattle.rt_script.specs.declared.line.Line.{Line}
 use Rattle.rt_top.specs.Inside.Replies.{Replies}
-use Rattle.rt_top.specs.Inside.Started.{IsGoodOf, AnswersRefusal}
+use Rattle.rt_top.specs.Outputs.{IsGoodOf}
+use Rattle.rt_top.specs.Inside.Started.{AnswersRefusal}
 use Rattle.rt_top.specs.declared.reply.Reply.{Reply}
 use Rattle.rt_top.specs.declared.reply.Reply.TheVariants as reply
 
@@ -24,6 +26,8 @@ pub record ShowsPair (image : Image) (other : App) (asked : List Line) (ended : 
   pub done : ended ≡ status.Done
   pub second : Image
   pub good : IsGoodOf other second
+  pub first_numbers : HasShortNumbers image
+  pub second_numbers : HasShortNumbers second
   pub is : IsPairText image second asked bytes
 
 -- what `pair` says of two applications and the text of a script

@@ -5,29 +5,23 @@ use Rattle.rt_ids.specs.declared.status.Status.TheVariants as status
 use Rattle.rt_app.specs.Names.{names_of}
 use Rattle.rt_app.specs.Tree.{App}
 use Rattle.rt_build.specs.Accepted.{IsApplication}
-use Rattle.rt_build.specs.Image.{IsImageOf}
 use Rattle.rt_code.specs.Image.{Image}
-use Rattle.rt_code.specs.Runnable.{IsRunnable}
 use Rattle.rt_listing.specs.Listing.{listing}
+use Rattle.rt_listing.specs.Numbers.{HasShortNumbers}
 use Rattle.rt_live.specs.Output.{IsLiveText}
 use Rattle.rt_script.specs.Text.{IsScriptText, IsRefused}
 use Rattle.rt_script.specs.declared.line.Line.{Line}
 use Rattle.rt_script.specs.declared.refusal.ScriptRefused.{ScriptRefused}
-use Rattle.rt_sim.specs.Good.{Good}
 use Rattle.rt_top.specs.Words as word
+use Rattle.rt_top.specs.Outputs.{IsGoodOf}
 use Rattle.rt_top.specs.SecondRefusal.{SaysScript}
+use Rattle.rt_top.specs.Inside.Replies.{run_text}
 
--- the commands that read a script
-abbrev pub HasScript : word.Command → Type 0
-HasScript word.Run = Unit {0}
-HasScript word.Live = Unit {0}
-HasScript other = ⊥
-
--- the image is a good one of the application, which a core runs
-pub record IsGoodOf (app : App) (image : Image) : Type 0 where
-  pub of_application : IsImageOf app image
-  pub runnable : IsRunnable image
-  pub good : Good app image
+-- the commands whose second text is a script
+abbrev pub HasSecondScript : word.Command → Type 0
+HasSecondScript word.Run = Unit {0}
+HasSecondScript word.Live = Unit {0}
+HasSecondScript other = ⊥
 
 -- the first source holds an application of which the image is a good one, and the second this script for it
 pub record IsStarted (first second : Option (List ℕ)) (image : Image) (asked : List Line) : Type 0 where
@@ -43,8 +37,12 @@ pub record AnswersRefusal (app : App) (more : List ℕ) (ended : Status) (line :
   pub refused : IsRefused (names_of app) more refusal
   pub says : SaysScript refusal line
 
--- what `live` writes of an image under a script
+-- what `run` writes of an image under a script; the listing is of this image alone
+abbrev pub ShowsRun : Image → List Line → Status → List ℕ → Type 0
+ShowsRun image asked ended bytes = (ended ≡ status.Done) × HasShortNumbers image × (bytes ≡ run_text image asked)
+
+-- what `live` writes of it, likewise
 abbrev pub ShowsLive : Image → List Line → Status → List ℕ → Type 0
 ShowsLive image asked ended bytes =
-    (ended ≡ status.Done)
+    (ended ≡ status.Done) × HasShortNumbers image
     × (shown : List ℕ) × IsLiveText image asked shown × (bytes ≡ listing image ++ codes "trace\n" ++ shown)

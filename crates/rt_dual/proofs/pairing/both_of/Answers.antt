@@ -17,6 +17,7 @@ returns c =
       one = record {
         made = one.made;
         front = one.front;
+        numbers = one.numbers;
         at = refl;
         routes =
             are_routes first second.names c.routes_of.result (λ i there. one.made.in_range i ((one.made.may i).1 there))
@@ -28,6 +29,7 @@ returns c =
       two = record {
         made = two.made;
         front = two.front;
+        numbers = two.numbers;
         at = refl;
         routes =
             are_routes second first.names c.routes_of-2.result

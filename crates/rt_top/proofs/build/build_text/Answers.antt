@@ -5,4 +5,5 @@ use Rattle.rt_top.proofs.build.build_text.Goals as goal
 pub returns : goal.returns
 returns c =
     lists_by (app_of c.args.app.now) c.in_ok-image.image c.in_ok-image.ensures.image c.in_ok-image.ensures.runnable
-    c.listing.result (λ text. text.items) c.listing.ensures.text
+    c.in_ok-image.ensures.lines.listable c.listing.result (λ text. text.items) c.listing.ensures.text
+    c.listing.ensures.numbers

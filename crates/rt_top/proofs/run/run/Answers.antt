@@ -1,11 +1,11 @@
-use Rattle.std.proofs.Common.{◌≡◌, ℕ, List, Option, inl, subst}
-use Rattle.rt_ids.specs.declared.status.Status.TheVariants as status
+use Rattle.std.proofs.Common.{inl}
 use Rattle.rt_outside.specs.Faults.{Rose}
 use Rattle.rt_top.specs.Words.{Run}
 use Rattle.rt_top.specs.Ends.{IsKept}
 use Rattle.rt_top.specs.Defined.{inputs}
 use Rattle.rt_top.specs.Inside.Decides.{Stops, HasFailed, IsDecided}
-use Rattle.rt_top.specs.Inside.Replies.{WantsMemory, run_text}
+use Rattle.rt_top.specs.Inside.Replies.{WantsMemory}
+use Rattle.rt_top.specs.Inside.Started.{ShowsRun}
 use Rattle.rt_top.proofs.Giving.{ends_as, ends_from}
 use Rattle.rt_top.proofs.Deciding.{run_decided}
 use Rattle.rt_top.proofs.run.run.Goals as goal
@@ -20,8 +20,7 @@ returns-in-Ok-clause-concludes g c third =
     (g.K.Sink.taken c.args.out.now) (g.K.Sink.taken c.start.new.out) (g.K.Sink.taken c.run_script.new.out)
     (g.K.Sink.faults c.args.out.now) (g.K.Sink.faults c.start.new.out) (g.K.Sink.faults c.run_script.new.out)
     c.run_script.result c.in-Ok.ensures.untouched c.in-Ok.ensures.still
-    (ends_as (λ ended bytes. (ended ≡ status.Done) × (bytes ≡ run_text c.in-Ok.core.image c.in-Ok.script))
-    (IsDecided Run t) WantsMemory
+    (ends_as (ShowsRun c.in-Ok.core.image c.in-Ok.script) (IsDecided Run t) WantsMemory
     (Stops (HasFailed Run (rose × kept) second))
     (run_decided (g.A.Source.left c.args.app.now) (g.B.Source.left c.args.second.now) third c.in-Ok.core.image
     c.in-Ok.script c.in-Ok.ensures.started)

@@ -13,7 +13,12 @@ use Rattle.rt_top.proofs.start.start_text.Goals as goal
 pub returns-in-Ok-read_script-clause-good : goal.returns-in-Ok-read_script-clause-good
 returns-in-Ok-read_script-clause-good g c =
     let good = c.in-Ok.ensures in
-    record { of_application = good.image; runnable = good.runnable; good = good.good }
+    record {
+      of_application = good.image;
+      runnable = good.runnable;
+      listable = good.lines.listable;
+      good = good.good;
+    }
 
 pub returns-in-Ok-read_script-clause-read : goal.returns-in-Ok-read_script-clause-read
 returns-in-Ok-read_script-clause-read g c =
