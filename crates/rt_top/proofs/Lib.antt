@@ -12,4 +12,5 @@ mod Ran
 mod Audited
 mod Auditing
 mod Verifying
+mod Within
 mod Pairing

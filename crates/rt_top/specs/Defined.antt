@@ -104,6 +104,11 @@ IsAnswer status.Write = ⊥
 IsAnswer status.Memory = ⊥
 IsAnswer other = Unit {0}
 
+-- an answer that is no refusal of an application
+abbrev pub IsLaterAnswer : Status → Type 0
+IsLaterAnswer status.App = ⊥
+IsLaterAnswer other = IsAnswer other
+
 -- a source tells what it has left
 abbrev pub IsTold : Option (List ℕ) → Type 0
 IsTold None = ⊥

@@ -5,5 +5,6 @@ pub mod Outputs
 pub mod Verified
 pub mod Paired
 pub mod Ends
+pub mod Reads
 pub mod Defined
 pub mod Inside

@@ -1,5 +1,5 @@
 ghost use Rattle.std.specs.Prelude.{◌≡◌, ◌<◌, ◌≤◌, ◌-◌, ◌^◌, ℕ, List, Option, Some, length};
-ghost use Rattle.rt_ids.specs.declared.limits.TheConstants.{TRACE_BYTES};
+ghost use Rattle.rt_ids.specs.declared.limits.TheConstants.{TEXT_BYTES, TRACE_BYTES};
 ghost use Rattle.rt_lines.specs.Parts.{lines};
 ghost use Rattle.rt_outside.specs.Faults.{Rose};
 ghost use Rattle.rt_app.specs.Accepted.{IsAccepted};
@@ -9,10 +9,11 @@ ghost use Rattle.rt_app.specs.View.{app_of};
 ghost use Rattle.rt_baker_moves.specs.Machine.{IsMachine};
 ghost use Rattle.rt_top.specs.Words as word;
 ghost use Rattle.rt_top.specs.Ends.{IsKept};
-ghost use Rattle.rt_top.specs.Defined.{inputs, IsFirstRefused};
+ghost use Rattle.rt_top.specs.Defined.{inputs, IsFirstRefused, IsAnswer, IsLaterAnswer};
+ghost use Rattle.rt_top.specs.Reads.{IsReadWithin};
 ghost use Rattle.rt_top.specs.Inside.Auditor.{HasAudited};
 ghost use Rattle.rt_top.specs.Inside.Decides.{Decides, Stops, AnswersTrace};
-ghost use Rattle.rt_top.specs.Inside.Replies.{Gives, Replies, IsHeard, AnswersAudit};
+ghost use Rattle.rt_top.specs.Inside.Replies.{Gives, Replies, status_of, IsHeard, AnswersAudit};
 
 use crate::auditor::{Auditor, Chosen};
 use crate::reading::read_accepted;
@@ -38,6 +39,9 @@ pub(crate) fn audit<A: Source, B: Source>(alloc: Global, app: &mut A, second: &m
         IsKept B.left B.faults second.old second.new }
     ensures first_heard { IsHeard (A.faults app.old) (A.faults app.new) result }
     ensures second_heard { IsHeard (B.faults second.old) (B.faults second.new) result }
+    ensures first_within { IsAnswer (status_of result) → IsReadWithin TEXT_BYTES (A.left app.old) (A.left app.new) }
+    ensures second_within { IsLaterAnswer (status_of result) →
+        IsReadWithin TRACE_BYTES (B.left second.old) (B.left second.new) }
 {
     let accepted = match read_accepted(alloc, app) {
         Ok(accepted) => accepted,
@@ -52,6 +56,8 @@ fn audit_source<B: Source>(alloc: Global, app: &App, second: &mut B) -> Reply
     ensures answers { Gives (AnswersTrace (app_of app.now) (B.left second.old))
         (Stops (Rose (B.faults second.old) (B.faults second.new))) result }
     ensures heard { IsHeard (B.faults second.old) (B.faults second.new) result }
+    ensures within { IsLaterAnswer (status_of result) →
+        IsReadWithin TRACE_BYTES (B.left second.old) (B.left second.new) }
 {
     let Ok(names) = app.names(alloc) else {
         return Reply::Stop(Status::Memory);
@@ -77,6 +83,8 @@ fn audit_lines<C: Chosen, B: Source>(
     ensures answers { Gives (AnswersTrace (app_of machine.now.code.now.app.now) (B.left second.old))
         (Stops (Rose (B.faults second.old) (B.faults second.new))) result }
     ensures heard { IsHeard (B.faults second.old) (B.faults second.new) result }
+    ensures within { IsLaterAnswer (status_of result) →
+        IsReadWithin TRACE_BYTES (B.left second.old) (B.left second.new) }
 {
     let Ok(mut auditor) = Auditor::<C>::new(names, machine) else {
         return Reply::Stop(Status::Memory);

@@ -1,8 +1,10 @@
 ghost use Rattle.std.specs.Prelude.{◌≡◌, ◌≤◌, ◌⊎◌, ℕ, List, Option};
+ghost use Rattle.rt_ids.specs.declared.limits.TheConstants.{SCRIPT_BYTES};
 ghost use Rattle.rt_outside.specs.Faults.{Rose};
 ghost use Rattle.rt_top.specs.Words.{reads};
 ghost use Rattle.rt_top.specs.Ends.{IsKept};
-ghost use Rattle.rt_top.specs.Defined.{inputs, IsFirstRefused, IsApplicationRefused};
+ghost use Rattle.rt_top.specs.Defined.{inputs, IsFirstRefused, IsApplicationRefused, IsAnswer, IsLaterAnswer};
+ghost use Rattle.rt_top.specs.Reads.{IsReadWithin, first_limit, second_limit};
 ghost use Rattle.rt_top.specs.Inside.Decides.{Concludes};
 ghost use Rattle.rt_top.specs.Inside.Meant.{command_word, IsInRange};
 
@@ -57,6 +59,12 @@ pub(crate) fn decide<
     ensures first_heard { (A.faults app.new ≡ A.faults app.old) ⊎ (result ≡ Status.Read) }
     ensures second_heard { (B.faults second.new ≡ B.faults second.old) ⊎ (result ≡ Status.Read) }
     ensures third_heard { (C.faults third.new ≡ C.faults third.old) ⊎ (result ≡ Status.Read) }
+    ensures first_within { 1 ≤ reads (command_word command) → IsAnswer result →
+        IsReadWithin (first_limit (command_word command)) (A.left app.old) (A.left app.new) }
+    ensures second_within { 2 ≤ reads (command_word command) → IsLaterAnswer result →
+        IsReadWithin (second_limit (command_word command)) (B.left second.old) (B.left second.new) }
+    ensures third_within { 3 ≤ reads (command_word command) → IsLaterAnswer result →
+        IsReadWithin SCRIPT_BYTES (C.left third.old) (C.left third.new) }
     ensures sink_heard { (K.faults out.new ≡ K.faults out.old) ⊎ (result ≡ Status.Write) }
 {
     match command {
@@ -89,6 +97,10 @@ fn decide_two<R: Threads + Sync, A: Source, B: Source, K: Sink + Send, G: Gate +
         IsKept B.left B.faults second.old second.new }
     ensures first_heard { (A.faults app.new ≡ A.faults app.old) ⊎ (result ≡ Status.Read) }
     ensures second_heard { (B.faults second.new ≡ B.faults second.old) ⊎ (result ≡ Status.Read) }
+    ensures first_within { 1 ≤ reads (command_word command) → IsAnswer result →
+        IsReadWithin (first_limit (command_word command)) (A.left app.old) (A.left app.new) }
+    ensures second_within { 2 ≤ reads (command_word command) → IsLaterAnswer result →
+        IsReadWithin (second_limit (command_word command)) (B.left second.old) (B.left second.new) }
     ensures sink_heard { (K.faults out.new ≡ K.faults out.old) ⊎ (result ≡ Status.Write) }
 {
     match command {

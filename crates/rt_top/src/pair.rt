@@ -3,11 +3,13 @@ ghost use Rattle.rt_app.specs.Accepted.{IsAccepted};
 ghost use Rattle.rt_app.specs.View.{app_of};
 ghost use Rattle.rt_code.specs.Lines.{HasLines};
 ghost use Rattle.rt_core.specs.Machine.{IsFresh};
+ghost use Rattle.rt_ids.specs.declared.limits.TheConstants.{TEXT_BYTES, SCRIPT_BYTES};
 ghost use Rattle.rt_outside.specs.Faults.{Rose};
 ghost use Rattle.rt_script.specs.Script.{HasNames};
 ghost use Rattle.rt_top.specs.Words as word;
 ghost use Rattle.rt_top.specs.Ends.{IsKept};
-ghost use Rattle.rt_top.specs.Defined.{inputs, IsFirstRefused, IsApplicationRefused};
+ghost use Rattle.rt_top.specs.Defined.{inputs, IsFirstRefused, IsApplicationRefused, IsAnswer, IsLaterAnswer};
+ghost use Rattle.rt_top.specs.Reads.{IsReadWithin};
 ghost use Rattle.rt_top.specs.Inside.Decides.{Concludes, EndsAs};
 ghost use Rattle.rt_top.specs.Inside.Replies.{WantsMemory};
 ghost use Rattle.rt_top.specs.Inside.Pairing.{AnswersPair, ShowsPair};
@@ -52,6 +54,9 @@ pub(crate) fn pair<R: Threads + Sync, A: Source, B: Source, C: Source, K: Sink, 
     ensures first_heard { (A.faults app.new ≡ A.faults app.old) ⊎ (result ≡ Status.Read) }
     ensures second_heard { (B.faults second.new ≡ B.faults second.old) ⊎ (result ≡ Status.Read) }
     ensures third_heard { (C.faults third.new ≡ C.faults third.old) ⊎ (result ≡ Status.Read) }
+    ensures first_within { IsAnswer result → IsReadWithin TEXT_BYTES (A.left app.old) (A.left app.new) }
+    ensures second_within { IsLaterAnswer result → IsReadWithin TEXT_BYTES (B.left second.old) (B.left second.new) }
+    ensures third_within { IsLaterAnswer result → IsReadWithin SCRIPT_BYTES (C.left third.old) (C.left third.new) }
     ensures sink_heard { (K.faults out.new ≡ K.faults out.old) ⊎ (result ≡ Status.Write) }
 {
     let both = match read_both(alloc, app, second) {

@@ -1,5 +1,6 @@
 ghost use Rattle.std.specs.Prelude.{◌≡◌, ◌<◌, ◌-◌, ◌^◌, ◌⊎◌, ℕ, List, Some, true, Option, length, IfOk, IfErr, IfSome};
-ghost use Rattle.std.specs.Prelude.{IfNone, IsErrOf};
+ghost use Rattle.std.specs.Prelude.{IfNone, IsErrOf, OnOk};
+ghost use Rattle.rt_ids.specs.declared.limits.TheConstants.{TEXT_BYTES};
 ghost use Rattle.rt_ids.specs.declared.status.Status.TheVariants as status;
 ghost use Rattle.rt_outside.specs.Faults.{Rose};
 ghost use Rattle.rt_ast.specs.View.{app_of};
@@ -10,9 +11,10 @@ ghost use Rattle.rt_build.specs.Accepted.{KeepsRules, IsApplication};
 ghost use Rattle.rt_top.specs.Refusal.{RefusesText, RefusesApplication};
 ghost use Rattle.rt_top.specs.Words as word;
 ghost use Rattle.rt_top.specs.Ends.{IsKept};
-ghost use Rattle.rt_top.specs.Defined.{inputs, IsFirstRefused};
+ghost use Rattle.rt_top.specs.Defined.{inputs, IsFirstRefused, IsAnswer, IsLaterAnswer};
+ghost use Rattle.rt_top.specs.Reads.{IsReadWithin};
 ghost use Rattle.rt_top.specs.Inside.Decides.{Tells, Stops, Halts, IsBrokenBy, Decides};
-ghost use Rattle.rt_top.specs.Inside.Replies.{IsHeardIn};
+ghost use Rattle.rt_top.specs.Inside.Replies.{IsHeardIn, status_of, WhereAnswered};
 
 use crate::reply::{Reply, of_second, refuse};
 use rt_app::App;
@@ -44,6 +46,8 @@ pub(crate) fn read_tree<A: Source>(alloc: Global, app: &mut A) -> Result<Written
     ensures text { (text : List ℕ) → A.left app.old ≡ Some text → IfOk result (λ read. IsText text (app_of read.tree)) }
     ensures halts { IfErr result (Halts (A.left app.old) RefusesText (Rose (A.faults app.old) (A.faults app.new))) }
     ensures heard { IsHeardIn (A.faults app.old) (A.faults app.new) result }
+    ensures within { WhereAnswered (λ r. IsAnswer (status_of r))
+        (IsReadWithin TEXT_BYTES (A.left app.old) (A.left app.new)) result }
 {
     let text = match read_text(alloc, app, TEXT_BYTES) {
         Ok(text) => text,
@@ -80,6 +84,8 @@ pub(crate) fn read_accepted<A: Source>(alloc: Global, app: &mut A) -> Result<App
     ensures halts { IfErr result (Halts (A.left app.old) RefusesApplication
         (Rose (A.faults app.old) (A.faults app.new))) }
     ensures heard { IsHeardIn (A.faults app.old) (A.faults app.new) result }
+    ensures within { WhereAnswered (λ r. IsAnswer (status_of r))
+        (IsReadWithin TEXT_BYTES (A.left app.old) (A.left app.new)) result }
 {
     match read_tree(alloc, app) {
         Ok(written) => judged_app(alloc, &written),
@@ -115,6 +121,10 @@ pub(crate) fn read_both<A: Source, B: Source>(
         IsKept B.left B.faults second.old second.new }
     ensures first_heard { IsHeardIn (A.faults app.old) (A.faults app.new) result }
     ensures second_heard { IsHeardIn (B.faults second.old) (B.faults second.new) result }
+    ensures first_within { WhereAnswered (λ r. IsAnswer (status_of r))
+        (IsReadWithin TEXT_BYTES (A.left app.old) (A.left app.new)) result }
+    ensures second_within { OnOk result (IsReadWithin TEXT_BYTES (B.left second.old) (B.left second.new)) }
+    ensures refuses { IfErr result (λ r. ¬ IsLaterAnswer (status_of r)) }
 {
     let first = match read_accepted(alloc, app) {
         Ok(first) => first,
@@ -139,6 +149,7 @@ pub(crate) fn read_within<S: Source>(
         IfOk result (λ read. IfNone read (limit < length text)) }
     ensures err { IfErr result (Stops (Rose (S.faults source.old) (S.faults source.new))) }
     ensures heard { (S.faults source.new ≡ S.faults source.old) ⊎ IsErrOf result Status.Read }
+    ensures within { OnOk result (IsReadWithin limit (S.left source.old) (S.left source.new)) }
 {
     match read_text(alloc, source, limit) {
         Ok(text) => Ok(Some(text)),

@@ -1,4 +1,5 @@
 ghost use Rattle.std.specs.Prelude.{◌≡◌, ◌⊎◌, ◌++◌, ℕ, List, Option, true, codes, IfOk, OnOk, OnErr};
+ghost use Rattle.rt_ids.specs.declared.limits.TheConstants.{TEXT_BYTES, SCRIPT_BYTES};
 ghost use Rattle.rt_outside.specs.Bytes.{Took, TookPrefix};
 ghost use Rattle.rt_outside.specs.Faults.{Rose, HasCause};
 ghost use Rattle.rt_code.specs.Lines.{HasLines};
@@ -9,7 +10,8 @@ ghost use Rattle.rt_script.specs.Script.{HasNames};
 ghost use Rattle.rt_run.specs.Written.{text_of};
 ghost use Rattle.rt_top.specs.Words as word;
 ghost use Rattle.rt_top.specs.Ends.{IsKept};
-ghost use Rattle.rt_top.specs.Defined.{inputs, IsFirstRefused};
+ghost use Rattle.rt_top.specs.Defined.{inputs, IsFirstRefused, IsAnswer, IsLaterAnswer};
+ghost use Rattle.rt_top.specs.Reads.{IsReadWithin};
 ghost use Rattle.rt_top.specs.Inside.Decides.{Concludes, EndsAs};
 ghost use Rattle.rt_top.specs.Inside.Replies.{WantsMemory};
 ghost use Rattle.rt_top.specs.Inside.Started.{ShowsRun};
@@ -40,6 +42,9 @@ pub(crate) fn run<A: Source, B: Source, K: Sink>(
         IsKept B.left B.faults second.old second.new }
     ensures first_heard { (A.faults app.new ≡ A.faults app.old) ⊎ (result ≡ Status.Read) }
     ensures second_heard { (B.faults second.new ≡ B.faults second.old) ⊎ (result ≡ Status.Read) }
+    ensures first_within { IsAnswer result → IsReadWithin TEXT_BYTES (A.left app.old) (A.left app.new) }
+    ensures second_within { IsLaterAnswer result →
+        IsReadWithin SCRIPT_BYTES (B.left second.old) (B.left second.new) }
     ensures sink_heard { (K.faults out.new ≡ K.faults out.old) ⊎ (result ≡ Status.Write) }
 {
     match start(alloc, app, second, out) {

@@ -1,10 +1,11 @@
 ghost use Rattle.std.specs.Prelude.{◌≡◌, ℕ, List, Option};
 ghost use Rattle.rt_outside.specs.Faults.{Rose};
 ghost use Rattle.rt_top.specs.Words.{reads};
-ghost use Rattle.rt_top.specs.Defined.{inputs};
+ghost use Rattle.rt_top.specs.Defined.{inputs, IsAnswer};
+ghost use Rattle.rt_top.specs.Reads.{IsReadWithin, first_limit};
 ghost use Rattle.rt_top.specs.Inside.Decides.{Decides};
 ghost use Rattle.rt_top.specs.Inside.Meant.{command_word, IsInRange};
-ghost use Rattle.rt_top.specs.Inside.Replies.{IsHeard};
+ghost use Rattle.rt_top.specs.Inside.Replies.{status_of, IsHeard};
 
 use crate::build::build;
 use crate::check::check;
@@ -31,6 +32,8 @@ pub(crate) fn single<R: Threads + Sync, A: Source>(
         (inputs (A.left app.old) second third)
         (Rose (A.faults app.old) (A.faults app.new)) ⊥ result }
     ensures heard { IsHeard (A.faults app.old) (A.faults app.new) result }
+    ensures within { IsAnswer (status_of result) →
+        IsReadWithin (first_limit (command_word command)) (A.left app.old) (A.left app.new) }
 {
     match command {
         Command::Check => check(alloc, app),

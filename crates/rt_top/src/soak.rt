@@ -1,12 +1,14 @@
 ghost use Rattle.std.specs.Prelude.{◌≡◌, ◌≤◌, ℕ, List, Option, IfOk};
+ghost use Rattle.rt_ids.specs.declared.limits.TheConstants.{TEXT_BYTES};
 ghost use Rattle.rt_outside.specs.Faults.{Rose};
 ghost use Rattle.rt_app.specs.View.{app_of};
 ghost use Rattle.rt_app.specs.Accepted.{IsAccepted};
 ghost use Rattle.rt_top.specs.Words as word;
 ghost use Rattle.rt_top.specs.Outputs.{TellsSoak};
-ghost use Rattle.rt_top.specs.Defined.{inputs};
+ghost use Rattle.rt_top.specs.Defined.{inputs, IsAnswer};
+ghost use Rattle.rt_top.specs.Reads.{IsReadWithin};
 ghost use Rattle.rt_top.specs.Inside.Decides.{Decides};
-ghost use Rattle.rt_top.specs.Inside.Replies.{IsHeard};
+ghost use Rattle.rt_top.specs.Inside.Replies.{status_of, IsHeard};
 
 use crate::reading::read_accepted;
 use crate::reply::{Reply, reply_of_text};
@@ -33,6 +35,7 @@ pub(crate) fn soak<R: Threads + Sync, A: Source>(
         Decides (word.Soak number count workers) (inputs (A.left app.old) second third)
         (Rose (A.faults app.old) (A.faults app.new)) ⊥ result }
     ensures heard { IsHeard (A.faults app.old) (A.faults app.new) result }
+    ensures within { IsAnswer (status_of result) → IsReadWithin TEXT_BYTES (A.left app.old) (A.left app.new) }
 {
     let accepted = match read_accepted(alloc, app) {
         Ok(accepted) => accepted,

@@ -1,4 +1,5 @@
 ghost use Rattle.std.specs.Prelude.{◌≡◌, ◌⊎◌, ℕ, List, Option, true, IfOk, IfErr, OnOk, IsErrOf};
+ghost use Rattle.rt_ids.specs.declared.limits.TheConstants.{TEXT_BYTES, SCRIPT_BYTES};
 ghost use Rattle.rt_outside.specs.Faults.{Rose};
 ghost use Rattle.rt_app.specs.View.{app_of};
 ghost use Rattle.rt_app.specs.Accepted.{IsAccepted};
@@ -10,9 +11,10 @@ ghost use Rattle.rt_script.specs.Text.{IsScriptText};
 ghost use Rattle.rt_top.specs.Words as word;
 ghost use Rattle.rt_top.specs.Ends.{IsKept};
 ghost use Rattle.rt_top.specs.Outputs.{IsGoodOf};
-ghost use Rattle.rt_top.specs.Defined.{inputs, IsFirstRefused};
+ghost use Rattle.rt_top.specs.Defined.{inputs, IsFirstRefused, IsAnswer, IsLaterAnswer};
+ghost use Rattle.rt_top.specs.Reads.{IsReadWithin};
 ghost use Rattle.rt_top.specs.Inside.Decides.{Concludes, EndsAs};
-ghost use Rattle.rt_top.specs.Inside.Replies.{WantsMemory};
+ghost use Rattle.rt_top.specs.Inside.Replies.{WantsMemory, WhereAnswered};
 ghost use Rattle.rt_top.specs.Inside.Started.{HasSecondScript, IsStarted, AnswersRefusal};
 
 use crate::reading::{read_accepted, read_within};
@@ -51,6 +53,9 @@ pub(crate) fn start<A: Source, B: Source, K: Sink>(
         IsKept B.left B.faults second.old second.new }
     ensures first_heard { (A.faults app.new ≡ A.faults app.old) ⊎ IsErrOf result Status.Read }
     ensures second_heard { (B.faults second.new ≡ B.faults second.old) ⊎ IsErrOf result Status.Read }
+    ensures first_within { WhereAnswered IsAnswer (IsReadWithin TEXT_BYTES (A.left app.old) (A.left app.new)) result }
+    ensures second_within { WhereAnswered IsLaterAnswer
+        (IsReadWithin SCRIPT_BYTES (B.left second.old) (B.left second.new)) result }
     ensures sink_heard { (K.faults out.new ≡ K.faults out.old) ⊎ IsErrOf result Status.Write }
 {
     let accepted = match read_accepted(alloc, app) {

@@ -1,4 +1,5 @@
 ghost use Rattle.std.specs.Prelude.{◌≡◌, ℕ, List, Option, true, IfOk};
+ghost use Rattle.rt_ids.specs.declared.limits.TheConstants.{TEXT_BYTES, SCRIPT_BYTES};
 ghost use Rattle.rt_outside.specs.Faults.{Rose};
 ghost use Rattle.rt_app.specs.View.{app_of};
 ghost use Rattle.rt_app.specs.Accepted.{IsAccepted};
@@ -9,9 +10,10 @@ ghost use Rattle.rt_rta.specs.Response.{AreResponseTimes};
 ghost use Rattle.rt_rta.specs.declared.response.ResponseTime.{ResponseTime};
 ghost use Rattle.rt_top.specs.Words as word;
 ghost use Rattle.rt_top.specs.Ends.{IsKept};
-ghost use Rattle.rt_top.specs.Defined.{inputs, IsFirstRefused};
+ghost use Rattle.rt_top.specs.Defined.{inputs, IsFirstRefused, IsAnswer, IsLaterAnswer};
+ghost use Rattle.rt_top.specs.Reads.{IsReadWithin};
 ghost use Rattle.rt_top.specs.Inside.Decides.{Decides};
-ghost use Rattle.rt_top.specs.Inside.Replies.{IsHeard, Replies, AnswersTimes};
+ghost use Rattle.rt_top.specs.Inside.Replies.{status_of, IsHeard, Replies, AnswersTimes};
 
 use crate::reading::{read_accepted, read_within};
 use crate::reply::{NOT_OF_FORM, Reply, line, refuse_limits, reply_of_text};
@@ -33,6 +35,9 @@ pub(crate) fn times<A: Source, B: Source>(alloc: Global, app: &mut A, second: &m
         IsKept B.left B.faults second.old second.new }
     ensures first_heard { IsHeard (A.faults app.old) (A.faults app.new) result }
     ensures second_heard { IsHeard (B.faults second.old) (B.faults second.new) result }
+    ensures first_within { IsAnswer (status_of result) → IsReadWithin TEXT_BYTES (A.left app.old) (A.left app.new) }
+    ensures second_within { IsLaterAnswer (status_of result) →
+        IsReadWithin SCRIPT_BYTES (B.left second.old) (B.left second.new) }
 {
     let accepted = match read_accepted(alloc, app) {
         Ok(accepted) => accepted,

@@ -1,10 +1,13 @@
 ghost use Rattle.std.specs.Prelude.{◌≡◌, ◌≤◌, ◌⊎◌, ℕ, List, [], Option};
+ghost use Rattle.rt_ids.specs.declared.limits.TheConstants.{SCRIPT_BYTES};
 ghost use Rattle.rt_outside.specs.Faults.{Rose};
 ghost use Rattle.rt_outside.specs.Bytes.{Took};
 ghost use Rattle.rt_top.specs.Words.{Command, texts, Names, IsCommand, reads, usage_line};
-ghost use Rattle.rt_top.specs.Defined.{inputs, IsDue, IsAnswer, IsApplicationRefused, AreTold, AreReadTold};
+ghost use Rattle.rt_top.specs.Defined.{inputs, IsDue, IsAnswer, IsLaterAnswer, IsApplicationRefused, AreTold};
+ghost use Rattle.rt_top.specs.Defined.{AreReadTold};
 ghost use Rattle.rt_top.specs.Defined.{SkipsFirst, SkipsSecond, SkipsThird, WroteAll, WrotePart};
 ghost use Rattle.rt_top.specs.Ends.{Wrote, IsKept};
+ghost use Rattle.rt_top.specs.Reads.{IsReadWithin, first_limit, second_limit};
 
 use crate::command::command_of;
 use crate::decide::decide;
@@ -88,6 +91,15 @@ pub fn rtic<R: Threads + Sync, A: Source, B: Source, C: Source, K: Sink + Send, 
     ensures third_unread { SkipsThird (texts words.now)
         (inputs (A.left app.old) (B.left second.old) (C.left third.old)) →
         IsKept C.left C.faults third.old third.new }
+
+    // With an answer each source that the command came to was read to its end, or up to one byte more than its text may
+    // have. After the refusal of an application this is said of the first source alone.
+    ensures first_read { (c : Command) → Names (texts words.now) c → 1 ≤ reads c → IsAnswer result →
+        IsReadWithin (first_limit c) (A.left app.old) (A.left app.new) }
+    ensures second_read { (c : Command) → Names (texts words.now) c → 2 ≤ reads c → IsLaterAnswer result →
+        IsReadWithin (second_limit c) (B.left second.old) (B.left second.new) }
+    ensures third_read { (c : Command) → Names (texts words.now) c → 3 ≤ reads c → IsLaterAnswer result →
+        IsReadWithin SCRIPT_BYTES (C.left third.old) (C.left third.new) }
 
     // A source that the command reads failed, and then no source behind it was read and nothing was written.
     ensures read { result ≡ Status.Read → (c : Command) × Names (texts words.now) c

@@ -1,11 +1,13 @@
 ghost use Rattle.std.specs.Prelude.{◌≡◌, ℕ, List, Option};
 ghost use Rattle.rt_outside.specs.Faults.{Rose};
 ghost use Rattle.rt_load.specs.Loadable.{IsLoadable};
+ghost use Rattle.rt_load.specs.declared.refusal.TheConstants.{IMAGE_BYTES};
 ghost use Rattle.rt_top.specs.Words as word;
-ghost use Rattle.rt_top.specs.Defined.{inputs};
+ghost use Rattle.rt_top.specs.Defined.{inputs, IsAnswer};
+ghost use Rattle.rt_top.specs.Reads.{IsReadWithin};
 ghost use Rattle.rt_top.specs.Verified.{IsVerified, TellsImage};
 ghost use Rattle.rt_top.specs.Inside.Decides.{Decides};
-ghost use Rattle.rt_top.specs.Inside.Replies.{IsHeard, Replies};
+ghost use Rattle.rt_top.specs.Inside.Replies.{status_of, IsHeard, Replies};
 
 use crate::reading::read_within;
 use crate::reply::{Reply, line, refuse_image, reply_number};
@@ -21,6 +23,7 @@ pub(crate) fn verify<A: Source>(alloc: Global, image: &mut A) -> Reply
     ensures decides { (second third : Option (List ℕ)) → Decides word.Verify (inputs (A.left image.old) second third)
         (Rose (A.faults image.old) (A.faults image.new)) ⊥ result }
     ensures heard { IsHeard (A.faults image.old) (A.faults image.new) result }
+    ensures within { IsAnswer (status_of result) → IsReadWithin IMAGE_BYTES (A.left image.old) (A.left image.new) }
 {
     match read_within(alloc, image, IMAGE_BYTES) {
         Ok(Some(text)) => verify_reply(alloc, &text),

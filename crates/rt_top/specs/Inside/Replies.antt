@@ -1,5 +1,5 @@
 -- What a command replies of its texts alone, said before anything is written.
-use Rattle.std.specs.Prelude.{◌≡◌, ℕ, ◌⊎◌, List, ◌++◌, codes, Result, IsErrOf}
+use Rattle.std.specs.Prelude.{◌≡◌, ℕ, ◌⊎◌, List, ◌++◌, codes, Result, Ok, Err, IsErrOf}
 use Rattle.rt_ids.specs.declared.status.Status.{Status}
 use Rattle.rt_ids.specs.declared.status.Status.TheVariants as status
 use Rattle.rt_app.specs.Names.{names_of}
@@ -25,6 +25,16 @@ use Rattle.rt_top.specs.declared.reply.Reply.TheVariants as reply
 abbrev pub Gives : (Status → List ℕ → Type 0) → (Status → Type 0) → Reply → Type 0
 Gives Said Stopped (reply.Write ended text) = Said ended text.items
 Gives Said Stopped (reply.Stop ended) = Stopped ended
+
+-- the status of a reply
+abbrev pub status_of : Reply → Status
+status_of (reply.Write ended text) = ended
+status_of (reply.Stop ended) = ended
+
+-- this is so where there is a value, and where the error is of this kind
+abbrev pub WhereAnswered : {T E : Type 0} → (E → Type 0) → Type 0 → Result T E → Type 0
+WhereAnswered Kind P (Ok x) = P
+WhereAnswered Kind P (Err e) = Kind e → P
 
 -- memory was wanted
 abbrev pub WantsMemory : Status → Type 0

@@ -8,6 +8,7 @@ use Rattle.rt_top.specs.Defined.{inputs}
 use Rattle.rt_top.specs.Inside.Decides.{Stops, AnswersTrace, IsDecided, HasFailed}
 use Rattle.rt_top.proofs.Deciding.{halts_decides, stops_decides, audit_passes, trace_decided}
 use Rattle.rt_top.proofs.Giving.{gives_as}
+use Rattle.rt_top.proofs.Within.{halts_not_later}
 use Rattle.rt_top.proofs.audit.audit.Goals as goal
 
 pub returns-in-Err-clause-decides : goal.returns-in-Err-clause-decides
@@ -38,3 +39,13 @@ returns-clause-kept g c third r =
     absurd (audit_passes (g.A.Source.left c.args.app.now) (g.B.Source.left c.args.second.now) third
     (app_of c.in-Ok.accepted)
     (λ text told. c.in-Ok.ensures.accepted text told) r)
+
+pub returns-in-Err-clause-second_within : goal.returns-in-Err-clause-second_within
+returns-in-Err-clause-second_within g c later =
+    absurd (halts_not_later (g.A.Source.left c.args.app.now) RefusesApplication
+    (Rose (g.A.Source.faults c.args.app.now) (g.A.Source.faults c.read_accepted.new.app)) c.in-Err.reply
+    c.in-Err.ensures.halts later)
+
+pub returns-clause-first_within : goal.returns-clause-first_within
+returns-clause-first_within g c =
+    λ _. c.in-Ok.ensures.within

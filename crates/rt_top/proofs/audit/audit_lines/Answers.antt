@@ -1,4 +1,4 @@
-use Rattle.std.proofs.Common.{refl, sym, arith}
+use Rattle.std.proofs.Common.{refl, sym, arith, inl, inr}
 use Rattle.rt_outside.specs.Faults.{Rose}
 use Rattle.rt_app.specs.View.{app_of}
 use Rattle.rt_top.proofs.Audited.{whole_told, long_told}
@@ -26,3 +26,11 @@ returns-in-Err-TooLong-clause-answers g c =
     (g.B.Source.left c.read_lines.new.source)
     (Rose (g.B.Source.faults c.args.second.now) (g.B.Source.faults c.read_lines.new.source)) gave c.refuse_trace.result
     c.refuse_trace.ensures
+
+pub returns-in-Ok-read_lines-clause-within : goal.returns-in-Ok-read_lines-clause-within
+returns-in-Ok-read_lines-clause-within g c =
+    let whole = c.in-Ok-read_lines.ensures.whole in λ _. inl (whole.0, whole.1, whole.2)
+
+pub returns-in-Err-TooLong-clause-within : goal.returns-in-Err-TooLong-clause-within
+returns-in-Err-TooLong-clause-within g c =
+    λ _. inr ((rw c.in-Err-TooLong.field-0-is at c.in-Err-TooLong.ensures.too_long) refl)

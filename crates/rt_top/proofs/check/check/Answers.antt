@@ -28,3 +28,7 @@ returns-clause-decides g c second third =
     c.reply_of_text.result
     (made_tells status.Done (λ bytes. bytes ≡ check_report (app_of c.in-Ok.accepted)) c.check_text.result
     c.check_text.ensures c.reply_of_text.result c.reply_of_text.ensures.text c.reply_of_text.ensures.memory)
+
+pub returns-clause-within : goal.returns-clause-within
+returns-clause-within g c =
+    λ _. c.in-Ok.ensures.within

@@ -7,6 +7,7 @@ use Rattle.rt_top.specs.Inside.Meant.{command_word}
 use Rattle.rt_top.specs.declared.command.Command.TheVariants as command
 use Rattle.rt_top.proofs.Deciding.{some_read}
 use Rattle.rt_top.proofs.Pairing.{pair_concludes, pair_second_kept, pair_third_kept, third_left, reads_two}
+use Rattle.rt_top.proofs.Within.{first_as, second_as}
 use Rattle.rt_top.proofs.decide.decide.Goals as goal
 
 pub returns-in-Pair-clause-concludes : goal.returns-in-Pair-clause-concludes
@@ -57,3 +58,22 @@ returns-in_default-clause-concludes g c =
 
 pub returns-in_default-clause-second_kept : goal.returns-in_default-clause-second_kept
 returns-in_default-clause-second_kept g c either = c.decide_two.ensures.kept (g.C.Source.left c.args.third.now) either
+
+pub returns-in-Pair-clause-first_within : goal.returns-in-Pair-clause-first_within
+returns-in-Pair-clause-first_within g c some answer =
+    first_as c.args.command command.Pair c.in-Pair.is (g.A.Source.left c.args.app.now) (g.A.Source.left c.pair.new.app)
+    (c.pair.ensures.first_within answer)
+
+pub returns-in-Pair-clause-second_within : goal.returns-in-Pair-clause-second_within
+returns-in-Pair-clause-second_within g c two later =
+    second_as c.args.command command.Pair c.in-Pair.is (g.B.Source.left c.args.second.now)
+    (g.B.Source.left c.pair.new.second)
+    (c.pair.ensures.second_within later)
+
+pub returns-in-Pair-clause-third_within : goal.returns-in-Pair-clause-third_within
+returns-in-Pair-clause-third_within g c three later =
+    c.pair.ensures.third_within later
+
+pub returns-in_default-clause-third_within : goal.returns-in_default-clause-third_within
+returns-in_default-clause-third_within g c three later =
+    let two = reads_two c.args.command c.in_default.not-Pair in absurd (omega (arith, two, three))

@@ -2,13 +2,14 @@ use Rattle.std.proofs.Common.{◌≡◌, ◌≤◌, ℕ, Option, List, refl, sub
 use Rattle.rt_outside.specs.Faults.{Rose}
 use Rattle.rt_top.specs.Words.{Run, Audit, Live, Demo, Times, reads}
 use Rattle.rt_top.specs.Ends.{IsKept}
-use Rattle.rt_top.specs.Defined.{inputs}
+use Rattle.rt_top.specs.Defined.{inputs, IsAnswer, IsLaterAnswer}
 use Rattle.rt_top.specs.Inside.Decides.{Stops, HasFailed, IsDecided}
 use Rattle.rt_top.specs.Inside.Meant.{command_word, IsInRange}
 use Rattle.rt_top.specs.declared.command.Command as code
 use Rattle.rt_top.specs.declared.command.Command.TheVariants as command
 use Rattle.rt_top.proofs.Giving.{finished, heard}
 use Rattle.rt_top.proofs.Deciding.{only_first, two_kept, concludes_as, kept_as, some_read, reads_one, demo_decides}
+use Rattle.rt_top.proofs.Within.{first_as, second_as, reads_more, finished_kind, later_answer}
 use Rattle.rt_top.proofs.decide.decide_two.Goals as goal
 
 pub returns-in-Run-clause-concludes : goal.returns-in-Run-clause-concludes
@@ -190,3 +191,82 @@ returns-in_default-clause-first_heard g c =
     (g.K.Sink.faults c.finish-in_default.new.out) c.finish-in_default.result (g.A.Source.faults c.args.app.now)
     (g.A.Source.faults c.single.new.app)
     c.single.result c.single.ensures.heard c.finish-in_default.ensures.finished
+
+pub returns-in-Run-clause-first_within : goal.returns-in-Run-clause-first_within
+returns-in-Run-clause-first_within g c some answer =
+    first_as c.args.command command.Run c.in-Run.is (g.A.Source.left c.args.app.now) (g.A.Source.left c.run.new.app)
+    (c.run.ensures.first_within answer)
+
+pub returns-in-Run-clause-second_within : goal.returns-in-Run-clause-second_within
+returns-in-Run-clause-second_within g c two later =
+    second_as c.args.command command.Run c.in-Run.is (g.B.Source.left c.args.second.now)
+    (g.B.Source.left c.run.new.second) (c.run.ensures.second_within later)
+
+pub returns-in-Live-clause-first_within : goal.returns-in-Live-clause-first_within
+returns-in-Live-clause-first_within g c some answer =
+    first_as c.args.command command.Live c.in-Live.is (g.A.Source.left c.args.app.now) (g.A.Source.left c.live.new.app)
+    (c.live.ensures.first_within answer)
+
+pub returns-in-Live-clause-second_within : goal.returns-in-Live-clause-second_within
+returns-in-Live-clause-second_within g c two later =
+    second_as c.args.command command.Live c.in-Live.is (g.B.Source.left c.args.second.now)
+    (g.B.Source.left c.live.new.second) (c.live.ensures.second_within later)
+
+pub returns-in-Audit-clause-first_within : goal.returns-in-Audit-clause-first_within
+returns-in-Audit-clause-first_within g c some answer =
+    first_as c.args.command command.Audit c.in-Audit.is (g.A.Source.left c.args.app.now)
+    (g.A.Source.left c.audit.new.app)
+    (c.audit.ensures.first_within
+    (finished_kind IsAnswer (λ s a. a) (g.K.Sink.taken c.args.out.now) (g.K.Sink.taken c.finish.new.out)
+    (g.K.Sink.faults c.args.out.now) (g.K.Sink.faults c.finish.new.out)
+    c.audit.result c.finish.result c.finish.ensures.finished answer))
+
+pub returns-in-Audit-clause-second_within : goal.returns-in-Audit-clause-second_within
+returns-in-Audit-clause-second_within g c two later =
+    second_as c.args.command command.Audit c.in-Audit.is (g.B.Source.left c.args.second.now)
+    (g.B.Source.left c.audit.new.second)
+    (c.audit.ensures.second_within
+    (finished_kind IsLaterAnswer later_answer (g.K.Sink.taken c.args.out.now) (g.K.Sink.taken c.finish.new.out)
+    (g.K.Sink.faults c.args.out.now) (g.K.Sink.faults c.finish.new.out)
+    c.audit.result c.finish.result c.finish.ensures.finished later))
+
+pub returns-in-Times-clause-first_within : goal.returns-in-Times-clause-first_within
+returns-in-Times-clause-first_within g c some answer =
+    first_as c.args.command command.Times c.in-Times.is (g.A.Source.left c.args.app.now)
+    (g.A.Source.left c.times.new.app)
+    (c.times.ensures.first_within
+    (finished_kind IsAnswer (λ s a. a) (g.K.Sink.taken c.args.out.now) (g.K.Sink.taken c.finish-in-Times.new.out)
+    (g.K.Sink.faults c.args.out.now) (g.K.Sink.faults c.finish-in-Times.new.out)
+    c.times.result c.finish-in-Times.result c.finish-in-Times.ensures.finished answer))
+
+pub returns-in-Times-clause-second_within : goal.returns-in-Times-clause-second_within
+returns-in-Times-clause-second_within g c two later =
+    second_as c.args.command command.Times c.in-Times.is (g.B.Source.left c.args.second.now)
+    (g.B.Source.left c.times.new.second)
+    (c.times.ensures.second_within
+    (finished_kind IsLaterAnswer later_answer (g.K.Sink.taken c.args.out.now) (g.K.Sink.taken c.finish-in-Times.new.out)
+    (g.K.Sink.faults c.args.out.now) (g.K.Sink.faults c.finish-in-Times.new.out)
+    c.times.result c.finish-in-Times.result c.finish-in-Times.ensures.finished later))
+
+pub returns-in-Demo-clause-first_within : goal.returns-in-Demo-clause-first_within
+returns-in-Demo-clause-first_within g c some answer =
+    let more = reads_more c.args.command (command.Demo c.in-Demo.tasks) 1 c.in-Demo.is some in
+    absurd (omega (arith, more))
+
+pub returns-in-Demo-clause-second_within : goal.returns-in-Demo-clause-second_within
+returns-in-Demo-clause-second_within g c some answer =
+    let more = reads_more c.args.command (command.Demo c.in-Demo.tasks) 2 c.in-Demo.is some in
+    absurd (omega (arith, more))
+
+pub returns-in_default-clause-first_within : goal.returns-in_default-clause-first_within
+returns-in_default-clause-first_within g c some answer =
+    c.single.ensures.within
+    (finished_kind IsAnswer (λ s a. a) (g.K.Sink.taken c.args.out.now) (g.K.Sink.taken c.finish-in_default.new.out)
+    (g.K.Sink.faults c.args.out.now) (g.K.Sink.faults c.finish-in_default.new.out)
+    c.single.result c.finish-in_default.result c.finish-in_default.ensures.finished answer)
+
+pub returns-in_default-clause-second_within : goal.returns-in_default-clause-second_within
+returns-in_default-clause-second_within g c two later =
+    let one = reads_one c.args.command c.requires.two c.in_default.not-Run c.in_default.not-Live c.in_default.not-Audit
+    c.in_default.not-Times c.in_default.not-Demo in
+    absurd (omega (arith, two, one))

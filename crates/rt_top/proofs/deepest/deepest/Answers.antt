@@ -24,3 +24,7 @@ returns-in-Err-clause-decides g c second third =
     (Rose (g.A.Source.faults c.args.app.now) (g.A.Source.faults c.read_accepted.new.app))
     (Rose (g.A.Source.faults c.args.app.now) (g.A.Source.faults c.read_accepted.new.app)) ⊥ (λ h. h)
     c.in-Err.reply c.in-Err.ensures.halts
+
+pub returns-in-Ok-clause-within : goal.returns-in-Ok-clause-within
+returns-in-Ok-clause-within g c =
+    λ _. c.in-Ok.ensures.within

@@ -7,13 +7,14 @@ use Rattle.rt_script.specs.declared.refusal.ScriptRefused.TheVariants as in_scri
 use Rattle.rt_top.specs.Words.{Pair}
 use Rattle.rt_top.specs.SecondRefusal.{SaysScript}
 use Rattle.rt_top.specs.Ends.{IsKept}
-use Rattle.rt_top.specs.Defined.{inputs}
+use Rattle.rt_top.specs.Defined.{inputs, IsAnswer, IsLaterAnswer}
 use Rattle.rt_top.specs.Inside.Decides.{Stops, HasFailed, IsDecided}
 use Rattle.rt_top.specs.Inside.Replies.{WantsMemory}
 use Rattle.rt_top.specs.Inside.Pairing.{AnswersPair}
 use Rattle.rt_top.proofs.Giving.{ends_as, finished}
 use Rattle.rt_top.proofs.Deciding.{tells_decides}
 use Rattle.rt_top.proofs.Pairing.{no_first, none_refused, pair_decided, long_pair_decided, third_left, third_stops}
+use Rattle.rt_top.proofs.Within.{finished_kind, later_answer, stops_no_answer}
 use Rattle.rt_top.proofs.pair.pair.Goals as goal
 
 pub returns-in-Err-clause-concludes : goal.returns-in-Err-clause-concludes
@@ -131,3 +132,62 @@ returns-clause-third_kept g c r =
     (g.C.Source.left c.args.third.now)
     (app_of c.in-Ok.both.first) (λ text told. c.in-Ok.ensures.first text told)
     (app_of c.in-Ok.both.second) (λ text told. c.in-Ok.ensures.second text told) r)
+
+pub returns-in-Err-clause-first_within : goal.returns-in-Err-clause-first_within
+returns-in-Err-clause-first_within g c answer =
+    c.in-Err.ensures.first_within
+    (finished_kind IsAnswer (λ s a. a) (g.K.Sink.taken c.args.out.now) (g.K.Sink.taken c.finish.new.out)
+    (g.K.Sink.faults c.args.out.now) (g.K.Sink.faults c.finish.new.out)
+    c.in-Err.reply c.finish.result c.finish.ensures.finished answer)
+
+pub returns-in-Err-clause-second_within : goal.returns-in-Err-clause-second_within
+returns-in-Err-clause-second_within g c later =
+    absurd (c.in-Err.ensures.refuses
+    (finished_kind IsLaterAnswer later_answer (g.K.Sink.taken c.args.out.now) (g.K.Sink.taken c.finish.new.out)
+    (g.K.Sink.faults c.args.out.now) (g.K.Sink.faults c.finish.new.out)
+    c.in-Err.reply c.finish.result c.finish.ensures.finished later))
+
+pub returns-in-Err-clause-third_within : goal.returns-in-Err-clause-third_within
+returns-in-Err-clause-third_within g c later =
+    absurd (c.in-Err.ensures.refuses
+    (finished_kind IsLaterAnswer later_answer (g.K.Sink.taken c.args.out.now) (g.K.Sink.taken c.finish.new.out)
+    (g.K.Sink.faults c.args.out.now) (g.K.Sink.faults c.finish.new.out)
+    c.in-Err.reply c.finish.result c.finish.ensures.finished later))
+
+pub returns-in-Ok-Some-clause-first_within : goal.returns-in-Ok-Some-clause-first_within
+returns-in-Ok-Some-clause-first_within g c =
+    λ _. c.in-Ok.ensures.first_within
+
+pub returns-in-Ok-Some-clause-second_within : goal.returns-in-Ok-Some-clause-second_within
+returns-in-Ok-Some-clause-second_within g c =
+    λ _. c.in-Ok.ensures.second_within
+
+pub returns-in-Ok-Some-clause-third_within : goal.returns-in-Ok-Some-clause-third_within
+returns-in-Ok-Some-clause-third_within g c =
+    λ _. c.in-Ok-Some.ensures.within
+
+pub returns-in-Ok-None-clause-first_within : goal.returns-in-Ok-None-clause-first_within
+returns-in-Ok-None-clause-first_within g c =
+    λ _. c.in-Ok.ensures.first_within
+
+pub returns-in-Ok-None-clause-second_within : goal.returns-in-Ok-None-clause-second_within
+returns-in-Ok-None-clause-second_within g c =
+    λ _. c.in-Ok.ensures.second_within
+
+pub returns-in-Ok-None-clause-third_within : goal.returns-in-Ok-None-clause-third_within
+returns-in-Ok-None-clause-third_within g c =
+    λ _. c.in-Ok-None.ensures.within
+
+pub returns-clause-first_within : goal.returns-clause-first_within
+returns-clause-first_within g c =
+    λ _. c.in-Ok.ensures.first_within
+
+pub returns-clause-second_within : goal.returns-clause-second_within
+returns-clause-second_within g c =
+    λ _. c.in-Ok.ensures.second_within
+
+pub returns-clause-third_within : goal.returns-clause-third_within
+returns-clause-third_within g c later =
+    absurd (stops_no_answer IsLaterAnswer later_answer
+    (Rose (g.C.Source.faults c.args.third.now) (g.C.Source.faults c.read_within.new.source))
+    c.in-Err-read_within.status c.in-Err-read_within.ensures.err later)

@@ -7,6 +7,7 @@ use Rattle.rt_top.specs.Ends.{IsKept}
 use Rattle.rt_top.specs.Defined.{inputs}
 use Rattle.rt_top.proofs.Deciding.{halts_decides}
 use Rattle.rt_top.proofs.Pairing.{no_first, other_decides}
+use Rattle.rt_top.proofs.Within.{halts_not_later, second_not_later}
 use Rattle.rt_top.proofs.reading.read_both.Goals as goal
 
 pub returns-in-Err-clause-decides : goal.returns-in-Err-clause-decides
@@ -39,3 +40,19 @@ pub returns-in-Err-read_accepted-clause-kept : goal.returns-in-Err-read_accepted
 returns-in-Err-read_accepted-clause-kept g c third r =
     absurd (no_first (g.A.Source.left c.args.app.now) (g.B.Source.left c.args.second.now) third (app_of c.in-Ok.first)
     (λ text told. c.in-Ok.ensures.accepted text told) r)
+
+pub returns-in-Err-clause-refuses : goal.returns-in-Err-clause-refuses
+returns-in-Err-clause-refuses g c later =
+    halts_not_later (g.A.Source.left c.args.app.now) RefusesApplication
+    (Rose (g.A.Source.faults c.args.app.now) (g.A.Source.faults c.read_accepted.new.app)) c.in-Err.reply
+    c.in-Err.ensures.halts later
+
+pub returns-in-Err-read_accepted-clause-first_within : goal.returns-in-Err-read_accepted-clause-first_within
+returns-in-Err-read_accepted-clause-first_within g c =
+    λ _. c.in-Ok.ensures.within
+
+pub returns-in-Err-read_accepted-clause-refuses : goal.returns-in-Err-read_accepted-clause-refuses
+returns-in-Err-read_accepted-clause-refuses g c later =
+    second_not_later (g.B.Source.left c.args.second.now) RefusesApplication
+    (Rose (g.B.Source.faults c.args.second.now) (g.B.Source.faults c.read_accepted-2.new.app))
+    c.in-Err-read_accepted.reply c.of_second.result c.in-Err-read_accepted.ensures.halts c.of_second.ensures later

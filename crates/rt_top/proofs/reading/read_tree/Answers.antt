@@ -1,8 +1,10 @@
-use Rattle.std.proofs.Common.{subst, sym, ◌∙◌, refl}
+use Rattle.std.proofs.Common.{subst, sym, ◌∙◌, refl, inr}
 use Rattle.rt_outside.specs.Faults.{Rose}
 use Rattle.rt_grammar.specs.Text.{IsRefused}
 use Rattle.rt_top.proofs.FirstText.{whole_text, long_text, refused_halts}
 use Rattle.rt_top.proofs.Refused.{too_long, refused_long}
+use Rattle.rt_ids.specs.declared.limits.TheConstants.{TEXT_BYTES}
+use Rattle.rt_top.proofs.Within.{text_within}
 use Rattle.rt_top.proofs.reading.read_tree.Goals as goal
 
 pub returns-in-Err-TooLong-clause-halts : goal.returns-in-Err-TooLong-clause-halts
@@ -23,3 +25,17 @@ returns-in-Err-At-clause-halts g c =
     text told c.in-Ok.ensures.whole in
     subst (λ t. IsRefused t c.in-Err-At.fault) (c.deref.ensures.value ∙ sym whole) refused)
     c.refuse-in-Err-At.result c.refuse-in-Err-At.ensures
+
+pub returns-in-Err-TooLong-clause-within : goal.returns-in-Err-TooLong-clause-within
+returns-in-Err-TooLong-clause-within g c =
+    λ _. inr ((rw c.in-Err-TooLong.field-0-is at c.in-Err-TooLong.ensures.too_long) refl)
+
+pub returns-in-Ok-parse-clause-within : goal.returns-in-Ok-parse-clause-within
+returns-in-Ok-parse-clause-within g c =
+    text_within TEXT_BYTES (g.A.Source.left c.args.app.now) (g.A.Source.left c.read_text.new.source) c.in-Ok.text
+    c.in-Ok.ensures.whole c.in-Ok.ensures.within
+
+pub returns-in-Err-At-clause-within : goal.returns-in-Err-At-clause-within
+returns-in-Err-At-clause-within g c =
+    λ _. text_within TEXT_BYTES (g.A.Source.left c.args.app.now) (g.A.Source.left c.read_text.new.source) c.in-Ok.text
+    c.in-Ok.ensures.whole c.in-Ok.ensures.within

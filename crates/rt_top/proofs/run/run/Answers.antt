@@ -36,3 +36,11 @@ returns-in-Err-clause-concludes g c third = c.in-Err.ensures.ends Run tt third
 
 pub returns-in-Err-clause-kept : goal.returns-in-Err-clause-kept
 returns-in-Err-clause-kept g c third r = c.start.ensures.kept Run tt third r
+
+pub returns-in-Ok-clause-first_within : goal.returns-in-Ok-clause-first_within
+returns-in-Ok-clause-first_within g c =
+    λ _. c.in-Ok.ensures.first_within
+
+pub returns-in-Ok-clause-second_within : goal.returns-in-Ok-clause-second_within
+returns-in-Ok-clause-second_within g c =
+    λ _. c.in-Ok.ensures.second_within

@@ -6,6 +6,7 @@ use Rattle.rt_top.specs.Inside.Meant.{command_word, IsInRange}
 use Rattle.rt_top.specs.declared.command.Command.{Command}
 use Rattle.rt_top.specs.declared.command.Command.TheVariants as command
 use Rattle.rt_top.proofs.Deciding.{reads_other}
+use Rattle.rt_top.proofs.Within.{first_as}
 use Rattle.rt_top.proofs.single.single.Goals as goal
 
 pub returns-in-Check-clause-decides : goal.returns-in-Check-clause-decides
@@ -61,3 +62,38 @@ soak-requires-clause-working g c lifetimes outlives = let range = subst (λ (x :
 pub soak-requires-clause-few : goal.soak-requires-clause-few
 soak-requires-clause-few g c lifetimes outlives = let range = subst (λ (x : Command). IsInRange (command_word x))
     c.in-Soak.is c.requires.range in range.4
+
+pub returns-in-Check-clause-within : goal.returns-in-Check-clause-within
+returns-in-Check-clause-within g c answer =
+    first_as c.args.command command.Check c.in-Check.is (g.A.Source.left c.args.app.now)
+    (g.A.Source.left c.check.new.app)
+    (c.check.ensures.within answer)
+
+pub returns-in-Fmt-clause-within : goal.returns-in-Fmt-clause-within
+returns-in-Fmt-clause-within g c answer =
+    first_as c.args.command command.Fmt c.in-Fmt.is (g.A.Source.left c.args.app.now) (g.A.Source.left c.fmt.new.app)
+    (c.fmt.ensures.within answer)
+
+pub returns-in-Build-clause-within : goal.returns-in-Build-clause-within
+returns-in-Build-clause-within g c answer =
+    first_as c.args.command command.Build c.in-Build.is (g.A.Source.left c.args.app.now)
+    (g.A.Source.left c.build.new.app)
+    (c.build.ensures.within answer)
+
+pub returns-in-Soak-clause-within : goal.returns-in-Soak-clause-within
+returns-in-Soak-clause-within g c answer =
+    first_as c.args.command (command.Soak c.in-Soak.number c.in-Soak.count c.in-Soak.workers) c.in-Soak.is
+    (g.A.Source.left c.args.app.now) (g.A.Source.left c.soak.new.app)
+    (c.soak.ensures.within answer)
+
+pub returns-in-Deepest-clause-within : goal.returns-in-Deepest-clause-within
+returns-in-Deepest-clause-within g c answer =
+    first_as c.args.command command.Deepest c.in-Deepest.is (g.A.Source.left c.args.app.now)
+    (g.A.Source.left c.deepest.new.app)
+    (c.deepest.ensures.within answer)
+
+pub returns-in-Verify-clause-within : goal.returns-in-Verify-clause-within
+returns-in-Verify-clause-within g c answer =
+    first_as c.args.command command.Verify c.in-Verify.is (g.A.Source.left c.args.app.now)
+    (g.A.Source.left c.verify.new.image)
+    (c.verify.ensures.within answer)

@@ -30,3 +30,7 @@ returns-clause-decides g c second third =
     c.reply_of_text.result
     (made_tells status.Done (TellsSoak (app_of c.in-Ok.accepted) number count) c.soak_text.result c.soak_text.ensures
     c.reply_of_text.result c.reply_of_text.ensures.text c.reply_of_text.ensures.memory)
+
+pub returns-clause-within : goal.returns-clause-within
+returns-clause-within g c =
+    λ _. c.in-Ok.ensures.within

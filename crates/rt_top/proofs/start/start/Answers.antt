@@ -8,7 +8,7 @@ use Rattle.rt_script.specs.declared.refusal.ScriptRefused.TheVariants as in_scri
 use Rattle.rt_top.specs.Refusal.{RefusesApplication}
 use Rattle.rt_top.specs.SecondRefusal.{SaysScript}
 use Rattle.rt_top.specs.Ends.{IsKept}
-use Rattle.rt_top.specs.Defined.{inputs}
+use Rattle.rt_top.specs.Defined.{inputs, IsAnswer, IsLaterAnswer}
 use Rattle.rt_top.specs.Inside.Decides.{Stops, HasFailed, IsDecided}
 use Rattle.rt_top.specs.Inside.Replies.{WantsMemory}
 use Rattle.rt_top.specs.Inside.Started.{AnswersRefusal}
@@ -16,6 +16,9 @@ use Rattle.rt_top.proofs.Giving.{ends_as, finished, heard, heard_err, heard_in, 
 use Rattle.rt_top.proofs.Deciding.{halts_decides, tells_decides, refuses_first, script_reads, script_reads_first}
 use Rattle.rt_top.proofs.Deciding.{script_passes, long_script_decided, refusal_decided}
 use Rattle.rt_top.proofs.Ran.{started_by}
+use Rattle.rt_top.specs.Reads.{IsReadWithin}
+use Rattle.rt_ids.specs.declared.limits.TheConstants.{TEXT_BYTES, SCRIPT_BYTES}
+use Rattle.rt_top.proofs.Within.{where_answered, finished_kind, halts_not_later, later_answer, stops_no_answer}
 use Rattle.rt_top.proofs.start.start.Goals as goal
 
 pub returns-in-Err-clause-ends : goal.returns-in-Err-clause-ends
@@ -111,3 +114,49 @@ returns-clause-kept g c command has third r =
     absurd (script_passes (g.A.Source.left c.args.app.now) (g.B.Source.left c.args.second.now) third
     (app_of c.in-Ok.accepted)
     (λ text told. c.in-Ok.ensures.accepted text told) command has r)
+
+pub returns-in-Err-clause-first_within : goal.returns-in-Err-clause-first_within
+returns-in-Err-clause-first_within g c answer =
+    c.in-Err.ensures.within
+    (finished_kind IsAnswer (λ s a. a) (g.K.Sink.taken c.args.out.now) (g.K.Sink.taken c.finish.new.out)
+    (g.K.Sink.faults c.args.out.now) (g.K.Sink.faults c.finish.new.out)
+    c.in-Err.reply c.finish.result c.finish.ensures.finished answer)
+
+pub returns-in-Err-clause-second_within : goal.returns-in-Err-clause-second_within
+returns-in-Err-clause-second_within g c later =
+    absurd (halts_not_later (g.A.Source.left c.args.app.now) RefusesApplication
+    (Rose (g.A.Source.faults c.args.app.now) (g.A.Source.faults c.read_accepted.new.app)) c.in-Err.reply
+    c.in-Err.ensures.halts
+    (finished_kind IsLaterAnswer later_answer (g.K.Sink.taken c.args.out.now) (g.K.Sink.taken c.finish.new.out)
+    (g.K.Sink.faults c.args.out.now) (g.K.Sink.faults c.finish.new.out)
+    c.in-Err.reply c.finish.result c.finish.ensures.finished later))
+
+pub returns-in-Ok-Some-clause-first_within : goal.returns-in-Ok-Some-clause-first_within
+returns-in-Ok-Some-clause-first_within g c =
+    where_answered IsAnswer (IsReadWithin TEXT_BYTES (g.A.Source.left c.args.app.now)
+    (g.A.Source.left c.read_accepted.new.app))
+    c.start_text.result c.in-Ok.ensures.within
+
+pub returns-in-Ok-Some-clause-second_within : goal.returns-in-Ok-Some-clause-second_within
+returns-in-Ok-Some-clause-second_within g c =
+    where_answered IsLaterAnswer
+    (IsReadWithin SCRIPT_BYTES (g.B.Source.left c.args.second.now) (g.B.Source.left c.read_within.new.source))
+    c.start_text.result c.in-Ok-Some.ensures.within
+
+pub returns-in-Ok-None-clause-first_within : goal.returns-in-Ok-None-clause-first_within
+returns-in-Ok-None-clause-first_within g c =
+    λ _. c.in-Ok.ensures.within
+
+pub returns-in-Ok-None-clause-second_within : goal.returns-in-Ok-None-clause-second_within
+returns-in-Ok-None-clause-second_within g c =
+    λ _. c.in-Ok-None.ensures.within
+
+pub returns-clause-first_within : goal.returns-clause-first_within
+returns-clause-first_within g c =
+    λ _. c.in-Ok.ensures.within
+
+pub returns-clause-second_within : goal.returns-clause-second_within
+returns-clause-second_within g c later =
+    absurd (stops_no_answer IsLaterAnswer later_answer
+    (Rose (g.B.Source.faults c.args.second.now) (g.B.Source.faults c.read_within.new.source))
+    c.in-Err-read_within.status c.in-Err-read_within.ensures.err later)

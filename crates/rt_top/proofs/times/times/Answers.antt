@@ -7,10 +7,11 @@ use Rattle.rt_top.specs.Words.{Times}
 use Rattle.rt_top.specs.Refusal.{RefusesApplication}
 use Rattle.rt_top.specs.SecondRefusal.{SaysLimits}
 use Rattle.rt_top.specs.Ends.{IsKept}
-use Rattle.rt_top.specs.Defined.{inputs}
+use Rattle.rt_top.specs.Defined.{inputs, IsLaterAnswer}
 use Rattle.rt_top.specs.Inside.Replies.{AnswersTimes}
 use Rattle.rt_top.proofs.Deciding.{halts_decides, replies_decides, tells_decides, stops_decides, times_passes}
 use Rattle.rt_top.proofs.Deciding.{timed_decided, long_limits_decided}
+use Rattle.rt_top.proofs.Within.{halts_not_later, later_answer, stops_no_answer}
 use Rattle.rt_top.proofs.times.times.Goals as goal
 
 pub returns-in-Err-clause-decides : goal.returns-in-Err-clause-decides
@@ -73,3 +74,35 @@ returns-clause-kept g c third r =
     absurd (times_passes (g.A.Source.left c.args.app.now) (g.B.Source.left c.args.second.now) third
     (app_of c.in-Ok.accepted)
     (λ text told. c.in-Ok.ensures.accepted text told) r)
+
+pub returns-in-Err-clause-second_within : goal.returns-in-Err-clause-second_within
+returns-in-Err-clause-second_within g c later =
+    absurd (halts_not_later (g.A.Source.left c.args.app.now) RefusesApplication
+    (Rose (g.A.Source.faults c.args.app.now) (g.A.Source.faults c.read_accepted.new.app)) c.in-Err.reply
+    c.in-Err.ensures.halts later)
+
+pub returns-in-Ok-Some-clause-first_within : goal.returns-in-Ok-Some-clause-first_within
+returns-in-Ok-Some-clause-first_within g c =
+    λ _. c.in-Ok.ensures.within
+
+pub returns-in-Ok-Some-clause-second_within : goal.returns-in-Ok-Some-clause-second_within
+returns-in-Ok-Some-clause-second_within g c =
+    λ _. c.in-Ok-Some.ensures.within
+
+pub returns-in-Ok-None-clause-first_within : goal.returns-in-Ok-None-clause-first_within
+returns-in-Ok-None-clause-first_within g c =
+    λ _. c.in-Ok.ensures.within
+
+pub returns-in-Ok-None-clause-second_within : goal.returns-in-Ok-None-clause-second_within
+returns-in-Ok-None-clause-second_within g c =
+    λ _. c.in-Ok-None.ensures.within
+
+pub returns-clause-first_within : goal.returns-clause-first_within
+returns-clause-first_within g c =
+    λ _. c.in-Ok.ensures.within
+
+pub returns-clause-second_within : goal.returns-clause-second_within
+returns-clause-second_within g c later =
+    absurd (stops_no_answer IsLaterAnswer later_answer
+    (Rose (g.B.Source.faults c.args.second.now) (g.B.Source.faults c.read_within.new.source))
+    c.in-Err-read_within.status c.in-Err-read_within.ensures.err later)

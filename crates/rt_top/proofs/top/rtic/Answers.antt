@@ -1,9 +1,13 @@
 use Rattle.rt_outside.specs.Faults.{Rose}
-use Rattle.rt_top.specs.Words.{texts}
+use Rattle.rt_top.specs.Words.{texts, reads}
 use Rattle.rt_top.specs.Ends.{IsKept}
 use Rattle.rt_top.specs.Defined.{inputs}
 use Rattle.rt_top.proofs.Clauses.{answered, complete, no_usage, is_command, first_unread, second_unread, third_unread}
 use Rattle.rt_top.proofs.Clauses.{read, silent, write, part, no_words}
+use Rattle.std.proofs.Common.{◌≤◌}
+use Rattle.rt_ids.specs.declared.limits.TheConstants.{SCRIPT_BYTES}
+use Rattle.rt_top.specs.Reads.{IsReadWithin, first_limit, second_limit}
+use Rattle.rt_top.proofs.Within.{named_so}
 use Rattle.rt_top.proofs.top.rtic.Goals as goal
 
 pub returns-in-Some-clause-answered : goal.returns-in-Some-clause-answered
@@ -146,3 +150,36 @@ returns-in-None-clause-part g c command named is_write told = no_words (texts c.
 
 pub returns-in-None-clause-usage : goal.returns-in-None-clause-usage
 returns-in-None-clause-usage g c none = c.answer.ensures.wrote
+
+pub returns-in-Some-clause-first_read : goal.returns-in-Some-clause-first_read
+returns-in-Some-clause-first_read g c command named some answer =
+    named_so (texts c.args.words.now) c.in-Some.command c.in-Some.ensures.some command named
+    (λ x. 1 ≤ reads x →
+    IsReadWithin (first_limit x) (g.A.Source.left c.args.app.now) (g.A.Source.left c.decide.new.app))
+    (λ more. c.decide.ensures.first_within more answer) some
+
+pub returns-in-None-clause-first_read : goal.returns-in-None-clause-first_read
+returns-in-None-clause-first_read g c command named some answer =
+    no_words (texts c.args.words.now) c.in-None.ensures.none command named
+
+pub returns-in-Some-clause-second_read : goal.returns-in-Some-clause-second_read
+returns-in-Some-clause-second_read g c command named some answer =
+    named_so (texts c.args.words.now) c.in-Some.command c.in-Some.ensures.some command named
+    (λ x. 2 ≤ reads x →
+    IsReadWithin (second_limit x) (g.B.Source.left c.args.second.now) (g.B.Source.left c.decide.new.second))
+    (λ more. c.decide.ensures.second_within more answer) some
+
+pub returns-in-None-clause-second_read : goal.returns-in-None-clause-second_read
+returns-in-None-clause-second_read g c command named some answer =
+    no_words (texts c.args.words.now) c.in-None.ensures.none command named
+
+pub returns-in-Some-clause-third_read : goal.returns-in-Some-clause-third_read
+returns-in-Some-clause-third_read g c command named some answer =
+    named_so (texts c.args.words.now) c.in-Some.command c.in-Some.ensures.some command named
+    (λ x. 3 ≤ reads x →
+    IsReadWithin SCRIPT_BYTES (g.C.Source.left c.args.third.now) (g.C.Source.left c.decide.new.third))
+    (λ more. c.decide.ensures.third_within more answer) some
+
+pub returns-in-None-clause-third_read : goal.returns-in-None-clause-third_read
+returns-in-None-clause-third_read g c command named some answer =
+    no_words (texts c.args.words.now) c.in-None.ensures.none command named

@@ -3,10 +3,11 @@ use Rattle.rt_ids.specs.declared.status.Status.TheVariants as status
 use Rattle.rt_outside.specs.Faults.{Rose}
 use Rattle.rt_load.specs.declared.refusal.LoadRefused.TheVariants as in_image
 use Rattle.rt_top.specs.Words.{Verify}
-use Rattle.rt_top.specs.Defined.{inputs}
+use Rattle.rt_top.specs.Defined.{inputs, IsAnswer}
 use Rattle.rt_top.specs.Verified.{SaysImage, IsVerified}
 use Rattle.rt_top.proofs.Deciding.{replies_decides, tells_decides}
 use Rattle.rt_top.proofs.Verifying.{verified_decided, long_decided}
+use Rattle.rt_top.proofs.Within.{stops_no_answer}
 use Rattle.rt_top.proofs.verify.verify.Goals as goal
 
 pub returns-in-Ok-Some-clause-decides : goal.returns-in-Ok-Some-clause-decides
@@ -26,3 +27,17 @@ returns-in-Ok-None-clause-decides g c second third =
     (long_decided (g.A.Source.left c.args.image.now) second third
     (λ text told. rw c.in-Ok-None.field-0-is at c.in-Ok-None.ensures.long text told))
     c.refuse_image.result c.refuse_image.ensures
+
+pub returns-in-Ok-Some-clause-within : goal.returns-in-Ok-Some-clause-within
+returns-in-Ok-Some-clause-within g c =
+    λ _. c.in-Ok-Some.ensures.within
+
+pub returns-in-Ok-None-clause-within : goal.returns-in-Ok-None-clause-within
+returns-in-Ok-None-clause-within g c =
+    λ _. c.in-Ok-None.ensures.within
+
+pub returns-in-Err-clause-within : goal.returns-in-Err-clause-within
+returns-in-Err-clause-within g c answer =
+    absurd (stops_no_answer IsAnswer (λ s a. a)
+    (Rose (g.A.Source.faults c.args.image.now) (g.A.Source.faults c.read_within.new.source)) c.in-Err.status
+    c.in-Err.ensures.err answer)
