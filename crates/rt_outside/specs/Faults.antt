@@ -3,7 +3,7 @@
 -- that count refuses it.
 use Rattle.std.specs.Prelude.{ℕ, ◌≡◌, ◌-◌, ◌^◌, ◌<◌, ◌≤◌, ◌⊎◌, Result, IsErr}
 
--- the count is greater than before, or stands still at the end of its type, 64 bits
+-- the count is greater than before, or stays at the end of its type, 64 bits
 abbrev pub Rose : ℕ → ℕ → Type 0
 Rose before after = (before < after) ⊎ (after ≡ 2 ^ 64 - 1)
 

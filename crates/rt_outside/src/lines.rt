@@ -51,7 +51,7 @@ pub fn read_lines<S: Source, L: LineSink>(
     ensures fault_handed { IsErrOf result ReadFail.Fault →
         HasHanded (L.came sink.new) (S.left source.old) (S.left source.new) }
 
-    // A fault is told, and nothing else is told as one.
+    // A fault is reported, and nothing else is reported as one.
     ensures fault { IsErrOf result ReadFail.Fault → Rose (S.faults source.old) (S.faults source.new) }
     ensures quiet { ¬ IsErrOf result ReadFail.Fault → S.faults source.new ≡ S.faults source.old }
     ensures later { S.faults source.old ≤ S.faults source.new }
@@ -78,7 +78,7 @@ pub fn read_lines<S: Source, L: LineSink>(
     unreachable!()
 }
 
-/// Hands out the lines that end in the next piece, the first of them behind its beginning, which is held, and then
+/// Hands out the lines that end in the next piece, the first of them with its beginning, which is held, and then
 /// holds the beginning of the line that goes on; says how many lines are out.
 fn give_piece<L: LineSink>(
     held: &mut Vec<u8>,
@@ -104,7 +104,7 @@ fn give_piece<L: LineSink>(
     Ok(out)
 }
 
-/// The bytes in front of the first line feed, and those behind it; None where there is no line feed.
+/// The bytes before the first line feed, and those after it; None where there is no line feed.
 fn ended_line(text: &[u8]) -> Option<(&[u8], &[u8])>
     ensures splits { MatchOption result (IsUnended text.now)
         (λ next. parts 10 text.now ≡ next.0.now ∷ parts 10 next.1.now) }

@@ -84,7 +84,7 @@ pub fn read_text<S: Source>(alloc: Global, source: &mut S, limit: u32) -> Result
         (¬ IsErrOf result ReadFail.TooLong → (n : ℕ) × (n ≤ limit)
         × GaveCount (S.left source.old) (S.left source.new) n) }
 
-    // A fault is told, and nothing else is told as one.
+    // A fault is reported, and nothing else is reported as one.
     ensures fault { IsErrOf result ReadFail.Fault → Rose (S.faults source.old) (S.faults source.new) }
     ensures quiet { ¬ IsErrOf result ReadFail.Fault → S.faults source.new ≡ S.faults source.old }
     ensures later { S.faults source.old ≤ S.faults source.new }

@@ -5,7 +5,7 @@ use Rattle.rt_ids.specs.declared.status.Status.TheVariants as status
 use Rattle.rt_outside.specs.Faults.{Rose}
 use Rattle.rt_outside.specs.Bytes.{Took, TookPrefix}
 
--- all bytes were written and the status is the wanted one, or the sink failed behind a beginning of them
+-- all bytes were written and the status is the wanted one, or the sink failed after a beginning of them
 abbrev pub Wrote : Option (List ℕ) → Option (List ℕ) → ℕ → ℕ → Status → Status → List ℕ → Type 0
 Wrote before after faults_before faults_after wanted ended bytes =
     ((ended ≡ wanted) × Took before after bytes)

@@ -1,4 +1,4 @@
--- The line that refuses an application text: where it stands, its number, and what is wrong.
+-- The line that refuses an application text: the place, the number of the refusal, and what is wrong.
 use Rattle.std.specs.Prelude.{◌≡◌, ◌⊎◌, ℕ, Bool, false, List, ◌++◌, codes, decimal}
 use Rattle.rt_ids.specs.declared.limit.Limit.{Limit}
 use Rattle.rt_ids.specs.declared.limit.Limit.TheVariants as limit

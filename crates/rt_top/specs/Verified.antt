@@ -1,5 +1,5 @@
 -- What `verify` writes of a text: that it is no listing, that its image is safe, or the rule that its image breaks. It
--- is this project's own; a listing is judged whatever made it, and no application stands beside it.
+-- is this project's own; a listing is judged whatever made it, without an application.
 use Rattle.std.specs.Prelude.{◌≡◌, ℕ, List, ◌++◌, codes, decimal}
 use Rattle.rt_ids.specs.declared.status.Status.{Status}
 use Rattle.rt_ids.specs.declared.status.Status.TheVariants as status

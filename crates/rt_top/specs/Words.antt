@@ -1,4 +1,4 @@
--- The words behind the program's name, by position, and the command that they name.
+-- The words after the program's name, by position, and the command that they name.
 use Rattle.std.specs.Prelude.{◌≡◌, ℕ, ◌<◌, ◌≤◌, ◌^◌, true, List, [], ◌∷◌, ◌++◌, codes, length, map}
 use Rattle.std.specs.List.{list_all}
 use Rattle.std.specs.Str.Parse.{digits_value}

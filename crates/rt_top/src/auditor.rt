@@ -34,7 +34,7 @@ pub(crate) struct Auditor<'a, A> {
     machine: &'a Machine<'a>,
     reader: TraceReader,
     judge: Judge<'a>,
-    /// Why the lines are no trace, once one is wrong. Those behind it are passed over.
+    /// Why the lines are no trace, once one is wrong. Those after it are passed over.
     refused: Option<TraceRefused>,
     of: PhantomData<A>,
 }

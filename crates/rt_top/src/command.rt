@@ -77,7 +77,7 @@ pub(crate) fn command_of(words: &[&str]) -> Option<Command>
     }
 }
 
-/// Whether the words are this verb and one behind it.
+/// Whether the words are this verb and one after it.
 fn is_verb_with_one(words: &[&str], verb: &str) -> bool
     ensures { IsTrue result ↔ IsVerbWithOne (texts words.now) verb.now }
 {
@@ -87,7 +87,7 @@ fn is_verb_with_one(words: &[&str], verb: &str) -> bool
     }
 }
 
-/// Whether the words are this verb and two behind it.
+/// Whether the words are this verb and two after it.
 fn is_verb_with_two(words: &[&str], verb: &str) -> bool
     ensures { IsTrue result ↔ IsVerbWithTwo (texts words.now) verb.now }
 {
@@ -97,7 +97,7 @@ fn is_verb_with_two(words: &[&str], verb: &str) -> bool
     }
 }
 
-/// Whether the words are this verb and three behind it.
+/// Whether the words are this verb and three after it.
 fn is_verb_with_three(words: &[&str], verb: &str) -> bool
     ensures { IsTrue result ↔ IsVerbWithThree (texts words.now) verb.now }
 {

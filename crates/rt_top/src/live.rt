@@ -59,7 +59,7 @@ pub(crate) fn live<R: Threads + Sync, A: Source, B: Source, K: Sink + Send, G: G
 }
 
 /// Runs a core under a script beside the script's devices: writes the listing of its image, its trace and the account.
-/// It wants no memory behind the first byte.
+/// It wants no memory after the first byte.
 fn run_live<R: Threads + Sync, K: Sink + Send, G: Gate + Sync>(
     rt: &R,
     alloc: Global,
@@ -87,7 +87,7 @@ fn run_live<R: Threads + Sync, K: Sink + Send, G: Gate + Sync>(
     }
 }
 
-/// Writes what stands in front of a trace, and then the trace of the core's image and the account while it runs beside
+/// Writes what comes before a trace, and then the trace of the core's image and the account while it runs beside
 /// the devices.
 fn put_live<R: Threads + Sync, K: Sink + Send, G: Gate + Sync>(
     rt: &R,

@@ -93,7 +93,7 @@ fn pair_text<R: Threads + Sync, K: Sink, G: Gate + Sync>(
     }
 }
 
-/// Runs a core under a script beside one of another application. It wants no memory behind the first byte.
+/// Runs a core under a script beside one of another application. It wants no memory after the first byte.
 fn run_pair<R: Threads + Sync, K: Sink, G: Gate + Sync>(
     rt: &R,
     alloc: Global,

@@ -53,8 +53,7 @@ pub(crate) fn run<A: Source, B: Source, K: Sink>(
     }
 }
 
-/// Runs a core under a script: writes the listing of its image, and its trace. It wants no memory behind
-/// the first byte.
+/// Runs a core under a script: writes the listing of its image, and its trace. It wants no memory after the first byte.
 fn run_script<K: Sink>(alloc: Global, core: &mut Core, script: &Script, out: &mut K) -> Status
     requires fresh { IsFresh core.old }
     requires lines { HasLines core.old.image }
@@ -72,7 +71,7 @@ fn run_script<K: Sink>(alloc: Global, core: &mut Core, script: &Script, out: &mu
     }
 }
 
-/// The listing of an image, with the line that stands in front of a trace.
+/// The listing of an image, with the line that comes before a trace.
 pub(crate) fn heading(alloc: Global, image: &Image) -> Result<Vec<u8>, NoMemory>
     ensures text { IfOk result (λ text. text.items ≡ listing image.now ++ codes "trace\n") }
     ensures numbers { IfOk result (λ _. HasShortNumbers image.now) }
@@ -82,7 +81,7 @@ pub(crate) fn heading(alloc: Global, image: &Image) -> Result<Vec<u8>, NoMemory>
     Ok(text)
 }
 
-/// Writes what stands in front of a trace, and then the trace of the core's image under a script while it runs.
+/// Writes what comes before a trace, and then the trace of the core's image under a script while it runs.
 fn put_run<K: Sink>(
     core: &mut Core,
     script: &Script,

@@ -101,7 +101,7 @@ pub fn rtic<R: Threads + Sync, A: Source, B: Source, C: Source, K: Sink + Send, 
     ensures third_read { (c : Command) → Names (texts words.now) c → 3 ≤ reads c → IsLaterAnswer result →
         IsReadWithin SCRIPT_BYTES (C.left third.old) (C.left third.new) }
 
-    // A source that the command reads failed, and then no source behind it was read and nothing was written.
+    // A source that the command reads failed, and then no source after it was read and nothing was written.
     ensures read { result ≡ Status.Read → (c : Command) × Names (texts words.now) c
         × (((1 ≤ reads c) × Rose (A.faults app.old) (A.faults app.new)
         × IsKept B.left B.faults second.old second.new × IsKept C.left C.faults third.old third.new)

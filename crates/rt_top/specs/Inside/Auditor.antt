@@ -1,4 +1,4 @@
--- What an auditor keeps behind the lines that came.
+-- What an auditor keeps after the lines that came.
 use Rattle.std.specs.Prelude.{◌≡◌, ◌≤◌, ℕ, List, ◌++◌, length, Option, Some, None}
 use Rattle.rt_ids.specs.Names.{Names}
 use Rattle.rt_app.specs.Names.{names_of}
@@ -24,7 +24,7 @@ pub record Goes (app : App) (names : Names) (ls : List (List ℕ)) (reader : Tra
   pub read : HasRead names ls items reader
   pub judged : HasJudged app items judge
 
--- one of the lines is wrong, and is refused so whatever stands behind them
+-- one of the lines is wrong, and is refused so whatever comes after them
 pub record Refuses (names : Names) (ls : List (List ℕ)) (refusal : TraceRefused) : Type 0 where
   pub number : ℕ
   pub refused : (behind : List (List ℕ)) → RefusesLine names (ls ++ behind) number refusal

@@ -50,7 +50,7 @@ pub record Lists (app : App) (bytes : List ℕ) : Type 0 where
   pub numbers : HasShortNumbers image
   pub says : bytes ≡ listing image
 
--- a status behind the applications, which are not refused then
+-- a status after the applications were accepted
 pub data IsPast : Status → Type 0 where
   is_done : IsPast status.Done
   is_text : IsPast status.Text

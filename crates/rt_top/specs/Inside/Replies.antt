@@ -44,7 +44,7 @@ WantsMemory ended = ended ≡ status.Memory
 abbrev pub Replies : (Status → List ℕ → Type 0) → Reply → Type 0
 Replies Said r = Gives Said WantsMemory r
 
--- a count of faults stands still, or the reply is that a source failed
+-- a count of faults did not change, or the reply is that a source failed
 abbrev pub IsHeard : ℕ → ℕ → Reply → Type 0
 IsHeard before after r = (after ≡ before) ⊎ (r ≡ reply.Stop status.Read)
 
