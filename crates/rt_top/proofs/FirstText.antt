@@ -1,5 +1,5 @@
 -- From a source that tells to its text, and from the tree of a text to what is said of the text.
-use Rattle.std.proofs.Common.{◌≡◌, ℕ, ◌≤◌, Bool, false, List, ◌++◌, length, Option, Some, None, Result, Ok, Err, IfOk}
+use Rattle.std.proofs.Common.{◌≡◌, ℕ, ◌≤◌, List, length, Option, Some, None, Result, Ok, Err, IfOk}
 use Rattle.std.proofs.Common.{IfErr, inl, inr, ap, subst, ◌∙◌, arith}
 use Rattle.std.proofs.lemmas.List.{length-append}
 use Rattle.rt_ids.specs.declared.refusal.Fault.{Fault}

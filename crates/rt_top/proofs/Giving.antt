@@ -1,6 +1,6 @@
 -- What follows from a reply, and from a reply that was finished.
-use Rattle.std.proofs.Common.{◌≡◌, ℕ, ◌≤◌, ◌⊎◌, List, [], Option, Some, None, Result, Ok, Err, IfOk, OnErr, Vec, Global}
-use Rattle.std.proofs.Common.{inl, inr, refl, ap, sym, subst, append-nil, IsErrOf}
+use Rattle.std.proofs.Common.{◌≡◌, ℕ, ◌≤◌, ◌⊎◌, List, Option, Result, Ok, Err, IfOk, OnErr, Vec, Global}
+use Rattle.std.proofs.Common.{inl, inr, refl, ap, sym, subst, IsErrOf}
 use Rattle.rt_ids.specs.declared.status.Status.{Status}
 use Rattle.rt_ids.specs.declared.status.Status.TheVariants as status
 use Rattle.rt_run.proofs.Taking.{took_none}

@@ -1,6 +1,5 @@
 -- The answer of a run.
 use Rattle.std.proofs.Common.{◌≡◌, ℕ, List, ◌++◌, codes, Option, Some, Result, Ok, Err, IfOk, inl, inr, refl, ap, subst}
-use Rattle.rt_ids.specs.declared.status.Status.{Status}
 use Rattle.rt_ids.specs.declared.status.Status.TheVariants as status
 use Rattle.rt_outside.specs.Bytes.{Took, TookPrefix}
 use Rattle.rt_outside.specs.Faults.{Rose}

@@ -1,5 +1,5 @@
 -- The line that refuses an application text: the place, the number of the refusal, and what is wrong.
-use Rattle.std.specs.Prelude.{◌≡◌, ◌⊎◌, ℕ, Bool, false, List, ◌++◌, codes, decimal}
+use Rattle.std.specs.Prelude.{◌≡◌, ℕ, List, ◌++◌, codes, decimal}
 use Rattle.rt_ids.specs.declared.limit.Limit.{Limit}
 use Rattle.rt_ids.specs.declared.limit.Limit.TheVariants as limit
 use Rattle.rt_ids.specs.declared.refusal.Fault.{Fault}
@@ -8,8 +8,7 @@ use Rattle.rt_ids.specs.declared.refusal.Refusal.TheVariants as refusal
 use Rattle.rt_ids.specs.declared.rule.Rule.{Rule}
 use Rattle.rt_ids.specs.declared.rule.Rule.TheVariants as rule
 use Rattle.rt_grammar.specs.Text.{IsRefused}
-use Rattle.rt_app.specs.Tree.{App}
-use Rattle.rt_build.specs.Accepted.{IsApplication, IsRefusedText}
+use Rattle.rt_build.specs.Accepted.{IsRefusedText}
 
 -- the word for a limit
 abbrev pub limit_word : Limit → List ℕ

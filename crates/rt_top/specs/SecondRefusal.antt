@@ -1,6 +1,6 @@
 -- The line that refuses a script, a trace or limits: which of these it is, the number of its first wrong line, and what
 -- is wrong there. A text that is too long is refused at its first line. Want of memory refuses nothing.
-use Rattle.std.specs.Prelude.{◌≡◌, ℕ, true, List, ◌++◌, codes, decimal}
+use Rattle.std.specs.Prelude.{◌≡◌, ℕ, List, ◌++◌, codes, decimal}
 use Rattle.rt_app.specs.Names.{names_of}
 use Rattle.rt_app.specs.Tree.{App}
 use Rattle.rt_build.specs.Accepted.{IsApplication}

@@ -1,11 +1,10 @@
-use Rattle.std.proofs.Common.{◌≡◌, ◌≤◌, ℕ, Option, List, refl, subst, arith, sym}
+use Rattle.std.proofs.Common.{◌≤◌, refl, subst, arith}
 use Rattle.rt_outside.specs.Faults.{Rose}
 use Rattle.rt_top.specs.Words.{Run, Audit, Live, Demo, Times, reads}
 use Rattle.rt_top.specs.Ends.{IsKept}
 use Rattle.rt_top.specs.Defined.{inputs, IsAnswer, IsLaterAnswer}
 use Rattle.rt_top.specs.Inside.Decides.{Stops, HasFailed, IsDecided}
 use Rattle.rt_top.specs.Inside.Meant.{command_word, IsInRange}
-use Rattle.rt_top.specs.declared.command.Command as code
 use Rattle.rt_top.specs.declared.command.Command.TheVariants as command
 use Rattle.rt_top.proofs.Giving.{finished, heard}
 use Rattle.rt_top.proofs.Deciding.{only_first, two_kept, concludes_as, kept_as, some_read, reads_one, demo_decides}

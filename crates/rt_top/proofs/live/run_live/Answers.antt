@@ -1,4 +1,4 @@
-use Rattle.std.proofs.Common.{◌++◌, ◌≡◌, ℕ, codes, refl, ap, subst, sym, ◌∙◌, List}
+use Rattle.std.proofs.Common.{◌++◌, ℕ, codes, refl, ap, subst, ◌∙◌, List}
 use Rattle.rt_code.specs.Image.{Image}
 use Rattle.rt_listing.specs.Listing.{listing}
 use Rattle.rt_listing.specs.Numbers.{HasShortNumbers}

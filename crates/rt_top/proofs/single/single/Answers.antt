@@ -1,11 +1,10 @@
-use Rattle.std.proofs.Common.{ℕ, List, Option, subst, sym}
+use Rattle.std.proofs.Common.{subst, sym}
 use Rattle.rt_outside.specs.Faults.{Rose}
 use Rattle.rt_top.specs.Defined.{inputs}
 use Rattle.rt_top.specs.Inside.Decides.{Decides}
 use Rattle.rt_top.specs.Inside.Meant.{command_word, IsInRange}
 use Rattle.rt_top.specs.declared.command.Command.{Command}
 use Rattle.rt_top.specs.declared.command.Command.TheVariants as command
-use Rattle.rt_top.proofs.Deciding.{reads_other}
 use Rattle.rt_top.proofs.Within.{first_as}
 use Rattle.rt_top.proofs.single.single.Goals as goal
 
