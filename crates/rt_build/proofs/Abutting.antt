@@ -1,4 +1,4 @@
--- The parts of code, put one behind the other, abut.
+-- The parts of code, put one after the other, abut.
 use Rattle.std.proofs.Common.{◌≡◌, ◌≢◌, ℕ, zero, suc, ◌+◌, ◌<◌, ◌≤◌, Bool, true, false, List, [], ◌∷◌, ◌++◌, length}
 use Rattle.std.proofs.Common.{take, drop, map, Some, None, slice_get, slice_index, refl, sym, ap, subst, ◌∙◌, arith}
 use Rattle.std.proofs.Common.{append_assoc, append-nil, length-append, if◌then◌else◌, ◌==◌, not}
@@ -28,7 +28,7 @@ use Rattle.rt_build.proofs.Grown.{behind, whole, kept_then}
 use Rattle.rt_build.proofs.Levels.{index_is}
 
 module _ (app : App) (at : Entries) where
-  -- parts behind parts
+  -- parts after parts
   abut_append : (ps qs : List Part) (from : ℕ) (xs ys : List Line) → AreAbutting app at from ps xs
       → AreAbutting app at (from + length xs) qs ys → AreAbutting app at from (ps ++ qs) (xs ++ ys)
   abut_append [] qs from xs ys none after =
@@ -47,7 +47,7 @@ module _ (app : App) (at : Entries) where
         abut_append ps qs (from + length own) more ys rest (subst (λ n. AreAbutting app at n qs ys) long after),
       )
 
-  -- no parts behind code, and parts behind parts
+  -- no parts after code, and parts after parts
   pub parts_none : (lines : List Line) → AddsParts app at [] lines lines
   parts_none lines = drop_all (length lines) lines (omega arith)
 
@@ -238,7 +238,7 @@ module _ (app : App) (at : Entries) (entries : List ℕ) (before after : List Li
       (take_all (length entries) (levels app) (omega arith))
       (adds at (λ k p less there. are p ∙ ap (λ o. slice_index entries (or_zero o)) (index_is app k p there)))
 
--- all parts, put behind none
+-- all parts, put after none
 module _ (app : App) (at : Entries) (none first second third fourth fifth all : List Line) (empty : none ≡ []) where
   pub in_order : IsKept none first → IsKept first second → IsKept second third → IsKept third fourth
       → IsKept fourth fifth → IsKept fifth all

@@ -91,7 +91,7 @@ module _ (plan : Plan) (made : Code) (words bytes : ℕ) (irqs : List IrqRow) (b
     bodies = ap (λ (i : Image). i.bodies) is ∙ called;
   }
 
-  -- nothing stands behind all code
+  -- nothing comes after all code
   whole_code : made.lines.items ++ [] ≡ img.code
   whole_code = append-nil made.lines.items ∙ sym (ap (λ (i : Image). i.code) is)
 

@@ -25,7 +25,7 @@ of_rank_is r = refl
 rank_tells : (r s : Rule) → rank r ≡ rank s → r ≡ s
 rank_tells r s e = sym (of_rank_is r) ∙ ap of_rank e ∙ of_rank_is s
 
--- two that are not behind each other are the same
+-- two that are not after each other are the same
 same : (v w : Violation) → IsNotAfter v w → IsNotAfter w v → v ≡ w
 same v w (inl a) (inl b) = absurd (omega arith)
 same v w (inl a) (inr b) = let e = b.0 in absurd (omega arith)

@@ -38,7 +38,7 @@ use Rattle.rt_build.specs.Inside.Code.{HasHandler, HasTimer}
 use Rattle.rt_build.specs.declared.code.Kind.{Kind}
 use Rattle.rt_build.specs.declared.code.Kind.TheVariants.{Hardware, Software}
 
--- what is there behind
+-- the lines after those that were there before
 abbrev pub behind : List Line → List Line → List Line
 behind before after = drop (length before) after
 
@@ -69,7 +69,7 @@ kept_length before after goes =
           (whole before after goes),
     )
 
--- what holds whatever stands behind code, holds of code that goes on, whatever stands behind that
+-- what holds whatever comes after code, holds of code that goes on, whatever comes after that
 pub further : (P : List Line → Type 0) (before after : List Line) → IsKept before after
     → ((more : List Line) → P (before ++ more)) → (more : List Line) → P (after ++ more)
 further P before after goes holds more =
@@ -134,7 +134,7 @@ module _ (app : App) (before after : List Line) (goes : IsKept before after) whe
 
 module _ (app : App) (first second : List Line) (entry : ℕ) (goes : IsKept first second)
     (at : entry ≡ length first) where
-  -- `init`, and what stands behind it
+  -- `init`, and what comes after it
   pub thread_made : (start : ℕ) → start ≡ 0 → BodyStands app body.Init first start
       → ((more : List Line) (bodies : List BodyRow) → IdleStands app (second ++ more) bodies entry app.idle)
       → HasThread app second entry
@@ -175,7 +175,7 @@ written size before after long is =
     ap (λ (back : List ℕ). take size (after ++ back)) (drop_all (length after) before (omega (arith, long)))
     ∙ (ap (take size) (append-nil after) ∙ take_all size after (omega (arith, long, is)))
 
--- lines that are put behind code stand there
+-- lines that are put after code stand there
 code_put : (before after lines : List Line) (entry : ℕ) → entry ≡ length before → take entry after ≡ before
     → drop entry after ≡ lines → (more : List Line) → HasCode (after ++ more) entry lines
 code_put before after lines entry at kept put more =
@@ -220,7 +220,7 @@ module _ (app : App) where
     short = omega arith;
   }
 
-  -- what holds of lines behind code, and of those behind these
+  -- what holds of lines after code, and of those after these
   pub adds_then : (few many : ℕ) (first second third : List Line) → Adds app few first second
       → Adds app many second third → Adds app (few + many) first third
   adds_then few many first second third adds more =
@@ -246,7 +246,7 @@ module _ (app : App) where
     short = omega (arith, length-append before ((instr.Wait, None) ∷ []));
   })
 
-  -- all lines, which were put behind none
+  -- all lines, which were put after none
   pub all_named : (size : ℕ) (none lines : List Line) → none ≡ [] → Adds app size none lines
       → AreNamed lines × (length lines ≤ size)
   all_named size none lines is all =
@@ -344,7 +344,7 @@ module _ (app : App) where
         (same_Some p q (sym there ∙ (ap (slice_get (levels app)) (sym counted) ∙ at))) stands)),
   )
 
--- the code of the timer handler, put behind code where there is a monotonic, stands there; where there is none, no code
+-- the code of the timer handler, put after code where there is a monotonic, stands there; where there is none, no code
 -- is put there
 module _ (app : App) (entry : ℕ) where
   pub timer_put : (mono : Mono) (before after : List Line) → app.mono ≡ Some mono → entry ≡ length before
@@ -356,7 +356,7 @@ module _ (app : App) (entry : ℕ) where
   pub timer_absent : (lines : List Line) → app.mono ≡ None → HasTimer app lines entry
   timer_absent lines none mono is more = absurd (none-some mono (sym none ∙ is))
 
--- the code of a dispatcher, put behind code, stands there
+-- the code of a dispatcher, put after code, stands there
 pub dispatcher_put : (app : App) (level entry : ℕ) (before after : List Line) → entry ≡ length before
     → take entry after ≡ before → drop entry after ≡ dispatcher_code app level entry
     → (more : List Line) → HasDispatcher app level (after ++ more) entry

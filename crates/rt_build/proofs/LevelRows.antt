@@ -1,5 +1,5 @@
 -- The rows of bodies that a dispatcher calls by are rows by other entries: those of tasks that it does not call lead
--- behind all code. So code that stands whatever the entries of other tasks are stands beside them.
+-- after all code. So code that stands whatever the entries of other tasks are stands beside them.
 use Rattle.std.proofs.Common.{◌≡◌, ℕ, ◌+◌, Bool, true, false, if◌then◌else◌, List, [], ◌∷◌, ◌++◌, slice_get, refl, ap}
 use Rattle.std.proofs.Common.{◌∙◌}
 use Rattle.rt_ids.specs.Lists.{is_some_and}
@@ -14,7 +14,7 @@ use Rattle.rt_build.specs.Image.{callable_rows}
 abbrev pub entries_for : App → (Task → Bool) → ℕ → (ℕ → ℕ) → ℕ → ℕ
 entries_for app test behind at n = if is_some_and test (slice_get app.tasks n) then at n else behind
 
--- a row by its own entry, or one behind all code
+-- a row by its own entry, or one after all code
 chosen : (n : ℕ) (t : Task) (entry behind : ℕ) (b : Bool)
     → (if b then row_for (λ k. entry) n t else row_for (λ k. behind) n t)
     ≡ row_for (λ k. if b then entry else behind) n t

@@ -1,5 +1,5 @@
 -- The levels of software tasks by their indices: they rise, so that each stands at one index, and as many are above one
--- as stand behind it.
+-- as come after it.
 use Rattle.std.proofs.Common.{◌≡◌, ℕ, zero, suc, ◌-◌, ◌<◌, ◌==◌, false, List, [], ◌∷◌, length, filter}
 use Rattle.std.proofs.Common.{map, Option, Some, None, option_map, IsSome, slice_get, Contains, refl, sym}
 use Rattle.std.proofs.Common.{ap, subst, ◌∙◌, arith, if◌then◌else◌}
@@ -42,7 +42,7 @@ all_above p (q ∷ ps) all =
     ap (λ b. length (if b then q ∷ filter (nat_lt p) ps else filter (nat_lt p) ps)) (lt-ltb p q all.0)
     ∙ ap suc (all_above p ps all.1)
 
--- those behind one are above it
+-- those after one are above it
 above_index : (ps : List ℕ) (k p : ℕ) → IsRising ps → slice_get ps k ≡ Some p → above p ps ≡ length ps - 1 - k
 above_index [] k p rising at = absurd (none-some p at)
 above_index (q ∷ ps) zero p rising at =
@@ -72,7 +72,7 @@ module _ (app : App) where
         position_of_key (λ q. q) (levels app) k p there
         (λ j q at same. rising_differ (levels app) levels_rise j k p (at ∙ ap Some same) there)
 
-    -- its interrupt is that of the dispatcher that is named behind as many as there are higher levels
+    -- its interrupt is that of the dispatcher that is named after as many as there are higher levels
     module _ (sound : IsSound app) where
       abbrev behind : ℕ
       behind = length (levels app) - 1 - k

@@ -51,7 +51,7 @@ fresh before (x ∷ xs) fine zero name e = subst (λ n. list_any (is_named n) be
 fresh before (x ∷ xs) fine (suc i) name e = (both_of_none (is_named name x) (list_any (is_named name) before)
     (fresh (x ∷ before) xs (rest_fine x before xs fine) i name e)).1
 
--- nor does the first name stand behind itself
+-- nor is the first name after itself
 no_second : (x : Ident) (before xs : List Ident) → declared_twice before (x ∷ xs) ≡ [] → (i : ℕ) (name : List ℕ)
     → Some x.name ≡ Some name → slice_get (texts xs) i ≡ Some name → ⊥
 no_second x before xs fine i name first e =

@@ -158,7 +158,7 @@ arguments_seen xs names none = arguments_in visible xs names 0 (all_in visible) 
     visible : List ℕ
     visible = range_with_len 0 (length xs)
 
--- what is said of the tree and of what a body lists holds behind its arguments
+-- what is said of the tree and of what a body lists holds after its arguments
 pub before_arguments : (P : App → List Ident → Type 0) (xs : List Ident) (names : Names) (n : ℕ)
     → P (with_arguments names n xs).app (with_arguments names n xs).local → P names.app names.local
 before_arguments P [] names n h = h

@@ -1,4 +1,4 @@
--- The services of an application before one, its own, and those behind it: of the hardware tasks, then of the levels
+-- The services of an application before one, its own, and those after it: of the hardware tasks, then of the levels
 -- of software tasks, and last of the monotonic.
 use Rattle.std.proofs.Common.{◌≡◌, ℕ, zero, suc, ◌+◌, ◌≤◌, List, [], ◌∷◌, ◌++◌, length, flat_map, take, drop}
 use Rattle.std.proofs.Common.{append-nil, append_assoc, Some, None, slice_get, refl, sym, ap, ◌∙◌, arith}

@@ -30,7 +30,7 @@ use std::alloc::Global;
 #[derive(Drop)]
 pub(crate) struct Code {
     pub(crate) lines: Vec<Line>,
-    /// Where the thread goes on behind `init`, which begins at 0.
+    /// Where the thread goes on after `init`, which begins at 0.
     pub(crate) idle: u32,
     /// Where the tasks begin, by their numbers.
     pub(crate) tasks: Vec<u32>,
@@ -67,7 +67,7 @@ fn push_wait(lines: &mut Vec<Line>) -> Result<u32, NoMemory>
     Ok(entry)
 }
 
-/// Appends what the thread does behind `init`, and answers where it begins: `idle`, or a wait where it is not declared.
+/// Appends what the thread does after `init`, and answers where it begins: `idle`, or a wait where it is not declared.
 fn push_idle(
     alloc: Global,
     plan: &Plan<'_>,
@@ -90,7 +90,7 @@ fn push_idle(
     }
 }
 
-/// Appends the code of a task of this kind, and tells where it begins; nothing for a task of the other.
+/// Appends the code of a task of this kind, and notes where it begins; nothing for a task of the other.
 fn push_task(
     alloc: Global,
     plan: &Plan<'_>,
@@ -121,7 +121,7 @@ fn push_task(
     Ok(())
 }
 
-/// Appends the code of the tasks of a kind, in order, and tells where they begin.
+/// Appends the code of the tasks of a kind, in order, and notes where they begin.
 fn push_tasks(
     alloc: Global,
     plan: &Plan<'_>,
@@ -192,7 +192,7 @@ fn push_timer(
 }
 
 /// Appends the code of `init`, of `idle`, of the hardware tasks, of the software tasks, of the dispatchers and of the
-/// timer handler, one behind the other.
+/// timer handler, one after the other.
 fn push_parts(
     alloc: Global,
     plan: &Plan<'_>,

@@ -1,6 +1,6 @@
 ghost use Rattle.rt_build.specs.Laws.{CodeKeepsLaws, FixedCodeHasOneImage};
 
-/// What holds of all code that stands, in every application's memory: it stands with more code behind it, with more
+/// What holds of all code that stands, in every application's memory: it stands with more code after it, with more
 /// steps than it needs, and whatever others do to what is not its own; and of each of its steps, what it does, which
 /// masks and frames it leaves, what a section takes over and gives back, and where the ends lead.
 pub fn code_that_stands_keeps_its_laws()

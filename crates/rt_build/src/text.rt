@@ -15,7 +15,7 @@ use rt_parse::parse;
 use std::alloc::Global;
 
 /// The application of a text, or the refusal of the text: that it is too long; or else what is met first from the left,
-/// a foreign byte, a place behind which no application goes on so, or a limit that is passed; or else the first rule
+/// a foreign byte, a place after which no application goes on so, or a limit that is passed; or else the first rule
 /// that is broken, that at the first place, and there that of the lowest refusal number.
 pub fn accept(alloc: Global, src: &[u8]) -> Result<App, Refused>
     ensures ok { IfOk result (λ app. IsApplication src.now (app_of app)) }

@@ -10,14 +10,14 @@ use rt_app::{App, Body, Listed};
 use rt_ids::NoMemory;
 use std::alloc::Global;
 
-/// Counts a listing by a body of this priority.
+/// Raises the entry of the resource that a body of this priority lists.
 fn count_listing(tables: &mut Tables, priority: u8, listing: Listed)
     ensures { tables.new ≡ tables_after_listing priority tables.old listing }
 {
     raise(&mut tables.shared, listing.resource.0, priority);
 }
 
-/// Counts the listings of a body of this priority.
+/// Raises the entries of the resources that a body of this priority lists.
 fn count_listed(tables: &mut Tables, priority: u8, listings: &[Listed])
     ensures { tables.new ≡ fold (tables_after_listing priority) tables.old listings.now }
 {
@@ -26,7 +26,7 @@ fn count_listed(tables: &mut Tables, priority: u8, listings: &[Listed])
     }
 }
 
-/// Counts a body of this priority.
+/// Raises the entries of what a body of this priority uses.
 fn count_body(tables: &mut Tables, app: &App, priority: u8, body: &Body)
     ensures { let block = block_of body.now.block.items in
         tables.new ≡ tables_after_body (app_of app.now) priority body.now.shared.items block tables.old }
@@ -35,7 +35,7 @@ fn count_body(tables: &mut Tables, app: &App, priority: u8, body: &Body)
     count_block(tables, app, priority, &body.block);
 }
 
-/// Counts `init` or `idle`.
+/// Raises the entries of what `init` or `idle` uses.
 fn count_thread(tables: &mut Tables, app: &App, body: &Option<Body>)
     ensures { tables.new ≡ used_by_thread (app_of app.now) tables.old (option_map body_of body.now) }
 {
@@ -44,7 +44,7 @@ fn count_thread(tables: &mut Tables, app: &App, body: &Option<Body>)
     }
 }
 
-/// Counts the tasks.
+/// Raises the entries of what the tasks use.
 fn count_tasks(tables: &mut Tables, app: &App)
     ensures { tables.new ≡ fold (used_by_task (app_of app.now)) tables.old (map task_of app.now.tasks.items) }
 {

@@ -80,7 +80,8 @@ pub(crate) fn ready_rows(
     Ok(ready)
 }
 
-/// The ceiling of the timer queue, where there is a monotonic and bodies up to this priority enter that queue.
+/// The ceiling of the timer queue, `None` without a monotonic: the greater of its priority and this one, the greatest
+/// of the bodies that use the queue.
 pub(crate) fn timer_row(mono: Option<Mono>, priority: u8) -> Option<u8>
     ensures { result ≡ rows.timer_row mono priority }
 {

@@ -35,7 +35,7 @@ fn mover_priority(mono: Option<Mono>) -> u8
     }
 }
 
-/// Counts a spawn by a body of this priority.
+/// Raises the entries of what a spawn by a body of this priority uses.
 fn count_spawn(tables: &mut Tables, app: &App, priority: u8, spawn: &Spawn)
     ensures { tables.new ≡ tables_after_spawn (app_of app.now) priority tables.old (spawn_of spawn.now) }
 {
@@ -60,7 +60,7 @@ fn count_spawn(tables: &mut Tables, app: &App, priority: u8, spawn: &Spawn)
     }
 }
 
-/// Counts the spawn that a variable is bound to.
+/// Raises the entries of what the spawn uses that a variable is bound to, by a body of this priority.
 fn count_value(tables: &mut Tables, app: &App, priority: u8, value: &Value)
     ensures { tables.new ≡ fold (tables_after_spawn (app_of app.now) priority) tables.old
         (value_spawns (value_of value.now)) }
@@ -70,7 +70,7 @@ fn count_value(tables: &mut Tables, app: &App, priority: u8, value: &Value)
     }
 }
 
-/// Counts the spawns of a statement.
+/// Raises the entries of what the spawns of a statement use, by a body of this priority.
 #[cycle(block)]
 fn count_statement(tables: &mut Tables, app: &App, priority: u8, stmt: &Stmt)
     ensures { let made = statement_spawns (statement_of stmt.now) in
@@ -91,10 +91,11 @@ fn count_statement(tables: &mut Tables, app: &App, priority: u8, stmt: &Stmt)
     }
 }
 
-/// Counts the spawns of a block.
+/// Raises the entries of what the spawns of a block use, by a body of this priority.
 #[cycle(block)]
 pub(crate) fn count_block(tables: &mut Tables, app: &App, priority: u8, block: &[Stmt])
-    ensures { tables.new ≡ fold (tables_after_spawn (app_of app.now) priority) tables.old (spawns (block_of block.now)) }
+    ensures { let made = spawns (block_of block.now) in
+        tables.new ≡ fold (tables_after_spawn (app_of app.now) priority) tables.old made }
 {
     for stmt in block {
         count_statement(tables, app, priority, stmt);

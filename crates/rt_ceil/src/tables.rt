@@ -15,7 +15,7 @@ pub(crate) struct Tables {
     pub shared: Vec<u8>,
     /// By task.
     pub free: Vec<u8>,
-    /// By level. Of a task that is spawned after a delay the monotonic counts, and not the body.
+    /// By level. A spawn after a delay counts with the monotonic's priority, not the body's.
     pub ready: Vec<u8>,
     pub timer: u8,
 }

@@ -178,7 +178,7 @@ module _ (b : Body) (p : Scope) (r offset : ℕ) (inner : Block) (sound : IsSoun
         })));
   }
 
--- behind a statement all is in scope that was, and what is new is the next variable
+-- after a statement all is in scope that was, and what is new is the next variable
 behind_more : (app : App) (listed : List ℕ) (n : ℕ) (visible : List ℕ) (s : Statement) (y : ℕ) → Contains visible y
     → Contains (behind app listed n visible s) y
 behind_more app listed n visible (Bind x v) y here = contains_there n visible y here

@@ -189,7 +189,7 @@ abbrev pub valued : Body → Here → Expression → List ℕ → Here
 valued b h e slots =
     record h { done = h.done + expression_steps e; slots = slots; at = h.at + length (value_code b.c e) }
 
--- It comes there, and the lines behind it begin.
+-- It comes there, and the lines after it begin.
 pub with_value : {b : Body} {p : Scope} {visible : List ℕ} {h : Here} {lines : List Line} {vars : List ℕ} {vs : Values}
     {total : ℕ} {later : Later} (e : Expression) (cost : ℕ) → expression_steps e + cost ≤ total → Sound b p e
     → IsViablePrefix b p h (value_code b.c e ++ lines) total vars vs

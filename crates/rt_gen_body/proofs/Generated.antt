@@ -27,7 +27,7 @@ use Rattle.rt_gen_body.specs.Inside.{Generating.slots_code, Values.Context}
 use Rattle.rt_gen_body.specs.Inside.Blocks.{EndsWith, block_code, branch_code, first_code, statement_code, two_code}
 use Rattle.rt_gen_body.specs.Inside.Whole.{blocks_of, code_of, guards_of}
 
--- the address behind lines
+-- the address after lines
 pub behind_at : (n : ℕ) (xs ys : List Line) → n + length (xs ++ ys) ≡ n + length xs + length ys
 behind_at n xs ys = omega (arith, length-append xs ys)
 
@@ -42,7 +42,7 @@ pub behind_loop : (n : ℕ) (xs head one ys back : List Line) → n + length (((
     ≡ n + length xs + (length head + length one) + length ys + length back
 behind_loop n xs head one ys back = simp length-append (omega arith)
 
--- a line in place of the one behind three, and of the one behind a line and others
+-- a line in place of the one after three, and of the one after a line and others
 pub fourth_seam : (o : List Line) (x y z old new : Line) (rest : List Line)
     → slice_set (o ++ x ∷ y ∷ z ∷ old ∷ rest) (length (o ++ x ∷ y ∷ z ∷ [])) new ≡ o ++ x ∷ y ∷ z ∷ new ∷ rest
 fourth_seam o x y z old new rest =
@@ -56,7 +56,7 @@ between_seam o one two ahead old new =
     rw (long, ← append_assoc o (ahead ∷ one) (old ∷ two))
     (set-append_seam (o ++ ahead ∷ one) old two new ∙ append_assoc o (ahead ∷ one) (new ∷ two))
 
--- the code of a block, and of what stands behind it
+-- the code of a block, and of what comes after it
 pub block_code-append : (c : Context) (threshold lock at : ℕ) (xs ys : List Stmt)
     → block_code c threshold lock at (block_of (xs ++ ys))
     ≡ block_code c threshold lock at (block_of xs) ++ block_code c threshold lock
@@ -82,7 +82,7 @@ pub two_emitted : (c : Context) (b q r : Made) (first second : ℕ → List Line
     → Appends b r (two_code c (next_address b) first second)
 two_emitted c b q r first second e f = rw (f, e) (simp (behind_at, longer, append_assoc, between_seam))
 
--- lines and none behind them
+-- lines and none after them
 pub appends_none : (code : Made) → Appends code code []
 appends_none code = ap (λ (xs : List Line). record code { lines = xs }) (sym (append-nil code.lines))
 
@@ -160,7 +160,7 @@ guards_are plan planned bits tops guards same is made =
     (is ∙ ap (λ (c : Ceilings). c.shared) planned.ceilings)
     ∙ map-map (guard_of_ceiling app.bits) (λ r. ceiling app (section.Res r)) (range_with_len 0 (length app.shared))
 
--- what is generated behind other code stands
+-- what is generated after other code stands
 module _ {app : App} (accepted : IsAccepted app) (front : List Line) where
   task_of_code : (n : ℕ) (more : List Line)
       → DeclaredStands app n ((front ++ code_of app (body.Task n) (member_at app (body.Task n)) (length front)) ++ more)

@@ -26,7 +26,7 @@ BlockPerforms b p block =
     (run_block b.z.app block)
 
 module _ {b : Body} {p : Scope} where
-  -- A test and the jump behind it: the value decides where the code goes on.
+  -- A test and the jump after it: the value decides where the code goes on.
   decides : {visible : List ℕ} {h : Here} {vars : List ℕ} {vs : Values} {total : ℕ} {later : Later} {more : List Line}
       (e : Expression) (to cost : ℕ) → expression_steps e + suc cost ≤ total
       → Sound b p e → IsViablePrefix b p h (value_code b.c e ++ plain (instr.JumpZ b.c.expressions to)
@@ -54,7 +54,7 @@ module _ {b : Body} {p : Scope} where
       })) next
       (on slots begins1 (subst (λ n. HasCode b.z.code n more) (sym next) begins1.has.1) behind1 stop refl)))
 
-  -- a block behind a jump
+  -- a block after a jump
   begins_block : {h : Here} {lines : List Line} {cost : ℕ} {vars : List ℕ} {vs : Values} (block : Block) (at : ℕ)
       → HasCode b.z.code at (block_code b.c p.threshold p.lock at block)
       → suc (block_steps (cost_measure b.z.app) block) ≤ cost → IsViablePrefix b p h lines cost vars vs

@@ -133,7 +133,7 @@ module _ {z : Setting} {m : Member} {words : ℕ} (w : IsBody z m words) where
     lock = first_lock_slot m.args m.body;
   }
 
-  -- from its arguments on its blocks stand before what is correct behind them
+  -- from its arguments on its blocks stand before what is correct after them
   blocks_stand : (until left entry : ℕ) (rest : Rest) (s : State)
       → Lasts (block_steps (cost_measure z.app) m.body.block) (until ∷ left ∷ []) → Given z m words entry s
       → ((t : State) → t.done ≤ block_steps (cost_measure z.app) m.body.block → length t.cells ≡ length (memory z.app)
@@ -288,12 +288,12 @@ thread_stands z id (Some b) entry w ending =
       word = omega (arith, w.room);
     }) refl w.has ending
 
--- the code of a body, declared or not: its blocks, and its last line behind them
+-- the code of a body, declared or not: its blocks, and its last line after them
 pub record BodyThere (app : App) (id : BodyId) (o : Option Member) (code : List Line) (entry : ℕ) : Type 0 where
   pub blocks : HasCode code entry (blocks_of app o entry)
   pub last : slice_get code (entry + length (blocks_of app o entry)) ≡ Some (end_line app id entry)
 
--- behind other code, and with more behind it
+-- after other code, and with more after it
 pub body_between : (app : App) (id : BodyId) (o : Option Member) (front more : List Line)
     → BodyThere app id o ((front ++ code_of app id o (length front)) ++ more) (length front)
 body_between app id o front more =

@@ -147,7 +147,7 @@ pub record State : Type 0 where
   pub queues : Location → List Entry
   pub vs : Values
 
--- behind them, with these variables in scope: the variables of loops are in their slots as before
+-- after them, with these variables in scope: the variables of loops are in their slots as before
 pub record Settled (b : Body) (fixed visible : List ℕ) (h : Here) (t : State) : Type 0 where
   pub known : Knows b h.held visible t.slots t.cells t.vars t.vs
   pub kept : (x : ℕ) → Contains fixed x → slice_index t.slots x ≡ slice_index h.slots x
@@ -156,7 +156,7 @@ abbrev pub then_at : Here → ℕ → State → Doing Values → Here
 then_at h at t rest =
     record h { done = t.done; slots = t.slots; at = at; cells = t.cells; queues = t.queues; rest = rest }
 
--- the code behind some lines is correct, where they have taken no more than so many steps
+-- the code after some lines is correct, where they have taken no more than so many steps
 pub record Behind (b : Body) (p : Scope) (visible : List ℕ) (h : Here) (size cost : ℕ) (later : Later) : Type 0 where
   pub on : (t : State) → t.done ≤ h.done + cost → Settled b p.fixed visible h t
       → S b.z (then_at h (h.at + size) t (later t.vars t.vs))
@@ -175,7 +175,7 @@ named {z = z} {h = h} {done = done} {at = at} done_is at_is rest_is correct =
     (subst (λ (a : ℕ). S z (record h { done = done; at = a })) (sym at_is)
     (subst (λ (r : Doing Values). S z (record h { done = done; at = at; rest = r })) (sym rest_is) correct))
 
--- behind some lines the code is correct, wherever they have led by another name
+-- after some lines the code is correct, wherever they have led by another name
 pub goes_behind : {b : Body} {p : Scope} {h : Here} {visible slots cells vars : List ℕ} {size cost done at : ℕ}
     {queues : Location → List Entry} {vs : Values} {later : Later} → Behind b p visible h size cost later
     → at ≡ h.at + size → done ≤ h.done + cost → Knows b h.held visible slots cells vars vs
@@ -193,7 +193,7 @@ goes_behind {slots = slots} {cells = cells} {vars = vars} {done = done} {queues 
     let t : State = record { done = done; slots = slots; cells = cells; vars = vars; queues = queues; vs = vs } in
     named refl at_is refl (behind.on t less (record { known = known; kept = kept }))
 
--- so what is behind them is behind their last ones, which begin where loops' variables are as before
+-- so what is after them is after their last ones, which begin where loops' variables are as before
 pub still_behind : {b : Body} {p : Scope} {h : Here} {visible slots cells : List ℕ} {size few cost steps done at : ℕ}
     {queues : Location → List Entry} {rest : Doing Values} {later : Later} → Behind b p visible h size cost later
     → at + few ≡ h.at + size → done + steps ≤ h.done + cost

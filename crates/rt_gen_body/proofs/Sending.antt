@@ -58,7 +58,7 @@ pub record SoundSpawn (b : Body) (p : Scope) (q : Spawn) : Type 0 where
   pub sound : IsSoundSpawn b.z.app b.m p.locked q
   pub placed : IsSpawnPlaced b.z.app (listed_by b.m) p.visible q
 
--- what is left behind fewer steps is no less
+-- what is left after fewer steps is no less
 least_left : (done used steps : ℕ) (deadlines : List ℕ) → used ≤ steps
     → AreAtLeast (left_at (done + steps) deadlines) (map (λ n. n - used) (left_at done deadlines))
 least_left done used steps [] less = tt
@@ -78,7 +78,7 @@ module _ {b : Body} {p : Scope} {h : Here} {vars : List ℕ} {vs : Values} (q : 
   abbrev left : ℕ
   left = h.until - h.done - goes_steps b.z.app q
 
-  -- it goes by its law, since what is behind its lines is correct in as many steps as are left
+  -- it goes by its law, since what is after its lines is correct in as many steps as are left
   by_law : {lines : List Line} → goes_code b.c p.threshold h.at q ≡ lines
       → (HasCode b.z.code h.at lines → StandsBefore b.z.app b.z.who b.z.code b.z.bodies b.z.thread
       (goes_steps b.z.app q) b.c.spawns lines rest left (configuration b.z h) vs) → S b.z h

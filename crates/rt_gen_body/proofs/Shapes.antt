@@ -85,7 +85,7 @@ module _ {app : App} (m : Member) (accepted : IsAccepted app) where
       let one = spawned app task accepted parts.1 in
       fine one.0 (timer_named app accepted parts.0) one.1)
 
-  -- what goes of a spawn behind its values, which are as many as the rule leaves room for
+  -- what goes of a spawn after its values, which are as many as the rule leaves room for
   goes_fine : (threshold at : ℕ) (s : Spawn) → (most : ℕ) × Fine app (goes_code c threshold at s) most
       × (expressions_steps (values_of s) + most ≤ spawn_steps (size_measure app) s)
   goes_fine threshold at (Soon task args offset) = (
@@ -148,7 +148,7 @@ module _ {app : App} (m : Member) (accepted : IsAccepted app) where
       (both (expression_fine right free (next_slot free)) (one_line (plain (instr.Calc o slot slot free)) tt)))
       (omega arith)
 
-  -- a value, and a line behind it
+  -- a value, and a line after it
   valued : (e : Expression) (last : Line) → AreClaimed (names_of app) (last ∷ [])
       → Fine app (value_code c e ++ last ∷ []) (expression_steps e + 1)
   valued e last named = both (expression_fine e c.expressions (next_slot c.expressions)) (one_line last named)

@@ -211,8 +211,8 @@ fn generate(
 /// Appends the code of a body of an application to code, and answers the address where it begins. Its lines name only
 /// what the application declares, and there are no more of them than the rule on sizes counts for the body: one for
 /// `init` or `idle` where it is not declared. The last one is the body's end, and those of a body that emits literals
-/// and pends interrupts alone are fixed. It stands there, whatever is appended later: `init` leads to what stands
-/// behind it, `idle` back to its first instruction, a task that is bound to an interrupt returns, and one that
+/// and pends interrupts alone are fixed. It is correct there, whatever is appended later: `init` leads to what comes
+/// after it, `idle` back to its first instruction, a task that is bound to an interrupt returns, and one that
 /// dispatchers call goes back. An error leaves the code as it was.
 pub fn gen_body(
     alloc: Global,

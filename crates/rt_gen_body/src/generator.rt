@@ -20,7 +20,7 @@ pub(crate) struct Generator<'a> {
     pub(crate) rows: &'a ArmedRows<'a>,
     /// Of each shared resource.
     pub(crate) guards: &'a [Guard],
-    /// The cell of the first local resource; the shared ones stand before it.
+    /// The cell of the first local resource; the shared ones are before it.
     pub(crate) locals: u16,
     /// The first slot where expressions are evaluated.
     pub(crate) expressions: u32,
@@ -122,7 +122,7 @@ impl<'a> Generator<'a> {
         }
     }
 
-    /// An assignment, to whatever its name stands for.
+    /// An assignment, to whatever its name means.
     pub(crate) fn assign(&self, atom: Atom, expr: &Expr, code: &mut Lines) -> Result<(), NoMemory>
         ensures { OnOk result (Appends code.old code.new
             (simple.assign_code (context self.now) atom (expression_of expr.now))) }

@@ -24,7 +24,7 @@ pub(crate) enum Timed {
 }
 
 impl<'a> Generator<'a> {
-    /// The values of arguments come into the slots from one on.
+    /// The values of arguments come into the slots from `slot` on.
     fn arguments(&self, args: &[Expr], slot: u32, code: &mut Lines) -> Result<(), NoMemory>
         ensures { OnOk result (Appends code.old code.new
             (values.arguments_code (context self.now) (map expression_of args.now) slot)) }
@@ -37,7 +37,7 @@ impl<'a> Generator<'a> {
         Ok(())
     }
 
-    /// The lines of the spawn of a software task, whose arguments stand in the slots from one on, at a static
+    /// The lines of the spawn of a software task, whose arguments are in the slots from `spawns` on, at a static
     /// preemption threshold.
     fn push_spawn(&self, threshold: u8, task: TaskId, code: &mut Lines) -> Result<(), NoMemory>
         requires ready { IsReady self.now }
@@ -72,8 +72,8 @@ impl<'a> Generator<'a> {
         }
     }
 
-    /// The lines of a call that goes to the timer queue for a software task, whose delay, arguments and handle stand in
-    /// the slots from one on, at a static preemption threshold.
+    /// The lines of a call that goes to the timer queue for a software task, whose delay, arguments and handle are in
+    /// the slots from `spawns` on, at a static preemption threshold.
     fn push_timed(
         &self,
         kind: Timed,

@@ -32,7 +32,7 @@ fn guard_at(generator: &Generator<'_>, resource: ResId) -> Guard
     }
 }
 
-/// The number of a declared interrupt, by its index; one that is not declared has none, and 0 stands for it.
+/// The number of a declared interrupt, by its index, and 0 where it is not declared.
 fn irq_number(generator: &Generator<'_>, irq: u8) -> Irq
     ensures { result ≡ slice_index (context generator.now).numbers irq }
 {
@@ -64,7 +64,7 @@ impl<'a> Generator<'a> {
         Ok(())
     }
 
-    /// The first of two blocks, whose test has been made, and a jump over the second, which is told where it stands.
+    /// The first of two blocks, whose test has been made, and a jump over the second; answers the index of that jump.
     #[cycle(block)]
     fn choose_first(
         &self,
@@ -92,7 +92,7 @@ impl<'a> Generator<'a> {
         Ok(end)
     }
 
-    /// The second of two blocks, behind which the jump at an index is to lead.
+    /// The second of two blocks, past which the jump at an index is to lead.
     #[cycle(block)]
     fn choose_second(
         &self,
@@ -156,7 +156,7 @@ impl<'a> Generator<'a> {
         ])
     }
 
-    /// The lines behind a turn, which lead to the loop's test, behind its first line at an address.
+    /// The lines after a turn: the variable rises by one, and a jump to the loop's test, which is at `entry + 1`.
     fn loop_tail(&self, variable: u32, entry: u32, code: &mut Lines) -> Result<(), NoMemory>
         ensures { OnOk result (Appends code.old code.new (blocks.loop_back (context self.now) variable (entry + 1))) }
     {
@@ -240,7 +240,7 @@ impl<'a> Generator<'a> {
         }
     }
 
-    /// The statements of a block, one behind the other.
+    /// The statements of a block, one after the other.
     #[cycle(block)]
     pub(crate) fn block(
         &self,

@@ -140,7 +140,7 @@ module _ {d : Dispatcher} {cells : List ℕ} {queues : Location → List Entry} 
         (subst (HasCode d.code to) (start_placed (queue_at d.app d.level) (callee_of d.app o.task row t) to)
         (subst (λ a. HasCode d.code to (start_code a)) same has)))
 
-    -- the code of the task of the message, behind the test
+    -- the code of the task of the message, after the test
     task_run : {done until deadline at from : ℕ} {w : Words}
         → 19 + most d + done ≤ until → done + 21 ≤ deadline → from ≡ at + (2 + t.args)
         → HasCode d.code at (plain (instr.Set 7 t.args) ∷ plain (instr.Calc op.Mul 7 9 7)
@@ -216,7 +216,7 @@ module _ {d : Dispatcher} {cells : List ℕ} {queues : Location → List Entry} 
       let e : t ≡ its_task.0 = same_Some t its_task.0 (sym here ∙ ap (slice_get d.app.tasks) same ∙ its_task.1) in
       cc (e, its_task.2, other)
 
-  -- where it is of a task behind another one, that one is not the last of the level
+  -- where it is of a task after another one, that one is not the last of the level
   leads_behind : {n : ℕ} (first behind : ℕ) → n ≤ o.task → n ≢ o.task
       → next_for (exit_of d.app d.level first) n behind ≡ behind
   leads_behind {n = n} first behind before differs =

@@ -62,7 +62,7 @@ module _ (d : Dispatcher) (at : ℕ) (choices : HasCode d.code (at + 18) (choice
             (λ location kept. (represented_agreed [] represented agree).each location (or_left _ _ kept));
       })
 
-  -- the moment and the words behind its taking
+  -- the moment and the words after its taking
   abbrev behind_taking : Moment → List ℕ → Moment
   behind_taking m stored = record m { done = steps_and 12 m.done; at = steps_and 12 m.at; cells = stored }
 

@@ -43,7 +43,7 @@ abbrev with_task : Site → Made → ℕ → ℕ → Option Task → Made
 with_task s made n r task =
     record made { lines = made.lines ++ task_code s.app s.level s.exit (next_address made) n r task }
 
--- what is left behind the lines of a task
+-- what is left after the lines of a task
 rest_next : (s : Site) (made : Made) (n r : ℕ) (t : Task) (ts : List Task) → with_rest s made n r (t ∷ ts)
     ≡ with_rest s (with_task s made n r (Some t)) (n + 1) (r + from_bool (is_software t)) ts
 rest_next s made n r t ts =
@@ -83,7 +83,7 @@ no_task app items n is beyond =
     slice_get_past (map task_of app.tasks.items) n (subst (λ k. k ≤ n)
     (ap (λ (xs : List row.Task). length xs) is ∙ sym (length-map app.tasks.items task_of)) beyond)
 
--- what is left behind the lines of a task of the code
+-- what is left after the lines of a task of the code
 pub choices_next : (s : Site) (items : List row.Task) (made : Made) (r : ℕ) {n : ℕ} {t : row.Task}
     → n < length items → t ≡ get_or items n t → with_rest s made n r (map task_of (drop n items))
     ≡ with_rest s (with_task s made n r (slice_get (map task_of items) n)) (n + 1)

@@ -31,7 +31,7 @@ pub record MayLoadAll (d : Dispatcher) (s : Spread) (h : Here) (more from : ℕ)
   pub behind : slice_index h.slots 7 ≡ s.behind
   pub time : InTime (h.done + more) h
 
--- slots in which they are, behind some that were there before, and which are as before from there on
+-- slots in which they are, after some that were there before, and which are as before from there on
 pub record AreLoaded (d : Dispatcher) (s : Spread) (cells begin before after : List ℕ) (from more : ℕ) : Type 0 where
   pub begins : take s.count after ≡ begin ++ map (slice_index cells) (range_with_len (first_of d s + from) more)
   pub late : (k : ℕ) → s.count ≤ k → slice_index after k ≡ slice_index before k

@@ -27,7 +27,7 @@ pub record HasOldest (d : Dispatcher) (cells : List ℕ) (queues : Location → 
   pub queue : queues (Guarded (section.Ready d.level)) ≡ o ∷ es
   pub represents : RepresentsReady d.app (slice_index cells) d.level (o ∷ es) (vs (Guarded (section.Ready d.level)))
 
--- the queue without it, by the cells behind two stores
+-- the queue without it, by the cells after two stores
 pub record IsTaken (d : Dispatcher) (cells stored : List ℕ) (o : Entry) (es : List Entry) : Type 0 where
   pub long : length stored ≡ length cells
   pub elsewhere : (c : ℕ) → ¬ (home_of d.app c ≡ At (Guarded (section.Ready d.level)))

@@ -107,7 +107,7 @@ module _ {d : Dispatcher} (c : Chosen d) where
   abbrev Kept : Moment → Values → Type 0
   Kept m vs = AreRepresented d.app d.level m.cells m.queues vs
 
-  -- what is left to do behind the start of a message
+  -- what is left to do after the start of a message
   abbrev behind : Rest
   behind = act_all (Returns ∷ []) nothing
 
@@ -232,7 +232,7 @@ module _ {d : Dispatcher} (c : Chosen d) where
       leaves d.level refl refl refl represents
       (λ ws agree. free_run (omega arith) holds (represented_agreed [] represented agree))
 
-  -- it starts, and the lines behind go on with its place in the hands
+  -- it starts, and the lines after it go on with its place in the hands
   started : {m : Moment} {w : Words} {vs : Values} {deadline : ℕ} {es : List Entry} {lines : List Line}
       (rest : Rest) → IsOldest d m.cells m.queues vs entry_of es → HoldsIn w
       → ((ws : Values) (queues : Location → List Entry) → AreRepresented d.app d.level m.cells queues ws

@@ -17,8 +17,8 @@ use Rattle.rt_gen_queue.specs.Line.{Line, HasCode}
 use Rattle.rt_gen_queue.specs.Called.{row_for, rows_for, CalledBodyStands}
 use Rattle.rt_gen_disp.specs.Code.{dispatcher_code}
 
--- Where a dispatcher of a level stands: its code is at an address, and beside it are the rows of the bodies by their
--- entries, of which those of the level's tasks stand when they are called.
+-- Where the code of a level's dispatcher is: at an address, and beside it are the rows of the bodies by their entries,
+-- of which those of the level's tasks stand when they are called.
 pub record DispatcherAt (app : App) (level : ℕ) : Type 0 where
   pub code : List Line
   pub address : ℕ

@@ -12,10 +12,10 @@ use rt_gen_queue::{Guard, Lines, ReadyQueue};
 use rt_ids::limits::CAPACITY;
 use rt_ids::{NoMemory, Op, Prio, Section};
 
-/// How far behind the first line a dispatcher returns, where nothing is ready.
+/// How far after the first line a dispatcher returns, where nothing is ready.
 pub(crate) const EMPTY_OFFSET: u32 = 4;
 
-/// How far behind the first line it takes the oldest message.
+/// How far after the first line it takes the oldest message.
 const TAKING_OFFSET: u32 = 6;
 
 /// Lines that look whether a message is of a task, up to where its arguments are loaded.
@@ -41,7 +41,7 @@ fn leave_line(guard: Guard, level: u8, section: Section) -> Line
     (guard.closing_instr(level, MASK), Some(Note::Leave(section)))
 }
 
-/// The lines before the tasks, the first of which will stand at this address.
+/// The lines before the tasks, the first of which will be at this address.
 pub(crate) fn push_front(queue: &ReadyQueue, entry: u32, lines: &mut Lines) -> Result<(), NoMemory>
     requires room { entry + TAKING_OFFSET < 2 ^ 32 }
     ensures { OnOk result (Appends lines.old lines.new (spec.front_lines queue.now entry)) }
@@ -71,7 +71,7 @@ pub(crate) fn push_front(queue: &ReadyQueue, entry: u32, lines: &mut Lines) -> R
     ])
 }
 
-/// Where a dispatcher goes with a message that is of no task of its level, behind the test of the last one.
+/// Where a dispatcher goes with a message that is of no task of its level, after the test of the last one.
 #[derive(Clone, Copy)]
 pub struct Exit {
     pub address: u32,
@@ -80,7 +80,7 @@ pub struct Exit {
 }
 
 impl Exit {
-    /// Where the test of a task leads, with the address behind the task's lines.
+    /// Where the test of a task leads, with the address after the task's lines.
     pub(crate) fn next_for(self, number: usize, behind: u32) -> u32
         ensures { result ≡ spec.next_for self number behind }
     {
@@ -145,7 +145,7 @@ fn push_start(
     ])
 }
 
-/// The lines of a task, the first of which will stand at an address; its test leads to another.
+/// The lines of a task, the first of which will be at an address; its test leads to another.
 pub(crate) fn push_choice(
     queue: &ReadyQueue,
     called: &Called,

@@ -1,4 +1,4 @@
-// The slots of a dispatcher's frame, behind the first four, which take the arguments of a message.
+// The slots of a dispatcher's frame, after the first four, which take the arguments of a message.
 
 /// The word of the message.
 pub const WORD: u32 = 4;

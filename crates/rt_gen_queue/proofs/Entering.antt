@@ -56,7 +56,7 @@ not_kept : (saved : List ℕ) (slot mask : ℕ) → AllByRecursion (λ d. d < sl
 not_kept saved slot mask below has =
     let less : slot + mask < slot = all_has (λ d. d < slot) saved (slot + mask) below has in omega arith
 
--- a section behind the line that opens it, whose own deadline is its cost from there
+-- a section after the line that opens it, whose own deadline is its cost from there
 abbrev pub within : Here → OpenSection → (cost : ℕ) → List ℕ → (Location → List Entry) → Doing Values → Here
 within h o cost cells queues rest = record h {
   held = o ∷ h.held;
@@ -230,7 +230,7 @@ section_stands {size = size} {mask = mask} {z = z} {f = f} {h = h} {x = x} {thre
     (record { time = time; saves = saves_below f h.held may.masks; long = long; fit = fits })
     (subst (HasCode z.code h.at) (section_placed x (guard_of z.app x) threshold mask f.slot lines) has)
 
--- what is so behind the section of a queue, from what was taken over in it
+-- what is so after the section of a queue, from what was taken over in it
 module _ {size mask : ℕ} {z : Setting} {f : Frame size mask} {h : Here} {x : Section} {threshold : ℕ} {vs ws : Values}
     {cells : List ℕ} {queues : Location → List Entry} (queue : IsQueue x) (may : MayEnter z f h x threshold)
     (taken : TakesOver (storage z.app) z.who x (spend_step (configuration z h)) vs ws cells queues) where

@@ -44,7 +44,7 @@ pub record HasTaken (z : Setting) (h : Here) (task : ℕ) (vs : Values) (e : Ent
   pub own : LeavesMine (storage z.app) z.who (configuration z h) cells queues
   pub agree : Agree (storage z.app) z.who h.held us vs
 
--- behind the lines, with the place in the hands
+-- after the lines, with the place in the hands
 abbrev pub with_place : Here → Entry → List ℕ → (Location → List Entry) → Doing Values → Here
 with_place h e cells queues rest =
     record (ahead 8 h) { places = e ∷ h.places; cells = cells; queues = queues; rest = rest }

@@ -78,7 +78,7 @@ all_above p (q ∷ ps) all =
     ap (λ b. length (if b then q ∷ filter (nat_lt p) ps else filter (nat_lt p) ps)) (lt-ltb p q all.0)
     ∙ ap suc (all_above p ps all.1)
 
--- those behind one are above it
+-- those after one are above it
 pub above_place : (ps : List ℕ) (k p : ℕ) → IsRising ps → slice_get ps k ≡ Some p → above p ps ≡ length ps - 1 - k
 above_place [] k p rising at = absurd (none-some p at)
 above_place (q ∷ ps) zero p rising at =
@@ -93,7 +93,7 @@ above_place (q ∷ ps) (suc k) p rising at =
     ap (λ b. length (if b then q ∷ filter (nat_lt p) ps else filter (nat_lt p) ps)) own
     ∙ omega (arith, above_place ps k p rising.1 at)
 
--- so many are behind a level in the tables
+-- so many are after a level in the tables
 pub above_is : (app : App) (p : ℕ) (ps : List ℕ) → IsRising ps → Contains ps p
     → length (map (row app) ps) - 1 - place_in (map (row app) ps) p ≡ above p ps
 above_is app p ps rising is =

@@ -29,7 +29,7 @@ nameable names (line ∷ lines) claimed =
     go None (instr.Alarm s irq) Rest needs = (record { instr = needs.0; note = tt }, needs.1)
     go None i Rest needs = (record { instr = tt; note = tt }, needs)
 
--- lines behind lines
+-- lines after lines
 pub claimed_both : (names : Names) (xs ys : List Line) → AreClaimed names xs → AreClaimed names ys
     → AreClaimed names (xs ++ ys)
 claimed_both names [] ys front back = back
@@ -49,7 +49,7 @@ pub claimed_each : {X : Type 0} (names : Names) (f : X → Line) (xs : List X)
 claimed_each names f [] each = tt
 claimed_each names f (x ∷ xs) each = claimed_both names (f x ∷ []) (map f xs) (each x) (claimed_each names f xs each)
 
--- what was put behind other lines
+-- what was put after other lines
 pub named_behind : (names : Names) (front new code : List Line) → new ≡ front ++ code → AreClaimed names code
     → AllByRecursion (IsNameable names) (drop (length front) new)
 named_behind names front new code is claimed =

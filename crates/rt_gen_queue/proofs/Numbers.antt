@@ -31,7 +31,7 @@ multiplied a b c is small = omega arith
 pub rest_of : (a b : ℕ) → 0 < b → operate op.Rem a b ≡ a % b
 rest_of a b some = grind (arith, nat_tests)
 
--- so many steps, and those of what comes behind
+-- so many steps, and those of what comes after
 abbrev pub steps_and : ℕ → ℕ → ℕ
 steps_and zero n = n
 steps_and (suc k) n = suc (steps_and k n)

@@ -171,7 +171,7 @@ represented_put app cells entries content queues us x represents =
     (sym (put_here app Starting us x content)) represents)
 
 module _ (z : Setting) where
-  -- values behind a section: what may be read without it is as it was
+  -- values after a section: what may be read without it is as it was
   pub agree_out : {after us ws : Values} (held : List OpenSection) (h : OpenSection) (x : Section) (content : Content)
       → reads (storage z.app) z.who held (Guarded x) ≡ false
       → Agree (storage z.app) z.who held after (values_with us (Guarded x) content)
@@ -181,7 +181,7 @@ module _ (z : Setting) where
       ∙ ap (λ (b : Bool). if b then content else us location) (other_location z.app z.who held x location none may)
       ∙ inner location (reads_more (storage z.app) z.who h held location may)
 
-  -- what is the job's own behind a section: only cells and the queue of the section are others
+  -- what is the job's own after a section: only cells and the queue of the section are others
   pub leaves_out : {cells after : List ℕ} {queues : Location → List Entry} (s : Configuration) (x : Section)
       (entries : List Entry) → reads (storage z.app) z.who s.held (Guarded x) ≡ false
       → LeavesMine (storage z.app) z.who s cells queues → length after ≡ length cells

@@ -19,7 +19,7 @@ code_behind code at to (line ∷ front) behind e (first, rest) =
     let next : to ≡ suc at + length front = omega arith in
     code_behind code (suc at) to front behind next rest
 
--- code behind a line
+-- code after a line
 code_later : (line : Line) (code : List Line) (at : ℕ) (lines : List Line) → HasCode code at lines
     → HasCode (line ∷ code) (suc at) lines
 code_later line code at [] has = tt

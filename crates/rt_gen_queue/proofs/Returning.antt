@@ -1,4 +1,4 @@
--- A place of a task goes back among those that are free: the line that does so, and what the cells represent behind it.
+-- A place of a task goes back among those that are free: the line that does so, and what the cells represent after it.
 use Rattle.rt_gen_queue.proofs.Vocabulary.{Agree, AllByRecursion, App, At, Content, Doing, Entry, Frees, Guarded, Line}
 use Rattle.rt_gen_queue.proofs.Vocabulary.{List, Number, Some, RepresentsFree, Task, Values, [], ap, arith, capacity_is}
 use Rattle.rt_gen_queue.proofs.Vocabulary.{capacity_of, count, count_more, does, effect, free_at, free_is_home, home_of}
@@ -51,7 +51,7 @@ pub record Returned (app : App) (n : ℕ) (t : Task) (cells : List ℕ) (entries
   pub less : place < t.capacity
   pub once : (x : Entry) → count x (entry_at n place ∷ []) + count x entries ≤ 1
 
--- what is so behind two stores
+-- what is so after two stores
 pub record IsGiven (app : App) (n : ℕ) (cells given : List ℕ) (entries : List Entry) (content : Content) : Type 0 where
   pub long : length given ≡ length cells
   pub elsewhere : (c : ℕ) → ¬ (home_of app c ≡ At (Guarded (section.Free n)))

@@ -127,7 +127,7 @@ spawn_stands c named q n k fuel on =
     readies : Rest
     readies = act_all (ready_actions app (task_priority app task) message) (rest 1)
 
-    -- behind all of it
+    -- after all of it
     ends_at : {cells : List ℕ} {queues : Location → List Entry} (granted used : ℕ) (r : Scratch) (us : Values)
         → granted ≤ 1 → used ≤ 32 → LeavesMine (storage app) who (configuration z h) cells queues
         → Agree (storage app) who s.held us vs

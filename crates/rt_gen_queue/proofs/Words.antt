@@ -1,5 +1,5 @@
 -- The nine slots that the code of a spawn works in, as words: the arguments, and what is worked with. A place or a
--- message as a word is behind the count and the index in the ring, a number beside these, and what the mask was.
+-- message as a word is after the count and the index in the ring, a number beside these, and what the mask was.
 use Rattle.rt_gen_queue.proofs.Vocabulary.{List, [], ℕ, ◌∷◌}
 
 pub record Arguments : Type 0 where

@@ -3,7 +3,7 @@ ghost use Rattle.std.specs.Prelude.{◌≡◌, length, IfOk};
 use rt_code::Line;
 use rt_ids::NoMemory;
 
-/// The address behind code. Where it has no 32 bits there is no memory for so much code either.
+/// The address after code. One that does not fit in 32 bits counts as want of memory.
 pub fn next_entry(code: &[Line]) -> Result<u32, NoMemory>
     ensures { IfOk result (λ entry. entry ≡ length code.now) }
 {

@@ -1,4 +1,4 @@
-// What code of bodies and of dispatchers stands on: lines, guards of sections, ready queues, and the code of spawns.
+// What code of bodies and of dispatchers is made with: lines, guards of sections, ready queues, and the code of spawns.
 #![tactic(auto)]
 
 pub mod entry;

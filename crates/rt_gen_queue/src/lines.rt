@@ -7,7 +7,7 @@ use rt_ids::NoMemory;
 use std::alloc::Global;
 use std::marker::Model;
 
-/// Appends lines to code. An error tells that memory is used up, and leaves the code as it was.
+/// Appends lines to code. An error says that memory is used up, and leaves the code as it was.
 pub fn append_lines(code: &mut Vec<Line>, lines: &[Line]) -> Result<(), NoMemory>
     ensures code { OnOk result (code.new.items ≡ code.old.items ++ lines.now) }
     ensures left { OnErr result (code.new.items ≡ code.old.items) }
@@ -15,7 +15,7 @@ pub fn append_lines(code: &mut Vec<Line>, lines: &[Line]) -> Result<(), NoMemory
     code.extend_from_slice(lines).ok().ok_or(NoMemory)
 }
 
-/// Lines of code as they are generated, one behind the other.
+/// Lines of code as they are generated, one after the other.
 pub struct Lines {
     /// The address of the first one.
     pub entry: u32,
@@ -37,7 +37,7 @@ impl Model for Lines {
 }
 
 impl Lines {
-    /// No lines, the first of which will stand at this address.
+    /// No lines, the first of which will be at this address.
     pub fn new(alloc: Global, entry: u32) -> Lines
         ensures { result ≡ record { entry = entry; lines = [] } }
     {
@@ -54,7 +54,7 @@ impl Lines {
         self.lines.len()
     }
 
-    /// The address of the next line. Where it has no 32 bits there is no memory for so much code either.
+    /// The address of the next line. One that does not fit in 32 bits counts as want of memory.
     pub fn next_address(&self) -> Result<u32, NoMemory>
         ensures at { IfOk result (λ at. at ≡ next_address self.now) }
         ensures cause { OnErr result (2 ^ 32 ≤ next_address self.now) }
@@ -65,7 +65,7 @@ impl Lines {
         }
     }
 
-    /// One more, without a note. An error tells that memory is used up, and leaves the lines as they were.
+    /// Appends a line without a note. An error says that memory is used up, and leaves the lines as they were.
     pub fn push(&mut self, instr: Instr) -> Result<(), NoMemory>
         ensures lines { OnOk result (Appends self.old self.new (plain instr ∷ [])) }
         ensures left { OnErr result (self.new ≡ self.old) }
@@ -73,7 +73,7 @@ impl Lines {
         self.append(&[(instr, None)])
     }
 
-    /// One more, with a note. An error tells that memory is used up, and leaves the lines as they were.
+    /// Appends a line with a note. An error says that memory is used up, and leaves the lines as they were.
     pub fn push_noted(&mut self, instr: Instr, note: Note) -> Result<(), NoMemory>
         ensures lines { OnOk result (Appends self.old self.new (line_with_note instr note ∷ [])) }
         ensures left { OnErr result (self.new ≡ self.old) }
@@ -81,7 +81,7 @@ impl Lines {
         self.append(&[(instr, Some(note))])
     }
 
-    /// Some more, in their order. An error tells that memory is used up, and leaves the lines as they were.
+    /// Appends lines, in their order. An error says that memory is used up, and leaves the lines as they were.
     pub fn append(&mut self, lines: &[Line]) -> Result<(), NoMemory>
         ensures lines { OnOk result (Appends self.old self.new lines.now) }
         ensures left { OnErr result (self.new ≡ self.old) }
@@ -89,7 +89,7 @@ impl Lines {
         append_lines(&mut self.lines, lines)
     }
 
-    /// Another instruction in place of one that stands there without a note.
+    /// Puts an instruction without a note in place of the line at an index.
     pub fn replace(&mut self, index: usize, instr: Instr)
         requires { index < length self.old.lines }
         ensures { self.new ≡ record self.old { lines = slice_set self.old.lines index (plain instr) } }

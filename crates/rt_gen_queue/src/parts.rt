@@ -34,8 +34,8 @@ fn leave_line(guard: Guard, threshold: u8, slot: u32, section: Section) -> Line
 }
 
 /// The lines that take a place of the task, in a body at a preemption threshold, or lead to the address `full` where
-/// none is left. The place comes into the seventh of the slots from one on; the fifth, the eighth and the ninth are
-/// used beside.
+/// none is left. The place comes into the seventh of the slots from `slot` on; the fifth, the eighth and the ninth are
+/// used too.
 pub fn place(target: &Target, threshold: u8, slot: u32, full: u32) -> [Line; 8]
     requires slots { slot + SPAWN_WORDS < 2 ^ 32 }
     ensures { result ≡ spec.place_lines target.now threshold slot full }
@@ -58,8 +58,8 @@ pub fn place(target: &Target, threshold: u8, slot: u32, full: u32) -> [Line; 8]
     ]
 }
 
-/// The lines that put a number into the eighth of the slots from one on, and then into another slot what an operation
-/// gives on the place in the seventh and that number.
+/// The lines that put a number into the eighth of the slots from `slot` on, and then into another slot the result of an
+/// operation on the place in the seventh and that number.
 fn with_place(op: Op, to: u32, number: u32, slot: u32) -> [Line; 2]
     requires slots { slot + SPAWN_WORDS < 2 ^ 32 }
     ensures { result ≡ plain (instr.Set (slot + 7) number)
@@ -86,9 +86,9 @@ fn store(target: &Target, slot: u32, lines: &mut Lines) -> Result<(), NoMemory>
     Ok(())
 }
 
-/// Appends the lines that store the arguments, which stand in the slots from one on, in the cells of the place in the
-/// seventh of these, and leave the word of its message there. The eighth is used beside. An error tells that memory is
-/// used up; then some of the lines may have been appended.
+/// Appends the lines that store the arguments, which are in the slots from `slot` on, in the cells of the place in the
+/// seventh of these, and leave the word of its message there. The eighth is used too. An error says that memory is used
+/// up; then some of the lines may have been appended, and those before are as they were.
 pub fn fill(target: &Target, slot: u32, lines: &mut Lines) -> Result<(), NoMemory>
     requires slots { slot + SPAWN_WORDS < 2 ^ 32 }
     requires few { target.now.args ≤ 4 }
@@ -101,7 +101,7 @@ pub fn fill(target: &Target, slot: u32, lines: &mut Lines) -> Result<(), NoMemor
     lines.append(&with_place(Op::Add, slot + 6, places, slot))
 }
 
-/// The lines that put the message whose word stands in the seventh of the slots from one on into the ring of its level,
+/// The lines that put the message whose word is in the seventh of the slots from `slot` on into the ring of its level,
 /// and pend the level's dispatcher, in a body at a preemption threshold. The fifth to the ninth slot are used.
 pub fn ready(target: &Target, threshold: u8, slot: u32) -> [Line; 12]
     requires slots { slot + SPAWN_WORDS < 2 ^ 32 }

@@ -27,7 +27,7 @@ pub struct ReadyQueue {
     pub irq: Irq,
 }
 
-/// The cell of a table at an index, and 0 where none stands there.
+/// The cell of a table at an index, and 0 where there is none.
 pub fn cell_at(cells: &[u16], index: usize) -> u16
     ensures { result ≡ slice_index cells.now index }
 {
@@ -54,7 +54,7 @@ fn index_of(queues: &[ReadyCeiling], level: u8) -> usize
     }
 }
 
-/// The ceiling of the ready queue at an index, and 0 where none stands there.
+/// The ceiling of the ready queue at an index, and 0 where there is none.
 fn ceiling_at(queues: &[ReadyCeiling], index: usize) -> u8
     ensures { result ≡ or_zero (option_map (λ r. r.ceiling) (slice_get queues.now index)) }
 {

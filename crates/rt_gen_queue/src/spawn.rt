@@ -25,8 +25,8 @@ use std::alloc::Global;
 /// Lines of a spawn, beside one for each argument.
 const SPAWN_LINES: u32 = 28;
 
-/// The address behind the lines of a spawn, by the address where they begin. Where that or the slots from one on have
-/// no 32 bits there is no memory for so much code either.
+/// The address after the lines of a spawn, by the address where they begin. A slot or an address that does not fit in
+/// 32 bits counts as want of memory.
 fn next_end(target: &Target, slot: u32, entry: u32) -> Result<u32, NoMemory>
     ensures end { IfOk result (λ end. end ≡ entry + (28 + target.now.args)) }
     ensures slots { OnOk result (slot + SPAWN_WORDS < 2 ^ 32) }
@@ -39,7 +39,7 @@ fn next_end(target: &Target, slot: u32, entry: u32) -> Result<u32, NoMemory>
         .ok_or(NoMemory)
 }
 
-/// Appends all lines of a spawn, the first of which will stand at an address.
+/// Appends all lines of a spawn, the first of which will be at an address.
 fn append_spawn(
     target: &Target,
     threshold: u8,
@@ -57,11 +57,12 @@ fn append_spawn(
     lines.append(&answer(target, threshold, slot, end))
 }
 
-/// Appends the code of a spawn of a software task, at a static preemption threshold, whose arguments stand in the slots
-/// from one on, and whose first line will stand at the address `entry`. It takes a place of the task, stores the
+/// Appends the code of a spawn of a software task, at a static preemption threshold, whose arguments are in the slots
+/// from `slot` on, and whose first line will be at the address `entry`. It takes a place of the task, stores the
 /// arguments, puts the message into the ready queue of the task's level and pends the level's dispatcher; the answer
 /// comes into the first slot: 1, or 0 where no place is left. It writes the 16 slots from there on alone. Its lines
 /// name only what the application declares, and there are at most 128 of them. An error leaves the code as it was.
+/// `NoMemory` is also the answer where a slot or an address would not fit in 32 bits.
 pub fn gen_spawn(
     alloc: Global,
     plan: &Plan<'_>,

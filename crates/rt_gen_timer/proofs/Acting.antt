@@ -64,7 +64,7 @@ pub record Columns (z : Setting) (q : TimerQueue) (held : List OpenSection) (cel
   pub long : length cells ≡ length (memory z.app)
   pub homes : (j : ℕ) → j < 3 + 4 * q.messages → home_of z.app (q.at + j) ≡ At (Guarded section.Timer)
 
--- as many cells are there behind a write
+-- as many cells are there after a write
 pub columns_on : {z : Setting} {q : TimerQueue} {held : List OpenSection} {cells after : List ℕ}
     → Columns z q held cells
     → length after ≡ length cells → Columns z q held after

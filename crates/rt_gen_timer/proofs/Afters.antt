@@ -257,7 +257,7 @@ module _ {c : Call} {cost delay : ℕ} {args : List ℕ} {h : Here} (k : SendsLa
         closed = may.closed;
       }
 
-      -- Once it is armed its handle is the answer, and a jump leads behind all lines.
+      -- Once it is armed its handle is the answer, and a jump leads past all lines.
       armed_ends : (handle : ℕ) (b : Left) → HasCalled z g us (arm_steps k.turns.turns) handle b
           → S z (Now (f may) (behind_call h (g.at + 46) (rest handle) b) (words b.words))
       armed_ends handle b armed =
@@ -514,7 +514,7 @@ module _ {c : Call} {cost delay : ℕ} {args : List ℕ} {h : Here} (k : SendsLa
         (omega (arith, steps_are (4 + args_of) (steps_and 8 h.done)))
         (omega (arith, steps_are (4 + args_of) (steps_and 8 h.at))) (armed_stands filled r2)))
 
-  -- The call is correct where it is correct behind it.
+  -- The call is correct where it is correct after it.
   after_goes : S z h
   after_goes =
       on_window may

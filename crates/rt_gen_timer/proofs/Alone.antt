@@ -32,7 +32,7 @@ timed_once app x e one other same =
     armed_place_once app x e (record { armed = one.0; within = one.2 })
     (record { armed = other.0; within = other.2 }) same
 
--- a cell that is none of the timer queue's lies before or behind them
+-- a cell that is none of the timer queue's lies before or after them
 pub beside_timer : (app : App) → IsSome app.mono → (c : ℕ) → ¬ (home_of app c ≡ At (Guarded section.Timer))
     → (c < timer_at app) ⊎ (timer_at app + (3 + 4 * armed_messages app) ≤ c)
 beside_timer app timed c other =

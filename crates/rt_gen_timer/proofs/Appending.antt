@@ -7,7 +7,7 @@ pub last : (before : Made) {after : Made} {made part : List Line} → Appends be
     → Appends before after part
 last before appended is = appended ∙ ap (λ (ls : List Line). record before { lines = before.lines ++ ls }) is
 
--- a part, and what is behind it
+-- a part, and what is after it
 pub then : (before : Made) {mid after : Made} {made part : List Line} (more : List Line) → Appends before mid made
     → made ≡ part → Appends mid after more → Appends before after (part ++ more)
 then before {part = part} more appended is behind =

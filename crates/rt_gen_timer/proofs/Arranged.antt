@@ -27,7 +27,7 @@ pub record IsPicked (armed_at : Entry → Armed) (entries : List Entry) (e : Ent
   pub found : search (map armed_at entries) ≡ Some (armed_at e)
   pub others : rest (map armed_at entries) ≡ map armed_at (before ++ behind)
 
--- it is the least armed one: those armed before it are of later instants, those behind it of no earlier ones
+-- it is the least armed one: those armed before it are of later instants, those after it of no earlier ones
 pub record IsLeast (armed_at : Entry → Armed) (entries : List Entry) (e : Entry) : Type 0 where
   pub picked : IsPicked armed_at entries e least without_least
   pub instant : least_instant (map armed_at entries) ≡ Some (armed_at e).instant

@@ -34,7 +34,7 @@ pub leaving_code : (z : Setting) (f : Slots) (threshold at : ℕ) (front behind 
 leaving_code z f threshold at front behind has = leaving_placed z.app threshold z.code f at front behind has
 
 -- a call that goes to the timer queue: for a task, at a preemption threshold, with the first of its slots, and what is
--- left behind it
+-- left after it
 pub record Call : Type 0 where
   pub z : Setting
   pub task : ℕ
@@ -112,13 +112,13 @@ module _ {c : Call} {steps : ℕ} {h : Here} (may : MayCall c steps h) where
     closed = may.closed;
   }
 
-  -- the code behind these lines is correct
+  -- the code after these lines is correct
   abbrev pub GoesBehind : List Line → Type 0
   GoesBehind lines =
       (answer : ℕ) (b : Left) → HasCalled c.z h c.values steps answer b
       → S c.z (Now f (behind_call h (h.at + length lines) (c.rest answer) b) (words b.words))
 
--- It begins: its lines, which take so many steps, are in the code, this is left to do, and it goes on behind them.
+-- It begins: its lines, which take so many steps, are in the code, this is left to do, and it goes on after them.
 pub record IsViablePrefix (c : Call) (steps : ℕ) (lines : List Line) (doing : Rest) (h : Here) : Type 0 where
   pub may : MayCall c steps h
   pub has : HasCode c.z.code h.at lines
@@ -181,7 +181,7 @@ module _ {i : Inside} (now : IsInside i) where
   queue_now agree =
       agree (Guarded section.Timer) (reads_it tt (may_enter now.may) now.taken) ∙ now.represents.is
 
-  -- The section closes with the alarm set, behind an action that changed the queue to this: all else is as it was.
+  -- The section closes with the alarm set, after an action that changed the queue to this: all else is as it was.
   pub settles : {lines : List Line} {done at : ℕ} {places es : List Entry} {after : List ℕ} {rest : Rest} {ws : Values}
       (change : Timed → Timed) (v : Words) → LeavesQueue i after es (change now.represents.timed) → AgreeInside i ws
       → v.count ≡ length es
@@ -259,7 +259,7 @@ pub task_of : (c : CallSite) → NamesTask c → Spawned c.app c.task c.t
 task_of c named = record { accepted = named.accepted; at = named.is_there; software = named.software }
 
 -- The code of a call stands for its actions where it is correct: a job that may use the timer queue may call, and
--- behind the call the answer is in the first slot, and slots outside the window are as they were.
+-- after the call the answer is in the first slot, and slots outside the window are as they were.
 pub stands_called : (c : Call) (s : Configuration) {lines : List Line} {doing : Rest} {steps n : ℕ}
     → Spawned c.z.app c.task c.t → IsSome c.z.app.mono → MayUseTimer c.z.app c.z.who steps c.threshold c.slot s
     → HasCode c.z.code s.address lines → s.rest ≡ doing c.values

@@ -49,7 +49,7 @@ module _ {c : Call} {handle : ℕ} {h : Here} (k : AsksCancel c handle h) where
   open c.z use {app, code, who}
   open k.call use {may, has, on}
 
-  -- the lines, as they stand; and the last ones of the section and those behind it, by the window
+  -- the lines, as they stand; and the last ones of the section and those after it, by the window
   abbrev all : List Line
   all = cancel_code app task threshold slot h.at
 
@@ -80,7 +80,7 @@ module _ {c : Call} {handle : ℕ} {h : Here} (k : AsksCancel c handle h) where
     is = k.call.is;
   }
 
-  -- The answer is 0, and it goes on behind the call.
+  -- The answer is 0, and it goes on after the call.
   gives_none : (b : Left) → HasCalled z h c.values (handle_steps app) 0
       (record b { done = steps_and 2 b.done; words = record b.words { answer = 0 } })
       → S z (Now (f may) (behind_call h (h.at + 87) (rest 0) b) (words b.words))
@@ -89,7 +89,7 @@ module _ {c : Call} {handle : ℕ} {h : Here} (k : AsksCancel c handle h) where
       (runs_call seek) (omega (arith, called.in_time)) refl (code_part code h.at all 87 2 has)
       (sets (jumps (on 0 _ called)))
 
-  -- behind the section of the timer queue, with the message in the hands
+  -- after the section of the timer queue, with the message in the hands
   record HasBack (e : Entry) (b : Left) : Type 0 where
     pub of_task : e.task ≡ task
     pub place : e.place < capacity_of app e.task
@@ -230,14 +230,14 @@ module _ {c : Call} {handle : ℕ} {h : Here} (k : AsksCancel c handle h) where
         at_work (seen seek o) begin to h.places cells o.queues
         (act (Cancels task handle) (leave_timer app freed_rest) o.values)
 
-    -- what slots have behind the removal
+    -- what slots have after the removal
     record AreOut (v : Words) : Type 0 where
       pub shown : v.answer ≡ handle
       pub place : v.place ≡ armed_place app e
       pub one : v.one ≡ 1
       pub count : v.count ≡ length is.now.represents.heap - 1
 
-    -- Behind the removal the mark takes it into the hands, and the section closes.
+    -- After the removal the mark takes it into the hands, and the section closes.
     takes_out : {b : LoopEnd} (v : Words) → AreOut v → IsRemoved removal (here done (h.at + 17) o.cells) b
         → S z (Now (f may) (here b.done (h.at + 71) b.cells) (words v))
     takes_out {b = b} v are gone =

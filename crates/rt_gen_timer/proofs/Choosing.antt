@@ -24,7 +24,7 @@ not_fired app threshold at n t made other =
     ap (λ (ls : List Line). record made { lines = ls })
     (sym (append-nil made.lines) ∙ ap (λ b. made.lines ++ (if b then own else [])) (sym other))
 
--- where the choices of the timer handler begin, behind the lines made before
+-- where the choices of the timer handler begin, after the lines made before
 pub record Start : Type 0 where
   pub app : App
   pub threshold : ℕ
@@ -41,7 +41,7 @@ with_rest s made n ts = record made { lines = made.lines ++ choices_code s.app s
 abbrev pub AreLeft : Start → ℕ → Made → Type 0
 AreLeft s n made = with_rest s s.old 0 s.app.tasks ≡ with_rest s made n (drop n s.app.tasks)
 
--- behind the last task there are none
+-- after the last task there are none
 pub choices_all : (s : Start) (n : ℕ) {made : Made} → length s.app.tasks ≤ n → AreLeft s n made
     → Appends s.old made (choices_code s.app s.threshold (next_address s.old) 0 s.app.tasks)
 choices_all s n {made = made} beyond left =

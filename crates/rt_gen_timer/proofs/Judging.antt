@@ -74,7 +74,7 @@ kept_on {app = app} {threshold = threshold} {s = s} {after = after} {later = lat
         let was = kept.represents (Own n) own in
         (was.0, one (length app.shared + n) (Own n) own (local_is_home app n was.0) was.1)
 
--- A timer handler: its code, its threshold, its cost, the address where it begins, the slots behind its window, and
+-- A timer handler: its code, its threshold, its cost, the address where it begins, the slots after its window, and
 -- what it has where it begins.
 pub record Handler : Type 0 where
   pub app : App
@@ -141,7 +141,7 @@ may_open may = record {
 }
 
 module _ (app : App) where
-  -- what is left behind the clock
+  -- what is left after the clock
   abbrev clock_rest : ℕ → Rest
   clock_rest time vs = fire_doing app (due app time (delays (vs (Guarded section.Timer)))) vs
 
@@ -156,7 +156,7 @@ module _ (app : App) where
       (leave_timer app
       (act_all (ready_actions app (task_priority app a.message.task) a.message ++ Returns ∷ []) nothing))
 
--- what the section took over, and the values behind the clock
+-- what the section took over, and the values after the clock
 pub record Took : Type 0 where
   pub vs : Values
   pub us : Values
@@ -297,7 +297,7 @@ module _ {k : Handler} (may : MayHandle k) where
       (words (judged_words w mask time (length known.now.represents.heap) (armed_place k.app (foremost known))
       (foremost_instant known) other)))
 
-  -- Behind the clock it is told within 6 steps more whether it is, or none is.
+  -- After the clock it is told within 6 steps more whether it is, or none is.
   judges : {d : Took} (known : Known k d) (w : Words) (mask time : ℕ) → IsDue w
       → Straight (setting k) (frame k) (drop 4 (due_lines (queue_of k.app) 0 k.threshold (k.first + 10) (k.first + 18)))
       (in_section k d 4 (steps_and 4 k.first) d.cells (clock_rest k.app time d.us))

@@ -15,7 +15,7 @@ use Rattle.rt_gen_timer.proofs.Hollow.{IsBeside, IsHollow, IsKept, IsWhole}
 use Rattle.rt_gen_timer.specs.{TimerCode.queue_of, declared.queue.TimerQueue.TimerQueue}
 use Rattle.rt_gen_timer.specs.TimerLines.{handles_of, heap_of, instants_of, numbers_of}
 
--- a row has this instant, number and handle; of the cells behind the counts no other is written, and none beside the
+-- a row has this instant, number and handle; of the cells after the counts no other is written, and none beside the
 -- queue's
 pub record IsRow (q : TimerQueue) (row instant number handle : ℕ) (before after : List ℕ) : Type 0 where
   pub instants : slice_index after (instants_of q + row) ≡ instant

@@ -42,7 +42,7 @@ bounded i (a ∷ armed) all = go (least_instant armed) all.0 (bounded i armed al
     go None first rest = first
     go (Some j) first rest = omega arith
 
--- The least instant is that of a message with none later before it, where those behind are no earlier.
+-- The least instant is that of a message with none later before it, where those after it are no earlier.
 least_instant_is : (before behind : List Armed) (a : Armed)
     → AllByRecursion (λ b. a.instant < b.instant) before → AllByRecursion (λ b. a.instant ≤ b.instant) behind
     → least_instant (before ++ a ∷ behind) ≡ Some a.instant

@@ -32,7 +32,7 @@ word_shown : {f : Slots} {line : Line} {lines : List Line} {h : Here} {ws : List
 word_shown {f = f} {ws = ws} x v run there is =
     shows (window f ws) (f.slot + x) v (slot_of x run there) (word_of x v run there is)
 
--- behind a line that changes the queue to these messages
+-- after a line that changes the queue to these messages
 abbrev pub queued : Here → List Entry → List ℕ → List Entry → Doing Values → Here
 queued h places cells entries rest = behind_line h places cells (with_queue h.queues section.Timer entries) rest
 

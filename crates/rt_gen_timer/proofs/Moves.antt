@@ -86,7 +86,7 @@ module _ {n : ℕ} {key : Entry → ℕ} where
     beside = sinks hole.beside lesser (put (at xs c) hole);
   }
 
-  -- where the loop upwards begins: one position more, behind the others, whose keys are those of before
+  -- where the loop upwards begins: one position more, after the others, whose keys are those of before
   pub hole_behind : (before : Entry → ℕ) (heap : List Entry) (e : Entry) → n ≡ length heap + 1
       → IsHeap (length heap) (keys before heap)
       → ((j : ℕ) → j < length heap → key (at heap j) ≡ before (at heap j))
@@ -128,7 +128,7 @@ module _ {n : ℕ} {key : Entry → ℕ} where
     rise_ends hole no_less =
         record { hole = hole; alike = λ x. refl; no_less = no_less; no_greater = λ before. before }
 
-    -- a turn of it, and the turns behind
+    -- a turn of it, and the turns after it
     pub rise_turn : {ys : List Entry} {j : ℕ} → HasHole n key xs i → 0 < i → key e ≤ key (at xs (above i))
         → HasRisen n key e (with_moved xs i (above i)) (above i) ys j → HasRisen n key e xs i ys j
     rise_turn hole some greater behind = record {
@@ -146,7 +146,7 @@ module _ {n : ℕ} {key : Entry → ℕ} where
     sink_ends hole no_greater =
         record { hole = hole; alike = λ x. refl; no_less = λ before. before; no_greater = no_greater }
 
-    -- a turn of it, and the turns behind
+    -- a turn of it, and the turns after it
     pub sink_turn : {c j : ℕ} {ys : List Entry} → HasHole n key xs i → IsLesser n i (keys key xs) c
         → key (at xs c) ≤ key e → HasSunk n key e (with_moved xs i c) c ys j → HasSunk n key e xs i ys j
     sink_turn {c = c} hole lesser less behind = record {

@@ -44,7 +44,7 @@ module _ {c : Call} {delay handle : ℕ} {h : Here} (k : AsksMove c delay handle
   abbrev q : TimerQueue
   q = queue_of app
 
-  -- the lines, as they stand; and by the window the note and the alarm, and those behind the section
+  -- the lines, as they stand; and by the window the note and the alarm, and those after the section
   abbrev all : List Line
   all = move_code app task threshold slot h.at
 
@@ -228,7 +228,7 @@ module _ {c : Call} {delay handle : ℕ} {h : Here} (k : AsksMove c delay handle
         (loops_stand (subst (λ n. IsAgain q row n armings o.cells mid) (sym again.instants) again) v3 (scratch_of v3)
         (record { counted = refl; shown = k.shown; early = omega (arith, soon, is.early); agree = agree })))))))))))
 
-  -- The call is correct where it is correct behind it.
+  -- The call is correct where it is correct after it.
   move_goes : S z h
   move_goes =
       on_window may

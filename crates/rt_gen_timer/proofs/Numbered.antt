@@ -1,4 +1,4 @@
--- On lists in which each is in a relation to all behind it: messages in order of their last arming, whose numbers rise
+-- On lists in which each is in a relation to all after it: messages in order of their last arming, whose numbers rise
 -- along the list, and messages of which no two have one handle.
 use Rattle.rt_gen_queue.proofs.Vocabulary.{AllByRecursion, List, Some, [], all_append, all_at, all_behind, all_front}
 use Rattle.rt_gen_queue.proofs.Vocabulary.{all_weaker, arith, inl, inr, none-some, refl, same_Some, slice_get, subst}
@@ -41,7 +41,7 @@ module _ {X : Type 0} (R : X → X → Type 0) where
   along_at [] along = λ i j a b first second less. absurd (none-some a first)
   along_at (x ∷ xs) along = λ i j a b first second less. by (along_at xs along.1) i j first second less
     where
-      -- the one in front is the first, or both are behind it
+      -- the one in front is the first, or both are after it
       by : ByIndices xs → (i j : ℕ) {a b : X} → slice_get (x ∷ xs) i ≡ Some a → slice_get (x ∷ xs) j ≡ Some b → i < j
           → R a b
       by behind zero (suc j) {a = a} {b = b} first second less =

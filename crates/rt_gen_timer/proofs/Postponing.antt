@@ -93,7 +93,7 @@ module _ {app : App} {entries : List Entry} {content : Content} {before : List �
     differ = others_differ may.represents.arranged may.found.before may.found.behind the_one may.found.parts;
   }
 
-  -- with it behind them they are as many
+  -- with it after them they are as many
   pub last_long : size ≡ length (may.found.before ++ (may.found.behind ++ the_one ∷ []))
   last_long =
       length_less may.represents.arranged may.found.before may.found.behind the_one may.found.parts

@@ -22,7 +22,7 @@ use Rattle.rt_gen_timer.specs.declared.queue.TimerQueue.{TimerQueue}
 abbrev pub removing : Words → ℕ → ℕ → Words
 removing w size i = record w { count = size; hole = i; one = 1; two = 2 }
 
--- behind that: a heap of so many, and whatever is in the hand and in the slots that are worked in
+-- after that: a heap of so many, and whatever is in the hand and in the slots that are worked in
 abbrev pub removed : Words → Scratch → ℕ → ℕ → ℕ → ℕ → ℕ → Words
 removed w s n hand i instant arming = turning (record w { hand = hand; count = n }) s i instant arming
 
@@ -71,7 +71,7 @@ pub record MayRemove (z : Setting) (f : Slots) (r : Removal) (h : Here) : Type 0
   pub whole : IsAll r r.all h.cells r.heap
   pub order : IsHeap (length r.heap) (keys (key_of r.instant r.arming) r.heap)
 
--- Behind that: the heap without the message, in cells; the count's cell has how many are left. All other cells but the
+-- After that: the heap without the message, in cells; the count's cell has how many are left. All other cells but the
 -- heap's column are as before.
 pub record IsRemoved (r : Removal) (h : Here) (b : LoopEnd) : Type 0 where
   pub within : b.done ≤ h.done + removal_steps r
@@ -82,7 +82,7 @@ pub record IsRemoved (r : Removal) (h : Here) (b : LoopEnd) : Type 0 where
       → slice_index b.cells c ≡ slice_index h.cells c
   pub long : length b.cells ≡ length h.cells
 
--- What is told behind it. Of the slots, those of the place, of the answer, of the arguments, of the mask and of the
+-- What is told after it. Of the slots, those of the place, of the answer, of the arguments, of the mask and of the
 -- numbers 1 and 2 are as before; and the hand's, the hole's, those of the key in hand and those that are worked in
 -- have whatever they have.
 abbrev pub Behind : Setting → Slots → Removal → Here → Words → Type 0
@@ -124,7 +124,7 @@ module _ {z : Setting} {f : Slots} {r : Removal} {h : Here} (may : MayRemove z f
       hole = hole_left r.heap whole_more.long less may.order;
     }
 
-    -- What is left behind both loops and the last line.
+    -- What is left after both loops and the last line.
     filled : {b : LoopEnd} {after : List ℕ} → r.position < r.size
         → IsSettled (last_hand r) r.rising r.turns r.position looping (take r.size r.heap) b
         → Wrote (heap_of r.queue + b.hole) (r.row (at r.heap r.size)) b.cells after

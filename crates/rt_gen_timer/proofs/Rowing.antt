@@ -40,7 +40,7 @@ module _ (q : TimerQueue) where
         → c ≢ handles_of q + row → slice_index after c ≡ slice_index before c
     pub long : length after ≡ length before
 
--- the words behind the lines
+-- the words after the lines
 abbrev pub with_row : Words → ℕ → ℕ → ℕ → ℕ → Words
 with_row w row a g n = record w {
   answer = g + 1;

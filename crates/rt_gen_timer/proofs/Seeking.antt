@@ -92,7 +92,7 @@ turn_lines g at =
     ∷ plain (instr.JumpZ 13 at) ∷ []
 
 module _ {z : Setting} {f : Slots} {g : Search} {h : Here} {w : Words} (may : MaySearch z f g h w) where
-  -- what is told behind the lines, with the slots of the hole, of the row and two that are worked in written: their
+  -- what is told after the lines, with the slots of the hole, of the row and two that are worked in written: their
   -- end, with the position and the row, or the address for none
   abbrev Finds : Type 0
   Finds =
@@ -183,7 +183,7 @@ module _ {z : Setting} {f : Slots} {g : Search} {h : Here} {w : Words} (may : Ma
     searches zero = none_left
     searches (suc i) = turn (searches i)
 
-    -- The message of a handle is looked for from behind the last position on, and whether it is the task's.
+    -- The message of a handle is looked for from after the last position on, and whether it is the task's.
     finds_stand : S z (Now f h (words (looking w (length g.heap) w.place w.other)))
     finds_stand =
         searches (length g.heap) h.done w.place w.other (omega arith) (omega arith)
@@ -193,7 +193,7 @@ module _ {z : Setting} {f : Slots} {g : Search} {h : Here} {w : Words} (may : Ma
 abbrev pub opened_words : Words → ℕ → ℕ → Words
 opened_words w mask n = record w { mask = mask; one = 1; two = 2; count = n; hole = n }
 
--- the handle, the slot of the window that has it, behind how many lines those stand for where none has it, and what is
+-- the handle, the slot of the window that has it, after how many lines those stand for where none has it, and what is
 -- left to do where one has it
 pub record Sought : Type 0 where
   pub handle : ℕ
@@ -279,7 +279,7 @@ module _ {c : Call} {h : Here} {k : Sought} (seek : MaySeek c h k) where
   abbrev to_do : Taken → Doing Values
   to_do o = follow o.values (is_armed_as c.z.app c.task k.handle o.values)
 
-  -- what is told where one has it, and where none has it, behind the call
+  -- what is told where one has it, and where none has it, after the call
   abbrev pub OnSeen : Type 0
   OnSeen =
       (o : Taken) (done j x r : ℕ) (is : IsSeen o done j)
@@ -369,7 +369,7 @@ module _ {c : Call} {h : Here} {k : Sought} (seek : MaySeek c h k) where
       (ap (λ (a : Option Armed). follow o.values (is_some a)) (missing_of s c.task k.handle none))
       (closes o (found_words o now j y x r) now (omega (arith, early, few)) missed))
 
-  -- The lines stand, where those behind them do for the message, and those behind all of the call where there is none.
+  -- The lines stand, where those after them do for the message, and those after all of the call where there is none.
   pub seeks : OnSeen → OnNone → S c.z (Now (f seek.may) h (words (w seek.may)))
   seeks on missed =
       let x = section.Timer in

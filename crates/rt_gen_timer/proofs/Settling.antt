@@ -30,7 +30,7 @@ pub reach_enough : (n : ℕ) → n < rise_reach n
 reach_enough zero = omega arith
 reach_enough (suc n) = omega (arith, reach_enough n)
 
--- Both loops may begin, the second at an address behind the first: so many turns lead up, and so many down.
+-- Both loops may begin, the second at an address after the first: so many turns lead up, and so many down.
 pub record MaySettle (z : Setting) (f : Slots) (k : Hand) (up down i : ℕ) (h : Here) (xs : List Entry) : Type 0 where
   pub to : ℕ
   pub rise : HasCode z.code h.at (rise_lines k.queue f.slot h.at)
@@ -45,7 +45,7 @@ pub record MaySettle (z : Setting) (f : Slots) (k : Hand) (up down i : ℕ) (h :
   pub hollow : IsOpen k h.cells xs i
   pub hole : HasHole k.size (key k) xs i
 
--- what is behind them
+-- what is after them
 pub record IsSettled (k : Hand) (up down i : ℕ) (h : Here) (xs : List Entry) (b : LoopEnd) : Type 0 where
   pub within : b.done ≤ h.done + (15 * up + 31 * down + 40)
   pub beside : IsBeside k.queue h.cells b.cells

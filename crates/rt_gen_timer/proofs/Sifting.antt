@@ -1,5 +1,5 @@
 -- The loops in which the message in hand goes up or down from the hole: up within 15 steps a turn, each of which at
--- least halves the position, and down within 31, each of which at least doubles it. What is behind a loop is told by
+-- least halves the position, and down within 31, each of which at least doubles it. What is after a loop is told by
 -- what holds there.
 use Rattle.rt_gen_queue.proofs.Vocabulary.{Entry, HasCode, Line, List, [], above, ap, arith, at, cases_lt, drop, inl}
 use Rattle.rt_gen_queue.proofs.Vocabulary.{inr, keys, le-ltb, lt-ltb, nat_lt, number_of, operate, plain, refl, suc, sym}
@@ -20,7 +20,7 @@ use Rattle.rt_gen_timer.proofs.Window.{Scratch, Slots, Words, words}
 use Rattle.rt_gen_timer.specs.TimerLines.{copy, heap_of, jump_zero, rise_lines, sink_lines, store_at}
 
 module _ {z : Setting} {f : Slots} (k : Hand) {h : Here} {xs : List Entry} {i : ℕ} where
-  -- The last lines of a turn, behind a comparison of two keys: where the first is less the message at another position
+  -- The last lines of a turn, after a comparison of two keys: where the first is less the message at another position
   -- moves to the hole, which is there then, and a turn more begins; else the loop ends.
   settles : {j a b again to : ℕ} (w : Words) (s : Scratch) → Columns z k.queue h.held h.cells → IsOpen k h.cells xs i
       → let t : Scratch = record s { other = j; row = k.row (at xs j); less = number_of (nat_lt a b) } in
@@ -63,14 +63,14 @@ pub record IsReady (z : Setting) (f : Slots) (k : Hand) (turns i : ℕ) (h : Her
   pub hollow : IsOpen k h.cells xs i
   pub hole : HasHole k.size (key k) xs i
 
--- what is behind the loop, with the hole at another position
+-- what is after the loop, with the hole at another position
 pub record IsRisen (k : Hand) (turns i : ℕ) (h : Here) (xs : List Entry) (b : LoopEnd) : Type 0 where
   pub within : b.done ≤ h.done + (15 * turns + 12)
   pub beside : IsBeside k.queue h.cells b.cells
   pub hollow : IsOpen k b.cells b.heap b.hole
   pub risen : HasRisen k.size (key k) k.hand xs i b.heap b.hole
 
--- what is told behind the loop
+-- what is told after the loop
 abbrev pub BehindRise : Setting → Slots → Hand → (turns i : ℕ) → Here → List Entry → Words → Type 0
 BehindRise z f k turns i h xs w =
     (b : LoopEnd) (t : Scratch) → IsRisen k turns i h xs b
@@ -82,7 +82,7 @@ Rises z f k turns i =
     → BehindRise z f k turns i h xs w → S z (Now f h (words (in_hand k w s i)))
 
 module _ {z : Setting} {f : Slots} {k : Hand} {turns i : ℕ} {h : Here} {xs : List Entry} where
-  -- what is behind the loop where it ends at once
+  -- what is after the loop where it ends at once
   rise_over : (done : ℕ) → IsReady z f k turns i h xs → done ≤ h.done + (15 * turns + 12)
       → IsNoLess i (keys (key k) xs) (key k k.hand)
       → IsRisen k turns i h xs (record { done = done; hole = i; cells = h.cells; heap = xs })
@@ -93,7 +93,7 @@ module _ {z : Setting} {f : Slots} {k : Hand} {turns i : ℕ} {h : Here} {xs : L
     risen = rise_ends ready.hole no_less;
   }
 
-  -- the message above moves down: behind its row in the hole the turns behind may begin
+  -- the message above moves down: once its row is in the hole, the next turns may begin
   ready_behind : {left : List ℕ} → 0 < i → IsReady z f k (suc turns) i h xs
       → Wrote (heap_of k.queue + i) (k.row (at xs (above i))) h.cells left
       → IsReady z f k turns (above i) (record h { done = steps_and 15 h.done; cells = left })
@@ -112,7 +112,7 @@ module _ {z : Setting} {f : Slots} {k : Hand} {turns i : ℕ} {h : Here} {xs : L
         hole = rise_hole ready.hole some;
       }
 
-  -- what is behind the turns behind is behind this turn too
+  -- what is after the next turns is after this turn too
   risen_behind : {left : List ℕ} {b : LoopEnd} → 0 < i → IsReady z f k (suc turns) i h xs
       → Wrote (heap_of k.queue + i) (k.row (at xs (above i))) h.cells left
       → key k k.hand ≤ key k (at xs (above i))
@@ -134,7 +134,7 @@ module _ {z : Setting} {f : Slots} {k : Hand} where
       (ready.code.0, tt)
       (jumps_off refl (on _ s (rise_over (suc h.done) ready (omega arith) (λ some. absurd (omega (arith, some))))))
 
-  -- One turn below the first position: where the message above is greater it moves down, and the turns behind go on.
+  -- One turn below the first position: where the message above is greater it moves down, and the next turns go on.
   rises_once : {turns i : ℕ} → 0 < i → Rises z f k turns (above i) → Rises z f k (suc turns) i
   rises_once {turns = turns} {i = i} some again h xs w s ready on =
       let a : ℕ = above i in
@@ -203,7 +203,7 @@ pub record MaySink (z : Setting) (f : Slots) (k : Hand) (turns i : ℕ) (h : Her
   pub hollow : IsOpen k h.cells xs i
   pub hole : HasHole k.size (key k) xs i
 
--- what is behind the loop, with the hole at another position
+-- what is after the loop, with the hole at another position
 pub record IsSunk (k : Hand) (turns i : ℕ) (h : Here) (xs : List Entry) (b : LoopEnd) : Type 0 where
   pub within : b.done ≤ h.done + (31 * turns + 28)
   pub beside : IsBeside k.queue h.cells b.cells
@@ -214,7 +214,7 @@ pub record IsSunk (k : Hand) (turns i : ℕ) (h : Here) (xs : List Entry) (b : L
 abbrev pub sinking : Hand → Words → Scratch → ℕ → Words
 sinking k w s i = in_hand k (record w { count = k.size }) s i
 
--- what is told behind the loop
+-- what is told after the loop
 abbrev pub BehindSink : Setting → Slots → Hand → (turns i : ℕ) → Here → List Entry → Words → Type 0
 BehindSink z f k turns i h xs w =
     (b : LoopEnd) (t : Scratch) → IsSunk k turns i h xs b
@@ -239,7 +239,7 @@ Sinks z f k turns i =
     → BehindSink z f k turns i h xs w → S z (Now f h (words (sinking k w s i)))
 
 module _ {z : Setting} {f : Slots} {k : Hand} {turns i : ℕ} {h : Here} {xs : List Entry} where
-  -- what is behind the loop where it ends at once
+  -- what is after the loop where it ends at once
   sink_over : (done : ℕ) → MaySink z f k turns i h xs → done ≤ h.done + (31 * turns + 28)
       → IsNoGreater k.size i (keys (key k) xs) (key k k.hand)
       → IsSunk k turns i h xs (record { done = done; hole = i; cells = h.cells; heap = xs })
@@ -253,7 +253,7 @@ module _ {z : Setting} {f : Slots} {k : Hand} {turns i : ℕ} {h : Here} {xs : L
   module _ {c : ℕ} {left : List ℕ} (may : MaySink z f k (suc turns) i h xs)
       (lesser : IsLesser k.size i (keys (key k) xs) c)
       (one : Wrote (heap_of k.queue + i) (k.row (at xs c)) h.cells left) where
-    -- the lesser one moves up: behind its row in the hole the turns behind may begin
+    -- the lesser one moves up: once its row is in the hole, the next turns may begin
     may_behind : MaySink z f k turns c (record h { done = steps_and 31 h.done; cells = left }) (with_moved xs i c)
     may_behind =
         let down : above c < c = above_less c lesser.some in
@@ -274,7 +274,7 @@ module _ {z : Setting} {f : Slots} {k : Hand} {turns i : ℕ} {h : Here} {xs : L
           hole = sink_hole may.hole lesser;
         }
 
-    -- what is behind the turns behind is behind this turn too
+    -- what is after the next turns is after this turn too
     sunk_behind : {b : LoopEnd} → key k (at xs c) ≤ key k k.hand
         → IsSunk k turns c (record h { done = steps_and 31 h.done; cells = left }) (with_moved xs i c) b
         → IsSunk k (suc turns) i h xs b
@@ -288,7 +288,7 @@ module _ {z : Setting} {f : Slots} {k : Hand} {turns i : ℕ} {h : Here} {xs : L
 
 module _ {z : Setting} {f : Slots} {k : Hand} where
   -- The last lines of a turn, with the lesser one chosen: where it is less than the one in hand it moves up, and the
-  -- turns behind go on.
+  -- next turns go on.
   sinks_to : {turns i c : ℕ} {h : Here} {xs : List Entry} → Sinks z f k turns c → (w : Words) (s : Scratch)
       → MaySink z f k (suc turns) i h xs → BehindSink z f k (suc turns) i h xs w
       → IsLesser k.size i (keys (key k) xs) c
@@ -336,7 +336,7 @@ module _ {z : Setting} {f : Slots} {k : Hand} where
             (on _ t (sink_over (steps_and 4 h.done) may (omega arith) (none_below (keys (key k) xs) most)))
       ])))
 
-  -- Behind 3 lines more the keys of two messages are loaded and compared; 11 lines.
+  -- After 3 lines more the keys of two messages are loaded and compared; 11 lines.
   compares_two : {turns i left right : ℕ} {lines : List Line} {h : Here} {xs : List Entry} (w : Words) (s : Scratch)
       → MaySink z f k turns i h xs → (left < k.size) × (left ≢ i) → (right < k.size) × (right ≢ i)
       → ((less g b : ℕ) → less ≡ number_of (nat_lt (key k (at xs right)) (key k (at xs left)))

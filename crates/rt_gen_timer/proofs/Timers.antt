@@ -209,7 +209,7 @@ module _ {k : Handler} (u : Due k) where
     saves = saves_inside (may_enter (may_open u.may));
   }
 
-  -- behind the removal
+  -- after the removal
   module _ {b : LoopEnd} (gone : IsRemoved removal (here u.d.cells 11 (k.first + 19)) b) where
     before : IsAsBefore k.app u.d.cells b.cells
     before = record { cells = gone.others }

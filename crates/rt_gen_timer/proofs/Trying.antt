@@ -59,7 +59,7 @@ module _ (k : Handler) where
         ∙ ap (λ m. is_some_and is_software (slice_get k.app.tasks m)) (sym same) ∙ may.place.1)
         (ap (is_armed k.app) (sym same) ∙ may.place.0)
 
-    -- the tasks behind it may be tried
+    -- the tasks after it may be tried
     behind_one : {done at other : ℕ} → n < e.task
         → done + 3 * armed_count k.app (n + 1) ts ≤ h.done + 3 * armed_count k.app n (t ∷ ts)
         → HasCode k.code at (choices_code k.app k.threshold at (n + 1) ts ++ behind)

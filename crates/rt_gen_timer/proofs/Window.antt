@@ -95,7 +95,7 @@ words_of slot slots = record {
   two = slice_index slots (steps_and 23 slot);
 }
 
--- what is before and behind them
+-- what is before and after them
 abbrev pub frame_of : (slot : ℕ) (slots : List ℕ) → slot + 24 ≤ length slots → Slots
 frame_of slot slots long = frame_at 24 9 slots slot long
 

@@ -148,7 +148,7 @@ MovesStand =
     → StandsBefore c.app c.who c.code c.bodies c.thread (handle_steps c.app) c.slot
     (move_code c.app c.task c.threshold c.slot c.configuration.address) c.rest n c.configuration c.vs
 
--- where the timer handler of a monotonic stands: its code is at an address, with rows of bodies beside it
+-- where the code of the timer handler is: at an address, with rows of bodies beside it
 pub record TimerHandlerAt (app : App) (mono : Mono) : Type 0 where
   pub code : List Line
   pub address : ℕ

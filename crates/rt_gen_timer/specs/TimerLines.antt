@@ -77,7 +77,7 @@ module _ (q : TimerQueue) (slot : ℕ) where
   abbrev pub jump_zero : ℕ → ℕ → Line
   jump_zero s l = plain (instr.JumpZ (slot + s) l)
 
-  -- whether the key of an instant and a number is less than another key, into the slot of the answer
+  -- whether the key of an instant and a number is less than another key, into the slot `LESS`
   abbrev pub less_lines : ℕ → ℕ → ℕ → ℕ → List Line
   less_lines instant number other_instant other_number =
       calc op.Lt LESS instant other_instant

@@ -13,7 +13,7 @@ use rt_gen_queue::parts::{fill, place};
 use rt_ids::{NoMemory, Section};
 
 impl Emitter {
-    /// The lines behind a message that is armed, with the answer 0 where no place is left.
+    /// The lines after a message that is armed, with the answer 0 where no place is left.
     fn full(&self, armed: &ArmedTask, threshold: u8, end: u32) -> [Line; 3]
         requires slots { self.now.slot + TIMER_QUEUE_WORDS < 2 ^ 32 }
         ensures { result ≡ spec.full_lines self.now.queue self.now.slot threshold armed.now end }

@@ -28,7 +28,7 @@ const NEXT: [Template; 8] = [
     Template::Store(Column::HandleCount, ANSWER),
 ];
 
-/// The row of a message comes in hand, from its word and the offset that stands there; the heap is one longer, with the
+/// The row of a message comes in hand, from its word and the offset that is in hand; the heap is one longer, with the
 /// hole at its end; and the columns of the row are written.
 const ROW: [Template; 7] = [
     Template::Calc(Op::Sub, HAND, PLACE, HAND),
@@ -49,7 +49,7 @@ const AGAIN: [Template; 5] = [
     Template::StoreAt(Column::Numbers, HAND, NUMBER),
 ];
 
-/// The constants 1 and 2, and the hole behind the last message.
+/// The constants 1 and 2, and the hole after the last message.
 const BEHIND: [Template; 4] = [
     Template::Set(ONE, 1),
     Template::Set(TWO, 2),

@@ -93,7 +93,7 @@ impl Emitter {
         }
     }
 
-    /// Appends the lines of parts, one behind the other.
+    /// Appends the lines of parts, one after the other.
     pub(crate) fn push(&self, parts: &[Part<'_, '_>], lines: &mut Lines) -> Result<(), NoMemory>
         requires few { self.now.queue.messages ≤ CAPACITY * TASKS }
         requires slots { self.now.slot + TIMER_QUEUE_WORDS < 2 ^ 32 }

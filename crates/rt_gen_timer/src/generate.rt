@@ -30,8 +30,8 @@ use std::alloc::Global;
 /// More lines than a call has.
 pub(crate) const MANY_LINES: u32 = 128;
 
-/// What writes the code of an application's calls from a slot on. Where the slots or the lines from an address on have
-/// no 32 bits there is no memory for so much code either.
+/// What writes the code of an application's calls from a slot on. A slot or an address that does not fit in 32 bits
+/// counts as want of memory.
 pub(crate) fn emitter_of(
     plan: &Plan<'_>,
     rows: &ArmedRows<'_>,
@@ -56,8 +56,8 @@ pub(crate) fn emitter_of(
     Ok(Emitter { queue, slot })
 }
 
-/// Appends the code of a call to code, at a static preemption threshold; its first line will stand at the address
-/// `entry`. An error leaves the code as it was.
+/// Appends the code of a call to code, at a static preemption threshold; its first line will be at the address `entry`.
+/// An error leaves the code as it was.
 fn append_call(
     alloc: Global,
     plan: &Plan<'_>,
@@ -90,10 +90,11 @@ fn append_call(
 }
 
 /// Appends the code of a `spawn_after` of a software task, at a static preemption threshold, to code; its first line
-/// will stand at the address `entry`. The delay and then the arguments stand in the slots from one on. It takes a place
+/// will be at the address `entry`. The delay and then the arguments are in the slots from `slot` on. It takes a place
 /// of the task and arms its message; the answer comes into the first slot: the message's handle, or 0 where no place is
 /// left. It writes the 24 slots from there on alone. Its lines name only what the application declares, and there are
-/// at most 192 of them. An error leaves the code as it was.
+/// at most 192 of them. An error leaves the code as it was. `NoMemory` is also the answer where a slot or an address
+/// would not fit in 32 bits.
 pub fn gen_after(
     alloc: Global,
     plan: &Plan<'_>,
@@ -121,9 +122,10 @@ pub fn gen_after(
 }
 
 /// Appends the code of a `cancel` of a message of a software task, at a static preemption threshold, to code; its first
-/// line will stand at the address `entry`. The handle stands in a slot, into which the answer comes: 0 where an armed
-/// message of the task had the handle and was taken back, else 1. It writes the 24 slots from there on alone. Its lines
-/// name only what the application declares, and there are at most 256 of them. An error leaves the code as it was.
+/// line will be at the address `entry`. The handle is in a slot, into which the answer comes: 0 where an armed message
+/// of the task had the handle and was taken back, else 1. It writes the 24 slots from there on alone. Its lines name
+/// only what the application declares, and there are at most 256 of them. An error leaves the code as it was.
+/// `NoMemory` is also the answer where a slot or an address would not fit in 32 bits.
 pub fn gen_cancel(
     alloc: Global,
     plan: &Plan<'_>,
@@ -151,10 +153,11 @@ pub fn gen_cancel(
 }
 
 /// Appends the code of a `reschedule_after` of a message of a software task, at a static preemption threshold, to code;
-/// its first line will stand at the address `entry`. The delay and then the handle stand in the slots from one on. The
+/// its first line will be at the address `entry`. The delay and then the handle are in the slots from `slot` on. The
 /// answer comes into the first: 0 where an armed message of the task had the handle and waits anew, else 1. It writes
 /// the 24 slots from there on alone. Its lines name only what the application declares, and there are at most 256 of
-/// them. An error leaves the code as it was.
+/// them. An error leaves the code as it was. `NoMemory` is also the answer where a slot or an address would not fit in
+/// 32 bits.
 pub fn gen_move(
     alloc: Global,
     plan: &Plan<'_>,

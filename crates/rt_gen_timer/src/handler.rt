@@ -26,7 +26,7 @@ pub(crate) const CHOICE_LINES: u32 = 26;
 /// The lines before the tasks.
 pub(crate) const FRONT_LINES: u32 = 73;
 
-/// Behind the line that opens the section: a jump where nothing is armed, and another where a message is due.
+/// After the line that opens the section: a jump where nothing is armed, and another where a message is due.
 const DUE: [Template; 9] = [
     Template::Set(ONE, 1),
     Template::Set(TWO, 2),

@@ -24,7 +24,7 @@ pub(crate) const ALARM: [Template; 6] = [
     Template::NoAlarm,
 ];
 
-/// A delay is added to the time.
+/// A delay is added to the time. A delay above the longest counts as the longest.
 pub(crate) const TIME: [Template; 6] = [
     Template::Clock(INSTANT),
     Template::Set(OTHER, LONGEST_DELAY),
@@ -34,8 +34,8 @@ pub(crate) const TIME: [Template; 6] = [
     Template::Calc(Op::Add, INSTANT, INSTANT, ANSWER),
 ];
 
-/// There is one message fewer, and the last one comes in hand; or a jump behind the lines of its removal, where it is
-/// the one at the hole.
+/// There is one message fewer, and the last one comes in hand; or a jump past the lines of its removal, where it is the
+/// one at the hole.
 const LAST: [Template; 7] = [
     Template::Calc(Op::Sub, COUNT, COUNT, ONE),
     Template::Store(Column::Count, COUNT),

@@ -1,5 +1,5 @@
-// The slots of code for the timer queue, from the first of its 24 on. The first eight and the mask's are also those of
-// a spawn's code, which begins one slot further.
+// The slots of code for the timer queue, from the first of its 24 on. Slots 1 to 9 are also those of a spawn's code,
+// which begins at slot 1.
 
 /// A delay or a handle, and then the answer.
 pub const ANSWER: u32 = 0;
@@ -34,10 +34,11 @@ pub const NUMBER: u32 = 11;
 /// The number 1.
 pub const ONE: u32 = 12;
 
-/// A position in the heap above or below the hole.
+/// A position in the heap above or below the hole; elsewhere an operand or the result of a test.
 pub const OTHER: u32 = 13;
 
-/// The position of the right child, or of the left one where there is no right.
+/// The position of the right child, or of the left one where there is no right; elsewhere an operand or the result of a
+/// test.
 pub const RIGHT: u32 = 14;
 
 /// The row of the message at the other position, its instant and the number of its arming.

@@ -21,23 +21,23 @@ pub(crate) enum Column {
 }
 
 /// An instruction for a timer queue, before it is known where the queue, the slots and the code are: a slot is counted
-/// from the first of the 24, a cell is the first one of a column, and a jump counts from an address that is told for
-/// all templates of a part.
+/// from the first of the 24, a cell is the first one of a column, and a jump counts from an address, the same for all
+/// templates of a part.
 #[derive(Clone, Copy)]
 pub(crate) enum Template {
-    /// A slot becomes a value.
+    /// A slot gets a value.
     Set(u32, u32),
-    /// A slot becomes another slot.
+    /// A slot gets the value of another.
     Copy(u32, u32),
-    /// A slot becomes what an operation gives on two slots.
+    /// A slot gets the result of an operation on two others.
     Calc(Op, u32, u32, u32),
-    /// A slot becomes a cell.
+    /// A slot gets the value of a cell.
     Load(u32, Column),
-    /// A cell becomes a slot.
+    /// A cell gets the value of a slot.
     Store(Column, u32),
-    /// A slot becomes the cell behind another, as far as a slot tells.
+    /// A slot gets the cell of a column at the index in another slot.
     LoadAt(u32, Column, u32),
-    /// The cell behind another, as far as a slot tells, becomes a slot.
+    /// The cell of a column at the index in a slot gets another slot's value.
     StoreAt(Column, u32, u32),
     /// A jump.
     Jump(u32),
@@ -45,7 +45,7 @@ pub(crate) enum Template {
     Again,
     /// A jump where a slot is 0.
     JumpZero(u32, u32),
-    /// A slot becomes the time.
+    /// A slot gets the time.
     Clock(u32),
     /// The alarm is set to the instant in a slot.
     Alarm(u32),
@@ -66,6 +66,6 @@ pub(crate) enum Part<'a, 'b> {
     Leave(u8),
     /// The line that stores the row in hand at the hole, with a note.
     Settle(Note),
-    /// Lines as they stand.
+    /// Lines as they are.
     Lines(&'b [Line]),
 }

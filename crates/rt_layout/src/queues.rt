@@ -134,8 +134,7 @@ pub(crate) fn push_ready(
     push_zeros(alloc, cells, &front, room)
 }
 
-/// Appends the counts of the timer queue: how many messages are armed, how often one was armed, first and later, and
-/// how often first.
+/// Appends the counts of the timer queue: armed messages, armings so far with reschedules, and handles given.
 fn push_counts(alloc: Global, cells: &mut Vec<CellRow>) -> Result<(), NoMemory>
     ensures { OnOk result (cells.new.items ≡ cells.old.items ++ rows.timer_counts) }
 {

@@ -50,11 +50,11 @@ is_of_kind Software t = is_software t
 abbrev pub kind_size : App → Kind → Task → ℕ
 kind_size app kind t = if is_of_kind kind t then body_cost (size_measure app) t.body else 0
 
--- the code of the dispatcher of a level stands at an address
+-- the code of the dispatcher of a level is at an address
 pub record HasDispatcher (app : App) (level : ℕ) (code : List Line) (entry : ℕ) : Type 0 where
   pub there : HasCode code entry (dispatcher_code app level entry)
 
--- the code of the timer handler at a priority stands at an address
+-- the code of the timer handler at a priority is at an address
 pub record HasHandler (app : App) (priority : ℕ) (code : List Line) (entry : ℕ) : Type 0 where
   pub there : HasCode code entry (timer_code app priority entry)
 
@@ -76,13 +76,13 @@ module _ (app : App) (lines : List Line) where
   abbrev pub HasTasks : Kind → List ℕ → Type 0
   HasTasks kind entries = HasTasksBelow (length entries) kind entries
 
-  -- the code of the dispatchers of levels, rising, stands from these addresses on
+  -- the code of the dispatchers is at these addresses, by rising level
   abbrev pub HasDispatchers : List ℕ → Type 0
   HasDispatchers entries =
       (k : ℕ) → k < length entries → (p : ℕ) → slice_get (levels app) k ≡ Some p
       → (more : List Line) → HasDispatcher app p (lines ++ more) (slice_index entries k)
 
-  -- the code of the timer handler stands from this address on, where there is a monotonic
+  -- the code of the timer handler is at this address, where there is a monotonic
   abbrev pub HasTimer : ℕ → Type 0
   HasTimer entry = (mono : Mono) → app.mono ≡ Some mono
       → (more : List Line) → HasHandler app mono.priority (lines ++ more) entry
@@ -147,7 +147,8 @@ entries_of app code = record {
   timer = code.timer;
 }
 
--- all code stands, names only what is declared, lies in its order, and is no longer than the rule on sizes counts
+-- the bodies are correct, dispatchers and timer handler are where the entries say, all lines name only what is
+-- declared, lie in order, and are no more than the rule on sizes counts
 pub record IsCodeOf (app : App) (code : Code) : Type 0 where
   pub entries : HasEntries app code
   pub thread : HasThread app code.lines.items code.idle

@@ -1,5 +1,5 @@
 -- What one pass over the bodies fills: for each thing that a section guards, the greatest priority of the bodies that
--- use it.
+-- use it. The timer handler counts too among those that use a ready queue.
 use Rattle.std.specs.Prelude.{ℕ, max, nat_lt, List, length, slice_get, slice_index, slice_set, replicate}
 use Rattle.std.specs.Prelude.{Option, Some, None, if◌then◌else◌}
 use Rattle.std.specs.List.{fold}
@@ -16,7 +16,7 @@ pub record Tables : Type 0 where
   pub shared : List ℕ
   -- by task
   pub free : List ℕ
-  -- by level
+  -- by level; a spawn after a delay counts with the monotonic's priority, not the body's
   pub ready : List ℕ
   pub timer : ℕ
 

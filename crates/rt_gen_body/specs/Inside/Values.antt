@@ -34,7 +34,7 @@ module _ (c : Context) where
   load (atom.Shared r) slot = instr.Load slot r
   load (atom.Local n) slot = instr.Load slot (c.locals + n)
 
-  -- the value of a slot goes to what a name stands for
+  -- the value of a slot goes to what a name means
   abbrev pub store : Atom → ℕ → Instr
   store (atom.Var x) slot = instr.Copy x slot
   store (atom.Shared r) slot = instr.Store r slot
@@ -52,7 +52,7 @@ module _ (c : Context) where
   abbrev pub value_code : Expression → List Line
   value_code e = expression_code e c.expressions (next_slot c.expressions)
 
-  -- The values of arguments come into the slots from one on.
+  -- The values of arguments come into the slots from `slot` on.
   abbrev pub arguments_code : List Expression → ℕ → List Line
   arguments_code [] slot = []
   arguments_code (e ∷ es) slot = expression_code e slot c.expressions ++ arguments_code es (next_slot slot)

@@ -132,7 +132,7 @@ module _ {z : Setting} {h : Here} where
       by_slot d (instr.Load d c) reads.is free reads.may (λ b m. one_there c (length h.cells) reads.there)
       (one_there d (length h.slots) there) (λ time b m. refl)
 
-  -- the cell whose number is so much behind another as a slot has
+  -- the cell at a distance from another, which is in a slot
   pub load_at_gives : {d c s : ℕ} (k v : ℕ) → d < length h.slots → s < length h.slots → IsFree h.held d
       → slice_index h.slots s ≡ k → Reads z h (c + k) v
       → Gives z h (instr.LoadAt d c s) (slice_set h.slots d v) (suc h.at) h.cells

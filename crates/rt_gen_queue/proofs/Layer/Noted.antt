@@ -17,7 +17,7 @@ use Rattle.rt_gen_queue.proofs.Layer.Runs.{word_of}
 use Rattle.rt_gen_queue.proofs.Layer.Window.{Frame, Now, free_there, is_free, window, window_free, window_set}
 use Rattle.rt_gen_queue.proofs.Layer.Window.{window_there}
 
--- Where the job is behind a line that may have changed all but the open sections and the deadlines.
+-- Where the job is after a line that may have changed all but the open sections and the deadlines.
 abbrev pub behind_line : Here → List Entry → List ℕ → (Location → List Entry) → Doing Values → Here
 behind_line h places cells queues rest = record h {
   done = suc h.done;
@@ -29,7 +29,7 @@ behind_line h places cells queues rest = record h {
 }
 
 module _ {size mask : ℕ} where
-  -- the lines behind it may run
+  -- the lines after it may run
   pub may_follow : {f : Frame size mask} {line : Line} {lines : List Line} {h : Here} {ws : List ℕ}
       (places : List Entry) (cells : List ℕ) (queues : Location → List Entry) (rest : Doing Values) (after : List ℕ)
       → length after ≡ length ws → MayRun f (line ∷ lines) h ws
@@ -44,7 +44,7 @@ module _ {size mask : ℕ} where
 
   module _ {z : Setting} {f : Frame size mask} {line : Line} {lines : List Line} {h : Here} {ws : List ℕ}
       {places : List Entry} {cells : List ℕ} {queues : Location → List Entry} where
-    -- a run that goes on behind a line, as what the line's note asks for
+    -- a run that goes on after a line, as what the line's note asks for
     pub goes_later : {rest : Doing Values} {after : List ℕ} → length after ≡ length ws → MayRun f (line ∷ lines) h ws
         → HasCode z.code (suc h.at) (map (placed f.slot) lines)
         → Straight z f lines (behind_line h places cells queues rest) after
@@ -54,7 +54,7 @@ module _ {size mask : ℕ} where
         at_passed (Now f (record (behind_line h places cells queues rest) { done = h.done }) after)
         (on.runs (may_follow places cells queues rest after long may) has)
 
-    -- the next action of what is left to do, as a line's note has it, and the lines behind it
+    -- the next action of what is left to do, as a line's note has it, and the lines after it
     pub acts_later : {values : Values} {rest : Values → Doing Values} (action : Action) (after : List ℕ)
         → length after ≡ length ws → MayRun f (line ∷ lines) h ws
         → HasCode z.code (suc h.at) (map (placed f.slot) lines) → h.rest ≡ does action values (λ answer. rest)
@@ -90,7 +90,7 @@ module _ {size mask : ℕ} where
         let there : d < length ws = omega (arith, may.long, free_there size mask d free) in
         subst (λ slots. Gives z (Now f h ws) i slots to cells) (window_set f ws d v there) gives
 
-  -- what is left to do behind a line that asks the core
+  -- what is left to do after a line that asks the core
   abbrev pub Follow : Setting → Frame size mask → List Line → Here → List ℕ → Values → (Values → Doing Values) → Type 0
   Follow z f lines h ws values rest =
       (vs : Values) → Agree (storage z.app) z.who h.held vs values

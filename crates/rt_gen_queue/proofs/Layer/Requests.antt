@@ -15,7 +15,7 @@ use Rattle.rt_gen_queue.proofs.Layer.Correct.{Later, S, at_passed, by_line}
 use Rattle.rt_gen_queue.proofs.Layer.Instructions.{IsFree, kept_free, kept_same, one_there}
 use Rattle.rt_gen_queue.proofs.Layer.Jobs.{Here, InTime, Setting, configuration}
 
--- what is left to do behind the next action, whatever others did to what is not the job's
+-- what is left to do after the next action, whatever others did to what is not the job's
 abbrev pub Follows : Setting → Here → Values → (Values → Doing Values) → Type 0
 Follows z h values rest =
     (vs : Values) → Agree (storage z.app) z.who h.held vs values

@@ -85,7 +85,7 @@ module _ {size mask : ℕ} where
   next_in_time {lines = lines} {h = h} may =
       lasts_less (suc h.done) (h.done + suc (length lines)) (h.until ∷ h.deadlines) (omega arith) may.time
 
-  -- and the lines behind it may run
+  -- and the lines after it may run
   pub may_go_on : {f : Frame size mask} {line : Line} {lines : List Line} {h : Here} {ws : List ℕ}
       (to : ℕ) (cells after : List ℕ) → length after ≡ length ws → MayRun f (line ∷ lines) h ws
       → MayRun f lines (record h { done = suc h.done; at = to; cells = cells }) after

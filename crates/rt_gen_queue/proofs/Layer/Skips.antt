@@ -13,7 +13,7 @@ fit_behind size mask (suc k) [] fit = fit
 fit_behind size mask (suc k) (line ∷ lines) fit =
     fit_behind size mask k lines (and_right (fits size mask line.0) (all_fit size mask lines) fit)
 
--- the lines behind so many
+-- the lines after so many
 code_from : (slot : ℕ) (code : List Line) (at to k : ℕ) (lines : List Line) → to ≡ at + k
     → HasCode code at (map (placed slot) lines) → HasCode code to (map (placed slot) (drop k lines))
 code_from slot code at to zero lines is has =

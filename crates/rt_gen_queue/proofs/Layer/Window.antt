@@ -1,5 +1,5 @@
 -- A window of the frame: so many slots that one piece of code works in, as a list of words, with the slots before and
--- behind them. A write into one of them is a write into the list, and that computes. One slot of the window is for the
+-- after them. A write into one of them is a write into the list, and that computes. One slot of the window is for the
 -- mask of a section.
 use Rattle.rt_gen_queue.proofs.Vocabulary.{AllByRecursion, Bool, OpenSection, List, [], all_weaker, and_left, ap}
 use Rattle.rt_gen_queue.proofs.Vocabulary.{append_assoc}
@@ -10,7 +10,7 @@ use Rattle.rt_gen_queue.proofs.Vocabulary.{◌&&◌, ◌++◌, ◌+◌, ◌-◌,
 use Rattle.std.proofs.lemmas.List.{get_or-append-add, set-append_left, set-append_right}
 use Rattle.rt_gen_queue.proofs.Layer.{Instructions.IsFree, Jobs.Here}
 
--- the slots before a window of so many, from whose end on its own are numbered, and those behind it
+-- the slots before a window of so many, from whose end on its own are numbered, and those after it
 pub record Frame (size mask : ℕ) : Type 0 where
   pub slot : ℕ
   pub front : List ℕ
@@ -75,7 +75,7 @@ module _ {size mask : ℕ} where
       differ e (inl less) = omega arith
       differ e (inr is) = omega (arith, not_the_mask size mask d free)
 
--- a window inside a window, with words before and behind it
+-- a window inside a window, with words before and after it
 abbrev pub inner : {size mask n m : ℕ} → Frame size mask → (before behind : List ℕ) → Frame n m
 inner f before behind = record {
   slot = f.slot + length before;

@@ -86,6 +86,6 @@ module _ (e : Emitter) where
       line_with_note (instr.StoreAt (lines.heap_of e.queue) (e.slot + HOLE) (e.slot + HAND)) note ∷ []
   lines_of (part.Lines others) = others.now
 
-  -- the lines of parts, one behind the other
+  -- the lines of parts, one after the other
   abbrev pub all_lines : List Part → List Line
   all_lines parts = flat_map lines_of parts

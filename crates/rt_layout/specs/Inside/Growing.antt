@@ -34,7 +34,7 @@ with_queues l t = record {
   timer = l.timer;
 }
 
--- the layout behind a hardware task, which has no cells
+-- the layout after a hardware task, which has no cells
 abbrev pub without_queues : Layout → Layout
 without_queues l = record {
   cells = l.cells;
