@@ -36,7 +36,7 @@ use Rattle.rt_build.specs.Entries.{Entries, irq_rows}
 use Rattle.rt_build.specs.Image.{IdleStands, HasTables, HasCode, IsImageOf}
 use Rattle.rt_build.specs.Order.{IsInOrder, code_size}
 use Rattle.rt_build.specs.Inside.Plan.{IsAcceptedPlan}
-use Rattle.rt_build.specs.Inside.Code.{HasDispatcher, HasHandler, IsCodeOf, entries_of}
+use Rattle.rt_build.specs.Inside.Code.{HasDispatcher, HasTimerHandler, IsCodeOf, entries_of}
 use Rattle.rt_build.specs.declared.code.Code.{Code}
 use Rattle.rt_build.proofs.Dispatched.{dispatcher_stands}
 use Rattle.rt_build.proofs.Entries.{dispatcher_entry}
@@ -118,9 +118,10 @@ module _ (plan : Plan) (made : Code) (words bytes : ℕ) (irqs : List IrqRow) (b
         (subst (λ (all : List Line). HasDispatcher app p all (slice_index made.dispatchers.items index.0)) whole_code
         (coded.dispatchers index.0 (omega (arith, coded.entries.of_levels)) p index.1 []))
 
-    handler_there : (mono : Mono) → app.mono ≡ Some mono → HasHandler app mono.priority img.code made.timer
+    handler_there : (mono : Mono) → app.mono ≡ Some mono → HasTimerHandler app mono.priority img.code made.timer
     handler_there mono is =
-        subst (λ (all : List Line). HasHandler app mono.priority all made.timer) whole_code (coded.timer mono is [])
+        subst (λ (all : List Line). HasTimerHandler app mono.priority all made.timer) whole_code
+        (coded.timer mono is [])
 
     has_code : HasTables app at img → HasCode app at img
     has_code tabled = record {

@@ -16,7 +16,7 @@ use Rattle.rt_app.specs.Level.{is_software, is_of_level, levels}
 use Rattle.rt_code.specs.Standing.{StandsFrom}
 use Rattle.rt_code.specs.declared.image.BodyRow.{BodyRow}
 use Rattle.rt_gen_body.specs.Bodies.{DeclaredStands}
-use Rattle.rt_gen_queue.specs.Line.{Line, HasCode}
+use Rattle.rt_gen_queue.specs.Line.{Line, HasCodeAt}
 use Rattle.rt_gen_queue.specs.Called.{CalledBodyStands, row_for, rows_for}
 use Rattle.rt_gen_disp.specs.Code.{dispatcher_code}
 use Rattle.rt_gen_disp.proofs.Dispatching.{dispatchers_stand}
@@ -40,7 +40,7 @@ module _ (app : App) (accepted : IsAccepted app) (at : Entries) (code : List Lin
       ((stand n t there).called t there (and_left (is_software t) (t.priority == p) level))
 
   pub dispatcher_stands : (bodies : List BodyRow) → bodies ≡ rows_for at.task 0 app.tasks
-      → HasCode code (at.dispatcher p) (dispatcher_code app p (at.dispatcher p))
+      → HasCodeAt code (at.dispatcher p) (dispatcher_code app p (at.dispatcher p))
       → (thread : ℕ)
       → StandsFrom (storage app) code (callable_rows app (is_of_level p) (length code) bodies) thread (AtPriority p)
       (length (memory app)) DISPATCHER_WORDS (at.dispatcher p) (dispatcher_cost app p) (dispatcher_doing app p)

@@ -26,7 +26,7 @@ use Rattle.rt_app.specs.Stack.{thread_words}
 use Rattle.rt_code.specs.Standing.{StandsFrom}
 use Rattle.rt_code.specs.declared.image.BodyRow.{BodyRow}
 use Rattle.rt_code.specs.declared.instr.Instr.TheVariants as instr
-use Rattle.rt_gen_queue.specs.Line.{Line, HasCode, IsNameable}
+use Rattle.rt_gen_queue.specs.Line.{Line, HasCodeAt, IsNameable}
 use Rattle.rt_gen_body.specs.Bodies.{BodyStands, DeclaredStands}
 use Rattle.rt_gen_disp.specs.Code.{dispatcher_code}
 use Rattle.rt_gen_timer.specs.TimerCode.{timer_code}
@@ -34,7 +34,7 @@ use Rattle.rt_gen_queue.proofs.Placing.{code_there}
 use Rattle.rt_build.specs.Image.{IdleStands}
 use Rattle.rt_build.specs.Inside.Code.{IsKept, Adds, is_of_kind, kind_size, HasThread, HasTasksBelow, HasTasks}
 use Rattle.rt_build.specs.Inside.Code.{TellsTask, LeavesOthers, HasDispatcher, HasDispatchers}
-use Rattle.rt_build.specs.Inside.Code.{HasHandler, HasTimer}
+use Rattle.rt_build.specs.Inside.Code.{HasTimerHandler, HasTimer}
 use Rattle.rt_build.specs.declared.code.Kind.{Kind}
 use Rattle.rt_build.specs.declared.code.Kind.TheVariants.{Hardware, Software}
 
@@ -177,13 +177,13 @@ written size before after long is =
 
 -- lines that are put after code stand there
 code_put : (before after lines : List Line) (entry : ℕ) → entry ≡ length before → take entry after ≡ before
-    → drop entry after ≡ lines → (more : List Line) → HasCode (after ++ more) entry lines
+    → drop entry after ≡ lines → (more : List Line) → HasCodeAt (after ++ more) entry lines
 code_put before after lines entry at kept put more =
     let all : before ++ lines ≡ after =
     ap (λ (front : List Line). front ++ lines) (sym kept)
     ∙ (ap (λ (back : List Line). take entry after ++ back) (sym put) ∙ take-append-drop entry after) in
-    subst (λ (to : ℕ). HasCode (after ++ more) to lines) (sym at)
-    (subst (λ (code : List Line). HasCode code (length before) lines)
+    subst (λ (to : ℕ). HasCodeAt (after ++ more) to lines) (sym at)
+    (subst (λ (code : List Line). HasCodeAt code (length before) lines)
     (sym (append_assoc before lines more) ∙ ap (λ (front : List Line). front ++ more) all)
     (code_there before lines more))
 
@@ -350,7 +350,7 @@ module _ (app : App) (entry : ℕ) where
   pub timer_put : (mono : Mono) (before after : List Line) → app.mono ≡ Some mono → entry ≡ length before
       → take entry after ≡ before → drop entry after ≡ timer_code app mono.priority entry → HasTimer app after entry
   timer_put mono before after timed at kept put other is more =
-      subst (λ (m : Mono). HasHandler app m.priority (after ++ more) entry) (same_Some mono other (sym timed ∙ is))
+      subst (λ (m : Mono). HasTimerHandler app m.priority (after ++ more) entry) (same_Some mono other (sym timed ∙ is))
       (record { there = code_put before after (timer_code app mono.priority entry) entry at kept put more })
 
   pub timer_absent : (lines : List Line) → app.mono ≡ None → HasTimer app lines entry

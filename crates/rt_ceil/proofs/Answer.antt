@@ -20,7 +20,7 @@ use Rattle.rt_app.specs.Level.{is_software, is_of_level, levels, holds}
 use Rattle.rt_ids.specs.Lists.{those_below, or_zero}
 use Rattle.rt_app.specs.Ceiling.{greatest_priority, uses_places_of, resource_ceiling, free_ceiling, free_ceilings}
 use Rattle.rt_app.specs.Ceiling.{readies, arms_level, mover_priority, ready_ceiling, timer_ceiling, Ceilings, ceilings}
-use Rattle.rt_ceil.specs.Inside.Tables.{Tables, level_of, mover, filled_tables}
+use Rattle.rt_ceil.specs.Inside.Tables.{Tables, level_of, mono_priority, filled_tables}
 use Rattle.rt_ceil.specs.Inside.Rows.{free_row, free_rows, served_with, served_levels, ready_row, ready_rows, timer_row}
 use Rattle.rt_ceil.proofs.Greatest.{folded_marks}
 use Rattle.rt_ceil.proofs.Raised.{length-marked, marked_at, level_of_is}
@@ -100,7 +100,7 @@ rows_below a b f g (suc n) same rows =
     ∙ sym (map-append g (those_below b n) (if b n then n ∷ [] else []))
 
 mover_is : (app : App) (p : ℕ) (o : Option Mono)
-    → (if list_any (holds (arms_level app p)) (members app) then mover o else 0) ≡ mover_priority app p o
+    → (if list_any (holds (arms_level app p)) (members app) then mono_priority o else 0) ≡ mover_priority app p o
 mover_is app p None = none_moves (list_any (holds (arms_level app p)) (members app)) 0
 mover_is app p (Some mono) = refl
 

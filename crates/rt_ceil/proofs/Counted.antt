@@ -9,7 +9,7 @@ use Rattle.rt_app.specs.Spawned.{spawns, uses_timer}
 use Rattle.rt_app.specs.Level.{is_of_level}
 use Rattle.rt_ids.specs.Lists.{is_some_and, greatest}
 use Rattle.rt_app.specs.Ceiling.{uses_places_of, readies, arms_level}
-use Rattle.rt_ceil.specs.Inside.Tables.{Tables, level_in, mover, tables_after_spawn, tables_after_listing}
+use Rattle.rt_ceil.specs.Inside.Tables.{Tables, level_in, mono_priority, tables_after_spawn, tables_after_listing}
 use Rattle.rt_ceil.specs.Inside.Tables.{tables_after_body}
 use Rattle.rt_ceil.proofs.Greatest.{folded_raises, greatest_any, greatest_both}
 use Rattle.rt_ceil.proofs.Raised.{length-raised, length-raised_level, raised_at, raised_level_at, level_in_is}
@@ -30,7 +30,7 @@ spawned_keeps app q i j k t (Soon task args at) h = record {
 spawned_keeps app q i j k t (After word delay task args at) h = record {
   shared = h.shared;
   free = length-raised t.free task q ∙ h.free;
-  ready = length-raised_level t.ready (level_in (slice_get app.tasks task)) (mover app.mono) ∙ h.ready;
+  ready = length-raised_level t.ready (level_in (slice_get app.tasks task)) (mono_priority app.mono) ∙ h.ready;
 }
 spawned_keeps app q i j k t (Cancel word task handle at) h =
     record { shared = h.shared; free = length-raised t.free task q ∙ h.free; ready = h.ready }
@@ -72,17 +72,17 @@ zero_max n = omega arith
 
 spawned_ready : (app : App) (q p i j k : ℕ) → p < k → (t : Tables) (s : Spawn) → IsSized i j k t
     → get_or (tables_after_spawn app q t s).ready p 0 ≡ max (get_or t.ready p 0)
-    (max (if readies app p s then q else 0) (if arms_level app p s then mover app.mono else 0))
+    (max (if readies app p s then q else 0) (if arms_level app p s then mono_priority app.mono else 0))
 spawned_ready app q p i j k b t (Soon task args at) h =
     raised_level_at t.ready (level_in (slice_get app.tasks task)) q p (omega (arith, h.ready))
     ∙ ap (λ (x : Bool). max (get_or t.ready p 0) (if x then q else 0)) (level_in_is p (slice_get app.tasks task))
     ∙ ap (max (get_or t.ready p 0)) (max_zero (if is_some_and (is_of_level p) (slice_get app.tasks task) then q else 0))
 spawned_ready app q p i j k b t (After word delay task args at) h =
-    raised_level_at t.ready (level_in (slice_get app.tasks task)) (mover app.mono) p (omega (arith, h.ready))
-    ∙ ap (λ (x : Bool). max (get_or t.ready p 0) (if x then mover app.mono else 0))
+    raised_level_at t.ready (level_in (slice_get app.tasks task)) (mono_priority app.mono) p (omega (arith, h.ready))
+    ∙ ap (λ (x : Bool). max (get_or t.ready p 0) (if x then mono_priority app.mono else 0))
     (level_in_is p (slice_get app.tasks task))
-    ∙ ap (max (get_or t.ready p 0)) (zero_max (if is_some_and (is_of_level p) (slice_get app.tasks task) then mover
-    app.mono else 0))
+    ∙ ap (max (get_or t.ready p 0))
+    (zero_max (if is_some_and (is_of_level p) (slice_get app.tasks task) then mono_priority app.mono else 0))
 spawned_ready app q p i j k b t (Cancel word task handle at) h = max_zeros (get_or t.ready p 0)
 spawned_ready app q p i j k b t (Move word delay task handle at) h = max_zeros (get_or t.ready p 0)
 
@@ -128,10 +128,10 @@ used_free app q n i j k b ls block t h =
 pub used_ready : (app : App) (q p i j k : ℕ) → p < k → (ls : List Listed) (block : Block) (t : Tables) → IsSized i j k t
     → get_or (tables_after_body app q ls block t).ready p 0 ≡ max (get_or t.ready p 0)
     (max (if list_any (readies app p) (spawns block) then q else 0)
-    (if list_any (arms_level app p) (spawns block) then mover app.mono else 0))
+    (if list_any (arms_level app p) (spawns block) then mono_priority app.mono else 0))
 used_ready app q p i j k b ls block t h =
     let soon : Spawn → ℕ = λ s. if readies app p s then q else 0 in
-    let after : Spawn → ℕ = λ s. if arms_level app p s then mover app.mono else 0 in
+    let after : Spawn → ℕ = λ s. if arms_level app p s then mono_priority app.mono else 0 in
     folded_raises (tables_after_spawn app q) (IsSized i j k) (spawned_keeps app q i j k) (λ u. get_or u.ready p 0)
     (λ s. max (soon s) (after s)) (spawned_ready app q p i j k b) (fold (tables_after_listing q) t ls)
     (spawns block)
@@ -141,7 +141,7 @@ used_ready app q p i j k b ls block t h =
     ∙ ap (max (get_or t.ready p 0)) (greatest_both soon after (spawns block)
     ∙ ap (λ x. max x (greatest (map after (spawns block)))) (greatest_any (readies app p) q (spawns block))
     ∙ ap (max (if list_any (readies app p) (spawns block) then q else 0))
-    (greatest_any (arms_level app p) (mover app.mono) (spawns block)))
+    (greatest_any (arms_level app p) (mono_priority app.mono) (spawns block)))
 
 pub used_timer : (app : App) (q i j k : ℕ) (ls : List Listed) (block : Block) (t : Tables) → IsSized i j k t
     → (tables_after_body app q ls block t).timer ≡ max t.timer (if list_any uses_timer (spawns block) then q else 0)

@@ -14,8 +14,8 @@ use Rattle.rt_app.specs.Spawned.{uses_timer}
 use Rattle.rt_app.specs.Level.{holds}
 use Rattle.rt_app.specs.Ceiling.{greatest_priority, lists, uses_places_of, readies, arms_level}
 use Rattle.rt_ids.specs.Lists.{greatest}
-use Rattle.rt_ceil.specs.Inside.Tables.{Tables, zero_tables, mover, tables_after_body, used_by_thread, used_by_task}
-use Rattle.rt_ceil.specs.Inside.Tables.{filled_tables}
+use Rattle.rt_ceil.specs.Inside.Tables.{Tables, zero_tables, mono_priority, tables_after_body, used_by_thread}
+use Rattle.rt_ceil.specs.Inside.Tables.{used_by_task, filled_tables}
 use Rattle.rt_ceil.proofs.Greatest.{folded_raises, greatest_any, greatest_both, greatest_filtered}
 use Rattle.rt_ceil.proofs.Counted.{IsSized, used_keeps, used_shared, used_free, used_ready, used_timer}
 
@@ -97,10 +97,10 @@ filled_free app n b =
 
 pub filled_ready : (app : App) (p : ℕ) → p < PRIORITIES
     → get_or (filled_tables app).ready p 0 ≡ max (greatest_priority (holds (readies app p)) app)
-    (if list_any (holds (arms_level app p)) (members app) then mover app.mono else 0)
+    (if list_any (holds (arms_level app p)) (members app) then mono_priority app.mono else 0)
 filled_ready app p b =
     let soon : Member → ℕ = λ m. if holds (readies app p) m then m.priority else 0 in
-    let after : Member → ℕ = λ m. if holds (arms_level app p) m then mover app.mono else 0 in
+    let after : Member → ℕ = λ m. if holds (arms_level app p) m then mono_priority app.mono else 0 in
     ap (λ (t : Tables). get_or t.ready p 0) (filled_is app)
     ∙ folded_raises (used_by app) (IsSizedFor app) (keeps app) (λ t. get_or t.ready p 0) (λ m. max (soon m) (after m))
     (λ t m h. used_ready app m.priority p (length app.shared) (length app.tasks) PRIORITIES b m.body.shared m.body.block
@@ -110,7 +110,7 @@ filled_ready app p b =
     ∙ greatest_both soon after (members app) ∙ ap (λ x. max x (greatest (map after (members app))))
     (greatest_filtered (holds (readies app p)) (λ m. m.priority) (members app))
     ∙ ap (max (greatest_priority (holds (readies app p)) app))
-    (greatest_any (holds (arms_level app p)) (mover app.mono) (members app))
+    (greatest_any (holds (arms_level app p)) (mono_priority app.mono) (members app))
 
 pub filled_timer : (app : App) → (filled_tables app).timer ≡ greatest_priority (holds uses_timer) app
 filled_timer app =

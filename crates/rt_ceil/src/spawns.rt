@@ -2,7 +2,7 @@ ghost use Rattle.std.specs.Prelude.{◌≡◌, slice_get};
 ghost use Rattle.std.specs.List.{fold};
 ghost use Rattle.rt_app.specs.Spawned.{statement_spawns, spawns, value_spawns};
 ghost use Rattle.rt_app.specs.View.{spawn_of, value_of, statement_of, block_of, task_of, app_of};
-ghost use Rattle.rt_ceil.specs.Inside.Tables.{level_of, level_in, mover, tables_after_spawn};
+ghost use Rattle.rt_ceil.specs.Inside.Tables.{level_of, level_in, mono_priority, tables_after_spawn};
 
 use crate::tables::{Tables, raise, raise_level};
 use rt_app::{App, Mono, Spawn, Stmt, Task, Value};
@@ -26,8 +26,8 @@ fn level_at(app: &App, task: TaskId) -> Option<u8>
 }
 
 /// The priority of the monotonic, and 0 where there is none.
-fn mover_priority(mono: Option<Mono>) -> u8
-    ensures { result ≡ mover mono }
+fn mono_priority(mono: Option<Mono>) -> u8
+    ensures { result ≡ mono_priority mono }
 {
     match mono {
         Some(mono) => mono.priority,
@@ -47,7 +47,7 @@ fn count_spawn(tables: &mut Tables, app: &App, priority: u8, spawn: &Spawn)
         Spawn::After(_word, _delay, task, _args, _at) => {
             raise(&mut tables.free, task.0, priority);
             let level = level_at(app, *task);
-            raise_level(&mut tables.ready, level, mover_priority(app.mono));
+            raise_level(&mut tables.ready, level, mono_priority(app.mono));
             tables.timer = tables.timer.max(priority);
         }
         Spawn::Cancel(_word, task, _handle, _at) => {

@@ -1,6 +1,6 @@
 -- The code of every block stands, with that of sections round blocks: it does what the block means, within its steps.
 use Rattle.rt_gen_queue.proofs.Vocabulary.{AllByRecursion, App, Assign, BODY_COST, Bind, Block, Branch, Calc, Call}
-use Rattle.rt_gen_queue.proofs.Vocabulary.{Contains, Emit, Empty, Guarded, HasCode, OpenSection, HoldsOff, IsKindFor}
+use Rattle.rt_gen_queue.proofs.Vocabulary.{Contains, Emit, Empty, Guarded, HasCodeAt, OpenSection, HoldsOff, IsKindFor}
 use Rattle.rt_gen_queue.proofs.Vocabulary.{IsSoundLock, Kind, Leaves, Line, List, Locked, Now, Pend, Repeat, Spawns}
 use Rattle.rt_gen_queue.proofs.Vocabulary.{Statement, Then, Values, [], accepted_are_sound, act, all_append, all_has}
 use Rattle.rt_gen_queue.proofs.Vocabulary.{all_weaker, ap, arith, block_steps, cap_steps, contains_cases}
@@ -128,7 +128,7 @@ module _ (b : Body) (p : Scope) (r offset : ℕ) (inner : Block) (sound : IsSoun
         let code : List Line = block_code b.c (max p.threshold (guard_at b.c r).ceiling) (next_slot p.lock) at inner in
         let last : List Line = leave_line (section.Res r) (guard_at b.c r) p.threshold p.lock ∷ [] in
         let next : suc h.at ≡ at = omega arith in
-        let has = subst (λ a. HasCode b.z.code a (code ++ last)) next begins.has.1 in
+        let has = subst (λ a. HasCodeAt b.z.code a (code ++ last)) next begins.has.1 in
         let cell = resource_cell b.z.app r sound.is_there in
         let same : (saved y : ℕ) → y < b.c.expressions → slice_index (slots_with_mask kind saved h.slots) y
         ≡ slice_index h.slots y =

@@ -1,6 +1,6 @@
 -- The code of an expression leaves its value in a slot, and statements without blocks do their action, or change their
 -- variable or resource, within their steps.
-use Rattle.rt_gen_queue.proofs.Vocabulary.{Agree, Assign, Bool, Clocks, Contains, Emit, Expression, Guarded, HasCode}
+use Rattle.rt_gen_queue.proofs.Vocabulary.{Agree, Assign, Bool, Clocks, Contains, Emit, Expression, Guarded, HasCodeAt}
 use Rattle.rt_gen_queue.proofs.Vocabulary.{OpenSection, Location, Instr, IsChangeable, Line, List, Num, Number, Oper}
 use Rattle.rt_gen_queue.proofs.Vocabulary.{Own, Pend}
 use Rattle.rt_gen_queue.proofs.Vocabulary.{Read, Some, Values, [], ap, arith, does, eqb-true, expression_steps, false}
@@ -99,7 +99,7 @@ module _ {b : Body} {p : Scope} {h : Here} {lines : List Line} {cost : ℕ} {var
   }
 
   -- and other lines begin there
-  pub next_begins : {few done at : ℕ} {after : List ℕ} {more : List Line} → HasCode b.z.code at more
+  pub next_begins : {few done at : ℕ} {after : List ℕ} {more : List Line} → HasCodeAt b.z.code at more
       → done + few ≤ h.done + cost → length after ≡ length h.slots
       → ((x : ℕ) → x < b.c.expressions → slice_index after x ≡ slice_index h.slots x)
       → IsViablePrefix b p h lines cost vars vs
@@ -158,7 +158,7 @@ evaluates {b = b} {p = p} (Oper op left right) {h = h} {vars = vars} {vs = vs} {
     evaluates left t (omega arith) reached.0 meant.0
     (front_of left_code (right_code ++ last) (omega arith) begins)
     (λ done1 at1 s1 done1_is at1_is first.
-    let has1 : HasCode b.z.code at1 (right_code ++ last) =
+    let has1 : HasCodeAt b.z.code at1 (right_code ++ last) =
     code_behind b.z.code h.at at1 left_code (right_code ++ last) at1_is begins.has in
     evaluates right
     (record { target = inl (omega arith, inside); there = omega arith; low = t.floor; floor = omega (arith, t.floor) })

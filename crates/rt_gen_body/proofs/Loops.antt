@@ -1,5 +1,5 @@
 -- The code of a choice between two blocks, and of a loop: from its head, turn after turn.
-use Rattle.rt_gen_queue.proofs.Vocabulary.{Block, Bool, Branch, Contains, Doing, Empty, Expression, HasCode}
+use Rattle.rt_gen_queue.proofs.Vocabulary.{Block, Bool, Branch, Contains, Doing, Empty, Expression, HasCodeAt}
 use Rattle.rt_gen_queue.proofs.Vocabulary.{OpenSection, Line}
 use Rattle.rt_gen_queue.proofs.Vocabulary.{List, Repeat, Then, Values, [], ap, arith, block_steps, contains_cases}
 use Rattle.rt_gen_queue.proofs.Vocabulary.{contains_here, contains_there, cost_measure, expression_steps, false}
@@ -34,7 +34,7 @@ module _ {b : Body} {p : Scope} where
       → Behind b p visible h (length (value_code b.c e ++ plain (instr.JumpZ b.c.expressions to) ∷ more)) total later
       → ((slots : List ℕ)
       → IsViablePrefix b p (valued b h e slots) (plain (instr.JumpZ b.c.expressions to) ∷ more) (suc cost) vars vs
-      → HasCode b.z.code (h.at + length (value_code b.c e) + 1) more
+      → HasCodeAt b.z.code (h.at + length (value_code b.c e) + 1) more
       → Behind b p visible (valued b h e slots) (suc (length more)) (suc cost) later
       → (stop : Bool) → (value_in vars vs e == 0) ≡ stop
       → S b.z (record (valued b h e slots) {
@@ -52,11 +52,11 @@ module _ {b : Body} {p : Scope} where
         done = suc (h.done + expression_steps e);
         at = if stop then to else n;
       })) next
-      (on slots begins1 (subst (λ n. HasCode b.z.code n more) (sym next) begins1.has.1) behind1 stop refl)))
+      (on slots begins1 (subst (λ n. HasCodeAt b.z.code n more) (sym next) begins1.has.1) behind1 stop refl)))
 
   -- a block after a jump
   begins_block : {h : Here} {lines : List Line} {cost : ℕ} {vars : List ℕ} {vs : Values} (block : Block) (at : ℕ)
-      → HasCode b.z.code at (block_code b.c p.threshold p.lock at block)
+      → HasCodeAt b.z.code at (block_code b.c p.threshold p.lock at block)
       → suc (block_steps (cost_measure b.z.app) block) ≤ cost → IsViablePrefix b p h lines cost vars vs
       → IsViablePrefix b p (record h { done = suc h.done; at = at }) (block_code b.c p.threshold p.lock at block)
       (block_steps (cost_measure b.z.app) block) vars vs
@@ -102,7 +102,7 @@ module _ {b : Body} {p : Scope} where
         elim [
           | true ↦ λ stops.
               two.runs later
-              (begins_block second to (subst (λ a. HasCode b.z.code a other) (omega arith) over_has.1) (omega arith)
+              (begins_block second to (subst (λ a. HasCodeAt b.z.code a other) (omega arith) over_has.1) (omega arith)
               begins1) (is ∙ ap left stops) (still_behind behind1 (omega (arith, all)) (omega arith) (λ x here. refl))
           | false ↦ λ stops.
               one.runs later
@@ -333,7 +333,7 @@ loops {b = b} {p = p} first last turn stands room test word = record {
         stands = stands;
       }) (refl, omega arith)
       (record {
-        has = subst (λ a. HasCode b.z.code a (turn_lines b p l (h.at + 1))) one begins.has.1;
+        has = subst (λ a. HasCodeAt b.z.code a (turn_lines b p l (h.at + 1))) one begins.has.1;
         time = sooner (omega (arith, total)) begins;
         known = variable_set x first (x ∷ p.visible) (omega arith) (λ y here. contains_cases x p.visible y here)
             begins.known;

@@ -1,7 +1,7 @@
 -- What is promised of the code of each kind of body: it stands, from its entry through its blocks to its end.
 use Rattle.rt_gen_queue.proofs.Vocabulary.{Action, App, AtPriority, BODY_COST, Body as AppBody, BodyId, BodyRow, Bool}
-use Rattle.rt_gen_queue.proofs.Vocabulary.{Contains, Doing, Ends, Entry, HasCode, Location, HoldsOff, IsAccepted, IsIn}
-use Rattle.rt_gen_queue.proofs.Vocabulary.{IsSound, Line, List, Member, None, Option, Rest, Returns, Runner, Some}
+use Rattle.rt_gen_queue.proofs.Vocabulary.{Contains, Doing, Ends, Entry, HasCodeAt, Location, HoldsOff, IsAccepted}
+use Rattle.rt_gen_queue.proofs.Vocabulary.{IsIn, IsSound, Line, List, Member, None, Option, Rest, Returns, Runner, Some}
 use Rattle.rt_gen_queue.proofs.Vocabulary.{Spawn, Configuration, Stands, StandsFrom, Starting, Task, Values, [], act}
 use Rattle.rt_gen_queue.proofs.Vocabulary.{all_at, ap}
 use Rattle.rt_gen_queue.proofs.Vocabulary.{append_assoc, arith, block_steps, body_cost, calm, cap_steps, contains_none}
@@ -80,7 +80,7 @@ pub record IsBody (z : Setting) (m : Member) (words : ℕ) : Type 0 where
 
 -- the code of a body's blocks at an address, and a frame and memory as they are where it begins
 record Given (z : Setting) (m : Member) (words entry : ℕ) (s : State) : Type 0 where
-  has : HasCode z.code entry (lines_of z.app m entry)
+  has : HasCodeAt z.code entry (lines_of z.app m entry)
   long : length s.slots ≡ words
   all : length s.cells ≡ length (memory z.app)
   known : AllRepresented z s.cells s.queues s.vs
@@ -238,7 +238,7 @@ begun_with slots cells queues vs =
     record { done = 0; slots = slots; cells = cells; vars = []; queues = queues; vs = vs }
 
 pub whole_stands : (z : Setting) {m : Member} {words : ℕ} (entry : ℕ) (action : Action)
-    → IsBody (alone z) m words → m.args ≡ 0 → HasCode z.code entry (lines_of z.app m entry)
+    → IsBody (alone z) m words → m.args ≡ 0 → HasCodeAt z.code entry (lines_of z.app m entry)
     → Ending (alone z) (entry + length (lines_of z.app m entry)) action
     → Whole z words entry (body_cost (cost_measure z.app) m.body) (body_doing z.app m.body [] (act action nothing))
 whole_stands z {m = m} entry action w no_args has ending = λ slots cells queues vs long all taken.
@@ -263,7 +263,7 @@ record OfThread (z : Setting) (id : BodyId) (o : Option AppBody) (entry : ℕ) :
   runs : z.who ≡ runner_if (is_init id) 0
   is : member_at z.app id ≡ option_map (of_thread id) o
   room : thread_frame o ≤ thread_words z.app
-  has : HasCode z.code entry (blocks_of z.app (option_map (of_thread id) o) entry)
+  has : HasCodeAt z.code entry (blocks_of z.app (option_map (of_thread id) o) entry)
 
 -- such a body stands: of one that is not there is the end alone
 thread_stands : (z : Setting) (id : BodyId) (o : Option AppBody) (entry : ℕ) → OfThread z id o entry
@@ -290,7 +290,7 @@ thread_stands z id (Some b) entry w ending =
 
 -- the code of a body, declared or not: its blocks, and its last line after them
 pub record BodyThere (app : App) (id : BodyId) (o : Option Member) (code : List Line) (entry : ℕ) : Type 0 where
-  pub blocks : HasCode code entry (blocks_of app o entry)
+  pub blocks : HasCodeAt code entry (blocks_of app o entry)
   pub last : slice_get code (entry + length (blocks_of app o entry)) ≡ Some (end_line app id entry)
 
 -- after other code, and with more after it
@@ -299,7 +299,7 @@ pub body_between : (app : App) (id : BodyId) (o : Option Member) (front more : L
 body_between app id o front more =
     let entry : ℕ = length front in
     let end : List Line = end_line app id entry ∷ [] in
-    let has : HasCode ((front ++ code_of app id o entry) ++ more) entry (code_of app id o entry) =
+    let has : HasCodeAt ((front ++ code_of app id o entry) ++ more) entry (code_of app id o entry) =
     rw append_assoc (code_there front (code_of app id o entry) more) in
     record {
       blocks = code_front _ entry (blocks_of app o entry) end has;

@@ -2,8 +2,8 @@
 -- there, and what it means that code does what it is to do.
 use Rattle.rt_gen_queue.proofs.Vocabulary.{AllByRecursion, App, AtPriority, BODY_COST, Block, Bool, Contains, Doing}
 use Rattle.rt_gen_queue.proofs.Vocabulary.{Entry}
-use Rattle.rt_gen_queue.proofs.Vocabulary.{Guarded, HasCode, OpenSection, Location, HoldsOff, IsAccepted, IsChangeable}
-use Rattle.rt_gen_queue.proofs.Vocabulary.{IsIn}
+use Rattle.rt_gen_queue.proofs.Vocabulary.{Guarded, HasCodeAt, OpenSection, Location, HoldsOff, IsAccepted}
+use Rattle.rt_gen_queue.proofs.Vocabulary.{IsChangeable, IsIn}
 use Rattle.rt_gen_queue.proofs.Vocabulary.{IsSoundLock, IsWithin, Line, List, Member, NobodyKeeps, Own, Runner, Section}
 use Rattle.rt_gen_queue.proofs.Vocabulary.{Spawn, Starting, Statement, Values, [], all_weaker, arith, block_steps}
 use Rattle.rt_gen_queue.proofs.Vocabulary.{ceiling, cost_measure, has_loop, inl, inr, is_constant, is_kept, length, map}
@@ -133,7 +133,7 @@ fewer_visible within known = record {
 -- before some lines that take so many steps: they are in the code, and there is time for them
 pub record IsViablePrefix (b : Body) (p : Scope) (h : Here) (lines : List Line) (cost : ℕ) (vars : List ℕ) (vs : Values)
     : Type 0 where
-  pub has : HasCode b.z.code h.at lines
+  pub has : HasCodeAt b.z.code h.at lines
   pub time : InTime (h.done + cost) h
   pub known : Knows b h.held p.visible h.slots h.cells vars vs
   pub inside : Inside b p h.held

@@ -1,8 +1,8 @@
 -- The code of a spawn with its arguments: their values come into the slots of the spawn, and then the message goes, to
 -- the ready queue or to the timer queue, or what its handle takes back or puts to another instant.
 use Rattle.rt_gen_queue.proofs.Vocabulary.{After, AllByRecursion, App, Bool, Call, Cancel, Expression, HANDLE_COST}
-use Rattle.rt_gen_queue.proofs.Vocabulary.{HasCode, Line, List, Move, Rest, SPAWN_AFTER_COST, Some, Soon, Spawn, Spawns}
-use Rattle.rt_gen_queue.proofs.Vocabulary.{Task, Values, [], all_weaker, ap, arith, armed_messages, ceiling}
+use Rattle.rt_gen_queue.proofs.Vocabulary.{HasCodeAt, Line, List, Move, Rest, SPAWN_AFTER_COST, Some, Soon, Spawn}
+use Rattle.rt_gen_queue.proofs.Vocabulary.{Spawns, Task, Values, [], all_weaker, ap, arith, armed_messages, ceiling}
 use Rattle.rt_gen_queue.proofs.Vocabulary.{cost_measure, drop, drop_more, greatest, if◌then◌else◌, inl, inr}
 use Rattle.rt_gen_queue.proofs.Vocabulary.{is_software, is_some, is_some_and, length, length-append, length-map, map}
 use Rattle.rt_gen_queue.proofs.Vocabulary.{plain, refl, run, saved_slots, slice_get, slice_index, slice_set}
@@ -80,10 +80,10 @@ module _ {b : Body} {p : Scope} {h : Here} {vars : List ℕ} {vs : Values} (q : 
 
   -- it goes by its law, since what is after its lines is correct in as many steps as are left
   by_law : {lines : List Line} → goes_code b.c p.threshold h.at q ≡ lines
-      → (HasCode b.z.code h.at lines → StandsBefore b.z.app b.z.who b.z.code b.z.bodies b.z.thread
+      → (HasCodeAt b.z.code h.at lines → StandsBefore b.z.app b.z.who b.z.code b.z.bodies b.z.thread
       (goes_steps b.z.app q) b.c.spawns lines rest left (configuration b.z h) vs) → S b.z h
   by_law {lines = lines} lines_are law = record {
-    stands = law (subst (λ (ls : List Line). HasCode b.z.code h.at ls) lines_are begins.has)
+    stands = law (subst (λ (ls : List Line). HasCodeAt b.z.code h.at ls) lines_are begins.has)
         (λ answer used k slots cells queues ws less gone.
         let done : ℕ = h.done + goes_steps b.z.app q in
         let t : State = record { done = done; slots = slots; cells = cells; vars = vars; queues = queues; vs = ws } in
@@ -384,7 +384,7 @@ sends_on {b = b} {p = p} {h = h} {vars = vars} {vs = vs} q rest sound begins is 
     let lines = ap code at_is in
     let same_size : length (code at) ≡ length last = ap (λ (ls : List Line). length ls) lines in
     goes_on q rest sound
-    (next_begins (subst (λ (ls : List Line). HasCode b.z.code at ls) (sym lines)
+    (next_begins (subst (λ (ls : List Line). HasCodeAt b.z.code at ls) (sym lines)
     (code_behind b.z.code h.at at front last at_is begins.has)) (omega arith) come.long come.low begins)
     (ap (λ n. take n (drop b.c.spawns slots)) (sym (length-map values (value_in vars vs))) ∙ come.values) is
     (record {

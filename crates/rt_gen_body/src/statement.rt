@@ -16,7 +16,7 @@ use rt_ids::{Irq, NoMemory, Op, ResId, Section};
 struct Bounds {
     variable: u32,
     first: u32,
-    last: u32,
+    end: u32,
 }
 
 /// How a resource's section masks; one that is not declared masks nothing.
@@ -144,20 +144,20 @@ impl<'a> Generator<'a> {
     }
 
     /// The lines before a loop's turns, up to the jump that ends it.
-    fn loop_head(&self, bounds: &Bounds, code: &mut Lines) -> Result<(), NoMemory>
+    fn loop_front(&self, bounds: &Bounds, code: &mut Lines) -> Result<(), NoMemory>
         ensures { OnOk result (Appends code.old code.new
-            (blocks.loop_front (context self.now) bounds.now.variable bounds.now.first bounds.now.last)) }
+            (blocks.loop_front (context self.now) bounds.now.variable bounds.now.first bounds.now.end)) }
     {
         let test = self.expressions;
         code.append(&[
             (Instr::Set(bounds.variable, bounds.first), None),
-            (Instr::Set(test, bounds.last), None),
+            (Instr::Set(test, bounds.end), None),
             (Instr::Calc(Op::Lt, test, bounds.variable, test), None),
         ])
     }
 
     /// The lines after a turn: the variable rises by one, and a jump to the loop's test, which is at `entry + 1`.
-    fn loop_tail(&self, variable: u32, entry: u32, code: &mut Lines) -> Result<(), NoMemory>
+    fn loop_back(&self, variable: u32, entry: u32, code: &mut Lines) -> Result<(), NoMemory>
         ensures { OnOk result (Appends code.old code.new (blocks.loop_back (context self.now) variable (entry + 1))) }
     {
         let head = entry.checked_add(1).ok_or(NoMemory)?;
@@ -185,14 +185,14 @@ impl<'a> Generator<'a> {
         ensures { let at = next_address code.old in
             let block = blocks.block_code (context self.now) threshold lock (at + 4) (block_of turn.now) in
             OnOk result (Appends code.old code.new
-            (blocks.loop_code (context self.now) at bounds.now.variable bounds.now.first bounds.now.last block)) }
+            (blocks.loop_code (context self.now) at bounds.now.variable bounds.now.first bounds.now.end block)) }
     {
         let entry = code.next_address()?;
-        self.loop_head(bounds, code)?;
+        self.loop_front(bounds, code)?;
         let over = code.len();
         code.push(Instr::JumpZ(self.expressions, 0))?;
         self.block(threshold, lock, turn, code)?;
-        self.loop_tail(bounds.variable, entry, code)?;
+        self.loop_back(bounds.variable, entry, code)?;
         let end = code.next_address()?;
         code.replace(over, Instr::JumpZ(self.expressions, end));
         Ok(())
@@ -227,7 +227,7 @@ impl<'a> Generator<'a> {
                 let bounds = Bounds {
                     variable: u32::from(*variable),
                     first: *first,
-                    last: *last,
+                    end: *last,
                 };
                 self.repeat(threshold, lock, &bounds, turn, code)
             }

@@ -1,5 +1,5 @@
 -- The task of the oldest message is looked for among the tasks of its level, and its message is run.
-use Rattle.rt_gen_queue.proofs.Vocabulary.{Bool, Entry, HasCode, Location, KeepsTaskLimits, Line, List, Message, None}
+use Rattle.rt_gen_queue.proofs.Vocabulary.{Bool, Entry, HasCodeAt, Location, KeepsTaskLimits, Line, List, Message, None}
 use Rattle.rt_gen_queue.proofs.Vocabulary.{Section, Some, Task, Values, [], all_at, all_from, and_left, ap, arith}
 use Rattle.rt_gen_queue.proofs.Vocabulary.{body_cost, capacity_is, capacity_of, cost_measure, count, count_more, drop}
 use Rattle.rt_gen_queue.proofs.Vocabulary.{eqb-true, false, filter, greatest, guard_of, if◌then◌else◌, input_is_home}
@@ -108,7 +108,7 @@ module _ {d : Dispatcher} {cells : List ℕ} {queues : Location → List Entry} 
 
     -- from the start of the message on, with its arguments in the first slots
     loaded_run : {done until deadline to from : ℕ} {w : Words} {after : List ℕ}
-        → 12 + most d + done ≤ until → done + 12 ≤ deadline → from ≡ to → HasCode d.code to (start_code from)
+        → 12 + most d + done ≤ until → done + 12 ≤ deadline → from ≡ to → HasCodeAt d.code to (start_code from)
         → AreLoaded d spread cells [] (words w) after 0 t.args → TellsOf o es w
         → S (job d) (chosen done until deadline to after)
     loaded_run {done = done} {until = until} {deadline = deadline} {to = to} {after = after} enough in_time same has
@@ -137,13 +137,13 @@ module _ {d : Dispatcher} {cells : List ℕ} {queues : Location → List Entry} 
         subst (λ slots. S (job d) (chosen done until deadline to slots)) (words_are after long)
         (run.runs
         (record { time = (omega arith, (omega arith, (omega arith, tt))); saves = saves; long = refl; fit = fits })
-        (subst (HasCode d.code to) (start_placed (queue_at d.app d.level) (callee_of d.app o.task row t) to)
-        (subst (λ a. HasCode d.code to (start_code a)) same has)))
+        (subst (HasCodeAt d.code to) (start_placed (queue_at d.app d.level) (callee_of d.app o.task row t) to)
+        (subst (λ a. HasCodeAt d.code to (start_code a)) same has)))
 
     -- the code of the task of the message, after the test
     task_run : {done until deadline at from : ℕ} {w : Words}
         → 19 + most d + done ≤ until → done + 21 ≤ deadline → from ≡ at + (2 + t.args)
-        → HasCode d.code at (plain (instr.Set 7 t.args) ∷ plain (instr.Calc op.Mul 7 9 7)
+        → HasCodeAt d.code at (plain (instr.Set 7 t.args) ∷ plain (instr.Calc op.Mul 7 9 7)
         ∷ (argument_lines (slice_index (layout d.app).inputs o.task) t.args ++ start_code from))
         → TellsOf o es w → S (job d) (chosen done until deadline at (words w))
     task_run {done = done} {until = until} {deadline = deadline} {at = at} {from = from} {w = w} enough in_time from_is
@@ -168,7 +168,7 @@ module _ {d : Dispatcher} {cells : List ℕ} {queues : Location → List Entry} 
           behind = refl;
           time = (omega arith, (omega arith, (omega arith, tt)));
         })
-        (subst (λ lines. HasCode d.code (suc (suc at)) (lines ++ start_code from))
+        (subst (λ lines. HasCodeAt d.code (suc (suc at)) (lines ++ start_code from))
         (lines_by_layout d.app o.task is.at software (λ count cell. argument_lines cell count) (λ a b. refl) t.args
         refl) has.1.1)
         (λ later to after done_is to_is behind loaded.
@@ -181,7 +181,7 @@ module _ {d : Dispatcher} {cells : List ℕ} {queues : Location → List Entry} 
   -- whether the message is of a task
   tested : {n next done until deadline at : ℕ} {w : Words} (b : Bool) → (o.task == n) ≡ b
       → done + 3 ≤ until → done + 3 ≤ deadline
-      → HasCode d.code at (plain (instr.Set 7 n) ∷ plain (instr.Calc op.Eq 7 10 7) ∷ plain (instr.JumpZ 7 next) ∷ [])
+      → HasCodeAt d.code at (plain (instr.Set 7 n) ∷ plain (instr.Calc op.Eq 7 10 7) ∷ plain (instr.JumpZ 7 next) ∷ [])
       → TellsOf o es w
       → S (job d) (chosen (steps_and 3 done) until deadline (if b then steps_and 3 at else next)
       (words (record w { other = number_of b })))
@@ -205,7 +205,7 @@ module _ {d : Dispatcher} {cells : List ℕ} {queues : Location → List Entry} 
   -- the lines for so many tasks of the level, among which the message's is
   pub record Runs (at n k : ℕ) (lines : List Line) : Type 0 where
     pub runs : {done until deadline : ℕ} {w : Words} → n ≤ o.task → HasTime d k done until deadline
-        → HasCode d.code at lines → TellsOf o es w → S (job d) (chosen done until deadline at (words w))
+        → HasCodeAt d.code at lines → TellsOf o es w → S (job d) (chosen done until deadline at (words w))
 
   its_task : (t : Task) × (slice_get d.app.tasks o.task ≡ Some t) × (is_of_level d.level t ≡ true)
   its_task = the_task (is_of_level d.level) d.app o.task oldest.placed.0
@@ -239,7 +239,7 @@ module _ {d : Dispatcher} {cells : List ℕ} {queues : Location → List Entry} 
       where
         by_test : {done until deadline : ℕ} {w : Words} (b : Bool) → (o.task == n) ≡ b → n ≤ o.task
             → HasTime d (1 + k) done until deadline
-            → HasCode d.code at (choice_code d.app d.level exit at n row t ++ more) → TellsOf o es w
+            → HasCodeAt d.code at (choice_code d.app d.level exit at n row t ++ more) → TellsOf o es w
             → S (job d) (chosen done until deadline at (words w))
         by_test true e before time (set, (equal, (jump, behind))) tells =
             let same : n ≡ o.task = sym (eqb-true o.task n e) in
@@ -250,7 +250,7 @@ module _ {d : Dispatcher} {cells : List ℕ} {queues : Location → List Entry} 
             tested true e (omega (arith, time.job)) (omega (arith, time.section)) (set, (equal, (jump, tt))) tells
             (task_run (subst (λ n. IsTask d.app d.level d.entry n row t) same is) (omega (arith, time.job))
             (omega (arith, time.section)) (omega arith)
-            (subst (λ k. HasCode d.code (steps_and 3 at) (lines k)) same
+            (subst (λ k. HasCodeAt d.code (steps_and 3 at) (lines k)) same
             (code_front d.code (steps_and 3 at) (lines n) more behind)) tells)
         by_test {done = done} {until = until} {deadline = deadline} {w = w} false e before time has tells =
             let differs : n ≢ o.task = grind (arith, nat_tests) in

@@ -1,5 +1,5 @@
 -- The code of a dispatcher stands.
-use Rattle.rt_gen_queue.proofs.Vocabulary.{AreRepresented, At, AtPriority, BodyRow, Doing, Entry, Guarded, HasCode}
+use Rattle.rt_gen_queue.proofs.Vocabulary.{AreRepresented, At, AtPriority, BodyRow, Doing, Entry, Guarded, HasCodeAt}
 use Rattle.rt_gen_queue.proofs.Vocabulary.{Location}
 use Rattle.rt_gen_queue.proofs.Vocabulary.{KeepsTaskLimits, Line, List, Messages, None, Rest, Section, RepresentsReady}
 use Rattle.rt_gen_queue.proofs.Vocabulary.{StandsFrom, Values, [], accepted_are_sound, all_at, ap, arith, calm}
@@ -40,7 +40,7 @@ front_fits q at =
 abbrev choices_from : Dispatcher → ℕ → ℕ → List Line
 choices_from d at to = choices_code d.app d.level (exit_of d.app d.level at) to 0 0 d.app.tasks
 
-module _ (d : Dispatcher) (at : ℕ) (choices : HasCode d.code (at + 18) (choices_from d at (at + 18))) where
+module _ (d : Dispatcher) (at : ℕ) (choices : HasCodeAt d.code (at + 18) (choices_from d at (at + 18))) where
   abbrev x : Section
   x = section.Ready d.level
 
@@ -142,7 +142,7 @@ module _ (d : Dispatcher) (at : ℕ) (choices : HasCode d.code (at + 18) (choice
       (start_doing d.app d.level ms vs)) (words (taken_words w m.cells o es)))) (sym is.messages)
       ((choices_run oldest at (steps_and 12 m.at)).runs (omega arith)
       (record { job = omega (arith, time.job); section = omega (arith, time.section) })
-      (subst (λ a. HasCode d.code a (choices_from d at a)) to choices)
+      (subst (λ a. HasCodeAt d.code a (choices_from d at a)) to choices)
       (record { left_is = refl; unit_is = refl; place_is = refl; task_is = refl })))
 
   -- whatever is ready
@@ -185,7 +185,7 @@ module _ (d : Dispatcher) (at : ℕ) (choices : HasCode d.code (at + 18) (choice
       entered_run (omega arith) (record { job = omega (arith, until_is); section = omega (arith, none) })
       (represented_taken x taken represented) taken.represented)
 
-  dispatches : HasCode d.code at lines → (bodies : List BodyRow) → bodies ≡ rows d
+  dispatches : HasCodeAt d.code at lines → (bodies : List BodyRow) → bodies ≡ rows d
       → StandsFrom (storage d.app) d.code bodies d.thread (AtPriority d.level) (length (memory d.app)) DISPATCHER_WORDS
       at (dispatcher_cost d.app d.level) (dispatcher_doing d.app d.level)
   dispatches front bodies rows_are = λ slots cells queues vs words_long long kept.
@@ -201,7 +201,7 @@ module _ (d : Dispatcher) (at : ℕ) (choices : HasCode d.code (at + 18) (choice
       (subst (λ slots. S (job d) (begin slots)) (words_are slots words_long)
       (run.runs
       (record { time = (omega arith, (omega arith, tt)); saves = tt; long = refl; fit = fits })
-      (subst (HasCode d.code at) (front_placed (queue_at d.app d.level) at) front))))
+      (subst (HasCodeAt d.code at) (front_placed (queue_at d.app d.level) at) front))))
 
 pub dispatchers_stand : DispatchersStand
 dispatchers_stand app accepted level is there thread =

@@ -1,5 +1,5 @@
 -- The arguments of a message come into the first slots, up to four of them.
-use Rattle.rt_gen_queue.proofs.Vocabulary.{Entry, HasCode, Home, In, Line, List, MayLoad, [], ap, append-nil}
+use Rattle.rt_gen_queue.proofs.Vocabulary.{Entry, HasCodeAt, Home, In, Line, List, MayLoad, [], ap, append-nil}
 use Rattle.rt_gen_queue.proofs.Vocabulary.{append_assoc, arith, get_or-set_other, home_of, inputs_at, length}
 use Rattle.rt_gen_queue.proofs.Vocabulary.{length-set, map, memory, mine, plain, range_with_len, refl, slice_index}
 use Rattle.rt_gen_queue.proofs.Vocabulary.{slice_set, storage, subst, suc, sym, take, zero, ℕ, ◌++◌, ◌+◌, ◌<◌, ◌∙◌, ◌∷◌}
@@ -45,7 +45,7 @@ load_lines d s from count =
 -- and then it goes on
 abbrev pub GoesOn : Dispatcher → Spread → Here → List Line → ℕ → ℕ → Type 0
 GoesOn d s h lines from more =
-    (done to : ℕ) (after : List ℕ) → done ≡ h.done + more → to ≡ h.at + more → HasCode d.code to lines
+    (done to : ℕ) (after : List ℕ) → done ≡ h.done + more → to ≡ h.at + more → HasCodeAt d.code to lines
     → AreLoaded d s h.cells (take from h.slots) h.slots after from more
     → S (job d) (record h { done = done; at = to; slots = after })
 
@@ -64,7 +64,7 @@ module _ (d : Dispatcher) (s : Spread) where
       }
 
   pub all_load : (lines : List Line) (more from : ℕ) {h : Here} → MayLoadAll d s h more from
-      → HasCode d.code h.at (load_lines d s from more ++ lines) → GoesOn d s h lines from more → S (job d) h
+      → HasCodeAt d.code h.at (load_lines d s from more ++ lines) → GoesOn d s h lines from more → S (job d) h
   all_load lines zero from {h = h} may has on =
       let is : s.count ≡ from = omega (arith, may.all) in
       let begins = ap (λ k. take k h.slots) is ∙ sym (append-nil (take from h.slots)) in

@@ -13,7 +13,7 @@ use Rattle.rt_app.specs.Doings.{dispatcher_doing}
 use Rattle.rt_app.specs.Accepted.{IsAccepted}
 use Rattle.rt_code.specs.Standing.{StandsFrom}
 use Rattle.rt_code.specs.declared.image.BodyRow.{BodyRow}
-use Rattle.rt_gen_queue.specs.Line.{Line, HasCode}
+use Rattle.rt_gen_queue.specs.Line.{Line, HasCodeAt}
 use Rattle.rt_gen_queue.specs.Called.{row_for, rows_for, CalledBodyStands}
 use Rattle.rt_gen_disp.specs.Code.{dispatcher_code}
 
@@ -22,7 +22,7 @@ use Rattle.rt_gen_disp.specs.Code.{dispatcher_code}
 pub record DispatcherAt (app : App) (level : ℕ) : Type 0 where
   pub code : List Line
   pub address : ℕ
-  pub has : HasCode code address (dispatcher_code app level address)
+  pub has : HasCodeAt code address (dispatcher_code app level address)
   pub entry : ℕ → ℕ
   pub bodies : List BodyRow
   pub rows : bodies ≡ rows_for entry 0 app.tasks

@@ -1,7 +1,7 @@
 -- Sections of queues: how they open and close, by their ceilings, at any preemption threshold, on any window.
 use Rattle.rt_gen_queue.proofs.Vocabulary.{Agree, AllByRecursion, App, At, AtPriority, Bool, Contains, Content, Doing}
-use Rattle.rt_gen_queue.proofs.Vocabulary.{Enters, Entry, Guarded, HasCode, OpenSection, Location, HoldsOff, IsKindFor}
-use Rattle.rt_gen_queue.proofs.Vocabulary.{IsMask}
+use Rattle.rt_gen_queue.proofs.Vocabulary.{Enters, Entry, Guarded, HasCodeAt, OpenSection, Location, HoldsOff}
+use Rattle.rt_gen_queue.proofs.Vocabulary.{IsKindFor, IsMask}
 use Rattle.rt_gen_queue.proofs.Vocabulary.{IsWithin, Leaves, LeavesMine, Line, List, Marked, Masked, NobodyKeeps}
 use Rattle.rt_gen_queue.proofs.Vocabulary.{Raised, Runner, Section, Some, Starting, TakesOver, Values, [], all_append}
 use Rattle.rt_gen_queue.proofs.Vocabulary.{all_behind, all_has, all_weaker, and_both, and_left, and_right, ap, arith}
@@ -219,7 +219,7 @@ pub section_stands : {size mask : ℕ} {z : Setting} {f : Frame size mask} {h : 
     {threshold : ℕ} (ws : List ℕ) (lines : List Line) → MayEnter z f h x threshold → length ws ≡ size
     → all_fit size mask lines ≡ true → InTime
     (h.done + length (section_lines x (guard_of z.app x) threshold mask lines)) h
-    → HasCode z.code h.at (enter z.app x threshold (f.slot + mask)
+    → HasCodeAt z.code h.at (enter z.app x threshold (f.slot + mask)
     ∷ (map (placed f.slot) lines ++ leave z.app x threshold (f.slot + mask) ∷ []))
     → Straight z f (section_lines x (guard_of z.app x) threshold mask lines) h ws → S z (Now f h ws)
 section_stands {size = size} {mask = mask} {z = z} {f = f} {h = h} {x = x} {threshold = threshold} ws lines may long fit
@@ -228,7 +228,7 @@ section_stands {size = size} {mask = mask} {z = z} {f = f} {h = h} {x = x} {thre
     let fits = section_fits x (guard_of z.app x) threshold mask size mask lines fit in
     run.runs
     (record { time = time; saves = saves_below f h.held may.masks; long = long; fit = fits })
-    (subst (HasCode z.code h.at) (section_placed x (guard_of z.app x) threshold mask f.slot lines) has)
+    (subst (HasCodeAt z.code h.at) (section_placed x (guard_of z.app x) threshold mask f.slot lines) has)
 
 -- what is so after the section of a queue, from what was taken over in it
 module _ {size mask : ℕ} {z : Setting} {f : Frame size mask} {h : Here} {x : Section} {threshold : ℕ} {vs ws : Values}

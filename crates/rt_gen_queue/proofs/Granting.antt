@@ -1,5 +1,5 @@
 -- The code by which a spawn takes a place of its task, or finds none.
-use Rattle.rt_gen_queue.proofs.Vocabulary.{Agree, App, At, Bool, Content, Doing, Entry, FREE_COST, Guarded, HasCode}
+use Rattle.rt_gen_queue.proofs.Vocabulary.{Agree, App, At, Bool, Content, Doing, Entry, FREE_COST, Guarded, HasCodeAt}
 use Rattle.rt_gen_queue.proofs.Vocabulary.{OpenSection, Location, Leaves, LeavesMine, Line, List, Marked, Number}
 use Rattle.rt_gen_queue.proofs.Vocabulary.{FindsFull}
 use Rattle.rt_gen_queue.proofs.Vocabulary.{Rest}
@@ -30,7 +30,7 @@ use Rattle.rt_gen_queue.proofs.Words.{Arguments, Scratch, words}
 
 pub record MayTake (z : Setting) (f : Frame 9 8) (h : Here) (task threshold full : ℕ) (t : Task) : Type 0 where
   pub facts : Spawned z.app task t
-  pub code : HasCode z.code h.at (place_code z.app task threshold f.slot full)
+  pub code : HasCodeAt z.code h.at (place_code z.app task threshold f.slot full)
   pub time : InTime (h.done + 8) h
   pub long : length h.cells ≡ length (memory z.app)
   pub enter : MayEnter z f h (section.Free task) threshold
@@ -163,7 +163,7 @@ module _ {z : Setting} {f : Frame 9 8} {h : Here} {task threshold full : ℕ} {t
 
     -- there a note says so, and the section closes
     pub refused_stands : {rest : Rest} (a : Arguments) (s : Scratch)
-        → HasCode z.code full (drop 2 (end_code z.app task threshold f.slot (full + 2)))
+        → HasCodeAt z.code full (drop 2 (end_code z.app task threshold f.slot (full + 2)))
         → ((us : Values) → LeavesMine (storage z.app) z.who (configuration z h) cells queues
         → Agree (storage z.app) z.who h.held us vs
         → S z (Now f

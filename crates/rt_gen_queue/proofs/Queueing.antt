@@ -1,5 +1,5 @@
 -- The code by which a spawn puts the message in its hands into the ring of a level, and pends the level's dispatcher.
-use Rattle.rt_gen_queue.proofs.Vocabulary.{Agree, At, Contains, Content, Entry, Guarded, HasCode, Location, Home}
+use Rattle.rt_gen_queue.proofs.Vocabulary.{Agree, At, Contains, Content, Entry, Guarded, HasCodeAt, Location, Home}
 use Rattle.rt_gen_queue.proofs.Vocabulary.{Leaves}
 use Rattle.rt_gen_queue.proofs.Vocabulary.{LeavesMine, List, Marked, MayLoad, Message, Messages, Posts, Readies, Rest}
 use Rattle.rt_gen_queue.proofs.Vocabulary.{Section, RepresentsReady, TakesOver, Values, [], act_all, ap, arith, count}
@@ -35,7 +35,7 @@ module _ (z : Setting) (f : Frame 9 8) (h : Here) where
   pub record MayReady (task p threshold : ℕ) (e : Entry) (others : List Entry) (m : Message) : Type 0 where
     pub known : Contains (levels z.app) p
     pub few : ready_room z.app p ≤ 1024
-    pub code : HasCode z.code h.at (ready_code z.app task p threshold f.slot)
+    pub code : HasCodeAt z.code h.at (ready_code z.app task p threshold f.slot)
     pub time : InTime (h.done + 12) h
     pub enter : MayEnter z f h (section.Ready p) threshold
     pub hands : HasMessage z h p task e others m

@@ -1,5 +1,6 @@
 -- The code by which a spawn stores the arguments in the cells of its place, and makes the word of its message.
-use Rattle.rt_gen_queue.proofs.Vocabulary.{Entry, Guarded, HasCode, Location, Home, In, LeavesMine, Line, List, MayLoad}
+use Rattle.rt_gen_queue.proofs.Vocabulary.{Entry, Guarded, HasCodeAt, Location, Home, In, LeavesMine, Line, List}
+use Rattle.rt_gen_queue.proofs.Vocabulary.{MayLoad}
 use Rattle.rt_gen_queue.proofs.Vocabulary.{Task, [], ap, arguments_of, arith, capacity_of, cases_lt, count, count_more}
 use Rattle.rt_gen_queue.proofs.Vocabulary.{drop, fill_code, get_or-take, get_or_append_left, home_of, inl}
 use Rattle.rt_gen_queue.proofs.Vocabulary.{input_is_home, inputs_at, inr, length, length-append}
@@ -40,7 +41,7 @@ pub record HasPlace (z : Setting) (h : Here) (task : ℕ) (e : Entry) : Type 0 w
 
 pub record MayFill (z : Setting) (f : Frame 9 8) (h : Here) (task : ℕ) (t : Task) (e : Entry) : Type 0 where
   pub facts : Spawned z.app task t
-  pub code : HasCode z.code h.at (fill_code z.app task f.slot)
+  pub code : HasCodeAt z.code h.at (fill_code z.app task f.slot)
   pub time : InTime (h.done + (4 + arguments_of z.app task)) h
   pub saves : Saves f h.held
   pub hands : HasPlace z h task e
@@ -164,7 +165,7 @@ module _ {z : Setting} {f : Frame 9 8} {h : Here} {task : ℕ} {t : Task} {e : E
       let fits = stores_fit args_of (inputs_at z.app task) 0 (last 0) (omega (arith, few_args)) refl in
       run.runs
       (record { time = subst (λ n. InTime (h.done + n) h) long may.time; saves = may.saves; long = refl; fit = fits })
-      (subst (HasCode z.code h.at) (code_is f.slot) may.code)
+      (subst (HasCodeAt z.code h.at) (code_is f.slot) may.code)
 
 -- the message has the arguments
 pub message_is : {z : Setting} {task : ℕ} {t : Task} {e : Entry} {values before after : List ℕ}

@@ -95,8 +95,8 @@ pub use Rattle.rt_code.proofs.Standing.{stands_with_more}
 pub use Rattle.rt_gen_queue.specs.Called.{AreRepresented, calm, row_for, rows_for}
 pub use Rattle.rt_gen_queue.specs.Guards.{enter, enter_line, guard_of, guard_of_ceiling, kind_at, kind_of, leave}
 pub use Rattle.rt_gen_queue.specs.Guards.{leave_line}
-pub use Rattle.rt_gen_queue.specs.Line.{HasCode, IsNameable, Line, line_with_note, plain}
-pub use Rattle.rt_gen_queue.specs.Making.{Appends, Made, next_address}
+pub use Rattle.rt_gen_queue.specs.Line.{HasCodeAt, IsNameable, Line, line_with_note, plain}
+pub use Rattle.rt_gen_queue.specs.Making.{Appends, Extends, Made, next_address}
 pub use Rattle.rt_gen_queue.specs.{Queue.queue_at, SpawnLines.store_code}
 pub use Rattle.rt_gen_queue.specs.{Spawning.HoldsOff}
 pub use Rattle.rt_gen_queue.specs.SpawnCode.{end_code, fill_code, ready_code, spawn_code, place_code, target_of}

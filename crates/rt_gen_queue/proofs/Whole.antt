@@ -1,5 +1,6 @@
 -- The code of a whole spawn stands: a place is taken, filled and handed on, or none is left.
-use Rattle.rt_gen_queue.proofs.Vocabulary.{Agree, Entry, HasCode, Location, LeavesMine, Line, List, Message, Rest, Some}
+use Rattle.rt_gen_queue.proofs.Vocabulary.{Agree, Entry, HasCodeAt, Location, LeavesMine, Line, List, Message, Rest}
+use Rattle.rt_gen_queue.proofs.Vocabulary.{Some}
 use Rattle.rt_gen_queue.proofs.Vocabulary.{Values, [], act_all, ap, arguments_of, arith, count_more, drop, end_code}
 use Rattle.rt_gen_queue.proofs.Vocabulary.{fill_code, inl, inr, length, map, one_itself, plain, ready_actions}
 use Rattle.rt_gen_queue.proofs.Vocabulary.{ready_code, refl, slice_index, spawn_code, storage, subst, sym, take}
@@ -74,7 +75,7 @@ spawn_stands c named q n k fuel on =
     readying : List Line
     readying = ready_code app task (task_priority app task) threshold slot
 
-    has_fill : HasCode code (steps_and 8 s.address) (fill_code app task slot ++ (readying ++ ending))
+    has_fill : HasCodeAt code (steps_and 8 s.address) (fill_code app task slot ++ (readying ++ ending))
     has_fill =
         code_behind code s.address (steps_and 8 s.address) (place_code app task threshold slot full)
         (fill_code app task slot ++ (readying ++ ending)) (omega arith) has
@@ -82,15 +83,15 @@ spawn_stands c named q n k fuel on =
     filled_to : ℕ
     filled_to = steps_and (4 + count) (steps_and 8 s.address)
 
-    has_ready : HasCode code filled_to (readying ++ ending)
+    has_ready : HasCodeAt code filled_to (readying ++ ending)
     has_ready =
         code_behind code (steps_and 8 s.address) filled_to (fill_code app task slot) (readying ++ ending)
         (omega (arith, fill_long app task slot, steps_are (4 + count) (steps_and 8 s.address))) has_fill
 
-    has_end : HasCode code (steps_and 12 filled_to) ending
+    has_end : HasCodeAt code (steps_and 12 filled_to) ending
     has_end = code_behind code filled_to (steps_and 12 filled_to) readying ending (omega arith) has_ready
 
-    has_full : HasCode code full (drop 2 ending)
+    has_full : HasCodeAt code full (drop 2 ending)
     has_full =
         code_behind code (steps_and 12 filled_to) full (take 2 ending) (drop 2 ending)
         (omega (arith, steps_are (4 + count) (steps_and 8 s.address))) has_end
@@ -200,7 +201,7 @@ spawn_stands c named q n k fuel on =
         (record {
           known = known app task t facts;
           few = few_ready app task t facts;
-          code = subst (λ q. HasCode code filled_to (ready_code app task q threshold slot)) p_is
+          code = subst (λ q. HasCodeAt code filled_to (ready_code app task q threshold slot)) p_is
               (code_front code filled_to readying ending has_ready);
           time = lasts (steps_and (4 + count) 8 + 12) (omega (arith, soon, few));
           enter = record {

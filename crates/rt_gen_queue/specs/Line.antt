@@ -19,9 +19,9 @@ abbrev pub line_with_note : Instr → Note → Line
 line_with_note i told = (i, Some told)
 
 -- the code has these lines from an address on
-abbrev pub HasCode : List Line → ℕ → List Line → Type 0
-HasCode code at [] = Unit {0}
-HasCode code at (line ∷ lines) = (slice_get code at ≡ Some line) × HasCode code (suc at) lines
+abbrev pub HasCodeAt : List Line → ℕ → List Line → Type 0
+HasCodeAt code at [] = Unit {0}
+HasCodeAt code at (line ∷ lines) = (slice_get code at ≡ Some line) × HasCodeAt code (suc at) lines
 
 -- what a line names is declared: the interrupt that it posts, and the resource, task or body of its note. So the line
 -- can be written, and the item that its note gives

@@ -22,7 +22,7 @@ use Rattle.rt_code.specs.Masking.{IsWithin}
 use Rattle.rt_code.specs.Owning.{OpenSection, Configuration, is_open, saved_slots, Agree, LeavesMine}
 use Rattle.rt_code.specs.Standing.{Stands}
 use Rattle.rt_code.specs.declared.image.BodyRow.{BodyRow}
-use Rattle.rt_gen_queue.specs.Line.{Line, HasCode}
+use Rattle.rt_gen_queue.specs.Line.{Line, HasCodeAt}
 use Rattle.rt_gen_queue.specs.SpawnCode.{spawn_code}
 
 module _ (app : App) (who : Runner) where
@@ -96,7 +96,8 @@ pub record SpawnAt (c : CallSite) : Type 0 where
   pub value : Expression → ℕ
   pub args : List Expression
   pub offset : ℕ
-  pub has : HasCode c.code c.configuration.address (spawn_code c.app c.task c.threshold c.slot c.configuration.address)
+  pub has : HasCodeAt c.code c.configuration.address
+      (spawn_code c.app c.task c.threshold c.slot c.configuration.address)
   pub may : MaySpawn c.app c.who c.task c.t c.threshold c.slot c.configuration
   pub arguments : take c.t.args (drop c.slot c.configuration.slots) ≡ map value args
   pub is : c.configuration.rest ≡ spawn_actions c.app value (Soon c.task args offset) c.rest c.vs

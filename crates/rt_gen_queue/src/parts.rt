@@ -130,8 +130,8 @@ pub fn ready(target: &Target, threshold: u8, slot: u32) -> [Line; 12]
     ]
 }
 
-/// The lines of the two answers, of which the first leads to an address.
-pub(crate) fn answer(target: &Target, threshold: u8, slot: u32, end: u32) -> [Line; 4]
+/// The lines of the two answers, the first of which leads to an address.
+pub(crate) fn end_lines(target: &Target, threshold: u8, slot: u32, end: u32) -> [Line; 4]
     requires slots { slot + SPAWN_WORDS < 2 ^ 32 }
     ensures { result ≡ spec.end_lines target.now threshold slot end }
 {

@@ -14,7 +14,7 @@ ghost use Rattle.rt_gen_queue.specs.SpawnCode.{spawn_code};
 ghost use Rattle.rt_gen_queue.specs.Making.{Appends};
 
 use crate::lines::{Lines, append_lines};
-use crate::parts::{answer, fill, place, ready};
+use crate::parts::{end_lines, fill, place, ready};
 use crate::target::{Target, find_target};
 use rt_app::Plan;
 use rt_app::costs::SPAWN_WORDS;
@@ -54,7 +54,7 @@ fn append_spawn(
     lines.append(&place(target, threshold, slot, end - 2))?;
     fill(target, slot, lines)?;
     lines.append(&ready(target, threshold, slot))?;
-    lines.append(&answer(target, threshold, slot, end))
+    lines.append(&end_lines(target, threshold, slot, end))
 }
 
 /// Appends the code of a spawn of a software task, at a static preemption threshold, whose arguments are in the slots

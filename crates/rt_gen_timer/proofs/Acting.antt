@@ -1,5 +1,6 @@
 -- Runs of lines on the window of the timer's code, and the cells of the timer queue while its section is open.
-use Rattle.rt_gen_queue.proofs.Vocabulary.{At, Guarded, HasCode, OpenSection, Line, List, [], ap, arith, drop, home_of}
+use Rattle.rt_gen_queue.proofs.Vocabulary.{At, Guarded, HasCodeAt, OpenSection, Line, List, [], ap, arith, drop}
+use Rattle.rt_gen_queue.proofs.Vocabulary.{home_of}
 use Rattle.rt_gen_queue.proofs.Vocabulary.{is_open, length, map, memory, refl, subst, suc, take, true, zero, ℕ, ◌*◌}
 use Rattle.rt_gen_queue.proofs.Vocabulary.{◌+◌, ◌<◌, ◌∙◌, ◌∷◌, ◌≡◌, ◌≤◌}
 use Rattle.rt_ids.specs.declared.ids.Section.TheVariants as section
@@ -33,29 +34,29 @@ may_run runs within long fit = let early = sooner runs within in
 
 -- where a job is and what its window has, a run of lines that may begin leads on
 pub run_stands : {z : Setting} {f : Slots} {k : ℕ} (h : Here) (w : Words) (lines : List Line) → Runs f k h
-    → h.done + length lines ≤ k → all_fit 24 9 lines ≡ true → HasCode z.code h.at (map (placed f.slot) lines)
+    → h.done + length lines ≤ k → all_fit 24 9 lines ≡ true → HasCodeAt z.code h.at (map (placed f.slot) lines)
     → Straight z f lines h (words w) → S z (Now f h (words w))
 run_stands h w lines runs within fit has on = on.runs (may_run runs within refl fit) has
 
 -- lines as they stand in code, from one of them on
-code_from : (code : List Line) (k at : ℕ) (lines : List Line) → HasCode code at lines
-    → HasCode code (at + k) (drop k lines)
+code_from : (code : List Line) (k at : ℕ) (lines : List Line) → HasCodeAt code at lines
+    → HasCodeAt code (at + k) (drop k lines)
 code_from code zero at lines has =
-    let e : at ≡ at + 0 = omega arith in subst (λ (a : ℕ). HasCode code a lines) e has
+    let e : at ≡ at + 0 = omega arith in subst (λ (a : ℕ). HasCodeAt code a lines) e has
 code_from code (suc k) at [] has = tt
 code_from code (suc k) at (line ∷ lines) (first, rest) =
     let e : suc at + k ≡ at + suc k = omega arith in
-    subst (λ (a : ℕ). HasCode code a (drop k lines)) e (code_from code k (suc at) lines rest)
+    subst (λ (a : ℕ). HasCodeAt code a (drop k lines)) e (code_from code k (suc at) lines rest)
 
-pub code_first : (code : List Line) (n at : ℕ) (lines : List Line) → HasCode code at lines
-    → HasCode code at (take n lines)
+pub code_first : (code : List Line) (n at : ℕ) (lines : List Line) → HasCodeAt code at lines
+    → HasCodeAt code at (take n lines)
 code_first code zero at lines has = tt
 code_first code (suc n) at [] has = tt
 code_first code (suc n) at (line ∷ lines) (first, rest) = (first, code_first code n (suc at) lines rest)
 
 -- so many of them
-pub code_part : (code : List Line) (at : ℕ) (lines : List Line) (k n : ℕ) → HasCode code at lines
-    → HasCode code (at + k) (take n (drop k lines))
+pub code_part : (code : List Line) (at : ℕ) (lines : List Line) (k n : ℕ) → HasCodeAt code at lines
+    → HasCodeAt code (at + k) (take n (drop k lines))
 code_part code at lines k n has = code_first code n (at + k) (drop k lines) (code_from code k at lines has)
 
 -- The section of the timer queue is open, and its cells are there: the counts, and the columns by row or by position.

@@ -1,6 +1,6 @@
 -- The code of a whole `spawn_after`: a place is taken and filled, and in the section of the timer queue its message is
 -- armed, with the handle for an answer; or none is left, and the answer is 0.
-use Rattle.rt_gen_queue.proofs.Vocabulary.{Arms, Content, Entry, Guarded, HasCode, OpenSection, Location, Home}
+use Rattle.rt_gen_queue.proofs.Vocabulary.{Arms, Content, Entry, Guarded, HasCodeAt, OpenSection, Location, Home}
 use Rattle.rt_gen_queue.proofs.Vocabulary.{IsTimedPlace, Leaves, Line, List, Marked, MayLoad, Message, FindsFull}
 use Rattle.rt_gen_queue.proofs.Vocabulary.{Rest, Section, Some, TakesOver, Timed, Values, [], act}
 use Rattle.rt_gen_queue.proofs.Vocabulary.{act_all, all_weaker, and_both, ap, arguments_of, arith, arm_actions}
@@ -105,25 +105,25 @@ module _ {c : Call} {cost delay : ℕ} {args : List ℕ} {h : Here} (k : SendsLa
   abbrev ending : List Line
   ending = full_lines q slot threshold (armed_task app task) (full + 2)
 
-  has_fill : HasCode code (h.at + 8) (filling ++ (arming slot ++ ending))
+  has_fill : HasCodeAt code (h.at + 8) (filling ++ (arming slot ++ ending))
   has_fill =
       code_behind code h.at (h.at + 8) (place_code app task threshold (slot + 1) full)
       (filling ++ (arming slot ++ ending))
       refl has
 
-  has_arm : HasCode code (h.at + (12 + args_of)) (arming slot ++ ending)
+  has_arm : HasCodeAt code (h.at + (12 + args_of)) (arming slot ++ ending)
   has_arm =
       code_behind code (h.at + 8) (h.at + (12 + args_of)) filling (arming slot ++ ending)
       (omega (arith, fill_long app task (slot + 1))) has_fill
 
-  arming_has : HasCode code (h.at + (12 + args_of)) (arming slot)
+  arming_has : HasCodeAt code (h.at + (12 + args_of)) (arming slot)
   arming_has = code_front code (h.at + (12 + args_of)) (arming slot) ending has_arm
 
-  has_end : HasCode code (h.at + (12 + args_of) + 46) ending
+  has_end : HasCodeAt code (h.at + (12 + args_of) + 46) ending
   has_end =
       code_behind code (h.at + (12 + args_of)) (h.at + (12 + args_of) + 46) (arming slot) ending (omega arith) has_arm
 
-  has_full : HasCode code full (drop 1 ending)
+  has_full : HasCodeAt code full (drop 1 ending)
   has_full =
       code_behind code (h.at + (12 + args_of) + 46) full (take 1 ending) (drop 1 ending) (omega arith) has_end
 
@@ -495,7 +495,7 @@ module _ {c : Call} {cost delay : ℕ} {args : List ℕ} {h : Here} (k : SendsLa
         fill_stands {f = nine (w may)} {h = holding (steps_and 8 h.done) (steps_and 8 h.at) cells}
         (record {
           facts = may.facts;
-          code = subst (λ a. HasCode code a filling) eight
+          code = subst (λ a. HasCodeAt code a filling) eight
               (code_front code (h.at + 8) filling (arming slot ++ ending) has_fill);
           time = (sooner {j = steps_and 8 h.done + (4 + args_of)} runs_on (omega (arith, few_args))).time;
           saves = saves_below (nine (w may)) h.held

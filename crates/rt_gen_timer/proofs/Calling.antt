@@ -1,6 +1,6 @@
 -- A call of the timer queue's code in a body: where it begins, on a window of the job's slots, what is known inside its
 -- section, how that closes, and where the call ends.
-use Rattle.rt_gen_queue.proofs.Vocabulary.{Agree, AllByRecursion, Content, Delays, Doing, Entry, Guarded, HasCode}
+use Rattle.rt_gen_queue.proofs.Vocabulary.{Agree, AllByRecursion, Content, Delays, Doing, Entry, Guarded, HasCodeAt}
 use Rattle.rt_gen_queue.proofs.Vocabulary.{Location, HoldsOff, IsSome, IsWithin, LeavesMine, Line, List, Rest}
 use Rattle.rt_gen_queue.proofs.Vocabulary.{RepresentsTimer, Configuration, TakesOver, Task, Timed, Values, ap, arith}
 use Rattle.rt_gen_queue.proofs.Vocabulary.{count_more}
@@ -28,9 +28,9 @@ pub use Rattle.rt_gen_timer.proofs.Closing.{leaving_fits}
 
 -- lines with one that leaves the timer queue's section among them, as they stand in code
 pub leaving_code : (z : Setting) (f : Slots) (threshold at : ℕ) (front behind : List Line)
-    → HasCode z.code at
+    → HasCodeAt z.code at
     (map (placed f.slot) front ++ leave z.app section.Timer threshold (f.slot + 9) ∷ map (placed f.slot) behind)
-    → HasCode z.code at (map (placed f.slot) (front ++ leave z.app section.Timer threshold 9 ∷ behind))
+    → HasCodeAt z.code at (map (placed f.slot) (front ++ leave z.app section.Timer threshold 9 ∷ behind))
 leaving_code z f threshold at front behind has = leaving_placed z.app threshold z.code f at front behind has
 
 -- a call that goes to the timer queue: for a task, at a preemption threshold, with the first of its slots, and what is
@@ -121,7 +121,7 @@ module _ {c : Call} {steps : ℕ} {h : Here} (may : MayCall c steps h) where
 -- It begins: its lines, which take so many steps, are in the code, this is left to do, and it goes on after them.
 pub record IsViablePrefix (c : Call) (steps : ℕ) (lines : List Line) (doing : Rest) (h : Here) : Type 0 where
   pub may : MayCall c steps h
-  pub has : HasCode c.z.code h.at lines
+  pub has : HasCodeAt c.z.code h.at lines
   pub is : h.rest ≡ doing c.values
   pub on : GoesBehind may lines
 
@@ -262,7 +262,7 @@ task_of c named = record { accepted = named.accepted; at = named.is_there; softw
 -- after the call the answer is in the first slot, and slots outside the window are as they were.
 pub stands_called : (c : Call) (s : Configuration) {lines : List Line} {doing : Rest} {steps n : ℕ}
     → Spawned c.z.app c.task c.t → IsSome c.z.app.mono → MayUseTimer c.z.app c.z.who steps c.threshold c.slot s
-    → HasCode c.z.code s.address lines → s.rest ≡ doing c.values
+    → HasCodeAt c.z.code s.address lines → s.rest ≡ doing c.values
     → ((k : ℕ) → IsViablePrefix (of_job c s) steps lines doing (begun s k) → S (of_job c s).z (begun s k))
     → StandsBefore c.z.app c.z.who c.z.code c.z.bodies c.z.thread steps c.slot lines c.rest n s c.values
 stands_called c s {steps = steps} facts mono uses has is correct = λ on k enough.

@@ -1,6 +1,6 @@
 -- The end of a section of the timer queue: the alarm is set to the least armed instant, which is that of the heap's
 -- first message, or to none where nothing is armed, and the section closes.
-use Rattle.rt_gen_queue.proofs.Vocabulary.{Agree, App, Content, Entry, Guarded, HasCode, OpenSection, IsAccepted}
+use Rattle.rt_gen_queue.proofs.Vocabulary.{Agree, App, Content, Entry, Guarded, HasCodeAt, OpenSection, IsAccepted}
 use Rattle.rt_gen_queue.proofs.Vocabulary.{IsSome, Line}
 use Rattle.rt_gen_queue.proofs.Vocabulary.{List, Rest, SetsAlarm, Some, Values, [], and_both, ap, arith, armed_place}
 use Rattle.rt_gen_queue.proofs.Vocabulary.{delays, does, guard_of, least_instant, leave, leave_timer, length, map}
@@ -95,11 +95,11 @@ module _ (app : App) (threshold : ℕ) where
       (leave_fits section.Timer (guard_of app section.Timer) threshold 9 24 9) second)
 
   pub leaving_placed : (code : List Line) (f : Slots) (at : ℕ) (front behind : List Line)
-      → HasCode code at
+      → HasCodeAt code at
       (map (placed f.slot) front ++ leave app section.Timer threshold (f.slot + 9) ∷ map (placed f.slot) behind)
-      → HasCode code at (map (placed f.slot) (front ++ leave app section.Timer threshold 9 ∷ behind))
+      → HasCodeAt code at (map (placed f.slot) (front ++ leave app section.Timer threshold 9 ∷ behind))
   leaving_placed code f at front behind has =
-      subst (HasCode code at)
+      subst (HasCodeAt code at)
       (ap (λ line. map (placed f.slot) front ++ line ∷ map (placed f.slot) behind)
       (sym (leave_placed section.Timer (guard_of app section.Timer) threshold 9 f.slot))
       ∙ sym (map-append (placed f.slot) front (leave app section.Timer threshold 9 ∷ behind))) has
@@ -113,8 +113,8 @@ module _ (app : App) (threshold : ℕ) where
   closing_fit at lines fit = leaving_fits (alarm_lines (queue_of app) 0 at) lines refl fit
 
   pub closing_placed : (code : List Line) (f : Slots) (at : ℕ) (lines : List Line)
-      → HasCode code at
+      → HasCodeAt code at
       (alarm_lines (queue_of app) f.slot at ++ leave app section.Timer threshold (f.slot + 9)
       ∷ map (placed f.slot) lines)
-      → HasCode code at (map (placed f.slot) (closing_lines at lines))
+      → HasCodeAt code at (map (placed f.slot) (closing_lines at lines))
   closing_placed code f at lines has = leaving_placed code f at (alarm_lines (queue_of app) 0 at) lines has

@@ -2,7 +2,7 @@
 -- section of the timer queue opens and by the clock the first message of the heap is due, or none is; and that it
 -- returns where none is.
 use Rattle.rt_gen_queue.proofs.Vocabulary.{Agree, App, Armed, At, AtPriority, BodyRow, Bool, Clocks, Content, Delays}
-use Rattle.rt_gen_queue.proofs.Vocabulary.{Doing, Entry, Fires, Guarded, HasCode, OpenSection, Location, Home}
+use Rattle.rt_gen_queue.proofs.Vocabulary.{Doing, Entry, Fires, Guarded, HasCodeAt, OpenSection, Location, Home}
 use Rattle.rt_gen_queue.proofs.Vocabulary.{IsAccepted}
 use Rattle.rt_gen_queue.proofs.Vocabulary.{IsSome, IsTimedPlace, IsWithin, LeavesMine, Line, List, MayLoad, None}
 use Rattle.rt_gen_queue.proofs.Vocabulary.{Number, Option, Own, Rest, Returns, Some, Configuration, Values, [], act}
@@ -121,7 +121,7 @@ begun k = record {
 pub record MayHandle (k : Handler) : Type 0 where
   pub accepted : IsAccepted k.app
   pub mono : IsSome k.app.mono
-  pub code : HasCode k.code k.first (timer_code k.app k.threshold k.first)
+  pub code : HasCodeAt k.code k.first (timer_code k.app k.threshold k.first)
   pub least : 64 ≤ k.cost
   pub kept : AreKept k.app k.threshold k.cells k.queues k.values
   pub long : length k.cells ≡ length (memory k.app)
@@ -344,7 +344,7 @@ module _ {k : Handler} (may : MayHandle k) where
   pub judges_stand : (w : Words) → IsDue w → S (setting k) (Now (frame k) (begun k) (words w))
   judges_stand w dues =
       let x = section.Timer in
-      let front : HasCode k.code k.first (due_lines (queue_of k.app) 0 k.threshold (k.first + 10) (k.first + 18)) =
+      let front : HasCodeAt k.code k.first (due_lines (queue_of k.app) 0 k.threshold (k.first + 10) (k.first + 18)) =
       code_first k.code 10 k.first (timer_code k.app k.threshold k.first) may.code in
       run_stands {f = frame k} {k = 10} (begun k) w (due_lines (queue_of k.app) 0 k.threshold (k.first + 10)
       (k.first + 18))

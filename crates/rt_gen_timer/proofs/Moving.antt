@@ -1,6 +1,6 @@
 -- The code of a `reschedule_after`: the message of the handle gets another instant and the next number and goes up or
 -- down from where it stands, or there is none.
-use Rattle.rt_gen_queue.proofs.Vocabulary.{Clocks, Entry, Guarded, HasCode, Line, List, Moves, Rest, Values, act}
+use Rattle.rt_gen_queue.proofs.Vocabulary.{Clocks, Entry, Guarded, HasCodeAt, Line, List, Moves, Rest, Values, act}
 use Rattle.rt_gen_queue.proofs.Vocabulary.{ap, arith, armed_messages, armed_place, at, does, few_messages}
 use Rattle.rt_gen_queue.proofs.Vocabulary.{handle_section_cost, leave, leave_timer, length, min, line_with_note, refl}
 use Rattle.rt_gen_queue.proofs.Vocabulary.{slice_index, subst, suc, sym, take, with_moved, ℕ, ◌*◌, ◌++◌, ◌+◌, ◌<◌, ◌^◌}
@@ -51,7 +51,7 @@ module _ {c : Call} {delay handle : ℕ} {h : Here} (k : AsksMove c delay handle
   abbrev put_off : List Line
   put_off = put_off_lines q slot (armed_task app task) (h.at + 17)
 
-  put_off_code : HasCode code (h.at + 17) put_off
+  put_off_code : HasCodeAt code (h.at + 17) put_off
   put_off_code = code_part code h.at all 17 59 has
 
   abbrev note_lines : List Line

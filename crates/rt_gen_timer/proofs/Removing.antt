@@ -1,6 +1,6 @@
 -- The code by which a message leaves the heap from a position of it: the last message comes into the hand and fills the
 -- position, and goes up or down from there; or it was the last one itself.
-use Rattle.rt_gen_queue.proofs.Vocabulary.{Entry, HasCode, IsHeap, Line, List, [], ap, arith, at, cases_lt, inl, inr}
+use Rattle.rt_gen_queue.proofs.Vocabulary.{Entry, HasCodeAt, IsHeap, Line, List, [], ap, arith, at, cases_lt, inl, inr}
 use Rattle.rt_gen_queue.proofs.Vocabulary.{key_of, keys, length, operate, refl, slice_index, slice_set, subst, suc, sym}
 use Rattle.rt_gen_queue.proofs.Vocabulary.{take, ℕ, ◌*◌, ◌+◌, ◌-◌, ◌<◌, ◌^◌, ◌∙◌, ◌∷◌, ◌≡◌, ◌≢◌, ◌≤◌, ◌⊎◌}
 use Rattle.rt_ids.specs.declared.op.Op.TheVariants as op
@@ -60,7 +60,7 @@ IsAll r n cells heap = IsWhole r.queue r.row r.instant r.arming n cells heap
 
 -- A message may leave the heap, which stands in cells and is in order.
 pub record MayRemove (z : Setting) (f : Slots) (r : Removal) (h : Here) : Type 0 where
-  pub code : HasCode z.code h.at (remove_lines r.queue f.slot h.at)
+  pub code : HasCodeAt z.code h.at (remove_lines r.queue f.slot h.at)
   pub runs : Runs f (h.done + removal_steps r) h
   pub above : r.position < r.size → suc r.position < rise_reach r.rising
   pub reach : r.size < rise_reach r.turns

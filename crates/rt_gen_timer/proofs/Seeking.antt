@@ -1,6 +1,6 @@
 -- A call by a handle: the section of the timer queue opens, and the message of the task that has the handle is looked
 -- for in the heap, from its last position down to the first; or none has it, the section closes, and the answer is 1.
-use Rattle.rt_gen_queue.proofs.Vocabulary.{Armed, Bool, Doing, Enters, Entry, Guarded, HasCode}
+use Rattle.rt_gen_queue.proofs.Vocabulary.{Armed, Bool, Doing, Enters, Entry, Guarded, HasCodeAt}
 use Rattle.rt_gen_queue.proofs.Vocabulary.{Location, Leaves, Line, List, Option, Rest, Some, Values, [], act, ap, arith}
 use Rattle.rt_gen_queue.proofs.Vocabulary.{message_of_handle, arming_of_entry, armed_messages, armed_place, at}
 use Rattle.rt_gen_queue.proofs.Vocabulary.{cases_eq, false}
@@ -51,7 +51,7 @@ record Search : Type 0 where
 -- It may be looked for: the column of the heap has the rows of its messages, that of the handles has theirs by row, and
 -- a slot has the one that is wanted.
 record MaySearch (z : Setting) (f : Slots) (g : Search) (h : Here) (w : Words) : Type 0 where
-  pub code : HasCode z.code h.at
+  pub code : HasCodeAt z.code h.at
       (search_lines g.queue f.slot g.slot g.missing h.at ++ own_lines g.queue f.slot g.task g.missing)
   pub runs : Runs f (h.done + (6 * length g.heap + 6)) h
   pub small : length g.heap < 2 ^ 32
@@ -204,9 +204,9 @@ pub record Sought : Type 0 where
 -- so the call begins
 pub record MaySeek (c : Call) (h : Here) (k : Sought) : Type 0 where
   pub may : MayCall c (handle_steps c.z.app) h
-  pub code : HasCode c.z.code h.at
+  pub code : HasCodeAt c.z.code h.at
       (find_lines (queue_of c.z.app) c.slot c.threshold (armed_task c.z.app c.task) k.slot (h.at + k.missing) h.at)
-  pub none : HasCode c.z.code (h.at + k.missing)
+  pub none : HasCodeAt c.z.code (h.at + k.missing)
       (lines.leave_timer (queue_of c.z.app) c.slot c.threshold ∷ lines.set (queue_of c.z.app) c.slot 0 1 ∷ [])
   pub known : is_there 24 k.slot ≡ true
   pub shown : (mask n : ℕ) → Shows (opened_words (w may) mask n) k.slot k.handle
@@ -373,7 +373,7 @@ module _ {c : Call} {h : Here} {k : Sought} (seek : MaySeek c h k) where
   pub seeks : OnSeen → OnNone → S c.z (Now (f seek.may) h (words (w seek.may)))
   seeks on missed =
       let x = section.Timer in
-      let front : HasCode c.z.code h.at (open_lines (queue_of c.z.app) c.slot c.threshold) =
+      let front : HasCodeAt c.z.code h.at (open_lines (queue_of c.z.app) c.slot c.threshold) =
       code_first c.z.code 5 h.at
       (find_lines (queue_of c.z.app) c.slot c.threshold (armed_task c.z.app c.task) k.slot (h.at + k.missing) h.at)
       seek.code in

@@ -1,6 +1,6 @@
 -- The message in hand goes up from the hole and then down from there, as far as its key leads: with it at the hole that
 -- is left the messages are a heap again.
-use Rattle.rt_gen_queue.proofs.Vocabulary.{Entry, HasCode, List, arith, refl, slice_set, suc, zero, ℕ, ◌*◌, ◌+◌, ◌<◌}
+use Rattle.rt_gen_queue.proofs.Vocabulary.{Entry, HasCodeAt, List, arith, refl, slice_set, suc, zero, ℕ, ◌*◌, ◌+◌, ◌<◌}
 use Rattle.rt_gen_queue.proofs.Vocabulary.{◌^◌, ◌≡◌, ◌≤◌}
 use Rattle.std.proofs.Math.Nat.{pow-succ'}
 use Rattle.rt_gen_queue.proofs.Layer.{Here, Now, S, Setting, moved}
@@ -10,7 +10,7 @@ use Rattle.rt_gen_timer.proofs.{Moves.HasHole, Moves.HasSettled, Moves.settled_b
 use Rattle.rt_gen_timer.proofs.{Window.Words, Window.words}
 use Rattle.rt_gen_timer.proofs.Sifting.{IsReady, MaySink, reach_more, rise_reach, rises_stand, sink_reach, sinking}
 use Rattle.rt_gen_timer.proofs.Sifting.{sinks_stand}
-use Rattle.rt_gen_timer.specs.TimerLines.{rise_lines, sink_lines}
+use Rattle.rt_gen_timer.specs.TimerLines.{sift_up_lines, sift_down_lines}
 
 -- As many turns lead up to the first position as lead down from it; and how far, as a power of 2.
 sink_doubles : (turns i : ℕ) → sink_reach turns (i + i + 1) ≡ sink_reach turns i + sink_reach turns i + 1
@@ -33,8 +33,8 @@ reach_enough (suc n) = omega (arith, reach_enough n)
 -- Both loops may begin, the second at an address after the first: so many turns lead up, and so many down.
 pub record MaySettle (z : Setting) (f : Slots) (k : Hand) (up down i : ℕ) (h : Here) (xs : List Entry) : Type 0 where
   pub to : ℕ
-  pub rise : HasCode z.code h.at (rise_lines k.queue f.slot h.at)
-  pub sink : HasCode z.code to (sink_lines k.queue f.slot to)
+  pub rise : HasCodeAt z.code h.at (sift_up_lines k.queue f.slot h.at)
+  pub sink : HasCodeAt z.code to (sift_down_lines k.queue f.slot to)
   pub next : to ≡ h.at + 15
   pub runs : Runs f (h.done + (15 * up + 31 * down + 40)) h
   pub reach : suc i < rise_reach up

@@ -1,7 +1,7 @@
 -- The loops in which the message in hand goes up or down from the hole: up within 15 steps a turn, each of which at
 -- least halves the position, and down within 31, each of which at least doubles it. What is after a loop is told by
 -- what holds there.
-use Rattle.rt_gen_queue.proofs.Vocabulary.{Entry, HasCode, Line, List, [], above, ap, arith, at, cases_lt, drop, inl}
+use Rattle.rt_gen_queue.proofs.Vocabulary.{Entry, HasCodeAt, Line, List, [], above, ap, arith, at, cases_lt, drop, inl}
 use Rattle.rt_gen_queue.proofs.Vocabulary.{inr, keys, le-ltb, lt-ltb, nat_lt, number_of, operate, plain, refl, suc, sym}
 use Rattle.rt_gen_queue.proofs.Vocabulary.{take, zero, ℕ, ◌*◌, ◌++◌, ◌+◌, ◌-◌, ◌<◌, ◌^◌, ◌∙◌, ◌∷◌, ◌≡◌, ◌≢◌, ◌≤◌}
 use Rattle.rt_ids.specs.declared.op.Op.TheVariants as op
@@ -17,7 +17,7 @@ use Rattle.rt_gen_timer.proofs.Moves.{sink_turn, with_moved}
 use Rattle.rt_gen_timer.proofs.Order.{IsLesser, IsNoGreater, IsNoLess, above_less, lesser_is, no_greater_than_lesser}
 use Rattle.rt_gen_timer.proofs.Order.{none_below}
 use Rattle.rt_gen_timer.proofs.Window.{Scratch, Slots, Words, words}
-use Rattle.rt_gen_timer.specs.TimerLines.{copy, heap_of, jump_zero, rise_lines, sink_lines, store_at}
+use Rattle.rt_gen_timer.specs.TimerLines.{copy, heap_of, jump_zero, sift_up_lines, sift_down_lines, store_at}
 
 module _ {z : Setting} {f : Slots} (k : Hand) {h : Here} {xs : List Entry} {i : ℕ} where
   -- The last lines of a turn, after a comparison of two keys: where the first is less the message at another position
@@ -54,7 +54,7 @@ less_one i some small =
 
 -- the loop may begin, with a message in hand: the column has the messages but that of the hole
 pub record IsReady (z : Setting) (f : Slots) (k : Hand) (turns i : ℕ) (h : Here) (xs : List Entry) : Type 0 where
-  pub code : HasCode z.code h.at (rise_lines k.queue f.slot h.at)
+  pub code : HasCodeAt z.code h.at (sift_up_lines k.queue f.slot h.at)
   pub runs : Runs f (h.done + (15 * turns + 12)) h
   pub reach : suc i < rise_reach turns
   pub few : k.size < 2 ^ 32
@@ -130,7 +130,7 @@ module _ {z : Setting} {f : Slots} {k : Hand} where
   -- at the first position the loop ends
   first_position : (turns : ℕ) → Rises z f k turns 0
   first_position turns h xs w s ready on =
-      run_stands h (in_hand k w s 0) (take 1 (rise_lines k.queue 0 h.at)) ready.runs (omega arith) refl
+      run_stands h (in_hand k w s 0) (take 1 (sift_up_lines k.queue 0 h.at)) ready.runs (omega arith) refl
       (ready.code.0, tt)
       (jumps_off refl (on _ s (rise_over (suc h.done) ready (omega arith) (λ some. absurd (omega (arith, some))))))
 
@@ -147,7 +147,7 @@ module _ {z : Setting} {f : Slots} {k : Hand} where
       let kept : IsKept k.queue k.row k.instant k.arming h.cells x = ready.hollow.kept a inside apart in
       let t : Scratch =
       record s { other = a; row = k.row x; row_instant = k.instant x; row_arming = k.arming x } in
-      run_stands h (in_hand k w s i) (rise_lines k.queue 0 h.at) ready.runs (omega arith) refl ready.code
+      run_stands h (in_hand k w s i) (sift_up_lines k.queue 0 h.at) ready.runs (omega arith) refl ready.code
       (stays some
       (calculates (i - 1) (less_one i some (omega (arith, ready.few, ready.hollow.within)))
       (calculates a refl
@@ -194,7 +194,7 @@ right_within left n within =
 
 -- The loop may begin, with a message in hand: the column has the messages but that of the hole.
 pub record MaySink (z : Setting) (f : Slots) (k : Hand) (turns i : ℕ) (h : Here) (xs : List Entry) : Type 0 where
-  pub code : HasCode z.code h.at (sink_lines k.queue f.slot h.at)
+  pub code : HasCodeAt z.code h.at (sift_down_lines k.queue f.slot h.at)
   pub runs : Runs f (h.done + (31 * turns + 28)) h
   pub reach : k.size ≤ sink_reach turns i
   pub few : k.size < 2 ^ 31
@@ -292,7 +292,7 @@ module _ {z : Setting} {f : Slots} {k : Hand} where
   sinks_to : {turns i c : ℕ} {h : Here} {xs : List Entry} → Sinks z f k turns c → (w : Words) (s : Scratch)
       → MaySink z f k (suc turns) i h xs → BehindSink z f k (suc turns) i h xs w
       → IsLesser k.size i (keys (key k) xs) c
-      → Straight z f (drop 19 (sink_lines k.queue 0 h.at)) (ahead 19 h)
+      → Straight z f (drop 19 (sift_down_lines k.queue 0 h.at)) (ahead 19 h)
       (words (sinking k w (record s { other = c }) i))
   sinks_to {i = i} {c = c} {h = h} {xs = xs} again w s may on lesser =
       let w1 : Words = record w { count = k.size } in
@@ -322,7 +322,7 @@ module _ {z : Setting} {f : Slots} {k : Hand} where
       → MaySink z f k turns i h xs → BehindSink z f k turns i h xs w
       → (i + i + 1 < k.size → (t : Scratch)
       → Straight z f lines (ahead 4 h) (words (sinking k w (record t { other = i + i + 1 }) i)))
-      → Straight z f (take 4 (sink_lines k.queue 0 h.at) ++ lines) h (words (sinking k w s i))
+      → Straight z f (take 4 (sift_down_lines k.queue 0 h.at) ++ lines) h (words (sinking k w s i))
   looks_below {i = i} {h = h} {xs = xs} w s may on some =
       let left : ℕ = i + i + 1 in
       let t : Scratch = record s { other = left; right = number_of (nat_lt left k.size) } in
@@ -363,7 +363,7 @@ module _ {z : Setting} {f : Slots} {k : Hand} where
       let more : ℕ = number_of (nat_lt (left + 1) k.size) in
       let right : ℕ = left + more in
       let few : k.size < 2 ^ 31 = may.few in
-      run_stands h (sinking k w s i) (sink_lines k.queue 0 h.at) may.runs (omega arith) refl may.code
+      run_stands h (sinking k w s i) (sift_down_lines k.queue 0 h.at) may.runs (omega arith) refl may.code
       (looks_below w s may on
       (λ inside t.
       let second : right < k.size = right_within left k.size inside in
@@ -382,8 +382,8 @@ module _ {z : Setting} {f : Slots} {k : Hand} where
   -- below the last positions the loop ends
   last_turn : (i : ℕ) → Sinks z f k 0 i
   last_turn i h xs w s may on =
-      run_stands h (sinking k w s i) (take 4 (sink_lines k.queue 0 h.at)) may.runs (omega arith) refl
-      (code_first z.code 4 h.at (sink_lines k.queue f.slot h.at) may.code)
+      run_stands h (sinking k w s i) (take 4 (sift_down_lines k.queue 0 h.at)) may.runs (omega arith) refl
+      (code_first z.code 4 h.at (sift_down_lines k.queue f.slot h.at) may.code)
       (looks_below w s may on (λ inside t. absurd (omega (arith, may.reach))))
 
   -- the loop, by its turns

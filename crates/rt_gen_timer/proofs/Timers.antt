@@ -1,7 +1,7 @@
 -- The timer handler where a message is due: the first message of the heap leaves it and fires, the section closes with
 -- the alarm set, the message becomes ready at its task's level, and the handler returns. So the code of the whole
 -- handler stands, at the priority of the monotonic.
-use Rattle.rt_gen_queue.proofs.Vocabulary.{App, AtPriority, Contains, Entry, HasCode, Location, IsAccepted, IsSome}
+use Rattle.rt_gen_queue.proofs.Vocabulary.{App, AtPriority, Contains, Entry, HasCodeAt, Location, IsAccepted, IsSome}
 use Rattle.rt_gen_queue.proofs.Vocabulary.{IsTimedPlace, IsWithin, Line, List, Message, Mono, Returns, Some, Task}
 use Rattle.rt_gen_queue.proofs.Vocabulary.{Values, [], act_all, ap, arith, arming_of_entry, armed_place, capacity_of}
 use Rattle.rt_gen_queue.proofs.Vocabulary.{ceiling}
@@ -102,7 +102,7 @@ record MayRise (k : Handler) (c : Carried) : Type 0 where
   pub message : message_at k.app (slice_index c.cells) c.e ≡ c.m
   pub long : length c.cells ≡ length (memory k.app)
   pub kept : AreKept k.app k.threshold c.cells c.queues c.values
-  pub has : HasCode k.code c.at
+  pub has : HasCodeAt k.code c.at
       (ready_code k.app c.e.task (task_priority k.app c.e.task) k.threshold 1 ++ plain instr.Ret ∷ [])
   pub in_time : c.done + 13 ≤ timer_cost k.app
 
@@ -216,7 +216,7 @@ module _ {k : Handler} (u : Due k) where
 
     -- With its row in a slot it fires, the section closes with the alarm set, and it becomes ready.
     fires_then : (v : Words) → v.place ≡ armed_place k.app e → v.count ≡ length heap - 1 → (done at : ℕ)
-        → done ≤ b.done + 3 * armed_tasks k.app → HasCode k.code at (choice_at k e.task at)
+        → done ≤ b.done + 3 * armed_tasks k.app → HasCodeAt k.code at (choice_at k e.task at)
         → S (setting k) (Now (frame k) (here b.cells done at) (words v))
     fires_then v row counted done at less found =
         let x = section.Timer in
@@ -236,7 +236,7 @@ module _ {k : Handler} (u : Due k) where
         let again = timer_left u.may.mono before now.represents picked gone.without gone.whole gone.count in
         run_stands (here b.cells done at) v closing runs_here (omega (arith, less, gone.within))
         (closing_fit k.app k.threshold (at + 6) [] refl)
-        (subst (λ (line : Line). HasCode k.code at (fire ++ (alarm_lines (queue_of k.app) 0 (at + 6) ++ line ∷ [])))
+        (subst (λ (line : Line). HasCodeAt k.code at (fire ++ (alarm_lines (queue_of k.app) 0 (at + 6) ++ line ∷ [])))
         (sym (leave_placed x (guard_of k.app x) k.threshold 9 0)) (code_front k.code at closing ready found))
         (sets
         (calculates 1 own

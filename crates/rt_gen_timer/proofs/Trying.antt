@@ -1,6 +1,6 @@
 -- The choices of the timer handler: one after the other is tried, until that of the task whose message is due. Each
 -- that is tried in vain takes 3 steps.
-use Rattle.rt_gen_queue.proofs.Vocabulary.{Bool, Entry, HasCode, IsTimedPlace, Line, List, Some, Task, [], and_both}
+use Rattle.rt_gen_queue.proofs.Vocabulary.{Bool, Entry, HasCodeAt, IsTimedPlace, Line, List, Some, Task, [], and_both}
 use Rattle.rt_gen_queue.proofs.Vocabulary.{and_right, ap, append_assoc, arith, armed_count, armed_place, cases_eq}
 use Rattle.rt_gen_queue.proofs.Vocabulary.{false, false≢true, if◌then◌else◌, inl, inr, is_armed, is_software}
 use Rattle.rt_gen_queue.proofs.Vocabulary.{is_some_and, le-ltb, length, number_of, option_map, or_zero, refl, slice_get}
@@ -25,14 +25,14 @@ module _ (k : Handler) where
     pub tasks : (j : ℕ) (t : Task) → slice_get ts j ≡ Some t → slice_get k.app.tasks (n + j) ≡ Some t
     pub least : n ≤ e.task
     pub among : e.task < n + length ts
-    pub code : HasCode k.code h.at (choices_code k.app k.threshold h.at n ts ++ behind)
+    pub code : HasCodeAt k.code h.at (choices_code k.app k.threshold h.at n ts ++ behind)
     pub runs : Runs (frame k) (h.done + 3 * armed_count k.app n ts) h
     pub row : w.place ≡ armed_place k.app e
 
   -- the choice of the message's task is found
   abbrev pub Found : Entry → ℕ → List Task → Here → Words → Type 0
   Found e n ts h w =
-      (done to other : ℕ) → done ≤ h.done + 3 * armed_count k.app n ts → HasCode k.code to (choice_at e.task to)
+      (done to other : ℕ) → done ≤ h.done + 3 * armed_count k.app n ts → HasCodeAt k.code to (choice_at e.task to)
       → S (setting k) (Now (frame k) (record h { done = done; at = to }) (words (record w { other = other })))
 
   abbrev Tries : Entry → ℕ → List Task → List Line → Type 0
@@ -62,7 +62,7 @@ module _ (k : Handler) where
     -- the tasks after it may be tried
     behind_one : {done at other : ℕ} → n < e.task
         → done + 3 * armed_count k.app (n + 1) ts ≤ h.done + 3 * armed_count k.app n (t ∷ ts)
-        → HasCode k.code at (choices_code k.app k.threshold at (n + 1) ts ++ behind)
+        → HasCodeAt k.code at (choices_code k.app k.threshold at (n + 1) ts ++ behind)
         → MayTry e (n + 1) ts behind (record h { done = done; at = at }) (record w { other = other })
     behind_one less soon code = record {
       place = may.place;
@@ -78,7 +78,7 @@ module _ (k : Handler) where
     -- it is tried, by whether it has a choice
     tries_one : Tries e (n + 1) ts behind → Found e n (t ∷ ts) h w → (b : Bool)
         → (is_software t && is_armed k.app n) ≡ b
-        → HasCode k.code h.at
+        → HasCodeAt k.code h.at
         ((if b then choice_at n h.at ++ choices_code k.app k.threshold (h.at + 26) (n + 1) ts
         else choices_code k.app k.threshold h.at (n + 1) ts) ++ behind)
         → S (setting k) (Now (frame k) h (words w))
@@ -94,12 +94,12 @@ module _ (k : Handler) where
         ap (λ (b : Bool). (if b then 1 else 0) + armed_count k.app (n + 1) ts)
         (and_right (is_software t) (is_armed k.app n) armed) in
         let more : List Line = choices_code k.app k.threshold (h.at + 26) (n + 1) ts in
-        let whole : HasCode k.code h.at (choice_at n h.at ++ (more ++ behind)) =
-        subst (HasCode k.code h.at) (append_assoc (choice_at n h.at) more behind) code in
+        let whole : HasCodeAt k.code h.at (choice_at n h.at ++ (more ++ behind)) =
+        subst (HasCodeAt k.code h.at) (append_assoc (choice_at n h.at) more behind) code in
         elim (cases_eq e.task n) [
           | inl same ↦
               found h.done h.at w.other (omega arith)
-              (subst (λ (m : ℕ). HasCode k.code h.at (choice_at m h.at)) (sym same)
+              (subst (λ (m : ℕ). HasCodeAt k.code h.at (choice_at m h.at)) (sym same)
               (code_front k.code h.at (choice_at n h.at) (more ++ behind) whole))
           | inr apart ↦
               (let less : n < e.task = omega (arith, apart, may.least) in

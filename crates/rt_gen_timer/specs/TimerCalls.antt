@@ -26,7 +26,7 @@ use Rattle.rt_code.specs.Masking.{IsWithin}
 use Rattle.rt_code.specs.Owning.{Configuration, is_open, saved_slots, Agree, LeavesMine}
 use Rattle.rt_code.specs.Standing.{Stands, StandsFrom}
 use Rattle.rt_code.specs.declared.image.BodyRow.{BodyRow}
-use Rattle.rt_gen_queue.specs.Line.{Line, HasCode}
+use Rattle.rt_gen_queue.specs.Line.{Line, HasCodeAt}
 use Rattle.rt_gen_queue.specs.Spawning.{HoldsOff, behind, CallSite, NamesTask}
 use Rattle.rt_gen_timer.specs.TimerCode.{after_code, cancel_code, move_code, timer_code}
 
@@ -94,7 +94,8 @@ pub record AfterAt (c : CallSite) : Type 0 where
   pub args : List ℕ
   pub armed : is_armed c.app c.task ≡ true
   pub costs : IsSectionCost c.app cost
-  pub has : HasCode c.code c.configuration.address (after_code c.app c.task c.threshold c.slot c.configuration.address)
+  pub has : HasCodeAt c.code c.configuration.address
+      (after_code c.app c.task c.threshold c.slot c.configuration.address)
   pub may : MayUseTimer c.app c.who (after_steps c.app) c.threshold c.slot c.configuration
   pub places : MayUsePlaces c.app c.who c.task c.configuration
   pub delayed : slice_index c.configuration.slots c.slot ≡ delay
@@ -115,7 +116,8 @@ AftersStand =
 -- the handle is in the first slot; and its actions are what is to be done.
 pub record CancelAt (c : CallSite) : Type 0 where
   pub handle : ℕ
-  pub has : HasCode c.code c.configuration.address (cancel_code c.app c.task c.threshold c.slot c.configuration.address)
+  pub has : HasCodeAt c.code c.configuration.address
+      (cancel_code c.app c.task c.threshold c.slot c.configuration.address)
   pub may : MayUseTimer c.app c.who (handle_steps c.app) c.threshold c.slot c.configuration
   pub places : MayUsePlaces c.app c.who c.task c.configuration
   pub shown : slice_index c.configuration.slots c.slot ≡ handle
@@ -134,7 +136,8 @@ CancelsStand =
 pub record MoveAt (c : CallSite) : Type 0 where
   pub delay : ℕ
   pub handle : ℕ
-  pub has : HasCode c.code c.configuration.address (move_code c.app c.task c.threshold c.slot c.configuration.address)
+  pub has : HasCodeAt c.code c.configuration.address
+      (move_code c.app c.task c.threshold c.slot c.configuration.address)
   pub may : MayUseTimer c.app c.who (handle_steps c.app) c.threshold c.slot c.configuration
   pub delayed : slice_index c.configuration.slots c.slot ≡ delay
   pub shown : slice_index c.configuration.slots (c.slot + 1) ≡ handle
@@ -152,7 +155,7 @@ MovesStand =
 pub record TimerHandlerAt (app : App) (mono : Mono) : Type 0 where
   pub code : List Line
   pub address : ℕ
-  pub has : HasCode code address (timer_code app mono.priority address)
+  pub has : HasCodeAt code address (timer_code app mono.priority address)
   pub bodies : List BodyRow
 
 -- The code of the timer handler stands at the priority of the monotonic, with a section of each of the two costs.

@@ -88,8 +88,8 @@ module _ (q : TimerQueue) (slot : ℕ) where
 
   -- The message in hand goes up from the hole: those above it that are greater move down, one a turn of 15 lines. From
   -- an address on.
-  abbrev pub rise_lines : ℕ → List Line
-  rise_lines at =
+  abbrev pub sift_up_lines : ℕ → List Line
+  sift_up_lines at =
       jump_zero HOLE (at + 15)
       ∷ calc op.Sub OTHER HOLE ONE
       ∷ calc op.Div OTHER OTHER TWO
@@ -111,8 +111,8 @@ module _ (q : TimerQueue) (slot : ℕ) where
 
   -- The message in hand goes down from the hole: the lesser of the two below it moves up where it is less than the one
   -- in hand, one a turn of 31 lines. Where there is no right child the left one is taken for it.
-  abbrev pub sink_lines : ℕ → List Line
-  sink_lines at =
+  abbrev pub sift_down_lines : ℕ → List Line
+  sift_down_lines at =
       calc op.Add OTHER HOLE HOLE
       ∷ calc op.Add OTHER OTHER ONE
       ∷ calc op.Lt RIGHT OTHER COUNT
@@ -165,8 +165,8 @@ module _ (q : TimerQueue) (slot : ℕ) where
   abbrev pub remove_lines : ℕ → List Line
   remove_lines at =
       last_lines (at + 54)
-      ++ (rise_lines (at + 7)
-      ++ (sink_lines (at + 22)
+      ++ (sift_up_lines (at + 7)
+      ++ (sift_down_lines (at + 22)
       ++ store_at (heap_of q) HOLE HAND ∷ []))
 
   -- The alarm becomes the least armed instant, which the first message of the heap has, or none where nothing is armed.
@@ -233,8 +233,8 @@ module _ (q : TimerQueue) (slot : ℕ) where
       copy HAND PLACE
       ∷ (time_lines (at + 1)
       ++ (again_lines
-      ++ (rise_lines (at + 12)
-      ++ (sink_lines (at + 27)
+      ++ (sift_up_lines (at + 12)
+      ++ (sift_down_lines (at + 27)
       ++ line_with_note (instr.StoreAt (heap_of q) (slot + HOLE) (slot + HAND))
       (note.Move a.target.task (slot + ARGUMENTS) (slot + INSTANT)) ∷ []))))
 
@@ -258,7 +258,7 @@ module _ (q : TimerQueue) (slot : ℕ) where
         enter_timer
         ∷ (time_lines (at + 1)
         ++ (row_lines a
-        ++ (rise_lines (at + 23)
+        ++ (sift_up_lines (at + 23)
         ++ line_with_note (instr.StoreAt (heap_of q) (slot + HOLE) (slot + HAND))
         (note.Arm a.target.task (slot + INSTANT))
         ∷ (alarm_lines (at + 39) ++ leave_timer ∷ []))))

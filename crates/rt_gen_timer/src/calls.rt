@@ -6,7 +6,7 @@ ghost use Rattle.rt_gen_timer.specs.TimerLines as spec;
 
 use crate::armed::ArmedTask;
 use crate::emitter::Emitter;
-use crate::heap::{RISE, SINK};
+use crate::heap::{SIFT_DOWN, SIFT_UP};
 use crate::section::{ALARM, TIME};
 use crate::slots::{
     ANSWER, ARGUMENTS, COUNT, HAND, HOLE, INSTANT, NUMBER, ONE, OTHER, PLACE, RIGHT, TWO,
@@ -82,7 +82,7 @@ impl Emitter {
                 Part::Code(&NEXT, at),
                 Part::Code(&[Template::Set(HAND, offset)], at),
                 Part::Code(&ROW, at),
-                Part::Code(&RISE, at + 23),
+                Part::Code(&SIFT_UP, at + 23),
                 Part::Settle(note),
                 Part::Code(&ALARM, at + 39),
                 Part::Leave(threshold),
@@ -177,7 +177,7 @@ impl Emitter {
     }
 
     /// Appends the lines of a `reschedule_after` that put the found message to another instant.
-    fn push_again(&self, armed: &ArmedTask, at: u32, lines: &mut Lines) -> Result<(), NoMemory>
+    fn push_put_off(&self, armed: &ArmedTask, at: u32, lines: &mut Lines) -> Result<(), NoMemory>
         requires few { self.now.queue.messages ≤ CAPACITY * TASKS }
         requires slots { self.now.slot + TIMER_QUEUE_WORDS < 2 ^ 32 }
         requires room { at + 87 < 2 ^ 32 }
@@ -190,8 +190,8 @@ impl Emitter {
                 Part::Code(&[Template::Copy(HAND, PLACE)], at),
                 Part::Code(&TIME, at + 1),
                 Part::Code(&AGAIN, at),
-                Part::Code(&RISE, at + 12),
-                Part::Code(&SINK, at + 27),
+                Part::Code(&SIFT_UP, at + 12),
+                Part::Code(&SIFT_DOWN, at + 27),
                 Part::Settle(Note::Move(armed.target.task, handle, instant)),
             ],
             lines,
@@ -215,7 +215,7 @@ impl Emitter {
             (spec.move_lines self.now.queue self.now.slot threshold armed.now at)) }
     {
         self.push_find(armed, threshold, ARGUMENTS, 85, at, lines)?;
-        self.push_again(armed, at + 17, lines)?;
+        self.push_put_off(armed, at + 17, lines)?;
         self.push(
             &[
                 Part::Code(&ALARM, at + 76),

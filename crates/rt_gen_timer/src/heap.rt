@@ -6,7 +6,7 @@ use crate::template::{Column, Template};
 use rt_ids::Op;
 
 /// The message in hand goes up from the hole.
-pub(crate) const RISE: [Template; 15] = [
+pub(crate) const SIFT_UP: [Template; 15] = [
     Template::JumpZero(HOLE, 15),
     Template::Calc(Op::Sub, OTHER, HOLE, ONE),
     Template::Calc(Op::Div, OTHER, OTHER, TWO),
@@ -25,7 +25,7 @@ pub(crate) const RISE: [Template; 15] = [
 ];
 
 /// The message in hand goes down from the hole.
-pub(crate) const SINK: [Template; 31] = [
+pub(crate) const SIFT_DOWN: [Template; 31] = [
     Template::Calc(Op::Add, OTHER, HOLE, HOLE),
     Template::Calc(Op::Add, OTHER, OTHER, ONE),
     Template::Calc(Op::Lt, RIGHT, OTHER, COUNT),

@@ -5,7 +5,7 @@ ghost use Rattle.rt_gen_queue.specs.Making.{Appends};
 ghost use Rattle.rt_gen_timer.specs.TimerLines as spec;
 
 use crate::emitter::Emitter;
-use crate::heap::{RISE, SINK};
+use crate::heap::{SIFT_DOWN, SIFT_UP};
 use crate::slots::{ANSWER, COUNT, HAND, HOLE, INSTANT, MASK, NUMBER, ONE, OTHER, PLACE, RIGHT};
 use crate::template::{Column, Part, Template};
 use rt_code::{Instr, Line, Note};
@@ -61,8 +61,8 @@ impl Emitter {
         self.push(
             &[
                 Part::Code(&LAST, at),
-                Part::Code(&RISE, at + 7),
-                Part::Code(&SINK, at + 22),
+                Part::Code(&SIFT_UP, at + 7),
+                Part::Code(&SIFT_DOWN, at + 22),
                 Part::Code(&FILL, at),
             ],
             lines,

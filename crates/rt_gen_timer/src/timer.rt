@@ -40,7 +40,7 @@ fn address_with_room(lines: &Lines) -> Result<u32, NoMemory>
 }
 
 /// Whether messages of a task, by its number, may be armed.
-fn is_fired(rows: &ArmedRows<'_>, id: TaskId, task: &Task) -> bool
+fn may_fire(rows: &ArmedRows<'_>, id: TaskId, task: &Task) -> bool
     ensures { result ≡ (is_software (task_of task.now) && is_armed (app_of rows.now) id) }
 {
     task.is_software() && rows.is_armed(id)
@@ -67,7 +67,7 @@ fn push_task(
         (next_address lines.old) number (task_of task.now))) }
 {
     let id = TaskId(number as u8);
-    if !is_fired(rows, id, task) {
+    if !may_fire(rows, id, task) {
         return Ok(());
     }
     let at = address_with_room(lines)?;

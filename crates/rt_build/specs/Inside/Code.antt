@@ -16,7 +16,7 @@ use Rattle.rt_app.specs.Names.{names_of}
 use Rattle.rt_app.specs.Stack.{thread_words}
 use Rattle.rt_code.specs.Standing.{StandsFrom}
 use Rattle.rt_code.specs.declared.image.BodyRow.{BodyRow}
-use Rattle.rt_gen_queue.specs.Line.{Line, HasCode, IsNameable}
+use Rattle.rt_gen_queue.specs.Line.{Line, HasCodeAt, IsNameable}
 use Rattle.rt_gen_body.specs.Bodies.{DeclaredStands}
 use Rattle.rt_gen_disp.specs.Code.{dispatcher_code}
 use Rattle.rt_gen_timer.specs.TimerCode.{timer_code}
@@ -52,11 +52,11 @@ kind_size app kind t = if is_of_kind kind t then body_cost (size_measure app) t.
 
 -- the code of the dispatcher of a level is at an address
 pub record HasDispatcher (app : App) (level : ℕ) (code : List Line) (entry : ℕ) : Type 0 where
-  pub there : HasCode code entry (dispatcher_code app level entry)
+  pub there : HasCodeAt code entry (dispatcher_code app level entry)
 
 -- the code of the timer handler at a priority is at an address
-pub record HasHandler (app : App) (priority : ℕ) (code : List Line) (entry : ℕ) : Type 0 where
-  pub there : HasCode code entry (timer_code app priority entry)
+pub record HasTimerHandler (app : App) (priority : ℕ) (code : List Line) (entry : ℕ) : Type 0 where
+  pub there : HasCodeAt code entry (timer_code app priority entry)
 
 module _ (app : App) (lines : List Line) where
   -- the code of `init` stands at 0, and that of the thread at this address, where it goes on after `init`
@@ -85,7 +85,7 @@ module _ (app : App) (lines : List Line) where
   -- the code of the timer handler is at this address, where there is a monotonic
   abbrev pub HasTimer : ℕ → Type 0
   HasTimer entry = (mono : Mono) → app.mono ≡ Some mono
-      → (more : List Line) → HasHandler app mono.priority (lines ++ more) entry
+      → (more : List Line) → HasTimerHandler app mono.priority (lines ++ more) entry
 
 -- The entries differ from earlier ones in that of the task of a number at most, and only if the task is of a kind; then
 -- its code stands there.

@@ -53,9 +53,9 @@ level_in None = None
 level_in (Some t) = level_of t
 
 -- the priority of the monotonic, and 0 where there is none
-abbrev pub mover : Option Mono → ℕ
-mover None = 0
-mover (Some mono) = mono.priority
+abbrev pub mono_priority : Option Mono → ℕ
+mono_priority None = 0
+mono_priority (Some mono) = mono.priority
 
 -- the tables after a spawn by a body of this priority
 abbrev pub tables_after_spawn : App → ℕ → Tables → Spawn → Tables
@@ -68,7 +68,7 @@ tables_after_spawn app priority t (Soon task args at) = record {
 tables_after_spawn app priority t (After word delay task args at) = record {
   shared = t.shared;
   free = raised_table t.free task priority;
-  ready = raised_level t.ready (level_in (slice_get app.tasks task)) (mover app.mono);
+  ready = raised_level t.ready (level_in (slice_get app.tasks task)) (mono_priority app.mono);
   timer = max t.timer priority;
 }
 tables_after_spawn app priority t (Cancel word task handle at) = record {

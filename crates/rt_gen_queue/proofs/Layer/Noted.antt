@@ -1,5 +1,5 @@
 -- Lines of a run that are not silent: those that ask the core for something, and those whose note says what is done.
-use Rattle.rt_gen_queue.proofs.Vocabulary.{Action, Agree, Clocks, Doing, Emits, Entry, Guarded, HasCode, Location}
+use Rattle.rt_gen_queue.proofs.Vocabulary.{Action, Agree, Clocks, Doing, Emits, Entry, Guarded, HasCodeAt, Location}
 use Rattle.rt_gen_queue.proofs.Vocabulary.{Instr}
 use Rattle.rt_gen_queue.proofs.Vocabulary.{Line, LineFits, List, None, Posts, SetsAlarm, Some, Values, and_right, ap}
 use Rattle.rt_gen_queue.proofs.Vocabulary.{arith, delays, does, effect, is_open, least_instant, length, length-set, map}
@@ -46,7 +46,7 @@ module _ {size mask : ℕ} where
       {places : List Entry} {cells : List ℕ} {queues : Location → List Entry} where
     -- a run that goes on after a line, as what the line's note asks for
     pub goes_later : {rest : Doing Values} {after : List ℕ} → length after ≡ length ws → MayRun f (line ∷ lines) h ws
-        → HasCode z.code (suc h.at) (map (placed f.slot) lines)
+        → HasCodeAt z.code (suc h.at) (map (placed f.slot) lines)
         → Straight z f lines (behind_line h places cells queues rest) after
         → Later z h
         (spend_step (configuration z (Now f (record (behind_line h places cells queues rest) { done = h.done }) after)))
@@ -57,7 +57,7 @@ module _ {size mask : ℕ} where
     -- the next action of what is left to do, as a line's note has it, and the lines after it
     pub acts_later : {values : Values} {rest : Values → Doing Values} (action : Action) (after : List ℕ)
         → length after ≡ length ws → MayRun f (line ∷ lines) h ws
-        → HasCode z.code (suc h.at) (map (placed f.slot) lines) → h.rest ≡ does action values (λ answer. rest)
+        → HasCodeAt z.code (suc h.at) (map (placed f.slot) lines) → h.rest ≡ does action values (λ answer. rest)
         → ((vs : Values) → Agree (storage z.app) z.who h.held vs values
         → Straight z f lines (behind_line h places cells queues (rest (effect action vs))) after)
         → Acts (storage z.app) z.bodies z.who action 0
@@ -73,7 +73,7 @@ module _ {size mask : ℕ} where
 
   module _ {z : Setting} {f : Frame size mask} {line : Line} {lines : List Line} {h : Here} {ws : List ℕ} where
     -- a line by what fits it where it is
-    pub by_noted : (MayRun f (line ∷ lines) h ws → HasCode z.code (suc h.at) (map (placed f.slot) lines)
+    pub by_noted : (MayRun f (line ∷ lines) h ws → HasCodeAt z.code (suc h.at) (map (placed f.slot) lines)
         → LineFits (storage z.app) z.code z.bodies z.thread z.who (Some (placed f.slot line))
         (spend_step (configuration z (Now f h ws))) (Later z h))
         → Straight z f (line ∷ lines) h ws

@@ -1,7 +1,7 @@
 -- Lines that run one after another on a window of the frame, their slots numbered from the window's first. That they
 -- are in the code, that there is time for them, and that they write free slots of the window is asked once for all of
 -- them; each line then asks for what it alone needs.
-use Rattle.rt_gen_queue.proofs.Vocabulary.{At, Bool, Guarded, HasCode, Instr, Line, List, Note, Section, [], and_left}
+use Rattle.rt_gen_queue.proofs.Vocabulary.{At, Bool, Guarded, HasCodeAt, Instr, Line, List, Note, Section, [], and_left}
 use Rattle.rt_gen_queue.proofs.Vocabulary.{and_right, ap, arith, false, home_of, is_open, length, length-set, ltb-true}
 use Rattle.rt_gen_queue.proofs.Vocabulary.{map, memory, nat_tests, operate, option_map, plain, refl, slice_index}
 use Rattle.rt_gen_queue.proofs.Vocabulary.{slice_set, subst, suc, true, ℕ, ◌&&◌, ◌+◌, ◌<◌, ◌==◌, ◌∙◌, ◌∷◌, ◌≡◌}
@@ -77,7 +77,7 @@ module _ {size mask : ℕ} where
 
   -- code that goes on with these lines is correct, with these words in the window
   pub record Straight (z : Setting) (f : Frame size mask) (lines : List Line) (h : Here) (ws : List ℕ) : Type 0 where
-    pub runs : MayRun f lines h ws → HasCode z.code h.at (map (placed f.slot) lines) → S z (Now f h ws)
+    pub runs : MayRun f lines h ws → HasCodeAt z.code h.at (map (placed f.slot) lines) → S z (Now f h ws)
 
   -- there is time for the next line
   pub next_in_time : {f : Frame size mask} {line : Line} {lines : List Line} {h : Here} {ws : List ℕ}

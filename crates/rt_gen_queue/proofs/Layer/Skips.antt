@@ -1,5 +1,5 @@
 -- A jump forward in a run: so many of the next lines are left out.
-use Rattle.rt_gen_queue.proofs.Vocabulary.{HasCode, Line, List, [], and_right, arith, drop, length, map, plain}
+use Rattle.rt_gen_queue.proofs.Vocabulary.{HasCodeAt, Line, List, [], and_right, arith, drop, length, map, plain}
 use Rattle.rt_gen_queue.proofs.Vocabulary.{slice_index, subst, suc, true, zero, ℕ, ◌+◌, ◌∷◌, ◌≡◌}
 use Rattle.std.proofs.lemmas.List.{length-drop}
 use Rattle.rt_code.specs.declared.instr.Instr.TheVariants as instr
@@ -15,10 +15,10 @@ fit_behind size mask (suc k) (line ∷ lines) fit =
 
 -- the lines after so many
 code_from : (slot : ℕ) (code : List Line) (at to k : ℕ) (lines : List Line) → to ≡ at + k
-    → HasCode code at (map (placed slot) lines) → HasCode code to (map (placed slot) (drop k lines))
+    → HasCodeAt code at (map (placed slot) lines) → HasCodeAt code to (map (placed slot) (drop k lines))
 code_from slot code at to zero lines is has =
     let same : at ≡ to = omega arith in
-    subst (λ a. HasCode code a (map (placed slot) lines)) same has
+    subst (λ a. HasCodeAt code a (map (placed slot) lines)) same has
 code_from slot code at to (suc k) [] is has = tt
 code_from slot code at to (suc k) (line ∷ lines) is has = code_from slot code (suc at) to k lines (omega arith) has.1
 

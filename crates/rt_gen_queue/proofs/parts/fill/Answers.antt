@@ -12,7 +12,7 @@ returns c =
     (Appends c.args.lines.now c.append-2.new.self (fill_lines c.args.target.now c.args.slot))
     (λ last. rw (
       last,
-      c.in_ok-store.ensures,
+      c.in_ok-store.ensures.lines,
       c.in_ok-append.ensures.lines,
       c.with_place.ensures,
       c.with_place-2.ensures,

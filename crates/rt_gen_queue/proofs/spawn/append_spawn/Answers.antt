@@ -9,9 +9,9 @@ returns c =
     let last : c.in_ok-end.end ≡ full + 2 = omega (arith, c.in_ok-end.ensures.end) in
     rw (
       c.in_ok-append-2.ensures.lines,
-      c.in_ok-fill.ensures,
+      c.in_ok-fill.ensures.lines,
       c.in_ok-append.ensures.lines,
-      c.answer.ensures,
+      c.end_lines.ensures,
       c.ready.ensures,
       c.place.ensures,
       first,

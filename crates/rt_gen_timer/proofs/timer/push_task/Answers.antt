@@ -7,15 +7,15 @@ pub armed_task-requires-clause-software : goal.armed_task-requires-clause-softwa
 armed_task-requires-clause-software c =
     ap (is_some_and is_software) c.requires.task
     ∙ and_left (is_software (task_of c.args.task.now)) (is_armed (app_of c.args.plan.now.app.now) c.args.number)
-    (same_choice c.args.number (task_of c.args.task.now) c.is_fired.ensures c.requires.rows c.if-not-is_fired.false)
+    (same_choice c.args.number (task_of c.args.task.now) c.may_fire.ensures c.requires.rows c.if-not-may_fire.false)
 
-pub returns-then-not-is_fired : goal.returns-then-not-is_fired
-returns-then-not-is_fired c =
+pub returns-then-not-may_fire : goal.returns-then-not-may_fire
+returns-then-not-may_fire c =
     not_fired (app_of c.args.plan.now.app.now) c.args.threshold (next_address c.args.lines.now) c.args.number
     (task_of c.args.task.now) c.args.lines.now
-    (same_choice c.args.number (task_of c.args.task.now) c.is_fired.ensures c.requires.rows c.if-not-is_fired.true)
+    (same_choice c.args.number (task_of c.args.task.now) c.may_fire.ensures c.requires.rows c.if-not-may_fire.true)
 
 pub returns : goal.returns
 returns c =
-    rw (same_choice c.args.number (task_of c.args.task.now) c.is_fired.ensures c.requires.rows c.if-not-is_fired.false)
+    rw (same_choice c.args.number (task_of c.args.task.now) c.may_fire.ensures c.requires.rows c.if-not-may_fire.false)
     (rw (c.requires.emitter, c.armed_task.ensures.is, c.in_ok-at.ensures.at) at c.push_choice.ensures)

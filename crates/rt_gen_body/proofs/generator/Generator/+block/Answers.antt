@@ -60,11 +60,11 @@ repeat-returns t c =
       c.replace.ensures,
       c.len-over.ensures,
       c.in_ok-end.ensures.at,
-      c.in_ok-loop_tail.ensures,
+      c.in_ok-loop_back.ensures,
       c.in_ok-entry.ensures.at,
       c.in_ok-block.ensures,
       c.in_ok-push.ensures.lines,
-      c.in_ok-loop_head.ensures,
+      c.in_ok-loop_front.ensures,
       behind_loop,
       behind_four,
     )
@@ -163,7 +163,7 @@ pub repeat-replace-requires : goal.repeat-replace-requires
 repeat-replace-requires t c =
     rw (
       c.len-over.ensures,
-      c.in_ok-loop_tail.ensures,
+      c.in_ok-loop_back.ensures,
       c.in_ok-block.ensures,
       c.in_ok-push.ensures.lines,
     ) (simp length-append (omega arith))
