@@ -1,5 +1,8 @@
-ghost use Rattle.std.specs.Prelude.{◌≡◌, ◌<◌, ◌+◌, ℕ, OnOk, IfOk, length, slice_index};
+ghost use Rattle.std.specs.Prelude.{◌≡◌, ◌∷◌, [], ◌<◌, ◌+◌, ℕ, OnOk, IfOk, length};
+ghost use Rattle.rt_ids.specs.Lists.{or_zero};
+ghost use Rattle.rt_app.specs.Handlers as handlers;
 ghost use Rattle.rt_app.specs.View.{statement_of, block_of};
+ghost use Rattle.rt_gen_queue.specs.Guards.{enter_line, leave_line};
 ghost use Rattle.rt_gen_body.specs.Inside.Blocks as blocks;
 ghost use Rattle.rt_gen_queue.specs.Making.{next_address, Appends};
 ghost use Rattle.rt_gen_body.specs.Inside.Blocks.{EndsWith};
@@ -11,7 +14,7 @@ use rt_code::{Instr, Note};
 use rt_gen_queue::{Guard, Lines};
 use rt_ids::{Irq, NoMemory, Op, ResId, Section};
 
-/// A loop's variable, its first number, and the one that it does not reach.
+/// A loop's variable, its first number, and the number at which it ends, which it does not reach.
 #[derive(Clone, Copy)]
 struct Bounds {
     variable: u32,
@@ -36,10 +39,33 @@ fn guard_at(generator: &Generator<'_>, resource: ResId) -> Guard
 fn irq_number(generator: &Generator<'_>, irq: u8) -> Irq
     ensures { result ≡ slice_index (context generator.now).numbers irq }
 {
-    match generator.plan.app.irqs.get(usize::from(irq)) {
-        Some(declared) => declared.number,
-        None => Irq::new(0).unwrap(),
-    }
+    irq_number(&generator.plan.app.irqs, irq)
+}
+
+/// Appends the line that opens a section at a preemption threshold, with a slot for what the mask was.
+fn push_enter(
+    guard: Guard,
+    section: Section,
+    threshold: u8,
+    lock: u32,
+    code: &mut Lines,
+) -> Result<(), NoMemory>
+    ensures { OnOk result (Appends code.old code.new (enter_line section guard threshold lock ∷ [])) }
+{
+    code.append(&[guard.enter_line(section, threshold, lock)])
+}
+
+/// Appends the line that closes it.
+fn push_leave(
+    guard: Guard,
+    section: Section,
+    threshold: u8,
+    lock: u32,
+    code: &mut Lines,
+) -> Result<(), NoMemory>
+    ensures { OnOk result (Appends code.old code.new (leave_line section guard threshold lock ∷ [])) }
+{
+    code.append(&[guard.leave_line(section, threshold, lock)])
 }
 
 impl<'a> Generator<'a> {
@@ -131,15 +157,9 @@ impl<'a> Generator<'a> {
             (blocks.lock_code (context self.now) threshold lock (next_address code.old) resource block)) }
     {
         let guard = guard_at(self, resource);
-        code.push_noted(
-            guard.opening_instr(threshold, lock),
-            Note::Enter(Section::Res(resource)),
-        )?;
+        push_enter(guard, Section::Res(resource), threshold, lock, code)?;
         self.block(threshold.max(guard.ceiling), next_slot(lock), inner, code)?;
-        code.push_noted(
-            guard.closing_instr(threshold, lock),
-            Note::Leave(Section::Res(resource)),
-        )?;
+        push_leave(guard, Section::Res(resource), threshold, lock, code)?;
         Ok(())
     }
 

@@ -8,7 +8,7 @@ ghost use Rattle.rt_gen_disp.specs.declared.lines.TheConstants.{TAKING_OFFSET, M
 use crate::called::Called;
 use crate::slots::{INDEX, LEFT, MASK, ONE, OTHER, PLACE, TASK, WORD};
 use rt_code::{Instr, Line, Note};
-use rt_gen_queue::{Guard, Lines, ReadyQueue};
+use rt_gen_queue::{Lines, ReadyQueue};
 use rt_ids::limits::CAPACITY;
 use rt_ids::{NoMemory, Op, Prio, Section};
 
@@ -24,22 +24,8 @@ const TEST_LINES: u32 = 5;
 /// Lines of a task, beside one for each argument.
 pub(crate) const CHOICE_LINES: u32 = 17;
 
-/// More lines than a task has.
-pub(crate) const MANY_LINES: u32 = 300;
-
-/// The line that opens a section at a level.
-fn enter_line(guard: Guard, level: u8, section: Section) -> Line
-    ensures { result ≡ enter_line section guard level MASK }
-{
-    (guard.opening_instr(level, MASK), Some(Note::Enter(section)))
-}
-
-/// The line that closes it.
-fn leave_line(guard: Guard, level: u8, section: Section) -> Line
-    ensures { result ≡ leave_line section guard level MASK }
-{
-    (guard.closing_instr(level, MASK), Some(Note::Leave(section)))
-}
+/// Addresses that a task's lines need at most: 17 lines and at most 255 for arguments are fewer than 300.
+pub(crate) const TASK_ROOM: u32 = 300;
 
 /// The lines before the tasks, the first of which will be at this address.
 pub(crate) fn push_front(queue: &ReadyQueue, entry: u32, lines: &mut Lines) -> Result<(), NoMemory>
@@ -50,11 +36,11 @@ pub(crate) fn push_front(queue: &ReadyQueue, entry: u32, lines: &mut Lines) -> R
     let count = head + 1;
     let (guard, level) = (queue.guard, queue.level);
     lines.append(&[
-        enter_line(guard, level, Section::Ready(Prio(level))),
+        guard.enter_line(Section::Ready(Prio(level)), level, MASK),
         (Instr::Load(LEFT, count), None),
         (Instr::JumpZ(LEFT, entry + EMPTY_OFFSET), None),
         (Instr::Jump(entry + TAKING_OFFSET), None),
-        leave_line(guard, level, Section::Ready(Prio(level))),
+        guard.leave_line(Section::Ready(Prio(level)), level, MASK),
         (Instr::Ret, None),
         (Instr::Load(INDEX, head), None),
         (Instr::LoadAt(WORD, head + 2, INDEX), None),
@@ -129,17 +115,18 @@ fn push_start(
     ensures { OnOk result (Appends lines.old lines.new (spec.start_lines queue.now called.now at)) }
 {
     let (free, level) = (u32::from(called.free), queue.level);
+    let (ready, places) = (queue.guard, called.guard);
     lines.append(&[
         (Instr::Mark, Some(Note::Start(called.task, 0))),
         (Instr::JumpZ(LEFT, at + 3), None),
         (Instr::Post(queue.irq), None),
-        leave_line(queue.guard, level, Section::Ready(Prio(level))),
-        enter_line(called.guard, level, Section::Free(called.task)),
+        ready.leave_line(Section::Ready(Prio(level)), level, MASK),
+        places.enter_line(Section::Free(called.task), level, MASK),
         (Instr::Load(INDEX, free), None),
         (Instr::StoreAt(free + 1, INDEX, PLACE), None),
         (Instr::Calc(Op::Add, INDEX, INDEX, ONE), None),
         (Instr::Store(free, INDEX), Some(Note::Free(called.task))),
-        leave_line(called.guard, level, Section::Free(called.task)),
+        places.leave_line(Section::Free(called.task), level, MASK),
         (Instr::Call(called.row, 0), None),
         (Instr::Ret, None),
     ])

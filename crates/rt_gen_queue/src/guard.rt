@@ -1,10 +1,10 @@
 ghost use Rattle.std.specs.Prelude.{◌≡◌, ◌≤◌, ◌^◌};
 ghost use Rattle.rt_code.specs.Masking as masking;
-ghost use Rattle.rt_gen_queue.specs.Guards.{guard_of_ceiling, kind_of};
+ghost use Rattle.rt_gen_queue.specs.Guards.{guard_of_ceiling, kind_of, enter_line, leave_line};
 
-use rt_code::Instr;
-use rt_ids::Prio;
+use rt_code::{Instr, Line, Note};
 use rt_ids::limits::THREAD_VALUE;
+use rt_ids::{Prio, Section};
 
 /// How the sections of a ceiling hold others off.
 #[derive(Clone, Copy)]
@@ -56,5 +56,25 @@ impl Guard {
         } else {
             Instr::Restore(slot)
         }
+    }
+
+    /// The line that opens a section at a preemption threshold, with a slot for what the mask was.
+    pub fn enter_line(self, section: Section, threshold: u8, slot: u32) -> Line
+        ensures { result ≡ enter_line section self threshold slot }
+    {
+        (
+            self.opening_instr(threshold, slot),
+            Some(Note::Enter(section)),
+        )
+    }
+
+    /// The line that closes it.
+    pub fn leave_line(self, section: Section, threshold: u8, slot: u32) -> Line
+        ensures { result ≡ leave_line section self threshold slot }
+    {
+        (
+            self.closing_instr(threshold, slot),
+            Some(Note::Leave(section)),
+        )
     }
 }

@@ -1,37 +1,15 @@
-ghost use Rattle.std.specs.Prelude.{◌≡◌, ◌∷◌, [], ◌+◌, ◌<◌, ◌≤◌, ◌^◌, OnOk};
+ghost use Rattle.std.specs.Prelude.{◌≡◌, ◌∷◌, [], ◌+◌, ◌<◌, ◌≤◌, ◌^◌, OnOk, OnErr};
 ghost use Rattle.rt_app.specs.declared.costs.TheConstants.{SPAWN_WORDS};
 ghost use Rattle.rt_code.specs.declared.instr.Instr.TheVariants as instr;
-ghost use Rattle.rt_gen_queue.specs.Guards.{enter_line, leave_line};
 ghost use Rattle.rt_gen_queue.specs.Line.{plain};
 ghost use Rattle.rt_gen_queue.specs.SpawnLines as spec;
 ghost use Rattle.rt_gen_queue.specs.Making.{Appends};
 
-use crate::guard::Guard;
 use crate::lines::Lines;
 use crate::target::Target;
 use rt_code::{Instr, Line, Note};
 use rt_ids::limits::CAPACITY;
 use rt_ids::{NoMemory, Op, Prio, Section};
-
-/// The line that opens a section at a preemption threshold, with a slot for what the mask was.
-fn enter_line(guard: Guard, threshold: u8, slot: u32, section: Section) -> Line
-    ensures { result ≡ enter_line section guard threshold slot }
-{
-    (
-        guard.opening_instr(threshold, slot),
-        Some(Note::Enter(section)),
-    )
-}
-
-/// The line that closes it.
-fn leave_line(guard: Guard, threshold: u8, slot: u32, section: Section) -> Line
-    ensures { result ≡ leave_line section guard threshold slot }
-{
-    (
-        guard.closing_instr(threshold, slot),
-        Some(Note::Leave(section)),
-    )
-}
 
 /// The lines that take a place of the task, in a body at a preemption threshold, or lead to the address `full` where
 /// none is left. The place comes into the seventh of the slots from `slot` on; the fifth, the eighth and the ninth are
@@ -44,7 +22,7 @@ pub fn place(target: &Target, threshold: u8, slot: u32, full: u32) -> [Line; 8]
     let free = u32::from(target.free);
     let (count, place, one, mask) = (slot + 4, slot + 6, slot + 7, slot + 8);
     [
-        enter_line(guard, threshold, mask, Section::Free(target.task)),
+        guard.enter_line(Section::Free(target.task), threshold, mask),
         (Instr::Load(count, free), None),
         (Instr::JumpZ(count, full), None),
         (Instr::Set(one, 1), None),
@@ -54,7 +32,7 @@ pub fn place(target: &Target, threshold: u8, slot: u32, full: u32) -> [Line; 8]
             Instr::LoadAt(place, free + 1, count),
             Some(Note::Placed(target.task)),
         ),
-        leave_line(guard, threshold, mask, Section::Free(target.task)),
+        guard.leave_line(Section::Free(target.task), threshold, mask),
     ]
 }
 
@@ -112,7 +90,7 @@ pub fn ready(target: &Target, threshold: u8, slot: u32) -> [Line; 12]
     let head = u32::from(target.queue.at);
     let (count, index, word, size, mask) = (slot + 4, slot + 5, slot + 6, slot + 7, slot + 8);
     [
-        enter_line(guard, threshold, mask, Section::Ready(Prio(level))),
+        guard.enter_line(Section::Ready(Prio(level)), threshold, mask),
         (Instr::Load(count, head + 1), None),
         (Instr::Load(index, head), None),
         (Instr::Calc(Op::Add, index, index, count), None),
@@ -126,7 +104,7 @@ pub fn ready(target: &Target, threshold: u8, slot: u32) -> [Line; 12]
             Some(Note::Ready(target.task)),
         ),
         (Instr::Post(target.queue.irq), None),
-        leave_line(guard, threshold, mask, Section::Ready(Prio(level))),
+        guard.leave_line(Section::Ready(Prio(level)), threshold, mask),
     ]
 }
 
@@ -139,11 +117,8 @@ pub(crate) fn end_lines(target: &Target, threshold: u8, slot: u32, end: u32) -> 
         (Instr::Set(slot, 1), None),
         (Instr::Jump(end), None),
         (Instr::Set(slot, 0), Some(Note::Full(target.task))),
-        leave_line(
-            target.guard,
-            threshold,
-            slot + 8,
-            Section::Free(target.task),
-        ),
+        target
+            .guard
+            .leave_line(Section::Free(target.task), threshold, slot + MASK),
     ]
 }

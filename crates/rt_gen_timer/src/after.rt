@@ -18,15 +18,11 @@ impl Emitter {
         requires slots { self.now.slot + TIMER_QUEUE_WORDS < 2 ^ 32 }
         ensures { result ≡ spec.full_lines self.now.queue self.now.slot threshold armed.now end }
     {
-        let task = armed.target.task;
-        let closing = armed
-            .target
-            .guard
-            .closing_instr(threshold, self.slot + MASK);
+        let (task, guard) = (armed.target.task, armed.target.guard);
         [
             (Instr::Jump(end), None),
             (Instr::Set(self.slot + ANSWER, 0), Some(Note::Full(task))),
-            (closing, Some(Note::Leave(Section::Free(task)))),
+            guard.leave_line(Section::Free(task), threshold, self.slot + MASK),
         ]
     }
 

@@ -1,4 +1,4 @@
-ghost use Rattle.std.specs.Prelude.{◌≡◌, true, ◌+◌, ◌*◌, ◌<◌, ◌≤◌, ◌^◌, IfSome, OnOk};
+ghost use Rattle.std.specs.Prelude.{◌≡◌, true, ◌+◌, ◌*◌, ◌<◌, ◌≤◌, ◌^◌, IfNone, IfSome, OnOk};
 ghost use Rattle.std.specs.List.{list_all};
 ghost use Rattle.rt_ids.specs.declared.limits.TheConstants.{CAPACITY, TASKS};
 ghost use Rattle.rt_app.specs.declared.costs.TheConstants.{TIMER_QUEUE_WORDS};
@@ -8,7 +8,7 @@ ghost use Rattle.rt_gen_timer.specs.Inside.Templates as spec;
 use crate::queue::TimerQueue;
 use crate::slots::{HAND, HOLE, MASK};
 use crate::template::{Column, Part, Template};
-use rt_code::{Instr, Note};
+use rt_code::Instr;
 use rt_gen_queue::Lines;
 use rt_ids::{NoMemory, Section};
 
@@ -21,8 +21,8 @@ pub(crate) struct Emitter {
 }
 
 impl Emitter {
-    /// The instruction of a template, whose jump counts from an address. There is none where the jump leads to
-    /// no address of 32 bits.
+    /// The instruction of a template, whose jump counts from an address. There is none where the address to which it
+    /// jumps does not fit in 32 bits.
     fn instr(&self, template: &Template, at: u32) -> Option<Instr>
         requires few { self.now.queue.messages ≤ CAPACITY * TASKS }
         requires slots { self.now.slot + TIMER_QUEUE_WORDS < 2 ^ 32 }
@@ -78,12 +78,10 @@ impl Emitter {
         match *part {
             Part::Code(code, at) => self.push_code(code, at, lines),
             Part::Enter(threshold) => {
-                let opening = guard.opening_instr(threshold, slot + MASK);
-                lines.push_noted(opening, Note::Enter(Section::Timer))
+                lines.append(&[guard.enter_line(Section::Timer, threshold, slot + MASK)])
             }
             Part::Leave(threshold) => {
-                let closing = guard.closing_instr(threshold, slot + MASK);
-                lines.push_noted(closing, Note::Leave(Section::Timer))
+                lines.append(&[guard.leave_line(Section::Timer, threshold, slot + MASK)])
             }
             Part::Settle(note) => {
                 let heap = self.queue.cell(Column::Heap);

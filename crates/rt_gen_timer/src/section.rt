@@ -74,18 +74,17 @@ impl Emitter {
         requires slots { self.now.slot + TIMER_QUEUE_WORDS < 2 ^ 32 }
         ensures { result ≡ spec.free_lines self.now.queue self.now.slot threshold target.now }
     {
-        let (task, free) = (target.task, u32::from(target.free));
+        let (task, guard) = (target.task, target.guard);
+        let free = u32::from(target.free);
         let (count, place) = (self.slot + COUNT, self.slot + PLACE);
         let (one, mask) = (self.slot + ONE, self.slot + MASK);
-        let opening = target.guard.opening_instr(threshold, mask);
-        let closing = target.guard.closing_instr(threshold, mask);
         [
-            (opening, Some(Note::Enter(Section::Free(task)))),
+            guard.enter_line(Section::Free(task), threshold, mask),
             (Instr::Load(count, free), None),
             (Instr::StoreAt(free + 1, count, place), None),
             (Instr::Calc(Op::Add, count, count, one), None),
             (Instr::Store(free, count), Some(Note::Free(task))),
-            (closing, Some(Note::Leave(Section::Free(task)))),
+            guard.leave_line(Section::Free(task), threshold, mask),
         ]
     }
 }

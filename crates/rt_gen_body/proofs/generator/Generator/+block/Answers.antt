@@ -44,11 +44,9 @@ choose_first-returns-clause-lines t c =
 pub lock-returns : goal.lock-returns
 lock-returns t c =
     rw (
-      c.in_ok-push_noted-2.ensures.lines,
+      c.in_ok-push_leave.ensures,
       c.in_ok-block.ensures,
-      c.in_ok-push_noted.ensures.lines,
-      c.opening_instr.ensures,
-      c.closing_instr.ensures,
+      c.in_ok-push_enter.ensures,
       c.max.ensures,
       c.next_slot.ensures,
       c.guard_at-guard.ensures,
