@@ -13,6 +13,9 @@ use rt_code::BodyRow;
 use rt_ids::{NoMemory, TaskId};
 use std::alloc::Global;
 
+/// Frames of `init` and `idle`, before those of the tasks.
+const THREAD_FRAMES: usize = 2;
+
 /// How the body of a task starts.
 #[derive(Clone, Copy)]
 pub(crate) struct Start {
@@ -33,7 +36,7 @@ pub(crate) fn start_of(plan: &Plan<'_>, code: &Code, number: usize) -> Start
 {
     Start {
         entry: code.tasks[number],
-        frame: plan.frames[number + 2],
+        frame: plan.frames[number + THREAD_FRAMES],
     }
 }
 

@@ -7,6 +7,7 @@ mod laws;
 pub mod lines;
 pub mod parts;
 pub mod queue;
+pub mod slots;
 pub mod spawn;
 pub mod target;
 

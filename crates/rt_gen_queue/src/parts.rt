@@ -6,6 +6,7 @@ ghost use Rattle.rt_gen_queue.specs.SpawnLines as spec;
 ghost use Rattle.rt_gen_queue.specs.Making.{Appends};
 
 use crate::lines::Lines;
+use crate::slots::{COUNT, INDEX, MASK, PLACE, WORK};
 use crate::target::Target;
 use rt_code::{Instr, Line, Note};
 use rt_ids::limits::CAPACITY;
@@ -20,7 +21,8 @@ pub fn place(target: &Target, threshold: u8, slot: u32, full: u32) -> [Line; 8]
 {
     let guard = target.guard;
     let free = u32::from(target.free);
-    let (count, place, one, mask) = (slot + 4, slot + 6, slot + 7, slot + 8);
+    let (count, place) = (slot + COUNT, slot + PLACE);
+    let (one, mask) = (slot + WORK, slot + MASK);
     [
         guard.enter_line(Section::Free(target.task), threshold, mask),
         (Instr::Load(count, free), None),
@@ -40,12 +42,12 @@ pub fn place(target: &Target, threshold: u8, slot: u32, full: u32) -> [Line; 8]
 /// operation on the place in the seventh and that number.
 fn with_place(op: Op, to: u32, number: u32, slot: u32) -> [Line; 2]
     requires slots { slot + SPAWN_WORDS < 2 ^ 32 }
-    ensures { result ≡ plain (instr.Set (slot + 7) number)
-        ∷ plain (instr.Calc op to (slot + 6) (slot + 7)) ∷ [] }
+    ensures { result ≡ plain (instr.Set (slot + WORK) number)
+        ∷ plain (instr.Calc op to (slot + PLACE) (slot + WORK)) ∷ [] }
 {
     [
-        (Instr::Set(slot + 7, number), None),
-        (Instr::Calc(op, to, slot + 6, slot + 7), None),
+        (Instr::Set(slot + WORK, number), None),
+        (Instr::Calc(op, to, slot + PLACE, slot + WORK), None),
     ]
 }
 
@@ -57,7 +59,7 @@ fn store(target: &Target, slot: u32, lines: &mut Lines) -> Result<(), NoMemory>
         (spec.store_code target.now.args target.now.inputs slot 0)) }
 {
     let inputs = u32::from(target.inputs);
-    let offset = slot + 7;
+    let offset = slot + WORK;
     for argument in 0..u32::from(target.args) {
         lines.push(Instr::StoreAt(inputs + argument, offset, slot + argument))?;
     }
@@ -74,9 +76,9 @@ pub fn fill(target: &Target, slot: u32, lines: &mut Lines) -> Result<(), NoMemor
 {
     let args = u32::from(target.args);
     let places = CAPACITY * u32::from(target.task.0);
-    lines.append(&with_place(Op::Mul, slot + 7, args, slot))?;
+    lines.append(&with_place(Op::Mul, slot + WORK, args, slot))?;
     store(target, slot, lines)?;
-    lines.append(&with_place(Op::Add, slot + 6, places, slot))
+    lines.append(&with_place(Op::Add, slot + PLACE, places, slot))
 }
 
 /// The lines that put the message whose word is in the seventh of the slots from `slot` on into the ring of its level,
@@ -88,7 +90,8 @@ pub fn ready(target: &Target, threshold: u8, slot: u32) -> [Line; 12]
     let level = target.queue.level;
     let guard = target.queue.guard;
     let head = u32::from(target.queue.at);
-    let (count, index, word, size, mask) = (slot + 4, slot + 5, slot + 6, slot + 7, slot + 8);
+    let (count, index, word) = (slot + COUNT, slot + INDEX, slot + PLACE);
+    let (size, mask) = (slot + WORK, slot + MASK);
     [
         guard.enter_line(Section::Ready(Prio(level)), threshold, mask),
         (Instr::Load(count, head + 1), None),

@@ -16,6 +16,15 @@ use rt_code::{Instr, Note};
 use rt_gen_queue::Lines;
 use rt_ids::{NoMemory, Op};
 
+/// Lines of a `cancel`.
+const CANCEL_LINES: u32 = 91;
+
+/// Lines of a `reschedule_after`.
+const MOVE_LINES: u32 = 87;
+
+/// Those of them that put the found message to another instant.
+const PUT_OFF_LINES: u32 = 59;
+
 /// The constants 1 and 2, the next number, and the next handle, which is the answer.
 const NEXT: [Template; 8] = [
     Template::Set(ONE, 1),
@@ -150,7 +159,7 @@ impl Emitter {
         requires rows { armed.now.rows ≤ CAPACITY }
         requires first { armed.now.first ≤ CAPACITY * TASKS }
         requires slots { self.now.slot + TIMER_QUEUE_WORDS < 2 ^ 32 }
-        requires room { at + 91 < 2 ^ 32 }
+        requires room { at + CANCEL_LINES < 2 ^ 32 }
         ensures { OnOk result (Appends lines.old lines.new
             (spec.cancel_lines self.now.queue self.now.slot threshold armed.now at)) }
     {
@@ -168,7 +177,10 @@ impl Emitter {
                 Part::Leave(threshold),
                 Part::Code(&place, at),
                 Part::Lines(&self.free(&armed.target, threshold)),
-                Part::Code(&[Template::Set(ANSWER, 0), Template::Jump(91)], at),
+                Part::Code(
+                    &[Template::Set(ANSWER, 0), Template::Jump(CANCEL_LINES)],
+                    at,
+                ),
                 Part::Leave(threshold),
                 Part::Code(&[Template::Set(ANSWER, 1)], at),
             ],
@@ -180,7 +192,7 @@ impl Emitter {
     fn push_put_off(&self, armed: &ArmedTask, at: u32, lines: &mut Lines) -> Result<(), NoMemory>
         requires few { self.now.queue.messages ≤ CAPACITY * TASKS }
         requires slots { self.now.slot + TIMER_QUEUE_WORDS < 2 ^ 32 }
-        requires room { at + 87 < 2 ^ 32 }
+        requires room { at + PUT_OFF_LINES < 2 ^ 32 }
         ensures { OnOk result (Appends lines.old lines.new
             (spec.put_off_lines self.now.queue self.now.slot armed.now at)) }
     {
@@ -210,7 +222,7 @@ impl Emitter {
         requires rows { armed.now.rows ≤ CAPACITY }
         requires first { armed.now.first ≤ CAPACITY * TASKS }
         requires slots { self.now.slot + TIMER_QUEUE_WORDS < 2 ^ 32 }
-        requires room { at + 104 < 2 ^ 32 }
+        requires room { at + MOVE_LINES < 2 ^ 32 }
         ensures { OnOk result (Appends lines.old lines.new
             (spec.move_lines self.now.queue self.now.slot threshold armed.now at)) }
     {
@@ -220,7 +232,7 @@ impl Emitter {
             &[
                 Part::Code(&ALARM, at + 76),
                 Part::Leave(threshold),
-                Part::Code(&[Template::Set(ANSWER, 0), Template::Jump(87)], at),
+                Part::Code(&[Template::Set(ANSWER, 0), Template::Jump(MOVE_LINES)], at),
                 Part::Leave(threshold),
                 Part::Code(&[Template::Set(ANSWER, 1)], at),
             ],
