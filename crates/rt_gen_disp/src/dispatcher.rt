@@ -1,4 +1,4 @@
-ghost use Rattle.std.specs.Prelude.{◌≡◌, ◌+◌, ◌≤◌, ◌<◌, ◌^◌, length, map, take, drop, slice_get, Contains, IfOk};
+ghost use Rattle.std.specs.Prelude.{◌≡◌, ◌+◌, ◌≤◌, length, map, take, drop, slice_get, Contains, IfOk};
 ghost use Rattle.std.specs.Prelude.{OnOk};
 ghost use Rattle.std.specs.Prelude.{OnErr};
 ghost use Rattle.std.specs.List.{AllByRecursion};
@@ -13,28 +13,16 @@ ghost use Rattle.rt_gen_queue.specs.Making.{next_address, Appends};
 ghost use Rattle.rt_gen_queue.specs.Queue.{queue_at};
 ghost use Rattle.rt_gen_disp.specs.Code.{choices_code, dispatcher_code, last_from};
 ghost use Rattle.rt_gen_disp.specs.Inside.Generating.{task_code};
-ghost use Rattle.rt_gen_disp.specs.declared.lines.TheConstants.{MANY_LINES};
 
 use crate::called::callee_of;
-use crate::lines::{CHOICE_LINES, EMPTY_OFFSET, Exit, MANY_LINES, push_choice, push_front};
+use crate::lines::{CHOICE_LINES, EMPTY_OFFSET, Exit, TASK_ROOM, push_choice, push_front};
 use rt_app::{Plan, Task};
 use rt_code::Line;
 use rt_gen_queue::{Lines, ReadyQueue, next_entry, queue_of};
 use rt_ids::NoMemory;
 use std::alloc::Global;
 
-/// The address of the next line. Where it, or what a task's lines lead to, has no 32 bits there is no memory for so
-/// much code either.
-fn address_with_room(lines: &Lines) -> Result<u32, NoMemory>
-    ensures at { IfOk result (λ at. at ≡ next_address lines.now) }
-    ensures room { IfOk result (λ at. at + MANY_LINES < 2 ^ 32) }
-{
-    let at = lines.next_address()?;
-    at.checked_add(MANY_LINES).ok_or(NoMemory)?;
-    Ok(at)
-}
-
-/// The number of the last task of a level, 0 where it has none.
+/// The number of the last task of a level, and 0 where there is none.
 fn last_of(tasks: &[Task], level: u8) -> usize
     ensures { result ≡ last_from level 0 0 (map task_of tasks.now) }
 {
@@ -67,7 +55,7 @@ fn push_task(
             if !task.is_of_level(queue.level) {
                 return Ok(());
             }
-            let at = address_with_room(lines)?;
+            let at = lines.address_with_room(TASK_ROOM)?;
             let next = exit.next_for(number, at + (CHOICE_LINES + u32::from(task.args)));
             push_choice(queue, &callee_of(plan, number, row, task), next, at, lines)
         }
@@ -106,7 +94,7 @@ fn generate(plan: &Plan<'_>, level: u8, lines: &mut Lines) -> Result<(), NoMemor
         (dispatcher_code (app_of plan.now.app.now) level (next_address lines.old))) }
 {
     let queue = queue_of(plan, level);
-    let at = address_with_room(lines)?;
+    let at = lines.address_with_room(TASK_ROOM)?;
     push_front(&queue, at, lines)?;
     let last = last_of(&plan.app.tasks, level);
     let address = at + EMPTY_OFFSET;

@@ -2,8 +2,7 @@ ghost use Rattle.std.specs.Prelude.{◌≡◌, ◌+◌, ◌^◌, ◌≤◌, ◌<
 ghost use Rattle.rt_gen_queue.specs.Guards.{enter_line, leave_line};
 ghost use Rattle.rt_gen_queue.specs.Making.{Appends};
 ghost use Rattle.rt_gen_disp.specs.Code as spec;
-ghost use Rattle.rt_gen_disp.specs.declared.slots.TheConstants.{MASK};
-ghost use Rattle.rt_gen_disp.specs.declared.lines.TheConstants.{TAKING_OFFSET, MANY_LINES};
+ghost use Rattle.rt_gen_disp.specs.declared.lines.TheConstants.{TAKING_OFFSET, TASK_ROOM};
 
 use crate::called::Called;
 use crate::slots::{INDEX, LEFT, MASK, ONE, OTHER, PLACE, TASK, WORD};

@@ -1,4 +1,4 @@
-ghost use Rattle.std.specs.Prelude.{◌≡◌, ◌∷◌, [], ◌<◌, ◌≤◌, ◌^◌, ◌++◌, length, slice_set, IfOk, OnErr, OnOk};
+ghost use Rattle.std.specs.Prelude.{◌≡◌, ◌∷◌, [], ◌+◌, ◌<◌, ◌≤◌, ◌^◌, ◌++◌, length, slice_set, IfOk, OnErr, OnOk};
 ghost use Rattle.rt_gen_queue.specs.Line.{plain, line_with_note};
 ghost use Rattle.rt_gen_queue.specs.Making.{next_address, Appends};
 
@@ -63,6 +63,18 @@ impl Lines {
             Ok(count) => self.entry.checked_add(count).ok_or(NoMemory),
             Err(_) => Err(NoMemory),
         }
+    }
+
+    /// The address of the next line, if so many more addresses fit in 32 bits. Where they do not, that counts as want
+    /// of memory.
+    pub fn address_with_room(&self, room: u32) -> Result<u32, NoMemory>
+        ensures at { IfOk result (λ at. at ≡ next_address self.now) }
+        ensures room { IfOk result (λ at. at + room < 2 ^ 32) }
+        ensures cause { OnErr result (2 ^ 32 ≤ next_address self.now + room) }
+    {
+        let at = self.next_address()?;
+        at.checked_add(room).ok_or(NoMemory)?;
+        Ok(at)
     }
 
     /// Appends a line without a note. An error says that memory is used up, and leaves the lines as they were.

@@ -1,4 +1,4 @@
-ghost use Rattle.std.specs.Prelude.{◌≡◌, ◌+◌, ◌<◌, ◌≤◌, ◌^◌, ◌++◌, true, length, drop, slice_get};
+ghost use Rattle.std.specs.Prelude.{◌≡◌, ◌+◌, ◌<◌, ◌≤◌, ◌^◌, ◌⊎◌, ◌++◌, true, length, drop, slice_get};
 ghost use Rattle.std.specs.Prelude.{IfOk, OnOk, OnErr};
 ghost use Rattle.std.specs.List.{AllByRecursion};
 ghost use Rattle.rt_ids.specs.Lists.{is_some_and};
@@ -30,6 +30,7 @@ const SPAWN_LINES: u32 = 28;
 fn next_end(target: &Target, slot: u32, entry: u32) -> Result<u32, NoMemory>
     ensures end { IfOk result (λ end. end ≡ entry + (28 + target.now.args)) }
     ensures slots { OnOk result (slot + SPAWN_WORDS < 2 ^ 32) }
+    ensures cause { OnErr result ((2 ^ 32 ≤ slot + SPAWN_WORDS) ⊎ (2 ^ 32 ≤ entry + (28 + target.now.args))) }
 {
     if slot > u32::MAX - SPAWN_WORDS {
         return Err(NoMemory);

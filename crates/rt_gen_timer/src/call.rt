@@ -3,7 +3,7 @@ ghost use Rattle.rt_ids.specs.declared.limits.TheConstants.{CAPACITY, TASKS};
 ghost use Rattle.rt_app.specs.declared.costs.TheConstants.{TIMER_QUEUE_WORDS};
 ghost use Rattle.rt_gen_queue.specs.Making.{Appends};
 ghost use Rattle.rt_gen_timer.specs.Inside.Calls as spec;
-ghost use Rattle.rt_gen_timer.specs.declared.generate.TheConstants.{MANY_LINES};
+ghost use Rattle.rt_gen_timer.specs.declared.generate.TheConstants.{CALL_ROOM};
 
 use crate::armed::ArmedTask;
 use crate::emitter::Emitter;
@@ -40,7 +40,7 @@ pub(crate) fn push_call(
 ) -> Result<(), NoMemory>
     requires few { emitter.now.queue.messages ≤ CAPACITY * TASKS }
     requires slots { emitter.now.slot + TIMER_QUEUE_WORDS < 2 ^ 32 }
-    requires room { at + MANY_LINES < 2 ^ 32 }
+    requires room { at + CALL_ROOM < 2 ^ 32 }
     requires arguments { armed.now.target.args ≤ 4 }
     requires rows { armed.now.rows ≤ CAPACITY }
     requires before { armed.now.first ≤ CAPACITY * armed.now.target.task }

@@ -27,7 +27,8 @@ impl Emitter {
         requires few { self.now.queue.messages ≤ CAPACITY * TASKS }
         requires slots { self.now.slot + TIMER_QUEUE_WORDS < 2 ^ 32 }
         requires fits { spec.fits template.now ≡ true }
-        ensures { IfSome result (λ instr. instr ≡ spec.instr_of self.now at template.now) }
+        ensures instr { IfSome result (λ instr. instr ≡ spec.instr_of self.now at template.now) }
+        ensures cause { IfNone result (2 ^ 32 ≤ at + spec.distance_of template.now) }
     {
         let (queue, slot) = (self.queue, self.slot);
         Some(match *template {

@@ -13,7 +13,7 @@ ghost use Rattle.rt_app.specs.declared.costs.TheConstants.{SPAWN_AFTER_COST, HAN
 ghost use Rattle.rt_gen_queue.specs.Line.{IsNameable};
 ghost use Rattle.rt_gen_timer.specs.TimerCode as spec;
 ghost use Rattle.rt_gen_timer.specs.Inside.Calls as calls;
-ghost use Rattle.rt_gen_timer.specs.declared.generate.TheConstants.{MANY_LINES};
+ghost use Rattle.rt_gen_timer.specs.declared.generate.TheConstants.{CALL_ROOM};
 
 use crate::armed::armed_task;
 use crate::call::{Call, push_call};
@@ -27,8 +27,8 @@ use rt_gen_queue::Lines;
 use rt_ids::{NoMemory, TaskId};
 use std::alloc::Global;
 
-/// More lines than a call has.
-pub(crate) const MANY_LINES: u32 = 128;
+/// Addresses that a call's lines need at most, and those of a task in the handler: the longest, of a `cancel`, are 91.
+pub(crate) const CALL_ROOM: u32 = 128;
 
 /// What writes the code of an application's calls from a slot on. A slot or an address that does not fit in 32 bits
 /// counts as want of memory.
@@ -46,9 +46,10 @@ pub(crate) fn emitter_of(
     ensures slot { IfOk result (λ emitter. emitter.slot ≡ slot) }
     ensures few { IfOk result (λ emitter. emitter.queue.messages ≤ CAPACITY * TASKS) }
     ensures slots { OnOk result (slot + TIMER_QUEUE_WORDS < 2 ^ 32) }
-    ensures room { OnOk result (entry + MANY_LINES < 2 ^ 32) }
+    ensures room { OnOk result (entry + CALL_ROOM < 2 ^ 32) }
+    ensures cause { OnErr result ((2 ^ 32 ≤ slot + TIMER_QUEUE_WORDS) ⊎ (2 ^ 32 ≤ entry + CALL_ROOM)) }
 {
-    if slot.checked_add(TIMER_QUEUE_WORDS).is_none() || entry.checked_add(MANY_LINES).is_none() {
+    if slot.checked_add(TIMER_QUEUE_WORDS).is_none() || entry.checked_add(CALL_ROOM).is_none() {
         return Err(NoMemory);
     }
     let mono = plan.app.mono.unwrap();

@@ -15,11 +15,10 @@ ghost use Rattle.rt_gen_queue.specs.Making.{next_address, Appends};
 ghost use Rattle.rt_gen_timer.specs.TimerLines as lines;
 ghost use Rattle.rt_gen_timer.specs.TimerCode as spec;
 ghost use Rattle.rt_gen_timer.specs.Inside.Choices.{task_code};
-ghost use Rattle.rt_gen_timer.specs.declared.generate.TheConstants.{MANY_LINES};
 
 use crate::armed::armed_task;
 use crate::emitter::Emitter;
-use crate::generate::{MANY_LINES, emitter_of};
+use crate::generate::{CALL_ROOM, emitter_of};
 use crate::handler::IDLE_OFFSET;
 use rt_app::{Mono, Plan, Task};
 use rt_code::{Instr, Line};
@@ -27,17 +26,6 @@ use rt_frames::ArmedRows;
 use rt_gen_queue::{Lines, next_entry};
 use rt_ids::{NoMemory, TaskId};
 use std::alloc::Global;
-
-/// The address of the next line. Where it, or what a task's lines lead to, has no 32 bits there is no memory for so
-/// much code either.
-fn address_with_room(lines: &Lines) -> Result<u32, NoMemory>
-    ensures at { IfOk result (λ at. at ≡ next_address lines.now) }
-    ensures room { IfOk result (λ at. at + MANY_LINES < 2 ^ 32) }
-{
-    let at = lines.next_address()?;
-    at.checked_add(MANY_LINES).ok_or(NoMemory)?;
-    Ok(at)
-}
 
 /// Whether messages of a task, by its number, may be armed.
 fn may_fire(rows: &ArmedRows<'_>, id: TaskId, task: &Task) -> bool
@@ -70,7 +58,7 @@ fn push_task(
     if !may_fire(rows, id, task) {
         return Ok(());
     }
-    let at = address_with_room(lines)?;
+    let at = lines.address_with_room(CALL_ROOM)?;
     emitter.push_choice(&armed_task(plan, rows, id), threshold, at, lines)
 }
 

@@ -43,6 +43,23 @@ slots_of (template.Alarm instant) = instant ∷ []
 slots_of template.NoAlarm = []
 slots_of template.Ret = []
 
+-- how far after the address from which jumps count a template jumps, and 0 for one that does not
+abbrev pub distance_of : Template → ℕ
+distance_of (template.Set to value) = 0
+distance_of (template.Copy to from) = 0
+distance_of (template.Calc op to left right) = 0
+distance_of (template.Load to c) = 0
+distance_of (template.Store c from) = 0
+distance_of (template.LoadAt to c index) = 0
+distance_of (template.StoreAt c index from) = 0
+distance_of (template.Jump to) = to
+distance_of template.Again = 0
+distance_of (template.JumpZero tested to) = to
+distance_of (template.Clock to) = 0
+distance_of (template.Alarm instant) = 0
+distance_of template.NoAlarm = 0
+distance_of template.Ret = 0
+
 -- whether these are among the 24
 abbrev pub fits : Template → Bool
 fits t = list_all (λ d. nat_lt d TIMER_QUEUE_WORDS) (slots_of t)

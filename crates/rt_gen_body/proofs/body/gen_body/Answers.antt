@@ -12,7 +12,8 @@ returns c =
     let old : List Line = c.args.code.now.items in
     let entry : ℕ = c.in_ok-entry.entry in
     let code : List Line = code_of app c.args.id (member_at app c.args.id) entry in
-    let begins : entry ≡ length old = c.in_ok-entry.ensures ∙ ap (λ (l : List Line). length l) c.deref.ensures.value in
+    let begins : entry ≡ length old =
+    c.in_ok-entry.ensures.entry ∙ ap (λ (l : List Line). length l) c.deref.ensures.value in
     let none : entry + 0 ≡ entry = omega arith in
     let is : c.extend_from_slice.new.self.items ≡ old ++ code =
     rw (

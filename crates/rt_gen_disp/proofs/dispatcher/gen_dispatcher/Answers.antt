@@ -13,7 +13,8 @@ returns c =
     let new : List Line = c.extend_from_slice.new.self.items in
     let entry : ℕ = c.in_ok-entry.entry in
     let own : List Line = dispatcher_code app c.args.level entry in
-    let begins : entry ≡ length old = c.in_ok-entry.ensures ∙ ap (λ (l : List Line). length l) c.deref.ensures.value in
+    let begins : entry ≡ length old =
+    c.in_ok-entry.ensures.entry ∙ ap (λ (l : List Line). length l) c.deref.ensures.value in
     let none : entry + 0 ≡ entry = omega arith in
     let made : List Line → Made = λ ls. record { entry = entry; lines = ls } in
     let behind_none : Made → Made =

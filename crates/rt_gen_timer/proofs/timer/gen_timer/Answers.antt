@@ -13,7 +13,7 @@ returns c =
     let new : List Line = c.extend_from_slice.new.self.items in
     let code : List Line = timer_code app c.args.mono.priority c.in_ok-entry.entry in
     let entry : c.in_ok-entry.entry ≡ length old =
-    c.in_ok-entry.ensures ∙ ap (λ (l : List Line). length l) c.deref.ensures.value in
+    c.in_ok-entry.ensures.entry ∙ ap (λ (l : List Line). length l) c.deref.ensures.value in
     let none : c.in_ok-entry.entry + 0 ≡ c.in_ok-entry.entry = omega arith in
     let some : IsSome c.args.plan.now.app.now.mono = subst (λ o. IsSome o) (sym c.requires.timed) refl in
     let is : new ≡ old ++ code =
