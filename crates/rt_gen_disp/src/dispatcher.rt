@@ -9,7 +9,7 @@ ghost use Rattle.rt_app.specs.Names.{names_of};
 ghost use Rattle.rt_app.specs.Plan.{IsPlan};
 ghost use Rattle.rt_app.specs.View.{app_of, task_of};
 ghost use Rattle.rt_gen_queue.specs.Line.{IsNameable};
-ghost use Rattle.rt_gen_queue.specs.Making.{next_address, Appends};
+ghost use Rattle.rt_gen_queue.specs.Making.{next_address, Appends, Extends};
 ghost use Rattle.rt_gen_queue.specs.Queue.{queue_at};
 ghost use Rattle.rt_gen_disp.specs.Code.{choices_code, dispatcher_code, last_from};
 ghost use Rattle.rt_gen_disp.specs.Inside.Generating.{task_code};
@@ -47,8 +47,9 @@ fn push_task(
     requires accepted { IsAccepted (app_of plan.now.app.now) }
     requires planned { IsPlan plan.now }
     requires queue { queue.now ≡ queue_at (app_of plan.now.app.now) queue.now.level }
-    ensures { let app = app_of plan.now.app.now in OnOk result (Appends lines.old lines.new
+    ensures lines { let app = app_of plan.now.app.now in OnOk result (Appends lines.old lines.new
         (task_code app queue.now.level exit (next_address lines.old) number row (slice_get app.tasks number))) }
+    ensures left { OnErr result (Extends lines.old lines.new) }
 {
     match plan.app.tasks.get(number) {
         Some(task) => {
@@ -73,8 +74,9 @@ fn push_choices(
     requires accepted { IsAccepted (app_of plan.now.app.now) }
     requires planned { IsPlan plan.now }
     requires queue { queue.now ≡ queue_at (app_of plan.now.app.now) queue.now.level }
-    ensures { let app = app_of plan.now.app.now in OnOk result (Appends lines.old lines.new
+    ensures lines { let app = app_of plan.now.app.now in OnOk result (Appends lines.old lines.new
         (choices_code app queue.now.level exit (next_address lines.old) 0 0 app.tasks)) }
+    ensures left { OnErr result (Extends lines.old lines.new) }
 {
     let mut row: u32 = 0;
     for number in 0..plan.app.tasks.len() {
@@ -90,8 +92,9 @@ fn generate(plan: &Plan<'_>, level: u8, lines: &mut Lines) -> Result<(), NoMemor
     requires accepted { IsAccepted (app_of plan.now.app.now) }
     requires planned { IsPlan plan.now }
     requires software { Contains (levels (app_of plan.now.app.now)) level }
-    ensures { OnOk result (Appends lines.old lines.new
+    ensures lines { OnOk result (Appends lines.old lines.new
         (dispatcher_code (app_of plan.now.app.now) level (next_address lines.old))) }
+    ensures left { OnErr result (Extends lines.old lines.new) }
 {
     let queue = queue_of(plan, level);
     let at = lines.address_with_room(TASK_ROOM)?;

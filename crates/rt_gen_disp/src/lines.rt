@@ -1,6 +1,5 @@
-ghost use Rattle.std.specs.Prelude.{◌≡◌, ◌+◌, ◌^◌, ◌≤◌, ◌<◌, OnOk};
-ghost use Rattle.rt_gen_queue.specs.Guards.{enter_line, leave_line};
-ghost use Rattle.rt_gen_queue.specs.Making.{Appends};
+ghost use Rattle.std.specs.Prelude.{◌≡◌, ◌+◌, ◌^◌, ◌≤◌, ◌<◌, OnErr, OnOk};
+ghost use Rattle.rt_gen_queue.specs.Making.{Appends, Extends};
 ghost use Rattle.rt_gen_disp.specs.Code as spec;
 ghost use Rattle.rt_gen_disp.specs.declared.lines.TheConstants.{TAKING_OFFSET, TASK_ROOM};
 
@@ -29,7 +28,8 @@ pub(crate) const TASK_ROOM: u32 = 300;
 /// The lines before the tasks, the first of which will be at this address.
 pub(crate) fn push_front(queue: &ReadyQueue, entry: u32, lines: &mut Lines) -> Result<(), NoMemory>
     requires room { entry + TAKING_OFFSET < 2 ^ 32 }
-    ensures { OnOk result (Appends lines.old lines.new (spec.front_lines queue.now entry)) }
+    ensures lines { OnOk result (Appends lines.old lines.new (spec.front_lines queue.now entry)) }
+    ensures left { OnErr result (lines.new ≡ lines.old) }
 {
     let head = u32::from(queue.at);
     let count = head + 1;
@@ -79,7 +79,8 @@ impl Exit {
 
 /// The lines that look whether the message is of a task, up to where its arguments are loaded.
 fn push_test(called: &Called, next: u32, lines: &mut Lines) -> Result<(), NoMemory>
-    ensures { OnOk result (Appends lines.old lines.new (spec.test_lines called.now next)) }
+    ensures lines { OnOk result (Appends lines.old lines.new (spec.test_lines called.now next)) }
+    ensures left { OnErr result (lines.new ≡ lines.old) }
 {
     let args = u32::from(called.args);
     lines.append(&[
@@ -93,8 +94,9 @@ fn push_test(called: &Called, next: u32, lines: &mut Lines) -> Result<(), NoMemo
 
 /// The lines that load its arguments.
 fn push_arguments(called: &Called, lines: &mut Lines) -> Result<(), NoMemory>
-    ensures { OnOk result (Appends lines.old lines.new
+    ensures lines { OnOk result (Appends lines.old lines.new
         (spec.argument_lines called.now.inputs called.now.args)) }
+    ensures left { OnErr result (Extends lines.old lines.new) }
 {
     let inputs = u32::from(called.inputs);
     for argument in 0..u32::from(called.args) {
@@ -111,7 +113,8 @@ fn push_start(
     lines: &mut Lines,
 ) -> Result<(), NoMemory>
     requires room { at + 3 < 2 ^ 32 }
-    ensures { OnOk result (Appends lines.old lines.new (spec.start_lines queue.now called.now at)) }
+    ensures lines { OnOk result (Appends lines.old lines.new (spec.start_lines queue.now called.now at)) }
+    ensures left { OnErr result (lines.new ≡ lines.old) }
 {
     let (free, level) = (u32::from(called.free), queue.level);
     let (ready, places) = (queue.guard, called.guard);
@@ -140,8 +143,9 @@ pub(crate) fn push_choice(
     lines: &mut Lines,
 ) -> Result<(), NoMemory>
     requires few { called.now.args ≤ 4 }
-    requires room { at + MANY_LINES < 2 ^ 32 }
-    ensures { OnOk result (Appends lines.old lines.new (spec.choice_lines queue.now called.now next at)) }
+    requires room { at + TASK_ROOM < 2 ^ 32 }
+    ensures lines { OnOk result (Appends lines.old lines.new (spec.choice_lines queue.now called.now next at)) }
+    ensures left { OnErr result (Extends lines.old lines.new) }
 {
     push_test(called, next, lines)?;
     push_arguments(called, lines)?;

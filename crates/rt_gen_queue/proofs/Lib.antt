@@ -6,6 +6,7 @@ pub mod Queues
 pub mod Owning
 pub mod Facts
 pub mod Placing
+pub mod Extending
 pub mod Whole
 pub mod Nameable
 pub mod Named

@@ -3,7 +3,8 @@ ghost use Rattle.rt_app.specs.declared.costs.TheConstants.{SPAWN_WORDS};
 ghost use Rattle.rt_code.specs.declared.instr.Instr.TheVariants as instr;
 ghost use Rattle.rt_gen_queue.specs.Line.{plain};
 ghost use Rattle.rt_gen_queue.specs.SpawnLines as spec;
-ghost use Rattle.rt_gen_queue.specs.Making.{Appends};
+ghost use Rattle.rt_gen_queue.specs.Making.{Appends, Extends};
+ghost use Rattle.rt_gen_queue.specs.declared.slots.TheConstants.{PLACE, WORK};
 
 use crate::lines::Lines;
 use crate::slots::{COUNT, INDEX, MASK, PLACE, WORK};
@@ -55,8 +56,9 @@ fn with_place(op: Op, to: u32, number: u32, slot: u32) -> [Line; 2]
 fn store(target: &Target, slot: u32, lines: &mut Lines) -> Result<(), NoMemory>
     requires slots { slot + SPAWN_WORDS < 2 ^ 32 }
     requires few { target.now.args ≤ 4 }
-    ensures { OnOk result (Appends lines.old lines.new
+    ensures lines { OnOk result (Appends lines.old lines.new
         (spec.store_code target.now.args target.now.inputs slot 0)) }
+    ensures left { OnErr result (Extends lines.old lines.new) }
 {
     let inputs = u32::from(target.inputs);
     let offset = slot + WORK;
@@ -72,7 +74,8 @@ fn store(target: &Target, slot: u32, lines: &mut Lines) -> Result<(), NoMemory>
 pub fn fill(target: &Target, slot: u32, lines: &mut Lines) -> Result<(), NoMemory>
     requires slots { slot + SPAWN_WORDS < 2 ^ 32 }
     requires few { target.now.args ≤ 4 }
-    ensures { OnOk result (Appends lines.old lines.new (spec.fill_lines target.now slot)) }
+    ensures lines { OnOk result (Appends lines.old lines.new (spec.fill_lines target.now slot)) }
+    ensures left { OnErr result (Extends lines.old lines.new) }
 {
     let args = u32::from(target.args);
     let places = CAPACITY * u32::from(target.task.0);

@@ -19,7 +19,7 @@ returns c =
     let made : List Line → Made = λ ls. record { entry = entry; lines = ls } in
     let behind_none : Made → Made =
     λ m. record m { lines = m.lines ++ dispatcher_code app c.args.level (next_address m) } in
-    let generated = c.in_ok-generate.ensures ∙ ap behind_none c.new-lines.ensures
+    let generated = c.in_ok-generate.ensures.lines ∙ ap behind_none c.new-lines.ensures
     ∙ ap (λ (at : ℕ). made (dispatcher_code app c.args.level at)) none in
     let is : new ≡ old ++ own =
     c.in_ok-extend_from_slice.ensures.items

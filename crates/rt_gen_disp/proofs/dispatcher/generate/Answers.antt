@@ -1,6 +1,9 @@
 use Rattle.rt_gen_queue.proofs.Vocabulary.{App, Line, List, Made, OnOk, ap, app_of, append_assoc, arith, length}
 use Rattle.rt_gen_queue.proofs.Vocabulary.{length-append, map, next_address, queue_at, refl, subst, sym, task_of, ℕ}
 use Rattle.rt_gen_queue.proofs.Vocabulary.{◌++◌, ◌+◌, ◌∙◌, ◌≡◌}
+use Rattle.std.proofs.lemmas.Result.{on_err_weaker}
+use Rattle.rt_lemmas.proofs.Results.{on_err_from}
+use Rattle.rt_gen_queue.proofs.Extending.{extends_by, extends_same, extends_then}
 use Rattle.rt_gen_queue.specs.declared.queue.ReadyQueue.{ReadyQueue}
 use Rattle.rt_gen_disp.proofs.dispatcher.generate.Goals as goal
 use Rattle.rt_gen_disp.specs.Code.{choices_code, exit_of, front_lines, last_from}
@@ -11,8 +14,19 @@ push_choices-requires-clause-queue c =
     c.queue_of-queue.ensures
     ∙ sym (ap (λ (q : ReadyQueue). queue_at (app_of c.args.plan.now.app.now) q.level) c.queue_of-queue.ensures)
 
-pub returns : goal.returns
-returns c =
+pub returns-in_err-push_front-clause-left : goal.returns-in_err-push_front-clause-left
+returns-in_err-push_front-clause-left c =
+    on_err_from c.from_residual-in_err-push_front.result
+    (extends_same c.args.lines.now c.in_err-push_front.ensures.left)
+
+pub returns-clause-left : goal.returns-clause-left
+returns-clause-left c =
+    on_err_weaker c.push_choices.result
+    (extends_then c.args.lines.now (extends_by c.args.lines.now _ c.in_ok-push_front.ensures.lines))
+    c.push_choices.ensures.left
+
+pub returns-clause-lines : goal.returns-clause-lines
+returns-clause-lines c =
     let app : App = app_of c.args.plan.now.app.now in
     let old : Made = c.args.lines.now in
     let entry : ℕ = next_address old in
@@ -23,7 +37,7 @@ returns c =
     ∙ ap (λ ts. last_from c.args.level 0 0 (map task_of ts)) c.deref.ensures.value in
     let exit : Exit = record { address = c.in_ok-at.at + 4; last = c.last_of-last.result } in
     let exits : exit ≡ exit_of app c.args.level entry = rw (c.in_ok-at.ensures.at, last) refl in
-    let front = c.in_ok-push_front.ensures
+    let front = c.in_ok-push_front.ensures.lines
     ∙ ap (λ (q : ReadyQueue). with (old.lines ++ front_lines q c.in_ok-at.at)) c.queue_of-queue.ensures
     ∙ ap (λ a. with (old.lines ++ front_lines (queue_at app c.args.level) a)) c.in_ok-at.ensures.at in
     let first : Made = c.push_front.new.lines in
@@ -35,4 +49,4 @@ returns c =
     ∙ ap (λ a. with ((old.lines ++ own) ++ rest c.args.level exit a)) behind
     ∙ ap (λ x. with ((old.lines ++ own) ++ rest c.args.level x (entry + 18))) exits
     ∙ ap with (append_assoc old.lines own (rest c.args.level (exit_of app c.args.level entry) (entry + 18))))
-    c.push_choices.ensures
+    c.push_choices.ensures.lines

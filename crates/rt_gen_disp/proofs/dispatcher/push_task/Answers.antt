@@ -12,20 +12,22 @@ there c =
 pub callee_of-requires-clause-task : goal.callee_of-requires-clause-task
 callee_of-requires-clause-task c = there (goal.at.callee_of-requires-clause-task c).In-Some
 
-pub returns-then-not-is_of_level : goal.returns-then-not-is_of_level
-returns-then-not-is_of_level c =
-    rw (there (goal.at.returns-then-not-is_of_level c).In-Some, sym c.is_of_level.ensures ∙ c.if-not-is_of_level.true)
+pub returns-then-not-is_of_level-clause-lines : goal.returns-then-not-is_of_level-clause-lines
+returns-then-not-is_of_level-clause-lines c =
+    let of = there (goal.at.returns-then-not-is_of_level-clause-lines c).In-Some in
+    rw (of, sym c.is_of_level.ensures ∙ c.if-not-is_of_level.true)
     (rw append-nil refl)
 
-pub returns-in-None : goal.returns-in-None
-returns-in-None c =
+pub returns-in-None-clause-lines : goal.returns-in-None-clause-lines
+returns-in-None-clause-lines c =
     let app = c.args.plan.now.app.now in
     let past = no_task app c.deref.result.now c.args.number c.deref.ensures.value c.in-None.ensures.lookup.3 in
     rw (past, append-nil) refl
 
-pub returns-in_ok-at-in-Some : goal.returns-in_ok-at-in-Some
-returns-in_ok-at-in-Some c =
-    let sent = rw (c.callee_of.ensures.is, c.next_for-next.ensures, c.from.ensures) at c.push_choice.ensures in
+pub returns-in_ok-at-in-Some-clause-lines : goal.returns-in_ok-at-in-Some-clause-lines
+returns-in_ok-at-in-Some-clause-lines c =
+    let sent = rw (c.callee_of.ensures.is, c.next_for-next.ensures, c.from.ensures) at c.push_choice.ensures.lines in
     let pushed = rw (c.in_ok-at-in-Some.ensures.at, c.requires.queue) at sent in
-    rw (there (goal.at.returns-in_ok-at-in-Some c).In-Some, sym c.is_of_level.ensures ∙ c.if-not-is_of_level.false)
+    let of = there (goal.at.returns-in_ok-at-in-Some-clause-lines c).In-Some in
+    rw (of, sym c.is_of_level.ensures ∙ c.if-not-is_of_level.false)
     pushed
