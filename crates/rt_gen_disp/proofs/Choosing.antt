@@ -19,7 +19,7 @@ use Rattle.rt_gen_queue.proofs.Entering.{enter_fits, enter_placed, leave_fits, l
 use Rattle.rt_gen_queue.proofs.Layer.{Here, S, Saves, Straight, all_fit, calculates, ends, jumps_off, placed, sets}
 use Rattle.rt_gen_queue.proofs.Layer.{configuration, stays}
 use Rattle.rt_gen_queue.specs.declared.queue.ReadyQueue.{ReadyQueue}
-use Rattle.rt_gen_disp.proofs.{Generated.none_behind, Kept.open_here, Loading.AreLoaded, Loading.Spread}
+use Rattle.rt_gen_disp.proofs.{Lasts.last_past, Kept.open_here, Loading.AreLoaded, Loading.Spread}
 use Rattle.rt_gen_disp.proofs.{Loading.all_load, Running.Chosen, Running.IsOldest, Running.start_run, Sizes.IsTask}
 use Rattle.rt_gen_disp.proofs.{Sizes.choice_long, Sizes.choices_grow}
 use Rattle.rt_gen_disp.proofs.Dispatchers.{Dispatcher, alone, job, rows, within}
@@ -221,7 +221,7 @@ module _ {d : Dispatcher} {cells : List ℕ} {queues : Location → List Entry} 
       → next_for (exit_of d.app d.level first) n behind ≡ behind
   leads_behind {n = n} first behind before differs =
       let exit : Exit = exit_of d.app d.level first in
-      let last = none_behind d.level 0 0 d.app.tasks o.task (omega arith) its_task.1 its_task.2 in
+      let last = last_past d.level d.app.tasks o.task its_task.1 its_task.2 in
       let less : n < exit.last = omega (arith, before, differs, last) in
       let other : (n == exit.last) ≡ false = grind (arith, nat_tests) in
       ap (λ (b : Bool). if b then exit.address else behind) other

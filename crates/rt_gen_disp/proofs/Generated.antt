@@ -1,10 +1,10 @@
 -- How the code of a dispatcher comes about.
 use Rattle.rt_gen_queue.proofs.Vocabulary.{App, Bool, IsAccepted, IsPlan, Line, List, Made, None, Option, Plan, Some}
 use Rattle.rt_gen_queue.proofs.Vocabulary.{Task, [], and_left, ap, app_of, append-nil, append_assoc, arith, drop}
-use Rattle.rt_gen_queue.proofs.Vocabulary.{drop_as_cons, false, get_or, if◌then◌else◌, inl, inr, is_of_level}
+use Rattle.rt_gen_queue.proofs.Vocabulary.{drop_as_cons, false, get_or, inl, inr, is_of_level}
 use Rattle.rt_gen_queue.proofs.Vocabulary.{is_software, length, length-append, length-map, map, mapped_at, next_address}
-use Rattle.rt_gen_queue.proofs.Vocabulary.{none-some, plain, queue_at, refl, same_Some, slice_get, slice_get_read}
-use Rattle.rt_gen_queue.proofs.Vocabulary.{subst, suc, sym, task_of, true, zero, ℕ, ◌++◌, ◌+◌, ◌<◌, ◌==◌, ◌∙◌, ◌∷◌, ◌≡◌}
+use Rattle.rt_gen_queue.proofs.Vocabulary.{plain, queue_at, refl, slice_get, slice_get_read}
+use Rattle.rt_gen_queue.proofs.Vocabulary.{subst, sym, task_of, true, ℕ, ◌++◌, ◌+◌, ◌<◌, ◌==◌, ◌∙◌, ◌∷◌, ◌≡◌}
 use Rattle.rt_gen_queue.proofs.Vocabulary.{◌≤◌}
 use Rattle.std.proofs.lemmas.{Bool.cases_Bool, List.FromFn.map-range_with_len_more, Option.slice_get_past}
 use Rattle.std.specs.Int.{from_bool}
@@ -14,7 +14,7 @@ use Rattle.rt_code.specs.declared.instr.Instr.TheVariants as instr
 use Rattle.rt_gen_queue.{proofs.Planned.target_made, proofs.Planned.target_read, specs.declared.target.Target.Target}
 use Rattle.rt_gen_disp.proofs.Sizes.{choice_long}
 use Rattle.rt_gen_disp.specs.{Inside.Generating.task_code, declared.called.Called.Called, declared.lines.Exit.Exit}
-use Rattle.rt_gen_disp.specs.Code.{argument_lines, callee_of, choice_code, choices_code, last_from, next_for}
+use Rattle.rt_gen_disp.specs.Code.{argument_lines, callee_of, choice_code, choices_code, next_for}
 
 -- one argument more
 pub arguments_more : (inputs k : ℕ)
@@ -97,28 +97,6 @@ choices_next s items made r {n = n} {t = t} within at =
 pub at_most_one : (b : Bool) → from_bool b ≤ 1
 at_most_one true = omega arith
 at_most_one false = omega arith
-
--- The number of the last task of a level is none before the one found so far, and none before a task of the level.
-chosen_between : (b : Bool) (found n : ℕ) → found ≤ n
-    → (found ≤ (if b then n else found)) × ((if b then n else found) ≤ n + 1)
-chosen_between true found n less = (less, omega arith)
-chosen_between false found n less = (omega arith, omega arith)
-
-found_first : (level found n : ℕ) (ts : List Task) → found ≤ n → found ≤ last_from level found n ts
-found_first level found n [] less = omega arith
-found_first level found n (t ∷ ts) less =
-    let chosen = chosen_between (is_of_level level t) found n less in
-    omega (arith, chosen.0, found_first level (if is_of_level level t then n else found) (n + 1) ts chosen.1)
-
-pub none_behind : (level found n : ℕ) (ts : List Task) (j : ℕ) {t : Task} → found ≤ n → slice_get ts j ≡ Some t
-    → is_of_level level t ≡ true → n + j ≤ last_from level found n ts
-none_behind level found n [] j less there of = absurd (none-some _ there)
-none_behind level found n (u ∷ ts) zero less there of =
-    rw (ap (is_of_level level) (same_Some u _ there) ∙ of)
-    (omega (arith, found_first level n (n + 1) ts (omega arith)))
-none_behind level found n (u ∷ ts) (suc j) less there of =
-    let chosen = chosen_between (is_of_level level u) found n less in
-    omega (arith, none_behind level (if is_of_level level u then n else found) (n + 1) ts j chosen.1 there of)
 
 -- what a spawn is made of, as the dispatcher has it
 abbrev pub with_row : ℕ → ℕ → Target → Called

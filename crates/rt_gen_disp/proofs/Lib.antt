@@ -4,6 +4,7 @@ pub mod Kept
 pub mod Rings
 pub mod Loading
 pub mod Sizes
+pub mod Lasts
 pub mod Running
 pub mod Choosing
 pub mod Dispatching

@@ -3,8 +3,9 @@
 -- its place, looks among the tasks of the level for its task, loads its arguments, gives its place back and calls the
 -- body. Not this file but the law that it stands says what it means. That it is made of these instructions is this
 -- project's own.
-use Rattle.std.specs.Prelude.{ℕ, ◌+◌, ◌==◌, List, [], ◌∷◌, ◌++◌, map, slice_index, if◌then◌else◌}
+use Rattle.std.specs.Prelude.{ℕ, ◌+◌, ◌==◌, List, [], ◌∷◌, ◌++◌, length, map, slice_get, slice_index, if◌then◌else◌}
 use Rattle.std.specs.List.{range_with_len}
+use Rattle.rt_ids.specs.Lists.{greatest, those_below, is_some_and}
 use Rattle.rt_ids.specs.declared.ids.Section.TheVariants as section
 use Rattle.rt_ids.specs.declared.limits.TheConstants.{CAPACITY}
 use Rattle.rt_ids.specs.declared.op.Op.TheVariants as op
@@ -79,10 +80,10 @@ callee_of app n row t = record {
 abbrev pub next_for : Exit → ℕ → ℕ → ℕ
 next_for exit n behind = if n == exit.last then exit.address else behind
 
--- the number of the last task of a level among these, the first of which has this number; another where there is none
-abbrev pub last_from : ℕ → ℕ → ℕ → List Task → ℕ
-last_from level found n [] = found
-last_from level found n (t ∷ more) = last_from level (if is_of_level level t then n else found) (n + 1) more
+-- the number of the last task of a level, and 0 where there is none
+abbrev pub last_of : ℕ → List Task → ℕ
+last_of level tasks =
+    greatest (those_below (λ n. is_some_and (is_of_level level) (slice_get tasks n)) (length tasks))
 
 module _ (app : App) (level : ℕ) (exit : Exit) where
   -- the code of the choice of a task of the level, from an address on
@@ -101,7 +102,7 @@ module _ (app : App) (level : ℕ) (exit : Exit) where
 
 -- the exit of the dispatcher of a level that begins at an address: where it returns because nothing is ready
 abbrev pub exit_of : App → ℕ → ℕ → Exit
-exit_of app level at = record { address = at + 4; last = last_from level 0 0 app.tasks }
+exit_of app level at = record { address = at + 4; last = last_of level app.tasks }
 
 -- the code of the dispatcher of a level, from an address on
 abbrev pub dispatcher_code : App → ℕ → ℕ → List Line

@@ -11,7 +11,7 @@ ghost use Rattle.rt_app.specs.View.{app_of, task_of};
 ghost use Rattle.rt_gen_queue.specs.Line.{IsNameable};
 ghost use Rattle.rt_gen_queue.specs.Making.{next_address, Appends, Extends};
 ghost use Rattle.rt_gen_queue.specs.Queue.{queue_at};
-ghost use Rattle.rt_gen_disp.specs.Code.{choices_code, dispatcher_code, last_from};
+ghost use Rattle.rt_gen_disp.specs.Code.{choices_code, dispatcher_code, last_of};
 ghost use Rattle.rt_gen_disp.specs.Inside.Generating.{task_code};
 
 use crate::called::callee_of;
@@ -24,7 +24,7 @@ use std::alloc::Global;
 
 /// The number of the last task of a level, and 0 where there is none.
 fn last_of(tasks: &[Task], level: u8) -> usize
-    ensures { result ≡ last_from level 0 0 (map task_of tasks.now) }
+    ensures { result ≡ last_of level (map task_of tasks.now) }
 {
     let mut last: usize = 0;
     for number in 0..tasks.len() {

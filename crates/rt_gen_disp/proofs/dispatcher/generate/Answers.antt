@@ -6,7 +6,7 @@ use Rattle.rt_lemmas.proofs.Results.{on_err_from}
 use Rattle.rt_gen_queue.proofs.Extending.{extends_by, extends_same, extends_then}
 use Rattle.rt_gen_queue.specs.declared.queue.ReadyQueue.{ReadyQueue}
 use Rattle.rt_gen_disp.proofs.dispatcher.generate.Goals as goal
-use Rattle.rt_gen_disp.specs.Code.{choices_code, exit_of, front_lines, last_from}
+use Rattle.rt_gen_disp.specs.Code.{choices_code, exit_of, front_lines, last_of}
 use Rattle.rt_gen_disp.specs.declared.lines.Exit.{Exit}
 
 pub push_choices-requires-clause-queue : goal.push_choices-requires-clause-queue
@@ -34,7 +34,7 @@ returns-clause-lines c =
     let with : List Line → Made = λ ls. record old { lines = ls } in
     let behind : old.entry + length (old.lines ++ own) ≡ entry + 18 = omega (arith, length-append old.lines own) in
     let last = c.last_of-last.ensures
-    ∙ ap (λ ts. last_from c.args.level 0 0 (map task_of ts)) c.deref.ensures.value in
+    ∙ ap (λ ts. last_of c.args.level (map task_of ts)) c.deref.ensures.value in
     let exit : Exit = record { address = c.in_ok-at.at + 4; last = c.last_of-last.result } in
     let exits : exit ≡ exit_of app c.args.level entry = rw (c.in_ok-at.ensures.at, last) refl in
     let front = c.in_ok-push_front.ensures.lines

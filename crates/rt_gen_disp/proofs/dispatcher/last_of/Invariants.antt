@@ -1,9 +1,8 @@
--- The last task of the level among those so far and those that are left.
-use Rattle.rt_gen_queue.proofs.Vocabulary.{drop, map, task_of, ◌≡◌}
+-- The last task of the level among those so far.
+use Rattle.rt_gen_queue.proofs.Vocabulary.{greatest, map, task_of, ◌≡◌}
+use Rattle.rt_ids.specs.Lists.{those_below}
+use Rattle.rt_gen_disp.proofs.Lasts.{is_at_level}
 use Rattle.rt_gen_disp.proofs.dispatcher.last_of.Given as goal
-use Rattle.rt_gen_disp.specs.Code.{last_from}
 
 abbrev pub invariant-loop-number : goal.invariant-loop-number
-invariant-loop-number l =
-    last_from l.level 0 0 (map task_of l.tasks)
-    ≡ last_from l.level l.last l.number (map task_of (drop l.number l.tasks))
+invariant-loop-number l = l.last ≡ greatest (those_below (is_at_level l.level (map task_of l.tasks)) l.number)
