@@ -4,9 +4,9 @@ use Rattle.rt_gen_queue.proofs.Vocabulary.{Agree, Assign, Bool, Clocks, Contains
 use Rattle.rt_gen_queue.proofs.Vocabulary.{OpenSection, Location, Instr, IsChangeable, Line, List, Num, Number, Oper}
 use Rattle.rt_gen_queue.proofs.Vocabulary.{Own, Pend}
 use Rattle.rt_gen_queue.proofs.Vocabulary.{Read, Some, Values, [], ap, arith, does, eqb-true, expression_steps, false}
-use Rattle.rt_gen_queue.proofs.Vocabulary.{get_or-set_other, get_or-set_same, inl, inr, length, length-append}
-use Rattle.rt_gen_queue.proofs.Vocabulary.{length-set, nat_tests, number, operate, or_left, owns, plain, values_with}
-use Rattle.rt_gen_queue.proofs.Vocabulary.{refl}
+use Rattle.rt_gen_queue.proofs.Vocabulary.{get_or-set_other, get_or-set_same, inl, inr, irq_number, length}
+use Rattle.rt_gen_queue.proofs.Vocabulary.{length-append, length-set, nat_tests, number, operate, or_left, or_zero}
+use Rattle.rt_gen_queue.proofs.Vocabulary.{owns, plain, refl, values_with}
 use Rattle.rt_gen_queue.proofs.Vocabulary.{run, slice_get, slice_index, slice_set, storage, subst, suc, sym, true}
 use Rattle.rt_gen_queue.proofs.Vocabulary.{value_in, ℕ, ◌++◌, ◌+◌, ◌<◌, ◌==◌, ◌∙◌, ◌∷◌, ◌≡◌, ◌≢◌, ◌≤◌, ◌⊎◌}
 use Rattle.std.proofs.lemmas.Grind.{get_or-set_at}
@@ -22,7 +22,7 @@ use Rattle.rt_gen_body.proofs.Owning.{HasCell, OpenAre, local_cell, reads_cell, 
 use Rattle.rt_gen_body.proofs.Owning.{represented_put, writes_cell}
 use Rattle.rt_gen_body.proofs.Scopes.{IsViablePrefix, Behind, Body, Inside, Knows, Performs, Scope, free_slot, front_of}
 use Rattle.rt_gen_body.proofs.Scopes.{goes_behind, listed_by, named, sooner, still_behind}
-use Rattle.rt_gen_body.proofs.Storing.{local_owned, number_is, resource_owned, resource_read}
+use Rattle.rt_gen_body.proofs.Storing.{local_owned, resource_owned, resource_read}
 use Rattle.rt_gen_body.specs.Inside.Simple.{assign_code, emit_code}
 use Rattle.rt_gen_body.specs.Inside.Values.{Context, expression_code, next_slot, value_code}
 
@@ -336,12 +336,12 @@ module _ {b : Body} {p : Scope} where
       stores_value e (b.c.locals + l) (Own l) sound (local_at b l meant.0)
       (λ held are. local_owned b.facts held p.locked l to)
 
-  pub pends : (i : ℕ) → Performs b p p.visible (λ at. plain (instr.Post (slice_index b.c.numbers i)) ∷ []) 1
+  pub pends : (i : ℕ) → Performs b p p.visible (λ at. plain (instr.Post (or_zero (irq_number b.c.app i))) ∷ []) 1
       (run b.z.app (Pend i))
   pends i = record {
     runs = λ {h} {vars} {vs} later begins is behind.
         posts_here (subst (λ (irq : ℕ). slice_get b.z.code h.at ≡ Some (plain (instr.Post irq)))
-        (ap (λ (c : Context). slice_index c.numbers i) b.facts.is ∙ number_is b.z.app i b.z.app.irqs) begins.has.0)
+        (ap (λ (c : Context). or_zero (irq_number c.app i)) b.facts.is) begins.has.0)
         (sooner (omega arith) begins) is
         (λ ws agree.
         goes_behind behind (omega arith) (omega arith) (known_agreed agree begins.known) (λ y here. refl));

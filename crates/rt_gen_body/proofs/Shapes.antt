@@ -11,8 +11,8 @@ use Rattle.rt_gen_queue.proofs.Vocabulary.{has_body, if◌then◌else◌, irq_nu
 use Rattle.rt_gen_queue.proofs.Vocabulary.{leave_line, length, length-append, length-map, map, max, member_at, members}
 use Rattle.rt_gen_queue.proofs.Vocabulary.{names_of, none-some, line_with_note, option_map, or_zero, plain}
 use Rattle.rt_gen_queue.proofs.Vocabulary.{range_with_len, refl}
-use Rattle.rt_gen_queue.proofs.Vocabulary.{same_Some, slice_get, slice_get_within, slice_index, statement_steps, subst}
-use Rattle.rt_gen_queue.proofs.Vocabulary.{sum_by, sym, true, variables, variables_in, ℕ, ◌++◌, ◌+◌, ◌<◌, ◌==◌, ◌∷◌}
+use Rattle.rt_gen_queue.proofs.Vocabulary.{same_Some, slice_get, slice_get_within, statement_steps, subst}
+use Rattle.rt_gen_queue.proofs.Vocabulary.{sum_by, true, variables, variables_in, ℕ, ◌++◌, ◌+◌, ◌<◌, ◌==◌, ◌∷◌}
 use Rattle.rt_gen_queue.proofs.Vocabulary.{◌≡◌, ◌≤◌}
 use Rattle.std.proofs.lemmas.List.Sums.{get_or-le-sum_by}
 use Rattle.rt_lemmas.proofs.Bools.{and_parts}
@@ -30,7 +30,6 @@ use Rattle.rt_gen_queue.proofs.{Facts.Spawned, Facts.arguments, Facts.few_argume
 use Rattle.rt_gen_queue.proofs.{Masks.leave_named, Nameable.AreClaimed, Nameable.claimed_both, Nameable.irq_declared}
 use Rattle.rt_gen_queue.proofs.{Named.spawn_claimed, Named.spawned, Named.task_declared, Placing.spawn_long}
 use Rattle.rt_gen_queue.specs.declared.guard.Guard.{Guard}
-use Rattle.rt_gen_body.proofs.Storing.{number_is}
 use Rattle.rt_gen_body.specs.Form.{HasForm, end_line, fixed_block, fixed_body}
 use Rattle.rt_gen_body.specs.Inside.Blocks.{block_code, branch_code, guard_at, lock_code, loop_back, statement_code}
 use Rattle.rt_gen_body.specs.Inside.Simple.{goes_code, is_timed, send_code, values_code, values_of}
@@ -211,8 +210,7 @@ module _ {app : App} (m : Member) (accepted : IsAccepted app) where
         (λ inside slot a. block_fine inner w inside slot a placed.1)
     statement_fine (Emit e) w threshold lock at placed = valued e (plain (instr.Emit c.expressions)) tt
     statement_fine (Pend i) w threshold lock at placed =
-        one_line (plain (instr.Post (slice_index c.numbers i)))
-        (subst (HasIrq (names_of app)) (sym (number_is app i app.irqs)) (irq_declared app i placed), tt)
+        one_line (plain (instr.Post (or_zero (irq_number app i)))) (irq_declared app i placed, tt)
     statement_fine (Spawns s) w threshold lock at placed = send_fine threshold at s
 
     block_fine : (b : Block) (w : Where) (threshold lock at : ℕ) → IsBlockPlaced app w.listed w.count w.visible b
@@ -297,7 +295,7 @@ pend_first irq more = plain (instr.Post irq) ∷ more
 
 -- it brings in no variables, and its lines are these, where expressions are evaluated in the first slot
 block_fixed : (app : App) (c : Context) (threshold lock at : ℕ) (b : Block) {lines : List Line}
-    → ((irq : ℕ) → slice_index c.numbers irq ≡ or_zero (irq_number app irq)) → fixed_block app b ≡ Some lines
+    → ((irq : ℕ) → or_zero (irq_number c.app irq) ≡ or_zero (irq_number app irq)) → fixed_block app b ≡ Some lines
     → (variables b ≡ 0) × (c.expressions ≡ 0 → block_code c threshold lock at b ≡ lines)
 block_fixed app c threshold lock at Empty {lines = lines} known is = (refl, λ first. same_Some [] lines is)
 block_fixed app c threshold lock at (Then (Emit (Num value)) rest) {lines = lines} known is =
@@ -326,7 +324,7 @@ module _ (app : App) where
           let args : m.args ≡ 0 = eqb-true m.args 0 none in
           let both =
           block_fixed app (context_of app m) (threshold_of app m) (first_lock_slot m.args m.body) at m.body.block
-          (λ irq. number_is app irq app.irqs) fixed in
+          (λ irq. refl) fixed in
           both.1 (omega (arith, args, both.0))
       go false none fixed = absurd (none-some lines fixed)
 

@@ -6,8 +6,8 @@ use Rattle.rt_gen_queue.proofs.Vocabulary.{IsSound, List, Member, None, Option, 
 use Rattle.rt_gen_queue.proofs.Vocabulary.{and_both, and_left, any_passes, ap, arith, eq-eqb, eqb-true, false}
 use Rattle.rt_gen_queue.proofs.Vocabulary.{false_from_ne_true, find, flat_map, get_or-map-range_with_len, guard_of}
 use Rattle.rt_gen_queue.proofs.Vocabulary.{if◌then◌else◌, inl, inr, is_constant, is_kept, is_open, is_some_and, length}
-use Rattle.rt_gen_queue.proofs.Vocabulary.{list_any, lt-ltb, map, members, not, option_map, or_left, or_right, or_zero}
-use Rattle.rt_gen_queue.proofs.Vocabulary.{owns, reads, refl, slice_get, slice_index, storage, suc, sym, true, zero, ℕ}
+use Rattle.rt_gen_queue.proofs.Vocabulary.{list_any, lt-ltb, map, members, not, or_left, or_right}
+use Rattle.rt_gen_queue.proofs.Vocabulary.{owns, reads, refl, storage, sym, true, ℕ}
 use Rattle.rt_gen_queue.proofs.Vocabulary.{◌&&◌, ◌<◌, ◌==◌, ◌||◌, ◌∙◌, ◌∷◌, ◌≡◌, ◌⊎◌}
 use Rattle.std.proofs.lemmas.List.Folds.{list_any-append}
 use Rattle.rt_lemmas.proofs.Bools.{and_parts, or_assoc, or_cases}
@@ -15,7 +15,7 @@ use Rattle.rt_lemmas.proofs.Membership.{any_contained, any_one}
 use Rattle.rt_ids.proofs.Lists.{list_any-map}
 use Rattle.rt_ids.specs.declared.ids.Section.TheVariants as section
 use Rattle.rt_app.specs.{Ceiling.lists, Declarations.owns as owns_local, Holding.is_some_at, Sound.IsReached}
-use Rattle.rt_app.specs.{declared.app.IrqDecl.IrqDecl, declared.body.Listed.Listed}
+use Rattle.rt_app.specs.declared.body.Listed.{Listed}
 use Rattle.rt_app.specs.Listing.{Listing, is_lock_free, listings, listings_of}
 use Rattle.rt_app.specs.Statements.{is_free, is_init, is_lockable, listing_in}
 use Rattle.rt_app.specs.declared.expr.Atom.TheVariants as atom
@@ -27,12 +27,6 @@ pub guard_is : (app : App) (m : Member) (r : ℕ) → r < length app.shared → 
 guard_is app m r within =
     get_or-map-range_with_len (λ k. guard_of app (section.Res k)) 0 (length app.shared) r r
     (record { ceiling = 0; value = 0 }) within (omega arith)
-
-pub number_is : (app : App) (i : ℕ) (irqs : List IrqDecl)
-    → slice_index (map (λ d. d.number) irqs) i ≡ or_zero (option_map (λ d. d.number) (slice_get irqs i))
-number_is app i [] = refl
-number_is app zero (d ∷ irqs) = refl
-number_is app (suc i) (d ∷ irqs) = number_is app i irqs
 
 -- where the first that passes a test passes another too, one passes both
 any_found : {X : Type 0} (test also : X → Bool) (xs : List X) → is_some_and also (find test xs) ≡ true

@@ -10,7 +10,8 @@ ghost use Rattle.rt_gen_body.specs.Inside.Generating.{context, IsReady};
 
 use crate::generator::{Generator, next_slot};
 use rt_app::Stmt;
-use rt_code::{Instr, Note};
+use rt_code::Instr;
+use rt_gen_queue::queue::irq_number;
 use rt_gen_queue::{Guard, Lines};
 use rt_ids::{Irq, NoMemory, Op, ResId, Section};
 
@@ -35,9 +36,9 @@ fn guard_at(generator: &Generator<'_>, resource: ResId) -> Guard
     }
 }
 
-/// The number of a declared interrupt, by its index, and 0 where it is not declared.
-fn irq_number(generator: &Generator<'_>, irq: u8) -> Irq
-    ensures { result ≡ slice_index (context generator.now).numbers irq }
+/// The number of an interrupt, by its index, and 0 where it is not declared.
+fn number_at(generator: &Generator<'_>, irq: u8) -> Irq
+    ensures { result ≡ or_zero (handlers.irq_number (context generator.now).app irq) }
 {
     irq_number(&generator.plan.app.irqs, irq)
 }
@@ -255,7 +256,7 @@ impl<'a> Generator<'a> {
                 threshold, lock, *resource, inner, code,
             ),
             Stmt::Emit(expr) => self.emit(expr, code),
-            Stmt::Pend(irq) => code.push(Instr::Post(irq_number(self, *irq))),
+            Stmt::Pend(irq) => code.push(Instr::Post(number_at(self, *irq))),
             Stmt::Call(spawn) => self.send(threshold, spawn, code),
         }
     }

@@ -1,8 +1,10 @@
 -- The code of statements and blocks, instruction by instruction, from an address on: choices, loops, and sections of
 -- resources. Not this file but the promise that it stands says what it means.
-use Rattle.std.specs.Prelude.{◌≡◌, ℕ, ◌+◌, max, List, [], ◌∷◌, ◌++◌, length, slice_index, slice_index_or, slice_set}
+use Rattle.std.specs.Prelude.{◌≡◌, ℕ, ◌+◌, max, List, [], ◌∷◌, ◌++◌, length, slice_index_or, slice_set}
+use Rattle.rt_ids.specs.Lists.{or_zero}
 use Rattle.rt_ids.specs.declared.ids.Section.TheVariants as section
 use Rattle.rt_ids.specs.declared.op.Op.TheVariants as op
+use Rattle.rt_app.specs.Handlers.{irq_number}
 use Rattle.rt_app.specs.Tree.{Statement, Bind, Assign, Branch, Repeat, Locked, Emit, Pend, Spawns, Block, Empty, Then}
 use Rattle.rt_code.specs.declared.instr.Instr.TheVariants as instr
 use Rattle.rt_gen_queue.specs.Line.{Line, plain}
@@ -88,7 +90,7 @@ module _ (c : Context) where
     statement_code threshold lock at (Locked r inner offset) =
         lock_code threshold lock at r (λ inside slot a. block_code inside slot a inner)
     statement_code threshold lock at (Emit e) = emit_code c e
-    statement_code threshold lock at (Pend i) = plain (instr.Post (slice_index c.numbers i)) ∷ []
+    statement_code threshold lock at (Pend i) = plain (instr.Post (or_zero (irq_number c.app i))) ∷ []
     statement_code threshold lock at (Spawns s) = send_code c threshold at s
 
     -- the code of a block, one statement after the other

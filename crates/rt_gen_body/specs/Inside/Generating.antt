@@ -1,5 +1,5 @@
 -- What a generator of code has, as the context of the definitions.
-use Rattle.std.specs.Prelude.{◌≡◌, ℕ, List, map, length}
+use Rattle.std.specs.Prelude.{◌≡◌, ℕ, List, length}
 use Rattle.rt_app.specs.Accepted.{IsAccepted}
 use Rattle.rt_app.specs.Frame.{first_expression_slot, first_lock_slot, first_spawn_slot}
 use Rattle.rt_app.specs.Plan.{IsPlan}
@@ -16,7 +16,6 @@ abbrev pub context : Generator → Context
 context g = record {
   app = app_of g.plan.now.app.now;
   guards = g.guards.now;
-  numbers = map (λ d. d.number) (app_of g.plan.now.app.now).irqs;
   locals = g.locals;
   expressions = g.expressions;
   spawns = g.spawns;
@@ -36,7 +35,6 @@ slots_code app guards args threshold b entry =
     let with : Context = record {
       app = app;
       guards = guards;
-      numbers = map (λ d. d.number) app.irqs;
       locals = length app.shared;
       expressions = first_expression_slot args b;
       spawns = first_spawn_slot args b;

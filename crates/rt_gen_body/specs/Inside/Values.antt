@@ -14,8 +14,6 @@ pub record Context : Type 0 where
   pub app : App
   -- of each shared resource
   pub guards : List Guard
-  -- the numbers of the declared interrupts
-  pub numbers : List ℕ
   -- the cell of the first local resource
   pub locals : ℕ
   -- the first slot where expressions are evaluated

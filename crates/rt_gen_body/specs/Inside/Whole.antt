@@ -23,7 +23,6 @@ abbrev pub context_of : App → Member → Context
 context_of app m = record {
   app = app;
   guards = guards_of app;
-  numbers = map (λ d. d.number) app.irqs;
   locals = length app.shared;
   expressions = first_expression_slot m.args m.body;
   spawns = first_spawn_slot m.args m.body;
