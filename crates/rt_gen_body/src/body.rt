@@ -41,13 +41,13 @@ fn guards(alloc: Global, bits: u8, ceilings: &[u8]) -> Result<Vec<Guard>, NoMemo
     Ok(guards)
 }
 
-/// What the body of a member is generated with: the plan, how sections mask, and the preemption threshold of the body.
+/// What all bodies are generated with: the plan, the messages that may be armed, and how the sections of each resource
+/// mask.
 #[derive(Clone, Copy)]
 struct Source<'a> {
     plan: &'a Plan<'a>,
     rows: &'a ArmedRows<'a>,
     guards: &'a [Guard],
-    threshold: u8,
 }
 
 /// The preemption threshold of `init`, which holds off all.
@@ -58,10 +58,11 @@ fn all_priorities(bits: u8) -> u8
     1 << bits
 }
 
-/// The lines of a body's blocks, which runs with so many arguments.
+/// The lines of a body's blocks, which runs at a preemption threshold and with so many arguments.
 fn blocks(
     alloc: Global,
     source: &Source<'_>,
+    threshold: u8,
     args: u8,
     body: &Body,
     lines: &mut Lines,
@@ -72,21 +73,22 @@ fn blocks(
     requires few { args ≤ ARGUMENTS }
     requires limits { KeepsBodyLimits (body_of body.now) }
     ensures { OnOk result (Appends lines.old lines.new
-        (slots_code (app_of source.now.plan.now.app.now) source.now.guards.now args source.now.threshold
+        (slots_code (app_of source.now.plan.now.app.now) source.now.guards.now args threshold
         (body_of body.now) (next_address lines.old))) }
 {
     let plan = source.plan;
     let slots = Slots::of(args, body);
+    let locals = plan.app.shared.len() as u16;
     let generator = Generator {
         alloc,
         plan,
         rows: source.rows,
         guards: source.guards,
-        locals: u16::try_from(plan.app.shared.len()).ok().ok_or(NoMemory)?,
+        locals,
         expressions: slots.expressions,
         spawns: slots.spawns,
     };
-    generator.block(source.threshold, slots.masks, &body.block, lines)
+    generator.block(threshold, slots.masks, &body.block, lines)
 }
 
 /// The lines of a body's blocks, none where it is not declared.
@@ -106,55 +108,20 @@ fn append_blocks(
         (blocks_of (app_of plan.now.app.now) (member_at (app_of plan.now.app.now) id) (next_address lines.old))) }
 {
     let app = plan.app;
+    let source = Source { plan, rows, guards };
     match id {
         BodyId::Init => match &app.init {
-            Some(body) => {
-                let threshold = all_priorities(app.bits);
-                blocks(
-                    alloc,
-                    &Source {
-                        plan,
-                        rows,
-                        guards,
-                        threshold,
-                    },
-                    0,
-                    body,
-                    lines,
-                )
-            }
+            Some(body) => blocks(alloc, &source, all_priorities(app.bits), 0, body, lines),
             None => Ok(()),
         },
         BodyId::Idle => match &app.idle {
-            Some(body) => blocks(
-                alloc,
-                &Source {
-                    plan,
-                    rows,
-                    guards,
-                    threshold: 0,
-                },
-                0,
-                body,
-                lines,
-            ),
+            Some(body) => blocks(alloc, &source, 0, 0, body, lines),
             None => Ok(()),
         },
         BodyId::Task(number) => match app.task(number) {
             Some(task) => {
-                let threshold = task.priority;
-                blocks(
-                    alloc,
-                    &Source {
-                        plan,
-                        rows,
-                        guards,
-                        threshold,
-                    },
-                    task.args,
-                    &task.body,
-                    lines,
-                )
+                let (threshold, args) = (task.priority, task.args);
+                blocks(alloc, &source, threshold, args, &task.body, lines)
             }
             None => Ok(()),
         },
