@@ -35,7 +35,7 @@ impl ArmedTask {
 }
 
 /// A software task, as the code that arms, cancels and moves its messages finds it.
-pub fn armed_task(plan: &Plan<'_>, rows: &ArmedRows<'_>, task: TaskId) -> ArmedTask
+pub(crate) fn armed_task(plan: &Plan<'_>, rows: &ArmedRows<'_>, task: TaskId) -> ArmedTask
     requires accepted { IsAccepted (app_of plan.now.app.now) }
     requires planned { IsPlan plan.now }
     requires rows { rows.now ≡ plan.now.app.now }

@@ -1,4 +1,4 @@
-ghost use Rattle.std.specs.Prelude.{◌≡◌, ◌≤◌, ◌*◌, option_map};
+ghost use Rattle.std.specs.Prelude.{◌≡◌, ◌≤◌, ◌*◌};
 ghost use Rattle.rt_ids.specs.Lists.{or_zero};
 ghost use Rattle.rt_ids.specs.declared.limits.TheConstants.{CAPACITY, TASKS};
 ghost use Rattle.rt_app.specs.Accepted.{IsAccepted};
@@ -40,7 +40,7 @@ fn first_cell(layout: &Layout) -> u16
 }
 
 /// The timer queue of an application that has this monotonic.
-pub fn queue_of(plan: &Plan<'_>, rows: &ArmedRows<'_>, mono: Mono) -> TimerQueue
+pub(crate) fn queue_of(plan: &Plan<'_>, rows: &ArmedRows<'_>, mono: Mono) -> TimerQueue
     requires accepted { IsAccepted (app_of plan.now.app.now) }
     requires planned { IsPlan plan.now }
     requires rows { rows.now ≡ plan.now.app.now }
@@ -54,20 +54,5 @@ pub fn queue_of(plan: &Plan<'_>, rows: &ArmedRows<'_>, mono: Mono) -> TimerQueue
         messages: rows.messages(),
         guard: Guard::of(app.bits, top_of(&plan.ceil)),
         irq: irq_number(&app.irqs, mono.irq),
-    }
-}
-
-impl TimerQueue {
-    /// The timer queue of an application, where there is a monotonic.
-    pub fn of(plan: &Plan<'_>, rows: &ArmedRows<'_>) -> Option<TimerQueue>
-        requires accepted { IsAccepted (app_of plan.now.app.now) }
-        requires planned { IsPlan plan.now }
-        requires rows { rows.now ≡ plan.now.app.now }
-        ensures { let app = app_of plan.now.app.now in result ≡ option_map (λ mono. spec.queue_of app) app.mono }
-    {
-        match plan.app.mono {
-            None => None,
-            Some(mono) => Some(queue_of(plan, rows, mono)),
-        }
     }
 }
