@@ -29,7 +29,7 @@ use Rattle.rt_gen_body.proofs.Expressions.{Sets, assigns, binds_time, emits_valu
 use Rattle.rt_gen_body.proofs.Loops.{BlockPerforms, chooses, in_loop, loops}
 use Rattle.rt_gen_body.proofs.Owning.{open_as, resource_cell, represented_agreed, represented_inside}
 use Rattle.rt_gen_body.proofs.Owning.{represented_outside}
-use Rattle.rt_gen_body.proofs.Scopes.{IsViablePrefix, Body, Fits, Inside, Performs, Scope, block_needs, fewer_visible}
+use Rattle.rt_gen_body.proofs.Scopes.{IsAboutToRun, Body, Fits, Inside, Performs, Scope, block_needs, fewer_visible}
 use Rattle.rt_gen_body.proofs.Scopes.{front_of}
 use Rattle.rt_gen_body.proofs.Scopes.{goes_behind, inside_as, threshold_inside, listed_by, named, needs, part_fits}
 use Rattle.rt_gen_body.proofs.Scopes.{sooner}
@@ -76,7 +76,7 @@ module _ (b : Body) (p : Scope) (r offset : ℕ) (inner : Block) (sound : IsSoun
   opens = ap (λ (g : Guard). opening_instr g.value kind) guard
 
   may_open : {h : Here} {lines : List Line} {cost : ℕ} {vars : List ℕ} {vs : Values}
-      → IsViablePrefix b p h lines cost vars vs
+      → IsAboutToRun b p h lines cost vars vs
       → MayOpen b.z h (section.Res r) kind
   may_open {h = h} begins = record {
     mask = subst (λ (g : Guard). IsKindFor (storage b.z.app) b.z.who b.z.who h.held (section.Res r)

@@ -20,7 +20,7 @@ use Rattle.rt_gen_queue.proofs.Layer.{load_gives, posts_here, set_gives, store_g
 use Rattle.rt_gen_queue.proofs.Placing.{code_behind}
 use Rattle.rt_gen_body.proofs.Owning.{HasCell, OpenAre, local_cell, reads_cell, resource_cell, represented_agreed}
 use Rattle.rt_gen_body.proofs.Owning.{represented_put, writes_cell}
-use Rattle.rt_gen_body.proofs.Scopes.{IsViablePrefix, Behind, Body, Inside, Knows, Performs, Scope, free_slot, front_of}
+use Rattle.rt_gen_body.proofs.Scopes.{IsAboutToRun, Behind, Body, Inside, Knows, Performs, Scope, free_slot, front_of}
 use Rattle.rt_gen_body.proofs.Scopes.{goes_behind, listed_by, named, sooner, still_behind}
 use Rattle.rt_gen_body.proofs.Storing.{local_owned, resource_owned, resource_read}
 use Rattle.rt_gen_body.specs.Inside.Simple.{assign_code, emit_code}
@@ -88,7 +88,7 @@ module _ {b : Body} {p : Scope} {h : Here} {lines : List Line} {cost : ℕ} {var
   -- What is known is known still, where slots differ where nothing in scope is.
   pub still_known : {after : List ℕ} → length after ≡ length h.slots
       → ((x : ℕ) → x < b.c.expressions → slice_index after x ≡ slice_index h.slots x)
-      → IsViablePrefix b p h lines cost vars vs → Knows b h.held p.visible after h.cells vars vs
+      → IsAboutToRun b p h lines cost vars vs → Knows b h.held p.visible after h.cells vars vs
   still_known long same begins = record {
     in_slots = λ x here.
         same x (omega (arith, begins.inside.below x here, begins.inside.room)) ∙ begins.known.in_slots x here;
@@ -102,8 +102,8 @@ module _ {b : Body} {p : Scope} {h : Here} {lines : List Line} {cost : ℕ} {var
   pub next_begins : {few done at : ℕ} {after : List ℕ} {more : List Line} → HasCodeAt b.z.code at more
       → done + few ≤ h.done + cost → length after ≡ length h.slots
       → ((x : ℕ) → x < b.c.expressions → slice_index after x ≡ slice_index h.slots x)
-      → IsViablePrefix b p h lines cost vars vs
-      → IsViablePrefix b p (record h { done = done; slots = after; at = at }) more few vars vs
+      → IsAboutToRun b p h lines cost vars vs
+      → IsAboutToRun b p (record h { done = done; slots = after; at = at }) more few vars vs
   next_begins has less long same begins = record {
     has = has;
     time = sooner less begins;
@@ -113,7 +113,7 @@ module _ {b : Body} {p : Scope} {h : Here} {lines : List Line} {cost : ℕ} {var
 
 module _ {b : Body} {p : Scope} {h : Here} {vars : List ℕ} {vs : Values} where
   -- an expression of one line
-  one_line : {i : Instr} {slot free value : ℕ} → Target b p slot free → IsViablePrefix b p h (plain i ∷ []) 1 vars vs
+  one_line : {i : Instr} {slot free value : ℕ} → Target b p slot free → IsAboutToRun b p h (plain i ∷ []) 1 vars vs
       → (slot < length h.slots → IsFree h.held slot
       → Gives b.z h i (slice_set h.slots slot value) (suc h.at) h.cells) → Follows b h 1 1 slot free value → S b.z h
   one_line {slot = slot} {value = value} t begins gives on =
@@ -124,7 +124,7 @@ module _ {b : Body} {p : Scope} {h : Here} {vars : List ℕ} {vs : Values} where
 pub evaluates : {b : Body} {p : Scope} (e : Expression) {h : Here} {vars : List ℕ} {vs : Values} {slot free : ℕ}
     → Target b p slot free → free + depth e ≤ suc b.top → AreReached b.z.app b.m p.locked e
     → AreMeant b.z.app (listed_by b.m) p.visible e
-    → IsViablePrefix b p h (expression_code b.c e slot free) (expression_steps e) vars vs
+    → IsAboutToRun b p h (expression_code b.c e slot free) (expression_steps e) vars vs
     → Follows b h (expression_steps e) (length (expression_code b.c e slot free)) slot free (value_in vars vs e)
     → S b.z h
 evaluates (Num v) t deep reached meant begins on = one_line t begins (λ there free. set_gives there free) on
@@ -192,10 +192,10 @@ valued b h e slots =
 -- It comes there, and the lines after it begin.
 pub with_value : {b : Body} {p : Scope} {visible : List ℕ} {h : Here} {lines : List Line} {vars : List ℕ} {vs : Values}
     {total : ℕ} {later : Later} (e : Expression) (cost : ℕ) → expression_steps e + cost ≤ total → Sound b p e
-    → IsViablePrefix b p h (value_code b.c e ++ lines) total vars vs
+    → IsAboutToRun b p h (value_code b.c e ++ lines) total vars vs
     → Behind b p visible h (length (value_code b.c e ++ lines)) total later
     → ((slots : List ℕ) → b.c.expressions < length slots → slice_index slots b.c.expressions ≡ value_in vars vs e
-    → IsViablePrefix b p (valued b h e slots) lines cost vars vs
+    → IsAboutToRun b p (valued b h e slots) lines cost vars vs
     → Behind b p visible (valued b h e slots) (length lines) cost later → S b.z (valued b h e slots)) → S b.z h
 with_value {b = b} {p = p} {h = h} {lines = lines} e cost less sound begins behind on =
     let test : List Line = value_code b.c e in

@@ -14,7 +14,7 @@ use Rattle.rt_code.specs.declared.instr.Instr.TheVariants as instr
 use Rattle.rt_gen_queue.proofs.{Numbers.added, Numbers.steps_and, Placing.code_behind, Placing.code_front}
 use Rattle.rt_gen_queue.proofs.Layer.{Here, S, calc_gives, goes, jump_by_gives, jump_gives, set_gives}
 use Rattle.rt_gen_body.proofs.Expressions.{Sound, next_begins, still_known, valued, variable_set, with_value}
-use Rattle.rt_gen_body.proofs.Scopes.{IsViablePrefix, Behind, Body, Inside, Knows, Performs, Scope, fewer_visible}
+use Rattle.rt_gen_body.proofs.Scopes.{IsAboutToRun, Behind, Body, Inside, Knows, Performs, Scope, fewer_visible}
 use Rattle.rt_gen_body.proofs.Scopes.{free_slot}
 use Rattle.rt_gen_body.proofs.Scopes.{goes_behind, inside_as, named, sooner, still_behind}
 use Rattle.rt_gen_body.specs.Inside.{Blocks.block_code, Blocks.loop_back, Blocks.statement_code, Values.value_code}
@@ -29,11 +29,11 @@ module _ {b : Body} {p : Scope} where
   -- A test and the jump after it: the value decides where the code goes on.
   decides : {visible : List ℕ} {h : Here} {vars : List ℕ} {vs : Values} {total : ℕ} {later : Later} {more : List Line}
       (e : Expression) (to cost : ℕ) → expression_steps e + suc cost ≤ total
-      → Sound b p e → IsViablePrefix b p h (value_code b.c e ++ plain (instr.JumpZ b.c.expressions to)
+      → Sound b p e → IsAboutToRun b p h (value_code b.c e ++ plain (instr.JumpZ b.c.expressions to)
       ∷ more) total vars vs
       → Behind b p visible h (length (value_code b.c e ++ plain (instr.JumpZ b.c.expressions to) ∷ more)) total later
       → ((slots : List ℕ)
-      → IsViablePrefix b p (valued b h e slots) (plain (instr.JumpZ b.c.expressions to) ∷ more) (suc cost) vars vs
+      → IsAboutToRun b p (valued b h e slots) (plain (instr.JumpZ b.c.expressions to) ∷ more) (suc cost) vars vs
       → HasCodeAt b.z.code (h.at + length (value_code b.c e) + 1) more
       → Behind b p visible (valued b h e slots) (suc (length more)) (suc cost) later
       → (stop : Bool) → (value_in vars vs e == 0) ≡ stop
@@ -57,8 +57,8 @@ module _ {b : Body} {p : Scope} where
   -- a block after a jump
   begins_block : {h : Here} {lines : List Line} {cost : ℕ} {vars : List ℕ} {vs : Values} (block : Block) (at : ℕ)
       → HasCodeAt b.z.code at (block_code b.c p.threshold p.lock at block)
-      → suc (block_steps (cost_measure b.z.app) block) ≤ cost → IsViablePrefix b p h lines cost vars vs
-      → IsViablePrefix b p (record h { done = suc h.done; at = at }) (block_code b.c p.threshold p.lock at block)
+      → suc (block_steps (cost_measure b.z.app) block) ≤ cost → IsAboutToRun b p h lines cost vars vs
+      → IsAboutToRun b p (record h { done = suc h.done; at = at }) (block_code b.c p.threshold p.lock at block)
       (block_steps (cost_measure b.z.app) block) vars vs
   begins_block block at has less begins = next_begins has (omega arith) refl (λ x low. refl) begins
 
@@ -162,7 +162,7 @@ turn_lines b p l at =
 
 -- the number that the loop has come to
 number_there : {b : Body} {p : Scope} {h : Here} {lines : List Line} {cost : ℕ} {vs : Values} (vars : List ℕ) (i : ℕ)
-    → IsViablePrefix b (in_loop p) h lines cost (slice_set vars p.count i) vs
+    → IsAboutToRun b (in_loop p) h lines cost (slice_set vars p.count i) vs
     → slice_index (slice_set vars p.count i) p.count ≡ i
 number_there {p = p} vars i begins =
     get_or-set_same vars p.count i 0
@@ -180,7 +180,7 @@ pub record LoopAt (b : Body) (p : Scope) (l : Loop) (at : ℕ) : Type 0 where
 module _ {b : Body} {p : Scope} {l : Loop} where
   -- the head of a loop compares its number with the last, and goes on to the turn or to the end
   head_runs : {h : Here} {cost : ℕ} {vars : List ℕ} {vs : Values} (stop : Bool) → LoopAt b p l h.at
-      → IsViablePrefix b (in_loop p) h (turn_lines b p l h.at) cost vars vs → 3 ≤ cost
+      → IsAboutToRun b (in_loop p) h (turn_lines b p l h.at) cost vars vs → 3 ≤ cost
       → (number_of (nat_lt (slice_index vars p.count) l.last) == 0) ≡ stop
       → ((after : List ℕ) → length after ≡ length h.slots
       → ((y : ℕ) → y < b.c.expressions → slice_index after y ≡ slice_index h.slots y)
@@ -218,7 +218,7 @@ module _ {b : Body} {p : Scope} {l : Loop} where
 
   -- the tail of a turn adds one, and goes to the head
   tail_runs : {h : Here} {vars : List ℕ} {vs : Values} {head : ℕ} (i : ℕ) → LoopAt b p l head
-      → IsViablePrefix b (in_loop p) h (loop_back b.c p.count head) 3 vars vs
+      → IsAboutToRun b (in_loop p) h (loop_back b.c p.count head) 3 vars vs
       → slice_index h.slots p.count ≡ i → suc i < 2 ^ 32
       → ((after : List ℕ) → Knows b h.held (p.count ∷ p.visible) after h.cells (slice_set vars p.count (suc i)) vs
       → ((y : ℕ) → y < p.count → slice_index after y ≡ slice_index h.slots y)
@@ -249,7 +249,7 @@ module _ {b : Body} {p : Scope} {l : Loop} where
   -- turn after turn, from the head
   loop_turns : (turns : ℕ) {h : Here} {vs : Values} {later : Later} (i : ℕ) (vars : List ℕ) → LoopAt b p l h.at
       → (turns ≡ l.last - i) × (l.first ≤ i)
-      → IsViablePrefix b (in_loop p) h (turn_lines b p l h.at)
+      → IsAboutToRun b (in_loop p) h (turn_lines b p l h.at)
       (3 + spent turns (block_steps (cost_measure b.z.app) l.turn))
       (slice_set vars p.count i) vs
       → h.rest ≡ turns_from turns p.count i (run_block b.z.app l.turn) later vars vs

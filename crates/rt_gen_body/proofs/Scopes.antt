@@ -131,7 +131,7 @@ fewer_visible within known = record {
 }
 
 -- before some lines that take so many steps: they are in the code, and there is time for them
-pub record IsViablePrefix (b : Body) (p : Scope) (h : Here) (lines : List Line) (cost : ℕ) (vars : List ℕ) (vs : Values)
+pub record IsAboutToRun (b : Body) (p : Scope) (h : Here) (lines : List Line) (cost : ℕ) (vars : List ℕ) (vs : Values)
     : Type 0 where
   pub has : HasCodeAt b.z.code h.at lines
   pub time : InTime (h.done + cost) h
@@ -164,7 +164,7 @@ pub record Behind (b : Body) (p : Scope) (visible : List ℕ) (h : Here) (size c
 -- lines, which depend on where they begin, do what is to be done before anything later
 pub record Performs (b : Body) (p : Scope) (visible : List ℕ) (lines : ℕ → List Line) (cost : ℕ)
     (doing : Later → Later) : Type 0 where
-  pub runs : {h : Here} {vars : List ℕ} {vs : Values} (later : Later) → IsViablePrefix b p h (lines h.at) cost vars vs
+  pub runs : {h : Here} {vars : List ℕ} {vs : Values} (later : Later) → IsAboutToRun b p h (lines h.at) cost vars vs
       → h.rest ≡ doing later vars vs → Behind b p visible h (length (lines h.at)) cost later → S b.z h
 
 -- the same point by other names
@@ -207,12 +207,12 @@ still_behind behind at_is less kept = record {
 
 module _ {b : Body} {p : Scope} {h : Here} {lines : List Line} {cost : ℕ} {vars : List ℕ} {vs : Values} where
   -- there is time for so many of the steps
-  pub sooner : {k : ℕ} → k ≤ h.done + cost → IsViablePrefix b p h lines cost vars vs → InTime k h
+  pub sooner : {k : ℕ} → k ≤ h.done + cost → IsAboutToRun b p h lines cost vars vs → InTime k h
   sooner {k = k} less begins = lasts_less k (h.done + cost) (h.until ∷ h.deadlines) less begins.time
 
 -- the first of the lines
 pub front_of : {b : Body} {p : Scope} {h : Here} {few cost : ℕ} {vars : List ℕ} {vs : Values} (front back : List Line)
-    → few ≤ cost → IsViablePrefix b p h (front ++ back) cost vars vs → IsViablePrefix b p h front few vars vs
+    → few ≤ cost → IsAboutToRun b p h (front ++ back) cost vars vs → IsAboutToRun b p h front few vars vs
 front_of {b = b} {h = h} front back less begins = record {
   has = code_front b.z.code h.at front back begins.has;
   time = sooner (omega arith) begins;

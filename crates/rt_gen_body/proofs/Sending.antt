@@ -21,7 +21,7 @@ use Rattle.rt_gen_queue.proofs.Layer.{Here, S, copy_gives, goes, lasts_left, lef
 use Rattle.rt_gen_queue.specs.Spawning.{CallSite}
 use Rattle.rt_gen_body.proofs.Expressions.{Sets, Sound, evaluates, kept_set, next_begins, variable_set}
 use Rattle.rt_gen_body.proofs.Owning.{not_open, represented_left}
-use Rattle.rt_gen_body.proofs.Scopes.{IsViablePrefix, Body, Performs, Scope, Settled, State, free_slot, front_of}
+use Rattle.rt_gen_body.proofs.Scopes.{IsAboutToRun, Body, Performs, Scope, Settled, State, free_slot, front_of}
 use Rattle.rt_gen_body.proofs.Scopes.{goes_behind}
 use Rattle.rt_gen_body.proofs.Scopes.{listed_by, named, sooner, then_at}
 use Rattle.rt_gen_body.specs.Inside.Simple.{bind_code, goes_code, send_code, values_of}
@@ -73,7 +73,7 @@ code_called b lines needs n t has there software =
     rw (ap (λ (c : Context). c.app) b.facts.is, has, there, software) refl
 
 module _ {b : Body} {p : Scope} {h : Here} {vars : List ℕ} {vs : Values} (q : Spawn) (rest : ℕ → Rest)
-    (begins : IsViablePrefix b p h (goes_code b.c p.threshold h.at q) (goes_steps b.z.app q) vars vs)
+    (begins : IsAboutToRun b p h (goes_code b.c p.threshold h.at q) (goes_steps b.z.app q) vars vs)
     (on : Answered b p h (length (goes_code b.c p.threshold h.at q)) (goes_steps b.z.app q) vars rest) where
   abbrev left : ℕ
   left = h.until - h.done - goes_steps b.z.app q
@@ -152,7 +152,7 @@ site b p h vs task t rest = record {
 
 -- the code of what goes does its actions, once the values are in their slots
 goes_on : {b : Body} {p : Scope} {h : Here} {vars : List ℕ} {vs : Values} (q : Spawn) (rest : ℕ → Rest)
-    → SoundSpawn b p q → IsViablePrefix b p h (goes_code b.c p.threshold h.at q) (goes_steps b.z.app q) vars vs
+    → SoundSpawn b p q → IsAboutToRun b p h (goes_code b.c p.threshold h.at q) (goes_steps b.z.app q) vars vs
     → take (length (values_of q)) (drop b.c.spawns h.slots) ≡ map (value_in vars vs) (values_of q)
     → h.rest ≡ spawn_actions b.z.app (value_in vars vs) q rest vs
     → Answered b p h (length (goes_code b.c p.threshold h.at q)) (goes_steps b.z.app q) vars rest → S b.z h
@@ -325,7 +325,7 @@ record Come (b : Body) (slot : ℕ) (given before slots : List ℕ) : Type 0 whe
 
 arguments_come : {b : Body} {p : Scope} (es : List Expression) {h : Here} {vars : List ℕ} {vs : Values} {slot : ℕ}
     → AllByRecursion (Sound b p) es → (b.c.spawns ≤ slot) × (slot + length es ≤ b.words)
-    → IsViablePrefix b p h (arguments_code b.c es slot) (expressions_steps es) vars vs
+    → IsAboutToRun b p h (arguments_code b.c es slot) (expressions_steps es) vars vs
     → ((done at : ℕ) (slots : List ℕ) → done ≡ h.done + expressions_steps es
     → at ≡ h.at + length (arguments_code b.c es slot) → Come b slot (map (value_in vars vs) es) h.slots slots
     → S b.z (record h { done = done; slots = slots; at = at }))
@@ -366,7 +366,7 @@ arguments_come {b = b} {p = p} (e ∷ es) {h = h} {vars = vars} {vs = vs} {slot 
 -- a spawn, and what follows by its answer
 sends_on : {b : Body} {p : Scope} {h : Here} {vars : List ℕ} {vs : Values} (q : Spawn) (rest : ℕ → Rest)
     → SoundSpawn b p q
-    → IsViablePrefix b p h (send_code b.c p.threshold h.at q) (spawn_steps (cost_measure b.z.app) q) vars vs
+    → IsAboutToRun b p h (send_code b.c p.threshold h.at q) (spawn_steps (cost_measure b.z.app) q) vars vs
     → h.rest ≡ spawn_actions b.z.app (value_in vars vs) q rest vs
     → Answered b p h (length (send_code b.c p.threshold h.at q)) (spawn_steps (cost_measure b.z.app) q) vars rest
     → S b.z h

@@ -35,7 +35,7 @@ use Rattle.rt_gen_timer.proofs.{Opening.may_enter, Order.above_less, Rowing.HasR
 use Rattle.rt_gen_timer.proofs.{Sifting.IsReady, Sifting.IsRisen, Sifting.rises_stand, Represented.few_armings}
 use Rattle.rt_gen_timer.proofs.{Turning.AreTurns, Turning.arm_steps, Turning.turns_for}
 use Rattle.rt_gen_timer.proofs.Acting.{Lasting, Runs, code_first, code_part, heap_open, run_stands, sooner}
-use Rattle.rt_gen_timer.proofs.Calling.{AgreeInside, IsViablePrefix, Call, HasCalled, Inside, IsInside, Left, at_work}
+use Rattle.rt_gen_timer.proofs.Calling.{AgreeInside, CallBegins, Call, HasCalled, Inside, IsInside, Left, at_work}
 use Rattle.rt_gen_timer.proofs.Calling.{behind_call, call_of, columns_now, entries, f, leaving_code, leaving_fits}
 use Rattle.rt_gen_timer.proofs.Calling.{on_window, queue_now, settles, stands_called, task_of, w}
 use Rattle.rt_gen_timer.proofs.Hollow.{IsBeside, beside_more, beside_one_position, hollow_filled}
@@ -59,7 +59,7 @@ worked v r = record v { count = r.count; hole = r.index; place = r.word; work = 
 
 -- a message is to be sent later
 record SendsLater (c : Call) (cost delay : ℕ) (args : List ℕ) (h : Here) : Type 0 where
-  pub call : IsViablePrefix c (after_steps c.z.app) (after_code c.z.app c.task c.threshold c.slot h.at)
+  pub call : CallBegins c (after_steps c.z.app) (after_code c.z.app c.task c.threshold c.slot h.at)
       (place_actions c.z.app c.task (arm_actions c.z.app cost delay (record { task = c.task; args = args }) c.rest)
       (c.rest 0)) h
   pub armed : is_armed c.z.app c.task ≡ true

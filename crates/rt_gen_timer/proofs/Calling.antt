@@ -119,7 +119,7 @@ module _ {c : Call} {steps : ℕ} {h : Here} (may : MayCall c steps h) where
       → S c.z (Now f (behind_call h (h.at + length lines) (c.rest answer) b) (words b.words))
 
 -- It begins: its lines, which take so many steps, are in the code, this is left to do, and it goes on after them.
-pub record IsViablePrefix (c : Call) (steps : ℕ) (lines : List Line) (doing : Rest) (h : Here) : Type 0 where
+pub record CallBegins (c : Call) (steps : ℕ) (lines : List Line) (doing : Rest) (h : Here) : Type 0 where
   pub may : MayCall c steps h
   pub has : HasCodeAt c.z.code h.at lines
   pub is : h.rest ≡ doing c.values
@@ -263,7 +263,7 @@ task_of c named = record { accepted = named.accepted; at = named.is_there; softw
 pub stands_called : (c : Call) (s : Configuration) {lines : List Line} {doing : Rest} {steps n : ℕ}
     → Spawned c.z.app c.task c.t → IsSome c.z.app.mono → MayUseTimer c.z.app c.z.who steps c.threshold c.slot s
     → HasCodeAt c.z.code s.address lines → s.rest ≡ doing c.values
-    → ((k : ℕ) → IsViablePrefix (of_job c s) steps lines doing (begun s k) → S (of_job c s).z (begun s k))
+    → ((k : ℕ) → CallBegins (of_job c s) steps lines doing (begun s k) → S (of_job c s).z (begun s k))
     → StandsBefore c.z.app c.z.who c.z.code c.z.bodies c.z.thread steps c.slot lines c.rest n s c.values
 stands_called c s {steps = steps} facts mono uses has is correct = λ on k enough.
     let may : MayCall (of_job c s) steps (begun s k) = record {

@@ -24,7 +24,7 @@ use Rattle.rt_gen_queue.proofs.Returning.{IsGiven, Returned, free_home, frees, g
 use Rattle.rt_gen_timer.proofs.{Alone.instant_in, Alone.number_in, Comparing.LoopEnd, Delaying.at_address}
 use Rattle.rt_gen_timer.proofs.{Marking.cancels, Rowing.taken_off, Settling.reach_enough, Window.Words, Window.words}
 use Rattle.rt_gen_timer.proofs.Acting.{code_first, code_part, run_stands, sooner}
-use Rattle.rt_gen_timer.proofs.Calling.{IsViablePrefix, Call, HasCalled, Left, at_work, behind_call, call_of}
+use Rattle.rt_gen_timer.proofs.Calling.{CallBegins, Call, HasCalled, Left, at_work, behind_call, call_of}
 use Rattle.rt_gen_timer.proofs.Calling.{columns_now}
 use Rattle.rt_gen_timer.proofs.Calling.{f, leaving_code, leaving_fits, on_window, own_on, settles, stands_called}
 use Rattle.rt_gen_timer.proofs.Calling.{task_of}
@@ -39,7 +39,7 @@ use Rattle.rt_gen_timer.specs.TimerLines.{alarm_lines, answer_lines, calc, free_
 
 -- what is asked of it beside what is asked of each call
 record AsksCancel (c : Call) (handle : ℕ) (h : Here) : Type 0 where
-  pub call : IsViablePrefix c (handle_steps c.z.app) (cancel_code c.z.app c.task c.threshold c.slot h.at)
+  pub call : CallBegins c (handle_steps c.z.app) (cancel_code c.z.app c.task c.threshold c.slot h.at)
       (cancel_actions c.z.app (handle_section_cost c.z.app) c.task handle (c.rest 0) (c.rest 1)) h
   pub places : MayUsePlaces c.z.app c.z.who c.task (configuration c.z h)
   pub shown : slice_index h.slots c.slot ≡ handle

@@ -16,7 +16,7 @@ use Rattle.rt_gen_timer.proofs.{Alone.instant_in, Alone.number_in, Comparing.Han
 use Rattle.rt_gen_timer.proofs.{Lasting.last_alone}
 use Rattle.rt_gen_timer.proofs.{Marking.moves, Sifting.sinking, Represented.few_armings, Represented.row_of}
 use Rattle.rt_gen_timer.proofs.Acting.{code_first, code_part, heap_open, run_stands, sooner}
-use Rattle.rt_gen_timer.proofs.Calling.{AgreeInside, IsViablePrefix, Call, at_work, call_of, columns_now, entries, f}
+use Rattle.rt_gen_timer.proofs.Calling.{AgreeInside, CallBegins, Call, at_work, call_of, columns_now, entries, f}
 use Rattle.rt_gen_timer.proofs.Calling.{leaving_code, leaving_fits, on_window, settles, stands_called, task_of}
 use Rattle.rt_gen_timer.proofs.Delaying.{at_address, delayed, time_stands}
 use Rattle.rt_gen_timer.proofs.Hollow.{IsBeside, beside_more, beside_one_position, hollow_filled}
@@ -31,7 +31,7 @@ use Rattle.rt_gen_timer.specs.TimerLines.{alarm_lines, answer_lines, heap_of, pu
 
 -- the message of a handle is to be put to another instant
 record AsksMove (c : Call) (delay handle : ℕ) (h : Here) : Type 0 where
-  pub call : IsViablePrefix c (handle_steps c.z.app) (move_code c.z.app c.task c.threshold c.slot h.at)
+  pub call : CallBegins c (handle_steps c.z.app) (move_code c.z.app c.task c.threshold c.slot h.at)
       (move_actions c.z.app (handle_section_cost c.z.app) delay c.task handle (c.rest 0) (c.rest 1)) h
   pub delay_is : slice_index h.slots c.slot ≡ delay
   pub shown : slice_index h.slots (suc c.slot) ≡ handle
