@@ -12,7 +12,7 @@ use Rattle.rt_words.specs.declared.call.Call.{Call}
 use Rattle.rt_live.specs.Interleaving.{Turn, Happens, Looks, looks, look_arrivals, interleaving}
 use Rattle.rt_live.specs.Going.{Stops}
 use Rattle.rt_live.proofs.Woven.{looks-append, interleaving_on, interleaving_short}
-use Rattle.rt_dual.specs.Inside.Running.{IsViablePrefix}
+use Rattle.rt_dual.specs.Inside.Running.{BeginsTurns}
 
 -- the first events of more
 pub done_before : (es fs : List Event) (a b : Machine) → HasDone es a b → HasDone (es ++ fs) a b
@@ -75,7 +75,7 @@ broken_done es a b x y cut = record {
 
 module _ (ts : List Turn) (calls calls' : List Call) (a b : Machine) (x y : Option (List ℕ)) where
   -- a fault in them
-  pub stopped : Stops ts calls calls' a b x y → IsViablePrefix ts a b
+  pub stopped : Stops ts calls calls' a b x y → BeginsTurns ts a b
   stopped cut = elim cut.few [
     | inl less ↦ in_midst less
     | inr most ↦ record { found = cut.found; few = most.1; done = at_end most.0 }
@@ -89,7 +89,7 @@ module _ (ts : List Turn) (calls calls' : List Call) (a b : Machine) (x y : Opti
           subst (λ es. HasDone es a b)
           (ap (λ ws. interleaving ts cut.found ++ look_arrivals ws) none ∙ append-nil (interleaving ts cut.found)) came
 
-      in_midst : length cut.found < looks ts → IsViablePrefix ts a b
+      in_midst : length cut.found < looks ts → BeginsTurns ts a b
       in_midst less =
           let more = look_more ts cut.found cut.last less in
           record {
@@ -101,7 +101,7 @@ module _ (ts : List Turn) (calls calls' : List Call) (a b : Machine) (x y : Opti
           }
 
 -- the first of more turns
-pub begins_before : (ts us : List Turn) (a b : Machine) → IsViablePrefix ts a b → IsViablePrefix (ts ++ us) a b
+pub begins_before : (ts us : List Turn) (a b : Machine) → BeginsTurns ts a b → BeginsTurns (ts ++ us) a b
 begins_before ts us a b begun = record {
   found = begun.found;
   few = omega (arith, looks-append ts us, begun.few);
@@ -119,7 +119,7 @@ begins_before ts us a b begun = record {
 
 -- all turns, and the first behind them
 pub begins_behind : (ts us : List Turn) (found : List (List ℕ)) (a b c : Machine) → length found ≡ looks ts
-    → Leads (interleaving ts found) a b → IsViablePrefix us b c → IsViablePrefix (ts ++ us) a c
+    → Leads (interleaving ts found) a b → BeginsTurns us b c → BeginsTurns (ts ++ us) a c
 begins_behind ts us found a b c many run begun = record {
   found = found ++ begun.found;
   few = omega (arith, length-append found begun.found, looks-append ts us, many, begun.few);

@@ -18,7 +18,7 @@ use Rattle.rt_live.specs.Interleaving.{Turn, Happens, repeated_turns}
 use Rattle.rt_live.proofs.Owning.{repeated_add}
 use Rattle.rt_dual.specs.Course.{is_of_both}
 use Rattle.rt_dual.specs.Inside.Own.{events_at, own_turns, request_of, turn_of, HasNameAt, HasNamesAt}
-use Rattle.rt_dual.specs.Inside.Running.{Runs, IsViablePrefix}
+use Rattle.rt_dual.specs.Inside.Running.{Runs, BeginsTurns}
 use Rattle.rt_dual.specs.declared.core_id.CoreId.{CoreId}
 use Rattle.rt_dual.specs.declared.core_id.CoreId.TheVariants.{First, Second}
 use Rattle.rt_dual.specs.declared.side.Side.{Side}
@@ -56,15 +56,15 @@ once_more n ts a b c s t u first second =
 
 -- or the first events of them
 pub once_begun : (n total : ℕ) (ts : List Turn) (a b c : Machine) (s t : Side) → n < total
-    → Runs (repeated_turns n ts) a b s t → IsViablePrefix ts b c → IsViablePrefix (repeated_turns total ts) a c
+    → Runs (repeated_turns n ts) a b s t → BeginsTurns ts b c → BeginsTurns (repeated_turns total ts) a c
 once_begun n total ts a b c s t within first begun =
     let rest : ℕ = total - (n + 1) in
     let all : repeated_turns (n + 1) ts ++ repeated_turns rest ts ≡ repeated_turns total ts =
     sym (repeated_add (n + 1) rest ts)
     ∙ ap (λ k. repeated_turns k ts) (let same : n + 1 + rest ≡ total = omega arith in same) in
-    subst (λ us. IsViablePrefix us a c) all
+    subst (λ us. BeginsTurns us a c) all
     (begins_before (repeated_turns (n + 1) ts) (repeated_turns rest ts) a c
-    (subst (λ us. IsViablePrefix us a c) (repeated_more n ts)
+    (subst (λ us. BeginsTurns us a c) (repeated_more n ts)
     (begins_behind (repeated_turns n ts) ts first.found a b c first.many first.sends.leads begun)))
 
 -- the events of a line are its turns
@@ -171,12 +171,12 @@ module _ (core_id : CoreId) (script : List Line) (i : ℕ) (line : Line) (below 
       first second)
 
   pub own_line_begun : (a b c : Machine) (s t : Side) → Runs (own_turns core_id (take i script)) a b s t
-      → IsViablePrefix (repeated_turns (count_of line) (turn_of core_id line)) b c
-      → IsViablePrefix (own_turns core_id script) a c
+      → BeginsTurns (repeated_turns (count_of line) (turn_of core_id line)) b c
+      → BeginsTurns (own_turns core_id script) a c
   own_line_begun a b c s t first begun =
-      subst (λ ts. IsViablePrefix ts a c) all
+      subst (λ ts. BeginsTurns ts a c) all
       (begins_before (own_turns core_id (take (i + 1) script)) (own_turns core_id (drop (i + 1) script)) a c
-      (subst (λ ts. IsViablePrefix ts a c) (sym own_more)
+      (subst (λ ts. BeginsTurns ts a c) (sym own_more)
       (begins_behind (own_turns core_id (take i script)) (repeated_turns (count_of line) (turn_of core_id line))
       first.found a b c
       first.many first.sends.leads begun)))

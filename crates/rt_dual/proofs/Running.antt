@@ -24,7 +24,7 @@ use Rattle.rt_live.proofs.Turning.{calls_on}
 use Rattle.rt_live.proofs.Woven.{looks-append, interleaving_on, steps_woven, ticks_woven, looks_below, all_latches}
 use Rattle.rt_live.proofs.Woven.{look_steps, no_steps}
 use Rattle.rt_dual.specs.Inside.Forwarding.{Forwards, MayForward, IsSameBut, irqs_routed, irq_of_shown}
-use Rattle.rt_dual.specs.Inside.Running.{CanRun, Runs, IsViablePrefix, Ends}
+use Rattle.rt_dual.specs.Inside.Running.{CanRun, Runs, BeginsTurns, Ends}
 use Rattle.rt_dual.specs.declared.kept.Kept.{Kept}
 use Rattle.rt_dual.specs.declared.side.Side.{Side}
 use Rattle.rt_dual.proofs.Cutting.{all_done, done_behind}
@@ -179,12 +179,12 @@ module _ (a b : Machine) (s : Side) (l : Core) (k : Kept)
       at (ws ∷ vs ∷ found) many whole latched came = absurd (omega (arith, many))
 
   -- or the step was not shown
-  pub step_begun : (c : Machine) → HasDone (Step ∷ []) b c → IsViablePrefix (Happens Step ∷ []) a c
+  pub step_begun : (c : Machine) → HasDone (Step ∷ []) b c → BeginsTurns (Happens Step ∷ []) a c
   step_begun c done = at run.found run.many run.sends
     where
       at : (found : List (List ℕ)) → length found ≡ 1
           → Sends (interleaving (Looks ∷ []) found) a b (Some s.trace.bytes.items) (Some k.bytes.items)
-          → IsViablePrefix (Happens Step ∷ []) a c
+          → BeginsTurns (Happens Step ∷ []) a c
       at [] many came = absurd (omega (arith, many))
       at (ws ∷ []) many came = record {
         found = ws ∷ [];
@@ -233,7 +233,7 @@ pub can_fewer : (n k : ℕ) (m : Machine) (s : Side) (words there : Row) → n �
 can_fewer n k m s words there fits can = can_on [] n k m m s s words there (runs_none m s) (omega (arith, fits)) can
 
 -- turns that were done have begun
-pub all_begun : (ts : List Turn) (a b : Machine) (s t : Side) → Runs ts a b s t → IsViablePrefix ts a b
+pub all_begun : (ts : List Turn) (a b : Machine) (s t : Side) → Runs ts a b s t → BeginsTurns ts a b
 all_begun ts a b s t run = record {
   found = run.found;
   few = omega (arith, run.many);

@@ -11,7 +11,7 @@ ghost use Rattle.rt_dual.specs.Doing.{HasPaired, HasPairedPart};
 ghost use Rattle.rt_dual.specs.Output.{IsPairText, TookPart, HasBegun};
 ghost use Rattle.rt_dual.specs.Inside.Both.{AreBefore, HaveEnded, CanWrite, IsWritten};
 ghost use Rattle.rt_dual.specs.Inside.Own.{events_at, HasNamesAt};
-ghost use Rattle.rt_dual.specs.Inside.Running.{CanRun, Ends, IsViablePrefix};
+ghost use Rattle.rt_dual.specs.Inside.Running.{CanRun, Ends, BeginsTurns};
 
 use crate::core_id::CoreId;
 use crate::half::{Half, account_of, half_of};
@@ -160,11 +160,11 @@ fn beside<R: Threads + Sync, G: Gate + Sync>(
     ensures first_ok { OnOk result.0 (Ends (turns (events_at left.old.core_id script.now)) first.old first.new left.old
         left.new) }
     ensures first_err { OnErr result.0
-        (IsViablePrefix (turns (events_at left.old.core_id script.now)) first.old first.new) }
+        (BeginsTurns (turns (events_at left.old.core_id script.now)) first.old first.new) }
     ensures second_ok { OnOk result.1
         (Ends (turns (events_at right.old.core_id script.now)) second.old second.new right.old right.new) }
     ensures second_err { OnErr result.1
-        (IsViablePrefix (turns (events_at right.old.core_id script.now)) second.old second.new) }
+        (BeginsTurns (turns (events_at right.old.core_id script.now)) second.old second.new) }
 {
     join_mut(
         rt,
@@ -174,7 +174,7 @@ fn beside<R: Threads + Sync, G: Gate + Sync>(
             requires declared { HasNamesAt left.now.core_id first.now.image.names script.now }
             ensures ok { OnOk result (Ends (turns (events_at left.entry.now.core_id script.entry.now))
                 first.entry.now first.exit.now left.entry.now left.exit.now) }
-            ensures err { OnErr result (IsViablePrefix (turns (events_at left.entry.now.core_id script.entry.now))
+            ensures err { OnErr result (BeginsTurns (turns (events_at left.entry.now.core_id script.entry.now))
                 first.entry.now first.exit.now) }
         { run_side(first, left, here, there, script, gate) },
         &mut || -> Result<(), Failed>
@@ -182,7 +182,7 @@ fn beside<R: Threads + Sync, G: Gate + Sync>(
             requires declared { HasNamesAt right.now.core_id second.now.image.names script.now }
             ensures ok { OnOk result (Ends (turns (events_at right.entry.now.core_id script.entry.now))
                 second.entry.now second.exit.now right.entry.now right.exit.now) }
-            ensures err { OnErr result (IsViablePrefix (turns (events_at right.entry.now.core_id script.entry.now))
+            ensures err { OnErr result (BeginsTurns (turns (events_at right.entry.now.core_id script.entry.now))
                 second.entry.now second.exit.now) }
         { run_side(second, right, there, here, script, gate) },
     )

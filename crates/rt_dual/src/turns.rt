@@ -8,7 +8,7 @@ ghost use Rattle.rt_live.specs.Interleaving.{Happens, Looks, repeated_turns};
 ghost use Rattle.rt_dual.specs.Course.{turns};
 ghost use Rattle.rt_dual.specs.Inside.Own.{turn_of, request_of, own_turns, events_at, HasNameAt, HasNamesAt};
 ghost use Rattle.rt_dual.specs.Inside.Own.{IsDeclaredAt};
-ghost use Rattle.rt_dual.specs.Inside.Running.{CanRun, Runs, IsViablePrefix, Ends};
+ghost use Rattle.rt_dual.specs.Inside.Running.{CanRun, Runs, BeginsTurns, Ends};
 
 use crate::core_id::CoreId;
 use crate::showing::show_step;
@@ -44,7 +44,7 @@ fn step<G: Gate>(
     requires empty { held.old ≡ [] }
     ensures ok { OnOk result (Runs (Happens Step ∷ []) core.old core.new side.old side.new) }
     ensures none_held { OnOk result (held.new ≡ []) }
-    ensures err { OnErr result (IsViablePrefix (Happens Step ∷ []) core.old core.new) }
+    ensures err { OnErr result (BeginsTurns (Happens Step ∷ []) core.old core.new) }
 {
     tell(side.core_id, core.steps(), gate);
     look(core, &mut side.line, words, &mut side.trace, held)?;
@@ -61,7 +61,7 @@ fn request(core: &mut Core, side: &mut Side, irq: Irq, held: &mut LineBuffer) ->
     requires empty { held.old ≡ [] }
     ensures ok { OnOk result (Runs (request_of side.old.core_id irq) core.old core.new side.old side.new) }
     ensures none_held { OnOk result (held.new ≡ []) }
-    ensures err { OnErr result (IsViablePrefix (request_of side.old.core_id irq) core.old core.new) }
+    ensures err { OnErr result (BeginsTurns (request_of side.old.core_id irq) core.old core.new) }
 {
     match side.core_id {
         CoreId::First => send_pend(core, irq, &mut side.trace, held),
@@ -84,7 +84,7 @@ fn turn<G: Gate>(
     requires empty { held.old ≡ [] }
     ensures ok { OnOk result (Runs (turn_of side.old.core_id asked.now) core.old core.new side.old side.new) }
     ensures none_held { OnOk result (held.new ≡ []) }
-    ensures err { OnErr result (IsViablePrefix (turn_of side.old.core_id asked.now) core.old core.new) }
+    ensures err { OnErr result (BeginsTurns (turn_of side.old.core_id asked.now) core.old core.new) }
 {
     match asked {
         Line::Steps(_) => step(core, side, words, there, held, gate),
@@ -111,7 +111,7 @@ fn own_line<G: Gate>(
         core.old core.new side.old side.new) }
     ensures none_held { OnOk result (held.new ≡ []) }
     ensures err { OnErr result
-        (IsViablePrefix (repeated_turns (count_of asked.now) (turn_of side.old.core_id asked.now)) core.old core.new) }
+        (BeginsTurns (repeated_turns (count_of asked.now) (turn_of side.old.core_id asked.now)) core.old core.new) }
 {
     for _done in 0..asked.count() {
         turn(core, side, words, there, asked, held, gate)?;
@@ -134,7 +134,7 @@ fn own_lines<G: Gate>(
     requires empty { held.old ≡ [] }
     ensures ok { OnOk result (Runs (own_turns side.old.core_id script.now) core.old core.new side.old side.new) }
     ensures none_held { OnOk result (held.new ≡ []) }
-    ensures err { OnErr result (IsViablePrefix (own_turns side.old.core_id script.now) core.old core.new) }
+    ensures err { OnErr result (BeginsTurns (own_turns side.old.core_id script.now) core.old core.new) }
 {
     for asked in script {
         own_line(core, side, words, there, asked, held, gate)?;
@@ -154,7 +154,7 @@ fn last_look(
     requires empty { held.old ≡ [] }
     ensures ok { OnOk result (Runs (Looks ∷ []) core.old core.new side.old side.new) }
     ensures none_held { OnOk result (held.new ≡ []) }
-    ensures err { OnErr result (IsViablePrefix (Looks ∷ []) core.old core.new) }
+    ensures err { OnErr result (BeginsTurns (Looks ∷ []) core.old core.new) }
 {
     look(core, &mut side.line, words, &mut side.trace, held)
 }
@@ -174,7 +174,7 @@ pub(crate) fn run_side<G: Gate>(
     requires declared { HasNamesAt side.old.core_id core.old.image.names script.now }
     ensures ok { OnOk result
         (Ends (turns (events_at side.old.core_id script.now)) core.old core.new side.old side.new) }
-    ensures err { OnErr result (IsViablePrefix (turns (events_at side.old.core_id script.now)) core.old core.new) }
+    ensures err { OnErr result (BeginsTurns (turns (events_at side.old.core_id script.now)) core.old core.new) }
 {
     let mut held = LineBuffer::new();
     own_lines(core, side, words, there, script, &mut held, gate)?;

@@ -82,7 +82,7 @@ left_long m words long few =
     )
 
 -- the first of these looks found these words first
-pub record IsViablePrefix (last : List ℕ) (added : List (List ℕ)) : Type 0 where
+pub record FoundFirst (last : List ℕ) (added : List (List ℕ)) : Type 0 where
   pub rest : List ℕ
   pub others : List (List ℕ)
   pub is : added ≡ (last ++ rest) ∷ others
@@ -90,7 +90,7 @@ pub record IsViablePrefix (last : List ℕ) (added : List (List ℕ)) : Type 0 w
 -- and nothing is pending, where the begun look is the first of them
 pub record FinishesLook (words last : List ℕ) (count : ℕ) : Type 0 where
   pub finishes : Finishes words last count
-  pub begins : IsViablePrefix last finishes.added
+  pub begins : FoundFirst last finishes.added
 
 -- A look that was cut behind these words is finished, and so many are made behind it.
 pub finish : (words last : List ℕ) (n : ℕ) → length words ≡ 16 → length last ≤ 16

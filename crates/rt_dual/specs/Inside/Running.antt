@@ -49,8 +49,8 @@ pub record Ends (ts : List Turn) (a b : Machine) (old new : Side) : Type 0 where
   pub few : length new.bell.calls ≤ length old.bell.calls + length ts
   pub line : IsSameLine old.line new.line
 
--- the core did the first of the events of these turns, for words that looks may find
-pub record IsViablePrefix (ts : List Turn) (a b : Machine) : Type 0 where
+-- the core did the first of the events of these turns, for words of no more looks than the turns have
+pub record BeginsTurns (ts : List Turn) (a b : Machine) : Type 0 where
   pub found : List (List ℕ)
   pub few : length found ≤ looks ts
   pub done : HasDone (interleaving ts found) a b

@@ -4,7 +4,7 @@ use Rattle.rt_code.specs.Image.{Image}
 use Rattle.rt_live.specs.Interleaving.{repeated_turns}
 use Rattle.rt_script.specs.Script.{count_of}
 use Rattle.rt_dual.specs.Inside.Own.{turn_of, HasNameAt}
-use Rattle.rt_dual.specs.Inside.Running.{Runs, IsViablePrefix}
+use Rattle.rt_dual.specs.Inside.Running.{Runs, BeginsTurns}
 use Rattle.rt_dual.specs.declared.core_id.CoreId.{CoreId}
 use Rattle.rt_dual.proofs.Running.{runs_none, can_on}
 use Rattle.rt_dual.proofs.Owning.{few_turns, once_more, once_begun}
@@ -40,7 +40,7 @@ returns-in_err-turn-clause-err g c =
     (once_begun c.loop-done._done (count_of c.args.asked.now) (turn_of c.args.side.now.core_id c.args.asked.now)
     c.args.core.now c.loop-done.core c.turn.new.core c.args.side.now c.loop-done.side
     (omega (arith, c.count-done-end.ensures)) c.loop-done.invariant.run
-    (subst (λ (p : CoreId). IsViablePrefix (turn_of p c.args.asked.now) c.loop-done.core c.turn.new.core)
+    (subst (λ (p : CoreId). BeginsTurns (turn_of p c.args.asked.now) c.loop-done.core c.turn.new.core)
     c.loop-done.invariant.run.core_id c.in_err-turn.ensures.err))
 
 pub loop-done-preserved : goal.loop-done-preserved

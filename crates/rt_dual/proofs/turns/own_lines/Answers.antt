@@ -8,7 +8,7 @@ use Rattle.rt_live.specs.Interleaving.{repeated_turns}
 use Rattle.rt_script.specs.Script.{count, count_of}
 use Rattle.rt_script.specs.declared.line.Line.{Line}
 use Rattle.rt_dual.specs.Inside.Own.{own_turns, turn_of, HasNameAt}
-use Rattle.rt_dual.specs.Inside.Running.{Runs, IsViablePrefix}
+use Rattle.rt_dual.specs.Inside.Running.{Runs, BeginsTurns}
 use Rattle.rt_dual.specs.declared.core_id.CoreId.{CoreId}
 use Rattle.rt_dual.proofs.Running.{can_on}
 use Rattle.rt_dual.proofs.Owning.{none_yet, own_room, own_line_more, own_line_begun}
@@ -54,7 +54,7 @@ returns-in_err-own_line-clause-err g c =
     on_err_from c.from_residual.result
     (own_line_begun c.args.side.now.core_id script i line at c.asked-item.is c.args.core.now c.loop-asked.core
     c.own_line.new.core c.args.side.now c.loop-asked.side c.loop-asked.invariant.run
-    (subst (λ (p : CoreId). IsViablePrefix (repeated_turns (count_of line) (turn_of p line)) c.loop-asked.core
+    (subst (λ (p : CoreId). BeginsTurns (repeated_turns (count_of line) (turn_of p line)) c.loop-asked.core
     c.own_line.new.core)
     c.loop-asked.invariant.run.core_id c.in_err-own_line.ensures.err))
 
