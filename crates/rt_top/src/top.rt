@@ -63,6 +63,9 @@ pub fn rtic<R: Threads + Sync, A: Source, B: Source, C: Source, K: Sink + Send, 
     // for which owners contend is touched inside its one section alone. With `no K` and `No`, K is the least of the
     // rules that the image breaks. A text that is no listing is refused at its first wrong line with `Text`.
     //
+    // `times` takes limits on requests. At `Done` each line has the response time of a priority, and in every run of
+    // every image of the application whose requests keep the limits each of them is served within it.
+    //
     // `pair` takes two applications and a script over the names of the first. At `Done` it has written, for each of two
     // cores, the listing of an image of its application, and that image's trace beside the other core, with an account
     // of the other core's requests; of each image all holds that `run` promises of its own.
