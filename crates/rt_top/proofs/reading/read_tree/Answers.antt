@@ -1,6 +1,7 @@
 use Rattle.std.proofs.Common.{subst, sym, ◌∙◌, refl, inr}
 use Rattle.rt_outside.specs.Faults.{Rose}
-use Rattle.rt_grammar.specs.Text.{IsRefused}
+use Rattle.rt_ast.specs.View.{app_of}
+use Rattle.rt_grammar.specs.Text.{IsRefused, IsText}
 use Rattle.rt_top.proofs.FirstText.{whole_text, long_text, refused_halts}
 use Rattle.rt_top.proofs.Refused.{too_long, refused_long}
 use Rattle.rt_ids.specs.declared.limits.TheConstants.{TEXT_BYTES}
@@ -25,6 +26,12 @@ returns-in-Err-At-clause-halts g c =
     text told c.in-Ok.ensures.whole in
     subst (λ t. IsRefused t c.in-Err-At.fault) (c.deref.ensures.value ∙ sym whole) refused)
     c.refuse-in-Err-At.result c.refuse-in-Err-At.ensures
+
+pub returns-in-Ok-parse-clause-text : goal.returns-in-Ok-parse-clause-text
+returns-in-Ok-parse-clause-text g c = λ text told.
+    let whole = whole_text (g.A.Source.left c.args.app.now) (g.A.Source.left c.read_text.new.source) c.in-Ok.text.items
+    text told c.in-Ok.ensures.whole in
+    subst (λ t. IsText t (app_of c.in-Ok-parse.tree)) (c.deref.ensures.value ∙ sym whole) c.in-Ok-parse.ensures.ok
 
 pub returns-in-Err-TooLong-clause-within : goal.returns-in-Err-TooLong-clause-within
 returns-in-Err-TooLong-clause-within g c =
