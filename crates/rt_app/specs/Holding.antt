@@ -17,7 +17,7 @@ use Rattle.rt_app.specs.Level.{is_software, is_of_level, levels, is_armed, armed
 use Rattle.rt_app.specs.Ceiling.{ceiling, lists}
 use Rattle.rt_app.specs.Declarations.{owns}
 use Rattle.rt_app.specs.Statements.{is_init}
-use Rattle.rt_app.specs.Listing.{is_lock_free, listings}
+use Rattle.rt_app.specs.Listing.{is_lock_free, is_read_alone}
 use Rattle.rt_app.specs.Handlers.{irq_number}
 use Rattle.rt_app.specs.Sending.{capacity_of}
 use Rattle.rt_app.specs.Layout.{resource_at, local_at, free_at, inputs_at, ready_at, ready_room, home_of}
@@ -125,10 +125,10 @@ module _ (app : App) where
   is_kept (AtPriority p) (Own n) = is_some_at (owns n) p
   is_kept runner location = false
 
-  -- once `init` has ended nobody changes a resource that is listed as `&name`
+  -- Once `init` has ended nobody changes a resource that is listed as `&name`. A priority reads those that its bodies
+  -- list.
   abbrev pub is_constant : Runner → Location → Bool
-  is_constant (AtPriority p) (Guarded (section.Res r)) =
-      list_any (λ l. (l.listed.resource == r) && l.listed.by_ref) (listings app)
+  is_constant (AtPriority p) (Guarded (section.Res r)) = is_read_alone app r && is_some_at (lists r) p
   is_constant runner location = false
 
   -- A location of the application: what it keeps has cells. A hardware task has no places.

@@ -3,6 +3,7 @@
 -- its resource.
 use Rattle.std.specs.Prelude.{ℕ, ◌==◌, Bool, not, ◌&&◌, ◌||◌, List, [], ◌++◌, map, flat_map, find, slice_get, Option}
 use Rattle.std.specs.Prelude.{Some, None, if◌then◌else◌}
+use Rattle.std.specs.List.{list_any}
 use Rattle.rt_ids.specs.declared.rule.Rule.TheVariants as rule
 use Rattle.rt_app.specs.declared.body.Listed.{Listed}
 use Rattle.rt_app.specs.declared.violation.Violation.{Violation}
@@ -28,6 +29,10 @@ listings app = flat_map listings_of (members app)
 -- whether a shared resource is declared as `lock_free`
 abbrev pub is_lock_free : App → ℕ → Bool
 is_lock_free app r = is_some_and (λ s. s.lock_free) (slice_get app.shared r)
+
+-- whether some body lists a shared resource as `&name`, to be read alone
+abbrev pub is_read_alone : App → ℕ → Bool
+is_read_alone app r = list_any (λ l. (l.listed.resource == r) && l.listed.by_ref) (listings app)
 
 -- whether two tests have the same answer
 abbrev pub is_same : Bool → Bool → Bool

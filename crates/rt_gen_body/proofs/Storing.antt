@@ -16,7 +16,7 @@ use Rattle.rt_ids.proofs.Lists.{list_any-map}
 use Rattle.rt_ids.specs.declared.ids.Section.TheVariants as section
 use Rattle.rt_app.specs.{Ceiling.lists, Declarations.owns as owns_local, Holding.is_some_at, Sound.IsReached}
 use Rattle.rt_app.specs.declared.body.Listed.{Listed}
-use Rattle.rt_app.specs.Listing.{Listing, is_lock_free, listings, listings_of}
+use Rattle.rt_app.specs.Listing.{Listing, is_lock_free, is_read_alone, listings, listings_of}
 use Rattle.rt_app.specs.Statements.{is_free, is_init, is_lockable, listing_in}
 use Rattle.rt_app.specs.declared.expr.Atom.TheVariants as atom
 use Rattle.rt_gen_body.proofs.{Owning.OpenAre, Owning.open_as, Scopes.Facts}
@@ -112,13 +112,18 @@ module _ (app : App) (m : Member) (member : IsIn (members app) m) where
       (list_any-map (λ l. record { listed = l; priority = m.priority }) test m.body.shared
       ∙ any_found (λ l. l.resource == r) also m.body.shared is)
 
+  -- and it is listed at the body's priority
+  listed_here : (r : ℕ) (also : Listed → Bool) → is_init m.id ≡ false → is_some_and also (listing_in m r) ≡ true
+      → is_some_at app (lists r) m.priority ≡ true
+  listed_here r also no_start is =
+      let one = any_one _ m.body.shared (any_found (λ l. l.resource == r) also m.body.shared is) in
+      some_at (lists r) no_start
+      (any_passes (λ l. l.resource == r) m.body.shared one.0 one.1 one.2
+      (and_left (one.1.resource == r) (also one.1) one.3))
+
   kept_free : (r : ℕ) (also : Listed → Bool) → is_init m.id ≡ false → is_some_and also (listing_in m r) ≡ true
       → is_lock_free app r ≡ true → is_kept app (AtPriority m.priority) (Guarded (section.Res r)) ≡ true
-  kept_free r also no_start is free =
-      let one = any_one _ m.body.shared (any_found (λ l. l.resource == r) also m.body.shared is) in
-      and_both (is_lock_free app r) _ free (some_at (lists r) no_start
-      (any_passes (λ l. l.resource == r) m.body.shared one.0 one.1 one.2
-      (and_left (one.1.resource == r) (also one.1) one.3)))
+  kept_free r also no_start is free = and_both (is_lock_free app r) _ free (listed_here r also no_start is)
 
   -- without a lock it reaches what it lists to be read alone, and what it keeps
   reached_free : (r : ℕ) → is_init m.id ≡ false → (is_init m.id ≡ true) ⊎ (is_free app m r ≡ true)
@@ -143,7 +148,8 @@ module _ (app : App) (accepted : IsAccepted app) (sound : IsSound app) (m : Memb
       let is = exclusive (one.1.listed.resource == r) one.1.listed.by_ref (is_lock_free app r) one.3 in (
         ap (λ b. b && is_some_at app (lists r) q) is.1.1,
         false_from_ne_true _ (λ constant.
-            let other = any_one (λ k. (k.listed.resource == r) && k.listed.by_ref) (listings app) constant in
+            let other = any_one (λ k. (k.listed.resource == r) && k.listed.by_ref) (listings app)
+            (and_parts (is_read_alone app r) (is_some_at app (lists r) q) constant).0 in
             let ref = and_parts (other.1.listed.resource == r) other.1.listed.by_ref other.3 in
             let alike = sound.alike one.1 other.1 (one.0, one.2) (other.0, other.2)
             (eqb-true one.1.listed.resource r is.0 ∙ sym (eqb-true other.1.listed.resource r ref.0)) in
@@ -171,7 +177,8 @@ module _ (app : App) (accepted : IsAccepted app) (sound : IsSound app) (m : Memb
     own = λ n owns. some_at app m member (owns_local n) no_start owns;
     free = λ r within other. elim (reached_free app m member r no_start other) [
       | inl ref ↦ or_right (is_kept app (AtPriority m.priority) (Guarded (section.Res r))) _
-          (listed_any app m member r (λ l. l.by_ref) ref)
+          (and_both (is_read_alone app r) _ (listed_any app m member r (λ l. l.by_ref) ref)
+          (listed_here app m member r (λ l. l.by_ref) no_start ref))
       | inr kept ↦ or_left _ _ kept
     ];
     change = λ r within other changes. elim (reached_free app m member r no_start other) [

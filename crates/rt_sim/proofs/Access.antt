@@ -11,7 +11,7 @@ use Rattle.rt_app.specs.Tree.{App}
 use Rattle.rt_app.specs.Ceiling.{lists}
 use Rattle.rt_app.specs.Holding.{storage, is_kept, is_constant, is_some_at}
 use Rattle.rt_app.specs.Layout.{resource_at}
-use Rattle.rt_app.specs.Listing.{is_lock_free}
+use Rattle.rt_app.specs.Listing.{is_lock_free, is_read_alone}
 use Rattle.rt_app.proofs.Laid.{resource_is_home}
 use Rattle.rt_code.specs.Access.{Access, Loads, Stores}
 use Rattle.rt_code.specs.Cells.{resource_cell}
@@ -26,7 +26,7 @@ use Rattle.rt_core.proofs.Standing.{standing_leads}
 use Rattle.rt_laws.specs.State.{Role, Init, Idle, Waiting, Serving}
 use Rattle.rt_laws.specs.Observer.{Seen, Observer, IsInside}
 use Rattle.rt_laws.proofs.Well.{StackWell, StateWell}
-use Rattle.rt_sim.specs.Guarded.{IsInit, IsListedAtPriority, MayChange, IsGuarded, is_read_alone}
+use Rattle.rt_sim.specs.Guarded.{IsInit, IsListedAtPriority, MayChange, MayReadAlone, IsGuarded}
 use Rattle.rt_sim.specs.Inside.Coupling.{Part, Coupling, runner_of, configuration_of, sections_of, job_of}
 use Rattle.rt_sim.specs.Inside.States.{core_of, state_of}
 use Rattle.rt_sim.specs.Inside.PartInvariant.{who, StandsBy}
@@ -101,18 +101,20 @@ module _ (app : App) (img : Image) (thread : ℕ)
 
   read_seen : (v : Observer) → StateWell app (state_of m) v → (r : ℕ)
       → reads (storage app) (who m.running) m.running.held (Guarded (section.Res r)) ≡ true
-      → MayChange app v.jobs r ⊎ (is_read_alone app r ≡ true)
+      → MayChange app v.jobs r ⊎ MayReadAlone app v.jobs r
   unfolding storage
   read_seen v well r is = elim (or_cases (owns (storage app) (who m.running) m.running.held (Guarded (section.Res r)))
       (is_constant app (who m.running) (Guarded (section.Res r))) is) [
         | inl own ↦ inl (owned_seen v well r own)
-        | inr constant ↦ by (who m.running) constant
+        | inr constant ↦ by (who m.running) refl constant
       ]
     where
-      by : (runner : Runner) → is_constant app runner (Guarded (section.Res r)) ≡ true → MayChange app v.jobs r
-          ⊎ (is_read_alone app r ≡ true)
-      by Starting constant = absurd (cc (constant))
-      by (AtPriority p) constant = inr constant
+      by : (runner : Runner) → who m.running ≡ runner → is_constant app runner (Guarded (section.Res r)) ≡ true
+          → MayChange app v.jobs r ⊎ MayReadAlone app v.jobs r
+      by Starting same constant = absurd (cc (constant))
+      by (AtPriority p) same constant =
+          let parts = and_parts (is_read_alone app r) (is_some_at app (lists r) p) constant in
+          inr (parts.0, listed_seen v.jobs well.stack r p (priority_of m.running.role p same) parts.1)
 
   home_is : (cell r : ℕ) → resource_cell img r ≡ Some cell → (storage app).home cell ≡ At (Guarded (section.Res r))
   unfolding storage

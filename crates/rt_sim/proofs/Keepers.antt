@@ -20,7 +20,7 @@ use Rattle.rt_app.specs.Bodies.{Member, members}
 use Rattle.rt_app.specs.Ceiling.{lists}
 use Rattle.rt_app.specs.Declarations.{owns}
 use Rattle.rt_app.specs.Holding.{is_some_at, is_kept, is_constant, IsHeld}
-use Rattle.rt_app.specs.Listing.{Listing, listings_of, listings, is_lock_free}
+use Rattle.rt_app.specs.Listing.{Listing, listings_of, listings, is_lock_free, is_read_alone}
 use Rattle.rt_app.specs.Statements.{is_init}
 use Rattle.rt_app.proofs.Members.{in_front, in_back, members_all, has_body}
 
@@ -100,7 +100,8 @@ module _ (app : App) (accepted : IsAccepted app) (sound : IsSound app) where
             differ (sym l.priority ∙ sound.lock_free l.listing k.listing l.among k.among (l.of ∙ sym k.of)
             (ap (is_lock_free app) l.of ∙ mine.0) ∙ k.priority)
         | inr reads ↦
-            let one = any_one (λ k. (k.listed.resource == r) && k.listed.by_ref) (listings app) reads in
+            let one = any_one (λ k. (k.listed.resource == r) && k.listed.by_ref) (listings app)
+            (and_parts (is_read_alone app r) (is_some_at app (lists r) q) reads).0 in
             let parts = and_parts (one.1.listed.resource == r) one.1.listed.by_ref one.3 in
             true_and_false (is_lock_free app r) mine.0
             (ap (is_lock_free app) (sym (eqb-true one.1.listed.resource r parts.0))
@@ -134,23 +135,6 @@ module _ (app : App) (accepted : IsAccepted app) (sound : IsSound app) where
       subst (λ k. k < length app.locals) (eqb-true one.1.local n one.3)
       (all_at _ m.body.local one.0 one.1 (all_at _ (members app) i m placed at).local one.2)
 
-  -- each listing is of a resource
-  listing_held : (l : Listing) → IsIn (listings app) l → l.listed.resource < length app.shared
-  listing_held l is = all_at (λ (k : Listing). k.listed.resource < length app.shared) (listings app) is.0 l
-      (each (members app) placed) is.1
-    where
-      mapped : (p : ℕ) (ls : List Listed) → AllByRecursion (λ k. k.resource < length app.shared) ls
-          → AllByRecursion (λ (k : Listing). k.listed.resource < length app.shared)
-          (map (λ l. record { listed = l; priority = p }) ls)
-      mapped p [] all = tt
-      mapped p (l ∷ ls) all = (all.0, mapped p ls all.1)
-
-      each : (ms : List Member) → AllByRecursion (λ m. IsBodyPlaced app m.args m.body) ms
-          → AllByRecursion (λ (k : Listing). k.listed.resource < length app.shared) (flat_map listings_of ms)
-      each [] all = tt
-      each (m ∷ ms) all = all_append _ (listings_of m) (flat_map listings_of ms)
-          (mapped m.priority m.body.shared all.0.shared) (each ms all.1)
-
   -- and what a priority keeps or reads so is there
   pub kept_is_held : (p : ℕ) (h : Location) → (is_kept app (AtPriority p) h || is_constant app (AtPriority p) h) ≡ true
       → IsHeld app h
@@ -161,10 +145,8 @@ module _ (app : App) (accepted : IsAccepted app) (sound : IsSound app) where
             let at = at_threshold (lists r) p (and_parts (is_lock_free app r) (is_some_at app (lists r) p) keeps).1 in
             resource_of at.member at.index r at.there at.passes
         | inr reads ↦
-            let one = any_one (λ k. (k.listed.resource == r) && k.listed.by_ref) (listings app) reads in
-            let parts = and_parts (one.1.listed.resource == r) one.1.listed.by_ref one.3 in
-            subst (λ n. n < length app.shared) (eqb-true one.1.listed.resource r parts.0)
-            (listing_held one.1 (one.0, one.2))
+            let at = at_threshold (lists r) p (and_parts (is_read_alone app r) (is_some_at app (lists r) p) reads).1 in
+            resource_of at.member at.index r at.there at.passes
       ]
   kept_is_held p (Guarded (section.Free n)) is = absurd (cc (is))
   kept_is_held p (Guarded (section.Ready n)) is = absurd (cc (is))
