@@ -6,3 +6,4 @@ pub mod Stack
 pub mod Rules
 pub mod Checked
 pub mod Laws
+pub mod Constants

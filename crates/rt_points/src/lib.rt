@@ -5,6 +5,6 @@ pub mod laws;
 pub mod point;
 pub mod rule;
 
-pub use laws::images_are_judged_one_way;
+pub use laws::{constants_are_as_documented, images_are_judged_one_way};
 pub use point::{Kind, Opened, Owner};
 pub use rule::{MOST_OPEN, Rule, STACK_BYTES};

@@ -7,3 +7,4 @@ pub mod Kept
 pub mod Served
 pub mod Laws
 pub mod Inside
+pub mod Constants

@@ -11,7 +11,7 @@ pub mod response;
 pub mod search;
 pub mod text;
 
-pub use laws::runs_respond;
+pub use laws::{constants_are_as_documented, runs_respond};
 pub use limits::{Limit, Limits};
 pub use reading::read_limits;
 pub use refusal::LimitsRefused;
