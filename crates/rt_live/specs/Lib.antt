@@ -1,5 +1,6 @@
 pub mod Interleaving
 pub mod Able
+pub mod Constants
 pub mod Going
 pub mod Written
 pub mod Devices

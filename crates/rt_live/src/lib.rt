@@ -5,6 +5,7 @@ pub mod account;
 mod beside;
 mod ending;
 pub mod gathering;
+mod laws;
 pub mod left;
 pub mod making;
 pub mod ready;
@@ -12,5 +13,6 @@ pub mod running;
 pub mod turns;
 
 pub use account::{Account, AccountRow};
+pub use laws::constants_are_as_documented;
 pub use ready::Ready;
 pub use running::{LiveFail, live, run_beside};

@@ -3,3 +3,4 @@ pub mod Reading
 pub mod Laws
 pub mod Inside
 pub mod Verdict
+pub mod Constants

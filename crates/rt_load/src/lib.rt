@@ -13,7 +13,7 @@ pub mod refusal;
 mod rows;
 mod verifying;
 
-pub use laws::texts_are_read_one_way;
+pub use laws::{constants_are_as_documented, texts_are_read_one_way};
 pub use loading::load;
 pub use refusal::{IMAGE_BYTES, LoadRefused};
 pub use rt_judge::Verified;
