@@ -1,5 +1,5 @@
 ghost use Rattle.rt_app.specs.Acceptance.{AcceptedAreSound};
-ghost use Rattle.rt_app.specs.Constants.{TellCosts};
+ghost use Rattle.rt_app.specs.Constants.{TellCosts, TellUnknown};
 ghost use Rattle.rt_app.specs.Steps.{CapSteps};
 
 /// Costs and sizes are plain sums over statements, up to the cap at which they stop.
@@ -8,9 +8,11 @@ pub fn costs_are_capped_sums()
     ensures { CapSteps }
 {}
 
-/// What code takes, in numbers, as the documents have them.
+/// What code takes, in numbers, as the documents have them; and the number of a name that is not declared, which no
+/// declared interrupt, task or resource has.
 pub fn costs_are_as_documented()
-    ensures { TellCosts }
+    ensures costs { TellCosts }
+    ensures unknown { TellUnknown }
 {}
 
 /// An application that is accepted can be run: its bodies use what they may, as they may; they are short; and nothing
