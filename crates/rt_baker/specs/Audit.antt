@@ -16,10 +16,10 @@ abbrev pub front : ℕ → Trace → Trace
 front n trace = record { items = take n trace.items; total = None }
 
 -- It is judged right. Sections were exclusive then, no job found one taken, none waited for more than one section of
--- one lower job, and each section that was left was the one entered last. At every moment spawns found a task full
--- exactly where all its places were out; messages started first in, first out, and fired in order and not early; a
--- handle was of one message; the places that were out were those in transit, armed and ready; and messages that were
--- ready or due were served.
+-- one lower job, each section that was left was the one entered last, and no job returned, and no body ended, inside a
+-- section. At every moment spawns found a task full exactly where all its places were out; messages started first in,
+-- first out, and fired in order and not early; a handle was of one message; the places that were out were those in
+-- transit, armed and ready; and messages that were ready or due were served.
 pub record IsRight (app : App) (trace : Trace) : Type 0 where
   pub judged : Judged app trace
   pub laws : KeepsLaws app judged.run.labels

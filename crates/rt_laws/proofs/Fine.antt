@@ -1,5 +1,6 @@
 -- What is left to do is well formed, whatever the values are on the way: sections nest and are entered within their
--- ceilings, an entry that may hold a priority off costs no more than the waiting bound, and each end is its job's own.
+-- ceilings, an entry that may hold a priority off costs no more than the waiting bound, and each end and return is its
+-- job's own and outside all sections.
 use Rattle.std.proofs.Common.{◌≡◌, ℕ, suc, ◌≤◌, ◌<◌, ◌^◌, ◌==◌, Bool, true, false, if◌then◌else◌, List, [], ◌∷◌, ◌++◌}
 use Rattle.std.proofs.Common.{drop, take, slice_get, IfSome, ◌+◌, ◌-◌, Option, Some, None, refl, sym, ap, subst, ◌∙◌}
 use Rattle.std.proofs.Common.{arith}
@@ -97,7 +98,8 @@ module _ (app : App) (role : Role) (q : ℕ) where
   ActsFine held (Arms i m) = IsTimed app m
   ActsFine held (Ends body.Init) = (role ≡ Init) × (held ≡ [])
   ActsFine held (Ends body.Idle) = (role ≡ Idle) × (held ≡ [])
-  ActsFine held Returns = (irq : ℕ) × (role ≡ Serving irq)
+  ActsFine held (Ends (body.Task n)) = held ≡ []
+  ActsFine held Returns = (irq : ℕ) × (role ≡ Serving irq) × (held ≡ [])
   ActsFine held action = Unit {0}
 
   -- Behind an action with this answer and these values. The queues whose sections were open as it was done hold what it

@@ -228,11 +228,12 @@ module _ (app : App) (accepted : IsAccepted app) where
         → FineServing t.priority [] (task_doing app n [] (act Returns nothing))
     runs_fine n t at =
         body_fine n t at [] (act Returns nothing)
-        (act_fine app (Serving irq) t.priority [] Returns nothing (irq, refl) (tt, λ k vs. tt) (λ k vs queued. tt))
+        (act_fine app (Serving irq) t.priority [] Returns nothing (irq, refl, refl) (tt, λ k vs. tt)
+        (λ k vs queued. tt))
 
     ends_fine : (q n : ℕ) → FineServing q [] (act_all (Ends (body.Task n) ∷ Returns ∷ []) nothing)
     ends_fine q n = acts_fine app (Serving irq) q [] (Ends (body.Task n) ∷ Returns ∷ []) nothing
-        (tt, (tt, λ k vs. tt), ((irq, refl), (tt, λ k vs. tt), tt)) (λ k vs queued. tt)
+        (refl, (tt, λ k vs. tt), ((irq, refl, refl), (tt, λ k vs. tt), tt)) (λ k vs queued. tt)
 
     abbrev behind : Message → Rest
     behind m = task_doing app m.task m.args (act_all (Ends (body.Task m.task) ∷ Returns ∷ []) nothing)
@@ -243,7 +244,7 @@ module _ (app : App) (accepted : IsAccepted app) where
         → IsFine app (Serving irq) p k (section.Ready p ∷ []) vs (start_doing app p ms vs)
     start_fine p [] all k vs queued there = acts_fine app (Serving irq) p (section.Ready p ∷ [])
         (Leaves (section.Ready p) ∷ Returns ∷ []) nothing
-        (([], refl), (tt, λ k vs. tt), ((irq, refl), (tt, λ k vs. tt), tt)) (λ k vs queued. tt)
+        (([], refl), (tt, λ k vs. tt), ((irq, refl, refl), (tt, λ k vs. tt), tt)) (λ k vs queued. tt)
         k vs queued
     start_fine p (m ∷ more) all k vs queued there =
         let found = some_passing (is_of_level p) (slice_get app.tasks m.task) all.0 in
@@ -305,7 +306,7 @@ module _ (app : App) (accepted : IsAccepted app) where
     fire_fine mono is None timed k vs queued there =
         acts_fine app (Serving irq) mono.priority (section.Timer ∷ [])
         (SetsAlarm ∷ Leaves section.Timer ∷ Returns ∷ []) nothing
-        (tt, (tt, λ k vs. tt), (([], refl), (tt, λ k vs. tt), ((irq, refl), (tt, λ k vs. tt), tt)))
+        (tt, (tt, λ k vs. tt), (([], refl), (tt, λ k vs. tt), ((irq, refl, refl), (tt, λ k vs. tt), tt)))
         (λ k vs queued. tt) k vs queued
     fire_fine mono is (Some a) timed k vs queued there =
         let due_now = due_is k (delays (vs (Guarded section.Timer))) a there in
@@ -345,7 +346,7 @@ module _ (app : App) (accepted : IsAccepted app) where
               (
                 of_it,
                 ((0, refl), λ k vs. tt),
-                (tt, (tt, λ k vs. tt), (([], refl), (tt, λ k vs. tt), ((irq, refl), (tt, λ k vs. tt), tt))),
+                (tt, (tt, λ k vs. tt), (([], refl), (tt, λ k vs. tt), ((irq, refl, refl), (tt, λ k vs. tt), tt))),
               ),
             ),
           ),

@@ -1,4 +1,4 @@
--- Sections exclude each other, and where one is entered nobody is inside it.
+-- Sections exclude each other, where one is entered nobody is inside it, and jobs return outside all sections.
 use Rattle.std.proofs.Common.{◌≡◌, ℕ, zero, suc, ◌≤◌, max, Bool, true, false, if◌then◌else◌, List, [], ◌∷◌, map, ◌∙◌}
 use Rattle.std.proofs.Common.{slice_get, take, Option, Some, refl, sym, ap, subst, arith}
 use Rattle.std.specs.List.{AllByRecursion}
@@ -7,10 +7,12 @@ use Rattle.rt_lemmas.proofs.Membership.{all_at}
 use Rattle.rt_ids.specs.Lists.{greatest}
 use Rattle.rt_ids.specs.Choice.{IsIn}
 use Rattle.rt_ids.specs.Content.{Values}
-use Rattle.rt_ids.specs.Action.{Enters, Leaves, SetsAlarm, Returns}
+use Rattle.rt_ids.specs.Action.{Enters, Leaves, SetsAlarm, Ends, Returns}
 use Rattle.rt_ids.specs.Doing.{Doing, over, does}
+use Rattle.rt_ids.specs.declared.ids.BodyId.TheVariants as body
 use Rattle.rt_ids.specs.declared.ids.Section.{Section}
 use Rattle.rt_trace.specs.Label.{Label, Stepped}
+use Rattle.rt_trace.specs.declared.item.What.{What}
 use Rattle.rt_trace.specs.declared.item.What.TheVariants as what
 use Rattle.rt_app.specs.Tree.{App}
 use Rattle.rt_app.specs.Ceiling.{ceiling}
@@ -19,7 +21,8 @@ use Rattle.rt_laws.specs.Preemption.{system_ceiling, greatest_ceiling}
 use Rattle.rt_laws.specs.Giving.{next_instant, is_due, return_item, next_item, item_given}
 use Rattle.rt_laws.specs.Allowed.{May}
 use Rattle.rt_laws.specs.Observer.{Seen, Observer}
-use Rattle.rt_laws.specs.Properties.{AreExclusive, FindsFree, LeavesInnermost}
+use Rattle.rt_laws.specs.Properties.{AreExclusive, FindsFree, LeavesInnermost, IsOutside, IsOutsideAtReturn}
+use Rattle.rt_laws.specs.Properties.{IsOutsideAtEnd}
 use Rattle.rt_laws.proofs.Fine.{Within, EntersFine, IsFine}
 use Rattle.rt_laws.proofs.FineHandlers.{all_in}
 use Rattle.rt_laws.proofs.Well.{JobWell, IsAbove, StackWell, StateWell}
@@ -167,3 +170,50 @@ module _ (app : App) where
   leaves_innermost s v (Stepped (Some (what.Leave x value))) well may =
       innermost_at s s.jobs v.jobs x value well.stack may.1
   leaves_innermost s v label well may = tt
+
+  -- an item by which a job returns or a body ends
+  abbrev IsLast : What → Type 0
+  IsLast (what.Ret irq) = Unit {0}
+  IsLast (what.End b) = Unit {0}
+  IsLast w = ⊥
+
+  -- the next action that gives such an item is done with no section open
+  none_held : (s : State) (role : Role) (q n : ℕ) (held : List Section) (base : Values) (rest : Doing Values) (w : What)
+      → IsFine app role q n held base rest → next_item s role rest ≡ Some w → IsLast w → held ≡ []
+  none_held s role q n held base over w fine is last = absurd (none-some w is)
+  none_held s role q n held base (does (Ends body.Init) made next) w fine is last = fine.1.1
+  none_held s role q n held base (does (Ends body.Idle) made next) w fine is last = fine.1.1
+  none_held s role q n held base (does (Ends (body.Task k)) made next) w fine is last = fine.1
+  none_held s role q n held base (does Returns made next) w fine is last = fine.1.2
+  none_held s role q n held base (does SetsAlarm made next) w fine is last =
+      absurd (go (is_due s.time (next_instant s)) (subst IsLast (sym (same_Some _ w is)) last))
+    where
+      go : (b : Bool) → IsLast (if b then what.Alarm else what.AlarmSet) → ⊥
+      go true never = never
+      go false never = never
+  none_held s role q n held base (does action made next) w fine is last =
+      absurd (subst IsLast (sym (same_Some _ w is)) last)
+
+  outside_at : (s : State) (js : List Job) (vs : List Seen) (w : What) → StackWell app js vs → item_given s js ≡ Some w
+      → IsLast w → IsOutside vs
+  outside_at s [] vs w stack is last = absurd (none-some w is)
+  outside_at s (job ∷ others) [] w stack is last = absurd stack
+  outside_at s (job ∷ others) (seen ∷ seens) w stack is last = (
+    stack.0.inside
+        ∙ none_held s job.role job.priority stack.0.answered job.sections stack.0.base job.rest w stack.0.fine is last,
+    tt,
+  )
+
+  pub returns_outside : (s : State) (v : Observer) (label : Label) → StateWell app s v → May app s label
+      → IsOutsideAtReturn v label
+  returns_outside s v (Stepped (Some (what.Ret irq))) well may =
+      outside_at s s.jobs v.jobs (what.Ret irq) well.stack may.1 tt
+  returns_outside s v (Stepped (Some (what.End body.Init))) well may =
+      outside_at s s.jobs v.jobs (what.End body.Init) well.stack may.1 tt
+  returns_outside s v label well may = tt
+
+  pub ends_outside : (s : State) (v : Observer) (label : Label) → StateWell app s v → May app s label
+      → IsOutsideAtEnd v label
+  ends_outside s v (Stepped (Some (what.End b))) well may =
+      outside_at s s.jobs v.jobs (what.End b) well.stack may.1 tt
+  ends_outside s v label well may = tt

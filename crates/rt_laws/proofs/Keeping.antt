@@ -1,4 +1,4 @@
--- Every run of an accepted application keeps the three properties, and its sections nest.
+-- Every run of an accepted application keeps the three properties, and its sections nest and are left in time.
 use Rattle.std.proofs.Common.{◌≡◌, ℕ, ◌<◌, List, [], ◌∷◌, sym, subst, arith}
 use Rattle.std.specs.List.{AllByRecursion}
 use Rattle.rt_ids.specs.Location.{Guarded}
@@ -13,7 +13,8 @@ use Rattle.rt_laws.specs.Allowed.{May, after}
 use Rattle.rt_laws.specs.Run.{RunsOn}
 use Rattle.rt_laws.specs.Observer.{Seen, Observer, first_sight, sees}
 use Rattle.rt_laws.specs.Waiting.{WaitsWell, ServesWell}
-use Rattle.rt_laws.specs.Properties.{AtEach, AreExclusive, FindsFree, LeavesInnermost}
+use Rattle.rt_laws.specs.Properties.{AtEach, AreExclusive, FindsFree, LeavesInnermost, IsOutsideAtReturn}
+use Rattle.rt_laws.specs.Properties.{IsOutsideAtEnd}
 use Rattle.rt_laws.specs.ByItems.{after_all}
 use Rattle.rt_laws.specs.Queues.{KeepsQueues}
 use Rattle.rt_laws.specs.Handles.{KeepsHandles}
@@ -22,7 +23,7 @@ use Rattle.rt_laws.proofs.Well.{IsAbove, StackWell, StateWell}
 use Rattle.rt_laws.proofs.Happens.{first_well, happens, after_well}
 use Rattle.rt_laws.proofs.Handled.{are_handled}
 use Rattle.rt_laws.proofs.Order.{all_in_order}
-use Rattle.rt_laws.proofs.Free.{exclusive, finds_free, leaves_innermost}
+use Rattle.rt_laws.proofs.Free.{exclusive, finds_free, leaves_innermost, returns_outside, ends_outside}
 use Rattle.rt_laws.proofs.Waiting.{waits_well}
 use Rattle.rt_laws.proofs.Serving.{serves_well}
 
@@ -66,6 +67,12 @@ runs_keep_laws app accepted labels runs = record {
       (first_well app accepted) runs;
   nested = at_each app accepted (λ v label behind. LeavesInnermost v label)
       (λ s v label behind well may runs. leaves_innermost app s v label well may) labels (first app)
+      (first_sight app) (first_well app accepted) runs;
+  returns = at_each app accepted (λ v label behind. IsOutsideAtReturn v label)
+      (λ s v label behind well may runs. returns_outside app s v label well may) labels (first app)
+      (first_sight app) (first_well app accepted) runs;
+  ends = at_each app accepted (λ v label behind. IsOutsideAtEnd v label)
+      (λ s v label behind well may runs. ends_outside app s v label well may) labels (first app)
       (first_sight app) (first_well app accepted) runs;
 }
 

@@ -11,7 +11,7 @@ use Rattle.rt_laws.specs.ByItems.{after_all}
 use Rattle.rt_laws.specs.Properties.{KeepsLaws}
 
 -- every run keeps Baker's three properties (1991): sections are exclusive, no job finds one taken, and none waits for
--- more than one section of one lower job; and its sections nest
+-- more than one section of one lower job; and its sections nest, and jobs return outside them
 abbrev pub RunsKeepLaws : Type 0
 RunsKeepLaws = (app : App) → IsAccepted app → (labels : List Label) → RunsOn app (first app) labels
     → KeepsLaws app labels

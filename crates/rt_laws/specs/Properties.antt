@@ -1,10 +1,12 @@
 -- The three properties that Baker proves of his protocol (Stack-Based Scheduling of Realtime Processes, 1991), of
 -- what a run shows, from the first label to the last: sections exclude each other, no job finds a section taken, and
 -- a job waits for one section of one lower job at most. The observer who reads them takes each leave to be of the
--- section entered last; that it is so, which is that sections nest, is kept beside the three.
+-- section entered last, and drops a job at its return with whatever it is inside. That sections nest, and that jobs
+-- return outside them, is kept beside the three.
 use Rattle.std.specs.Prelude.{◌≡◌, ℕ, List, [], ◌∷◌, slice_get, take, Some}
 use Rattle.std.specs.List.{AllByRecursion}
 use Rattle.rt_ids.specs.Choice.{IsIn}
+use Rattle.rt_ids.specs.declared.ids.BodyId.TheVariants as body
 use Rattle.rt_ids.specs.declared.ids.Section.{Section}
 use Rattle.rt_trace.specs.Label.{Label, Stepped}
 use Rattle.rt_trace.specs.declared.item.What.TheVariants as what
@@ -51,10 +53,36 @@ LeavesInnermost v label = Unit {0}
 abbrev pub SectionsNest : App → List Label → Type 0
 SectionsNest app labels = AtEach (λ v label behind. LeavesInnermost v label) app (first_sight app) labels
 
--- the three properties of a run, and that its sections nest, by which the three are read
+-- the running job is inside nothing
+abbrev pub IsOutside : List Seen → Type 0
+IsOutside jobs = AllByRecursion (λ job. job.inside ≡ []) (take 1 jobs)
+
+-- a job that returns is inside nothing: a handler, and `init`, which returns to the thread
+abbrev pub IsOutsideAtReturn : Observer → Label → Type 0
+IsOutsideAtReturn v (Stepped (Some (what.Ret irq))) = IsOutside v.jobs
+IsOutsideAtReturn v (Stepped (Some (what.End body.Init))) = IsOutside v.jobs
+IsOutsideAtReturn v label = Unit {0}
+
+-- a job returns outside every section, so the observer drops no section with it
+abbrev pub ReturnsOutside : App → List Label → Type 0
+ReturnsOutside app labels = AtEach (λ v label behind. IsOutsideAtReturn v label) app (first_sight app) labels
+
+-- where a body ends, its job is inside nothing
+abbrev pub IsOutsideAtEnd : Observer → Label → Type 0
+IsOutsideAtEnd v (Stepped (Some (what.End b))) = IsOutside v.jobs
+IsOutsideAtEnd v label = Unit {0}
+
+-- a body ends outside every section: `init`, each turn of `idle`, and the body of a software task
+abbrev pub EndsOutside : App → List Label → Type 0
+EndsOutside app labels = AtEach (λ v label behind. IsOutsideAtEnd v label) app (first_sight app) labels
+
+-- the three properties of a run, and that its sections nest and are left in time, by which the three are read
 pub record KeepsLaws (app : App) (labels : List Label) : Type 0 where
   pub exclusive : Exclusive app labels
   pub never_waits : NeverWaits app labels
   pub one_section : OneSection app labels
   -- each leave is of the section entered last, so the observer is right about what jobs are inside
   pub nested : SectionsNest app labels
+  -- no job returns, and no body ends, inside a section
+  pub returns : ReturnsOutside app labels
+  pub ends : EndsOutside app labels

@@ -34,8 +34,8 @@ pub record RunsWell (app : App) (img : Image) (events : List Event) : Type 0 whe
   pub runs : RunsOn app (first app) (labels img (reset img) events)
   pub counts : steps_of (labels img (reset img) events) ≡ steps events
   pub shows : shown_events 0 (trace img events) (steps events) ≡ events
-  -- Sections are exclusive and nest, and no job finds one taken. None waits for more than one section of one lower job,
-  -- and the steps that it waits are within the waiting bound.
+  -- Sections are exclusive and nest, no job finds one taken, and none returns inside one. None waits for more than one
+  -- section of one lower job, and the steps that it waits are within the waiting bound.
   pub laws : KeepsLaws app (labels img (reset img) events)
   -- At every moment: a spawn finds its task full exactly where all places of the task are out, and the places that are
   -- out are accounted for; messages start first in, first out, and fire in order and not early; a handle is of one
