@@ -28,7 +28,8 @@ use Rattle.rt_points.specs.Point.{Point}
 use Rattle.rt_points.specs.Rules as rules
 use Rattle.rt_safe.specs.Inside.RunsAtPoints.{is_starting, base_under, KeepMasks, RunsAtPoints}
 use Rattle.rt_safe.specs.Inside.Lines.{is_simple}
-use Rattle.rt_safe.specs.Inside.Steps.{insides_of, insides_after, FindsNone, LeavesLastEntered, IsNoTrapShown, Steps}
+use Rattle.rt_safe.specs.Inside.Steps.{insides_of, insides_after, FindsNone, LeavesLastEntered, ReturnsInNone}
+use Rattle.rt_safe.specs.Inside.Steps.{IsNoTrapShown, Steps}
 use Rattle.rt_safe.proofs.Lines.{HasLine, slots_there, cells_there}
 use Rattle.rt_safe.proofs.Saving.{saves_kept, stacked_alike}
 
@@ -173,6 +174,14 @@ silent_nested (Some (what.Clock time)) is ps = tt
 silent_nested (Some (what.End body.Idle)) is ps = tt
 silent_nested shown is ps = absurd is
 
+silent_returns : (shown : Option What) → IsSilent shown → (ps : List Point) → ReturnsInNone shown (insides_of ps)
+silent_returns None is ps = tt
+silent_returns (Some (what.Emit value)) is ps = tt
+silent_returns (Some (what.Post irq)) is ps = tt
+silent_returns (Some (what.Clock time)) is ps = tt
+silent_returns (Some (what.End body.Idle)) is ps = tt
+silent_returns shown is ps = absurd is
+
 silent_untrapped : (shown : Option What) → IsSilent shown → IsNoTrapShown shown
 silent_untrapped None is = tt
 silent_untrapped (Some (what.Emit value)) is = tt
@@ -242,6 +251,7 @@ module _ (img : Image) (checked : IsChecked img) (c : Core) (p : Point) (qs : Li
       insides = silent_insides one.shown one.silent (p ∷ qs);
       free = silent_free one.shown one.silent (p ∷ qs);
       nested = silent_nested one.shown one.silent (p ∷ qs);
+      returns = silent_returns one.shown one.silent (p ∷ qs);
       no_trap = silent_untrapped one.shown one.silent;
       started = λ before. before;
       ended = λ end. absurd (no_end one.shown one.silent end);

@@ -92,6 +92,7 @@ module _ (img : Image) (checked : IsChecked img) (c : Core) (p : Point) (qs : Li
       insides = ap (λ s. sections s ∷ insides_of qs) none;
       free = tt;
       nested = tt;
+      returns = (ap (λ s. sections s) none, tt);
       no_trap = tt;
       started = λ before. thread_differs;
       ended = λ end. thread_differs;
@@ -144,6 +145,7 @@ module _ (img : Image) (checked : IsChecked img) (c : Core) (p : Point) (qs : Li
           insides = ap insides_of points;
           free = tt;
           nested = tt;
+          returns = (ap (λ s. sections s) none, tt);
           no_trap = tt;
           started = λ before starting.
               let zero : owner_value img q.owner ≡ 0 = ap (owner_value img) starting in

@@ -15,15 +15,17 @@ use Rattle.rt_core.specs.Core.{Core}
 use Rattle.rt_core.specs.Trace.{ring, happen, core_after, labels}
 use Rattle.rt_core.specs.Transfer.{core_after_pend}
 use Rattle.rt_core.proofs.Happening.{happens_by_event}
-use Rattle.rt_laws.specs.Properties.{AtEach, AreExclusive, FindsFree, LeavesInnermost}
+use Rattle.rt_laws.specs.Properties.{AtEach, AreExclusive, FindsFree, LeavesInnermost, IsOutsideAtReturn}
 use Rattle.rt_laws.specs.Observer.{Observer, sees, sees_all}
 use Rattle.rt_points.specs.declared.point.Owner.TheVariants.{Starting}
 use Rattle.rt_points.specs.Checked.{IsChecked}
 use Rattle.rt_points.specs.Point.{Point}
 use Rattle.rt_safe.specs.Inside.RunsAtPoints.{RunsAtPoints}
-use Rattle.rt_safe.specs.Inside.Steps.{insides_of, insides_after, FindsNone, LeavesLastEntered, IsNoTrapShown}
+use Rattle.rt_safe.specs.Inside.Steps.{insides_of, insides_after, FindsNone, LeavesLastEntered, ReturnsInNone}
+use Rattle.rt_safe.specs.Inside.Steps.{IsNoTrapShown}
 use Rattle.rt_safe.proofs.Apart.{apart_of}
-use Rattle.rt_safe.proofs.Seeing.{shown_of, seen_insides, sees_insides, exclusive_of, free_of, nested_of, untrapped}
+use Rattle.rt_safe.proofs.Seeing.{shown_of, seen_insides, sees_insides, exclusive_of, free_of, nested_of, returns_of}
+use Rattle.rt_safe.proofs.Seeing.{untrapped}
 use Rattle.rt_safe.proofs.Stepping.{steps}
 
 module _ (img : Image) where
@@ -38,6 +40,7 @@ module _ (img : Image) where
     insides : insides_after (shown_of label) (insides_of (p ∷ qs)) ≡ insides_of (point ∷ below)
     free : FindsNone (shown_of label) (insides_of (p ∷ qs))
     nested : LeavesLastEntered (shown_of label) (insides_of (p ∷ qs))
+    returns : ReturnsInNone (shown_of label) (insides_of (p ∷ qs))
     no_trap : IsNoTrapShown (shown_of label)
     started : p.owner ≢ Starting → point.owner ≢ Starting
     ended : shown_of label ≡ Some (what.End body.Init) → point.owner ≢ Starting
@@ -57,6 +60,8 @@ module _ (img : Image) where
         → AtEach (λ v label behind. FindsFree v label) app v (labels img c events)
     pub nested : (app : App) (v : Observer) → seen_insides v.jobs ≡ insides_of (p ∷ qs)
         → AtEach (λ v label behind. LeavesInnermost v label) app v (labels img c events)
+    pub returns : (app : App) (v : Observer) → seen_insides v.jobs ≡ insides_of (p ∷ qs)
+        → AtEach (λ v label behind. IsOutsideAtReturn v label) app v (labels img c events)
     pub no_trap : (n : ℕ) → AllByRecursion (λ item. IsNoTrap item.what) (items_of n (labels img c events))
 
 module _ (img : Image) (checked : IsChecked img) where
@@ -81,6 +86,7 @@ module _ (img : Image) (checked : IsChecked img) where
     insides = refl;
     free = tt;
     nested = tt;
+    returns = tt;
     no_trap = tt;
     started = λ before. before;
     ended = λ end. absurd (none-some (what.End body.Init) end);
@@ -107,6 +113,7 @@ module _ (img : Image) (checked : IsChecked img) where
         insides = refl;
         free = tt;
         nested = tt;
+        returns = tt;
         no_trap = tt;
         started = λ before. before;
         ended = λ end. absurd (none-some (what.End body.Init) end);
@@ -123,6 +130,7 @@ module _ (img : Image) (checked : IsChecked img) where
         insides = one.insides;
         free = one.free;
         nested = one.nested;
+        returns = one.returns;
         no_trap = one.no_trap;
         started = one.started;
         ended = one.ended;
@@ -144,6 +152,7 @@ module _ (img : Image) (checked : IsChecked img) where
             subst (AtEach (λ v label behind. AreExclusive (sees app v label).jobs) app v) (sym shown) tt;
         never_waits = λ app v sight. subst (AtEach (λ v label behind. FindsFree v label) app v) (sym shown) tt;
         nested = λ app v sight. subst (AtEach (λ v label behind. LeavesInnermost v label) app v) (sym shown) tt;
+        returns = λ app v sight. subst (AtEach (λ v label behind. IsOutsideAtReturn v label) app v) (sym shown) tt;
         no_trap = λ n. subst (λ ls. AllByRecursion (λ item. IsNoTrap item.what) (items_of n ls)) (sym shown) tt;
       }
 
@@ -200,6 +209,11 @@ module _ (img : Image) (checked : IsChecked img) where
           subst (AtEach (λ v label behind. LeavesInnermost v label) app v) (sym labels_are) (
             nested_of v first.label (subst (LeavesLastEntered (shown_of first.label)) (sym sight) first.nested),
             rest.nested app (sees app v first.label) (seen_first app v sight),
+          );
+      returns = λ app v sight.
+          subst (AtEach (λ v label behind. IsOutsideAtReturn v label) app v) (sym labels_are) (
+            returns_of v first.label (subst (ReturnsInNone (shown_of first.label)) (sym sight) first.returns),
+            rest.returns app (sees app v first.label) (seen_first app v sight),
           );
       no_trap = λ n.
           subst (λ ls. AllByRecursion (λ item. IsNoTrap item.what) (items_of n ls)) (sym labels_are)

@@ -93,6 +93,7 @@ module _ (img : Image) (checked : IsChecked img) where
         exclusive = λ app. whole.exclusive app (first_sight app) refl;
         never_waits = λ app. whole.never_waits app (first_sight app) refl;
         nested = λ app. whole.nested app (first_sight app) refl;
+        returns = λ app. whole.returns app (first_sight app) refl;
       }
 
   touches_inside : (cell : ℕ) (x : Section) → IsGuardedBy img cell x → (app : App) (events : List Event)

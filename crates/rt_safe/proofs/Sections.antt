@@ -223,6 +223,7 @@ module _ (img : Image) (checked : IsChecked img) (c : Core) (p : Point) (qs : Li
       insides = refl;
       free = free;
       nested = tt;
+      returns = tt;
       no_trap = tt;
       started = λ before. before;
       ended = λ end. absurd (no_init_end x end);
@@ -291,6 +292,7 @@ module _ (img : Image) (checked : IsChecked img) (c : Core) (p : Point) (qs : Li
       insides = ap (λ s. drop 1 (sections s) ∷ insides_of qs) inside;
       free = tt;
       nested = (ap (λ s. slice_get (sections s) 0) inside, tt);
+      returns = tt;
       no_trap = tt;
       started = λ before. before;
       ended = λ end. absurd (no_init_end_left x _ end);

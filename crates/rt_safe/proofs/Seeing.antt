@@ -11,9 +11,10 @@ use Rattle.rt_trace.specs.Label.{Label, Arrived, Ticked, Rang, Stepped, items_of
 use Rattle.rt_trace.specs.declared.item.What.{What}
 use Rattle.rt_trace.specs.declared.item.What.TheVariants as what
 use Rattle.rt_app.specs.Tree.{App}
-use Rattle.rt_laws.specs.Properties.{AreExclusive, FindsFree, LeavesInnermost}
+use Rattle.rt_laws.specs.Properties.{AreExclusive, FindsFree, LeavesInnermost, IsOutside, IsOutsideAtReturn}
 use Rattle.rt_laws.specs.Observer.{Seen, Observer, IsInside, on_running, seen_after_enter, seen_after_leave, sees}
-use Rattle.rt_safe.specs.Inside.Steps.{on_first, insides_after, FindsNone, LeavesLastEntered, IsNoTrapShown}
+use Rattle.rt_safe.specs.Inside.Steps.{on_first, insides_after, FindsNone, LeavesLastEntered, ReturnsInNone}
+use Rattle.rt_safe.specs.Inside.Steps.{IsNoTrapShown}
 use Rattle.rt_safe.specs.Safe.{IsInit}
 use Rattle.rt_safe.proofs.Apart.{AreApart}
 
@@ -77,6 +78,17 @@ pub nested_of : (v : Observer) (label : Label) → LeavesLastEntered (shown_of l
     → LeavesInnermost v label
 nested_of v (Stepped (Some (what.Leave x value))) last = innermost_of x v.jobs last
 nested_of v label last = tt
+
+-- where a job returns it is inside nothing
+outside_of : (jobs : List Seen) → AllByRecursion (λ inside. inside ≡ []) (take 1 (seen_insides jobs)) → IsOutside jobs
+outside_of [] none = tt
+outside_of (job ∷ others) none = (none.0, tt)
+
+pub returns_of : (v : Observer) (label : Label) → ReturnsInNone (shown_of label) (seen_insides v.jobs)
+    → IsOutsideAtReturn v label
+returns_of v (Stepped (Some (what.Ret irq))) none = outside_of v.jobs none
+returns_of v (Stepped (Some (what.End body.Init))) none = outside_of v.jobs none
+returns_of v label none = tt
 
 -- the running job is inside what is open at its point
 pub inside_of : (jobs : List Seen) (inside : List Section) (others : List (List Section)) (x : Section)

@@ -113,6 +113,7 @@ module _ (img : Image) (checked : IsChecked img) (c : Core) (p : Point) (qs : Li
             insides = refl;
             free = tt;
             nested = tt;
+            returns = tt;
             no_trap = tt;
             started = λ before. handling_differs found.0.0;
             ended = λ is. handling_differs found.0.0;

@@ -1,7 +1,8 @@
 -- A safe image: whatever happens to a core that runs it, nothing traps, the stack stays in its region, sections are
--- exclusive and none is found taken (Baker, Stack-Based Scheduling of Realtime Processes, 1991), and outside `init`
--- cells for which owners contend are touched inside their section. Who is inside what is read from what the core shows.
--- It is said of all lists of events; no point, rule, mask or frame is named here but for the cells that are meant.
+-- exclusive and none is found taken (Baker, Stack-Based Scheduling of Realtime Processes, 1991), handlers return
+-- outside them, and outside `init` cells for which owners contend are touched inside their section. Who is inside what
+-- is read from what the core shows. It is said of all lists of events; no point, rule, mask or frame is named here but
+-- for the cells that are meant.
 use Rattle.std.specs.Prelude.{◌≡◌, ℕ, ◌≤◌, ◌⊎◌, List, [], ◌∷◌, take, Some}
 use Rattle.std.specs.List.{AllByRecursion, Contains}
 use Rattle.rt_ids.specs.Event.{Event}
@@ -15,7 +16,7 @@ use Rattle.rt_code.specs.Image.{Image}
 use Rattle.rt_core.specs.Access.{access}
 use Rattle.rt_core.specs.Core.{reset}
 use Rattle.rt_core.specs.Trace.{core_after, labels, trace, depth_after}
-use Rattle.rt_laws.specs.Properties.{Exclusive, NeverWaits, SectionsNest}
+use Rattle.rt_laws.specs.Properties.{Exclusive, NeverWaits, SectionsNest, ReturnsOutside}
 use Rattle.rt_laws.specs.Observer.{Seen, IsInside, first_sight, sees_all}
 use Rattle.rt_points.specs.Rules.{IsContended}
 
@@ -31,6 +32,8 @@ pub record RunsSafely (img : Image) (events : List Event) : Type 0 where
   pub never_waits : (app : App) → NeverWaits app (labels img (reset img) events)
   -- each leave is of the section entered last, so the observer is right about what jobs are inside
   pub nested : (app : App) → SectionsNest app (labels img (reset img) events)
+  -- no handler returns inside a section, and `init` does not end in one
+  pub returns : (app : App) → ReturnsOutside app (labels img (reset img) events)
 
 -- the running job is `init`: the thread alone, and `init` has not ended
 abbrev pub IsInit : List Label → List Seen → Type 0

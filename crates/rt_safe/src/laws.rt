@@ -1,8 +1,8 @@
 ghost use Rattle.rt_safe.specs.Laws.{CheckedImagesAreSafe, CheckedImagesRun};
 
 /// An image that keeps the seven rules is safe: whatever happens to a core that runs it, for every list of events,
-/// nothing traps, the stack stays in its region, sections are exclusive and none is found taken, and cells for which
-/// owners contend are touched inside their section, `init` aside.
+/// nothing traps, the stack stays in its region, sections are exclusive and none is found taken, no handler returns
+/// inside a section, and cells for which owners contend are touched inside their section, `init` aside.
 pub fn checked_images_are_safe()
     ensures { CheckedImagesAreSafe }
 {}

@@ -43,6 +43,12 @@ LeavesLastEntered (Some (what.Leave x value)) insides =
     AllByRecursion (λ inside. slice_get inside 0 ≡ Some x) (take 1 insides)
 LeavesLastEntered shown insides = Unit {0}
 
+-- where a handler returns, or `init` ends, the running job is inside nothing
+abbrev pub ReturnsInNone : Option What → List (List Section) → Type 0
+ReturnsInNone (Some (what.Ret irq)) insides = AllByRecursion (λ inside. inside ≡ []) (take 1 insides)
+ReturnsInNone (Some (what.End body.Init)) insides = AllByRecursion (λ inside. inside ≡ []) (take 1 insides)
+ReturnsInNone shown insides = Unit {0}
+
 -- a step that shows no trap
 abbrev pub IsNoTrapShown : Option What → Type 0
 IsNoTrapShown None = Unit {0}
@@ -59,6 +65,7 @@ pub record Steps (img : Image) (c : Core) (p : Point) (qs : List Point) : Type 0
   pub insides : insides_after shown (insides_of (p ∷ qs)) ≡ insides_of (point ∷ below)
   pub free : FindsNone shown (insides_of (p ∷ qs))
   pub nested : LeavesLastEntered shown (insides_of (p ∷ qs))
+  pub returns : ReturnsInNone shown (insides_of (p ∷ qs))
   pub no_trap : IsNoTrapShown shown
   -- a step leads to `init` only from `init`, and not by its end
   pub started : p.owner ≢ Starting → point.owner ≢ Starting
