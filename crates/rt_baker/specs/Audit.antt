@@ -19,7 +19,7 @@ front n trace = record { items = take n trace.items; total = None }
 -- one lower job, each section that was left was the one entered last, and no job returned, and no body ended, inside a
 -- section. At every moment spawns found a task full exactly where all its places were out; messages started first in,
 -- first out, and fired in order and not early; a handle was of one message; the places that were out were those in
--- transit, armed and ready; and messages that were ready or due were served.
+-- transit, armed and ready; the items showed it by themselves; and messages that were ready or due were served.
 pub record IsRight (app : App) (trace : Trace) : Type 0 where
   pub judged : Judged app trace
   pub laws : KeepsLaws app judged.run.labels

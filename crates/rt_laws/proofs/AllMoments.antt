@@ -8,6 +8,7 @@ use Rattle.rt_laws.specs.Run.{RunsOn}
 use Rattle.rt_laws.specs.Messages.{RunsKeepMessages}
 use Rattle.rt_laws.proofs.Keeping.{queues_kept, handles_kept}
 use Rattle.rt_laws.proofs.Placed.{places_counted}
+use Rattle.rt_laws.proofs.MessagesByItems.{messages_by_items}
 use Rattle.rt_laws.proofs.ReadyRuns.{ready_served}
 use Rattle.rt_laws.proofs.TimerRuns.{due_served}
 
@@ -23,6 +24,7 @@ runs_keep_messages app accepted labels runs = record {
   in_order = λ n. queues_kept app accepted (take n labels) (until n);
   handled = λ n. handles_kept app accepted (take n labels) (until n);
   places_counted = λ n. places_counted app accepted (take n labels) (until n);
+  by_items = messages_by_items app accepted labels runs;
   ready_served = λ n. ready_served app accepted (take n labels) (until n);
   due_served = λ n. due_served app accepted (take n labels) (until n);
 }

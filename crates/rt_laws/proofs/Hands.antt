@@ -1,7 +1,9 @@
 -- What is left to do of a job fits what it has in its hands: with empty hands it takes, starts, fires or takes back a
--- message, and ends or returns; with the place of a task it makes a message of that task ready or arms it, or it frees
--- the place. So do `init`, `idle` and every handler, whatever the values are on the way.
-use Rattle.std.proofs.Common.{◌≡◌, ℕ, zero, suc, ◌==◌, Bool, true, false, if◌then◌else◌, List, [], ◌∷◌, ◌++◌, replicate}
+-- message, and ends or returns; with the place of a message that was placed or fired it makes that message ready or
+-- arms it, and with one that was started or taken back it frees the place. So do `init`, `idle` and every handler,
+-- whatever the values are on the way.
+use Rattle.std.proofs.Common.{◌≡◌, ℕ, zero, suc, ◌==◌, Bool, true, false, if◌then◌else◌, List, [], ◌∷◌, ◌++◌}
+use Rattle.std.proofs.Common.{replicate}
 use Rattle.std.proofs.Common.{slice_get, slice_set, map, Option, Some, None, refl}
 use Rattle.rt_ids.specs.Lists.{then_from}
 use Rattle.rt_ids.specs.Location.{Guarded, Own}
@@ -28,58 +30,71 @@ use Rattle.rt_app.specs.Doings.{nothing, declared_doing, init_doing, idle_doing,
 use Rattle.rt_app.specs.Doings.{fire_doing, handler_doing}
 use Rattle.rt_laws.specs.Places.{Hand}
 
+-- What a job has in its hands, by what it is to do with it: nothing; the place of a message that is to become ready or
+-- armed; or a place that is to be given back.
+pub data InTransit : Type 0 where
+  Bare : InTransit
+  Forwards : (task : ℕ) → InTransit
+  GivesBack : (task : ℕ) → InTransit
+
+-- the place that is in the hands, whichever is to be done with it
+abbrev pub hand_of : InTransit → Hand
+hand_of Bare = None
+hand_of (Forwards t) = Some t
+hand_of (GivesBack t) = Some t
+
 -- what is in the hands behind an action
-abbrev pub hand_then : Hand → Action → Hand
-hand_then hand (Places n) = Some n
-hand_then hand (Starts p m) = Some m.task
-hand_then hand (Fires m) = Some m.task
-hand_then hand (Cancels n h) = Some n
-hand_then hand (Readies p m) = None
-hand_then hand (Arms i m) = None
-hand_then hand (Frees n) = None
-hand_then hand action = hand
+abbrev pub transit_then : InTransit → Action → InTransit
+transit_then hand (Places n) = Forwards n
+transit_then hand (Fires m) = Forwards m.task
+transit_then hand (Starts p m) = GivesBack m.task
+transit_then hand (Cancels n h) = GivesBack n
+transit_then hand (Readies p m) = Bare
+transit_then hand (Arms i m) = Bare
+transit_then hand (Frees n) = Bare
+transit_then hand action = hand
 
 -- an action may come with these hands
-abbrev pub Suits : Hand → Action → Type 0
-Suits hand (Places n) = hand ≡ None
-Suits hand (Starts p m) = hand ≡ None
-Suits hand (Fires m) = hand ≡ None
-Suits hand (Cancels n h) = hand ≡ None
-Suits hand (Readies p m) = hand ≡ Some m.task
-Suits hand (Arms i m) = hand ≡ Some m.task
-Suits hand (Frees n) = hand ≡ Some n
-Suits hand (Ends b) = hand ≡ None
-Suits hand Returns = hand ≡ None
+abbrev pub Suits : InTransit → Action → Type 0
+Suits hand (Places n) = hand ≡ Bare
+Suits hand (Starts p m) = hand ≡ Bare
+Suits hand (Fires m) = hand ≡ Bare
+Suits hand (Cancels n h) = hand ≡ Bare
+Suits hand (Readies p m) = hand ≡ Forwards m.task
+Suits hand (Arms i m) = hand ≡ Forwards m.task
+Suits hand (Frees n) = hand ≡ GivesBack n
+Suits hand (Ends b) = hand ≡ Bare
+Suits hand Returns = hand ≡ Bare
 Suits hand action = Unit {0}
 
-abbrev pub Fits : Hand → Doing Values → Type 0
+abbrev pub Fits : InTransit → Doing Values → Type 0
 Fits hand over = Unit {0}
 Fits hand (does action made next) =
-    Suits hand action × ((n : ℕ) (vs : Values) → Fits (hand_then hand action) (next n vs))
+    Suits hand action × ((n : ℕ) (vs : Values) → Fits (transit_then hand action) (next n vs))
 
-abbrev pub RestFits : Hand → Rest → Type 0
+abbrev pub RestFits : InTransit → Rest → Type 0
 RestFits hand rest = (vs : Values) → Fits hand (rest vs)
 
 abbrev LaterFits : Later → Type 0
-LaterFits later = (vars : List ℕ) → RestFits None (later vars)
+LaterFits later = (vars : List ℕ) → RestFits Bare (later vars)
 
 module _ (app : App) where
-  take_fits : (n : ℕ) (granted refused : Rest) → RestFits (Some n) granted → RestFits None refused
-      → RestFits None (place_actions app n granted refused)
+  take_fits : (n : ℕ) (granted refused : Rest) → RestFits (Forwards n) granted → RestFits Bare refused
+      → RestFits Bare (place_actions app n granted refused)
   take_fits n granted refused first second vs = (tt, λ k ws. go (has_place app n ws) ws)
     where
-      go : (b : Bool) (ws : Values) → Fits None
+      go : (b : Bool) (ws : Values) → Fits Bare
           (if b then act_all (Places n ∷ Leaves (section.Free n) ∷ []) granted ws
           else act_all (FindsFull n ∷ Leaves (section.Free n) ∷ []) refused ws)
       go true ws = (refl, λ k xs. (tt, λ l ys. first ys))
       go false ws = (tt, λ k xs. (tt, λ l ys. second ys))
 
-  ready_fits : (p : ℕ) (m : Message) (rest : Rest) → RestFits None rest
-      → RestFits (Some m.task) (act_all (ready_actions app p m) rest)
+  ready_fits : (p : ℕ) (m : Message) (rest : Rest) → RestFits Bare rest
+      → RestFits (Forwards m.task) (act_all (ready_actions app p m) rest)
   ready_fits p m rest later vs = (tt, λ k ws. (refl, λ l xs. (tt, λ i ys. (tt, λ j zs. later zs))))
 
-  spawn_fits : (value : Expression → ℕ) (s : Spawn) (rest : ℕ → Rest) → ((n : ℕ) → RestFits None (rest n))
-      → RestFits None (spawn_actions app value s rest)
+  spawn_fits : (value : Expression → ℕ) (s : Spawn) (rest : ℕ → Rest) → ((n : ℕ) → RestFits Bare (rest n))
+      → RestFits Bare (spawn_actions app value s rest)
   spawn_fits value (Soon n args at) rest later =
       take_fits n (act_all (ready_actions app (task_priority app n) (record { task = n; args = map value args }))
       (rest 1)) (rest 0)
@@ -110,7 +125,7 @@ module _ (app : App) where
       back : Rest
       back = act_all (Enters (section.Free n) FREE_COST ∷ Frees n ∷ Leaves (section.Free n) ∷ []) (rest 0)
 
-      go : (b : Bool) (ws : Values) → Fits None
+      go : (b : Bool) (ws : Values) → Fits Bare
           (if b then act (Cancels n (value handle)) (leave_timer app back) ws
           else act (Leaves section.Timer) (rest 1) ws)
       go true ws = (refl, λ k xs. (tt, λ l ys. (tt, λ i zs. (tt, λ j us. (refl, λ g ts. (tt, λ f rs. later 0 rs))))))
@@ -118,7 +133,7 @@ module _ (app : App) where
   spawn_fits value (Move word delay n handle at) rest later = λ vs.
       (tt, λ k ws. go (is_armed_as app n (value handle) ws) ws)
     where
-      go : (b : Bool) (ws : Values) → Fits None
+      go : (b : Bool) (ws : Values) → Fits Bare
           (if b then does Clocks ws (λ time. act (Moves n (value handle) (instant_after app time (value delay)))
           (leave_timer app (rest 0)))
           else act (Leaves section.Timer) (rest 1) ws)
@@ -146,7 +161,7 @@ module _ (app : App) where
         (λ granted. fits (slice_set vars x granted)) vs
     statement_fits (Assign x e at) later fits = λ vars vs. assign_fits x (value_in vars vs e) later fits vars vs
     statement_fits (Branch e first second) later fits = λ vars vs.
-        elim (value_in vars vs e == 0) as (λ b. Fits None
+        elim (value_in vars vs e == 0) as (λ b. Fits Bare
         (if b then run_block app second later vars vs else run_block app first later vars vs)) [
           | true ↦ block_fits second later fits vars vs
           | false ↦ block_fits first later fits vars vs
@@ -167,37 +182,37 @@ module _ (app : App) where
     block_fits Empty later fits = fits
     block_fits (Then s rest) later fits = statement_fits s (run_block app rest later) (block_fits rest later fits)
 
-  declared_fits : (o : Option Body) (args : List ℕ) (rest : Rest) → RestFits None rest
-      → RestFits None (declared_doing app o args rest)
+  declared_fits : (o : Option Body) (args : List ℕ) (rest : Rest) → RestFits Bare rest
+      → RestFits Bare (declared_doing app o args rest)
   declared_fits None args rest fits = fits
   declared_fits (Some b) args rest fits =
       block_fits b.block (λ vars. rest) (λ vars. fits) (args ++ replicate (variables b.block) 0)
 
-  pub init_fits : RestFits None (init_doing app)
+  pub init_fits : RestFits Bare (init_doing app)
   init_fits = declared_fits app.init [] (act (Ends body.Init) nothing) (λ vs. (refl, λ k ws. tt))
 
-  pub idle_fits : RestFits None (idle_doing app)
+  pub idle_fits : RestFits Bare (idle_doing app)
   idle_fits = declared_fits app.idle [] (act (Ends body.Idle) nothing) (λ vs. (refl, λ k ws. tt))
 
-  task_fits : (n : ℕ) (args : List ℕ) (rest : Rest) → RestFits None rest → RestFits None (task_doing app n args rest)
+  task_fits : (n : ℕ) (args : List ℕ) (rest : Rest) → RestFits Bare rest → RestFits Bare (task_doing app n args rest)
   task_fits n args rest fits =
       declared_fits (then_from (slice_get app.tasks n) (λ t. Some t.body)) args rest fits
 
   abbrev behind : Message → Rest
   behind m = task_doing app m.task m.args (act_all (Ends (body.Task m.task) ∷ Returns ∷ []) nothing)
 
-  behind_fits : (m : Message) → RestFits None (behind m)
+  behind_fits : (m : Message) → RestFits Bare (behind m)
   behind_fits m = task_fits m.task m.args (act_all (Ends (body.Task m.task) ∷ Returns ∷ []) nothing)
       (λ vs. (refl, λ k ws. (refl, λ l xs. tt)))
 
-  start_fits : (p : ℕ) (ms : List Message) → RestFits None (start_doing app p ms)
+  start_fits : (p : ℕ) (ms : List Message) → RestFits Bare (start_doing app p ms)
   start_fits p [] vs = (tt, λ k ws. (refl, λ l xs. tt))
   start_fits p (m ∷ []) vs =
       (refl, λ k ws. (tt, λ l xs. (tt, λ i ys. (refl, λ j zs. (tt, λ h us. behind_fits m us)))))
   start_fits p (m ∷ n ∷ more) vs =
       (refl, λ k ws. (tt, λ g rs. (tt, λ l xs. (tt, λ i ys. (refl, λ j zs. (tt, λ h us. behind_fits m us))))))
 
-  fire_fits : (o : Option Armed) → RestFits None (fire_doing app o)
+  fire_fits : (o : Option Armed) → RestFits Bare (fire_doing app o)
   fire_fits None vs = (tt, λ k ws. (tt, λ l xs. (refl, λ i ys. tt)))
   fire_fits (Some a) vs = (
     refl,
@@ -211,7 +226,7 @@ module _ (app : App) where
     ),
   )
 
-  pub handler_fits : (h : Handler) → RestFits None (handler_doing app h)
+  pub handler_fits : (h : Handler) → RestFits Bare (handler_doing app h)
   handler_fits (Runs n) = task_fits n [] (act Returns nothing) (λ vs. (refl, λ k ws. tt))
   handler_fits (Dispatches p) = λ vs. (tt, λ k ws. start_fits p (messages (ws (Guarded (section.Ready p)))) ws)
   handler_fits Times = λ vs. (

@@ -24,8 +24,11 @@ pub mod Serving
 pub mod Keeping
 pub mod Counting
 pub mod Hands
+pub mod ItemCounts
 pub mod Counted
+pub mod Told
 pub mod Placed
+pub mod MessagesByItems
 pub mod Instants
 pub mod Passing
 pub mod Beginnings

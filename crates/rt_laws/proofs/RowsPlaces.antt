@@ -1,15 +1,17 @@
--- Worked examples of where places are: what started jobs have in their hands behind a place, a start and a cancel.
+-- Worked examples of where places are: what started jobs have in their hands behind a place, a start and a cancel, and
+-- what items alone tell of it.
 use Rattle.std.proofs.Common.{◌≡◌, ◌++◌, List, [], ◌∷◌, Some, None, refl}
 use Rattle.rt_ids.specs.Lists.{those_below}
 use Rattle.rt_ids.specs.Location.{Guarded}
 use Rattle.rt_ids.specs.Content.{number}
 use Rattle.rt_ids.specs.declared.ids.BodyId.TheVariants as body
 use Rattle.rt_ids.specs.declared.ids.Section.TheVariants as section
-use Rattle.rt_trace.specs.Label.{Label, Arrived}
+use Rattle.rt_trace.specs.Label.{Label, Arrived, items_of}
 use Rattle.rt_trace.specs.declared.item.What.TheVariants as what
 use Rattle.rt_laws.specs.State.{State, first}
 use Rattle.rt_laws.specs.ByItems.{after_all}
 use Rattle.rt_laws.specs.Places.{hands_after, in_transit, arming_count, ready_of}
+use Rattle.rt_laws.specs.MessagesByItems.{whats, task_counts, still_armed}
 use Rattle.rt_laws.proofs.RowParts.{labels_of}
 use Rattle.rt_laws.proofs.RowsHandles.{undo}
 
@@ -56,8 +58,22 @@ unfolding undo taken_back behind_cancel those_below
 none_ready = refl
 
 -- with the free its hands are empty again
-given_back : hands_after (taken_back ++ labels_of
-    (what.AlarmSet ∷ what.Leave section.Timer None ∷ what.Enter (section.Free 1) ∷ what.Free 1 ∷ []))
-    ≡ None ∷ None ∷ []
-unfolding taken_back
+given : List Label
+given = taken_back ++ labels_of
+    (what.AlarmSet ∷ what.Leave section.Timer None ∷ what.Enter (section.Free 1) ∷ what.Free 1 ∷ [])
+
+given_back : hands_after given ≡ None ∷ None ∷ []
+unfolding taken_back given
 given_back = refl
+
+-- by items: of the two that were armed one was cancelled, and its place given back without a start
+counts : task_counts 1 (whats (items_of 0 given))
+    ≡ record { ok = 2; ready = 0; start = 0; free = 1; arm = 2; fire = 0; cancel = 1 }
+unfolding taken_back given
+counts = refl
+
+-- the other is armed still, for its later instant
+armed_still : still_armed (whats (items_of 0 given))
+    ≡ record { instant = 9; message = record { task = 1; args = [] }; handle = 1 } ∷ []
+unfolding taken_back given
+armed_still = refl

@@ -14,6 +14,7 @@ pub mod Queues
 pub mod Handles
 pub mod Served
 pub mod Places
+pub mod MessagesByItems
 pub mod Messages
 pub mod Unspent
 pub mod Instants

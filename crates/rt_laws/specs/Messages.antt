@@ -1,9 +1,10 @@
 -- What holds of messages in a run, at every moment of it (Baker, Stack-Based Scheduling of Realtime Processes, 1991;
 -- the RTIC 1 book, software tasks and the monotonic): a spawn finds its task full exactly where all places of the task
 -- are out; messages start first in, first out; they fire in order and not early; a handle is of one armed message; the
--- places that are out are accounted for; and ready and due messages are served. Each has a file of its own.
+-- places that are out are accounted for; the items show it by themselves; and ready and due messages are served. Each
+-- has a file of its own.
 use Rattle.std.specs.Prelude.{ℕ, List, take}
-use Rattle.rt_trace.specs.Label.{Label}
+use Rattle.rt_trace.specs.Label.{Label, items_of}
 use Rattle.rt_app.specs.Tree.{App}
 use Rattle.rt_app.specs.Accepted.{IsAccepted}
 use Rattle.rt_laws.specs.State.{State, first}
@@ -12,18 +13,21 @@ use Rattle.rt_laws.specs.ByItems.{after_all}
 use Rattle.rt_laws.specs.Queues.{KeepsQueues}
 use Rattle.rt_laws.specs.Handles.{KeepsHandles}
 use Rattle.rt_laws.specs.Places.{CountsPlaces}
+use Rattle.rt_laws.specs.MessagesByItems.{MessagesByItems}
 use Rattle.rt_laws.specs.Served.{ServesReady, ServesDue}
 
 -- the state after the first n labels
 abbrev pub state_at : App → List Label → ℕ → State
 state_at app labels n = after_all app (first app) (take n labels)
 
--- at each moment of these labels messages are in order, have handles of their own, have their places accounted for, and
--- are served
+-- at each moment of these labels messages are in order, have handles of their own, have their places accounted for, are
+-- so by what is shown alone, and are served
 pub record KeepsMessages (app : App) (labels : List Label) : Type 0 where
   pub in_order : (n : ℕ) → KeepsQueues app (state_at app labels n)
   pub handled : (n : ℕ) → KeepsHandles (state_at app labels n)
   pub places_counted : (n : ℕ) → CountsPlaces app (take n labels) (state_at app labels n)
+  -- what is shown says so by itself
+  pub by_items : MessagesByItems app (items_of 0 labels)
   pub ready_served : (n : ℕ) → ServesReady app (state_at app labels n)
   pub due_served : (n : ℕ) → ServesDue app (state_at app labels n)
 

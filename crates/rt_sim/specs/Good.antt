@@ -39,7 +39,7 @@ pub record RunsWell (app : App) (img : Image) (events : List Event) : Type 0 whe
   pub laws : KeepsLaws app (labels img (reset img) events)
   -- At every moment: a spawn finds its task full exactly where all places of the task are out, and the places that are
   -- out are accounted for; messages start first in, first out, and fire in order and not early; a handle is of one
-  -- message; and ready and due messages are served.
+  -- message; the items of the trace show it by themselves; and ready and due messages are served.
   pub messages : KeepsMessages app (labels img (reset img) events)
   -- the stack bytes in use are within the bound at every moment
   pub stack_within : (n : ℕ) → depth_after img (take n events) ≤ stack_bytes app
