@@ -1,7 +1,7 @@
 -- A job waits for one outermost section of one lower job.
-use Rattle.std.proofs.Common.{◌≡◌, ℕ, ◌-◌, ◌≤◌, ◌<◌, ◌^◌, ◌==◌, nat_lt, Bool, true, false, if◌then◌else◌, List, [], ◌∷◌}
+use Rattle.std.proofs.Common.{◌≡◌, ℕ, ◌-◌, ◌≤◌, ◌<◌, ◌^◌, nat_lt, Bool, true, false, if◌then◌else◌, List, [], ◌∷◌}
 use Rattle.std.proofs.Common.{◌++◌, length, take, slice_index_or, Option, Some, None, IfSome, refl, sym, ap, subst, ◌∙◌}
-use Rattle.std.proofs.Common.{arith, eq-eqb}
+use Rattle.std.proofs.Common.{arith, eq-eqb, ◌⊎◌, inl, inr}
 use Rattle.std.specs.List.{AllByRecursion}
 use Rattle.std.proofs.lemmas.Bool.{ltb-true, ltb-false, lt-ltb}
 use Rattle.rt_lemmas.proofs.Bools.{true_and_false}
@@ -17,15 +17,15 @@ use Rattle.rt_app.specs.Handlers.{Service, services}
 use Rattle.rt_app.proofs.Sound.{accepted_are_sound}
 use Rattle.rt_laws.specs.Services.{service_at, priority_of, timer_number}
 use Rattle.rt_laws.specs.State.{Role, Init, Idle, Waiting, Serving, Job, State}
-use Rattle.rt_laws.specs.Preemption.{system_ceiling, greatest_ceiling}
-use Rattle.rt_laws.specs.Allowed.{after}
+use Rattle.rt_laws.specs.Preemption.{system_ceiling, greatest_ceiling, candidate}
+use Rattle.rt_laws.specs.Allowed.{May, after}
 use Rattle.rt_laws.specs.Run.{RunsOn}
 use Rattle.rt_laws.specs.Observer.{Seen, Observer, sees}
 use Rattle.rt_laws.specs.Waiting.{stepper, steppers, lower, is_take, outermost, LieInOneSection, is_pending}
 use Rattle.rt_laws.proofs.Outermost.{none_outermost, below_outermost, both_outermost, outermost_all, Behind}
-use Rattle.rt_laws.proofs.Well.{alone_at_bottom, JobWell, IsAbove, StackWell, StateWell, IsThread, Changes, GoesOn}
-use Rattle.rt_laws.proofs.Well.{Restarts, ComesBack}
-use Rattle.rt_laws.proofs.Pending.{still_set, still_beside, held_off, goes_first}
+use Rattle.rt_laws.proofs.Well.{most_left, alone_at_bottom, JobWell, IsAbove, StackWell, StateWell, IsThread, Changes}
+use Rattle.rt_laws.proofs.Well.{GoesOn, Restarts, ComesBack}
+use Rattle.rt_laws.proofs.Pending.{still_set, still_beside, held_off, goes_first, starts_above}
 use Rattle.rt_laws.proofs.Happens.{Happens, Quietly, ByTake, ByStep, happens, after_well}
 
 -- Down to the first job below a priority: no section of it holds the priority off, or the outermost that does was
@@ -104,7 +104,7 @@ module _ (app : App) (p : ℕ) (positive : 0 < p) where
       )
 
   pub low_start : (js : List Job) (vs : List Seen) → StackWell app js vs → p ≤ 2 ^ app.bits
-      → (entered : ℕ) × Low app p entered (waiting_bound app p) js vs
+      → (entered : ℕ) × Low app p entered (most_left app p) js vs
   low_start [] vs stack top = (0, tt)
   low_start (job ∷ others) [] stack top = (0, tt)
   low_start (job ∷ others) (seen ∷ seens) stack top =
@@ -114,15 +114,15 @@ module _ (app : App) (p : ℕ) (positive : 0 < p) where
       well = stack.0
 
       first : job.priority < p → (o : Option ℕ) → outermost app p job.sections job.lefts ≡ o
-          → IfSome o (λ left. left ≤ waiting_bound app p)
-          → (entered : ℕ) × Behind entered (waiting_bound app p) o (outermost app p seen.inside seen.since)
+          → IfSome o (λ left. left ≤ most_left app p)
+          → (entered : ℕ) × Behind entered (most_left app p) o (outermost app p seen.inside seen.since)
       first below None is bounded = (0, tt)
       first below (Some n) is bounded =
           let other = both_outermost app p job.sections job.lefts seen.since n well.long is in
           (other.0, (ap (λ xs. outermost app p xs seen.since) well.inside ∙ other.1, bounded))
 
-      by : (b : Bool) → nat_lt job.priority p ≡ b → (entered : ℕ) × Low app p entered (waiting_bound app p) others seens
-          → (entered : ℕ) × Low app p entered (waiting_bound app p) (job ∷ others) (seen ∷ seens)
+      by : (b : Bool) → nat_lt job.priority p ≡ b → (entered : ℕ) × Low app p entered (most_left app p) others seens
+          → (entered : ℕ) × Low app p entered (most_left app p) (job ∷ others) (seen ∷ seens)
       by true test deeper =
           let below : job.priority < p = ltb-true job.priority p test in
           let here = first below (outermost app p job.sections job.lefts) refl (well.bounded p below top) in
@@ -222,104 +222,159 @@ module _ (app : App) (p : ℕ) (positive : 0 < p) where
             let same = well.priority in
             Higher (omega arith) (higher_after over given jobs views moves)
 
+-- A priority waits in a state, where no alarm is owed: what is to be taken is of that priority or a higher one, and
+-- where nothing is to be taken the system ceiling reaches it.
+pub record IsWanted (app : App) (p : ℕ) (s : State) : Type 0 where
+  pub held : s.owing ≡ false → candidate app s ≡ None → p ≤ system_ceiling app s.jobs
+  pub first : s.owing ≡ false → (irq : ℕ) → candidate app s ≡ Some irq → p ≤ priority_of app irq
+
+-- it waits at each moment of these labels, up to the one that ends them
+abbrev pub WantedUntil : App → ℕ → (Label → Bool) → State → List Label → Type 0
+WantedUntil app p ends s [] = Unit {0}
+WantedUntil app p ends s (label ∷ labels) =
+    ends label ≡ false → IsWanted app p s × WantedUntil app p ends (after app s label) labels
+
+-- a priority waits that the system ceiling reaches
+pub wanted_below : (app : App) (p : ℕ) (s : State) → p ≤ system_ceiling app s.jobs → IsWanted app p s
+wanted_below app p s reach = record {
+  held = λ not_owing none. reach;
+  first = λ not_owing irq best. let over = starts_above app s irq best in omega arith;
+}
+
+-- and that of an interrupt that is pending
+pub wanted_pending : (app : App) (s : State) (irq : ℕ) (x : Service) → service_at app irq ≡ Some x
+    → slice_index_or s.pending irq false ≡ true → IsWanted app x.priority s
+wanted_pending app s irq x served pending = record {
+  held = λ not_owing none. held_off app s irq x served pending none;
+  first = λ not_owing other best. goes_first app s irq other x served pending best;
+}
+
+-- no alarm is owed where a job takes a step
+none_owed : (app : App) (s : State) (v : Observer) (label : Label) (seen : Seen) → May app s label
+    → stepper v label ≡ seen ∷ [] → s.owing ≡ false
+none_owed app s v (Arrived irq) seen may steps = may.0
+none_owed app s v Ticked seen may steps = may
+none_owed app s v Rang seen may steps = cc
+none_owed app s v (Stepped None) seen may steps = may.not_owing
+none_owed app s v (Stepped (Some (what.Take irq depth))) seen may steps = may.0
+none_owed app s v (Stepped (Some w)) seen may steps = may.0.not_owing
+
+-- while a priority waits, up to the label that ends it, all steps of lower jobs lie in the section entered in one step
+module _ (app : App) (accepted : IsAccepted app) (p : ℕ) (positive : 0 < p) (ends : Label → Bool) (entered : ℕ) where
+  abbrev waiting : Observer → List Label → List Seen
+  waiting v labels = lower p (steppers app ends v labels)
+
+  -- what is so behind a label
+  abbrev Follows : List Label → State → Observer → Type 0
+  Follows labels t u =
+      (left : ℕ) → Low app p entered left t.jobs u.jobs → Lie app p entered left (waiting u labels)
+
+  lie_more : (left : ℕ) (seen : Seen) (steps : List Seen)
+      → outermost app p seen.inside seen.since ≡ Some entered → 0 < left → Lie app p entered (left - 1) steps
+      → Lie app p entered left (seen ∷ steps)
+  lie_more left seen steps is some lie = let few = lie.1 in ((is, lie.0), omega arith)
+
+  waits : (labels : List Label) (s : State) (v : Observer) (left : ℕ) → StateWell app s v → RunsOn app s labels
+      → WantedUntil app p ends s labels → Low app p entered left s.jobs v.jobs
+      → Lie app p entered left (waiting v labels)
+  waits [] s v left well runs wanted low = (tt, omega arith)
+  waits (label ∷ labels) s v left well runs wanted low =
+      let comes = happens app accepted s v well label runs.0 in
+      one (ends label) refl comes
+      (λ goes_on left. waits labels (after app s label) (sees app v label) left
+      (after_well app accepted s v well label comes) runs.1 (wanted goes_on).1)
+    where
+      by : ends label ≡ false → Happens app s v label (after app s label) (sees app v label)
+          → Follows labels (after app s label) (sees app v label)
+          → Lie app p entered left (waiting v (label ∷ labels))
+      by goes_on (Quietly good jobs views none no_take return) next =
+          subst (λ steps. Lie app p entered left (lower p steps))
+          (sym (steppers_on app ends v label labels [] goes_on none))
+          (next left
+          (subst (λ js. Low app p entered left js (sees app v label).jobs) (sym jobs)
+          (subst (λ vs. Low app p entered left s.jobs vs) (sym views) low)))
+      by goes_on (ByTake j d job is good jobs views role priority best) next =
+          let first : p ≤ priority_of app j = (wanted goes_on).0.first (subst (May app s) is runs.0).0 j best in
+          subst (λ steps. Lie app p entered left (lower p steps))
+          (sym (steppers_on app ends v label labels [] goes_on (ap (stepper v) is)))
+          (next left
+          (subst (λ js. Low app p entered left js (sees app v label).jobs) (sym jobs)
+          (subst (λ vs. Low app p entered left (job ∷ s.jobs) vs) (sym views) (
+            λ lower. absurd (omega arith),
+            λ higher. low,
+          ))))
+      by goes_on (ByStep shown step steps no_take return) next =
+          two (took app p positive entered left step.job step.others step.seen step.seens step.well step.above
+          (subst (λ js. Low app p entered left js (step.seen ∷ step.seens)) step.jobs_are
+          (subst (λ vs. Low app p entered left s.jobs vs) step.views_are low))
+          (subst (λ js. p ≤ system_ceiling app js) step.jobs_are
+          ((wanted goes_on).0.held (none_owed app s v label step.seen runs.0 who) step.quiet))
+          step.may shown (after app s label).jobs (sees app v label).jobs step.led.moves)
+        where
+          who : stepper v label ≡ step.seen ∷ []
+          who = steps ∙ ap first_of step.views_are
+
+          two : Took app p positive entered left step.seen (after app s label).jobs (sees app v label).jobs
+              → Lie app p entered left (waiting v (label ∷ labels))
+          two (Higher over low_next) =
+              subst (λ steps. Lie app p entered left (lower p steps))
+              (sym (steppers_on app ends v label labels (step.seen ∷ []) goes_on who))
+              (subst (Lie app p entered left)
+              (sym (not_lower p step.seen (steppers app ends (sees app v label) labels) over)) (next left low_next))
+          two (Lower under is some low_next) =
+              subst (λ steps. Lie app p entered left (lower p steps))
+              (sym (steppers_on app ends v label labels (step.seen ∷ []) goes_on who))
+              (subst (Lie app p entered left)
+              (sym (is_lower p step.seen (steppers app ends (sees app v label) labels) under))
+              (lie_more left step.seen (waiting (sees app v label) labels) is some
+              (next (left - 1) low_next)))
+
+      one : (b : Bool) → ends label ≡ b → Happens app s v label (after app s label) (sees app v label)
+          → (ends label ≡ false → Follows labels (after app s label) (sees app v label))
+          → Lie app p entered left (waiting v (label ∷ labels))
+      one true ended comes next =
+          subst (λ steps. Lie app p entered left (lower p steps))
+          (sym (steppers_ended app ends v label labels ended)) (tt, omega arith)
+      one false goes_on comes next = by goes_on comes (next goes_on)
+
+module _ (app : App) (accepted : IsAccepted app) (p : ℕ) (positive : 0 < p) (ends : Label → Bool) where
+  fewer : (steps : List Seen) → length steps ≤ most_left app p
+      → (steps ≡ []) ⊎ (length steps < waiting_bound app p)
+  fewer [] less = inl refl
+  fewer (seen ∷ steps) less = inr (omega arith)
+
+  pub waits_once : (labels : List Label) (s : State) (v : Observer) → StateWell app s v → RunsOn app s labels
+      → WantedUntil app p ends s labels → p ≤ 2 ^ app.bits
+      → LieInOneSection app p (lower p (steppers app ends v labels))
+  waits_once labels s v well runs wanted top =
+      let start = low_start app p positive s.jobs v.jobs well.stack top in
+      let lie = waits app accepted p positive ends start.0 labels s v (most_left app p) well runs wanted start.1 in
+      record { entered = start.0; inside = lie.0; few = fewer (lower p (steppers app ends v labels)) lie.1 }
+
 module _ (app : App) (accepted : IsAccepted app) (irq : ℕ) (x : Service) (served : service_at app irq ≡ Some x) where
   abbrev p : ℕ
   p = x.priority
 
-  in_range : (1 ≤ p) × (p ≤ 2 ^ app.bits)
+  -- the priority of an interrupt that is served is one of the application
+  pub in_range : (1 ≤ p) × (p ≤ 2 ^ app.bits)
   in_range = let h = find_has (λ (s : Service). (s.irq < length app.irqs) × (1 ≤ s.priority)
       × (s.priority ≤ 2 ^ app.bits))
       _ (services app) x (accepted_are_sound app accepted).served served in (h.1, h.2)
 
-  abbrev waiting : Observer → List Label → List Seen
-  waiting v labels = lower p (steppers app (is_take irq) v labels)
-
-  lie_more : (entered left : ℕ) (seen : Seen) (steps : List Seen)
-      → outermost app p seen.inside seen.since ≡ Some entered → 0 < left → Lie app p entered (left - 1) steps
-      → Lie app p entered left (seen ∷ steps)
-  lie_more entered left seen steps is some lie = let few = lie.1 in ((is, lie.0), omega arith)
-
-  waits : (labels : List Label) (s : State) (v : Observer) (entered left : ℕ) → StateWell app s v → RunsOn app s labels
-      → is_pending v irq ≡ true → Low app p entered left s.jobs v.jobs
-      → Lie app p entered left (waiting v labels)
-  waits [] s v entered left well runs pending low = (tt, omega arith)
-  waits (label ∷ labels) s v entered left well runs pending low =
-      let comes = happens app accepted s v well label runs.0 in
-      by comes (λ left. waits labels (after app s label) (sees app v label) entered left
-      (after_well app accepted s v well label comes) runs.1)
-    where
-      by : Happens app s v label (after app s label) (sees app v label)
-          → ((left : ℕ) → is_pending (sees app v label) irq ≡ true
-          → Low app p entered left (after app s label).jobs (sees app v label).jobs
-          → Lie app p entered left (waiting (sees app v label) labels))
-          → Lie app p entered left (waiting v (label ∷ labels))
-      by (Quietly good jobs views none no_take return) next =
-          subst (λ steps. Lie app p entered left (lower p steps))
-          (sym (steppers_on app (is_take irq) v label labels [] (no_take irq) none))
-          (next left
-          (pending_stays app irq v label
-          (λ j d is same. true_and_false (is_take irq label) (ap (is_take irq) is ∙ eq-eqb j irq same)
-          (no_take irq)) pending)
-          (subst (λ js. Low app p entered left js (sees app v label).jobs) (sym jobs)
-          (subst (λ vs. Low app p entered left s.jobs vs) (sym views) low)))
-      by (ByTake j d job is good jobs views role priority best) next = one (j == irq) refl
-        where
-          one : (b : Bool) → (j == irq) ≡ b → Lie app p entered left (waiting v (label ∷ labels))
-          one true own =
-              subst (λ steps. Lie app p entered left (lower p steps))
-              (sym (steppers_ended app (is_take irq) v label labels (ap (is_take irq) is ∙ own))) (tt, omega arith)
-          one false other =
-              let first : p ≤ priority_of app j =
-              goes_first app s irq j x served
-              (ap (λ ps. slice_index_or ps irq false) (sym well.pending) ∙ pending) best in
-              subst (λ steps. Lie app p entered left (lower p steps))
-              (sym (steppers_on app (is_take irq) v label labels [] (ap (is_take irq) is ∙ other)
-              (ap (stepper v) is)))
-              (next left
-              (pending_stays app irq v label
-              (λ k e also same. true_and_false (j == irq)
-              (sym (ap (is_take irq) is) ∙ ap (is_take irq) also ∙ eq-eqb k irq same) other) pending)
-              (subst (λ js. Low app p entered left js (sees app v label).jobs) (sym jobs)
-              (subst (λ vs. Low app p entered left (job ∷ s.jobs) vs) (sym views) (
-                λ lower. absurd (omega arith),
-                λ higher. low,
-              ))))
-      by (ByStep shown step steps no_take return) next =
-          two (took app p in_range.0 entered left step.job step.others step.seen step.seens step.well step.above
-          (subst (λ js. Low app p entered left js (step.seen ∷ step.seens)) step.jobs_are
-          (subst (λ vs. Low app p entered left s.jobs vs) step.views_are low))
-          (subst (λ js. p ≤ system_ceiling app js) step.jobs_are
-          (held_off app s irq x served (ap (λ ps. slice_index_or ps irq false) (sym well.pending) ∙ pending)
-          step.quiet))
-          step.may shown (after app s label).jobs (sees app v label).jobs step.led.moves)
-        where
-          stays : is_pending (sees app v label) irq ≡ true
-          stays = pending_stays app irq v label
-              (λ j d is same. true_and_false (is_take irq label) (ap (is_take irq) is ∙ eq-eqb j irq same)
-              (no_take irq)) pending
-
-          who : stepper v label ≡ step.seen ∷ []
-          who = steps ∙ ap first_of step.views_are
-
-          two : Took app p in_range.0 entered left step.seen (after app s label).jobs (sees app v label).jobs
-              → Lie app p entered left (waiting v (label ∷ labels))
-          two (Higher over low_next) =
-              subst (λ steps. Lie app p entered left (lower p steps))
-              (sym (steppers_on app (is_take irq) v label labels (step.seen ∷ []) (no_take irq) who))
-              (subst (Lie app p entered left)
-              (sym (not_lower p step.seen (steppers app (is_take irq) (sees app v label) labels) over))
-              (next left stays low_next))
-          two (Lower under is some low_next) =
-              subst (λ steps. Lie app p entered left (lower p steps))
-              (sym (steppers_on app (is_take irq) v label labels (step.seen ∷ []) (no_take irq) who))
-              (subst (Lie app p entered left)
-              (sym (is_lower p step.seen (steppers app (is_take irq) (sees app v label) labels) under))
-              (lie_more entered left step.seen (waiting (sees app v label) labels) is some
-              (next (left - 1) stays low_next)))
+  wanted_until : (labels : List Label) (s : State) (v : Observer) → StateWell app s v → RunsOn app s labels
+      → is_pending v irq ≡ true → WantedUntil app p (is_take irq) s labels
+  wanted_until [] s v well runs pending = tt
+  wanted_until (label ∷ labels) s v well runs pending = λ goes_on. (
+    wanted_pending app s irq x served (ap (λ ps. slice_index_or ps irq false) (sym well.pending) ∙ pending),
+    wanted_until labels (after app s label) (sees app v label)
+        (after_well app accepted s v well label (happens app accepted s v well label runs.0)) runs.1
+        (pending_stays app irq v label
+        (λ j d is same. true_and_false (is_take irq label) (ap (is_take irq) is ∙ eq-eqb j irq same) goes_on)
+        pending),
+  )
 
   pub waits_well : (labels : List Label) (s : State) (v : Observer) → StateWell app s v → RunsOn app s labels
-      → is_pending v irq ≡ true → LieInOneSection app p (waiting v labels)
+      → is_pending v irq ≡ true → LieInOneSection app p (lower p (steppers app (is_take irq) v labels))
   waits_well labels s v well runs pending =
-      let start = low_start app p in_range.0 s.jobs v.jobs well.stack in_range.1 in
-      let lie = waits labels s v start.0 (waiting_bound app p) well runs pending start.1 in
-      record { entered = start.0; inside = lie.0; few = lie.1 }
+      waits_once app accepted p in_range.0 (is_take irq) labels s v well runs
+      (wanted_until labels s v well runs pending) in_range.1

@@ -29,10 +29,14 @@ use Rattle.rt_laws.proofs.Outermost.{Behind, behind_is}
 abbrev pub WithinAll : App → Role → ℕ → List Section → Type 0
 WithinAll app role q xs = AllByRecursion (λ x. Within role q (ceiling app x)) xs
 
--- of each priority above it that there is, the outermost section that holds it off has no more left than the bound
+-- What a section that holds a priority off has left at most, behind its `enter`, which is one of its steps.
+abbrev pub most_left : App → ℕ → ℕ
+most_left app p = waiting_bound app p - 1
+
+-- of each priority above it that there is, the outermost section that holds it off has no more left than that
 abbrev pub IsBounded : App → ℕ → List Section → List ℕ → Type 0
 IsBounded app q xs ns = (p : ℕ) → q < p → p ≤ 2 ^ app.bits
-    → IfSome (outermost app p xs ns) (λ left. left ≤ waiting_bound app p)
+    → IfSome (outermost app p xs ns) (λ left. left ≤ most_left app p)
 
 pub record JobWell (app : App) (job : Job) (seen : Seen) : Type 0 where
   pub priority : seen.priority ≡ job.priority
@@ -132,11 +136,11 @@ module _ (app : App) where
 
     bounded_spent : IsBounded app job.priority job.sections (map (λ n. n - 1) job.lefts)
     bounded_spent p above top =
-        subst (λ o. IfSome o (λ left. left ≤ waiting_bound app p))
+        subst (λ o. IfSome o (λ left. left ≤ most_left app p))
         (sym (outermost_map app p (λ n. n - 1) job.sections job.lefts))
-        (if_some-map (λ n. n - 1) (λ left. left ≤ waiting_bound app p) (outermost app p job.sections job.lefts)
+        (if_some-map (λ n. n - 1) (λ left. left ≤ most_left app p) (outermost app p job.sections job.lefts)
         (if_some_weaker (outermost app p job.sections job.lefts)
-        (λ n (less : n ≤ waiting_bound app p). less_one n (waiting_bound app p) less) (well.bounded p above top)))
+        (λ n (less : n ≤ most_left app p). less_one n (most_left app p) less) (well.bounded p above top)))
       where
         less_one : (n w : ℕ) → n ≤ w → n - 1 ≤ w
         less_one n w less = omega arith
@@ -193,13 +197,13 @@ module _ (app : App) where
       fine = fine;
       within = (enters.within, well.within);
       bounded = λ p above top.
-          outermost_more app p (λ left. left ≤ waiting_bound app p) x (cost - 1) job.sections
+          outermost_more app p (λ left. left ≤ most_left app p) x (cost - 1) job.sections
           (map (λ n. n - 1) job.lefts) lefts_spent (omega arith)
           (λ outer within. less cost (waiting_bound app p) (enters.counted p above top outer within))
           (bounded_spent p above top);
     }
       where
-        less : (n w : ℕ) → n ≤ w → n - 1 ≤ w
+        less : (n w : ℕ) → n ≤ w → n - 1 ≤ w - 1
         less n w h = omega arith
 
     pub enters_nearer : (x : Section) (cost step : ℕ) (rest : Doing Values)
@@ -229,7 +233,7 @@ module _ (app : App) where
           ∙ sym (length-drop 1 job.sections);
       fine = fine;
       within = all_drop (λ x. Within job.role job.priority (ceiling app x)) 1 job.sections well.within;
-      bounded = λ p above top. outermost_drop app p (λ left. left ≤ waiting_bound app p) job.sections
+      bounded = λ p above top. outermost_drop app p (λ left. left ≤ most_left app p) job.sections
           (map (λ n. n - 1) job.lefts) lefts_spent (bounded_spent p above top);
     }
 

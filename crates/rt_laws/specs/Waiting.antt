@@ -3,8 +3,8 @@
 -- of one job, and not once it has started). Said of what is seen alone: who takes the steps between the moment an
 -- interrupt becomes pending and its take. The steps of `init` are never those of a lower job, since it has the
 -- greatest priority; so what passes before its end does not count.
-use Rattle.std.specs.Prelude.{◌≡◌, ℕ, ◌≤◌, ◌==◌, nat_lt, nat_le, Bool, true, false, if◌then◌else◌, List, [], ◌∷◌, ◌++◌}
-use Rattle.std.specs.Prelude.{length, take, filter, slice_index_or, Option, Some, None}
+use Rattle.std.specs.Prelude.{◌≡◌, ℕ, ◌<◌, ◌==◌, ◌⊎◌, nat_lt, nat_le, Bool, true, false, if◌then◌else◌, List, [], ◌∷◌}
+use Rattle.std.specs.Prelude.{◌++◌, length, take, filter, slice_index_or, Option, Some, None}
 use Rattle.std.specs.List.{AllByRecursion}
 use Rattle.rt_ids.specs.declared.ids.Section.{Section}
 use Rattle.rt_trace.specs.Label.{Label, Stepped}
@@ -53,19 +53,20 @@ abbrev pub outermost : App → ℕ → List Section → List ℕ → Option ℕ
 outermost app p (x ∷ xs) (n ∷ ns) = outer_or n (nat_le p (ceiling app x)) (outermost app p xs ns)
 outermost app p xs ns = None
 
--- these steps lie in one section, named by the step in which it was entered, which is outermost among those of its
--- job that hold the priority off; and they are no more than the waiting bound
+-- These steps lie in one section, named by the step in which it was entered, which is outermost among those of its job
+-- that hold the priority off; and they are none, or fewer than the waiting bound. The `enter` is one of the steps of
+-- the section, and comes before the waiting.
 pub record LieInOneSection (app : App) (p : ℕ) (steps : List Seen) : Type 0 where
   pub entered : ℕ
   pub inside : AllByRecursion (λ job. outermost app p job.inside job.since ≡ Some entered) steps
-  pub few : length steps ≤ waiting_bound app p
+  pub few : (steps ≡ []) ⊎ (length steps < waiting_bound app p)
 
 -- whether an interrupt is pending, as far as is seen
 abbrev pub is_pending : Observer → ℕ → Bool
 is_pending v irq = slice_index_or v.pending irq false
 
 -- for each enabled interrupt that becomes pending at this label and was not before: all steps that lower jobs take
--- until its take lie in one section, within the waiting bound
+-- until its take lie in one section, and are none or fewer than the waiting bound
 abbrev pub WaitsWell : App → Observer → Label → List Label → Type 0
 WaitsWell app v label labels =
     (irq : ℕ) (s : Service) → service_at app irq ≡ Some s → is_pending v irq ≡ false

@@ -14,8 +14,8 @@ pub fn candidates_are_highest()
 {}
 
 /// Every run of an accepted application keeps sections exclusive, finds no section taken, and lets no interrupt wait
-/// for more than one outermost section of one lower job, within the waiting bound. Each section that is left is the one
-/// that the running job entered last, and no job returns, and no body ends, inside a section.
+/// for more than one outermost section of one lower job, in fewer steps than the waiting bound, if in any. Each section
+/// that is left is the one that the running job entered last, and no job returns, and no body ends, inside a section.
 pub fn runs_keep_laws()
     ensures { RunsKeepLaws }
 {}

@@ -78,7 +78,7 @@ module _ (app : App) (accepted : IsAccepted app) (form : has_response_times app 
         short_of = omega arith;
         counts = λ irq. 0;
         entered = start.0;
-        left = wait;
+        left = wait - 1;
         low = start.1;
         owing = omega (arith, none, raised_none app p app.tasks);
         fits = λ irq. fits_start (every_of limits irq) (waits irq) (short irq);
