@@ -11,6 +11,7 @@ use Rattle.rt_laws.proofs.Placed.{places_counted}
 use Rattle.rt_laws.proofs.MessagesByItems.{messages_by_items}
 use Rattle.rt_laws.proofs.ReadyRuns.{ready_served}
 use Rattle.rt_laws.proofs.TimerRuns.{due_served}
+use Rattle.rt_laws.proofs.MessagesWaiting.{messages_wait_once}
 
 front_runs_on : (app : App) (n : ℕ) (labels : List Label) (s : State) → RunsOn app s labels
     → RunsOn app s (take n labels)
@@ -27,6 +28,7 @@ runs_keep_messages app accepted labels runs = record {
   by_items = messages_by_items app accepted labels runs;
   ready_served = λ n. ready_served app accepted (take n labels) (until n);
   due_served = λ n. due_served app accepted (take n labels) (until n);
+  wait_once = messages_wait_once app accepted labels runs;
 }
   where
     until : (n : ℕ) → RunsOn app (first app) (take n labels)

@@ -1,8 +1,8 @@
 -- What serves the interrupt of a dispatcher is the dispatcher, and what serves that of the monotonic its handler.
 use Rattle.std.proofs.Common.{◌≡◌, ℕ, ◌<◌, ◌==◌, Contains, List, [], ◌∷◌, ◌++◌, map, slice_get, flat_map, Option, Some}
-use Rattle.std.proofs.Common.{None, option_map, IsSome, refl, sym, ap, subst, ◌∙◌, inl, inr}
+use Rattle.std.proofs.Common.{None, option_map, IsSome, refl, sym, ap, subst, ◌∙◌, inl, inr, eq-eqb}
 use Rattle.std.proofs.lemmas.Option.{same_Some}
-use Rattle.rt_lemmas.proofs.Lists.{some_at, mapped_at, find_has}
+use Rattle.rt_lemmas.proofs.Lists.{some_at, mapped_at, find_has, found}
 use Rattle.rt_lemmas.proofs.Membership.{all_at, contains_at, contains_here, contains_cases, contains_none}
 use Rattle.rt_ids.specs.Lists.{or_zero, then_from, is_some_and}
 use Rattle.rt_ids.specs.Choice.{IsIn}
@@ -56,6 +56,14 @@ module _ (app : App) (accepted : IsAccepted app) where
       (mapped_at (λ s. s.irq) (services app) is.0 w is.1) in
       same_Some v w (sym there.1 ∙ ap (λ i. slice_get (services app) i) same ∙ is.1)
 
+  -- and it is that
+  served_as : (irq : ℕ) (w : Service) → IsIn (services app) w → irq_number app w.irq ≡ Some irq
+      → service_at app irq ≡ Some w
+  served_as irq w is number =
+      let one = found (λ (s : Service). is_some_and (λ n. n == irq) (irq_number app s.irq)) (services app) is.0 w is.1
+      (ap (is_some_and (λ n. n == irq)) number ∙ eq-eqb irq irq refl) in
+      one.1 ∙ ap Some (only_service irq one.0 w is number one.1)
+
   abbrev dispatching : ℕ → List Service
   dispatching p = dispatcher_service p (dispatcher_of app p)
 
@@ -85,6 +93,24 @@ module _ (app : App) (accepted : IsAccepted app) where
           let same : v ≡ w = only_service row.0.number v w there number
           (subst (λ n. service_at app n ≡ Some v) (ap or_zero number) at) in
           (ap (λ (s : Service). s.handler) same, ap (λ (s : Service). s.priority) same)
+
+  -- the interrupt of a level's dispatcher is served, at that level
+  pub dispatcher_served : (p : ℕ) → Contains (levels app) p
+      → (v : Service) × (service_at app (dispatcher_number app p) ≡ Some v) × (v.priority ≡ p)
+  dispatcher_served p level = go (dispatcher_of app p) refl (sound.dispatched p level)
+    where
+      go : (o : Option ℕ) → dispatcher_of app p ≡ o → IsSome o
+          → (v : Service) × (service_at app (or_zero (then_from o (irq_number app))) ≡ Some v) × (v.priority ≡ p)
+      go None own some = absurd (cc)
+      go (Some i) own some =
+          let w : Service = record { irq = i; handler = Dispatches p; priority = p } in
+          let there : IsIn (services app) w = dispatcher_in p i level own in
+          let row = some_at app.irqs i (all_at _ (services app) there.0 w sound.served there.1).0 in
+          let number : irq_number app i ≡ Some row.0.number = ap (option_map (λ d. d.number)) row.1 in (
+            w,
+            subst (λ n. service_at app n ≡ Some w) (sym (ap or_zero number)) (served_as row.0.number w there number),
+            refl,
+          )
 
   pub dispatcher_small : (p : ℕ) → Contains (levels app) p → dispatcher_number app p < IRQ_NUMBERS
   dispatcher_small p level = go (dispatcher_of app p) refl (sound.dispatched p level)
@@ -125,6 +151,15 @@ module _ (app : App) (accepted : IsAccepted app) where
         let same : v ≡ timer = only_service timer_row.0 v timer timer_in timer_row.1
         (subst (λ n. service_at app n ≡ Some v) (timer_is timer_row.0 timer_row.1) at) in
         (ap (λ (s : Service). s.handler) same, ap (λ (s : Service). s.priority) same)
+
+    -- the interrupt of the monotonic is served, at its priority
+    pub timer_served : (v : Service) × (service_at app (timer_number app) ≡ Some v) × (v.priority ≡ mono.priority)
+    timer_served = (
+      timer,
+      subst (λ n. service_at app n ≡ Some timer) (sym (timer_is timer_row.0 timer_row.1))
+          (served_as timer_row.0 timer timer_in timer_row.1),
+      refl,
+    )
 
     pub timer_small : timer_number app < IRQ_NUMBERS
     timer_small = subst (λ n. n < IRQ_NUMBERS) (sym (timer_is timer_row.0 timer_row.1)) timer_row.2

@@ -11,7 +11,7 @@ use Rattle.rt_laws.specs.State.{Role, Init, Idle, Waiting, Serving, Job, State, 
 use Rattle.rt_laws.specs.Preemption.{system_ceiling}
 use Rattle.rt_laws.specs.Allowed.{May, after}
 use Rattle.rt_laws.specs.Run.{RunsOn}
-use Rattle.rt_laws.specs.Observer.{Seen, Observer, first_sight, sees}
+use Rattle.rt_laws.specs.Observer.{Seen, Observer, first_sight, sees, sees_all}
 use Rattle.rt_laws.specs.Waiting.{WaitsWell, ServesWell}
 use Rattle.rt_laws.specs.Properties.{AtEach, AreExclusive, FindsFree, LeavesInnermost, IsOutsideAtReturn}
 use Rattle.rt_laws.specs.Properties.{IsOutsideAtEnd}
@@ -101,17 +101,19 @@ highest_first app (job ∷ others) (seen ∷ seens) stack = by job.role stack.1
     by (Serving irq) above = below_ceiling app job.priority others above.1
 
 -- what is well stays so, behind the labels of a run
-well_after : (app : App) → IsAccepted app → (labels : List Label) (s : State) (v : Observer) → StateWell app s v
-    → RunsOn app s labels → (u : Observer) × StateWell app (after_all app s labels) u
-well_after app accepted [] s v well runs = (v, well)
+pub well_after : (app : App) → IsAccepted app → (labels : List Label) (s : State) (v : Observer) → StateWell app s v
+    → RunsOn app s labels → StateWell app (after_all app s labels) (sees_all app v labels)
+well_after app accepted [] s v well runs = well
 well_after app accepted (label ∷ labels) s v well runs =
     well_after app accepted labels (after app s label) (sees app v label)
     (next_well app accepted s v label well runs.0) runs.1
 
 pub run_well : (app : App) → IsAccepted app → (labels : List Label) → RunsOn app (first app) labels
     → (u : Observer) × StateWell app (after_all app (first app) labels) u
-run_well app accepted labels runs =
-    well_after app accepted labels (first app) (first_sight app) (first_well app accepted) runs
+run_well app accepted labels runs = (
+  sees_all app (first_sight app) labels,
+  well_after app accepted labels (first app) (first_sight app) (first_well app accepted) runs,
+)
 
 pub the_highest_runs : TheHighestRuns
 the_highest_runs app accepted labels runs =

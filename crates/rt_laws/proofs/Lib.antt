@@ -43,4 +43,6 @@ pub mod TimerSteps
 pub mod TimerRuns
 pub mod ByItems
 pub mod Silent
+pub mod ReadyCounted
+pub mod MessagesWaiting
 pub mod AllMoments

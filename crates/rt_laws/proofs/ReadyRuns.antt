@@ -50,7 +50,7 @@ module _ (app : App) (accepted : IsAccepted app) (p : ℕ) (of_level : Contains 
   abbrev dispatcher : ℕ
   dispatcher = dispatcher_number app p
 
-  first_kept : KeepsState app p (first app)
+  pub first_kept : KeepsState app p (first app)
   first_kept = record {
     long = refl;
     all = (
@@ -164,7 +164,7 @@ module _ (app : App) (accepted : IsAccepted app) (p : ℕ) (of_level : Contains 
           job.priority job.left job.sections job.lefts others seen stack.1 keeps.all.1 job.rest stack.0 order.0
           posted outer in_it out known good w is
 
-  next_kept : (s : State) (v : Observer) (label : Label) → StateWell app s v → KeepsState app p s → May app s label
+  pub next_kept : (s : State) (v : Observer) (label : Label) → StateWell app s v → KeepsState app p s → May app s label
       → KeepsState app p (after app s label)
   next_kept s v (Arrived irq) well keeps may = posts_kept app p s.pending s.values s.jobs irq keeps
   next_kept s v Ticked well keeps may = keeps
@@ -175,7 +175,7 @@ module _ (app : App) (accepted : IsAccepted app) (p : ℕ) (of_level : Contains 
   next_kept s v (Stepped (Some w)) well keeps may =
       given_kept s s.jobs v.jobs well.stack well.queued well.order may.0.step w may.1 keeps
 
-  all_served : (labels : List Label) (s : State) (v : Observer) → StateWell app s v → KeepsState app p s
+  pub all_served : (labels : List Label) (s : State) (v : Observer) → StateWell app s v → KeepsState app p s
       → RunsOn app s labels → KeepsState app p (after_all app s labels)
   all_served [] s v well keeps runs = keeps
   all_served (label ∷ labels) s v well keeps runs =

@@ -56,7 +56,7 @@ module _ (app : App) (accepted : IsAccepted app) (mono : Mono) (timed : app.mono
   abbrev timer : ℕ
   timer = timer_number app
 
-  first_kept : KeepsState app (first app)
+  pub first_kept : KeepsState app (first app)
   first_kept = record {
     owed = refl;
     keeps = record {
@@ -188,7 +188,7 @@ module _ (app : App) (accepted : IsAccepted app) (mono : Mono) (timed : app.mono
           job.priority job.left job.sections job.lefts others seen stack.1 kept.all.1 job.rest stack.0 order.0
           set outer in_it out known good w is
 
-  next_kept : (s : State) (v : Observer) (label : Label) → StateWell app s v → KeepsState app s → May app s label
+  pub next_kept : (s : State) (v : Observer) (label : Label) → StateWell app s v → KeepsState app s → May app s label
       → KeepsState app (after app s label)
   next_kept s v (Arrived irq) well kept may =
       record { owed = kept.owed; keeps = posts_kept app s.pending s.alarm s.values s.jobs irq kept.keeps }
@@ -206,7 +206,7 @@ module _ (app : App) (accepted : IsAccepted app) (mono : Mono) (timed : app.mono
       given_kept s s.jobs v.jobs well.stack well.queued well.order may.0.not_owing may.0.step w may.1 kept.keeps
       kept.owed
 
-  all_served : (labels : List Label) (s : State) (v : Observer) → StateWell app s v → KeepsState app s
+  pub all_served : (labels : List Label) (s : State) (v : Observer) → StateWell app s v → KeepsState app s
       → RunsOn app s labels → KeepsState app (after_all app s labels)
   all_served [] s v well kept runs = kept
   all_served (label ∷ labels) s v well kept runs =

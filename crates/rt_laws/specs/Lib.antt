@@ -14,9 +14,10 @@ pub mod Queues
 pub mod Handles
 pub mod Served
 pub mod Places
+pub mod Instants
+pub mod MessagesWaiting
 pub mod MessagesByItems
 pub mod Messages
 pub mod Unspent
-pub mod Instants
 pub mod Counts
 pub mod Laws

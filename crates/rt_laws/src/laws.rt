@@ -53,7 +53,9 @@ pub fn fronts_are_runs()
 /// and ready. At each beginning of the items the counts of each task, the order of each level's starts and what is armed
 /// still are so by what is shown alone. Where messages are ready and no job has the section of their queue open, the
 /// dispatcher of their level is pending, or has started and is about to enter that section. Where messages are due, no
-/// alarm is owed and no job has the section of the timer queue open, the same holds of the monotonic's handler.
+/// alarm is owed and no job has the section of the timer queue open, the same holds of the monotonic's handler. Each
+/// message waits for no more than one outermost section of one lower job from its `ready` until its start, and from the
+/// moment at which it is due until it fires, in fewer steps than the waiting bound, if in any.
 pub fn runs_keep_messages()
     ensures { RunsKeepMessages }
 {}
