@@ -6,6 +6,7 @@ pub mod RowsQueues
 pub mod RowsServed
 pub mod RowsHandles
 pub mod RowsPlaces
+pub mod RowsWaiting
 pub mod Outermost
 pub mod Handled
 pub mod Fine
