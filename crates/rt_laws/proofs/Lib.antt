@@ -47,3 +47,4 @@ pub mod Silent
 pub mod ReadyCounted
 pub mod MessagesWaiting
 pub mod AllMoments
+pub mod Durations

@@ -9,6 +9,7 @@ pub mod ByItems
 pub mod Observer
 pub mod Waiting
 pub mod Properties
+pub mod Durations
 pub mod Silent
 pub mod Queues
 pub mod Handles

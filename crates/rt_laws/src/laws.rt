@@ -1,5 +1,6 @@
 ghost use Rattle.rt_laws.specs.ByItems.{FrontsAreRuns, RunsAreByItems};
 ghost use Rattle.rt_laws.specs.Counts.{CountsRiseByOne};
+ghost use Rattle.rt_laws.specs.Durations.{StepsTakeTime, TicksAreFew, WaitsAreShortInTime};
 ghost use Rattle.rt_laws.specs.Instants.{EqualInstantsFireInOrder};
 ghost use Rattle.rt_laws.specs.Messages.{RunsKeepMessages};
 ghost use Rattle.rt_laws.specs.Laws.{JudgedTracesKeepLaws, RunsKeepLaws, TheHighestRuns};
@@ -68,4 +69,25 @@ pub fn equal_instants_fire_in_order()
 /// The time, and how many handles, moves and places there are, rise by one at most with each label of a run.
 pub fn counts_rise_by_one()
     ensures { CountsRiseByOne }
+{}
+
+/// Where each core step has a duration of its own, so many steps take so many times the longest duration at most, and
+/// labels that take as long have as many steps.
+#[tactic(auto, using(crate::proofs::Durations::steps_take_time))]
+pub fn steps_take_time()
+    ensures { StepsTakeTime }
+{}
+
+/// Of the time that an interrupt waits, lower jobs take no more than the waiting bound times the longest that one core
+/// step lasts.
+#[tactic(auto, using(crate::proofs::Durations::waits_are_short_in_time))]
+pub fn waits_are_short_in_time()
+    ensures { WaitsAreShortInTime }
+{}
+
+/// Where at least so many core steps lie between two ticks, steps see as many ticks as that goes into them, and one
+/// more at most; and right behind a tick no more than that.
+#[tactic(auto, using(crate::proofs::Durations::ticks_are_few))]
+pub fn ticks_are_few()
+    ensures { TicksAreFew }
 {}
