@@ -25,7 +25,7 @@ use Rattle.rt_rta.specs.Limits.{number_of, every_of, AreLimits}
 use Rattle.rt_rta.specs.Response.{most_requests, requests, handling_steps, task_demand, demand, Suffices, IsResponse}
 use Rattle.rt_rta.specs.Response.{AreResponseTimes}
 use Rattle.rt_rta.specs.Inside.Loads.{load_of, task_loads, loads, load_demand, loads_demand}
-use Rattle.rt_rta.proofs.Responding.{positive_row}
+use Rattle.rt_rta.proofs.Beginning.{positive_row}
 use Rattle.rt_rta.specs.Inside.Least.{IsSmall, IsEnough, IsLeast, IsTimeOf, AreTimesOf}
 
 pub if_ok_weaker : {A E : Type 0} (r : Result A E) (P Q : A → Type 0) → ((x : A) → P x → Q x) → IfOk r P → IfOk r Q

@@ -1,3 +1,4 @@
+pub mod OnceInitEnds
 pub mod Spacing
 pub mod Quiet
 pub mod Tasks
@@ -5,6 +6,8 @@ pub mod Owing
 pub mod Spending
 pub mod Stepping
 pub mod Walk
+pub mod Beginning
+pub mod InTime
 pub mod Responding
 pub mod Least
 pub mod Telling

@@ -1,12 +1,10 @@
 -- The core steps that are owed to a priority: what its started jobs and the higher ones have left, and the whole
 -- handling of each of their interrupts that is pending.
-use Rattle.std.proofs.Common.{◌≡◌, ℕ, zero, suc, ◌+◌, ◌*◌, ◌≤◌, ◌<◌, ◌==◌, ◌≢◌, ◌⊎◌, inl, inr, Bool, true, false}
-use Rattle.std.proofs.Common.{nat_le, if◌then◌else◌, List, [], ◌∷◌, get_or, slice_get, slice_set, slice_index_or}
-use Rattle.std.proofs.Common.{Option, Some, None, refl, sym, ap, subst, ◌∙◌, arith, eq-eqb}
+use Rattle.std.proofs.Common.{◌≡◌, ℕ, zero, suc, ◌+◌, ◌*◌, ◌≤◌, ◌<◌, ◌==◌, Bool, true, false}
+use Rattle.std.proofs.Common.{nat_le, if◌then◌else◌, List, [], ◌∷◌, slice_get, slice_set, slice_index_or}
+use Rattle.std.proofs.Common.{Option, Some, None, refl, ap, ◌∙◌, arith, eq-eqb}
 use Rattle.std.specs.Prelude.{sum_by}
-use Rattle.std.proofs.lemmas.Bool.{eqb-true, leb-true, leb-false, le-leb}
-use Rattle.std.proofs.lemmas.Bool.Decides.{eqb_tells}
-use Rattle.std.proofs.lemmas.List.{get_or-set_other}
+use Rattle.std.proofs.lemmas.Bool.{eqb-true, leb-true, le-leb}
 use Rattle.std.proofs.lemmas.List.Sums.{sum_by-cons}
 use Rattle.std.proofs.lemmas.Option.{same_Some, none-some}
 use Rattle.std.proofs.Math.Nat.{mul-le-mul_right}
@@ -17,7 +15,7 @@ use Rattle.rt_laws.specs.State.{Job, State}
 use Rattle.rt_laws.specs.Preemption.{system_ceiling}
 use Rattle.rt_rta.specs.declared.limits.Limit.{Limit}
 use Rattle.rt_rta.specs.Limits.{number_of, every_of}
-use Rattle.rt_rta.specs.Response.{requests, handling_steps, task_demand, demand}
+use Rattle.rt_rta.specs.Response.{requests, handling_steps, task_demand}
 
 -- as many as this, where the priority is at least the priority
 abbrev pub at_priority : ℕ → ℕ → ℕ → ℕ
@@ -49,12 +47,16 @@ counted counts (Some n) = counts n
 abbrev pub one_more : ℕ → Counts → Counts
 one_more irq counts k = if k == irq then suc (counts k) else counts k
 
+-- each pending interrupt once
+abbrev pub once : List Bool → Counts
+once pending k = if slice_index_or pending k false then 1 else 0
+
 cleared : (xs : List Bool) (i : ℕ) → slice_index_or (slice_set xs i false) i false ≡ false
 cleared [] i = refl
 cleared (x ∷ xs) zero = refl
 cleared (x ∷ xs) (suc i) = cleared xs i
 
-other_set : (xs : List Bool) (i j : ℕ) (b : Bool) → ¬ (j ≡ i) → slice_index_or (slice_set xs i b) j false
+pub other_set : (xs : List Bool) (i j : ℕ) (b : Bool) → ¬ (j ≡ i) → slice_index_or (slice_set xs i b) j false
     ≡ slice_index_or xs j false
 other_set [] i j b differs = refl
 other_set (x ∷ xs) zero zero b differs = absurd (differs refl)
@@ -297,3 +299,20 @@ module _ (app : App) (p : ℕ) where
       of : (o : Option ℕ) → counted (λ irq. 0) o * handling_steps app t ≡ 0
       of None = omega arith
       of (Some n) = omega arith
+
+  -- what is pending owes what its requests ask for, where each was made once
+  pub pending_raises : (pending : List Bool) (ts : List Task) → owed_pending pending ts ≤ raised (once pending) ts
+  pending_raises pending [] = omega arith
+  pending_raises pending (t ∷ ts) =
+      let rest = pending_raises pending ts in
+      let here : owed_to pending t ≤ raised_by (once pending) t =
+      one_less (nat_le p t.priority) _ _ (of (number_of app t)) in
+      omega (arith, rest, here)
+    where
+      by : (b : Bool) → (if b then handling_steps app t else 0) ≤ (if b then 1 else 0) * handling_steps app t
+      by true = omega arith
+      by false = omega arith
+
+      of : (o : Option ℕ) → asked pending o (handling_steps app t) ≤ counted (once pending) o * handling_steps app t
+      of None = omega arith
+      of (Some n) = by (slice_index_or pending n false)

@@ -1,164 +1,49 @@
 -- Each request is served within the response time of its priority.
-use Rattle.std.proofs.Common.{◌≡◌, ℕ, zero, suc, ◌+◌, ◌-◌, ◌≤◌, ◌<◌, ◌^◌, ◌==◌, ◌⊎◌, inl, inr, Bool, true, false}
-use Rattle.std.proofs.Common.{if◌then◌else◌, List, [], ◌∷◌, ◌++◌, Contains, length, map, replicate, slice_index_or}
-use Rattle.std.proofs.Common.{take, find, Option, Some, None, refl, sym, ap, subst, ◌∙◌, arith, eq-eqb}
-use Rattle.std.specs.List.{AllByRecursion}
+use Rattle.std.proofs.Common.{◌≡◌, ℕ, zero, suc, ◌+◌, ◌-◌, ◌≤◌, ◌<◌, ◌^◌, ◌==◌, inl, inr, Bool, true, false}
+use Rattle.std.proofs.Common.{if◌then◌else◌, List, [], ◌∷◌, ◌++◌, Contains, length, slice_index_or}
+use Rattle.std.proofs.Common.{Option, Some, refl, sym, ap, subst, ◌∙◌, arith, eq-eqb}
 use Rattle.std.proofs.lemmas.Bool.{eqb-true}
-use Rattle.std.proofs.lemmas.Option.{same_Some, none-some}
-use Rattle.std.proofs.lemmas.List.{length-set, length-replicate, get_or-set_same}
+use Rattle.std.proofs.lemmas.Option.{same_Some}
+use Rattle.std.proofs.lemmas.List.{get_or-set_same}
 use Rattle.rt_lemmas.proofs.Bools.{true_and_false}
 use Rattle.rt_lemmas.proofs.Lists.{find_has}
-use Rattle.rt_lemmas.proofs.Membership.{contains_cases, contains_none, all_at, any_one}
-use Rattle.rt_ids.specs.Lists.{is_some_and}
-use Rattle.rt_ids.specs.declared.ids.BodyId.TheVariants as body
 use Rattle.rt_ids.specs.declared.limits.TheConstants.{IRQ_NUMBERS}
 use Rattle.rt_trace.specs.Label.{Label, Arrived, Ticked, Rang, Stepped, steps_of}
 use Rattle.rt_trace.specs.declared.item.What.{What}
-use Rattle.rt_trace.specs.declared.item.What.TheVariants as what
 use Rattle.rt_app.specs.Tree.{App}
 use Rattle.rt_app.specs.Accepted.{IsAccepted}
 use Rattle.rt_app.specs.Forms.{has_response_times}
 use Rattle.rt_app.specs.Handlers.{Service, services}
 use Rattle.rt_app.proofs.Sound.{accepted_are_sound}
-use Rattle.rt_laws.specs.Services.{is_declared, service_at, priority_of, timer_number}
-use Rattle.rt_laws.specs.State.{Role, Serving, Job, State, first_values, first}
-use Rattle.rt_laws.specs.Preemption.{system_ceiling, candidate}
+use Rattle.rt_laws.specs.Services.{service_at, priority_of}
+use Rattle.rt_laws.specs.State.{Serving, Job, State, first}
+use Rattle.rt_laws.specs.Preemption.{system_ceiling}
 use Rattle.rt_laws.specs.Allowed.{HasStep, May, after}
 use Rattle.rt_laws.specs.Run.{RunsOn}
-use Rattle.rt_laws.specs.ByItems.{after_all}
 use Rattle.rt_laws.specs.Observer.{Seen, Observer, first_sight, sees}
 use Rattle.rt_laws.specs.Unspent.{AreUnspent, NoneIsSpent}
 use Rattle.rt_laws.specs.Waiting.{is_take, is_return, is_pending}
 use Rattle.rt_laws.specs.Giving.{is_due}
 use Rattle.rt_laws.proofs.Waiting.{pending_stays}
 use Rattle.rt_laws.proofs.Well.{IsAbove, StackWell, StateWell}
-use Rattle.rt_laws.proofs.Pending.{made_number, priority_is, starts_above}
+use Rattle.rt_laws.proofs.Pending.{priority_is, starts_above}
 use Rattle.rt_laws.proofs.Serving.{Up, up_after, up_ceiling}
-use Rattle.rt_laws.proofs.Happens.{Happens, Quietly, ByTake, ByStep, first_well, happens, after_well}
+use Rattle.rt_laws.proofs.Happens.{Happens, Quietly, ByTake, ByStep, happens}
 use Rattle.rt_rta.specs.declared.limits.Limit.{Limit}
 use Rattle.rt_rta.specs.Limits.{every_of, AreLimits}
-use Rattle.rt_rta.specs.Response.{Suffices, IsResponse}
-use Rattle.rt_rta.specs.Kept.{Kept}
-use Rattle.rt_rta.specs.Served.{ServedIn, Responds}
-use Rattle.rt_rta.specs.Laws.{RunsRespond}
-use Rattle.rt_rta.proofs.Spacing.{Waits, requested, a_step_on, Spaced, all_spaced}
-use Rattle.rt_rta.proofs.Quiet.{IsQuiet, init_quiet}
-use Rattle.rt_rta.proofs.Tasks.{RunsTask, served_runs, served_number}
-use Rattle.rt_rta.proofs.Owing.{at_priority, at_priority_is, not_at_priority, owed_jobs, owed_pending, owed}
-use Rattle.rt_rta.proofs.Owing.{pending_owes, IsAsked, owes_pending}
-use Rattle.rt_rta.proofs.Spending.{Spends, SpendsOne, BeginsAnew, LeavesStack, Spent, step_spends}
-use Rattle.rt_rta.proofs.Stepping.{StaysQuiet, Lowers, zero_or_some, lowers, pending_taken}
-use Rattle.rt_rta.proofs.Walk.{Short, Stretch, fresh, on_request, on_step, any_step}
-
--- the first return of an interrupt within so many core steps
-record ReturnsIn (irq steps : ℕ) (labels : List Label) : Type 0 where
-  serving : List Label
-  behind : List Label
-  parts : labels ≡ serving ++ Stepped (Some (what.Ret irq)) ∷ behind
-  first_return : AllByRecursion (λ label. is_return irq label ≡ false) serving
-  in_time : steps_of serving + 1 ≤ steps
-
-steps_more : (label : Label) (labels : List Label) → steps_of (label ∷ labels) ≡ steps_of (label ∷ []) + steps_of labels
-steps_more (Arrived i) labels = omega arith
-steps_more Ticked labels = omega arith
-steps_more Rang labels = omega arith
-steps_more (Stepped shown) labels = omega arith
-
-module _ (irq : ℕ) where
-  return_is : (label : Label) → is_return irq label ≡ true → label ≡ Stepped (Some (what.Ret irq))
-  return_is (Arrived i) is = cc
-  return_is Ticked is = cc
-  return_is Rang is = cc
-  return_is (Stepped None) is = cc
-  return_is (Stepped (Some (what.Ret j))) is = ap (λ i. Stepped (Some (what.Ret i))) (eqb-true j irq is)
-  return_is (Stepped (Some w)) is = cc
-
-  -- a label more in front, with what it takes of the steps
-  one_returns : (steps total : ℕ) (label : Label) (labels : List Label) → is_return irq label ≡ false
-      → steps_of (label ∷ []) + steps ≡ total → ReturnsIn irq steps labels → ReturnsIn irq total (label ∷ labels)
-  one_returns steps total label labels other sum returns = record {
-    serving = label ∷ returns.serving;
-    behind = returns.behind;
-    parts = ap (λ xs. label ∷ xs) returns.parts;
-    first_return = (other, returns.first_return);
-    in_time = let time = returns.in_time in let count = steps_more label returns.serving in
-        omega (arith, time, count, sum);
-  }
-
-  one_served : (steps total : ℕ) (label : Label) (labels : List Label) → is_take irq label ≡ false
-      → steps_of (label ∷ []) + steps ≡ total → ServedIn irq steps labels → ServedIn irq total (label ∷ labels)
-  one_served steps total label labels other sum served = record {
-    waiting = label ∷ served.waiting;
-    depth = served.depth;
-    serving = served.serving;
-    behind = served.behind;
-    parts = ap (λ xs. label ∷ xs) served.parts;
-    first_take = (other, served.first_take);
-    first_return = served.first_return;
-    in_time = let time = served.in_time in let count = steps_more label served.waiting in
-        omega (arith, time, count, sum);
-  }
-
--- how many interrupts there are stays
-long_stays : (app : App) (v : Observer) (label : Label) → length (sees app v label).pending ≡ length v.pending
-long_stays app v (Arrived i) = length-set v.pending i true
-long_stays app v Ticked = refl
-long_stays app v Rang = length-set v.pending (timer_number app) true
-long_stays app v (Stepped None) = refl
-long_stays app v (Stepped (Some (what.Take j d))) = length-set v.pending j false
-long_stays app v (Stepped (Some (what.Post i))) = length-set v.pending i true
-long_stays app v (Stepped (Some what.Alarm)) = length-set v.pending (timer_number app) true
-long_stays app v (Stepped (Some (what.End body.Init))) = refl
-long_stays app v (Stepped (Some w)) = refl
-
--- a take in front of a return
-taken_parts : (shown : Option What) (j d irq k : ℕ) (labels : List Label) (rest : ReturnsIn irq k labels)
-    → Stepped shown ≡ Stepped (Some (what.Take j d)) → j ≡ irq
-    → Stepped shown ∷ labels
-    ≡ Stepped (Some (what.Take irq d)) ∷ (rest.serving ++ Stepped (Some (what.Ret irq)) ∷ rest.behind)
-taken_parts shown j d irq k labels rest is same =
-    ap (λ label. label ∷ labels) (is ∙ ap (λ i. Stepped (Some (what.Take i d))) same)
-    ∙ ap (λ xs. Stepped (Some (what.Take irq d)) ∷ xs) rest.parts
-
--- from a state on no job's cost is spent
-abbrev Unspent : App → State → List Label → Type 0
-Unspent app s labels = (n : ℕ) → AreUnspent (after_all app s (take n labels)).jobs
-
--- a request comes behind the end of `init`
-abbrev Late : List Label → Type 0
-Late labels = (front behind : List Label) (i : ℕ) → labels ≡ front ++ Arrived i ∷ behind
-    → Contains front (Stepped (Some (what.End body.Init)))
-
-late_on : (label : Label) (labels : List Label) → ¬ (label ≡ Stepped (Some (what.End body.Init)))
-    → Late (label ∷ labels)
-    → Late labels
-late_on label labels other late front behind i e =
-    elim (contains_cases label front (Stepped (Some (what.End body.Init)))
-    (late (label ∷ front) behind i (ap (λ xs. label ∷ xs) e))) [
-      | inl same ↦ absurd (other same)
-      | inr there ↦ there
-    ]
-
-none_set : (n k : ℕ) → slice_index_or (replicate n false) k false ≡ false
-none_set zero k = refl
-none_set (suc n) zero = refl
-none_set (suc n) (suc k) = none_set n k
-
-pub positive_row : (limits : List Limit) → {app : App} → AreLimits app limits → (i every : ℕ) → every_of limits i
-    ≡ Some every → 1 ≤ every
-positive_row limits fine i every row =
-    let one = made_number (λ (l : Limit). l.every) (find (λ l. l.irq == i) limits) every row in
-    subst (λ n. 1 ≤ n) one.2 (find_has (λ l. 1 ≤ l.every) (λ l. l.irq == i) limits one.0 fine.positive one.1)
-
--- a declared interrupt has its index among the pending ones
-is_within : (app : App) → IsAccepted app → (irq : ℕ) (v : Observer) → is_declared app irq ≡ true
-    → length v.pending ≡ IRQ_NUMBERS → irq < length v.pending
-is_within app accepted irq v declared long =
-    let one = any_one (λ d. d.number == irq) app.irqs declared in
-    let small = all_at (λ d. d.number < IRQ_NUMBERS) app.irqs one.0 one.1 (accepted_are_sound app accepted).numbers
-    one.2 in
-    let same : one.1.number ≡ irq = eqb-true one.1.number irq one.3 in
-    omega arith
+use Rattle.rt_rta.specs.Response.{Suffices}
+use Rattle.rt_rta.specs.Kept.{InitEnds, KeptOnceInitEnds}
+use Rattle.rt_rta.specs.Served.{ServedIn}
+use Rattle.rt_rta.specs.Laws.{RunsRespond, RunsRespondOnceInitEnds}
+use Rattle.rt_rta.proofs.OnceInitEnds.{once_init_ends_says_more}
+use Rattle.rt_rta.proofs.InTime.{ReturnsIn, return_is, one_returns, one_served, taken_parts}
+use Rattle.rt_rta.proofs.Beginning.{Unspent, long_stays, is_within, next_well, Begun, begun_from_reset}
+use Rattle.rt_rta.proofs.Spacing.{Waits, requested, a_step_on, Spaced}
+use Rattle.rt_rta.proofs.Tasks.{served_runs, served_number}
+use Rattle.rt_rta.proofs.Owing.{at_priority_is, owed_jobs, owed}
+use Rattle.rt_rta.proofs.Owing.{pending_owes}
+use Rattle.rt_rta.proofs.Stepping.{StaysQuiet, Lowers, lowers}
+use Rattle.rt_rta.proofs.Walk.{Short, Stretch, on_request, on_step, any_step}
 
 module _ (app : App) (accepted : IsAccepted app) (form : has_response_times app ≡ true) (limits : List Limit)
     (fine : AreLimits app limits) (irq : ℕ) (x : Service) (served : service_at app irq ≡ Some x) (least : ℕ)
@@ -189,10 +74,6 @@ module _ (app : App) (accepted : IsAccepted app) (form : has_response_times app 
     spaced : Spaced limits waits labels
     long : length v.pending ≡ IRQ_NUMBERS
 
-  next_well : (s : State) (v : Observer) (label : Label) → StateWell app s v → May app s label
-      → StateWell app (after app s label) (sees app v label)
-  next_well s v label well may = after_well app accepted s v well label (happens app accepted s v well label may)
-
   shorter : (waits : Waits) → Short app accepted form limits p positive in_range.1 least suffices waits
       → Short app accepted form limits p positive in_range.1 least suffices (a_step_on waits)
   shorter waits short i every row = let few = short i every row in let less = few.0 in (omega arith, few.1)
@@ -212,7 +93,7 @@ module _ (app : App) (accepted : IsAccepted app) (form : has_response_times app 
   on_tick : (s : State) (v : Observer) (waits : Waits) (labels : List Label) → Moment s v waits (Ticked ∷ labels)
       → Moment (after app s Ticked) (sees app v Ticked) waits labels
   on_tick s v waits labels now = record {
-    well = next_well s v Ticked now.well now.runs.0;
+    well = next_well app accepted s v Ticked now.well now.runs.0;
     quiet = record {
       rests = now.quiet.rests;
       alarm = now.quiet.alarm;
@@ -228,7 +109,7 @@ module _ (app : App) (accepted : IsAccepted app) (form : has_response_times app 
       → (now : Moment s v waits (Arrived i ∷ labels))
       → Moment (after app s (Arrived i)) (sees app v (Arrived i)) (requested i now.spaced.0 waits) labels
   on_arrival s v waits i labels now = record {
-    well = next_well s v (Arrived i) now.well now.runs.0;
+    well = next_well app accepted s v (Arrived i) now.well now.runs.0;
     quiet = record { rests = now.quiet.rests; alarm = now.quiet.alarm; not_owing = now.quiet.not_owing };
     runs = now.runs.1;
     short = short_again waits i now.spaced.0 now.spaced.1 now.short;
@@ -245,7 +126,7 @@ module _ (app : App) (accepted : IsAccepted app) (form : has_response_times app 
       → Moment s v waits (Stepped shown ∷ labels)
       → Moment (after app s (Stepped shown)) (sees app v (Stepped shown)) (a_step_on waits) labels
   on_core_step s v waits shown labels now = record {
-    well = next_well s v (Stepped shown) now.well now.runs.0;
+    well = next_well app accepted s v (Stepped shown) now.well now.runs.0;
     quiet = (lowers_at s v waits shown labels now).quiet;
     runs = now.runs.1;
     short = shorter waits now.short;
@@ -361,7 +242,7 @@ module _ (app : App) (accepted : IsAccepted app) (form : has_response_times app 
           let up_then = up_next s v (Stepped shown) now.well now.runs.0 up other in
           one_returns irq k (suc k) (Stepped shown) labels other (omega arith)
           (next up_then (up_in (after app s (Stepped shown)) (sees app v (Stepped shown))
-          (next_well s v (Stepped shown) now.well now.runs.0) up_then (unspent 1)))
+          (next_well app accepted s v (Stepped shown) now.well now.runs.0) up_then (unspent 1)))
 
   -- the pending interrupt owes
   pending_in : (s : State) (v : Observer) → StateWell app s v → is_pending v irq ≡ true → 0 < owes s
@@ -399,11 +280,11 @@ module _ (app : App) (accepted : IsAccepted app) (form : has_response_times app 
       (on_core_step s v waits shown labels now)
       (in_step s v waits shown steps labels now stretch (pending_in s v now.well pending)
       (pending_in (after app s (Stepped shown)) (sees app v (Stepped shown))
-      (next_well s v (Stepped shown) now.well now.runs.0) still))
+      (next_well app accepted s v (Stepped shown) now.well now.runs.0) still))
       still (λ n. unspent (suc n)) (omega arith) (omega arith))
     where
       t_well : StateWell app (after app s (Stepped shown)) (sees app v (Stepped shown))
-      t_well = next_well s v (Stepped shown) now.well now.runs.0
+      t_well = next_well app accepted s v (Stepped shown) now.well now.runs.0
 
       taken : is_take irq (Stepped shown) ≡ true → Happens app s v (Stepped shown) (after app s (Stepped shown))
           (sees app v (Stepped shown))
@@ -456,78 +337,14 @@ module _ (app : App) (accepted : IsAccepted app) (form : has_response_times app 
     in_time = let time = one.in_time in omega arith;
   }
 
-  -- while `init` runs nothing is pending; behind it each moment lies in a stretch
-  data Mode (s : State) (v : Observer) (waits : Waits) (labels : List Label) : Type 0 where
-    Early : (job : Job) → s.jobs ≡ job ∷ [] → ((k : ℕ) → slice_index_or s.pending k false ≡ false) → Late labels
-        → Mode s v waits labels
-    Within : (steps : ℕ) → In s v waits steps → Mode s v waits labels
-
-  nothing_pending : (pending : List Bool) → ((k : ℕ) → slice_index_or pending k false ≡ false)
-      → owed_pending app p pending app.tasks ≡ 0
-  nothing_pending pending none = by (zero_or_some (owed_pending app p pending app.tasks))
-    where
-      by : (owed_pending app p pending app.tasks ≡ 0) ⊎ (0 < owed_pending app p pending app.tasks)
-          → owed_pending app p pending app.tasks ≡ 0
-      by (inl zero_owed) = zero_owed
-      by (inr some) =
-          let one = owes_pending app p pending app.tasks some in
-          absurd (true_and_false (slice_index_or pending one.irq false) one.set (none one.irq))
-
-  no_takes : (s : State) (shown : Option What) → May app s (Stepped shown)
-      → ((k : ℕ) → slice_index_or s.pending k false ≡ false) → (i depth : ℕ) → ¬ (shown ≡ Some (what.Take i depth))
-  no_takes s shown may none i depth is =
-      let taken = subst (λ w. May app s (Stepped w)) is may in
-      true_and_false (slice_index_or s.pending i false)
-      (pending_taken app accepted form p positive s i taken.1) (none i)
-
-  early_step : (s : State) (v : Observer) (waits : Waits) (shown : Option What) (labels : List Label) (job : Job)
-      → Moment s v waits (Stepped shown ∷ labels) → s.jobs ≡ job ∷ []
-      → ((k : ℕ) → slice_index_or s.pending k false ≡ false) → Late (Stepped shown ∷ labels)
-      → Mode (after app s (Stepped shown)) (sees app v (Stepped shown)) (a_step_on waits) labels
-  early_step s v waits shown labels job now jobs none late = by spent.spends
-    where
-      t : State
-      t = after app s (Stepped shown)
-
-      spent : Spent s job [] shown t
-      spent = step_spends app accepted form s job [] jobs
-          (subst (AllByRecursion (λ job. IsQuiet job.rest)) jobs now.quiet.rests).0
-          shown now.runs.0 (no_takes s shown now.runs.0 none)
-
-      none_then : (k : ℕ) → slice_index_or t.pending k false ≡ false
-      none_then k = ap (λ ps. slice_index_or ps k false) spent.pending ∙ none k
-
-      calm : owed_jobs app p t.jobs ≡ 0 → Mode t (sees app v (Stepped shown)) (a_step_on waits) labels
-      calm no_job =
-          let next = on_core_step s v waits shown labels now in
-          let nothing = nothing_pending t.pending none_then in
-          Within 0 (fresh app accepted form limits p positive in_range.1 least suffices t (sees app v (Stepped shown))
-          (a_step_on waits) next.well next.short (omega arith))
-
-      by : Spends job [] shown t.jobs → Mode t (sees app v (Stepped shown)) (a_step_on waits) labels
-      by (SpendsOne j js priority left rest no_end) =
-          Early j js none_then (late_on (Stepped shown) labels (λ e. no_end (shown_same e)) late)
-        where
-          shown_same : Stepped shown ≡ Stepped (Some (what.End body.Init)) → shown ≡ Some (what.End body.Init)
-          shown_same e = cc
-      by (BeginsAnew j js priority rest) =
-          calm (ap (owed_jobs app p) js ∙ last (not_at_priority p j.priority j.left
-          (subst (λ q. q < p) (sym priority) positive)))
-        where
-          last : at_priority p j.priority j.left ≡ 0 → at_priority p j.priority j.left + 0 ≡ 0
-          last none = omega arith
-      by (LeavesStack js) = calm (ap (owed_jobs app p) js)
-
   abbrev Then : List Label → List Label → List Label
   Then front behind = front ++ Arrived irq ∷ behind
 
   -- from a moment on to the request
-  walk : (front behind : List Label) (s : State) (v : Observer) (waits : Waits) → Moment s v waits (Then front behind)
-      → Mode s v waits (Then front behind) → Unspent app s (Then front behind) → least ≤ steps_of behind
-      → ServedIn irq least behind
-  walk [] behind s v waits now (Early job jobs none late) unspent enough =
-      absurd (contains_none (Stepped (Some (what.End body.Init))) (late [] behind irq refl))
-  walk [] behind s v waits now (Within steps stretch) unspent enough =
+  walk : (front behind : List Label) (s : State) (v : Observer) (waits : Waits) (steps : ℕ)
+      → Moment s v waits (Then front behind) → In s v waits steps → Unspent app s (Then front behind)
+      → least ≤ steps_of behind → ServedIn irq least behind
+  walk [] behind s v waits steps now stretch unspent enough =
       let room = stretch.short_of in
       later (least - steps) behind (omega arith)
       (served_in behind (after app s (Arrived irq)) (sees app v (Arrived irq)) (requested irq now.spaced.0 waits) steps
@@ -535,53 +352,71 @@ module _ (app : App) (accepted : IsAccepted app) (form : has_response_times app 
       (get_or-set_same v.pending irq true false (is_within app accepted irq v now.runs.0.1 now.long))
       (λ n. unspent (suc n))
       (omega arith) (omega arith))
-  walk (Ticked ∷ front) behind s v waits now (Early job jobs none late) unspent enough =
-      walk front behind (after app s Ticked) (sees app v Ticked) waits (on_tick s v waits (Then front behind) now)
-      (Early job jobs none (late_on Ticked (Then front behind) (λ e. cc) late)) (λ n. unspent (suc n)) enough
-  walk (Ticked ∷ front) behind s v waits now (Within steps stretch) unspent enough =
-      walk front behind (after app s Ticked) (sees app v Ticked) waits (on_tick s v waits (Then front behind) now)
-      (Within steps (in_tick s v waits steps stretch)) (λ n. unspent (suc n)) enough
-  walk (Rang ∷ front) behind s v waits now mode unspent enough = absurd (no_ring s v waits (Then front behind) now)
-  walk (Arrived i ∷ front) behind s v waits now (Early job jobs none late) unspent enough =
-      absurd (contains_none (Stepped (Some (what.End body.Init))) (late [] (Then front behind) i refl))
-  walk (Arrived i ∷ front) behind s v waits now (Within steps stretch) unspent enough =
-      walk front behind (after app s (Arrived i)) (sees app v (Arrived i)) (requested i now.spaced.0 waits)
+  walk (Ticked ∷ front) behind s v waits steps now stretch unspent enough =
+      walk front behind (after app s Ticked) (sees app v Ticked) waits steps (on_tick s v waits (Then front behind) now)
+      (in_tick s v waits steps stretch) (λ n. unspent (suc n)) enough
+  walk (Rang ∷ front) behind s v waits steps now stretch unspent enough =
+      absurd (no_ring s v waits (Then front behind) now)
+  walk (Arrived i ∷ front) behind s v waits steps now stretch unspent enough =
+      walk front behind (after app s (Arrived i)) (sees app v (Arrived i)) (requested i now.spaced.0 waits) steps
       (on_arrival s v waits i (Then front behind) now)
-      (Within steps (in_arrival s v waits i steps (Then front behind) now stretch)) (λ n. unspent (suc n)) enough
-  walk (Stepped shown ∷ front) behind s v waits now (Early job jobs none late) unspent enough =
-      walk front behind (after app s (Stepped shown)) (sees app v (Stepped shown)) (a_step_on waits)
-      (on_core_step s v waits shown (Then front behind) now)
-      (early_step s v waits shown (Then front behind) job now jobs none late) (λ n. unspent (suc n)) enough
-  walk (Stepped shown ∷ front) behind s v waits now (Within steps stretch) unspent enough =
+      (in_arrival s v waits i steps (Then front behind) now stretch) (λ n. unspent (suc n)) enough
+  walk (Stepped shown ∷ front) behind s v waits steps now stretch unspent enough =
       let next = on_core_step s v waits shown (Then front behind) now in
       let on = any_step app accepted form limits p positive in_range.1 least suffices s v waits steps
       (after app s (Stepped shown)) (sees app v (Stepped shown)) next.well now.short
       (lowers_at s v waits shown (Then front behind) now) stretch in
-      walk front behind (after app s (Stepped shown)) (sees app v (Stepped shown)) (a_step_on waits) next
-      (Within on.0 on.1) (λ n. unspent (suc n)) enough
+      walk front behind (after app s (Stepped shown)) (sees app v (Stepped shown)) (a_step_on waits) on.0 next on.1
+      (λ n. unspent (suc n)) enough
 
-  -- from reset on
-  from_reset : (front behind : List Label) → RunsOn app (first app) (Then front behind)
-      → Kept limits (Then front behind)
-      → NoneIsSpent app (Then front behind) → least ≤ steps_of behind → ServedIn irq least behind
-  from_reset front behind runs kept unspent enough =
-      walk front behind (first app) (first_sight app) (λ i. 0)
-      (record {
-        well = first_well app accepted;
-        quiet = record {
-          rests = (init_quiet app accepted form (first_values app), tt);
-          alarm = refl;
-          not_owing =
-              refl;
-        };
-        runs = runs;
-        short = λ i every row. (omega arith, positive_row limits fine i every row);
-        spaced = all_spaced limits (Then front behind) kept;
-        long = length-replicate IRQ_NUMBERS false;
-      })
-      (Early _ refl (none_set IRQ_NUMBERS) kept.late) unspent enough
+  abbrev Starts : List Label → List Label → Type 0
+  Starts = Begun app accepted form limits fine p positive in_range.1 least suffices (first_sight app)
+
+  -- what begins as `init` ends
+  at_end : (during behind : List Label) (starts : Starts during behind)
+      → Moment starts.begun starts.seen starts.waits behind
+  at_end during behind starts = record {
+    well = starts.well;
+    quiet = starts.quiet;
+    runs = starts.runs;
+    short = starts.short;
+    spaced = starts.spaced;
+    long = starts.long;
+  }
+
+  from_reset : (labels during behind : List Label) → RunsOn app (first app) labels → KeptOnceInitEnds limits labels
+      → NoneIsSpent app labels → InitEnds labels during behind → Starts during behind
+  from_reset = begun_from_reset app accepted form limits fine p positive in_range.1 least suffices
+
+  -- a request behind the end of `init`
+  served_behind : (during behind front rest : List Label) → Starts during behind
+      → behind ≡ Then front rest → least ≤ steps_of rest → ServedIn irq least rest
+  served_behind during behind front rest starts is enough =
+      let from = subst (Starts during) is starts in
+      walk front rest from.begun from.seen from.waits 0 (at_end during (Then front rest) from) from.stretch from.unspent
+      enough
+
+  -- a request during it
+  served_from_end : (during behind : List Label) → Starts during behind → Contains during (Arrived irq)
+      → least ≤ steps_of behind → ServedIn irq least behind
+  served_from_end during behind starts there enough =
+      served_in behind starts.begun starts.seen starts.waits 0 least (at_end during behind starts) starts.stretch
+      (starts.set irq (inr there)) starts.unspent (omega arith) enough
+
+pub runs_respond_once_init_ends : RunsRespondOnceInitEnds
+runs_respond_once_init_ends app accepted form limits fine labels runs kept unspent during behind ends = record {
+  requests_behind = λ front rest irq x steps is served response enough.
+      served_behind app accepted form limits fine irq x served steps response.0 during behind front rest
+      (from_reset app accepted form limits fine irq x served steps response.0 labels during behind runs kept unspent
+      ends) is enough;
+  requests_during = λ irq x steps there served response enough.
+      served_from_end app accepted form limits fine irq x served steps response.0 during behind
+      (from_reset app accepted form limits fine irq x served steps response.0 labels during behind runs kept unspent
+      ends) there enough;
+}
 
 pub runs_respond : RunsRespond
-runs_respond app accepted form limits fine labels runs kept unspent front behind irq x steps is served response enough =
-    from_reset app accepted form limits fine irq x served steps response.0 front behind
-    (subst (RunsOn app (first app)) is runs) (subst (Kept limits) is kept) (subst (NoneIsSpent app) is unspent) enough
+runs_respond app accepted form limits fine labels runs kept unspent =
+    once_init_ends_says_more.says_no_less app limits labels kept
+    (runs_respond_once_init_ends app accepted form limits fine labels runs
+    (once_init_ends_says_more.asks_no_more limits labels kept) unspent)

@@ -1,13 +1,18 @@
 -- The distances between requests, as one meets them from a moment on: each interrupt has some core steps to wait until
 -- it may be requested again.
-use Rattle.std.proofs.Common.{◌≡◌, ℕ, suc, ◌-◌, ◌≤◌, ◌==◌, Bool, true, false, if◌then◌else◌, List, [], ◌∷◌, ◌++◌}
-use Rattle.std.proofs.Common.{Option, Some, None, refl, sym, ap, subst, ◌∙◌, arith}
+use Rattle.std.proofs.Common.{◌≡◌, ◌⊎◌, inl, inr, ℕ, zero, suc, ◌-◌, ◌≤◌, ◌==◌, Bool, true, false, if◌then◌else◌}
+use Rattle.std.proofs.Common.{List, [], ◌∷◌, ◌++◌, Contains, replicate, slice_index_or, Option, Some, None, refl, sym}
+use Rattle.std.proofs.Common.{ap, subst, ◌∙◌, arith}
 use Rattle.std.specs.Prelude.{IsSome}
 use Rattle.std.proofs.lemmas.Bool.{eqb-true}
+use Rattle.rt_lemmas.proofs.Bools.{true_and_false}
+use Rattle.rt_lemmas.proofs.Membership.{contains_none, contains_here, contains_there}
+use Rattle.rt_ids.specs.Lists.{or_zero}
 use Rattle.rt_trace.specs.Label.{Label, Arrived, Ticked, Rang, Stepped, steps_of}
 use Rattle.rt_rta.specs.declared.limits.Limit.{Limit}
 use Rattle.rt_rta.specs.Limits.{every_of}
-use Rattle.rt_rta.specs.Kept.{Kept}
+use Rattle.rt_rta.specs.Kept.{end_of_init, InitEnds, KeptOnceInitEnds}
+use Rattle.rt_rta.proofs.OnceInitEnds.{ends_on}
 
 -- by the number of the interrupt
 abbrev pub Waits : Type 0
@@ -96,10 +101,108 @@ module _ (limits : List Limit) where
             (behind_request waits i row.0 labels kept row.1),
       )
 
--- at reset nothing has been requested yet
-pub all_spaced : (limits : List Limit) (labels : List Label) → Kept limits labels → Spaced limits (λ irq. 0) labels
-all_spaced limits labels kept = spaced limits labels (λ irq. 0) (record {
-  near = λ between behind irq e. omega arith;
-  apart = kept.apart;
+  -- Behind the end of `init` requests keep the limits, and what is pending now counts as requested at the end, like
+  -- what will be requested before it.
+  pub record KeptSince (pending : List Bool) (during behind : List Label) : Type 0 where
+    pub apart : (front between rest : List Label) (irq every : ℕ) → every_of limits irq ≡ Some every
+        → behind ≡ front ++ Arrived irq ∷ (between ++ Arrived irq ∷ rest) → every ≤ steps_of between
+    pub near : (between rest : List Label) (irq every : ℕ) → every_of limits irq ≡ Some every
+        → (slice_index_or pending irq false ≡ true) ⊎ Contains during (Arrived irq)
+        → behind ≡ between ++ Arrived irq ∷ rest → every ≤ steps_of between
+
+  -- while `init` runs
+  pub record KeptYet (pending : List Bool) (labels : List Label) : Type 0 where
+    pub from_end : (during behind : List Label) → InitEnds labels during behind → KeptSince pending during behind
+    pub limited : (front behind : List Label) (irq : ℕ) → labels ≡ front ++ Arrived irq ∷ behind
+        → IsSome (every_of limits irq)
+    pub pending_limited : (irq : ℕ) → slice_index_or pending irq false ≡ true → IsSome (every_of limits irq)
+
+  -- behind a label at which it does not end, and which makes nothing pending but what it requests
+  pub yet_on : (pending after : List Bool) (label : Label) (labels : List Label) → ¬ (label ≡ end_of_init)
+      → ((irq : ℕ) → slice_index_or after irq false ≡ true
+      → (slice_index_or pending irq false ≡ true) ⊎ (label ≡ Arrived irq))
+      → KeptYet pending (label ∷ labels) → KeptYet after labels
+  yet_on pending after label labels other older kept = record {
+    from_end = λ during behind ends.
+        let since = kept.from_end (label ∷ during) behind (ends_on label labels during behind other ends) in
+        record {
+          apart = since.apart;
+          near = λ between rest irq every row asked is.
+              since.near between rest irq every row (earlier during irq asked) is;
+        };
+    limited = λ front behind irq e. kept.limited (label ∷ front) behind irq (ap (behind_it label) e);
+    pending_limited = λ irq set. has_limit irq (older irq set);
+  }
+    where
+      has_limit : (irq : ℕ) → (slice_index_or pending irq false ≡ true) ⊎ (label ≡ Arrived irq)
+          → IsSome (every_of limits irq)
+      has_limit irq (inl before) = kept.pending_limited irq before
+      has_limit irq (inr is) = kept.limited [] labels irq (ap (λ l. l ∷ labels) is)
+
+      now_or_before : (during : List Label) (irq : ℕ)
+          → (slice_index_or pending irq false ≡ true) ⊎ (label ≡ Arrived irq)
+          → (slice_index_or pending irq false ≡ true) ⊎ Contains (label ∷ during) (Arrived irq)
+      now_or_before during irq (inl before) = inl before
+      now_or_before during irq (inr is) =
+          inr (subst (λ l. Contains (l ∷ during) (Arrived irq)) (sym is) (contains_here (Arrived irq) during))
+
+      earlier : (during : List Label) (irq : ℕ)
+          → (slice_index_or after irq false ≡ true) ⊎ Contains during (Arrived irq)
+          → (slice_index_or pending irq false ≡ true) ⊎ Contains (label ∷ during) (Arrived irq)
+      earlier during irq (inl set) = now_or_before during irq (older irq set)
+      earlier during irq (inr there) = inr (contains_there label during (Arrived irq) there)
+
+  -- what is pending as `init` ends has to wait as if it were requested there
+  abbrev pub pending_waits : List Bool → Waits
+  pending_waits pending irq = if slice_index_or pending irq false then or_zero (every_of limits irq) else 0
+
+  pub spaced_from_end : (pending : List Bool) (behind : List Label) → KeptYet pending (end_of_init ∷ behind)
+      → Spaced (pending_waits pending) behind
+  spaced_from_end pending behind kept = spaced behind (pending_waits pending) (record {
+    near = λ between rest irq e. by between rest irq e (slice_index_or pending irq false) refl;
+    apart = since.apart;
+    limited = λ front rest irq e.
+        kept.limited (end_of_init ∷ front) rest irq (ap (behind_it end_of_init) e);
+  })
+    where
+      since : KeptSince pending [] behind
+      since = kept.from_end [] behind (record { parts = refl; first_end = contains_none end_of_init })
+
+      by : (between rest : List Label) (irq : ℕ) → behind ≡ between ++ Arrived irq ∷ rest → (b : Bool)
+          → slice_index_or pending irq false ≡ b
+          → (if b then or_zero (every_of limits irq) else 0) ≤ steps_of between
+      by between rest irq e false clear = omega arith
+      by between rest irq e true set = of (every_of limits irq) refl
+        where
+          of : (o : Option ℕ) → every_of limits irq ≡ o → or_zero o ≤ steps_of between
+          of None row = omega arith
+          of (Some every) row = since.near between rest irq every row (inl set) e
+
+none_set : (n k : ℕ) → slice_index_or (replicate n false) k false ≡ false
+none_set zero k = refl
+none_set (suc n) zero = refl
+none_set (suc n) (suc k) = none_set n k
+
+-- at reset nothing is pending
+pub kept_yet : (limits : List Limit) (n : ℕ) (labels : List Label) → KeptOnceInitEnds limits labels
+    → KeptYet limits (replicate n false) labels
+kept_yet limits n labels kept = record {
+  from_end = λ during behind ends.
+      let from = kept.from_end during behind ends in
+      record {
+        apart = from.apart;
+        near = λ between rest irq every row asked is.
+            from.apart_from_end between rest irq every row (requested_in during irq asked) is;
+      };
   limited = kept.limited;
-})
+  pending_limited = λ irq set. absurd (nothing irq set);
+}
+  where
+    nothing : (irq : ℕ) → ¬ (slice_index_or (replicate n false) irq false ≡ true)
+    nothing irq set = true_and_false (slice_index_or (replicate n false) irq false) set (none_set n irq)
+
+    requested_in : (during : List Label) (irq : ℕ)
+        → (slice_index_or (replicate n false) irq false ≡ true) ⊎ Contains during (Arrived irq)
+        → Contains during (Arrived irq)
+    requested_in during irq (inl set) = absurd (nothing irq set)
+    requested_in during irq (inr there) = there

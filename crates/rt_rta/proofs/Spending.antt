@@ -1,6 +1,6 @@
 -- What a step of the running job spends, where no code makes an interrupt pending.
-use Rattle.std.proofs.Common.{◌≡◌, ℕ, ◌-◌, true, List, [], ◌∷◌, Option, Some, None, refl, sym, ap, subst, ◌∙◌}
-use Rattle.std.specs.List.{AllByRecursion}
+use Rattle.std.proofs.Common.{◌≡◌, ℕ, ◌-◌, ◌⊎◌, inl, inr, true, List, ◌∷◌, Option, Some, None, refl, sym, subst}
+use Rattle.std.specs.Prelude.{IsSome}
 use Rattle.std.proofs.lemmas.Option.{none-some}
 use Rattle.rt_ids.specs.Content.{Values}
 use Rattle.rt_ids.specs.Action.{Action, Enters, Leaves, Emits, Posts, Clocks, Places, FindsFull, Readies, Starts, Frees}
@@ -14,7 +14,7 @@ use Rattle.rt_app.specs.Tree.{Body, App}
 use Rattle.rt_app.specs.Accepted.{IsAccepted}
 use Rattle.rt_app.specs.Forms.{has_response_times}
 use Rattle.rt_laws.specs.State.{Job, State}
-use Rattle.rt_laws.specs.Giving.{item_of, next_item, item_given}
+use Rattle.rt_laws.specs.Giving.{return_item, item_of, next_item, item_given}
 use Rattle.rt_laws.specs.Acting.{job_after_step, idle_job, answer, state_after_action, state_after_doing}
 use Rattle.rt_laws.specs.Allowed.{May, state_after_silence, state_after_item, after}
 use Rattle.rt_rta.proofs.Quiet.{IsQuiet, idle_quiet}
@@ -23,12 +23,13 @@ use Rattle.rt_rta.proofs.Quiet.{IsQuiet, idle_quiet}
 module _ (job : Job) (others : List Job) (shown : Option What) (jobs : List Job) where
   pub data Spends : Type 0 where
     -- it goes on, and has a step less left
-    SpendsOne : (j : Job) → jobs ≡ j ∷ others → j.priority ≡ job.priority → j.left ≡ job.left - 1 → IsQuiet j.rest
-        → ¬ (shown ≡ Some (what.End body.Init)) → Spends
+    SpendsOne : (j : Job) → jobs ≡ j ∷ others → j.role ≡ job.role → j.priority ≡ job.priority → j.left ≡ job.left - 1
+        → IsQuiet j.rest → ¬ (shown ≡ Some (what.End body.Init)) → Spends
     -- the thread begins anew at the lowest priority
-    BeginsAnew : (j : Job) → jobs ≡ j ∷ others → j.priority ≡ 0 → IsQuiet j.rest → Spends
+    BeginsAnew : (j : Job) → jobs ≡ j ∷ others → j.priority ≡ 0 → IsQuiet j.rest
+        → (shown ≡ Some (what.End body.Init)) ⊎ (shown ≡ Some (what.End body.Idle)) → Spends
     -- it returns
-    LeavesStack : jobs ≡ others → Spends
+    LeavesStack : jobs ≡ others → IsSome (return_item job.role) → Spends
 
 pub record Spent (s : State) (job : Job) (others : List Job) (shown : Option What) (t : State) : Type 0 where
   pub spends : Spends job others shown t.jobs
@@ -55,20 +56,20 @@ module _ (app : App) (accepted : IsAccepted app) (form : has_response_times app 
       → SpentBy w (state_after_action app s job others action (effect action s.values)
       (next (answer s action) (effect action s.values)))
   acts (Enters x cost) made next quiet w is = record {
-    spends = SpendsOne _ refl refl refl (quiet.1 0 _) (λ e. cc);
+    spends = SpendsOne _ refl refl refl refl (quiet.1 0 _) (λ e. cc);
     pending = refl;
     alarm = refl;
     owing = refl;
   }
   acts (Leaves x) made next quiet w is = record {
-    spends = SpendsOne _ refl refl refl (quiet.1 0 _) (λ e. cc);
+    spends = SpendsOne _ refl refl refl refl (quiet.1 0 _) (λ e. cc);
     pending =
         refl;
     alarm = refl;
     owing = refl;
   }
   acts (Emits v) made next quiet w is = record {
-    spends = SpendsOne _ refl refl refl (quiet.1 0 _) (λ e. cc);
+    spends = SpendsOne _ refl refl refl refl (quiet.1 0 _) (λ e. cc);
     pending =
         refl;
     alarm = refl;
@@ -76,89 +77,94 @@ module _ (app : App) (accepted : IsAccepted app) (form : has_response_times app 
   }
   acts (Posts irq) made next quiet w is = absurd quiet.0
   acts Clocks made next quiet w is = record {
-    spends = SpendsOne _ refl refl refl (quiet.1 s.time _) (λ e. cc);
+    spends = SpendsOne _ refl refl refl refl (quiet.1 s.time _) (λ e. cc);
     pending = refl;
     alarm = refl;
     owing = refl;
   }
   acts (Places n) made next quiet w is = record {
-    spends = SpendsOne _ refl refl refl (quiet.1 0 _) (λ e. cc);
+    spends = SpendsOne _ refl refl refl refl (quiet.1 0 _) (λ e. cc);
     pending =
         refl;
     alarm = refl;
     owing = refl;
   }
   acts (FindsFull n) made next quiet w is = record {
-    spends = SpendsOne _ refl refl refl (quiet.1 0 _) (λ e. cc);
+    spends = SpendsOne _ refl refl refl refl (quiet.1 0 _) (λ e. cc);
     pending = refl;
     alarm = refl;
     owing = refl;
   }
   acts (Readies p m) made next quiet w is = record {
-    spends = SpendsOne _ refl refl refl (quiet.1 0 _) (λ e. cc);
+    spends = SpendsOne _ refl refl refl refl (quiet.1 0 _) (λ e. cc);
     pending = refl;
     alarm = refl;
     owing = refl;
   }
   acts (Starts p m) made next quiet w is = record {
-    spends = SpendsOne _ refl refl refl (quiet.1 0 _) (λ e. cc);
+    spends = SpendsOne _ refl refl refl refl (quiet.1 0 _) (λ e. cc);
     pending = refl;
     alarm = refl;
     owing = refl;
   }
   acts (Frees n) made next quiet w is = record {
-    spends = SpendsOne _ refl refl refl (quiet.1 0 _) (λ e. cc);
+    spends = SpendsOne _ refl refl refl refl (quiet.1 0 _) (λ e. cc);
     pending =
         refl;
     alarm = refl;
     owing = refl;
   }
   acts (Arms i m) made next quiet w is = record {
-    spends = SpendsOne _ refl refl refl (quiet.1 0 _) (λ e. cc);
+    spends = SpendsOne _ refl refl refl refl (quiet.1 0 _) (λ e. cc);
     pending =
         refl;
     alarm = refl;
     owing = refl;
   }
   acts (Fires m) made next quiet w is = record {
-    spends = SpendsOne _ refl refl refl (quiet.1 0 _) (λ e. cc);
+    spends = SpendsOne _ refl refl refl refl (quiet.1 0 _) (λ e. cc);
     pending =
         refl;
     alarm = refl;
     owing = refl;
   }
   acts (Cancels n h) made next quiet w is = record {
-    spends = SpendsOne _ refl refl refl (quiet.1 0 _) (λ e. cc);
+    spends = SpendsOne _ refl refl refl refl (quiet.1 0 _) (λ e. cc);
     pending = refl;
     alarm = refl;
     owing = refl;
   }
   acts (Moves n h i) made next quiet w is = record {
-    spends = SpendsOne _ refl refl refl (quiet.1 0 _) (λ e. cc);
+    spends = SpendsOne _ refl refl refl refl (quiet.1 0 _) (λ e. cc);
     pending = refl;
     alarm = refl;
     owing = refl;
   }
   acts SetsAlarm made next quiet w is = absurd quiet.0
   acts (Ends body.Init) made next quiet w is = record {
-    spends = BeginsAnew _ refl (idling_low s.values app.idle) (idling_quiet s.values app.idle);
+    spends = BeginsAnew _ refl (idling_low s.values app.idle) (idling_quiet s.values app.idle) (inl (sym is));
     pending = refl;
     alarm = refl;
     owing = refl;
   }
   acts (Ends body.Idle) made next quiet w is = record {
-    spends = BeginsAnew _ refl (idling_low s.values app.idle) (idling_quiet s.values app.idle);
+    spends = BeginsAnew _ refl (idling_low s.values app.idle) (idling_quiet s.values app.idle) (inr (sym is));
     pending = refl;
     alarm = refl;
     owing = refl;
   }
   acts (Ends (body.Task n)) made next quiet w is = record {
-    spends = SpendsOne _ refl refl refl (quiet.1 0 _) (λ e. cc);
+    spends = SpendsOne _ refl refl refl refl (quiet.1 0 _) (λ e. cc);
     pending = refl;
     alarm = refl;
     owing = refl;
   }
-  acts Returns made next quiet w is = record { spends = LeavesStack refl; pending = refl; alarm = refl; owing = refl }
+  acts Returns made next quiet w is = record {
+    spends = LeavesStack refl (subst IsSome (sym is) refl);
+    pending = refl;
+    alarm = refl;
+    owing = refl;
+  }
 
   rest_acts : (rest : Doing Values) → IsQuiet rest → (w : What) → next_item s job.role rest ≡ Some w
       → SpentBy w (state_after_doing app s job others rest)
@@ -180,7 +186,7 @@ module _ (app : App) (accepted : IsAccepted app) (form : has_response_times app 
   step_spends None may no_take =
       subst (λ js. Spent s job others None (state_after_silence s js)) (sym jobs_are)
       (record {
-        spends = SpendsOne (job_after_step job) refl refl refl quiet (λ e. none-some _ e);
+        spends = SpendsOne (job_after_step job) refl refl refl refl quiet (λ e. none-some _ e);
         pending = refl;
         alarm = refl;
         owing = refl;

@@ -1,15 +1,15 @@
 -- One label of a run, as it changes what is owed to a priority: each core step that passes while something is owed
 -- lowers it, or takes a step of the one lower section that may hold the priority off; a request alone raises it.
-use Rattle.std.proofs.Common.{◌≡◌, ℕ, zero, suc, ◌+◌, ◌-◌, ◌≤◌, ◌<◌, ◌^◌, ◌==◌, ◌⊎◌, inl, inr, Bool, true, false}
-use Rattle.std.proofs.Common.{nat_le, List, [], ◌∷◌, map, slice_set, slice_index_or, Option, Some, None, option_map}
+use Rattle.std.proofs.Common.{◌≡◌, ℕ, zero, suc, ◌+◌, ◌-◌, ◌≤◌, ◌<◌, ◌⊎◌, inl, inr, Bool, true, false}
+use Rattle.std.proofs.Common.{nat_le, List, ◌∷◌, map, slice_set, slice_index_or, Option, Some, None, option_map}
 use Rattle.std.proofs.Common.{refl, sym, ap, subst, ◌∙◌, arith}
 use Rattle.std.specs.List.{AllByRecursion}
 use Rattle.std.proofs.lemmas.Bool.{leb-true, leb-false}
 use Rattle.std.proofs.lemmas.Option.{none-some}
 use Rattle.rt_lemmas.proofs.Bools.{and_parts}
-use Rattle.rt_ids.specs.Lists.{or_zero, is_some_and}
+use Rattle.rt_ids.specs.Lists.{or_zero}
 use Rattle.rt_ids.specs.Choice.{IsBest}
-use Rattle.rt_trace.specs.Label.{Label, Arrived, Ticked, Rang, Stepped}
+use Rattle.rt_trace.specs.Label.{Stepped}
 use Rattle.rt_trace.specs.declared.item.What.{What}
 use Rattle.rt_trace.specs.declared.item.What.TheVariants as what
 use Rattle.rt_app.specs.Tree.{Task, App}
@@ -19,19 +19,18 @@ use Rattle.rt_app.specs.Forms.{has_response_times}
 use Rattle.rt_app.specs.Handlers.{Service}
 use Rattle.rt_app.specs.Doings.{handler_doing}
 use Rattle.rt_laws.specs.Services.{service_at, priority_of, handler_cost}
-use Rattle.rt_laws.specs.State.{Role, Init, Idle, Waiting, Serving, Job, State, new_job}
+use Rattle.rt_laws.specs.State.{Role, Init, Idle, Waiting, Serving, Job, State}
 use Rattle.rt_laws.specs.Preemption.{system_ceiling, may_start, candidate, IsNoLater}
 use Rattle.rt_laws.specs.Allowed.{HasStep, MayStep, May, state_after_start, after}
-use Rattle.rt_laws.specs.Observer.{Seen, Observer, outside, sees}
+use Rattle.rt_laws.specs.Observer.{Observer, sees}
 use Rattle.rt_laws.proofs.Candidate.{candidate_is_highest}
 use Rattle.rt_laws.proofs.Well.{IsAbove, StateWell}
 use Rattle.rt_laws.proofs.Pending.{priority_is, held_off, starts_above, goes_first}
 use Rattle.rt_laws.proofs.Happens.{Step, turn_silent, given_step}
 use Rattle.rt_laws.proofs.Waiting.{Low, Took, Higher, Lower, took}
-use Rattle.rt_rta.specs.Limits.{number_of}
 use Rattle.rt_rta.specs.Response.{handling_steps}
 use Rattle.rt_rta.proofs.Quiet.{IsQuiet, task_quiet}
-use Rattle.rt_rta.proofs.Tasks.{RunsTask, served_runs, served_number, Serves, task_serves}
+use Rattle.rt_rta.proofs.Tasks.{RunsTask, served_runs, served_number, task_serves}
 use Rattle.rt_rta.proofs.Owing.{at_priority, at_priority_is, not_at_priority, owed_pending, owed_jobs, owed}
 use Rattle.rt_rta.proofs.Owing.{take_lowers, take_clears, IsAsked, owes_pending, jobs_reach}
 use Rattle.rt_rta.proofs.Spending.{Spends, SpendsOne, BeginsAnew, LeavesStack, Spent, step_spends}
@@ -183,11 +182,11 @@ module _ (app : App) (accepted : IsAccepted app) (form : has_response_times app 
       quiet_here = subst (AllByRecursion (λ job. IsQuiet job.rest)) step.jobs_are quiet.rests
 
       rests_after : Spends step.job step.others shown t.jobs → AllByRecursion (λ job. IsQuiet job.rest) t.jobs
-      rests_after (SpendsOne j js priority left rest no_end) =
+      rests_after (SpendsOne j js role priority left rest no_end) =
           subst (AllByRecursion (λ job. IsQuiet job.rest)) (sym js) (rest, quiet_here.1)
-      rests_after (BeginsAnew j js priority rest) =
+      rests_after (BeginsAnew j js priority rest ended) =
           subst (AllByRecursion (λ job. IsQuiet job.rest)) (sym js) (rest, quiet_here.1)
-      rests_after (LeavesStack js) = subst (AllByRecursion (λ job. IsQuiet job.rest)) (sym js) quiet_here.1
+      rests_after (LeavesStack js returned) = subst (AllByRecursion (λ job. IsQuiet job.rest)) (sym js) quiet_here.1
 
       stays_quiet : StaysQuiet t
       stays_quiet = record {
@@ -212,20 +211,20 @@ module _ (app : App) (accepted : IsAccepted app) (form : has_response_times app 
 
       -- a job of the priority or higher has a step less left
       less_over : p ≤ step.job.priority → Spends step.job step.others shown t.jobs → owes t + 1 ≤ owes s
-      less_over over (SpendsOne j js priority left rest no_end) =
+      less_over over (SpendsOne j js role priority left rest no_end) =
           let some : 0 < step.job.left = left_some step.job.role step.job.priority step.job.left step.others step.above
           has (omega arith) in
           let old = at_priority_is p step.job.priority step.job.left over in
           let new : at_priority p j.priority j.left ≡ step.job.left - 1 =
           at_priority_is p j.priority j.left (subst (λ q. p ≤ q) (sym priority) over) ∙ left in
           omega (arith, before, after_jobs (j ∷ step.others) js, old, new, some)
-      less_over over (BeginsAnew j js priority rest) =
+      less_over over (BeginsAnew j js priority rest ended) =
           let some : 0 < step.job.left = left_some step.job.role step.job.priority step.job.left step.others step.above
           has (omega arith) in
           let old = at_priority_is p step.job.priority step.job.left over in
           let new = not_at_priority p j.priority j.left (subst (λ q. q < p) (sym priority) positive) in
           omega (arith, before, after_jobs (j ∷ step.others) js, old, new, some)
-      less_over over (LeavesStack js) =
+      less_over over (LeavesStack js returned) =
           let some : 0 < step.job.left = left_some step.job.role step.job.priority step.job.left step.others step.above
           has (omega arith) in
           let old = at_priority_is p step.job.priority step.job.left over in
@@ -233,13 +232,13 @@ module _ (app : App) (accepted : IsAccepted app) (form : has_response_times app 
 
       -- a lower one owes nothing
       same_under : step.job.priority < p → Spends step.job step.others shown t.jobs → owes t ≤ owes s
-      same_under under (SpendsOne j js priority left rest no_end) =
+      same_under under (SpendsOne j js role priority left rest no_end) =
           let new = not_at_priority p j.priority j.left (subst (λ q. q < p) (sym priority) under) in
           omega (arith, before, after_jobs (j ∷ step.others) js, new)
-      same_under under (BeginsAnew j js priority rest) =
+      same_under under (BeginsAnew j js priority rest ended) =
           let new = not_at_priority p j.priority j.left (subst (λ q. q < p) (sym priority) positive) in
           omega (arith, before, after_jobs (j ∷ step.others) js, new)
-      same_under under (LeavesStack js) = omega (arith, before, after_jobs step.others js)
+      same_under under (LeavesStack js returned) = omega (arith, before, after_jobs step.others js)
 
       taken : (entered left : ℕ) → Low app p entered left s.jobs v.jobs → p ≤ system_ceiling app s.jobs
           → Took app p positive entered left step.seen t.jobs u.jobs

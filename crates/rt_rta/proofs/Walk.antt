@@ -1,25 +1,27 @@
 -- A stretch of a run in which something is owed to a priority: it is over before the response time has passed.
-use Rattle.std.proofs.Common.{◌≡◌, ℕ, zero, suc, ◌+◌, ◌-◌, ◌*◌, ◌/◌, ◌≤◌, ◌<◌, ◌^◌, ◌==◌, ◌⊎◌, inl, inr, Bool, true}
-use Rattle.std.proofs.Common.{false, if◌then◌else◌, List, [], ◌∷◌, Option, Some, None, refl, sym, ap, subst, ◌∙◌, arith}
+use Rattle.std.proofs.Common.{◌≡◌, ℕ, suc, ◌+◌, ◌-◌, ◌*◌, ◌≤◌, ◌<◌, ◌^◌, ◌==◌, ◌⊎◌, inl, inr, Bool, true}
+use Rattle.std.proofs.Common.{false, if◌then◌else◌, List, slice_index_or, Option, Some, None, IsSome, refl, sym}
+use Rattle.std.proofs.Common.{ap, subst, ◌∙◌, arith}
 use Rattle.std.proofs.lemmas.Bool.{eqb-true}
 use Rattle.std.proofs.lemmas.Nat.{le-div}
-use Rattle.rt_trace.specs.Label.{Label, Arrived, Ticked, Rang, Stepped}
+use Rattle.rt_ids.specs.Lists.{or_zero}
+use Rattle.rt_trace.specs.Label.{Arrived}
 use Rattle.rt_app.specs.Tree.{App}
 use Rattle.rt_app.specs.Waiting.{waiting_bound}
 use Rattle.rt_app.specs.Accepted.{IsAccepted}
 use Rattle.rt_app.specs.Forms.{has_response_times}
-use Rattle.rt_laws.specs.State.{Job, State}
-use Rattle.rt_laws.specs.Acting.{state_after_pend}
-use Rattle.rt_laws.specs.Allowed.{May, after}
-use Rattle.rt_laws.specs.Observer.{Seen, Observer, sees}
+use Rattle.rt_laws.specs.State.{State}
+use Rattle.rt_laws.specs.Allowed.{after}
+use Rattle.rt_laws.specs.Observer.{Observer, sees}
 use Rattle.rt_laws.proofs.Well.{StateWell}
 use Rattle.rt_laws.proofs.Waiting.{Low, low_start}
 use Rattle.rt_rta.specs.declared.limits.Limit.{Limit}
 use Rattle.rt_rta.specs.Limits.{every_of}
-use Rattle.rt_rta.specs.Response.{most_requests, requests, demand, Suffices}
-use Rattle.rt_rta.proofs.Spacing.{Waits, requested, a_step_on}
-use Rattle.rt_rta.proofs.Owing.{Counts, one_more, owed, raised, raised_none, raised_within, request_raises}
-use Rattle.rt_rta.proofs.Stepping.{StaysQuiet, Lowers, zero_or_some}
+use Rattle.rt_rta.specs.Response.{requests, demand, Suffices}
+use Rattle.rt_rta.proofs.Spacing.{Waits, requested, a_step_on, pending_waits}
+use Rattle.rt_rta.proofs.Owing.{Counts, one_more, once, owed, owed_jobs, owed_pending, raised, raised_none}
+use Rattle.rt_rta.proofs.Owing.{raised_within, request_raises, pending_raises}
+use Rattle.rt_rta.proofs.Stepping.{Lowers, zero_or_some}
 
 -- so many requests of an interrupt fit into so many steps, where it has to wait so long from now on
 abbrev pub Fits : Option ℕ → ℕ → ℕ → ℕ → Type 0
@@ -83,6 +85,36 @@ module _ (app : App) (accepted : IsAccepted app) (form : has_response_times app 
         owing = omega (arith, none, raised_none app p app.tasks);
         fits = λ irq. fits_start (every_of limits irq) (waits irq) (short irq);
       }
+
+  -- it begins as `init` ends, where no job owes anything and what is pending was requested just now
+  pub fresh_from_end : (s : State) (v : Observer) (pending : List Bool) → StateWell app s v → s.pending ≡ pending
+      → ((irq : ℕ) → slice_index_or pending irq false ≡ true → IsSome (every_of limits irq))
+      → Short (pending_waits limits pending) → owed_jobs app p s.jobs ≡ 0
+      → Stretch s v (pending_waits limits pending) 0
+  fresh_from_end s v pending well is limited short none =
+      let start = low_start app p positive s.jobs v.jobs well.stack top in
+      let some = suffices.some in
+      let asked : owed_pending app p s.pending app.tasks ≡ owed_pending app p pending app.tasks =
+      ap (λ ps. owed_pending app p ps app.tasks) is in
+      record {
+        short_of = omega arith;
+        counts = once pending;
+        entered = start.0;
+        left = wait - 1;
+        low = start.1;
+        owing = omega (arith, none, asked, pending_raises app p pending app.tasks);
+        fits = λ irq. by irq (slice_index_or pending irq false) refl;
+      }
+    where
+      of : (irq : ℕ) (o : Option ℕ) → IsSome o → ((every : ℕ) → o ≡ Some every → 1 ≤ every) → Fits o 1 0 (or_zero o)
+      of irq None some positive = absurd cc
+      of irq (Some every) some positive = (omega arith, omega arith, positive every refl)
+
+      by : (irq : ℕ) (b : Bool) → slice_index_or pending irq false ≡ b
+          → Fits (every_of limits irq) (if b then 1 else 0) 0 (if b then or_zero (every_of limits irq) else 0)
+      by irq true set = of irq (every_of limits irq) (limited irq set) (λ every row. (short irq every row).1)
+      by irq false clear = fits_start (every_of limits irq) 0
+          (λ every row. let some = (short irq every row).1 in (omega arith, some))
 
   -- a request
   pub on_request : (s : State) (v : Observer) (waits : Waits) (steps irq every : ℕ) → Short waits

@@ -1,5 +1,5 @@
 ghost use Rattle.rt_rta.specs.Constants.{TellSteps};
-ghost use Rattle.rt_rta.specs.Laws.{RunsRespond};
+ghost use Rattle.rt_rta.specs.Laws.{OnceInitEndsSaysMore, RunsRespond, RunsRespondOnceInitEnds};
 
 /// The greatest response time that is looked for in numbers, as the documents have it.
 pub fn constants_are_as_documented()
@@ -10,4 +10,16 @@ pub fn constants_are_as_documented()
 /// within the response time of its priority.
 pub fn runs_respond()
     ensures { RunsRespond }
+{}
+
+/// Requests may also come during `init`: where they keep the limits once `init` ends, each request behind its end is
+/// served within the response time of its priority, and what was requested during `init` is served within it from the
+/// end on.
+pub fn runs_respond_once_init_ends()
+    ensures { RunsRespondOnceInitEnds }
+{}
+
+/// Where nothing is requested before `init` ends, that asks for no more than `runs_respond`, and says no less.
+pub fn once_init_ends_says_more()
+    ensures { OnceInitEndsSaysMore }
 {}

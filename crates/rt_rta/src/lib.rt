@@ -11,7 +11,9 @@ pub mod response;
 pub mod search;
 pub mod text;
 
-pub use laws::{constants_are_as_documented, runs_respond};
+pub use laws::{
+    constants_are_as_documented, once_init_ends_says_more, runs_respond, runs_respond_once_init_ends,
+};
 pub use limits::{Limit, Limits};
 pub use reading::read_limits;
 pub use refusal::LimitsRefused;
