@@ -12,3 +12,4 @@ pub mod Responding
 pub mod Least
 pub mod Telling
 pub mod OneWay
+pub mod ByClock

@@ -5,6 +5,7 @@ pub mod Response
 pub mod Report
 pub mod Kept
 pub mod Served
+pub mod ByClock
 pub mod Laws
 pub mod Inside
 pub mod Constants

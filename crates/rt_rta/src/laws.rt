@@ -1,3 +1,4 @@
+ghost use Rattle.rt_rta.specs.ByClock.{ResponseTimesHoldByClock};
 ghost use Rattle.rt_rta.specs.Constants.{TellSteps};
 ghost use Rattle.rt_rta.specs.Laws.{OnceInitEndsSaysMore, RunsRespond, RunsRespondOnceInitEnds};
 
@@ -22,4 +23,11 @@ pub fn runs_respond_once_init_ends()
 /// Where nothing is requested before `init` ends, that asks for no more than `runs_respond`, and says no less.
 pub fn once_init_ends_says_more()
     ensures { OnceInitEndsSaysMore }
+{}
+
+/// Where no core step lasts longer than so many cycles or microseconds, requests whose distances are kept in steps of
+/// that duration keep the limits, and each is served within the response time in such steps.
+#[tactic(auto, using(crate::proofs::ByClock::response_times_hold_by_clock))]
+pub fn response_times_hold_by_clock()
+    ensures { ResponseTimesHoldByClock }
 {}

@@ -12,7 +12,8 @@ pub mod search;
 pub mod text;
 
 pub use laws::{
-    constants_are_as_documented, once_init_ends_says_more, runs_respond, runs_respond_once_init_ends,
+    constants_are_as_documented, once_init_ends_says_more, response_times_hold_by_clock,
+    runs_respond, runs_respond_once_init_ends,
 };
 pub use limits::{Limit, Limits};
 pub use reading::read_limits;
