@@ -17,6 +17,7 @@ use Rattle.rt_code.specs.Acting.{Acts, Noted}
 use Rattle.rt_code.specs.Effect.{effect}
 use Rattle.rt_code.specs.Image.{Image}
 use Rattle.rt_code.specs.Masking.{EntersSection, LeavesSection}
+use Rattle.rt_code.specs.Operands.{are_there}
 use Rattle.rt_code.specs.Owning.{Kind, Marked, Raised, Masked, Configuration, MayAccess, saved_slot}
 use Rattle.rt_code.specs.Processor.{Processor, Effect, Traps, Leads}
 use Rattle.rt_code.specs.Stack as stack
@@ -26,10 +27,12 @@ use Rattle.rt_code.specs.Tables.{arguments_in}
 use Rattle.rt_code.specs.Cells.{resource_value}
 use Rattle.rt_code.specs.declared.image.BodyRow.{BodyRow}
 use Rattle.rt_code.specs.declared.instr.Instr.{Instr}
+use Rattle.rt_code.specs.declared.instr.Instr.TheVariants as instr
 use Rattle.rt_code.specs.declared.instr.Note.{Note}
 use Rattle.rt_code.specs.declared.instr.Note.TheVariants as note
 use Rattle.rt_code.specs.declared.processor.Request.{Request}
 use Rattle.rt_code.specs.declared.processor.Request.TheVariants as request
+use Rattle.rt_code.specs.declared.processor.Trap.{Trap}
 use Rattle.rt_code.specs.declared.processor.Trap.TheVariants as trap
 use Rattle.rt_code.proofs.Asking.{clock_time, call_stays, return_stays, opening_touches, closing_touches}
 use Rattle.rt_code.proofs.Standing.{stands_left, stands_fits}
@@ -44,7 +47,7 @@ use Rattle.rt_core.specs.Outcome.{Trapped, Done, settle}
 use Rattle.rt_core.specs.Priority.{pick}
 use Rattle.rt_core.specs.Standing.{StepsBy, BySilence, ByNote, ByEmit, ByPost, ByClock, ByAlarm, ByNoAlarm, ByEnter}
 use Rattle.rt_core.specs.Standing.{ByLeave, ByCall, ByBack, ByEndOfInit, ByEndOfIdle, ByReturn, StepsAsStands}
-use Rattle.rt_core.specs.Standing.{StandingLeads}
+use Rattle.rt_core.specs.Standing.{ClockFits, StandingLeads}
 use Rattle.rt_core.specs.Stepping.{step, go_on, outcome_of_note, with_note}
 use Rattle.rt_core.specs.Transfer.{core_after_call, call, call_row, has_room, back_to, outcome_of_return}
 use Rattle.rt_core.specs.Transfer.{exception_return}
@@ -103,7 +106,7 @@ value_left img c x (Masked slot) = value_kept img c x (processor_after_closing c
 
 module _ (img : Image) (st : Storage) (thread : ℕ) (who : Runner) (c : Core) (s : Configuration) (later : Configuration
     → Type 0)
-    (at : IsAt c s) (early : c.time < 2 ^ 31) where
+    (at : IsAt c s) (early : ClockFits c s) where
   -- the item of a note
   note_shows : (p : Processor) (told : Note) (a : Noted st img.bodies who told (configuration_after (spend_step s) p)
       later)
@@ -137,6 +140,27 @@ module _ (img : Image) (st : Storage) (thread : ℕ) (who : Runner) (c : Core) (
       ∙ ap (λ o. settle (outcome_of_note (with_processor c p) (option_map (λ instant. what.Move n a.handle instant) o)))
       a.put_off
   note_shows p told a = absurd a
+
+  -- an instruction with this effect goes on as it should, with the masks as they are
+  abbrev GoesOn : Option Note → Effect → Type 0
+  GoesOn told e = Goes st img.code img.bodies thread who told c.processor.basepri c.processor.primask (spend_step s)
+      later e
+
+  -- `clock` at time 0 tells that the job reads the clock next
+  clock_early : (told : Option Note) (there : Bool) (t : Trap) (p : Processor)
+      → GoesOn told (if not there then Traps t else Leads p (request.Clock 0)) → c.time < 2 ^ 31
+  clock_early told false t p g = absurd g
+  clock_early None true t p g = early g.3.values g.3.follows g.3.is
+  clock_early (Some told) true t p g = absurd g.3
+
+  -- every other instruction has the effect that it has at time 0
+  goes_on : (i : Instr) (told : Option Note) → Does st img.code img.bodies thread who i told (spend_step s) later
+      → GoesOn told (effect i c.time (processor_of s c.processor.basepri c.processor.primask))
+  goes_on (instr.Clock d) told does =
+      does.goes c.time c.processor.basepri c.processor.primask
+      (clock_early told (are_there (d ∷ []) s.slots) trap.Stack _
+      (does.goes 0 c.processor.basepri c.processor.primask (omega arith)))
+  goes_on i told does = does.goes 0 c.processor.basepri c.processor.primask (omega arith)
 
   module _ (i : Instr) where
     -- what an instruction asks, once it has led the processor on
@@ -197,7 +221,7 @@ module _ (img : Image) (st : Storage) (thread : ℕ) (who : Runner) (c : Core) (
     does told by d = led (effect i c.time c.processor) told refl by
         (subst (λ p. Goes st img.code img.bodies thread who told c.processor.basepri c.processor.primask
         (spend_step s) later (effect i c.time p)) (processor_at c s at)
-        (d.goes c.time c.processor.basepri c.processor.primask early))
+        (goes_on i told d))
 
     enters : (x : Section) → step img c ≡ settle (go_on img c (Some (note.Enter x)) (effect i c.time c.processor))
         → EntersSection st who x i (spend_step s) later
@@ -272,7 +296,7 @@ module _ (img : Image) (st : Storage) (thread : ℕ) (who : Runner) (c : Core) (
 -- the line that the core is at
 module _ (img : Image) (st : Storage) (thread : ℕ) (who : Runner) (c : Core) (s : Configuration) (later : Configuration
     → Type 0) where
-  line_leads : (o : Option (Instr × Option Note)) → c.stopped ≡ false → pick img c ≡ None → c.time < 2 ^ 31 → IsAt c s
+  line_leads : (o : Option (Instr × Option Note)) → c.stopped ≡ false → pick img c ≡ None → ClockFits c s → IsAt c s
       → AllByRecursion (λ n. 0 < n) s.lefts → slice_get img.code c.processor.address ≡ o
       → LineFits st img.code img.bodies thread who o (spend_step s) later
       → StepsAsStands img st thread who c s later

@@ -4,6 +4,8 @@
 use Rattle.std.specs.Prelude.{◌≡◌, ℕ, suc, ◌^◌, ◌<◌, true, false, List, ◌∷◌, Option, Some, None}
 use Rattle.rt_ids.specs.Lists.{is_empty}
 use Rattle.rt_ids.specs.Action.{Action, Emits, Posts, Clocks, Ends, Returns}
+use Rattle.rt_ids.specs.Content.{Values}
+use Rattle.rt_ids.specs.Doing.{Doing, does}
 use Rattle.rt_ids.specs.Storage.{Storage, Runner, Starting, AtPriority}
 use Rattle.rt_ids.specs.declared.ids.BodyId.TheVariants as body
 use Rattle.rt_ids.specs.declared.ids.Section.{Section}
@@ -101,9 +103,14 @@ module _ (img : Image) (st : Storage) (thread : ℕ) (who : Runner) (c : Core) (
     pub touches : MayAccess st who s (access img c)
     pub by : StepsBy
 
+-- Where the job reads the clock next, the time is below 2 ^ 31, so that it fits a word with every delay added. No other
+-- instruction goes by the time.
+abbrev pub ClockFits : Core → Configuration → Type 0
+ClockFits c s = (made : Values) (next : ℕ → Values → Doing Values) → s.rest ≡ does Clocks made next → c.time < 2 ^ 31
+
 -- Where the core is at a job whose code stands, a step of the core is one of these, and the code stands after it.
 abbrev pub StandingLeads : Storage → Type 0
 StandingLeads st = (img : Image) (thread : ℕ) (who : Runner) (c : Core) (s : Configuration) (n : ℕ)
-    → c.stopped ≡ false → pick img c ≡ None → c.time < 2 ^ 31 → IsAt c s
+    → c.stopped ≡ false → pick img c ≡ None → ClockFits c s → IsAt c s
     → Stands st img.code img.bodies thread who (suc n) s
     → StepsAsStands img st thread who c s (Stands st img.code img.bodies thread who n)
