@@ -1,5 +1,5 @@
 -- What a step touches of shared resources the running job may touch, as one sees the jobs.
-use Rattle.std.proofs.Common.{◌≡◌, ℕ, zero, suc, ◌^◌, ◌<◌, ◌||◌, ◌⊎◌, inl, inr, Bool, true, false, List, [], ◌∷◌}
+use Rattle.std.proofs.Common.{◌≡◌, ℕ, zero, suc, ◌<◌, ◌||◌, ◌⊎◌, inl, inr, Bool, true, false, List, [], ◌∷◌}
 use Rattle.std.proofs.Common.{length, map, Option, Some, None, refl, sym, ap, subst, ◌∙◌}
 use Rattle.rt_lemmas.proofs.Bools.{and_parts, or_cases}
 use Rattle.rt_ids.specs.Choice.{IsIn}
@@ -32,6 +32,7 @@ use Rattle.rt_sim.specs.Inside.States.{core_of, state_of}
 use Rattle.rt_sim.specs.Inside.PartInvariant.{who, StandsBy}
 use Rattle.rt_sim.specs.Inside.CouplingInvariant.{IsStacked, CouplingInvariant}
 use Rattle.rt_sim.proofs.Alike.{with_rows}
+use Rattle.rt_sim.proofs.Fitting.{FitIn, clock_fits}
 use Rattle.rt_sim.proofs.Plain.{IsWorking, is_at}
 
 -- a section that is open stands among the sections
@@ -140,9 +141,9 @@ module _ (app : App) (img : Image) (thread : ℕ)
   no_steps s = s
 
   -- the access of the next step is guarded
-  pub access_is_guarded : (v : Observer) → StateWell app (state_of m) v → m.time < 2 ^ 31
+  pub access_is_guarded : (v : Observer) → StateWell app (state_of m) v → FitIn app m
       → IsGuarded app img v.jobs (access img (core_of app.bits m))
-  access_is_guarded v well early = by_pick (pick img (core_of app.bits m)) refl
+  access_is_guarded v well fit = by_pick (pick img (core_of app.bits m)) refl
     where
       working : IsWorking m.running.role → pick img (core_of app.bits m) ≡ None → (n : ℕ)
           → Stands (storage app) img.code m.running.rows thread (who m.running) n
@@ -152,8 +153,8 @@ module _ (app : App) (img : Image) (thread : ℕ)
       working works picked (suc n) stands =
           may_is_guarded v well (access img (core_of app.bits m))
           (standing_leads (storage app) (with_rows img m.running.rows) thread (who m.running) (core_of app.bits m)
-          (configuration_of m.cells m.queues m.running) n refl picked early
-          (is_at app img thread m invariant works) stands).touches
+          (configuration_of m.cells m.queues m.running) n refl picked
+          (clock_fits app img thread m invariant works fit) (is_at app img thread m invariant works) stands).touches
 
       by_role : (role : Role) → m.running.role ≡ role → pick img (core_of app.bits m) ≡ None
           → StandsBy app img thread role m.cells m.queues m.running

@@ -200,7 +200,7 @@ module _ (app : App) (accepted : IsAccepted app) (sound : IsSound app) where
         λ n ws entered. (
           λ h away. refl,
           (
-            tt,
+            ap is_some is,
             λ time xs known. fire_respects (due app time (delays (xs (Guarded section.Timer))))
                 (due_holds app IsKnown time (delays (xs (Guarded section.Timer))) known) xs,
           ),

@@ -50,6 +50,7 @@ use Rattle.rt_sim.proofs.Others.{all_clear, others_kept, not_so}
 use Rattle.rt_sim.proofs.Plain.{IsWorking, lefts_passed, length-passed, saves_kept, own_kept, apart_of, stands_by}
 use Rattle.rt_sim.proofs.Plain.{may_turn}
 use Rattle.rt_sim.proofs.Acts.{owns_alike, agrees_reached, agreed, respects_next, gives_item, acts_as}
+use Rattle.rt_sim.proofs.Fitting.{FitIn, fits_timed}
 use Rattle.rt_sim.proofs.Entering.{owns_less, reads_less, free_below}
 
 -- a list in which another slot is set is the same at these
@@ -131,14 +132,16 @@ may_arm_into (Number n) few = tt
 may_arm_into (Messages ms) few = tt
 may_arm_into (Delays t) few = few
 
-may_arm : (app : App) (m : Coupling) (x : Section) → armings m.values < 2 ^ 31
+may_arm : (app : App) (m : Coupling) (x : Section) → FitIn app m
     → (storage app).Represents (Guarded x) (slice_index m.cells) (m.queues (Guarded x)) (m.values (Guarded x))
     → MayArm (m.values (Guarded x))
 unfolding storage
 may_arm app m (section.Res r) few represents = subst (λ content. MayArm content) (sym represents.1) tt
 may_arm app m (section.Free n) few represents = subst (λ content. MayArm content) (sym represents.1.out) tt
 may_arm app m (section.Ready p) few represents = subst (λ content. MayArm content) (sym represents.1.messages) tt
-may_arm app m section.Timer few represents = may_arm_into (m.values (Guarded section.Timer)) few
+may_arm app m section.Timer fit represents =
+    let few : m.time + armings m.values < 2 ^ 31 = fits_timed app (m.time + armings m.values) fit represents.0 in
+    may_arm_into (m.values (Guarded section.Timer)) (omega (arith, few))
 
 module _ (app : App) (img : Image) (thread : ℕ) where
   -- the running job inside a section more
@@ -203,7 +206,7 @@ module _ (app : App) (img : Image) (thread : ℕ) where
   )
 
   module _ (m : Coupling) (invariant : CouplingInvariant app img thread m) (works : IsWorking m.running.role)
-      (few : armings m.values < 2 ^ 31) (n : ℕ)
+      (few : FitIn app m) (n : ℕ)
       (none : candidate app (state_of m) ≡ None)
       (left : HaveLeft (m.running.lefts ++ m.running.left ∷ [])) (x : Section) (i : Instr)
       (goes : EntersSection (storage app) (who m.running) x i (spend_step (configuration_of m.cells m.queues m.running))

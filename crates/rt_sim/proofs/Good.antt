@@ -1,11 +1,11 @@
 -- Every image of an accepted application is good.
-use Rattle.std.proofs.Common.{◌≡◌, ℕ, zero, suc, ◌+◌, ◌^◌, ◌<◌, ◌≤◌, Bool, true, false, if◌then◌else◌, List, [], ◌∷◌}
+use Rattle.std.proofs.Common.{◌≡◌, ℕ, suc, ◌<◌, ◌≤◌, Bool, true, false, if◌then◌else◌, List, [], ◌∷◌}
 use Rattle.std.proofs.Common.{length, take, slice_get, Option, Some, None, refl, sym, ap, subst, ◌∙◌, arith}
 use Rattle.std.specs.List.{AllByRecursion}
 use Rattle.std.proofs.lemmas.List.{length-map}
 use Rattle.std.proofs.lemmas.Option.{none-some, same_Some, slice_get_within}
 use Rattle.rt_ids.specs.Lists.{then_from}
-use Rattle.rt_ids.specs.Event.{Event, Arrive, Tick, Step}
+use Rattle.rt_ids.specs.Event.{Event}
 use Rattle.rt_ids.specs.Action.{Action, Enters, Leaves, Emits, Posts, Clocks, Places, FindsFull, Readies, Starts, Frees}
 use Rattle.rt_ids.specs.Action.{Arms, Fires, Cancels, Moves, SetsAlarm, Ends, Returns}
 use Rattle.rt_ids.specs.Content.{Values}
@@ -25,7 +25,7 @@ use Rattle.rt_code.specs.Cells.{cell_named, resource_cell}
 use Rattle.rt_code.specs.Image.{Image}
 use Rattle.rt_core.specs.Access.{access}
 use Rattle.rt_core.specs.Core.{Core, reset, depth}
-use Rattle.rt_core.specs.Trace.{core_after, labels}
+use Rattle.rt_core.specs.Trace.{labels}
 use Rattle.rt_core.proofs.Showing.{shows_its_events}
 use Rattle.rt_laws.specs.State.{Role, Init, Idle, Waiting, Serving, Job, State, first}
 use Rattle.rt_laws.specs.Giving.{gives, item_given, item_of, next_item, return_item, next_instant, is_due}
@@ -33,23 +33,17 @@ use Rattle.rt_laws.specs.Allowed.{May, after}
 use Rattle.rt_laws.specs.Run.{RunsOn}
 use Rattle.rt_laws.specs.Observer.{Observer, first_sight, sees_all}
 use Rattle.rt_laws.proofs.Well.{StateWell}
-use Rattle.rt_laws.proofs.Armings.{armings, first_armings}
-use Rattle.rt_laws.proofs.Fine.{Queued}
 use Rattle.rt_laws.proofs.Happens.{first_well}
 use Rattle.rt_laws.proofs.Keeping.{runs_keep_laws}
 use Rattle.rt_laws.proofs.AllMoments.{runs_keep_messages}
 use Rattle.rt_sim.specs.Guarded.{IsGuarded}
-use Rattle.rt_sim.specs.Good.{AreDeclared, RunsWell, ImagesAreGood}
-use Rattle.rt_sim.specs.Inside.Coupling.{Coupling}
-use Rattle.rt_sim.specs.Inside.States.{core_of, state_of}
-use Rattle.rt_sim.specs.Inside.CouplingInvariant.{CouplingInvariant}
-use Rattle.rt_sim.specs.Inside.Agrees.{StepsBoth}
+use Rattle.rt_sim.specs.Good.{AreDeclared, CountsFit, RunsWell, ImagesAreGood}
 use Rattle.rt_sim.proofs.Access.{access_is_guarded}
-use Rattle.rt_sim.proofs.Bodies.{init_respects, idle_respects, task_respects, dispatcher_respects, timer_respects}
+use Rattle.rt_sim.proofs.Armed.{front_fits}
 use Rattle.rt_sim.proofs.Depth.{depth_within}
-use Rattle.rt_sim.proofs.Running.{well_after, Reaches, reaches}
-use Rattle.rt_sim.proofs.Starting.{agrees_first}
-use Rattle.rt_sim.proofs.Stepping.{step_both}
+use Rattle.rt_sim.proofs.Reached.{front_declared, reached_by, reached_fits}
+use Rattle.rt_sim.proofs.Running.{well_after}
+use Rattle.rt_sim.proofs.Unspent.{leaves_steps}
 
 -- Baker's machine never traps
 not_trap : (s : State) (role : Role) (rest : Doing Values) (k : ℕ) → next_item s role rest ≡ Some (what.Trap k) → ⊥
@@ -107,28 +101,9 @@ module _ (app : App) where
   no_traps (Stepped (Some w) ∷ labels) s n runs =
       (no_reason s w runs.0, no_traps labels (after app s (Stepped (Some w))) (suc n) runs.1)
 
-  -- a front of events is declared
-  pub front_declared : (events : List Event) (n : ℕ) → AreDeclared app events → AreDeclared app (take n events)
-  front_declared events zero declared = tt
-  front_declared [] (suc n) declared = tt
-  front_declared (Arrive irq ∷ events) (suc n) declared = (declared.0, front_declared events n declared.1)
-  front_declared (Tick ∷ events) (suc n) declared = front_declared events n declared
-  front_declared (Step ∷ events) (suc n) declared = front_declared events n declared
-
-pub front_short : (events : List Event) (n : ℕ) → length (take n events) ≤ length events
-front_short events zero = omega arith
-front_short [] (suc n) = omega arith
-front_short (e ∷ events) (suc n) = omega (arith, front_short events n)
-
 module _ (app : App) (img : Image) (accepted : IsAccepted app) (is_image : IsImageOf app img) where
   sound : IsSound app
   sound = accepted_are_sound app accepted
-
-  pub steps_both : (m : Coupling) → CouplingInvariant app img is_image.at.idle m → Queued app m.values
-      → m.time + armings m.values < 2 ^ 31 → StepsBoth app img is_image.at.idle (core_of app.bits m) (state_of m)
-  steps_both = step_both app img accepted sound is_image
-      (resource_numbers app is_image.at img is_image.tables sound) (idle_respects app accepted sound)
-      (task_respects app accepted sound) (dispatcher_respects app accepted sound) (timer_respects app accepted sound)
 
   -- the cell that the image names as a resource is the one that has it
   cell_is : (r cell : ℕ) → resource_cell img r ≡ Some cell → (r < length app.shared) × (cell ≡ resource_at app r)
@@ -144,24 +119,18 @@ module _ (app : App) (img : Image) (accepted : IsAccepted app) (is_image : IsIma
       named_within None at is = absurd (none-some cell is)
       named_within (Some name) at is = omega (arith, declared, slice_get_within img.names.shared r name at)
 
-  pub reached_by : (events : List Event) → length events < 2 ^ 31 → AreDeclared app events
-      → Reaches app accepted img is_image.at.idle steps_both (reset img) (first app) events
-  reached_by events few declared =
-      reaches app accepted img is_image.at.idle steps_both events (reset img) (first app) (first_sight app)
-      (agrees_first app img accepted sound is_image (init_respects app accepted sound)) (first_well app accepted)
-      (omega (arith, few, first_armings app accepted)) declared
-
-  runs_well : (events : List Event) → length events < 2 ^ 31 → AreDeclared app events → RunsWell app img events
-  runs_well events few declared =
-      let whole = reached_by events few declared in
+  runs_well : (events : List Event) → CountsFit app img events → AreDeclared app events → RunsWell app img events
+  runs_well events fit declared =
+      let whole = reached_by app img accepted is_image events fit declared in
       record {
         runs = whole.runs;
         counts = whole.counts;
         shows = shows_its_events img events;
         laws = runs_keep_laws app accepted (labels img (reset img) events) whole.runs;
         messages = runs_keep_messages app accepted (labels img (reset img) events) whole.runs;
+        unspent = leaves_steps app img accepted is_image events fit declared;
         stack_within = λ n.
-            let part = reached_by (take n events) (omega (arith, few, front_short events n))
+            let part = reached_by app img accepted is_image (take n events) (front_fits app img events n fit)
             (front_declared app events n declared) in
             subst (λ (c : Core). depth img c ≤ stack_bytes app) (sym part.agrees.core)
             (depth_within app img is_image.at.idle is_image.tables.fpu accepted.limits.most_bits part.agrees.coupling
@@ -169,18 +138,15 @@ module _ (app : App) (img : Image) (accepted : IsAccepted app) (is_image : IsIma
         no_trap = no_traps app (labels img (reset img) events) (first app) 0 whole.runs;
         guarded = λ n.
             let front : List Event = take n events in
-            let short : length front < 2 ^ 31 = omega (arith, few, front_short events n) in
-            let part = reached_by front short (front_declared app events n declared) in
+            let fitting = front_fits app img events n fit in
+            let part = reached_by app img accepted is_image front fitting (front_declared app events n declared) in
             let well = well_after app accepted (labels img (reset img) front) (first app) (first_sight app)
             (first_well app accepted) part.runs in
             let v : Observer = sees_all app (first_sight app) (labels img (reset img) front) in
-            let early : part.agrees.coupling.time < 2 ^ 31 =
-            let same : (core_after img (reset img) front).time ≡ part.agrees.coupling.time =
-            ap (λ (c : Core). c.time) part.agrees.core in
-            omega (arith, same, part.time, short, first_armings app accepted) in
             subst (λ (c : Core). IsGuarded app img v.jobs (access img c)) (sym part.agrees.core)
             (access_is_guarded app img is_image.at.idle cell_is part.agrees.coupling part.agrees.invariant v
-            (subst (λ s. StateWell app s v) part.agrees.state well) early);
+            (subst (λ s. StateWell app s v) part.agrees.state well)
+            (reached_fits app img accepted is_image front fitting (front_declared app events n declared)));
       }
 
 pub images_are_good : ImagesAreGood

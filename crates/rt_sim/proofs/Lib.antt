@@ -3,6 +3,8 @@ pub mod Others
 pub mod ExecutionPriority
 pub mod Plain
 pub mod Acts
+pub mod Fitting
+pub mod Armed
 pub mod Alarms
 pub mod Moves
 pub mod BodyRows
@@ -27,8 +29,9 @@ pub mod Owned
 pub mod Ownerships
 pub mod Bodies
 pub mod Access
-pub mod Good
+pub mod Reached
 pub mod Unspent
+pub mod Good
 pub mod Responding
 pub mod Rows
 pub mod Prepared

@@ -109,7 +109,7 @@ module _ (app : App) (who : Runner) (handles : Bool) where
       (λ vs. (
         λ h away. refl,
         (
-          tt,
+          there,
           λ time ws known. act_respects (section.Timer ∷ held) (Arms (instant_after app time delay) message)
               (λ vs. leave_timer app (rest (timer_content (vs (Guarded section.Timer))).given) vs) tt
               (λ xs. leave_respects held (rest (timer_content (xs (Guarded section.Timer))).given)
@@ -157,7 +157,7 @@ module _ (app : App) (who : Runner) (handles : Bool) where
         | true ↦ (
           λ h away. refl,
           (
-            tt,
+            there,
             λ time ws known. act_respects (section.Timer ∷ held) (Moves n handle (instant_after app time delay))
                 (leave_timer app moved) tt (leave_respects held moved found) ws,
           ),
@@ -235,7 +235,7 @@ module _ (app : App) (who : Runner) (handles : Bool) where
       statement_respects (Bind x (Calc e)) n locked fixed later sound fine =
           λ vars vs. fine (slice_set vars x (value_in vars vs e)) vs
       statement_respects (Bind x (Now at)) n locked fixed later sound fine =
-          λ vars vs. (λ h away. refl, (tt, λ time ws entered. fine (slice_set vars x time) ws))
+          λ vars vs. (λ h away. refl, (ap is_some sound.1.1, λ time ws entered. fine (slice_set vars x time) ws))
       statement_respects (Bind x (Call s)) n locked fixed later sound fine = λ vars vs.
           spawn_respects (sections_locked locked) locked (value_in vars vs) s
           (λ answer. later (slice_set vars x answer))

@@ -80,10 +80,10 @@ module _ (app : App) where
       (declared_behind (Stepped (step img c).1 ∷ []) (labels img (step img c).0 events) declared)
 
 pub images_respond : ImagesRespond
-images_respond app img accepted is_image form limits are events few kept =
+images_respond app img accepted is_image form limits are events fit kept =
     let declared : AreDeclared app events =
     events_declared app img events (reset img)
     (λ front behind irq is. limited_declared app limits are irq (kept.limited front behind irq is)) in
     runs_respond app accepted form limits are (labels img (reset img) events)
-    ((images_are_good app img accepted is_image).each events few declared).runs kept
-    (images_leave_steps app img accepted is_image events few declared)
+    ((images_are_good app img accepted is_image).each events fit declared).runs kept
+    (images_leave_steps app img accepted is_image events fit declared)

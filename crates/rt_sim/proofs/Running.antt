@@ -1,5 +1,5 @@
 -- Over all events: what the core shows is a run of Baker's machine, and the two agree at the end.
-use Rattle.std.proofs.Common.{◌≡◌, ℕ, ◌+◌, ◌^◌, ◌<◌, ◌≤◌, true, List, [], ◌∷◌, ◌++◌, length, slice_set, Option}
+use Rattle.std.proofs.Common.{◌≡◌, ℕ, ◌+◌, ◌≤◌, true, cond, List, [], ◌∷◌, ◌++◌, slice_set, Option}
 use Rattle.std.proofs.Common.{refl, sym, ap, subst, ◌∙◌, arith, length-set}
 use Rattle.rt_ids.specs.Event.{Event, Arrive, Tick, Step}
 use Rattle.rt_ids.specs.Event.{steps as steps_in}
@@ -17,18 +17,20 @@ use Rattle.rt_laws.specs.Allowed.{after}
 use Rattle.rt_laws.specs.Run.{RunsOn}
 use Rattle.rt_laws.specs.ByItems.{after_all}
 use Rattle.rt_laws.specs.Observer.{Observer, sees, sees_all}
-use Rattle.rt_laws.proofs.Armings.{armings, rises}
+use Rattle.rt_laws.proofs.Armings.{armings}
 use Rattle.rt_laws.proofs.ByItems.{runs_append, after_append}
 use Rattle.rt_laws.proofs.Fine.{Queued}
 use Rattle.rt_laws.proofs.Happens.{happens as happens_well, after_well}
 use Rattle.rt_laws.proofs.Well.{StateWell}
-use Rattle.rt_sim.specs.Good.{AreDeclared}
+use Rattle.rt_sim.specs.Good.{AreDeclared, is_tick}
 use Rattle.rt_sim.specs.Inside.Coupling.{Coupling}
 use Rattle.rt_sim.specs.Inside.States.{core_of, state_of}
 use Rattle.rt_sim.specs.Inside.CouplingInvariant.{CouplingInvariant}
 use Rattle.rt_sim.specs.Inside.Agrees.{Agrees, StepsBoth}
 use Rattle.rt_sim.proofs.Acts.{pending_invariant}
 use Rattle.rt_sim.proofs.Alarms.{ticks}
+use Rattle.rt_sim.proofs.Armed.{armed, counted, counted_more, armings_shown}
+use Rattle.rt_sim.proofs.Fitting.{Fits, FitIn}
 
 module _ (app : App) where
   -- what is seen of the jobs is so behind labels
@@ -40,24 +42,24 @@ module _ (app : App) where
       (after_well app accepted s v well label (happens_well app accepted s v well label runs.0)) runs.1
 
 module _ (app : App) (accepted : IsAccepted app) (img : Image) (thread : ℕ)
-    (steps : (m : Coupling) → CouplingInvariant app img thread m → Queued app m.values → m.time + armings m.values
-    < 2 ^ 31
+    (steps : (m : Coupling) → CouplingInvariant app img thread m → Queued app m.values → FitIn app m
     → StepsBoth app img thread (core_of app.bits m) (state_of m)) where
-  -- What one event leads to. It may show the alarm of a tick behind that tick. Time and armings together rise by one at
-  -- most.
+  -- What one event leads to. It may show the alarm of a tick behind that tick. Time rises by a tick, and armings by
+  -- what is shown.
   pub record Happens (c : Core) (s : State) (e : Event) : Type 0 where
     pub core : Core
     pub shown : List Label
     pub is : happen img c e ≡ (core, shown)
     pub runs : RunsOn app s shown
     pub agrees : Agrees app img thread core (after_all app s shown)
-    pub time : core.time + armings (after_all app s shown).values ≤ c.time + armings s.values + 1
+    pub time : core.time + armings (after_all app s shown).values ≤ c.time + armings s.values
+        + (cond (is_tick e) 1 0 + armed shown)
     pub counts : (ls : List Label) → steps_of (shown ++ ls) ≡ steps_in (e ∷ []) + steps_of ls
 
   happens : (m : Coupling) → CouplingInvariant app img thread m → (v : Observer) → StateWell app (state_of m) v
-      → m.time + armings m.values < 2 ^ 31 → (e : Event) → AreDeclared app (e ∷ [])
+      → FitIn app m → (e : Event) → AreDeclared app (e ∷ [])
       → Happens (core_of app.bits m) (state_of m) e
-  happens m invariant v well few (Arrive irq) declared = record {
+  happens m invariant v well fit (Arrive irq) declared = record {
     core = core_of app.bits (record m { pending = slice_set m.pending irq true });
     shown = Arrived irq ∷ [];
     is = happens_by_event.arrive img (core_of app.bits m) irq;
@@ -72,7 +74,7 @@ module _ (app : App) (accepted : IsAccepted app) (img : Image) (thread : ℕ)
     time = omega arith;
     counts = λ ls. omega arith;
   }
-  happens m invariant v well few Tick declared =
+  happens m invariant v well fit Tick declared =
       let one = ticks app img thread m invariant in
       let values_same : armings (after_all app (after app (state_of m) Ticked) one.shown).values ≡ armings m.values =
       ap (λ (s : State). armings s.values) one.state ∙ ap armings one.values in
@@ -86,8 +88,8 @@ module _ (app : App) (accepted : IsAccepted app) (img : Image) (thread : ℕ)
         time = omega (arith, one.time, values_same);
         counts = λ ls. omega (arith, one.silent ls);
       }
-  happens m invariant v well few Step declared =
-      let both = steps m invariant well.queued few in
+  happens m invariant v well fit Step declared =
+      let both = steps m invariant well.queued fit in
       let kept : both.core.time ≡ m.time = ap (λ (r : Core × Option What). r.0.time) (sym both.is)
       ∙ step_keeps_time img (core_of app.bits m) in
       record {
@@ -97,7 +99,7 @@ module _ (app : App) (accepted : IsAccepted app) (img : Image) (thread : ℕ)
             ∙ ap (λ (r : Core × Option What). (r.0, Stepped r.1 ∷ [])) both.is;
         runs = (both.may, tt);
         agrees = both.agrees;
-        time = omega (arith, kept, rises app accepted (state_of m) v well (Stepped both.shown));
+        time = omega (arith, kept, armings_shown app accepted (state_of m) v well (Stepped both.shown) both.may);
         counts = λ ls. omega arith;
       }
 
@@ -109,22 +111,22 @@ module _ (app : App) (accepted : IsAccepted app) (img : Image) (thread : ℕ)
   -- after events
   pub record Reaches (c : Core) (s : State) (events : List Event) : Type 0 where
     pub time : (core_after img c events).time + armings (after_all app s (labels img c events)).values
-        ≤ c.time + armings s.values + length events
+        ≤ c.time + armings s.values + counted img c events
     pub counts : steps_of (labels img c events) ≡ steps_in events
     pub runs : RunsOn app s (labels img c events)
     pub agrees : Agrees app img thread (core_after img c events) (after_all app s (labels img c events))
 
   -- an event of two that agree
   happens_next : (c : Core) (s : State) (v : Observer) → Agrees app img thread c s → StateWell app s v
-      → c.time + armings s.values < 2 ^ 31 → (e : Event) → AreDeclared app (e ∷ []) → Happens c s e
-  happens_next c s v agrees well few e declared =
+      → Fits app (c.time + armings s.values) → (e : Event) → AreDeclared app (e ∷ []) → Happens c s e
+  happens_next c s v agrees well fit e declared =
       let same : c.time ≡ agrees.coupling.time = ap (λ (d : Core). d.time) agrees.core in
       let alike : armings s.values
       ≡ armings agrees.coupling.values = ap (λ (t : State). armings t.values) agrees.state in
       subst (λ d. Happens d s e) (sym agrees.core)
       (subst (λ t. Happens (core_of app.bits agrees.coupling) t e) (sym agrees.state)
       (happens agrees.coupling agrees.invariant v (subst (λ t. StateWell app t v) agrees.state well)
-      (omega (arith, same, alike, few)) e declared))
+      (λ mono is. let few = fit mono is in omega (arith, same, alike, few)) e declared))
 
   -- one event more in front
   reaches_more : (c : Core) (s : State) (e : Event) (events : List Event) (first : Happens c s e)
@@ -146,8 +148,11 @@ module _ (app : App) (accepted : IsAccepted app) (img : Image) (thread : ℕ)
       let behind : Agrees app img thread (core_after img first.core events)
       (after_all app s (labels img c (e ∷ events))) =
       subst (λ t. Agrees app img thread (core_after img first.core events) t) (sym state_is) rest.agrees in
+      let count : counted img c (e ∷ events) ≡ cond (is_tick e) 1 0 + armed first.shown + counted img first.core events
+      = counted_more img c e events
+      ∙ ap (λ (r : Core × List Label). cond (is_tick e) 1 0 + armed r.1 + counted img r.0 events) first.is in
       record {
-        time = omega (arith, same, alike, first.time, rest.time);
+        time = omega (arith, same, alike, first.time, rest.time, count);
         counts = ap steps_of shown ∙ omega (arith, first.counts more, rest.counts, steps_more e events);
         runs = subst (λ ls. RunsOn app s ls) (sym shown) (runs_append app first.shown more s first.runs rest.runs);
         agrees = subst (λ d. Agrees app img thread d (after_all app s (labels img c (e ∷ events)))) (sym there) behind;
@@ -180,13 +185,17 @@ module _ (app : App) (accepted : IsAccepted app) (img : Image) (thread : ℕ)
   rest_declared Step events d = d
 
   pub reaches : (events : List Event) (c : Core) (s : State) (v : Observer) → Agrees app img thread c s
-      → StateWell app s v → c.time + armings s.values + length events < 2 ^ 31 → AreDeclared app events
+      → StateWell app s v → Fits app (c.time + armings s.values + counted img c events) → AreDeclared app events
       → Reaches c s events
-  reaches [] c s v agrees well few declared = reaches_none c s agrees
-  reaches (e ∷ events) c s v agrees well few declared =
+  reaches [] c s v agrees well fit declared = reaches_none c s agrees
+  reaches (e ∷ events) c s v agrees well fit declared =
       let first : Happens c s e =
-      happens_next c s v agrees well (omega (arith, few)) e (one_declared e events declared) in
+      happens_next c s v agrees well (λ mono is. let few = fit mono is in omega (arith, few)) e
+      (one_declared e events declared) in
+      let count = counted_more img c e events
+      ∙ ap (λ (r : Core × List Label). cond (is_tick e) 1 0 + armed r.1 + counted img r.0 events) first.is in
       reaches_more c s e events first
       (reaches events first.core (after_all app s first.shown) (sees_all app v first.shown) first.agrees
-      (well_after app accepted first.shown s v well first.runs) (omega (arith, first.time, few))
+      (well_after app accepted first.shown s v well first.runs)
+      (λ mono is. let few = fit mono is in omega (arith, first.time, few, count))
       (rest_declared e events declared))

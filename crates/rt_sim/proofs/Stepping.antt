@@ -35,7 +35,6 @@ use Rattle.rt_laws.specs.Services.{service_at, priority_of}
 use Rattle.rt_laws.specs.State.{Role, Init, Idle, Waiting, Serving}
 use Rattle.rt_laws.specs.Preemption.{candidate, system_ceiling}
 use Rattle.rt_laws.specs.Allowed.{HasStep}
-use Rattle.rt_laws.proofs.Armings.{armings}
 use Rattle.rt_laws.proofs.Fine.{Queued}
 use Rattle.rt_laws.proofs.Pending.{starts_above}
 use Rattle.rt_sim.specs.Inside.Coupling.{Part, Coupling, jobs_of}
@@ -48,6 +47,7 @@ use Rattle.rt_sim.proofs.Plain.{IsWorking, length-passed}
 use Rattle.rt_sim.proofs.ExecutionPriority.{execution_is}
 use Rattle.rt_sim.proofs.Choosing.{picks, IfServed, priority_top}
 use Rattle.rt_sim.proofs.Takes.{IsHandler, invariant_taken, takes}
+use Rattle.rt_sim.proofs.Fitting.{FitIn}
 use Rattle.rt_sim.proofs.Handling.{IsHandled, all_handled}
 use Rattle.rt_sim.proofs.Depth.{depth_within, used_is, room_of}
 use Rattle.rt_sim.proofs.Keepers.{keepers_apart, kept_is_held}
@@ -210,10 +210,9 @@ module _ (app : App) (img : Image) (accepted : IsAccepted app) (sound : IsSound 
       (Some (what.Take r.number (depth img (core_after_entry c r.number h)))) else Trapped c trap.Stack)) room)
 
   -- every core step
-  pub step_both : (m : Coupling) → CouplingInvariant app img at.idle m → Queued app m.values → m.time + armings m.values
-      < 2 ^ 31
+  pub step_both : (m : Coupling) → CouplingInvariant app img at.idle m → Queued app m.values → FitIn app m
       → StepsBoth app img at.idle (core_of app.bits m) (state_of m)
-  step_both m invariant queued early =
+  step_both m invariant queued fit =
       let both = picks app at few many sound (core_of app.bits m) (state_of m) refl
       (execution_is app img at.idle few many m invariant) img is_image.tables.irqs in
       by (pick img (core_of app.bits m)) refl both.0 both.1
@@ -222,8 +221,7 @@ module _ (app : App) (img : Image) (accepted : IsAccepted app) (sound : IsSound 
           → StepsBoth app img at.idle (core_of app.bits m) (state_of m)
       on_with works picked none =
           working app img at.idle many is_image.tables.fpu is_image.tables.stack named is_image.code.idle
-          (kept_is_held app accepted sound) respects_idle m invariant works queued (omega (arith, early)) picked none
-          (omega (arith, early))
+          (kept_is_held app accepted sound) respects_idle m invariant works queued fit picked none
 
       goes_on : (role : Role) → m.running.role ≡ role → pick img (core_of app.bits m) ≡ None
           → candidate app (state_of m) ≡ None → StepsBoth app img at.idle (core_of app.bits m) (state_of m)

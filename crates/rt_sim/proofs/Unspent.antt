@@ -1,8 +1,8 @@
 -- In the traces of images no job's cost is spent: code that stands has a step of its cost left, whichever label one
 -- stops at.
-use Rattle.std.proofs.Common.{◌≡◌, ℕ, zero, suc, ◌^◌, ◌<◌, ◌⊎◌, inl, inr, Bool, true, false, nat_le}
+use Rattle.std.proofs.Common.{◌≡◌, ℕ, zero, suc, ◌<◌, ◌⊎◌, inl, inr, Bool, true, false, nat_le}
 use Rattle.std.proofs.Common.{if◌then◌else◌, List, [], ◌∷◌, ◌++◌}
-use Rattle.std.proofs.Common.{length, map, take, append_assoc, Option, Some, None, refl, sym, ap, subst, ◌∙◌, arith}
+use Rattle.std.proofs.Common.{map, take, append_assoc, Option, Some, None, refl, sym, ap, subst, ◌∙◌}
 use Rattle.std.specs.List.{AllByRecursion}
 use Rattle.rt_lemmas.proofs.Lists.{all_behind}
 use Rattle.rt_ids.specs.Location.{Location}
@@ -24,13 +24,14 @@ use Rattle.rt_laws.specs.State.{Role, Init, Idle, Waiting, Serving, State, first
 use Rattle.rt_laws.specs.Allowed.{HasStep}
 use Rattle.rt_laws.specs.ByItems.{after_all}
 use Rattle.rt_laws.proofs.ByItems.{after_append}
-use Rattle.rt_sim.specs.Good.{AreDeclared}
+use Rattle.rt_sim.specs.Good.{AreDeclared, CountsFit}
 use Rattle.rt_sim.specs.Inside.Coupling.{Part, job_of, configuration_of}
 use Rattle.rt_sim.specs.Inside.PartInvariant.{who, StandsBy, PartInvariant}
 use Rattle.rt_sim.specs.Inside.Agrees.{Agrees}
 use Rattle.rt_laws.specs.Unspent.{AreUnspent, NoneIsSpent}
 use Rattle.rt_sim.specs.Unspent.{ImagesLeaveSteps}
-use Rattle.rt_sim.proofs.Good.{front_short, front_declared, reached_by}
+use Rattle.rt_sim.proofs.Armed.{front_fits}
+use Rattle.rt_sim.proofs.Reached.{front_declared, reached_by}
 
 -- what a tick shows behind it
 rings : (c : Core) (o : Option Alarm) → ((ring c o).1 ≡ []) ⊎ ((ring c o).1 ≡ Rang ∷ [])
@@ -127,13 +128,13 @@ module _ (app : App) (img : Image) (thread : ℕ) where
       (agrees.coupling.running ∷ agrees.coupling.below) agrees.invariant.parts)
 
 module _ (app : App) (img : Image) (accepted : IsAccepted app) (is_image : IsImageOf app img) where
-  pub leaves_steps : (events : List Event) → length events < 2 ^ 31 → AreDeclared app events
+  pub leaves_steps : (events : List Event) → CountsFit app img events → AreDeclared app events
       → NoneIsSpent app (labels img (reset img) events)
-  leaves_steps events few declared n = by (cut img events (reset img) n)
+  leaves_steps events fit declared n = by (cut img events (reset img) n)
     where
       there : (k : ℕ) → AreUnspent (after_all app (first app) (labels img (reset img) (take k events))).jobs
       there k =
-          let whole = reached_by app img accepted is_image (take k events) (omega (arith, few, front_short events k))
+          let whole = reached_by app img accepted is_image (take k events) (front_fits app img events k fit)
           (front_declared app events k declared) in
           agreed_unspent app img is_image.at.idle _ _ whole.agrees
 
@@ -146,5 +147,5 @@ module _ (app : App) (img : Image) (accepted : IsAccepted app) (is_image : IsIma
           (sym (after_append app (labels img (reset img) (take k events)) (Ticked ∷ []) (first app))) (there k))
 
 pub images_leave_steps : ImagesLeaveSteps
-images_leave_steps app img accepted is_image events few declared =
-    leaves_steps app img accepted is_image events few declared
+images_leave_steps app img accepted is_image events fit declared =
+    leaves_steps app img accepted is_image events fit declared

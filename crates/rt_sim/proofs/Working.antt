@@ -26,10 +26,12 @@ use Rattle.rt_code.specs.Processor.{Processor, Effect, Traps, Leads}
 use Rattle.rt_code.specs.Standing.{Stands, HaveLeft, Finishes, configuration_after, spend_step}
 use Rattle.rt_code.specs.declared.image.BodyRow.{BodyRow}
 use Rattle.rt_code.specs.declared.instr.Instr.{Instr}
+use Rattle.rt_code.specs.declared.instr.Instr.TheVariants as instr
 use Rattle.rt_code.specs.declared.instr.Note.{Note}
 use Rattle.rt_code.specs.declared.instr.Note.TheVariants as note
 use Rattle.rt_code.specs.declared.processor.Request.{Request}
 use Rattle.rt_code.specs.declared.processor.Request.TheVariants as request
+use Rattle.rt_code.proofs.Asking.{done_leads}
 use Rattle.rt_code.proofs.StandingLaws.{standing_laws}
 use Rattle.rt_core.specs.Access.{access}
 use Rattle.rt_core.specs.Core.{Context}
@@ -43,7 +45,6 @@ use Rattle.rt_core.specs.Stepping.{step}
 use Rattle.rt_core.proofs.Standing.{standing_leads}
 use Rattle.rt_trace.specs.declared.item.What.TheVariants as what
 use Rattle.rt_laws.specs.Preemption.{candidate}
-use Rattle.rt_laws.proofs.Armings.{armings}
 use Rattle.rt_laws.proofs.Fine.{IsTimedOne, Queued}
 use Rattle.rt_sim.specs.Inside.Coupling.{Part, Coupling, runner_of, configuration_of}
 use Rattle.rt_sim.specs.Inside.States.{core_of, state_of}
@@ -60,6 +61,7 @@ use Rattle.rt_sim.proofs.Moves.{fires_message}
 use Rattle.rt_sim.proofs.Moves.{cancels_message, moves_message}
 use Rattle.rt_sim.proofs.Calls.{no_handler, callable_by, calls_body, comes_back}
 use Rattle.rt_sim.proofs.Enters.{enters}
+use Rattle.rt_sim.proofs.Fitting.{FitIn, clock_fits}
 use Rattle.rt_sim.proofs.Leaves.{leaves_at}
 use Rattle.rt_sim.proofs.Returns.{returns_to}
 use Rattle.rt_sim.proofs.EndsOfThread.{ends_init, ends_idle}
@@ -69,6 +71,13 @@ software_armed : (app : App) (vs : Values) → Queued app vs → IsEntered app C
 software_armed app vs queued =
     all_weaker (IsTimedOne app) (λ a. is_some_and is_software (slice_get app.tasks a.message.task) ≡ true)
     (λ a timed. timed.1) (delays (vs (Guarded section.Timer))) queued.timer
+
+-- a call is one at any time
+call_timeless : (i : Instr) (time row from : ℕ) (p q : Processor) → effect i time p ≡ Leads q (request.Call row from)
+    → effect i 0 p ≡ Leads q (request.Call row from)
+call_timeless (instr.Clock d) time row from p q leads =
+    absurd (let done = done_leads (instr.Clock d) time p q (request.Call row from) leads in cc)
+call_timeless i time row from p q leads = leads
 
 module _ (app : App) (img : Image) (thread : ℕ) (many : app.bits ≤ 7) (fpu : img.fpu ≡ app.fpu)
     (sized : img.stack_bytes ≡ stack_bytes app)
@@ -83,7 +92,7 @@ module _ (app : App) (img : Image) (thread : ℕ) (many : app.bits ≤ 7) (fpu :
   no_steps m s = s
 
   module _ (m : Coupling) (invariant : CouplingInvariant app img thread m) (works : IsWorking m.running.role)
-      (queued : Queued app m.values) (few : armings m.values < 2 ^ 31)
+      (queued : Queued app m.values) (few : FitIn app m)
       (none : candidate app (state_of m) ≡ None) (n : ℕ)
       (left : HaveLeft (m.running.lefts ++ m.running.left ∷ []))
       (may : MayAccess (storage app) (who m.running) (configuration_of m.cells m.queues m.running)
@@ -214,19 +223,21 @@ module _ (app : App) (img : Image) (thread : ℕ) (many : app.bits ≤ 7) (fpu :
     by same (ByReturn ends gives) = of_return ends m.below invariant none (λ x others is. sym same ∙ gives x others is)
 
   -- what an instruction of the running job calls by is a row of the image
-  leads_alike : (m : Coupling) (invariant : CouplingInvariant app img thread m) → m.time < 2 ^ 31 → (n : ℕ)
+  leads_alike : (m : Coupling) (invariant : CouplingInvariant app img thread m) (n : ℕ)
       → Stands (storage app) img.code m.running.rows thread (who m.running) (suc n)
       (configuration_of m.cells m.queues m.running)
       → (i : Instr) (told : Option Note) → slice_get img.code m.running.address ≡ Some (i, told)
       → LeadsAlike img m.running.rows invariant.parts.0.calls.arguments (effect i m.time (core_of app.bits m).processor)
-  leads_alike m invariant early n stands i told is = by (effect i m.time (core_of app.bits m).processor) refl
+  leads_alike m invariant n stands i told is = by (effect i m.time (core_of app.bits m).processor) refl
     where
       asked_by : (p : Processor) (asked : Request) → effect i m.time (core_of app.bits m).processor ≡ Leads p asked
           → CallsAlike img m.running.rows invariant.parts.0.calls.arguments asked
       asked_by p (request.Call row from) leads =
           let frames = (standing_laws (storage app) (stored app)).frames img.code m.running.rows thread
           (who m.running) n (configuration_of m.cells m.queues m.running) stands in
-          let calls = frames.call i told is m.time m.basepri row from m.primask p (early, leads) in
+          let few : 0 < 2 ^ 31 = omega arith in
+          let calls = frames.call i told is 0 m.basepri row from m.primask p
+          (few, call_timeless i m.time row from (core_of app.bits m).processor p leads) in
           calls.is_there ∙ sym (callable_by app img thread m invariant n row from calls).same
       asked_by p _ leads = tt
 
@@ -237,10 +248,9 @@ module _ (app : App) (img : Image) (thread : ℕ) (many : app.bits ≤ 7) (fpu :
 
   -- a job that runs code
   pub working : (m : Coupling) → CouplingInvariant app img thread m → IsWorking m.running.role → Queued app m.values
-      → armings m.values < 2 ^ 31 → pick img (core_of app.bits m) ≡ None
-      → candidate app (state_of m) ≡ None → m.time < 2 ^ 31
+      → FitIn app m → pick img (core_of app.bits m) ≡ None → candidate app (state_of m) ≡ None
       → StepsBoth app img thread (core_of app.bits m) (state_of m)
-  working m invariant works queued few picked none early =
+  working m invariant works queued few picked none =
       go m.running.steps (stands_of app img thread m.running.role works m.cells m.queues m.running
       invariant.parts.0.stands)
     where
@@ -249,8 +259,8 @@ module _ (app : App) (img : Image) (thread : ℕ) (many : app.bits ≤ 7) (fpu :
       go zero stands = absurd (no_steps m stands)
       go (suc n) stands =
           let leads = standing_leads (storage app) (with_rows img m.running.rows) thread (who m.running)
-          (core_of app.bits m) (configuration_of m.cells m.queues m.running) n refl picked early
-          (is_at app img thread m invariant works) stands in
+          (core_of app.bits m) (configuration_of m.cells m.queues m.running) n refl picked
+          (clock_fits app img thread m invariant works few) (is_at app img thread m invariant works) stands in
           by m invariant works queued few none n leads.left leads.touches
           (step_alike img m.running.rows invariant.parts.0.calls.arguments (core_of app.bits m) refl picked
-          (leads_alike m invariant early n stands)) leads.by
+          (leads_alike m invariant n stands)) leads.by

@@ -2,11 +2,15 @@
 -- Scheduling of Realtime Processes, 1991) with its three properties, messages are kept, the stack stays within the
 -- printed bound, nothing traps, and a shared resource is touched inside its section, by `init`, or where RTIC allows it
 -- without one (`Guarded`). No frame, mask or address is named here.
-use Rattle.std.specs.Prelude.{◌≡◌, ℕ, ◌^◌, ◌<◌, ◌≤◌, true, List, [], ◌∷◌, length, take}
+use Rattle.std.specs.Prelude.{◌≡◌, ℕ, ◌+◌, ◌^◌, ◌<◌, ◌≤◌, Bool, true, false, List, [], ◌∷◌, length, take, count_by}
+use Rattle.std.specs.Prelude.{Some}
 use Rattle.std.specs.List.{AllByRecursion}
-use Rattle.rt_ids.specs.Event.{Event, Arrive, steps}
+use Rattle.rt_ids.specs.Event.{Event, Arrive, Tick, steps}
 use Rattle.rt_trace.specs.Label.{IsNoTrap, steps_of}
 use Rattle.rt_trace.specs.Shown.{shown_events}
+use Rattle.rt_trace.specs.declared.item.What.{What}
+use Rattle.rt_trace.specs.declared.item.What.TheVariants as what
+use Rattle.rt_app.specs.declared.app.Mono.{Mono}
 use Rattle.rt_app.specs.Tree.{App}
 use Rattle.rt_app.specs.Accepted.{IsAccepted}
 use Rattle.rt_app.specs.Stack.{stack_bytes}
@@ -19,6 +23,7 @@ use Rattle.rt_laws.specs.State.{first}
 use Rattle.rt_laws.specs.Run.{RunsOn}
 use Rattle.rt_laws.specs.Properties.{KeepsLaws}
 use Rattle.rt_laws.specs.Messages.{KeepsMessages}
+use Rattle.rt_laws.specs.Unspent.{NoneIsSpent}
 use Rattle.rt_sim.specs.Guarded.{AccessesAreGuarded}
 
 -- each interrupt that arrives is declared
@@ -26,6 +31,28 @@ abbrev pub AreDeclared : App → List Event → Type 0
 AreDeclared app [] = Unit {0}
 AreDeclared app (Arrive irq ∷ events) = (is_declared app irq ≡ true) × AreDeclared app events
 AreDeclared app (e ∷ events) = AreDeclared app events
+
+-- the system timer ticks
+abbrev pub is_tick : Event → Bool
+is_tick Tick = true
+is_tick e = false
+
+-- a message is armed, or is moved to another instant, which counts as an arming
+abbrev pub is_arming : What → Bool
+is_arming (what.Arm task instant) = true
+is_arming (what.Move task handle instant) = true
+is_arming w = false
+
+-- The counts of the monotonic, time and armings, fit their words of memory: there are fewer than 2 ^ 31 of both
+-- together, of ticks among the events and of armings in their trace. Core steps and requests are not counted, and
+-- nothing is asked of an application without a monotonic.
+abbrev pub CountsFit : App → Image → List Event → Type 0
+CountsFit app img events = (mono : Mono) → app.mono ≡ Some mono
+    → count_by is_tick events + count_by (λ item. is_arming item.what) (trace img events) < 2 ^ 31
+
+-- The counts of fewer than 2 ^ 31 events fit: each of them is one tick or shows one arming at most.
+abbrev pub CountsOfFewFit : Type 0
+CountsOfFewFit = (app : App) (img : Image) (events : List Event) → length events < 2 ^ 31 → CountsFit app img events
 
 -- what holds of one list of events
 pub record RunsWell (app : App) (img : Image) (events : List Event) : Type 0 where
@@ -41,6 +68,9 @@ pub record RunsWell (app : App) (img : Image) (events : List Event) : Type 0 whe
   -- out are accounted for; messages start first in, first out, and fire in order and not early; a handle is of one
   -- message; the items of the trace show it by themselves; and ready and due messages are served.
   pub messages : KeepsMessages app (labels img (reset img) events)
+  -- No job's cost is spent before the job has ended. A run of Baker's machine may let a job spend its whole cost in
+  -- silence and stay, and `audit` says yes to such a trace; no image shows one.
+  pub unspent : NoneIsSpent app (labels img (reset img) events)
   -- the stack bytes in use are within the bound at every moment
   pub stack_within : (n : ℕ) → depth_after img (take n events) ≤ stack_bytes app
   pub no_trap : AllByRecursion (λ item. IsNoTrap item.what) (trace img events)
@@ -48,11 +78,11 @@ pub record RunsWell (app : App) (img : Image) (events : List Event) : Type 0 whe
   pub guarded : (n : ℕ) → AccessesAreGuarded app img (take n events)
 
 -- The image is good: its stack region is as large as the stack bound, and all this holds of every list of events: core
--- steps, ticks, and arrivals of declared interrupts, in any order. A trace numbers its steps below 2 ^ 31, so nothing
--- is said of a longer list.
+-- steps, ticks, and arrivals of declared interrupts, in any order, as many as the counts of the monotonic allow, and
+-- without a monotonic of any length. That a text of a trace numbers its steps below 2 ^ 31 is the text's limit.
 pub record Good (app : App) (img : Image) : Type 0 where
   pub size : img.stack_bytes ≡ stack_bytes app
-  pub each : (events : List Event) → length events < 2 ^ 31 → AreDeclared app events → RunsWell app img events
+  pub each : (events : List Event) → CountsFit app img events → AreDeclared app events → RunsWell app img events
 
 -- Every image of an accepted application is good.
 abbrev pub ImagesAreGood : Type 0

@@ -2,7 +2,7 @@
 -- Real-Time System, 1986), which `times` prints, hold of what its images show. Only requests have a premise: they come
 -- after the end of `init`, and keep the least distances that the limits say. An interrupt with a limit is bound by a
 -- task, so it is declared.
-use Rattle.std.specs.Prelude.{◌≡◌, ◌^◌, ◌<◌, true, List, length}
+use Rattle.std.specs.Prelude.{◌≡◌, true, List}
 use Rattle.rt_ids.specs.Event.{Event}
 use Rattle.rt_app.specs.Tree.{App}
 use Rattle.rt_app.specs.Accepted.{IsAccepted}
@@ -15,11 +15,12 @@ use Rattle.rt_rta.specs.Kept.{Kept}
 use Rattle.rt_rta.specs.Limits.{AreLimits}
 use Rattle.rt_rta.specs.Served.{Responds}
 use Rattle.rt_rta.specs.declared.limits.Limit.{Limit}
+use Rattle.rt_sim.specs.Good.{CountsFit}
 
 -- in every trace of the image whose requests keep these limits, each of them is served within the response time of its
 -- priority
 abbrev pub RespondsInTime : App → List Limit → Image → Type 0
-RespondsInTime app limits img = (events : List Event) → length events < 2 ^ 31
+RespondsInTime app limits img = (events : List Event) → CountsFit app img events
     → Kept limits (labels img (reset img) events) → Responds app limits (labels img (reset img) events)
 
 -- every image of an accepted application that has response times responds in time, whatever the limits

@@ -1,13 +1,19 @@
-ghost use Rattle.rt_sim.specs.Good.{ImagesAreGood};
+ghost use Rattle.rt_sim.specs.Good.{CountsOfFewFit, ImagesAreGood};
 ghost use Rattle.rt_sim.specs.Responding.{ImagesRespond};
 ghost use Rattle.rt_sim.specs.Unspent.{ImagesLeaveSteps};
 
-/// Every image of an accepted application is good: for each list of fewer than 2^31 events in which
-/// only declared interrupts arrive, the trace is a run of Baker's machine that shows just these events, sections are
-/// exclusive and no lock is found taken, messages start and fire in order and are served, waiting and stack keep within
-/// the printed bounds, nothing traps, and each access to a shared resource is made where it may be.
+/// Every image of an accepted application is good: for each list of events in which only declared interrupts arrive,
+/// and where there is a monotonic with fewer than 2^31 ticks and armings, the trace is a run of Baker's machine that
+/// shows just these events, sections are exclusive and no lock is found taken, messages start and fire in order and are
+/// served, waiting and stack keep within the printed bounds, no job's cost is spent before it ends, nothing traps, and
+/// each access to a shared resource is made where it may be.
 pub fn images_are_good()
     ensures { ImagesAreGood }
+{}
+
+/// Ticks and armings of fewer than 2^31 events are fewer than 2^31: each event is one tick or shows one arming at most.
+pub fn counts_of_few_fit()
+    ensures { CountsOfFewFit }
 {}
 
 /// In every trace of an image of an accepted application, at every moment, each started job has a core step of its cost

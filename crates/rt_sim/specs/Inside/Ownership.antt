@@ -1,7 +1,7 @@
 -- What is left to do respects ownership: on its way to each action it changes only what the job owns then, it enters
--- only sections of things that the application has, and only a handler returns. It is said of the meaning of bodies,
--- not of code.
-use Rattle.std.specs.Prelude.{◌≡◌, ℕ, ◌||◌, Bool, true, false, List, ◌∷◌, drop, slice_get}
+-- only sections of things that the application has, it reads the clock only where there is a monotonic, and only a
+-- handler returns. It is said of the meaning of bodies, not of code.
+use Rattle.std.specs.Prelude.{◌≡◌, ℕ, ◌||◌, Bool, true, false, List, ◌∷◌, drop, slice_get, IsSome}
 use Rattle.std.specs.List.{AllByRecursion, list_any}
 use Rattle.rt_ids.specs.Lists.{is_some_and}
 use Rattle.rt_ids.specs.Location.{Location, Guarded, Own, is_same_section}
@@ -40,9 +40,11 @@ module _ (app : App) (who : Runner) (handles : Bool) where
   sections_after held (Leaves x) = drop 1 held
   sections_after held action = held
 
-  -- an action enters only sections of things that the application has, and only a handler returns
+  -- an action enters only sections of things that the application has, reads the clock only of a monotonic, and only a
+  -- handler returns
   abbrev pub IsActionOf : Action → Type 0
   IsActionOf (Enters x cost) = IsHeld app (Guarded x)
+  IsActionOf Clocks = IsSome app.mono
   IsActionOf Returns = handles ≡ true
   IsActionOf action = Unit {0}
 
