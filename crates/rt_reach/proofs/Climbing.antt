@@ -30,6 +30,7 @@ use Rattle.rt_laws.specs.Preemption.{system_ceiling}
 use Rattle.rt_laws.specs.State.{State}
 use Rattle.rt_script.specs.Script.{events}
 use Rattle.rt_sim.specs.Good.{Good, AreDeclared}
+use Rattle.rt_sim.proofs.Armed.{counts_of_few}
 use Rattle.rt_trace.specs.Lined.{IsDeclared}
 use Rattle.rt_trace.proofs.Tables.{found_at}
 use Rattle.rt_reach.specs.Deepest.{script_of, IsFirstTake, LeadsToTake}
@@ -265,7 +266,7 @@ module _ (app : App) (img : Image) (accepted : IsAccepted app) (is_image : IsIma
       first = subst (LeadsToTake img 0) (sym none) tt;
     };
     reached = record {
-      within = (good.each [] (omega arith) tt).stack_within;
+      within = (good.each [] (counts_of_few app img [] (omega arith)) tt).stack_within;
       met = (0, reset_words ∙ flat_bytes);
     };
     spelled = ap (script_text (names_of app) 0) (sym none);
@@ -315,7 +316,7 @@ module _ (app : App) (img : Image) (accepted : IsAccepted app) (is_image : IsIma
               first = subst (LeadsToTake img steps) (sym is) first_take;
             };
             reached = record {
-              within = (good.each es few known).stack_within;
+              within = (good.each es (counts_of_few app img es few) known).stack_within;
               met = (
                 length es,
                 ap (depth_after img) (end ∙ sym all) ∙ up.bytes,

@@ -6,10 +6,7 @@ use Rattle.rt_trace.specs.Label.{Label, Arrived, Stepped}
 use Rattle.rt_trace.specs.declared.item.What.{What}
 use Rattle.rt_app.specs.Tree.{App}
 use Rattle.rt_app.specs.Accepted.{IsAccepted}
-use Rattle.rt_app.specs.Acceptance.{IsSound}
-use Rattle.rt_app.proofs.Sound.{accepted_are_sound}
 use Rattle.rt_build.specs.Image.{IsImageOf}
-use Rattle.rt_build.proofs.ImageCells.{resource_numbers}
 use Rattle.rt_code.specs.Image.{Image}
 use Rattle.rt_core.specs.Core.{Core, reset}
 use Rattle.rt_core.specs.Stepping.{step}
@@ -20,20 +17,11 @@ use Rattle.rt_laws.specs.State.{State, first}
 use Rattle.rt_laws.specs.Allowed.{May, after}
 use Rattle.rt_laws.specs.Run.{RunsOn}
 use Rattle.rt_laws.specs.ByItems.{after_all}
-use Rattle.rt_laws.specs.Observer.{first_sight}
-use Rattle.rt_laws.proofs.Armings.{armings, first_armings}
 use Rattle.rt_laws.proofs.ByItems.{after_append}
-use Rattle.rt_laws.proofs.Fine.{Queued}
-use Rattle.rt_laws.proofs.Happens.{first_well}
 use Rattle.rt_sim.specs.Good.{AreDeclared}
-use Rattle.rt_sim.specs.Inside.Coupling.{Coupling}
-use Rattle.rt_sim.specs.Inside.States.{core_of, state_of}
-use Rattle.rt_sim.specs.Inside.CouplingInvariant.{CouplingInvariant}
-use Rattle.rt_sim.specs.Inside.Agrees.{StepsBoth}
-use Rattle.rt_sim.proofs.Bodies.{init_respects, idle_respects, task_respects, dispatcher_respects, timer_respects}
-use Rattle.rt_sim.proofs.Running.{Reaches, reaches}
-use Rattle.rt_sim.proofs.Starting.{agrees_first}
-use Rattle.rt_sim.proofs.Stepping.{step_both}
+use Rattle.rt_sim.proofs.Armed.{counts_of_few}
+use Rattle.rt_sim.proofs.Reached.{ReachedBy}
+use Rattle.rt_sim.proofs.Reached as sim
 
 -- the back of a run is one from where the front leads to
 runs_behind : (app : App) (front behind : List Label) (s : State) → RunsOn app s (front ++ behind)
@@ -42,15 +30,6 @@ runs_behind app [] behind s runs = runs
 runs_behind app (label ∷ front) behind s runs = runs_behind app front behind (after app s label) runs.1
 
 module _ (app : App) (img : Image) (accepted : IsAccepted app) (is_image : IsImageOf app img) where
-  abbrev sound : IsSound app
-  sound = accepted_are_sound app accepted
-
-  pub steps_both : (m : Coupling) → CouplingInvariant app img is_image.at.idle m → Queued app m.values
-      → m.time + armings m.values < 2 ^ 31 → StepsBoth app img is_image.at.idle (core_of app.bits m) (state_of m)
-  steps_both = step_both app img accepted sound is_image
-      (resource_numbers app is_image.at img is_image.tables sound) (idle_respects app accepted sound)
-      (task_respects app accepted sound) (dispatcher_respects app accepted sound) (timer_respects app accepted sound)
-
   -- the core and the state of Baker's machine behind events
   abbrev pub core_behind : List Event → Core
   core_behind events = core_after img (reset img) events
@@ -59,11 +38,9 @@ module _ (app : App) (img : Image) (accepted : IsAccepted app) (is_image : IsIma
   state_after events = after_all app (first app) (labels img (reset img) events)
 
   pub reached_by : (events : List Event) → length events < 2 ^ 31 → AreDeclared app events
-      → Reaches app accepted img is_image.at.idle steps_both (reset img) (first app) events
+      → ReachedBy app img accepted is_image events
   reached_by events few declared =
-      reaches app accepted img is_image.at.idle steps_both events (reset img) (first app) (first_sight app)
-      (agrees_first app img accepted sound is_image (init_respects app accepted sound)) (first_well app accepted)
-      (omega (arith, few, first_armings app accepted)) declared
+      sim.reached_by app img accepted is_image events (counts_of_few app img events few) declared
 
   -- one core step behind events
   abbrev pub shown_next : List Event → Option What
