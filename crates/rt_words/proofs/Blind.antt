@@ -100,6 +100,7 @@ standing = record {
   same_may = λ seat v at lives. at_cases (λ (x : View). x.may ≡ word) seat v at refl refl;
   behind = omega arith;
   quiet = λ all k n h. absurd (in_none (Latch k n) h);
+  last = λ all. record { earlier = pend ∷ []; is = refl };
 }
 
 -- behind the pend, the core's latch of 0 alone is not legal

@@ -84,6 +84,7 @@ module _ (may words : List ℕ) (views : List View) (history : List Entry) (v : 
     core = st.seated.own;
     gathered = λ p h. (st.seated.parts p h).same_calls;
     unmade = st.seated.unmade;
+    last = st.last whole;
     account = λ irq l. accounts (padded_words words) history irq st.legal l;
     raised = λ irq. let r = sums whole (raises irq) in let z = is.raises irq in omega arith;
     merged = λ irq. let r = sums whole (merges irq) in let z = is.merges irq in omega arith;

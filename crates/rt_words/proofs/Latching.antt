@@ -1,15 +1,17 @@
 -- A latch keeps the rule.
 use Rattle.std.proofs.Common.{◌≡◌, ℕ, ◌+◌, ◌-◌, ◌*◌, ◌≤◌, List, [], ◌∷◌, ◌++◌, length, get_or, set, drop, Contains}
-use Rattle.std.proofs.Common.{bit_and, refl, sym, ap, ◌∙◌, subst, ⊎_elim, arith, length-append, length-set}
+use Rattle.std.proofs.Common.{bit_and, refl, sym, ap, ◌∙◌, subst, ⊎_elim, arith, append_assoc, length-append}
+use Rattle.std.proofs.Common.{length-set}
 use Rattle.std.specs.Int.Bits.{and_zero_r}
 use mathlib.Core.Option.{none, some, some-injective}
+use mathlib.Core.List.{map-append}
 use lib.ListN.{get_elem?}
 use Rattle.atomic_table.specs.Table.{step, keeps, stepped, Allows}
 use Rattle.rt_words.specs.declared.call.Call.{Call}
 use Rattle.rt_words.specs.declared.call.Call.TheVariants.{Latch, Pend}
 use Rattle.rt_words.specs.declared.view.View.{View}
 use Rattle.rt_words.specs.Object.{IsPending}
-use Rattle.rt_words.specs.History.{Entry, IsLegal}
+use Rattle.rt_words.specs.History.{Entry, IsLegal, CallsLast, entries}
 use Rattle.rt_words.specs.Inside.Rule.{IsRow, padded_words, Standing, Kept}
 use Rattle.rt_words.specs.Ending.{LatchedAreZero}
 use Rattle.rt_words.specs.Inside.Seats.{Seat}
@@ -54,6 +56,21 @@ zero_quiet words core k n behind is j word h =
     (λ e. ap (λ (i : ℕ). get_or (set words k 0) i 0) (sym (ap word_of e)) ∙ zero_here words k)
     (in_push (drop core.since core.calls) (Latch k n) (Latch j word) h')
 
+-- a call of the core's comes behind the last ones
+last_latched : (history : List Entry) (core : View) (c : Call) → core.since ≤ length core.calls
+    → CallsLast history 255 (drop core.since core.calls)
+    → CallsLast (history ++ entry 255 c ∷ []) 255 (drop core.since (core.calls ++ c ∷ []))
+last_latched history core c behind is =
+    let since : List Call = drop core.since core.calls in
+    record {
+      earlier = is.earlier;
+      is =
+          ap (λ (h : List Entry). h ++ entry 255 c ∷ []) is.is
+          ∙ append_assoc is.earlier (entries 255 since) (entry 255 c ∷ [])
+          ∙ ap (λ (t : List Entry). is.earlier ++ t) (sym (map-append (entry 255) since (c ∷ [])))
+          ∙ ap (λ (cs : List Call). is.earlier ++ entries 255 cs) (sym (drop_push core.since core.calls c behind));
+    }
+
 latched_standing : (may words : List ℕ) (views : List View) (history : List Entry) (core : View) (k : ℕ)
     → Standing may words views history core
     → (
@@ -78,6 +95,7 @@ latched_standing may words views history core k st =
           (λ lives. core_knows may history views core st.seated st.same_may);
       behind = omega arith;
       quiet = λ all. zero_quiet words core k n st.behind (st.quiet all);
+      last = λ all. last_latched history core c st.behind (st.last all);
     }
 
 latches_first : (may : List ℕ) (slots k : ℕ) (me : Seat) → Allows (Kept may) slots 0 me k (λ n. bit_and n 0)

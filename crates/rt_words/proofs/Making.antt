@@ -1,6 +1,6 @@
 -- Splits, loads and joins keep the rule.
-use Rattle.std.proofs.Common.{◌≡◌, ℕ, ◌≢◌, List, [], length, get_or, set, Contains, Option, Some, unwrap_or, refl, sym}
-use Rattle.std.proofs.Common.{ap, ◌∙◌, subst, arith, drop}
+use Rattle.std.proofs.Common.{◌≡◌, ℕ, ◌≢◌, List, [], ◌++◌, length, get_or, set, Contains, Option, Some, unwrap_or}
+use Rattle.std.proofs.Common.{refl, sym, ap, ◌∙◌, subst, arith, drop, append-nil}
 use Rattle.std.proofs.lemmas.List.{set-get_or}
 use mathlib.Core.Option.{none}
 use Rattle.atomic_table.specs.Table.{State, step, keeps, stepped, Allows, Splits, Joins}
@@ -9,7 +9,7 @@ use Rattle.rt_words.specs.declared.call.Call.TheVariants.{Latch}
 use Rattle.rt_words.specs.declared.view.Part.{Part}
 use Rattle.rt_words.specs.declared.view.Stage.TheVariants.{Copied, Device, Spent}
 use Rattle.rt_words.specs.declared.view.View.{View}
-use Rattle.rt_words.specs.History.{Entry}
+use Rattle.rt_words.specs.History.{Entry, CallsLast, entries}
 use Rattle.rt_words.specs.Lines.{numbers}
 use Rattle.rt_words.specs.Inside.Rule.{Standing, Kept}
 use Rattle.rt_words.specs.Ending.{LatchedAreZero}
@@ -40,6 +40,15 @@ pub gathered_made : (history : List Entry) (views : List View) (core : View) (nu
 gathered_made history views core number is h = let p = of_map (λ (q : Part). q.line) number core.gathered h in
     subst (λ (m : ℕ). Contains core.made m) p.1.1 (is.parts p.0 p.1.0).made
 
+-- and nothing comes last
+still_last : (history : List Entry) (core : View) → CallsLast history 255 (drop (length core.calls) core.calls)
+still_last history core = record {
+  earlier = history;
+  is =
+      sym (append-nil history)
+      ∙ ap (λ (cs : List Call). history ++ entries 255 cs) (sym (drop_whole core.calls));
+}
+
 reserved_standing : (may words : List ℕ) (views : List View) (history : List Entry) (core : View) (number : ℕ)
     → Standing may words views history core → number ≢ 255 → ¬ Contains core.made number
     → Standing may words (set views 0 (view_after_reserve number core)) history (view_after_reserve number core)
@@ -53,6 +62,7 @@ reserved_standing may words views history core number st other new = record {
   behind = omega arith;
   quiet = λ all. absurd (new (gathered_made history views core number st.seated
       (all number (in_head number core.made))));
+  last = λ all. still_last history core;
 }
 
 reserves_first : (may : List ℕ) (slots number : ℕ) (me : Seat) → number ≢ 255 → ¬ Contains me.0.made number
@@ -99,6 +109,7 @@ takes may slots id number me stage has s kept homes at small =
               (λ lives. st.same_may id me.0 at (λ e. let f : Copied ≡ Spent = sym stage ∙ e in absurd cc));
           behind = st.behind;
           quiet = st.quiet;
+          last = st.last;
         },
       ),
       ap (λ (o : Option ℕ). (device (unwrap_or o 255) [] me.0.seen me.0.may, me.1)) (sym has),
@@ -123,6 +134,7 @@ splits_first may v s kept at =
             (core_knows may kept.0 s.views v st.seated st.same_may);
         behind = st.behind;
         quiet = st.quiet;
+        last = st.last;
       },
     )
 
@@ -149,6 +161,7 @@ joins_first may v other w stage s kept at away found =
             (λ lives. core_knows may kept.0 s.views v st.seated st.same_may)) (λ lives. absurd (lives refl));
         behind = omega arith;
         quiet = λ all. still s.words v;
+        last = λ all. still_last kept.0 v;
       },
     )
 
@@ -178,6 +191,7 @@ looks_first may slots me s kept homes at small =
               (λ lives. core_knows may kept.0 s.views me.0 st.seated st.same_may);
           behind = omega arith;
           quiet = λ all. still s.words me.0;
+          last = λ all. still_last kept.0 me.0;
         },
       ),
       (

@@ -60,6 +60,7 @@ opens may words n is l covers = subst (λ (ws : List ℕ). Standing may ws (newc
       same_may = λ seat v at lives. known seat v at;
       behind = omega arith;
       quiet = λ all k word h. absurd (in_none _ h);
+      last = λ all. record { earlier = []; is = refl };
     }
   where
     unseen : (seat : ℕ) (v : View) → get_elem? (newcomer may ∷ []) seat ≡ some v → IsPrefix v.seen []

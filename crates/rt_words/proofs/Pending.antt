@@ -112,6 +112,7 @@ pended_standing may words views history core id irq v st at stage may_be c is =
       same_may = know_set may views id (view_after_call v more c) st.same_may (st.same_may id v at);
       behind = st.behind;
       quiet = λ all. absurd (mine.ungathered (all v.line mine.made));
+      last = λ all. absurd (mine.ungathered (all v.line mine.made));
     }
 
 -- a device's step that sets the bit of an interrupt

@@ -3,7 +3,7 @@ use Rattle.std.specs.Prelude.{ℕ, ◌-◌, ◌/◌, ◌^◌, ◌<◌, ◌≤◌
 use Rattle.atomic_table.specs.Table.{State}
 use Rattle.rt_words.specs.declared.view.View.{View}
 use Rattle.rt_words.specs.Object.{IsPending}
-use Rattle.rt_words.specs.History.{Entry, IsLegal}
+use Rattle.rt_words.specs.History.{Entry, IsLegal, CallsLast}
 use Rattle.rt_words.specs.Ending.{AllGathered, LatchedAreZero}
 use Rattle.rt_words.specs.Inside.Seats.{Seated, HaveSeen, AllKnow}
 
@@ -18,8 +18,9 @@ pub record IsRow (may words : List ℕ) : Type 0 where
 abbrev pub padded_words : List ℕ → List ℕ
 padded_words words = words ++ replicate (16 - length words) 0
 
--- a legal history leaves the words as they are, its parts are the seats' calls, and each seat has seen a beginning of
--- it
+-- A legal history leaves the words as they are, its parts are the seats' calls, and each seat has seen a beginning of
+-- it. Once every line is gathered, only the core calls: what it has called since finds the words of 0 that it left, and
+-- comes last.
 pub record Standing (may words : List ℕ) (views : List View) (history : List Entry) (core : View) : Type 0 where
   pub row : IsRow may words
   pub legal : IsLegal history (padded_words words)
@@ -28,6 +29,7 @@ pub record Standing (may words : List ℕ) (views : List View) (history : List E
   pub same_may : AllKnow may views
   pub behind : core.since ≤ length core.calls
   pub quiet : AllGathered core.made core.gathered → LatchedAreZero (drop core.since core.calls) words
+  pub last : AllGathered core.made core.gathered → CallsLast history 255 (drop core.since core.calls)
 
 -- there is one such history
 abbrev pub Kept : List ℕ → State (Unit {0}) View → Type 0
