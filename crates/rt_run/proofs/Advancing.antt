@@ -1,7 +1,7 @@
 -- Runs that go on where others ended, or where a fault came.
 use Rattle.std.proofs.Common.{◌≡◌, ℕ, suc, ◌+◌, ◌-◌, ◌<◌, ◌≤◌, List, [], ◌∷◌, ◌++◌, flat_map, replicate, Option, Some}
 use Rattle.std.proofs.Common.{None, Bool, true, false, if◌then◌else◌, nat_le, refl, ap, sym, subst, ◌∙◌, append_assoc}
-use Rattle.std.proofs.Common.{arith}
+use Rattle.std.proofs.Common.{length, length-append, arith}
 use Rattle.std.specs.List.{AllByRecursion}
 use Rattle.std.proofs.lemmas.Grind.{flat_map-append}
 use Rattle.std.proofs.lemmas.List.{append-nil, replicate_more, replicate-append-replicate}
@@ -19,13 +19,14 @@ use Rattle.rt_outside.specs.Bytes.{TookPrefix}
 use Rattle.rt_trace.specs.Label.{Label, Arrived, Ticked, Rang, Stepped, items_of, steps_of}
 use Rattle.rt_trace.specs.Lined.{HasLine}
 use Rattle.rt_trace.specs.Text.{text}
+use Rattle.rt_trace.specs.declared.buffer.TheConstants.{BUFFER_BYTES}
 use Rattle.rt_trace.specs.declared.item.Item.{Item}
 use Rattle.rt_trace.specs.declared.item.What.{What}
 use Rattle.rt_trace.specs.declared.item.What.TheVariants as what
 use Rattle.rt_run.specs.Done.{Leads}
-use Rattle.rt_run.specs.Sending.{shown_items, lines_of}
+use Rattle.rt_run.specs.Sending.{shown_items, lines_of, TookButHeld, EndsInItem}
 use Rattle.rt_run.specs.Inside.Writing.{Wrote, Writes, Cut}
-use Rattle.rt_run.proofs.Taking.{wrote_none, wrote_on, wrote_cut}
+use Rattle.rt_run.proofs.Taking.{wrote_none, wrote_on, wrote_cut, held_on}
 
 abbrev numbered : ℕ → What → Item
 numbered n w = record { step = n; what = w }
@@ -133,6 +134,23 @@ goes_on es fs a b c x y z held mid kept first second = record {
       (wrote_on x y z held mid kept (lines_of a es) (lines_of b fs) first.wrote second.wrote);
 }
 
+-- events, and those behind them, which end in an item
+abbrev pub ends_behind : (es fs : List Event) (a b : Machine) → Leads es a b → EndsInItem fs b → EndsInItem (es ++ fs) a
+ends_behind es fs a b run ends = record {
+  earlier = es ++ ends.earlier;
+  last = ends.last;
+  parts = ap (λ t. es ++ t) ends.parts ∙ sym (append_assoc es ends.earlier (ends.last ∷ []));
+  shows =
+      omega (
+        arith,
+        ends.shows,
+        ap length (items_split es ends.earlier a b run),
+        ap length (items_split es fs a b run),
+        length-append (shown_items a es) (shown_items b ends.earlier),
+        length-append (shown_items a es) (shown_items b fs),
+      );
+}
+
 -- a run, and a fault behind it
 pub cut_behind : (es fs : List Event) (a b c : Machine) (x y z : Option (List ℕ)) (held mid : List ℕ)
     → Writes es a b x y held mid → Cut fs b c y z mid → Cut (es ++ fs) a c x z held
@@ -144,6 +162,10 @@ cut_behind es fs a b c x y z held mid first cut = record {
   took =
       subst (λ t. TookPrefix x z (held ++ t)) (sym (lines_split es cut.done a b first.leads))
       (wrote_cut x y z held mid (lines_of a es) (lines_of b cut.done) first.wrote cut.took);
+  ends = ends_behind es cut.done a b first.leads cut.ends;
+  held_back =
+      subst (λ t. TookButHeld x z (held ++ t)) (sym (lines_split es cut.ends.earlier a b first.leads))
+      (held_on x y z held mid (lines_of a es) (lines_of b cut.ends.earlier) first.wrote cut.held_back);
 }
 
 -- a fault, with more to come
@@ -155,13 +177,9 @@ cut_before es fs a b x y held cut = record {
   parts = ap (λ t. t ++ fs) cut.parts ∙ append_assoc cut.done cut.rest fs;
   leads = cut.leads;
   took = cut.took;
+  ends = cut.ends;
+  held_back = cut.held_back;
 }
-
--- all events came, and then a fault
-pub all_came : (es : List Event) (a b : Machine) (x y : Option (List ℕ)) (held : List ℕ) → Leads es a b
-    → TookPrefix x y (held ++ lines_of a es) → Cut es a b x y held
-all_came es a b x y held run took =
-    record { done = es; rest = []; parts = sym (append-nil es); leads = run; took = took }
 
 -- equal events, one more behind some
 pub more : (n : ℕ) (e : Event) (a b c : Machine) (x y z : Option (List ℕ)) (held mid kept : List ℕ)
@@ -224,7 +242,41 @@ pub written : (es : List Event) (a b : Machine) (x y : Option (List ℕ)) (held 
 written es a b x y held kept bytes run lined is wrote =
     record { leads = run; lined = lined; wrote = subst (Wrote x y held kept) (sym is) wrote }
 
-pub stopped : (es : List Event) (a b : Machine) (x y : Option (List ℕ)) (held bytes : List ℕ) → Leads es a b
-    → lines_of a es ≡ bytes → TookPrefix x y (held ++ bytes) → Cut es a b x y held
-stopped es a b x y held bytes run is part =
-    all_came es a b x y held run (subst (λ t. TookPrefix x y (held ++ t)) (sym is) part)
+-- events came, the last of which alone shows an item, and then a fault
+module _ (earlier : List Event) (last : Event) (a b : Machine) (x y : Option (List ℕ)) (held bytes : List ℕ)
+    (silent : shown_items a earlier ≡ []) (shows : 0 < length (shown_items a (earlier ++ last ∷ [])))
+    (few : length held ≤ BUFFER_BYTES) where
+  pub stopped : Leads (earlier ++ last ∷ []) a b → lines_of a (earlier ++ last ∷ []) ≡ bytes
+      → TookPrefix x y (held ++ bytes) → Cut (earlier ++ last ∷ []) a b x y held
+  stopped run is part = record {
+    done = earlier ++ last ∷ [];
+    rest = [];
+    parts = sym (append-nil (earlier ++ last ∷ []));
+    leads = run;
+    took = subst (λ t. TookPrefix x y (held ++ t)) (sym is) part;
+    ends =
+        record { earlier = earlier; last = last; parts = refl; shows = omega (arith, ap length silent, shows) };
+    held_back = record {
+      front = [];
+      held = held;
+      parts = ap (λ t. held ++ flat_map (text a.image.names) t) silent ∙ append-nil held;
+      took = (part.0, part.2);
+      few = few;
+    };
+  }
+
+-- no event shows nothing
+no_items : (m : Machine) → shown_items m [] ≡ []
+unfolding labels
+no_items m = refl
+
+-- one event that shows an item
+pub ends_at : (e : Event) (a : Machine) → 0 < length (shown_items a (e ∷ [])) → EndsInItem (e ∷ []) a
+ends_at e a shows =
+    record { earlier = []; last = e; parts = refl; shows = omega (arith, ap length (no_items a), shows) }
+
+-- one event came, and then a fault
+pub stopped_at : (e : Event) (a b : Machine) (x y : Option (List ℕ)) (held bytes : List ℕ)
+    → 0 < length (shown_items a (e ∷ [])) → length held ≤ BUFFER_BYTES → Leads (e ∷ []) a b
+    → lines_of a (e ∷ []) ≡ bytes → TookPrefix x y (held ++ bytes) → Cut (e ∷ []) a b x y held
+stopped_at e a b x y held bytes shows few = stopped [] e a b x y held bytes (no_items a) shows few

@@ -1,7 +1,7 @@
 -- One event: where it leads, and the lines of what it shows.
 use Rattle.std.proofs.Common.{◌≡◌, ℕ, zero, suc, ◌+◌, ◌-◌, ◌*◌, ◌/◌, ◌%◌, ◌==◌, ◌<◌, ◌≤◌, ◌≢◌, ◌^◌, inl, inr, List, []}
 use Rattle.std.proofs.Common.{◌∷◌, ◌++◌, map, filter, flat_map, Option, Some, None, Bool, true, false, if◌then◌else◌}
-use Rattle.std.proofs.Common.{refl, ap, sym, subst, ◌∙◌, arith}
+use Rattle.std.proofs.Common.{length, refl, ap, sym, subst, ◌∙◌, arith}
 use Rattle.std.specs.Int.{bit_at}
 use Rattle.std.specs.List.{AllByRecursion}
 use Rattle.std.proofs.lemmas.Bool.{cases_lt}
@@ -74,6 +74,29 @@ step_lined m names shown w k named item some counted line =
     (subst (λ n. HasLine names (numbered n w)) numbers line) in
     subst (λ s. AllByRecursion (HasLine m.image.names) (items_of m.steps (Stepped s ∷ []))) (sym (sym item ∙ some))
     (here, tt)
+
+-- each event but a silent step shows an item
+pub step_shows : (m : Machine) (shown : Option What) (w : What) → shown ≡ (step m.image m.core).1 → shown ≡ Some w
+    → 0 < length (shown_items m (Step ∷ []))
+unfolding labels happen
+step_shows m shown w item some =
+    let is : items_of m.steps (Stepped (step m.image m.core).1 ∷ []) ≡ numbered m.steps w ∷ [] =
+    ap (λ s. items_of m.steps (Stepped s ∷ [])) (sym item ∙ some) in
+    omega (arith, ap length is)
+
+pub tick_shows : (m : Machine) (came : Bool)
+    → (happen m.image m.core Tick).1 ≡ Ticked ∷ (if came then Rang ∷ [] else [])
+    → 0 < length (shown_items m (Tick ∷ []))
+unfolding labels
+tick_shows m came shown =
+    let rest : List Item = items_of m.steps (if came then Rang ∷ [] else []) in
+    let is : items_of m.steps ((happen m.image m.core Tick).1 ++ []) ≡ numbered m.steps what.Tick ∷ rest =
+    ap (items_of m.steps) (append-nil (happen m.image m.core Tick).1 ∙ shown) in
+    omega (arith, ap length is)
+
+pub pend_shows : (m : Machine) (irq : ℕ) → 0 < length (shown_items m (Arrive irq ∷ []))
+unfolding labels happen
+pend_shows m irq = let e : 0 < length (numbered m.steps (what.Pend irq) ∷ []) = omega arith in e
 
 pub tick_leads : (old new : Machine) → new ≡ record old { core = (happen old.image old.core Tick).0 }
     → Leads (Tick ∷ []) old new

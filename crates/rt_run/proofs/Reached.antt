@@ -1,9 +1,9 @@
 -- Core steps up to the first that shows an item: where they lead, and what they show.
-use Rattle.std.proofs.Common.{◌≡◌, ℕ, zero, suc, ◌+◌, ◌-◌, List, [], ◌∷◌, ◌++◌, flat_map, replicate, Option, Some, None}
-use Rattle.std.proofs.Common.{refl, ap, sym}
+use Rattle.std.proofs.Common.{◌≡◌, ℕ, zero, suc, ◌+◌, ◌-◌, ◌<◌, ◌≤◌, List, [], ◌∷◌, ◌++◌, flat_map, replicate}
+use Rattle.std.proofs.Common.{Option, Some, None, length, refl, ap, sym}
 use Rattle.std.proofs.Common.{subst, ◌∙◌, arith}
 use Rattle.std.specs.List.{AllByRecursion}
-use Rattle.std.proofs.lemmas.List.{append-nil}
+use Rattle.std.proofs.lemmas.List.{append-nil, replicate_more}
 use Rattle.rt_ids.specs.Event.{Step, steps}
 use Rattle.rt_ids.specs.Names.{Names}
 use Rattle.rt_code.specs.Image.{Image}
@@ -16,15 +16,17 @@ use Rattle.rt_core.specs.Trace.{happen, labels}
 use Rattle.rt_trace.specs.Label.{Label, Stepped, items_of}
 use Rattle.rt_trace.specs.Lined.{HasLine}
 use Rattle.rt_trace.specs.Text.{text}
+use Rattle.rt_outside.specs.Bytes.{TookPrefix}
+use Rattle.rt_trace.specs.declared.buffer.TheConstants.{BUFFER_BYTES}
 use Rattle.rt_trace.specs.declared.item.Item.{Item}
 use Rattle.rt_trace.specs.declared.item.What.{What}
 use Rattle.rt_run.specs.Done.{Leads}
 use Rattle.rt_run.specs.Sending.{shown_items, lines_of}
 use Rattle.rt_run.specs.Writable.{IsKnown}
-use Rattle.rt_run.specs.Inside.Writing.{HasWords, ShowsWords, Writes}
+use Rattle.rt_run.specs.Inside.Writing.{HasWords, ShowsWords, Writes, Cut}
 use Rattle.rt_run.proofs.Taking.{wrote_none}
 use Rattle.rt_run.proofs.Worded.{step_known}
-use Rattle.rt_run.proofs.Advancing.{written}
+use Rattle.rt_run.proofs.Advancing.{written, stopped}
 
 abbrev numbered : ℕ → What → Item
 numbered n w = record { step = n; what = w }
@@ -65,6 +67,19 @@ reached_item most a b shown w goes some =
     ∙ ap (λ n. numbered n w ∷ [])
     (let e : a.steps + goes.reaches.silent ≡ b.steps - 1 =
     omega (arith, goes.steps, goes.reaches.count, ap (λ o. and_the_last goes.reaches.silent o) some) in e)
+
+-- the steps before it show none
+silent_front : (img : Image) (c : Core) (n : ℕ) (w : What)
+    → labels img c (replicate (suc n) Step) ≡ replicate n (Stepped None) ++ Stepped (Some w) ∷ []
+    → labels img c (replicate n Step) ≡ replicate n (Stepped None)
+unfolding labels happen
+silent_front img c zero w is = refl
+silent_front img c (suc n) w is =
+    let first : Stepped (step img c).1 ≡ Stepped None = cc in
+    let rest : labels img (step img c).0 (replicate (suc n) Step)
+    ≡ replicate n (Stepped None) ++ Stepped (Some w) ∷ [] = cc in
+    ap (λ l. l ∷ labels img (step img c).0 (replicate n Step)) first
+    ∙ ap (λ ls. Stepped None ∷ ls) (silent_front img (step img c).0 n w rest)
 
 -- the names of what a label shows
 abbrev HasLabelWords : Names → Label → Type 0
@@ -126,3 +141,25 @@ module _ (most : ℕ) (a b : Machine) (shown : Option What) (w : What) (goes : S
       subst (λ n. HasLine a.image.names (numbered (n - 1) w)) counted
       (subst (λ (n : Names). HasLine n (numbered (k - 1) w)) named line) in
       subst (AllByRecursion (HasLine a.image.names)) (sym (reached_item most a b shown w goes some)) (here, tt)
+
+  -- and a fault at it
+  pub item_stopped : (x y : Option (List ℕ)) (held : List ℕ) → length held ≤ BUFFER_BYTES
+      → TookPrefix x y (held ++ text names (numbered (k - 1) w)) → Cut (replicate goes.done Step) a b x y held
+  item_stopped x y held few part =
+      let n : ℕ = goes.reaches.silent in
+      let count : n + 1 ≡ goes.done = omega (arith, goes.reaches.count, ap (and_the_last n) some) in
+      let as_done : replicate n Step ++ Step ∷ [] ≡ replicate goes.done Step =
+      replicate_more n Step ∙ ap (λ m. replicate m Step) count in
+      let front : labels a.image a.core (replicate n Step) ≡ replicate n (Stepped None) =
+      silent_front a.image a.core n w
+      (ap (λ m. labels a.image a.core (replicate m Step)) (let e : suc n ≡ goes.done = omega (arith, count) in e)
+      ∙ goes.reaches.shows
+      ∙ ap (λ o. replicate n (Stepped None) ++ label_of_item o) some) in
+      let silent : shown_items a (replicate n Step) ≡ [] =
+      ap (items_of a.steps) (front ∙ sym (append-nil (replicate n (Stepped None)))) ∙ silent_items a.steps n [] in
+      let shows : 0 < length (shown_items a (replicate n Step ++ Step ∷ [])) =
+      omega (arith, ap length (ap (shown_items a) as_done ∙ reached_item most a b shown w goes some)) in
+      subst (λ es. Cut es a b x y held) as_done
+      (stopped (replicate n Step) Step a b x y held (text names (numbered (k - 1) w)) silent shows few
+      (subst (λ es. Leads es a b) (sym as_done) (reached_leads most a b shown goes))
+      (ap (lines_of a) as_done ∙ item_lines) part)

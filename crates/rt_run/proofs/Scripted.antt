@@ -1,13 +1,13 @@
 -- A run line by line of a script, from a fresh core to the text of the whole trace.
 use Rattle.std.proofs.Common.{◌≡◌, ℕ, ◌+◌, ◌<◌, ◌≤◌, List, [], ◌∷◌, ◌++◌, length, flat_map, take, drop}
-use Rattle.std.proofs.Common.{Option, if◌then◌else◌, refl, ap, sym, subst, ◌∙◌, get_or, arith}
+use Rattle.std.proofs.Common.{Option, if◌then◌else◌, inl, inr, refl, ap, sym, subst, ◌∙◌, get_or, arith}
 use Rattle.std.proofs.lemmas.Grind.{flat_map-append}
 use Rattle.std.proofs.lemmas.List.{append-nil, take_more, take-append-drop, length-append, length-replicate}
 use Rattle.std.proofs.lemmas.List.Sums.{sum_by-cons, sum_by-take-le}
 use Rattle.rt_ids.specs.Event.{Arrive, Tick, Step, steps}
 use Rattle.rt_ids.specs.Lists.{is_empty}
 use Rattle.rt_ids.specs.declared.limits.TheConstants.{SCRIPT_EVENTS}
-use Rattle.rt_outside.specs.Bytes.{Took, TookPrefix}
+use Rattle.rt_outside.specs.Bytes.{Took, TookAtLeast, TookPrefix}
 use Rattle.rt_code.specs.Image.{Image}
 use Rattle.rt_core.specs.Core.{Core, reset}
 use Rattle.rt_core.specs.Machine.{Machine, IsFresh}
@@ -16,11 +16,12 @@ use Rattle.rt_script.specs.Script.{IsScript, count, count_of, events, line_event
 use Rattle.rt_script.specs.declared.line.Line.{Line}
 use Rattle.rt_script.specs.declared.line.Line.TheVariants.{Steps, Ticks, Pends, Device}
 use Rattle.rt_trace.specs.Label.{items_of}
+use Rattle.rt_trace.specs.declared.buffer.TheConstants.{BUFFER_BYTES}
 use Rattle.rt_trace.specs.Text.{text, total_text}
-use Rattle.rt_run.specs.Sending.{BreaksOff, lines_of}
+use Rattle.rt_run.specs.Sending.{BreaksOff, TookButHeld, lines_of}
 use Rattle.rt_run.specs.Inside.Writing.{Writes, Cut}
 use Rattle.rt_run.specs.Written.{text_of}
-use Rattle.rt_run.proofs.Taking.{part_more, wrote_all, wrote_cut}
+use Rattle.rt_run.proofs.Taking.{part_more, wrote_all, wrote_cut, least_on}
 use Rattle.rt_run.proofs.Advancing.{goes_on, cut_behind, cut_before, lines_split}
 
 line_length : (line : Line) → length (line_events line) ≡ count_of line
@@ -111,6 +112,10 @@ module _ (m n : Machine) (script : List Line) (fresh : IsFresh m) (x y : Option 
     cut =
         part_more x y (lines_of m cut.done) (if is_empty cut.rest then total_text n.steps else [])
         (subst (λ h. TookPrefix x y (h ++ lines_of m cut.done)) empty cut.took);
+    stops = inl (record {
+      ends = cut.ends;
+      held = subst (λ h. TookButHeld x y (h ++ lines_of m cut.ends.earlier)) empty cut.held_back;
+    });
   }
 
   -- a fault at one of the lines
@@ -140,8 +145,9 @@ module _ (m n : Machine) (script : List Line) (fresh : IsFresh m) (x y : Option 
         (wrote_all x y z held kept (lines_of m (events script)) (total_text total) run.wrote took)
 
     -- what a fault behind all events leaves done
-    pub total_off : TookPrefix y z (kept ++ total_text total) → BreaksOff (events script) m n x z
-    total_off took = record {
+    pub total_off : length kept ≤ BUFFER_BYTES → TookPrefix y z (kept ++ total_text total)
+        → BreaksOff (events script) m n x z
+    total_off few took = record {
       done = events script;
       rest = [];
       parts = sym (append-nil (events script));
@@ -151,6 +157,18 @@ module _ (m n : Machine) (script : List Line) (fresh : IsFresh m) (x y : Option 
           (ap (λ h. h ++ (lines_of m (events script) ++ total_text total)) empty
           ∙ ap (λ k. lines_of m (events script) ++ total_text k) counted)
           (wrote_cut x y z held kept (lines_of m (events script)) (total_text total) run.wrote took);
+      stops = inr (
+        refl,
+        record {
+          front = run.wrote.front;
+          held = kept;
+          parts = ap (λ h. h ++ lines_of m (events script)) (sym empty) ∙ run.wrote.parts;
+          took =
+              subst (TookAtLeast x z) (append-nil run.wrote.front)
+              (least_on x y z run.wrote.front [] run.wrote.took (took.0, took.2));
+          few = few;
+        },
+      );
     }
 
     -- a fault at the last of the lines, or behind it

@@ -1,16 +1,20 @@
 -- Events whose lines went out at once, runs that go on where others ended, and runs in which a fault came.
-use Rattle.std.proofs.Common.{◌≡◌, ◌⊎◌, inl, inr, ℕ, List, [], ◌∷◌, ◌++◌, length, Option, refl, ap, sym, subst, ◌∙◌}
+use Rattle.std.proofs.Common.{◌≡◌, ◌⊎◌, inl, inr, ℕ, ◌+◌, ◌<◌, List, [], ◌∷◌, ◌++◌, length, flat_map, Option, Some}
+use Rattle.std.proofs.Common.{refl, ap, sym, subst, ◌∙◌}
 use Rattle.std.proofs.Common.{append_assoc, arith, length-append}
 use Rattle.std.proofs.lemmas.List.{append-nil}
-use Rattle.rt_ids.specs.Event.{Event}
+use Rattle.rt_ids.specs.Event.{Event, steps}
+use Rattle.rt_ids.specs.Names.{Names}
 use Rattle.rt_core.specs.Machine.{Machine}
-use Rattle.rt_core.specs.Trace.{labels}
+use Rattle.rt_core.specs.Trace.{core_after, labels}
 use Rattle.rt_outside.specs.Bytes.{Took, TookAtLeast, TookPrefix}
+use Rattle.rt_trace.specs.Text.{text}
+use Rattle.rt_trace.specs.declared.item.Item.{Item}
 use Rattle.rt_run.specs.Done.{Leads}
-use Rattle.rt_run.specs.Sending.{Sends, Breaks, lines_of}
+use Rattle.rt_run.specs.Sending.{Sends, Breaks, EndsInItem, shown_items, lines_of}
 use Rattle.rt_run.specs.Inside.Writing.{Writes, Cut}
 use Rattle.rt_run.proofs.Taking.{took_on, part_on, least_on}
-use Rattle.rt_run.proofs.Advancing.{nothing_yet, goes_on, leads_on, lines_split}
+use Rattle.rt_run.proofs.Advancing.{nothing_yet, goes_on, leads_on, items_split, lines_split}
 
 module _ (es : List Event) (a b : Machine) (x : Option (List ℕ)) (held : List ℕ) (empty : held ≡ []) where
   behind : (y : Option (List ℕ)) (kept : List ℕ) (run : Writes es a b x y held kept)
@@ -135,3 +139,43 @@ breaks_before es fs a b x y cut = record {
   took = cut.took;
   cut = cut.cut;
 }
+
+-- lines are of items
+some_items : (names : Names) (items : List Item) → 0 < length (flat_map (text names) items) → 0 < length items
+some_items names [] some = absurd (omega (arith, some))
+some_items names (i ∷ is) some = omega arith
+
+-- the event in whose lines a fault came shows an item, where the sink tells what it took
+pub breaks_end : (es : List Event) (a b : Machine) (x y : List ℕ) (cut : Breaks es a b (Some x) (Some y))
+    → EndsInItem (cut.done ++ cut.last ∷ []) a
+breaks_end es a b x y cut =
+    let mid : Machine =
+    record { image = a.image; core = core_after a.image a.core cut.done; steps = a.steps + steps cut.done } in
+    let there : Leads cut.done a mid = record { image = refl; core = refl; steps = refl } in
+    let last : List Event = cut.last ∷ [] in
+    let more : 0 < length (lines_of mid last) =
+    omega (
+      arith,
+      ap length (lines_split cut.done last a mid there),
+      length-append (lines_of a cut.done) (lines_of mid last),
+      ap length cut.took.1,
+      length-append x (lines_of a cut.done ++ cut.took.0),
+      length-append (lines_of a cut.done) cut.took.0,
+      ap length cut.cut.2,
+      length-append x cut.cut.0,
+      cut.cut.1.1,
+      ap length cut.cut.1.2,
+      length-append cut.cut.0 cut.cut.1.0,
+    ) in
+    record {
+      earlier = cut.done;
+      last = cut.last;
+      parts = refl;
+      shows =
+          omega (
+            arith,
+            ap length (items_split cut.done last a mid there),
+            length-append (shown_items a cut.done) (shown_items mid last),
+            some_items a.image.names (shown_items mid last) more,
+          );
+    }

@@ -7,6 +7,7 @@ use Rattle.std.specs.Prelude.{IsErr}
 use Rattle.std.proofs.lemmas.List.{append-nil}
 use Rattle.rt_outside.specs.Bytes.{Took, TookAtLeast, TookPrefix}
 use Rattle.rt_outside.specs.Faults.{Rose, HasCause}
+use Rattle.rt_run.specs.Sending.{TookButHeld}
 use Rattle.rt_run.specs.Inside.Writing.{Wrote}
 
 -- nothing was taken
@@ -92,6 +93,19 @@ pub wrote_cut : (a b c : Option (List ℕ)) (held mid x y : List ℕ) → Wrote 
 wrote_cut a b c held mid x y first part =
     subst (TookPrefix a c) (joined held mid first.front x y first.parts)
     (part_on a b c first.front (mid ++ y) first.took part)
+
+-- and then a fault came, at which no more than a buffer was held
+pub held_on : (a b c : Option (List ℕ)) (held mid x y : List ℕ) → Wrote a b held mid x → TookButHeld b c (mid ++ y)
+    → TookButHeld a c (held ++ (x ++ y))
+held_on a b c held mid x y first late = record {
+  front = first.front ++ late.front;
+  held = late.held;
+  parts =
+      sym (joined held mid first.front x y first.parts) ∙ ap (λ t. first.front ++ t) late.parts
+      ∙ sym (append_assoc first.front late.front late.held);
+  took = least_on a b c first.front late.front first.took late.took;
+  few = late.few;
+}
 
 -- the last bytes, and all that was held, went out as one piece
 pub wrote_end : (a b c : Option (List ℕ)) (held mid bytes piece : List ℕ) → Wrote a b held mid [] → piece ≡ mid ++ bytes

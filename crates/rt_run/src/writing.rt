@@ -5,6 +5,7 @@ ghost use Rattle.rt_outside.specs.Bytes.{Took, TookPrefix};
 ghost use Rattle.rt_trace.specs.Label.{Ticked, Rang, items_of};
 ghost use Rattle.rt_trace.specs.Lined.{HasLine};
 ghost use Rattle.rt_trace.specs.Text as spec;
+ghost use Rattle.rt_trace.specs.declared.buffer.TheConstants.{BUFFER_BYTES};
 ghost use Rattle.rt_run.specs.Inside.Writing.{HasRoom, HasWords, Wrote};
 
 use crate::numbers::numbers_fit;
@@ -12,11 +13,12 @@ use rt_ids::Names;
 use rt_outside::{Failed, Sink, put_all};
 use rt_trace::{Item, LineBuffer, What};
 
-/// Lets out what is held.
+/// Lets out what is held, which is no more than a buffer.
 pub(crate) fn put_held<K: Sink>(out: &mut K, held: &mut LineBuffer) -> Result<(), Failed>
     ensures ok { OnOk result (Took (K.taken out.old) (K.taken out.new) held.old) }
     ensures none_held { OnOk result (held.new ≡ []) }
     ensures err { OnErr result (TookPrefix (K.taken out.old) (K.taken out.new) held.old) }
+    ensures few { length held.old ≤ BUFFER_BYTES }
     ensures none_left { OnErr result (held.new ≡ []) }
     ensures cause { HasCause (K.faults out.old) (K.faults out.new) result }
     ensures quiet { OnOk result (K.faults out.new ≡ K.faults out.old) }
@@ -31,6 +33,7 @@ fn make_room<K: Sink>(out: &mut K, held: &mut LineBuffer) -> Result<(), Failed>
     ensures ok { OnOk result (Wrote (K.taken out.old) (K.taken out.new) held.old held.new []) }
     ensures room { OnOk result (HasRoom held.new) }
     ensures err { OnErr result (TookPrefix (K.taken out.old) (K.taken out.new) held.old) }
+    ensures few { length held.old ≤ BUFFER_BYTES }
     ensures none_left { OnErr result (held.new ≡ []) }
     ensures cause { HasCause (K.faults out.old) (K.faults out.new) result }
     ensures quiet { OnOk result (K.faults out.new ≡ K.faults out.old) }
@@ -53,6 +56,7 @@ pub(crate) fn put_item<K: Sink>(
         (Wrote (K.taken out.old) (K.taken out.new) held.old held.new (spec.text names.now item.now)) }
     ensures err { OnErr result
         (TookPrefix (K.taken out.old) (K.taken out.new) (held.old ++ spec.text names.now item.now)) }
+    ensures few { length held.old ≤ BUFFER_BYTES }
     ensures none_left { OnErr result (held.new ≡ []) }
     ensures cause { HasCause (K.faults out.old) (K.faults out.new) result }
     ensures quiet { OnOk result (K.faults out.new ≡ K.faults out.old) }
@@ -77,6 +81,7 @@ pub(crate) fn put_shown<K: Sink>(
         (spec.text names.now (record { step = step; what = what }))) }
     ensures err { OnErr result (TookPrefix (K.taken out.old) (K.taken out.new)
         (held.old ++ spec.text names.now (record { step = step; what = what }))) }
+    ensures few { length held.old ≤ BUFFER_BYTES }
     ensures none_left { OnErr result (held.new ≡ []) }
     ensures cause { HasCause (K.faults out.old) (K.faults out.new) result }
     ensures quiet { OnOk result (K.faults out.new ≡ K.faults out.old) }
@@ -98,6 +103,7 @@ pub(crate) fn put_tick<K: Sink>(
         (flat_map (spec.text names.now) (items_of step (Ticked ∷ (if came then Rang ∷ [] else []))))) }
     ensures err { OnErr result (TookPrefix (K.taken out.old) (K.taken out.new)
         (held.old ++ flat_map (spec.text names.now) (items_of step (Ticked ∷ (if came then Rang ∷ [] else []))))) }
+    ensures few { length held.old ≤ BUFFER_BYTES }
     ensures none_left { OnErr result (held.new ≡ []) }
     ensures cause { HasCause (K.faults out.old) (K.faults out.new) result }
     ensures quiet { OnOk result (K.faults out.new ≡ K.faults out.old) }
@@ -117,6 +123,7 @@ pub fn put_end<K: Sink>(out: &mut K, held: &mut LineBuffer, total: u64) -> Resul
     ensures ok { OnOk result (Took (K.taken out.old) (K.taken out.new) (held.old ++ spec.total_text total)) }
     ensures none_held { OnOk result (held.new ≡ []) }
     ensures err { OnErr result (TookPrefix (K.taken out.old) (K.taken out.new) (held.old ++ spec.total_text total)) }
+    ensures few { length held.old ≤ BUFFER_BYTES }
     ensures none_left { OnErr result (held.new ≡ []) }
     ensures cause { HasCause (K.faults out.old) (K.faults out.new) result }
     ensures quiet { OnOk result (K.faults out.new ≡ K.faults out.old) }

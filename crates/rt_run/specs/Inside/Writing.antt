@@ -14,7 +14,7 @@ use Rattle.rt_trace.specs.declared.buffer.TheConstants.{BUFFER_BYTES, LINE_BYTES
 use Rattle.rt_trace.specs.declared.item.What.{What}
 use Rattle.rt_trace.specs.declared.item.What.TheVariants as what
 use Rattle.rt_run.specs.Done.{Leads}
-use Rattle.rt_run.specs.Sending.{shown_items, lines_of}
+use Rattle.rt_run.specs.Sending.{shown_items, lines_of, TookButHeld, EndsInItem}
 
 -- a resource is left with a value, and a queue with none
 abbrev pub HasValueOf : Section → Option ℕ → Type 0
@@ -64,7 +64,8 @@ pub record Writes (events : List Event) (old new : Machine) (before after : Opti
   pub wrote : Wrote before after held kept (lines_of old events)
 
 -- A fault came: the first of these events lead from the old machine to the new one, and a beginning of what was held
--- and of their lines was taken.
+-- and of their lines was taken. The last of them shows an item, and what was held and the lines of those before it were
+-- taken but for a buffer.
 pub record Cut (events : List Event) (old new : Machine) (before after : Option (List ℕ)) (held : List ℕ)
     : Type 0 where
   pub done : List Event
@@ -72,3 +73,5 @@ pub record Cut (events : List Event) (old new : Machine) (before after : Option 
   pub parts : events ≡ done ++ rest
   pub leads : Leads done old new
   pub took : TookPrefix before after (held ++ lines_of old done)
+  pub ends : EndsInItem done old
+  pub held_back : TookButHeld before after (held ++ lines_of old ends.earlier)

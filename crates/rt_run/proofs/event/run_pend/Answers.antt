@@ -5,8 +5,8 @@ use Rattle.rt_ids.specs.Event.{Arrive}
 use Rattle.rt_ids.specs.Names.{Names}
 use Rattle.rt_code.specs.Image.{Image}
 use Rattle.rt_trace.specs.Lined.{IsDeclared}
-use Rattle.rt_run.proofs.Advancing.{written, stopped}
-use Rattle.rt_run.proofs.Happened.{only_bit, one_arrival, pend_leads, pend_lines, pend_lined}
+use Rattle.rt_run.proofs.Advancing.{written, stopped_at}
+use Rattle.rt_run.proofs.Happened.{only_bit, one_arrival, pend_leads, pend_lines, pend_lined, pend_shows}
 use Rattle.rt_run.proofs.event.run_pend.Goals as goal
 
 pub arrive-requires : goal.arrive-requires
@@ -54,6 +54,7 @@ returns-clause-err g c =
     let named = ap (λ (i : Image). i.names) (c.behind-core.view_is ∙ c.image.ensures ∙ run.image) in
     let counted : c.steps-step.result ≡ core.steps = omega (arith, c.steps-step.ensures, run.steps) in
     on_err_weaker c.put_item.result
-    (stopped (Arrive c.args.irq ∷ []) core after _ _ c.args.held.now _ run
+    (stopped_at (Arrive c.args.irq) core after _ _ c.args.held.now _ (pend_shows core c.args.irq)
+    c.put_item.ensures.few run
     (pend_lines core _ c.args.irq _ named counted))
     c.put_item.ensures.err

@@ -6,8 +6,8 @@ use Rattle.rt_code.specs.Image.{Image}
 use Rattle.rt_run.specs.Inside.Writing.{HasWords, ShowsWords}
 use Rattle.rt_run.proofs.Taking.{wrote_none}
 use Rattle.rt_run.proofs.Worded.{step_known}
-use Rattle.rt_run.proofs.Advancing.{written, stopped}
-use Rattle.rt_run.proofs.Happened.{step_leads, silent_lines, silent_lined, step_lines, step_lined}
+use Rattle.rt_run.proofs.Advancing.{written, stopped_at}
+use Rattle.rt_run.proofs.Happened.{step_leads, silent_lines, silent_lined, step_lines, step_lined, step_shows}
 use Rattle.rt_run.proofs.event.run_step.Goals as goal
 
 pub returns-in_default-clause-ok : goal.returns-in_default-clause-ok
@@ -47,6 +47,7 @@ returns-clause-err g c =
     let named = ap (λ (i : Image). i.names) (c.behind-core.view_is ∙ c.image.ensures ∙ run.image) in
     let counted : c.steps-step.result ≡ suc core.steps = omega (arith, c.steps-step.ensures, run.steps) in
     on_err_weaker c.put_shown.result
-    (stopped (Step ∷ []) core c.step.new.self _ _ c.args.held.now _ run
+    (stopped_at Step core c.step.new.self _ _ c.args.held.now _
+    (step_shows core c.step.result c.in-Some.what c.step.ensures.item c.in-Some.is) c.put_shown.ensures.few run
     (step_lines core _ c.step.result c.in-Some.what _ named c.step.ensures.item c.in-Some.is counted))
     c.put_shown.ensures.err

@@ -4,8 +4,8 @@ use Rattle.rt_ids.specs.Event.{Step}
 use Rattle.rt_ids.specs.Names.{Names}
 use Rattle.rt_code.specs.Image.{Image}
 use Rattle.rt_run.specs.Inside.Writing.{HasWords, Writes}
-use Rattle.rt_run.proofs.Advancing.{written, stopped, cut_more}
-use Rattle.rt_run.proofs.Reached.{reached_leads, reached_words, none_written, item_lines, item_lined}
+use Rattle.rt_run.proofs.Advancing.{written, cut_more}
+use Rattle.rt_run.proofs.Reached.{reached_leads, reached_words, none_written, item_lines, item_lined, item_stopped}
 use Rattle.rt_run.proofs.event.run_to_item.Goals as goal
 
 pub returns-in_default-clause-ok : goal.returns-in_default-clause-ok
@@ -29,11 +29,8 @@ returns-in_err-put_shown-clause-err g c =
     let named = ap (λ (i : Image). i.names) (c.behind-core.view_is ∙ c.image.ensures ∙ goes.image) in
     on_err_from c.from_residual.result
     (cut_more goes.done c.args.most Step core c.steps_to_item.new.self _ _ c.args.held.now goes.within
-    (stopped (replicate goes.done Step) core c.steps_to_item.new.self _ _ c.args.held.now _
-    (reached_leads c.args.most core c.steps_to_item.new.self c.steps_to_item.result goes)
-    (item_lines c.args.most core c.steps_to_item.new.self c.steps_to_item.result c.in-Some.what goes c.in-Some.is _ _
-    named c.steps-behind.ensures)
-    c.in_err-put_shown.ensures.err))
+    (item_stopped c.args.most core c.steps_to_item.new.self c.steps_to_item.result c.in-Some.what goes c.in-Some.is _ _
+    named c.steps-behind.ensures _ _ c.args.held.now c.put_shown.ensures.few c.in_err-put_shown.ensures.err))
 
 pub returns-clause-ok : goal.returns-clause-ok
 returns-clause-ok g c =

@@ -92,7 +92,7 @@ returns-clause-part g c =
     let run = ran_same _ script core after _ _ held _ c.lines-lines.ensures.lines c.in_ok-run_lines.ensures.ok in
     on_err_weaker c.put_end.result
     (total_off core after script c.requires.fresh _ _ held c.new-held.ensures _ c.run_lines.new.held run c.steps.result
-    c.steps.ensures)
+    c.steps.ensures c.put_end.ensures.few)
     c.put_end.ensures.err
 
 pub returns-clause-short : goal.returns-clause-short
