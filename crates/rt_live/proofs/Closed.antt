@@ -16,7 +16,7 @@ use Rattle.rt_script.specs.declared.line.Line.{Line}
 use Rattle.rt_script.specs.declared.line.Line.TheVariants.{Steps, Ticks, Pends, Device as DeviceLine}
 use Rattle.rt_words.specs.Account.{raised_count, merged_count, latched_count}
 use Rattle.rt_words.specs.Ending.{AllGathered, LatchedAreZero, OneHistory, calls_in}
-use Rattle.rt_words.specs.History.{part}
+use Rattle.rt_words.specs.History.{CallsLast, part}
 use Rattle.rt_words.specs.Lines.{Row, Core, numbers}
 use Rattle.rt_words.specs.Object.{pending_bit}
 use Rattle.rt_words.specs.declared.view.Part.{Part}
@@ -229,6 +229,9 @@ module _ (ready : Prepared) (is : IsReady ready) where
       silent = λ none.
           let own : line ≡ ready.line = same ∙ ap (λ (ds : List Device). line_after_gathering ds ready.line) none in
           subst (λ (l : Core). LatchedAreZero (drop l.since l.calls) bits) own silent;
+      ended = λ none.
+          let own : line ≡ ready.line = same ∙ ap (λ (ds : List Device). line_after_gathering ds ready.line) none in
+          subst (λ (l : Core). CallsLast h.history 255 (drop l.since l.calls)) own h.last;
       account = account;
     }
 

@@ -1,6 +1,7 @@
 -- From what a run tells and what its words tell when they are closed: the text that was written is one that `live`
 -- allows, or a beginning of one.
-use Rattle.std.proofs.Common.{◌≡◌, ◌≢◌, ◌⊎◌, ℕ, ◌<◌, List, [], ◌∷◌, ◌++◌, map, flat_map, replicate}
+use Rattle.std.proofs.Common.{◌≡◌, ◌≢◌, ◌⊎◌, ℕ, ◌*◌, ◌<◌, ◌≤◌, List, [], ◌∷◌, ◌++◌, map, flat_map, replicate}
+use Rattle.std.proofs.Common.{length, drop}
 use Rattle.std.proofs.Common.{Option, Contains, get_or, sym, ap, subst, ◌∙◌, arith, ⊎_elim, inr, Some, append_assoc}
 use Rattle.std.specs.List.{AllByRecursion}
 use Rattle.rt_lemmas.proofs.Membership.{all_has}
@@ -10,11 +11,13 @@ use Rattle.rt_run.specs.Sending.{lines_of}
 use Rattle.rt_run.proofs.Taking.{part_more, part_on, took_on}
 use Rattle.rt_devices.specs.Work.{interrupt_asked}
 use Rattle.rt_devices.specs.declared.device.Device.{Device}
-use Rattle.rt_script.specs.Script.{HasDeviceInRange, pends}
+use Rattle.rt_ids.specs.Event.{steps}
+use Rattle.rt_script.specs.Script.{HasDeviceInRange, core_events, pends}
 use Rattle.rt_trace.specs.Text.{total_text}
 use Rattle.rt_words.specs.Ending.{calls_in}
-use Rattle.rt_words.specs.History.{part}
+use Rattle.rt_words.specs.History.{CallsLast, part}
 use Rattle.rt_words.specs.Lines.{numbers}
+use Rattle.rt_words.specs.declared.call.Call.{Call}
 use Rattle.rt_words.specs.declared.call.Call.TheVariants.{Latch}
 use Rattle.rt_words.specs.declared.view.Part.{Part}
 use Rattle.rt_words.proofs.Lists.{dec_in, of_map}
@@ -34,6 +37,7 @@ use Rattle.rt_live.proofs.Closing.{cut_before, closes_whole}
 use Rattle.rt_live.proofs.Ended.{text_is}
 use Rattle.rt_live.proofs.Extending.{IsCutHistory, Settles}
 use Rattle.rt_live.proofs.Finishing.{all_zeros}
+use Rattle.rt_live.proofs.LastLooks.{own_within}
 use Rattle.rt_live.proofs.Numbered.{not_asked}
 use Rattle.rt_live.proofs.Onward.{led_as_many, zeros}
 use Rattle.rt_live.proofs.Outputs.{account_behind, live_whole, part_cut, balanced}
@@ -42,7 +46,8 @@ use Rattle.rt_live.proofs.Settling.{latch_at}
 -- the run has ended: the lines of its devices were gathered, and it was closed with these rows
 module _ (ready : Prepared) (is : IsReady ready) (gone : ready.devices ≡ [])
     (ranges : AllByRecursion HasDeviceInRange ready.script)
-    (rows : List AccountRow) (closed : Closes ready rows) where
+    (rows : List AccountRow) (closed : Closes ready rows)
+    (early : ready.line.since ≤ 16 * steps (core_events ready.script)) where
   -- each number of the history but the core's is a device's, with its pends
   asked : (number : ℕ) → number ≢ 255
       → map interrupt_asked (part closed.history number) ≡ map (λ irq. Some irq) (pends ready.script number)
@@ -65,7 +70,17 @@ module _ (ready : Prepared) (is : IsReady ready) (gone : ready.devices ≡ [])
   cut_history : (found : List (List ℕ)) (last : List ℕ) → ready.line.calls ≡ flat_map look_calls (found ++ last ∷ [])
       → IsCutHistory ready.script found last closed.left closed.history
   cut_history found last latched =
-      record { legal = closed.legal; core = closed.core ∙ latched; devices = asked }
+      record {
+        legal = closed.legal;
+        core = closed.core ∙ latched;
+        devices = asked;
+        since = ready.line.since;
+        within = omega (arith, is.behind, ap length latched);
+        early = early;
+        ended =
+            subst (λ (cs : List Call). CallsLast closed.history 255 (drop ready.line.since cs)) latched
+            (closed.ended gone);
+      }
 
   -- nothing is left where each word was latched behind the last device
   none_left : LatchedLast ready.line → closed.left ≡ zeros 16
@@ -78,7 +93,8 @@ module _ (ready : Prepared) (is : IsReady ready) (gone : ready.devices ≡ [])
     module _ (says : List (List ℕ) → Type 0) (all : Completes (turns ready.script) ready.line old next says) where
       pub allowed : IsHistory ready.script all.ends.found closed.history
       allowed =
-          closes_whole ready.script all.ends.found closed.left closed.history (none_left all.late)
+          closes_whole ready.script all.ends.found closed.left closed.history (none_left all.late) all.ends.whole
+          (omega (arith, all.ends.many, own_within ready.script))
           (cut_history all.ends.found [] (all.ends.latched ∙ sym (cut_before all.ends.found)))
 
       -- the account is that of the history, with nothing left

@@ -1,6 +1,6 @@
 -- A run that was cut is the beginning of one that `live` allows.
-use Rattle.std.proofs.Common.{◌≡◌, ◌≢◌, ◌⊎◌, ℕ, suc, ◌+◌, ◌-◌, ◌<◌, ◌≤◌, List, [], ◌∷◌, ◌++◌, length, map, flat_map}
-use Rattle.std.proofs.Common.{get_or, Some, sym, ap, subst, ◌∙◌, arith, append_assoc, append-nil}
+use Rattle.std.proofs.Common.{◌≡◌, ◌≢◌, ◌⊎◌, ℕ, suc, ◌+◌, ◌-◌, ◌*◌, ◌<◌, ◌≤◌, List, [], ◌∷◌, ◌++◌, length, map}
+use Rattle.std.proofs.Common.{flat_map, drop, get_or, Some, sym, ap, subst, ◌∙◌, arith, append_assoc, append-nil}
 use Rattle.std.proofs.Common.{length-append, ⊎_elim}
 use Rattle.std.specs.List.{AllByRecursion}
 use Rattle.std.proofs.lemmas.List.{nil_from_length}
@@ -8,27 +8,33 @@ use Rattle.std.proofs.lemmas.List.Concat.{flat_map-append}
 use mathlib.Core.Logic.{dite}
 use native.Mathlib.Decide.{dec_lt}
 use Rattle.rt_lemmas.proofs.Membership.{all_append}
-use Rattle.rt_ids.specs.Event.{Event}
+use Rattle.rt_ids.specs.Event.{Event, steps}
 use Rattle.rt_devices.specs.Work.{interrupt_asked}
-use Rattle.rt_script.specs.Script.{pends}
+use Rattle.rt_script.specs.Script.{core_events, pends}
 use Rattle.rt_script.specs.declared.line.Line.{Line}
 use Rattle.rt_words.specs.declared.call.Call.{Call}
-use Rattle.rt_words.specs.History.{IsLegal, part}
+use Rattle.rt_words.specs.History.{IsLegal, CallsLast, part, entries}
 use Rattle.rt_words.specs.declared.call.Entry.{Entry}
 use Rattle.rt_live.specs.Going.{IsWholeLook}
 use Rattle.rt_live.specs.History.{IsHistory}
-use Rattle.rt_live.specs.Interleaving.{Turn, looks, look_arrivals, look_calls, interleaving}
-use Rattle.rt_live.proofs.Onward.{leads_on, led_as_many, entries, part_on, part_own, part_other, zeros}
+use Rattle.rt_live.specs.Interleaving.{Turn, looks, look_arrivals, look_calls, last_looks, interleaving}
+use Rattle.rt_live.proofs.Onward.{leads_on, led_as_many, part_on, part_own, part_other, zeros}
 use Rattle.rt_live.proofs.Further.{interleaving_finished}
+use Rattle.rt_live.proofs.LastLooks.{ends_looking, later_empty, whole_behind, drop_within, last_more}
 use Rattle.rt_live.proofs.Finishing.{Finishes, FinishesLook, looks_more, finish, nothing_left}
 
--- the calls that these looks took, the last of which may be cut, and all pends of the devices, left these words
+-- The calls that these looks took, the last of which may be cut, and all pends of the devices, left these words. What
+-- the core called since some time comes last; that was no later than the end of its own lines.
 pub record IsCutHistory (script : List Line) (found : List (List ℕ)) (last words : List ℕ) (history : List Entry)
     : Type 0 where
   pub legal : IsLegal history words
   pub core : part history 255 ≡ flat_map look_calls (found ++ last ∷ [])
   pub devices : (number : ℕ) → number ≢ 255
       → map interrupt_asked (part history number) ≡ map (λ irq. Some irq) (pends script number)
+  pub since : ℕ
+  pub within : since ≤ length (flat_map look_calls (found ++ last ∷ []))
+  pub early : since ≤ 16 * steps (core_events script)
+  pub ended : CallsLast history 255 (drop since (flat_map look_calls (found ++ last ∷ [])))
 
 -- where no look is to come behind the cut one, the words that it latched are 0, and where none is to come all are
 pub record Settles (ts : List Turn) (found : List (List ℕ)) (last words : List ℕ) : Type 0 where
@@ -47,16 +53,34 @@ pub record Extends (script : List Line) (ts : List Turn) (found : List (List ℕ
 
 module _ (script : List Line) (found : List (List ℕ)) (last words : List ℕ) (history : List Entry)
     (cut : IsCutHistory script found last words history) where
+  calls_all : (count : ℕ) (more : Finishes words last count)
+      → flat_map look_calls (found ++ last ∷ []) ++ more.calls ≡ flat_map look_calls (found ++ more.added)
+  calls_all count more =
+      ap (λ (t : List Call). t ++ more.calls) (flat_map-append look_calls found (last ∷ []))
+      ∙ append_assoc (flat_map look_calls found) (look_calls last ++ []) more.calls
+      ∙ ap (λ (t : List Call). flat_map look_calls found ++ (t ++ more.calls)) (append-nil (look_calls last))
+      ∙ ap (λ (t : List Call). flat_map look_calls found ++ t) more.all
+      ∙ sym (flat_map-append look_calls found more.added)
+
   core_all : (count : ℕ) (more : Finishes words last count)
       → part (history ++ entries 255 more.calls) 255 ≡ flat_map look_calls (found ++ more.added)
   core_all count more =
       part_on history (entries 255 more.calls) 255
       ∙ ap (λ (t : List Call). part history 255 ++ t) (part_own 255 more.calls)
-      ∙ ap (λ (t : List Call). t ++ more.calls) (cut.core ∙ flat_map-append look_calls found (last ∷ []))
-      ∙ append_assoc (flat_map look_calls found) (look_calls last ++ []) more.calls
-      ∙ ap (λ (t : List Call). flat_map look_calls found ++ (t ++ more.calls)) (append-nil (look_calls last))
-      ∙ ap (λ (t : List Call). flat_map look_calls found ++ t) more.all
-      ∙ sym (flat_map-append look_calls found more.added)
+      ∙ ap (λ (t : List Call). t ++ more.calls) cut.core
+      ∙ calls_all count more
+
+  -- the looks behind the core's own lines come last
+  ended_all : (count : ℕ) (more : Finishes words last count) → steps (core_events script)
+      ≤ length (found ++ more.added) → AllByRecursion IsWholeLook (found ++ more.added)
+      → CallsLast (history ++ entries 255 more.calls) 255
+      (flat_map look_calls (last_looks script (found ++ more.added)))
+  ended_all count more many whole =
+      let calls : List Call = flat_map look_calls (found ++ last ∷ []) in
+      ends_looking script (found ++ more.added) (history ++ entries 255 more.calls) cut.since whole many cut.early
+      (subst (CallsLast (history ++ entries 255 more.calls) 255)
+      (sym (drop_within cut.since calls more.calls cut.within) ∙ ap (drop cut.since) (calls_all count more))
+      (last_more history (drop cut.since calls) more.calls cut.ended))
 
   others_stay : (calls : List Call) (number : ℕ) → number ≢ 255
       → part (history ++ entries 255 calls) number ≡ part history number
@@ -66,27 +90,39 @@ module _ (script : List Line) (found : List (List ℕ)) (last words : List ℕ) 
       ∙ append-nil (part history number)
 
   -- the history with the calls that finish it
-  finished : (count : ℕ) (more : Finishes words last count)
+  finished : (count : ℕ) (more : Finishes words last count) → steps (core_events script)
+      ≤ length (found ++ more.added) → AllByRecursion IsWholeLook (found ++ more.added)
       → IsHistory script (found ++ more.added) (history ++ entries 255 more.calls)
-  finished count more = record {
-    legal = leads_on (zeros 16) words (zeros 16) history (entries 255 more.calls) cut.legal more.leads;
-    core = core_all count more;
-    devices = λ number ne. ap (map interrupt_asked) (others_stay more.calls number ne) ∙ cut.devices number ne;
-  }
+  finished count more many whole =
+      let legal = leads_on (zeros 16) words (zeros 16) history (entries 255 more.calls) cut.legal more.leads in
+      let ended = ended_all count more many whole in
+      record {
+        legal = legal;
+        core = core_all count more;
+        devices = λ number ne. ap (map interrupt_asked) (others_stay more.calls number ne) ∙ cut.devices number ne;
+        ended = ended;
+        quiet =
+            later_empty (history ++ entries 255 more.calls) (last_looks script (found ++ more.added)) (zeros 16) legal
+            ended (whole_behind (steps (core_events script)) (found ++ more.added) whole);
+      }
 
-  module _ (ts : List Turn) (whole : AllByRecursion IsWholeLook found) where
+  module _ (ts : List Turn) (whole : AllByRecursion IsWholeLook found)
+      (enough : steps (core_events script) ≤ looks ts) where
     -- a look is begun, or to come
     extend_look : (n : ℕ) → looks ts ≡ length found + suc n → FinishesLook words last (suc n)
         → Extends script ts found last
     extend_look n count more =
         let interleavings = interleaving_finished ts found more.begins.others last more.begins.rest
         (omega (arith, count)) in
+        let many : length (found ++ more.finishes.added) ≡ looks ts =
+        omega (arith, count, more.finishes.many, length-append found more.finishes.added) in
+        let all = all_append IsWholeLook found more.finishes.added whole more.finishes.whole in
         record {
           all = found ++ more.finishes.added;
-          many = omega (arith, count, more.finishes.many, length-append found more.finishes.added);
-          whole = all_append IsWholeLook found more.finishes.added whole more.finishes.whole;
+          many = many;
+          whole = all;
           history = history ++ entries 255 more.finishes.calls;
-          is = finished (suc n) more.finishes;
+          is = finished (suc n) more.finishes (omega (arith, enough, many)) all;
           behind = interleavings.0;
           interleavings = ap (λ (t : List (List ℕ)). interleaving ts (found ++ t)) more.begins.is ∙ interleavings.1;
         }
@@ -95,12 +131,15 @@ module _ (script : List Line) (found : List (List ℕ)) (last words : List ℕ) 
     extend_none : looks ts ≡ length found → last ≡ [] → Finishes words last 0 → Extends script ts found last
     extend_none count none more =
         let empty : more.added ≡ [] = nil_from_length more.added more.many in
+        let many : length (found ++ more.added) ≡ looks ts =
+        omega (arith, count, more.many, length-append found more.added) in
+        let all = all_append IsWholeLook found more.added whole more.whole in
         record {
           all = found ++ more.added;
-          many = omega (arith, count, more.many, length-append found more.added);
-          whole = all_append IsWholeLook found more.added whole more.whole;
+          many = many;
+          whole = all;
           history = history ++ entries 255 more.calls;
-          is = finished 0 more;
+          is = finished 0 more (omega (arith, enough, many)) all;
           behind = [];
           interleavings =
               ap (λ (t : List (List ℕ)). interleaving ts (found ++ t)) empty

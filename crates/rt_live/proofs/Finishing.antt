@@ -5,10 +5,10 @@ use Rattle.std.proofs.Common.{length-append, length-drop, length-take-le}
 use Rattle.std.specs.List.{AllByRecursion}
 use Rattle.std.proofs.lemmas.List.{length-replicate, take-append-drop, replicate-append-replicate, take_all}
 use Rattle.rt_words.specs.declared.call.Call.{Call}
-use Rattle.rt_words.specs.History.{LeavesWords}
+use Rattle.rt_words.specs.History.{LeavesWords, entries}
 use Rattle.rt_live.specs.Going.{IsWholeLook}
 use Rattle.rt_live.specs.Interleaving.{look_calls_from, look_calls}
-use Rattle.rt_live.proofs.Onward.{entries, zeros, calls_lead, looked_from, looked, latches_on}
+use Rattle.rt_live.proofs.Onward.{zeros, calls_lead, looked_from, looked, latches_on}
 
 -- From these words on, behind a look that found these first words: so many looks more, the begun one with them, and
 -- nothing is pending.

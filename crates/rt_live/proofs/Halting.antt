@@ -9,14 +9,10 @@ use Rattle.rt_live.specs.Going.{Goes, Stops, Ends, LatchedLast}
 use Rattle.rt_live.specs.Latched.{LatchedSo, Halts}
 use Rattle.rt_live.specs.Interleaving.{Turn, Looks, look_calls}
 use Rattle.rt_live.proofs.Closing.{cut_before}
+use Rattle.rt_live.proofs.LastLooks.{drop_within}
 use Rattle.rt_live.proofs.Settling.{latched_own, latched_added}
 use Rattle.rt_live.proofs.Woven.{looks-append}
 use Rattle.rt_live.proofs.Turning.{stops_before, before_found, stops_behind, behind_found}
-
-drop_within : {A : Type 0} (n : ℕ) (xs ys : List A) → n ≤ length xs → drop n (xs ++ ys) ≡ drop n xs ++ ys
-drop_within zero xs ys within = refl
-drop_within (suc n) [] ys within = absurd (omega (arith, within))
-drop_within (suc n) (x ∷ xs) ys within = drop_within n xs ys (omega (arith, within))
 
 -- the calls behind the last line that was gathered
 behind_calls : (line : Core) (calls more : List Call) → line.since ≤ length calls → line.calls ≡ calls ++ more

@@ -9,6 +9,7 @@ pub mod Made
 pub mod Readied
 pub mod Halting
 pub mod Onward
+pub mod LastLooks
 pub mod Further
 pub mod Finishing
 pub mod Extending

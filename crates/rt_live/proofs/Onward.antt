@@ -7,7 +7,7 @@ use mathlib.Core.List.{map-append}
 use Rattle.rt_words.specs.declared.call.Call.{Call}
 use Rattle.rt_words.specs.declared.call.Call.TheVariants.{Pend, Latch}
 use Rattle.rt_words.specs.Object.{after}
-use Rattle.rt_words.specs.History.{LeavesWords, part}
+use Rattle.rt_words.specs.History.{LeavesWords, part, entries}
 use Rattle.rt_words.specs.declared.call.Entry.{Entry}
 use Rattle.rt_live.specs.Interleaving.{look_calls_from, look_calls}
 
@@ -17,6 +17,13 @@ pub leads_on : (a b c : List ℕ) (front behind : List Entry) → LeavesWords a 
 leads_on a b c [] behind first then = subst (λ (w : List ℕ). LeavesWords w behind c) (sym first) then
 leads_on a b c (e ∷ es) behind first then = (first.0, leads_on (after a e.call) b c es behind first.1 then)
 
+-- a history is cut in two
+pub led_apart : (a c : List ℕ) (front behind : List Entry) → LeavesWords a (front ++ behind) c
+    → (b : List ℕ) × LeavesWords a front b × LeavesWords b behind c
+led_apart a c [] behind leads = (a, refl, leads)
+led_apart a c (e ∷ es) behind leads =
+    let rest = led_apart (after a e.call) c es behind leads.1 in (rest.0, (leads.0, rest.1), rest.2)
+
 -- what a call leaves is as many words
 pub as_many : (words : List ℕ) (c : Call) → length (after words c) ≡ length words
 as_many words (Pend n a) = length-set words _ _
@@ -25,10 +32,6 @@ as_many words (Latch k word) = length-set words _ _
 pub led_as_many : (a b : List ℕ) (history : List Entry) → LeavesWords a history b → length b ≡ length a
 led_as_many a b [] leads = ap length (sym leads)
 led_as_many a b (e ∷ es) leads = led_as_many (after a e.call) b es leads.1 ∙ as_many a e.call
-
--- these calls, as entries of one line
-abbrev pub entries : ℕ → List Call → List Entry
-entries number calls = map (λ c. record { line = number; call = c }) calls
 
 -- calls of one line, and more of them
 pub calls_lead : (number : ℕ) (a b c : List ℕ) (front behind : List Call) → LeavesWords a (entries number front) b
@@ -88,6 +91,25 @@ looked_from k done (x ∷ rest) long =
           (subst (λ (w : List ℕ). LeavesWords ((done ++ 0 ∷ []) ++ rest) (entries 255 (look_calls_from (suc k) rest)) w)
           (append_assoc done (0 ∷ []) (zeros (length rest)))
           (looked_from (suc k) (done ++ 0 ∷ []) rest longer)),
+    )
+
+-- a look finds the words that stand, and leaves words of 0
+pub look_finds : (k : ℕ) (done rest ws left : List ℕ) → length done ≡ k → length ws ≡ length rest
+    → LeavesWords (done ++ rest) (entries 255 (look_calls_from k ws)) left
+    → (ws ≡ rest) × (left ≡ done ++ zeros (length rest))
+look_finds k done [] [] left long many leads = (refl, sym leads)
+look_finds k done [] (w ∷ ws) left long many leads = absurd (omega (arith, many))
+look_finds k done (x ∷ rest) [] left long many leads = absurd (omega (arith, many))
+look_finds k done (x ∷ rest) (w ∷ ws) left long many leads =
+    let there : w ≡ x =
+    leads.0 ∙ ap (λ n. get_or (done ++ x ∷ rest) n 0) (sym long) ∙ sym (get_behind done x rest) in
+    let stands : set (done ++ x ∷ rest) k 0 ≡ (done ++ 0 ∷ []) ++ rest =
+    sym (ap (λ n. set (done ++ x ∷ rest) n 0) long) ∙ set_behind done x rest ∙ sym (append_assoc done (0 ∷ []) rest) in
+    let more = look_finds (suc k) (done ++ 0 ∷ []) rest ws left (omega (arith, long, length-append done (0 ∷ [])))
+    (omega (arith, many))
+    (subst (λ (v : List ℕ). LeavesWords v (entries 255 (look_calls_from (suc k) ws)) left) stands leads.1) in (
+      ap (λ (v : ℕ). v ∷ ws) there ∙ ap (λ (vs : List ℕ). x ∷ vs) more.0,
+      more.1 ∙ append_assoc done (0 ∷ []) (zeros (length rest)),
     )
 
 pub latches_on : (k : ℕ) (xs ys : List ℕ) → look_calls_from k (xs ++ ys) ≡ look_calls_from k xs

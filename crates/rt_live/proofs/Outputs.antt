@@ -27,6 +27,7 @@ use Rattle.rt_live.specs.Interleaving.{Happens, Looks, looks, turns, look_arriva
 use Rattle.rt_live.specs.Written.{live_text}
 use Rattle.rt_live.proofs.Woven.{looks-append}
 use Rattle.rt_live.proofs.Extending.{IsCutHistory, Settles, Extends, extend}
+use Rattle.rt_live.proofs.LastLooks.{own_within}
 use Rattle.rt_live.proofs.Requesting.{devices_first}
 use Rattle.rt_live.proofs.Requested.{all_counted, all_latched, nothing_pending}
 
@@ -83,7 +84,7 @@ pub part_cut : (m next : Machine) (script : List Line) (found : List (List ℕ))
     → HasWrittenPart script m next x y
 part_cut m next script found last words history x y fresh cut whole settles short few breaks =
     let e : Extends script (turns script) found last =
-    extend script found last words history cut (turns script) whole settles short few in
+    extend script found last words history cut (turns script) whole (own_within script) settles short few in
     let of_all : Breaks (interleaving (turns script) e.all) m next x y =
     subst (λ es. Breaks es m next x y) (sym e.interleavings)
     (breaks_before (interleaving (turns script) found ++ look_arrivals last) e.behind m next x y breaks) in
@@ -124,7 +125,8 @@ some_text image script ranges =
       all = λ done. absurd (omega (arith, some, done));
     } in
     let e : Extends script (turns script) [] [] =
-    extend script [] [] first.0 first.1 first.2 (turns script) tt settles (omega arith) (inl some) in
+    extend script [] [] first.0 first.1 first.2 (turns script) tt (own_within script) settles (omega arith)
+    (inl some) in
     (live_text image script e.all ++ account_behind image e.history, extended_text image script [] [] e)
 
 -- the account of a history that is allowed

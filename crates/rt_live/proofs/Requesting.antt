@@ -15,9 +15,9 @@ use Rattle.rt_words.specs.declared.call.Pended.TheVariants.{Raised, Merged}
 use Rattle.rt_words.specs.declared.call.Call.{Call}
 use Rattle.rt_words.specs.declared.call.Call.TheVariants.{Pend}
 use Rattle.rt_words.specs.Object.{IsAnswered, after, pending_bit}
-use Rattle.rt_words.specs.History.{LeavesWords, part}
+use Rattle.rt_words.specs.History.{LeavesWords, part, entries}
 use Rattle.rt_words.specs.declared.call.Entry.{Entry}
-use Rattle.rt_live.proofs.Onward.{leads_on, entries, part_on, part_own, part_other, zeros}
+use Rattle.rt_live.proofs.Onward.{leads_on, part_on, part_own, part_other, zeros}
 use Rattle.rt_live.proofs.Extending.{IsCutHistory}
 
 -- what a pend is answered
@@ -137,6 +137,13 @@ module _ (script : List Line) where
     record {
       legal = below_leads 16 (zeros 16);
       core = others_none 16 (zeros 16) 255 (omega arith);
+      since = 0;
+      within = omega arith;
+      early = omega arith;
+      ended = record {
+        earlier = history_below 16 (zeros 16);
+        is = sym (append-nil (history_below 16 (zeros 16)));
+      };
       devices = λ number ne. dite (dec_lt number 16)
           (λ within. each_pends 16 (zeros 16) number within)
           (λ out.

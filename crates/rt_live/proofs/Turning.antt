@@ -13,7 +13,7 @@ use Rattle.rt_words.specs.declared.call.Call.{Call}
 use Rattle.rt_live.specs.Interleaving.{Turn, looks, look_arrivals, look_calls, interleaving}
 use Rattle.rt_live.specs.Going.{IsWholeLook, Goes, Stops}
 use Rattle.rt_live.proofs.Woven.{looks-append, interleaving_on, interleaving_short, steps_woven, ticks_woven}
-use Rattle.rt_live.proofs.Woven.{looks_below, all_latches}
+use Rattle.rt_live.proofs.Woven.{looks_below, all_latches, length-latches}
 
 -- no turn was done
 pub goes_none : (calls : List Call) (m : Machine) (x : Option (List ℕ)) → Goes [] calls calls m m x x
@@ -152,6 +152,16 @@ module _ (ts : List Turn) (a b : Machine) (x y : Option (List ℕ)) (calls calls
   pub time_below : b.core.time ≤ a.core.time + length ts
   time_below = omega (arith, time_led (interleaving ts run.found) a b run.sends.leads, ticks_woven ts run.found)
 
+  pub calls_looked : length calls' ≤ length calls + 16 * looks ts
+  calls_looked =
+      omega (
+        arith,
+        ap length run.latched,
+        length-append calls (flat_map look_calls run.found),
+        all_latches run.found run.whole,
+        run.many,
+      )
+
   pub calls_below : length calls' ≤ length calls + 16 * length ts
   calls_below =
       omega (
@@ -162,3 +172,23 @@ module _ (ts : List Turn) (a b : Machine) (x y : Option (List ℕ)) (calls calls
         run.many,
         looks_below ts,
       )
+
+-- and the calls of turns in which a fault came
+pub calls_cut : (ts : List Turn) (a b : Machine) (x y : Option (List ℕ)) (calls calls' : List Call)
+    → Stops ts calls calls' a b x y → length calls' ≤ length calls + 16 * looks ts
+calls_cut ts a b x y calls calls' cut =
+    let made : length calls' ≡ length calls + (16 * length cut.found + length cut.last) =
+    omega (
+      arith,
+      ap length cut.latched,
+      length-append calls (flat_map look_calls (cut.found ++ cut.last ∷ [])),
+      ap length (flat_map-append look_calls cut.found (cut.last ∷ [])),
+      length-append (flat_map look_calls cut.found) (look_calls cut.last ++ []),
+      length-append (look_calls cut.last) [],
+      all_latches cut.found cut.whole,
+      length-latches 0 cut.last,
+    ) in
+    elim cut.few [
+      | inl less ↦ omega (arith, made, less, cut.short)
+      | inr most ↦ omega (arith, made, ap length most.0, most.1)
+    ]

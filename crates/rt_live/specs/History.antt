@@ -1,21 +1,30 @@
 -- The histories of the pending words that `live` allows, and how often the devices of a script pend an interrupt.
-use Rattle.std.specs.Prelude.{◌≡◌, ◌≢◌, ℕ, ◌==◌, List, flat_map, map, replicate, sum_by, cond, Some}
+use Rattle.std.specs.Prelude.{◌≡◌, ◌≢◌, ℕ, ◌==◌, List, flat_map, map, drop, replicate, sum_by, cond, Some}
+use Rattle.std.specs.List.{AllByRecursion}
 use Rattle.rt_devices.specs.Work.{interrupt_asked}
 use Rattle.rt_script.specs.Script.{pends}
 use Rattle.rt_script.specs.declared.line.Line.{Line}
 use Rattle.rt_script.specs.declared.line.Line.TheVariants.{Steps, Ticks, Pends, Device}
-use Rattle.rt_words.specs.History.{IsLegal, part}
+use Rattle.rt_words.specs.History.{IsLegal, CallsLast, part}
 use Rattle.rt_words.specs.declared.call.Entry.{Entry}
-use Rattle.rt_live.specs.Interleaving.{look_calls}
+use Rattle.rt_live.specs.Interleaving.{look_calls, last_looks}
+
+-- a look found no bit
+abbrev pub IsEmptyLook : List ℕ → Type 0
+IsEmptyLook words = words ≡ replicate 16 0
 
 -- One thread could have made these calls on sixteen words, and it left nothing pending. The core's line, of the number
 -- 255, latched what was found, look behind look. Each other line pended what the device of its number pends in the
--- script, in order and no other; so a number of which the script has no device has no call.
+-- script, in order and no other; so a number of which the script has no device has no call. The devices have ended when
+-- the core's own lines are over: the looks behind these come last in the history, behind every pend of every device. So
+-- the look alone finds all that is pending still, and those of the steps that are added find nothing.
 pub record IsHistory (script : List Line) (found : List (List ℕ)) (history : List Entry) : Type 0 where
   pub legal : IsLegal history (replicate 16 0)
   pub core : part history 255 ≡ flat_map look_calls found
   pub devices : (number : ℕ) → number ≢ 255
       → map interrupt_asked (part history number) ≡ map (λ irq. Some irq) (pends script number)
+  pub ended : CallsLast history 255 (flat_map look_calls (last_looks script found))
+  pub quiet : AllByRecursion IsEmptyLook (drop 1 (last_looks script found))
 
 -- how often a line has a device pend the interrupt
 abbrev pub line_asks : ℕ → Line → ℕ

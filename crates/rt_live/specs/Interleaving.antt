@@ -1,10 +1,11 @@
 -- The order in which things happen to the core under `live`, and the interrupts that device threads pend. It is this
 -- project's own. A look is one latch of every word, from word 0 up; what it found is the list of the words that the
 -- latches answered, and the bits of these words arrive at the core, the lowest first. The core's own lines of the
--- script happen in order, each core step behind a look; then comes one look alone, and then as many core steps again,
--- each behind a look, so that what devices pended last is served too. The lists say what happened, wherever the program
--- kept it: it latches word by word and writes each event's lines as it happens.
-use Rattle.std.specs.Prelude.{ℕ, zero, suc, List, [], ◌∷◌, ◌++◌, map, replicate}
+-- script happen in order, each core step behind a look. Then the devices have ended, and one look alone comes: what
+-- they pended last arrives by it. Then come as many core steps again, each behind a look, which finds nothing. The
+-- lists say what happened, wherever the program kept it: it latches word by word and writes each event's lines as it
+-- happens.
+use Rattle.std.specs.Prelude.{ℕ, zero, suc, List, [], ◌∷◌, ◌++◌, map, drop, replicate}
 use Rattle.rt_ids.specs.Event.{Event, Arrive, Tick, Step, steps}
 use Rattle.rt_ids.specs.Arrivals.{arrivals}
 use Rattle.rt_script.specs.Script.{core_events}
@@ -22,6 +23,11 @@ pub data Turn : Type 0 where
 -- what is done under a script
 abbrev pub turns : List Line → List Turn
 turns script = map Happens (core_events script) ++ Looks ∷ replicate (steps (core_events script)) (Happens Step)
+
+-- of what the looks found, what the looks behind the core's own lines found: the look alone, and those of the steps
+-- that are added
+abbrev pub last_looks : List Line → List (List ℕ) → List (List ℕ)
+last_looks script found = drop (steps (core_events script)) found
 
 -- these turns so many times
 abbrev pub repeated_turns : ℕ → List Turn → List Turn

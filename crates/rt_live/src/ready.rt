@@ -1,9 +1,10 @@
-ghost use Rattle.std.specs.Prelude.{◌≡◌, ◌⊎◌, [], map, IfOk, OnOk, OnErr};
+ghost use Rattle.std.specs.Prelude.{◌≡◌, ◌≤◌, ◌*◌, ◌⊎◌, [], map, IfOk, OnOk, OnErr};
 ghost use Rattle.rt_code.specs.Lines.{HasLines};
 ghost use Rattle.rt_core.specs.Machine.{IsFresh};
 ghost use Rattle.rt_outside.specs.Bytes.{Took};
 ghost use Rattle.rt_outside.specs.Faults.{HasCause};
-ghost use Rattle.rt_script.specs.Script.{IsScript, HasNames};
+ghost use Rattle.rt_ids.specs.Event.{steps};
+ghost use Rattle.rt_script.specs.Script.{IsScript, HasNames, core_events};
 ghost use Rattle.rt_live.specs.Closed.{Closes};
 ghost use Rattle.rt_live.specs.Devices.{devices};
 ghost use Rattle.rt_live.specs.Account.{declared_irqs};
@@ -11,6 +12,7 @@ ghost use Rattle.rt_live.specs.Latched.{Halts, Completes};
 ghost use Rattle.rt_live.specs.Ready.{IsReady, irqs_of};
 ghost use Rattle.rt_live.specs.Interleaving.{turns};
 ghost use Rattle.rt_live.specs.Written.{live_text, TookToTotal};
+ghost use Rattle.rt_live.specs.declared.turns.TheConstants.{WORDS};
 
 use crate::account::{Account, AccountRow};
 use crate::beside::beside;
@@ -129,8 +131,10 @@ impl<'a> Ready<'a> {
         ensures cause { HasCause (K.faults out.old) (K.faults out.new) result }
         ensures quiet { OnOk result (K.faults out.new ≡ K.faults out.old) }
 
-        // Either way each device has made its pends, and its line is gathered.
+        // Either way each device has made its pends, and its line is gathered. That came before the look alone: the
+        // core's line had no more calls than the latches of the looks of the core's own lines.
         ensures gathered { self.new.devices ≡ [] }
+        ensures early { self.new.line.since ≤ WORDS * steps (core_events self.old.script) }
         ensures script { self.new.script ≡ self.old.script }
         ensures rows { irqs_of self.new.rows ≡ irqs_of self.old.rows }
     {

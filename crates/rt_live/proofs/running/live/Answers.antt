@@ -1,7 +1,8 @@
-use Rattle.std.proofs.Common.{◌≡◌, List, sym, subst, ◌∙◌}
+use Rattle.std.proofs.Common.{◌≡◌, ◌*◌, ◌≤◌, List, sym, subst, ◌∙◌}
 use Rattle.std.specs.List.{AllByRecursion}
 use Rattle.rt_outside.specs.Bytes.{Took}
-use Rattle.rt_script.specs.Script.{HasDeviceInRange}
+use Rattle.rt_ids.specs.Event.{steps}
+use Rattle.rt_script.specs.Script.{HasDeviceInRange, core_events}
 use Rattle.rt_script.specs.declared.line.Line.{Line}
 use Rattle.rt_live.specs.Doing.{HasLived, HasWrittenPart}
 use Rattle.rt_live.specs.Latched.{Completes}
@@ -23,7 +24,7 @@ returns-in-Ok-went-clause-all g c =
     let ranges = subst (AllByRecursion HasDeviceInRange) (sym same) c.lines-events.ensures.script.devices in
     subst (λ (s : List Line). HasLived s c.args.core.now c.go-went.new.core x y rows) c.in-Ok.ensures.script
     (run_whole ready c.close-account.ensures.ready c.go-went.ensures.gathered _ c.go-went.ensures.script ranges rows
-    c.close-account.ensures.closes c.args.core.now c.go-went.new.core c.requires.fresh x y
+    c.close-account.ensures.closes c.go-went.ensures.early c.args.core.now c.go-went.new.core c.requires.fresh x y
     (c.go-went.ensures.rows ∙ c.in-Ok.ensures.rows) c.in-Ok-went.ensures.ok)
 
 pub returns-in-Ok-went-clause-ok : goal.returns-in-Ok-went-clause-ok
@@ -42,7 +43,9 @@ returns-in-Ok-went-clause-balanced g c =
     subst (λ (s : List Line). AllByRecursion (IsBalanced s) c.close-account.result.rows.items) same
     (rows_balanced ready c.close-account.ensures.ready c.go-went.ensures.gathered ranges
     c.close-account.result.rows.items
-    c.close-account.ensures.closes c.args.core.now c.go-went.new.core c.requires.fresh
+    c.close-account.ensures.closes
+    (subst (λ (s : List Line). ready.line.since ≤ 16 * steps (core_events s)) (sym c.go-went.ensures.script)
+    c.go-went.ensures.early) c.args.core.now c.go-went.new.core c.requires.fresh
     (λ found. Took x y (live_text img ready.script found)) all)
 
 pub returns-in-Err-clause-begun : goal.returns-in-Err-clause-begun
@@ -54,8 +57,8 @@ returns-in-Err-clause-begun g c =
     let ranges = subst (AllByRecursion HasDeviceInRange) (sym same) c.lines-events.ensures.script.devices in
     λ _. subst (λ (s : List Line). HasWrittenPart s c.args.core.now c.go-went.new.core x y) c.in-Ok.ensures.script
     (run_part ready c.close-account.ensures.ready c.go-went.ensures.gathered _ c.go-went.ensures.script ranges
-    c.close-account.result.rows.items c.close-account.ensures.closes c.args.core.now c.go-went.new.core
-    c.requires.fresh x y c.in-Err.ensures.err)
+    c.close-account.result.rows.items c.close-account.ensures.closes c.go-went.ensures.early c.args.core.now
+    c.go-went.new.core c.requires.fresh x y c.in-Err.ensures.err)
 
 pub returns-in-Err-clause-part : goal.returns-in-Err-clause-part
 returns-in-Err-clause-part g c = λ fault. (returns-in-Err-clause-begun g c fault).part

@@ -20,7 +20,8 @@ returns-in_err-went-clause-begun g c =
     on_err_from c.from_residual.result
     (run_part c.go-went.new.self c.close-account.ensures.ready c.go-went.ensures.gathered c.args.ready.script same
     ranges
-    c.close-account.result.rows.items c.close-account.ensures.closes c.args.core.now c.go-went.new.core c.requires.fresh
+    c.close-account.result.rows.items c.close-account.ensures.closes c.go-went.ensures.early c.args.core.now
+    c.go-went.new.core c.requires.fresh
     (g.K.Sink.taken c.args.out.now) (g.K.Sink.taken c.go-went.new.out) c.in_err-went.ensures.err)
 
 pub returns-in_err-went-clause-err : goal.returns-in_err-went-clause-err
@@ -42,7 +43,8 @@ returns-clause-all g c =
     (HasWritten c.args.ready.script c.args.core.now c.go-went.new.core x z)
     (wrote_whole c.go-went.new.self c.close-account.ensures.ready c.go-went.ensures.gathered c.args.ready.script same
     ranges
-    c.close-account.result.rows.items c.close-account.ensures.closes c.args.core.now c.go-went.new.core c.requires.fresh
+    c.close-account.result.rows.items c.close-account.ensures.closes c.go-went.ensures.early c.args.core.now
+    c.go-went.new.core c.requires.fresh
     x y
     irqs c.behind-core.inside.names named z c.in_ok-went.ensures.ok) c.put_account.ensures.ok
 
@@ -67,7 +69,8 @@ returns-clause-begun g c =
     on_err_weaker c.put_account.result
     (wrote_part c.go-went.new.self c.close-account.ensures.ready c.go-went.ensures.gathered c.args.ready.script same
     ranges
-    c.close-account.result.rows.items c.close-account.ensures.closes c.args.core.now c.go-went.new.core c.requires.fresh
+    c.close-account.result.rows.items c.close-account.ensures.closes c.go-went.ensures.early c.args.core.now
+    c.go-went.new.core c.requires.fresh
     x y
     irqs c.behind-core.inside.names named z c.in_ok-went.ensures.ok) c.put_account.ensures.err
 

@@ -23,7 +23,9 @@ use Rattle.rt_live.specs.Interleaving.{Happens, Looks, interleaving}
 use Rattle.rt_live.specs.Able.{MayArrive}
 use Rattle.rt_live.specs.Inside.Own.{own_turns}
 use Rattle.rt_live.proofs.Tallied.{same_calls, same_words, since_within}
-use Rattle.rt_live.proofs.Turning.{steps_below, calls_below}
+use Rattle.rt_live.proofs.Turning.{steps_below, calls_below, calls_looked, calls_cut}
+use Rattle.rt_live.proofs.LastLooks.{looks_own}
+use Rattle.rt_script.specs.declared.line.Line.{Line}
 use Rattle.rt_live.proofs.ready.Ready.go.Goals as goal
 
 pub beside-done-requires-clause-able : goal.beside-done-requires-clause-able
@@ -97,6 +99,47 @@ returns-in_err-done-clause-err g c =
     c.beside-done.new.core _ _
     (stops_same _ (own_turns script) _ [] _ line.calls c.args.core.now c.beside-done.new.core _ _ turns_are from to
     c.in_err-done.ensures.err)))
+
+pub returns-in_err-done-clause-early : goal.returns-in_err-done-clause-early
+returns-in_err-done-clause-early g c =
+    let line = c.gather_all.new.line in
+    let given = take c.self.inside.devices.len (c.beside-done.new.devices
+    ++ drop (length c.beside-done.new.devices) c.self.inside.devices.items) in
+    let early : line.since ≤ length line.calls =
+    subst (λ (l : Core). l.since ≤ length l.calls) (sym c.gather_all.ensures.line)
+    (since_within given c.beside-done.new.line
+    (within _ c.self.invariant c.beside-done.new.line c.beside-done.ensures.same)) in
+    omega (
+      arith,
+      early,
+      ap length (ap (λ (l : Core). l.calls) c.gather_all.ensures.line ∙ same_calls given c.beside-done.new.line),
+      ap length (ap (λ (r : Prepared). r.line.calls) c.self.view_is ∙ c.requires.unused),
+      calls_cut _ c.args.core.now _ _ _ _ _ c.in_err-done.ensures.err,
+      looks_own (core_events c.lines-lines.result.now),
+      ap (λ (s : List Line). steps (core_events s))
+          (c.lines-lines.ensures.lines ∙ ap (λ (r : Prepared). r.script) c.self.view_is),
+    )
+
+pub returns-clause-early : goal.returns-clause-early
+returns-clause-early g c =
+    let line = c.gather_all.new.line in
+    let given = take c.self.inside.devices.len (c.beside-done.new.devices
+    ++ drop (length c.beside-done.new.devices) c.self.inside.devices.items) in
+    let early : line.since ≤ length line.calls =
+    subst (λ (l : Core). l.since ≤ length l.calls) (sym c.gather_all.ensures.line)
+    (since_within given c.beside-done.new.line
+    (within _ c.self.invariant c.beside-done.new.line c.beside-done.ensures.same)) in
+    omega (
+      arith,
+      early,
+      ap (λ (l : Core). l.since) c.end.ensures.same.1,
+      ap length (ap (λ (l : Core). l.calls) c.gather_all.ensures.line ∙ same_calls given c.beside-done.new.line),
+      ap length (ap (λ (r : Prepared). r.line.calls) c.self.view_is ∙ c.requires.unused),
+      calls_looked _ c.args.core.now _ _ _ _ _ c.in_ok-done.ensures.ok,
+      looks_own (core_events c.lines-lines.result.now),
+      ap (λ (s : List Line). steps (core_events s))
+          (c.lines-lines.ensures.lines ∙ ap (λ (r : Prepared). r.script) c.self.view_is),
+    )
 
 pub end-requires-clause-able : goal.end-requires-clause-able
 end-requires-clause-able g c =
