@@ -2,7 +2,11 @@
 use Rattle.std.proofs.Common.{◌≡◌, ℕ, zero, suc, ◌+◌, ◌*◌, ◌==◌, ◌<◌, Bool, true, false, if◌then◌else◌, List, [], ◌∷◌}
 use Rattle.std.proofs.Common.{◌++◌}
 use Rattle.std.proofs.Common.{map, filter, length, Option, refl, ap, sym, subst, ◌∙◌, append_assoc, arith, ◌-◌, ◌≢◌}
-use Rattle.std.proofs.Common.{ne_eqb}
+use Rattle.std.proofs.Common.{eq-eqb, ne_eqb, ◌≤◌}
+use Rattle.std.specs.List.{AllByRecursion}
+use mathlib.Core.Logic.{dite}
+use native.Mathlib.Decide.{ℕ_discrete}
+use Rattle.rt_lemmas.proofs.Membership.{all_append}
 use Rattle.std.specs.Int.{bit_at}
 use Rattle.std.proofs.lemmas.List.{append-nil, map-append}
 use Rattle.std.proofs.lemmas.List.Elements.{filter-append}
@@ -84,6 +88,25 @@ module _ (k word bit : ℕ) (a b c : Machine) (x y z : Option (List ℕ))
       (breaks_before (map Arrive (arrivals_below k word (bit + 1))) (map Arrive rest.0) a c x z
       (subst (λ es. Breaks es a c x z) (sym more) (breaks_behind front next a b c x y z first cut)))
 
+-- what holds of each bit that stands holds of what arrives
+below_all : (P : ℕ → Type 0) (k word n : ℕ) → n ≤ 32
+    → ((bit : ℕ) → bit < 32 → bit_at word bit ≡ 1 → P (32 * k + bit)) → AllByRecursion P (arrivals_below k word n)
+unfolding numbers_below
+below_all P k word zero within each = tt
+below_all P k word (suc n) within each =
+    subst (AllByRecursion P) (sym (arrivals_more k word n))
+    (all_append P (arrivals_below k word n) (if bit_at word n == 1 then (32 * k + n) ∷ [] else [])
+    (below_all P k word n (omega (arith, within)) each)
+    (dite (ℕ_discrete (bit_at word n) 1)
+    (λ set. subst (λ (b : Bool). AllByRecursion P (if b then (32 * k + n) ∷ [] else []))
+    (sym (eq-eqb (bit_at word n) 1 set)) (each n (omega (arith, within)) set, tt))
+    (λ clear. subst (λ (b : Bool). AllByRecursion P (if b then (32 * k + n) ∷ [] else []))
+    (sym (ne_eqb (bit_at word n) 1 clear)) tt)))
+
+pub arriving_all : (P : ℕ → Type 0) (k word : ℕ) → ((bit : ℕ) → bit < 32 → bit_at word bit ≡ 1 → P (32 * k + bit))
+    → AllByRecursion P (arrivals k word)
+arriving_all P k word each = below_all P k word 32 (omega arith) each
+
 none_below : (k word : ℕ) → arrivals_below k word 0 ≡ []
 unfolding numbers_below
 none_below k word = refl
@@ -96,7 +119,7 @@ zero_below k (suc n) =
     ∙ ap (λ v. arrivals_below k 0 n ++ (if v == 1 then (32 * k + n) ∷ [] else [])) (bit_at-zero n)
     ∙ append-nil (arrivals_below k 0 n) ∙ zero_below k n
 
-zero_arrives : (k word : ℕ) → word ≡ 0 → arrivals k word ≡ []
+pub zero_arrives : (k word : ℕ) → word ≡ 0 → arrivals k word ≡ []
 zero_arrives k word none = ap (arrivals k) none ∙ zero_below k 32
 
 -- of a bit that does not stand nothing arrives
@@ -128,13 +151,17 @@ arrivals_from-append k (w ∷ words) word =
     (let e : suc k + length words ≡ k + suc (length words) = omega arith in e))
     ∙ sym (append_assoc (arrivals k w) (arrivals_from (suc k) words) (arrivals (k + suc (length words)) word))
 
+pub found_more : (words : List ℕ) (word k : ℕ) → length words ≡ k
+    → arrivals_from 0 (words ++ word ∷ []) ≡ arrivals_from 0 words ++ arrivals k word
+found_more words word k many =
+    arrivals_from-append 0 words word
+    ∙ ap (λ n. arrivals_from 0 words ++ arrivals n word)
+    (let e : 0 + length words ≡ k = omega (arith, many) in e)
+
 pub arrived_more : (words : List ℕ) (word k : ℕ) → length words ≡ k
     → look_arrivals (words ++ word ∷ []) ≡ look_arrivals words ++ map Arrive (arrivals k word)
 arrived_more words word k many =
-    ap (map Arrive)
-    (arrivals_from-append 0 words word
-    ∙ ap (λ n. arrivals_from 0 words ++ arrivals n word)
-    (let e : 0 + length words ≡ k = omega (arith, many) in e))
+    ap (map Arrive) (found_more words word k many)
     ∙ map-append Arrive (arrivals_from 0 words) (arrivals k word)
 
 latches_from-append : (k : ℕ) (words : List ℕ) (word : ℕ)

@@ -31,7 +31,7 @@ interleaving_further (Happens Tick ∷ ts) found ws others few =
 interleaving_further (Happens (Arrive irq) ∷ ts) found ws others few =
     let rest = interleaving_further ts found ws others few in (rest.0, ap (λ (t : List Event). Arrive irq ∷ t) rest.1)
 
-found_on : (k : ℕ) (xs ys : List ℕ) → arrivals_from k (xs ++ ys) ≡ arrivals_from k xs
+pub found_on : (k : ℕ) (xs ys : List ℕ) → arrivals_from k (xs ++ ys) ≡ arrivals_from k xs
     ++ arrivals_from (k + length xs) ys
 found_on k [] ys = ap (λ n. arrivals_from n ys) (let e : k ≡ k + 0 = omega arith in e)
 found_on k (x ∷ xs) ys =

@@ -5,13 +5,15 @@ use Rattle.std.proofs.lemmas.Bool.{cases_lt}
 use Rattle.std.proofs.lemmas.Grind.{flat_map-append}
 use Rattle.std.proofs.lemmas.List.{append-nil, length-append}
 use Rattle.rt_lemmas.proofs.Membership.{all_append}
+use Rattle.std.specs.List.{AllByRecursion}
+use Rattle.rt_code.specs.Image.{Image}
 use Rattle.rt_core.specs.Machine.{Machine}
 use Rattle.rt_run.specs.Sending.{Sends, Breaks}
 use Rattle.rt_run.proofs.Known.{time_led}
 use Rattle.rt_run.proofs.Sent.{sends_none, sends_on, breaks_behind, breaks_before}
 use Rattle.rt_words.specs.declared.call.Call.{Call}
 use Rattle.rt_live.specs.Interleaving.{Turn, looks, look_arrivals, look_calls, interleaving}
-use Rattle.rt_live.specs.Going.{IsWholeLook, Goes, Stops}
+use Rattle.rt_live.specs.Going.{IsWholeLook, FindsDeclared, Goes, Stops}
 use Rattle.rt_live.proofs.Woven.{looks-append, interleaving_on, interleaving_short, steps_woven, ticks_woven}
 use Rattle.rt_live.proofs.Woven.{looks_below, all_latches, length-latches}
 
@@ -21,6 +23,7 @@ goes_none calls m x = record {
   found = [];
   many = refl;
   whole = tt;
+  declared = tt;
   latched = sym (append-nil calls);
   sends = sends_none m x;
 }
@@ -47,6 +50,10 @@ module _ (ts us : List Turn) (a b c : Machine) (x y z : Option (List ℕ)) (call
       second.many,
     );
     whole = all_append IsWholeLook first.found second.found first.whole second.whole;
+    declared =
+        all_append (FindsDeclared a.image.names) first.found second.found first.declared
+        (subst (λ (i : Image). AllByRecursion (FindsDeclared i.names) second.found) first.sends.leads.image
+        second.declared);
     latched = calls_on calls calls' calls'' first.found second.found first.latched second.latched;
     sends =
         subst (λ es. Sends es a c x z) (sym (interleaving_on ts us first.found second.found first.many))
@@ -62,6 +69,11 @@ module _ (ts us : List Turn) (a b c : Machine) (x y z : Option (List ℕ)) (call
     few = few;
     whole = all_append IsWholeLook first.found cut.found first.whole cut.whole;
     short = cut.short;
+    declared =
+        all_append (FindsDeclared a.image.names) first.found cut.found first.declared
+        (subst (λ (i : Image). AllByRecursion (FindsDeclared i.names) cut.found) first.sends.leads.image cut.declared);
+    last_declared =
+        subst (λ (i : Image). FindsDeclared i.names cut.last) first.sends.leads.image cut.last_declared;
     latched =
         calls_on calls calls' calls'' first.found (cut.found ++ cut.last ∷ []) first.latched cut.latched
         ∙ ap (λ fs. calls ++ flat_map look_calls fs) (sym (append_assoc first.found cut.found (cut.last ∷ [])));
@@ -103,6 +115,8 @@ module _ (ts us : List Turn) (a b : Machine) (x y : Option (List ℕ)) (calls ca
     few = few;
     whole = cut.whole;
     short = cut.short;
+    declared = cut.declared;
+    last_declared = cut.last_declared;
     latched = cut.latched;
     breaks = elim cut.few [ inl less ↦ short less | inr most ↦ at_end most.0 most.1 ];
   }

@@ -6,6 +6,8 @@ use Rattle.rt_run.proofs.Known.{still_writable}
 use Rattle.rt_words.specs.Lines.{Core}
 use Rattle.rt_live.specs.Interleaving.{look_arrivals, look_calls, arrivals_from}
 use Rattle.rt_live.specs.Able.{MayArrive}
+use Rattle.rt_trace.specs.Lined.{IsDeclared}
+use Rattle.rt_live.proofs.Bits.{arriving_all}
 use Rattle.rt_live.proofs.Looking.{finds_none, find_more, find_cut, looks_alone}
 use Rattle.rt_live.proofs.Owning.{one_call_on, same_line}
 use Rattle.rt_live.proofs.Woven.{no_steps, length-latches}
@@ -57,7 +59,10 @@ pub returns-in_err-arrive_word-clause-err : goal.returns-in_err-arrive_word-clau
 returns-in_err-arrive_word-clause-err g c =
     on_err_from c.from_residual.result
     (find_cut c.args.line.now.calls _ c.args.core.now _ _ _ c.loop-k.k c.latch-found.result c.loop-k.invariant.run _
-    (ap (λ (l : Core). l.calls) c.latch-found.ensures.call) c.arrive_word.new.core _ (omega arith)
+    (ap (λ (l : Core). l.calls) c.latch-found.ensures.call) c.arrive_word.new.core _
+    (arriving_all (IsDeclared c.args.core.now.image.names) c.loop-k.k c.latch-found.result
+    (λ bit within set. (c.requires.able.may (32 * c.loop-k.k + bit) (c.latch-found.ensures.may bit within set)).0))
+    (omega arith)
     c.in_err-arrive_word.ensures.err)
 
 pub returns-in_err-arrive_word-clause-same : goal.returns-in_err-arrive_word-clause-same
@@ -68,7 +73,10 @@ pub loop-k-preserved : goal.loop-k-preserved
 loop-k-preserved g c = record {
   run =
       find_more c.args.line.now.calls _ c.args.core.now _ _ _ c.loop-k.k c.latch-found.result c.loop-k.invariant.run _
-      (ap (λ (l : Core). l.calls) c.latch-found.ensures.call) c.arrive_word.new.core _ c.in_ok-arrive_word.ensures.ok;
+      (ap (λ (l : Core). l.calls) c.latch-found.ensures.call) c.arrive_word.new.core _
+      (arriving_all (IsDeclared c.args.core.now.image.names) c.loop-k.k c.latch-found.result
+      (λ bit within set. (c.requires.able.may (32 * c.loop-k.k + bit) (c.latch-found.ensures.may bit within set)).0))
+      c.in_ok-arrive_word.ensures.ok;
   same = one_call_on c.args.line.now _ _ _ c.loop-k.invariant.same c.latch-found.ensures.call;
   none_held = c.in_ok-arrive_word.ensures.none_held;
   quiet = c.in_ok-arrive_word.ensures.quiet ∙ c.loop-k.invariant.quiet;
