@@ -8,4 +8,5 @@ pub mod Sending
 pub mod Storing
 pub mod Stored
 pub mod Generated
+pub mod Emits
 pub mod Shapes

@@ -30,6 +30,7 @@ use Rattle.rt_gen_queue.proofs.{Facts.Spawned, Facts.arguments, Facts.few_argume
 use Rattle.rt_gen_queue.proofs.{Masks.leave_named, Nameable.AreClaimed, Nameable.claimed_both, Nameable.irq_declared}
 use Rattle.rt_gen_queue.proofs.{Named.spawn_claimed, Named.spawned, Named.task_declared, Placing.spawn_long}
 use Rattle.rt_gen_queue.specs.declared.guard.Guard.{Guard}
+use Rattle.rt_gen_body.proofs.Emits.{code_emits}
 use Rattle.rt_gen_body.specs.Form.{HasForm, end_line, fixed_block, fixed_body}
 use Rattle.rt_gen_body.specs.Inside.Blocks.{block_code, branch_code, guard_at, lock_code, loop_back, statement_code}
 use Rattle.rt_gen_body.specs.Inside.Simple.{goes_code, is_timed, send_code, values_code, values_of}
@@ -332,6 +333,7 @@ module _ (app : App) where
   pub code_formed : (id : BodyId) (entry : ℕ) → HasForm app id entry (code_of app id (member_at app id) entry)
   code_formed id entry = record {
     ends = (blocks_of app (member_at app id) entry, refl);
+    emits = code_emits app id entry (member_at app id);
     fixed = λ front is. ap (λ (lines : List Line). lines ++ end_line app id entry ∷ [])
         (blocks_fixed (member_at app id) entry front is);
   }

@@ -1,14 +1,19 @@
 -- The form of the code of a body that is fixed, whatever else a generator may choose (this project's own): the line at
--- its end, and each line of a body that does no more than emit literals and pend interrupts.
-use Rattle.std.specs.Prelude.{◌≡◌, ℕ, ◌==◌, List, [], ◌∷◌, ◌++◌, slice_get, Option, Some, None, option_map}
+-- its end, the two lines of each `emit` of a literal in a body without variables, and each line of a body that does no
+-- more than emit literals and pend interrupts.
+use Rattle.std.specs.Prelude.{◌≡◌, ℕ, ◌+◌, ◌==◌, List, [], ◌∷◌, ◌++◌, slice_get, Option, Some, None, option_map}
 use Rattle.std.specs.Prelude.{if◌then◌else◌}
+use Rattle.std.specs.List.{AllByRecursion}
 use Rattle.rt_ids.specs.Lists.{is_some_and, or_zero}
 use Rattle.rt_ids.specs.declared.ids.BodyId.{BodyId}
 use Rattle.rt_ids.specs.declared.ids.BodyId.TheVariants as body
 use Rattle.rt_app.specs.Bodies.{Member, member_at}
 use Rattle.rt_app.specs.Handlers.{irq_number}
 use Rattle.rt_app.specs.Level.{is_software}
-use Rattle.rt_app.specs.Tree.{App, Num, Block, Empty, Then, Emit, Pend}
+use Rattle.rt_app.specs.Tree.{App, Expression, Num, Statement, Bind, Assign, Branch, Repeat, Locked, Emit, Pend, Spawns}
+use Rattle.rt_app.specs.Tree.{Block, Empty, Then}
+use Rattle.rt_app.specs.Variables.{variables}
+use Rattle.rt_code.specs.declared.instr.Instr.{Instr}
 use Rattle.rt_code.specs.declared.instr.Instr.TheVariants as instr
 use Rattle.rt_code.specs.declared.instr.Note.TheVariants as note
 use Rattle.rt_gen_queue.specs.Line.{Line, plain, line_with_note}
@@ -37,9 +42,60 @@ abbrev pub fixed_body : App → Option Member → Option (List Line)
 fixed_body app None = Some []
 fixed_body app (Some m) = if m.args == 0 then fixed_block app m.body.block else None
 
--- lines from an address on have the form of a body's code: they end as the body does, and where each line is fixed they
--- are those lines
+-- the expressions that a statement emits, in the order of the text, those in its blocks too
+abbrev mutual
+  pub emitted_by : Statement → List Expression
+  emitted_by (Bind x v) = []
+  emitted_by (Assign x e offset) = []
+  emitted_by (Branch e first second) = emitted first ++ emitted second
+  emitted_by (Repeat x first last turn) = emitted turn
+  emitted_by (Locked r inner offset) = emitted inner
+  emitted_by (Emit e) = e ∷ []
+  emitted_by (Pend i) = []
+  emitted_by (Spawns s) = []
+
+  -- the expressions that a block emits
+  pub emitted : Block → List Expression
+  emitted Empty = []
+  emitted (Then s rest) = emitted_by s ++ emitted rest
+
+-- the expressions that a body emits, none where it is not declared
+abbrev pub emitted_of : Option Member → List Expression
+emitted_of None = []
+emitted_of (Some m) = emitted m.body.block
+
+-- the body has no arguments, and brings in no variables
+abbrev pub HasNoVariables : Option Member → Type 0
+HasNoVariables None = Unit {0}
+HasNoVariables (Some m) = m.args + variables m.body.block ≡ 0
+
+-- the instruction is no `emit`
+abbrev pub IsNoEmit : Instr → Type 0
+IsNoEmit (instr.Emit s) = ⊥
+IsNoEmit other = Unit {0}
+
+-- none of the lines is an `emit`
+abbrev pub EmitNothing : List Line → Type 0
+EmitNothing lines = AllByRecursion (λ line. IsNoEmit line.0) lines
+
+-- after these lines an `emit` of a slot: of a literal it is slot 0, which the line before sets
+abbrev pub IsFixedEmit : Expression → List Line → ℕ → Type 0
+IsFixedEmit (Num value) before slot =
+    (slot ≡ 0) × (front : List Line) × (before ≡ front ++ plain (instr.Set 0 value) ∷ [])
+IsFixedEmit other before slot = Unit {0}
+
+-- the lines have an `emit` for each of these expressions, in this order, and no other
+abbrev pub HasEmits : List Expression → List Line → Type 0
+HasEmits [] lines = EmitNothing lines
+HasEmits (e ∷ more) lines =
+    (before : List Line) × (slot : ℕ) × (after : List Line) × (lines ≡ before ++ plain (instr.Emit slot) ∷ after)
+    × EmitNothing before × IsFixedEmit e before slot × HasEmits more after
+
+-- Lines from an address on have the form of a body's code: they end as the body does; where the body has no variables,
+-- whatever else it does, each literal that it emits is set in slot 0 and emitted from there by the next line; and where
+-- each line is fixed they are those lines.
 pub record HasForm (app : App) (id : BodyId) (entry : ℕ) (lines : List Line) : Type 0 where
   pub ends : (front : List Line) × (lines ≡ front ++ end_line app id entry ∷ [])
+  pub emits : HasNoVariables (member_at app id) → HasEmits (emitted_of (member_at app id)) lines
   pub fixed : (front : List Line) → fixed_body app (member_at app id) ≡ Some front
       → lines ≡ front ++ end_line app id entry ∷ []
