@@ -36,7 +36,7 @@ use Rattle.rt_build.specs.Entries.{Entries, irq_rows}
 use Rattle.rt_build.specs.Image.{IdleStands, HasTables, HasCode, IsImageOf}
 use Rattle.rt_build.specs.Order.{IsInOrder, code_size}
 use Rattle.rt_build.specs.Inside.Plan.{IsAcceptedPlan}
-use Rattle.rt_build.specs.Inside.Code.{HasDispatcher, HasTimerHandler, IsCodeOf, entries_of}
+use Rattle.rt_build.specs.Inside.Code.{HasThread, HasDispatcher, HasTimerHandler, IsCodeOf, entries_of}
 use Rattle.rt_build.specs.declared.code.Code.{Code}
 use Rattle.rt_build.proofs.Dispatched.{dispatcher_stands}
 use Rattle.rt_build.proofs.Entries.{dispatcher_entry}
@@ -49,6 +49,101 @@ pub record IsMade (app : App) (img : Image) : Type 0 where
   pub cells : (r : ℕ) → r < length app.shared → resource_cell img r ≡ Some r
   pub runnable : IsRunnable img
   pub lines : HasLines img
+
+-- what is at each of these entries stands or is there, all lines name only what is declared, lie in order, and are no
+-- more than the rule on sizes counts
+pub record HasEach (app : App) (at : Entries) (code : List Line) : Type 0 where
+  pub thread : HasThread app code at.idle
+  pub tasks : (n : ℕ) (t : Task) → slice_get app.tasks n ≡ Some t → DeclaredStands app n code (at.task n)
+  pub dispatchers : (p : ℕ) → Contains (levels app) p → HasDispatcher app p code (at.dispatcher p)
+  pub timer : (mono : Mono) → app.mono ≡ Some mono → HasTimerHandler app mono.priority code at.timer
+  pub named : AllByRecursion (IsNameable (names_of app)) code
+  pub order : IsInOrder app at code
+  pub short : length code ≤ code_size app
+
+-- an image with such code and the tables that lead to it
+module _ {app : App} (accepted : IsAccepted app) (at : Entries) (img : Image) (tabled : HasTables app at img)
+    (coded : HasEach app at img.code) where
+  has_code : HasCode app at img
+  has_code = record {
+    init = λ bodies. subst (λ (all : List Line). StandsFrom (storage app) all bodies at.idle Starting
+        (length (memory app)) (thread_words app) 0 (cost_of (cost_measure app) app.init) (init_doing app))
+        (append-nil img.code) (coded.thread.init [] bodies);
+    idle = λ bodies. subst (λ (all : List Line). IdleStands app all bodies at.idle app.idle) (append-nil img.code)
+        (coded.thread.idle [] bodies);
+    tasks = λ n t there hardware. (coded.tasks n t there).bound t there hardware;
+    dispatchers = λ p is thread. dispatcher_stands app accepted at img.code coded.tasks p is img.bodies
+        tabled.bodies (coded.dispatchers p is).there thread;
+    timer = λ mono is bodies thread. timers_stand app accepted mono is (timer_section_cost app) (inl refl)
+        (record {
+          code = img.code;
+          address = at.timer;
+          has = (coded.timer mono is).there;
+          bodies = bodies;
+        })
+        thread;
+  }
+
+  pub assembled : IsMade app img
+  assembled =
+      let sound = accepted_are_sound app accepted in
+      record {
+        image = record {
+          at = at;
+          tables = tabled;
+          code = has_code;
+          order = coded.order;
+          size = coded.short;
+        };
+        cells = resource_numbers app at img tabled sound;
+        runnable = runnable app at img tabled sound accepted coded.short;
+        lines = lines app at img tabled sound accepted coded.named;
+      }
+
+-- what the code has that is made by a plan
+module _ (app : App) (made : Code) (coded : IsCodeOf app made) where
+  abbrev all_lines : List Line
+  all_lines = made.lines.items
+
+  -- nothing comes after all code
+  whole_code : all_lines ++ [] ≡ all_lines
+  whole_code = append-nil all_lines
+
+  tasks_stand : (n : ℕ) (t : Task) → slice_get app.tasks n ≡ Some t
+      → DeclaredStands app n all_lines ((entries_of app made).task n)
+  tasks_stand n t there = by_kind (is_software t) refl
+    where
+      within : n < length app.tasks
+      within = slice_get_within app.tasks n t there
+
+      by_kind : (b : Bool) → is_software t ≡ b → DeclaredStands app n all_lines ((entries_of app made).task n)
+      by_kind true software =
+          subst (λ (all : List Line). DeclaredStands app n all ((entries_of app made).task n)) whole_code
+          (coded.software n (omega (arith, within, coded.entries.of_tasks)) t there software [])
+      by_kind false hardware =
+          subst (λ (all : List Line). DeclaredStands app n all ((entries_of app made).task n)) whole_code
+          (coded.hardware n (omega (arith, within, coded.entries.of_tasks)) t there (ap not hardware) [])
+
+  dispatchers_there : (p : ℕ) → Contains (levels app) p
+      → HasDispatcher app p all_lines ((entries_of app made).dispatcher p)
+  dispatchers_there p is =
+      let index = contains_at (levels app) p is in
+      let within = slice_get_within (levels app) index.0 p index.1 in
+      subst (HasDispatcher app p all_lines) (dispatcher_entry app made index.0 p index.1)
+      (subst (λ (all : List Line). HasDispatcher app p all (slice_index made.dispatchers.items index.0)) whole_code
+      (coded.dispatchers index.0 (omega (arith, coded.entries.of_levels)) p index.1 []))
+
+  has_each : HasEach app (entries_of app made) all_lines
+  has_each = record {
+    thread = coded.thread;
+    tasks = tasks_stand;
+    dispatchers = dispatchers_there;
+    timer = λ mono is. subst (λ (all : List Line). HasTimerHandler app mono.priority all made.timer) whole_code
+        (coded.timer mono is []);
+    named = coded.named;
+    order = coded.order;
+    short = coded.short;
+  }
 
 -- the plan of an application that may be built
 pub accepted_plan : (plan : Plan) (source : code.App) → plan.app.now ≡ source → IsAccepted (app_of source)
@@ -91,81 +186,10 @@ module _ (plan : Plan) (made : Code) (words bytes : ℕ) (irqs : List IrqRow) (b
     bodies = ap (λ (i : Image). i.bodies) is ∙ called;
   }
 
-  -- nothing comes after all code
-  whole_code : made.lines.items ++ [] ≡ img.code
-  whole_code = append-nil made.lines.items ∙ sym (ap (λ (i : Image). i.code) is)
-
-  module _ (coded : IsCodeOf app made) where
-    tasks_stand : (n : ℕ) (t : Task) → slice_get app.tasks n ≡ Some t → DeclaredStands app n img.code (at.task n)
-    tasks_stand n t there = by_kind (is_software t) refl
-      where
-        within : n < length app.tasks
-        within = slice_get_within app.tasks n t there
-
-        by_kind : (b : Bool) → is_software t ≡ b → DeclaredStands app n img.code (at.task n)
-        by_kind true software =
-            subst (λ (all : List Line). DeclaredStands app n all (at.task n)) whole_code
-            (coded.software n (omega (arith, within, coded.entries.of_tasks)) t there software [])
-        by_kind false hardware =
-            subst (λ (all : List Line). DeclaredStands app n all (at.task n)) whole_code
-            (coded.hardware n (omega (arith, within, coded.entries.of_tasks)) t there (ap not hardware) [])
-
-    dispatchers_there : (p : ℕ) → Contains (levels app) p → HasDispatcher app p img.code (at.dispatcher p)
-    dispatchers_there p is =
-        let index = contains_at (levels app) p is in
-        let within = slice_get_within (levels app) index.0 p index.1 in
-        subst (HasDispatcher app p img.code) (dispatcher_entry app made index.0 p index.1)
-        (subst (λ (all : List Line). HasDispatcher app p all (slice_index made.dispatchers.items index.0)) whole_code
-        (coded.dispatchers index.0 (omega (arith, coded.entries.of_levels)) p index.1 []))
-
-    handler_there : (mono : Mono) → app.mono ≡ Some mono → HasTimerHandler app mono.priority img.code made.timer
-    handler_there mono is =
-        subst (λ (all : List Line). HasTimerHandler app mono.priority all made.timer) whole_code
-        (coded.timer mono is [])
-
-    has_code : HasTables app at img → HasCode app at img
-    has_code tabled = record {
-      init = λ bodies. subst (λ (all : List Line). StandsFrom (storage app) all bodies made.idle Starting
-          (length (memory app)) (thread_words app) 0 (cost_of (cost_measure app) app.init) (init_doing app))
-          whole_code (coded.thread.init [] bodies);
-      idle = λ bodies. subst (λ (all : List Line). IdleStands app all bodies made.idle app.idle) whole_code
-          (coded.thread.idle [] bodies);
-      tasks = λ n t there hardware. (tasks_stand n t there).bound t there hardware;
-      dispatchers = λ p is thread. dispatcher_stands app planned.accepted at img.code tasks_stand p is img.bodies
-          tabled.bodies (dispatchers_there p is).there thread;
-      timer = λ mono is bodies thread. timers_stand app planned.accepted mono is (timer_section_cost app) (inl refl)
-          (record {
-            code = img.code;
-            address = made.timer;
-            has = (handler_there mono is).there;
-            bodies = bodies;
-          })
-          thread;
-    }
-
-    assembled : HasTables app at img → IsMade app img
-    assembled tabled =
-        let sound = accepted_are_sound app planned.accepted in
-        let same : made.lines.items ≡ img.code = sym (ap (λ (i : Image). i.code) is) in
-        let short : length img.code ≤ code_size app =
-        subst (λ (all : List Line). length all ≤ code_size app) same coded.short in
-        record {
-          image = record {
-            at = at;
-            tables = tabled;
-            code = has_code tabled;
-            order = subst (IsInOrder app at) same coded.order;
-            size = short;
-          };
-          cells = resource_numbers app at img tabled sound;
-          runnable = runnable app at img tabled sound planned.accepted short;
-          lines = lines app at img tabled sound planned.accepted
-              (subst (AllByRecursion (IsNameable (names_of app))) same coded.named);
-        }
-
-    pub is_made : (source : code.App) → plan.app.now ≡ source
-        → words ≡ thread_words app → bytes ≡ stack_bytes app → irqs ≡ irq_rows app at 0 app.irqs
-        → bodies ≡ rows_for at.task 0 app.tasks → names ≡ names_of app → IsMade (app_of source) img
-    is_made source of_app worded sized rowed called named =
-        subst (λ (a : code.App). IsMade (app_of a) img) of_app
-        (assembled (has_tables worded sized rowed called named))
+  pub is_made : IsCodeOf app made → (source : code.App) → plan.app.now ≡ source
+      → words ≡ thread_words app → bytes ≡ stack_bytes app → irqs ≡ irq_rows app at 0 app.irqs
+      → bodies ≡ rows_for at.task 0 app.tasks → names ≡ names_of app → IsMade (app_of source) img
+  is_made coded source of_app worded sized rowed called named =
+      subst (λ (a : code.App). IsMade (app_of a) img) of_app
+      (assembled planned.accepted at img (has_tables worded sized rowed called named)
+      (subst (HasEach app at) (sym (ap (λ (i : Image). i.code) is)) (has_each app made coded)))

@@ -8,7 +8,8 @@ use Rattle.std.proofs.lemmas.Bool.{cases_lt, eqb-true, eqb-false}
 use Rattle.std.proofs.lemmas.Option.{get_or_from_slice_get, same_Some, none-some, slice_get_within}
 use Rattle.std.proofs.lemmas.List.Sums.{sum_by-append, sum_by-cons}
 use Rattle.std.proofs.lemmas.List.{take_more, take-append-drop, take_all, drop_all, drop_at, get_or_append_left}
-use Rattle.std.proofs.lemmas.List.{get_or_push, length_push}
+use Rattle.std.proofs.lemmas.List.{get_or_push, length_push, length-set, get_or-set_same, get_or-set_other}
+use Rattle.std.specs.Prelude.{slice_set}
 use Rattle.std.proofs.Math.Seq.{take-append_seam}
 use Rattle.rt_lemmas.proofs.Membership.{all_append}
 use Rattle.rt_lemmas.proofs.Indices.{at_back}
@@ -174,6 +175,33 @@ pub written : (size : ℕ) (before after : List ℕ) → length after ≡ length
 written size before after long is =
     ap (λ (back : List ℕ). take size (after ++ back)) (drop_all (length after) before (omega (arith, long)))
     ∙ (ap (take size) (append-nil after) ∙ take_all size after (omega (arith, long, is)))
+
+-- the entries after a task was put, and after one of another kind was not
+module _ (app : App) (kind : Kind) (n : ℕ) (t : Task) (entries : List ℕ) (lines : List Line) where
+  pub tells_own : (entry : ℕ) → n < length entries → is_of_kind kind t ≡ true
+      → ((more : List Line) → DeclaredStands app n (lines ++ more) entry)
+      → TellsTask app kind n t entries (slice_set entries n entry) lines
+  tells_own entry within of stands = record {
+    long = length-set entries n entry;
+    stands = λ is more. subst (DeclaredStands app n (lines ++ more))
+        (sym (get_or-set_same entries n entry 0 within)) (stands more);
+    same = λ other. absurd (never (sym of ∙ other));
+    others = λ k other. get_or-set_other entries n k entry 0 other;
+  }
+    where
+      never : true ≡ false → ⊥
+      never e = cc
+
+  pub tells_none : is_of_kind kind t ≡ false → TellsTask app kind n t entries entries lines
+  tells_none other = record {
+    long = refl;
+    stands = λ of. absurd (never (sym of ∙ other));
+    same = λ is. refl;
+    others = λ k is. refl;
+  }
+    where
+      never : true ≡ false → ⊥
+      never e = cc
 
 -- lines that are put after code stand there
 code_put : (before after lines : List Line) (entry : ℕ) → entry ≡ length before → take entry after ≡ before

@@ -20,4 +20,5 @@ pub mod ImageCells
 pub mod ImageRows
 pub mod ImageSizes
 pub mod Assembled
+pub mod Existing
 pub mod OneImage

@@ -1,10 +1,13 @@
 -- Laws of the images of applications.
 use Rattle.std.specs.Prelude.{◌≡◌, [], IsSome}
 use Rattle.std.specs.List.{AllByRecursion}
+use Rattle.rt_app.specs.Accepted.{IsAccepted}
 use Rattle.rt_app.specs.Bodies.{member_at}
 use Rattle.rt_app.specs.Tree.{App}
 use Rattle.rt_app.specs.Holding.{storage}
 use Rattle.rt_code.specs.Image.{Image}
+use Rattle.rt_code.specs.Lines.{HasLines}
+use Rattle.rt_code.specs.Runnable.{IsRunnable}
 use Rattle.rt_code.specs.StandingLaws.{StandingLaws}
 use Rattle.rt_gen_body.specs.Form.{fixed_body}
 use Rattle.rt_build.specs.Image.{IsImageOf}
@@ -28,3 +31,14 @@ pub record HasFixedCode (app : App) : Type 0 where
 -- Such an application has one image, and so one listing.
 abbrev pub FixedCodeHasOneImage : Type 0
 FixedCodeHasOneImage = (app : App) (a b : Image) → HasFixedCode app → IsImageOf app a → IsImageOf app b → a ≡ b
+
+-- the application has an image, which a core runs, and whose listing and traces can be written
+pub record HasImage (app : App) : Type 0 where
+  pub image : Image
+  pub of_app : IsImageOf app image
+  pub runnable : IsRunnable image
+  pub lines : HasLines image
+
+-- Every accepted application has an image.
+abbrev pub ImagesExist : Type 0
+ImagesExist = (app : App) → IsAccepted app → HasImage app

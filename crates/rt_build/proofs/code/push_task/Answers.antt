@@ -1,17 +1,14 @@
-use Rattle.std.proofs.Common.{◌≡◌, ℕ, ◌<◌, true, false, List, ◌++◌, length, map, Some, slice_get, get_or, refl, sym, ap}
-use Rattle.std.proofs.Common.{subst, ◌∙◌, arith}
+use Rattle.std.proofs.Common.{◌≡◌, ℕ, List, map, Some, slice_get, get_or, sym, ap, subst, ◌∙◌, arith, refl}
 use Rattle.std.specs.Prelude.{slice_set}
-use Rattle.std.proofs.lemmas.List.{length-set, get_or-set_same, get_or-set_other}
+use Rattle.std.proofs.lemmas.List.{get_or-set_same}
 use Rattle.std.proofs.lemmas.Option.{slice_get-map, get_or_from_slice_get}
 use Rattle.rt_app.specs.declared.app.Task as row
-use Rattle.rt_app.specs.Tree.{Task, App}
+use Rattle.rt_app.specs.Tree.{Task}
 use Rattle.rt_app.specs.View.{app_of, task_of}
 use Rattle.rt_app.proofs.Members.{made_of}
-use Rattle.rt_gen_queue.specs.Line.{Line}
-use Rattle.rt_gen_body.specs.Bodies.{DeclaredStands}
 use Rattle.rt_build.specs.Inside.Code.{is_of_kind, TellsTask}
-use Rattle.rt_build.specs.declared.code.Kind.{Kind}
 use Rattle.rt_build.proofs.Abutting.{task_added, task_left}
+use Rattle.rt_build.proofs.Grown.{tells_own, tells_none}
 use Rattle.rt_build.proofs.code.push_task.Goals as goal
 
 -- the task at an index
@@ -20,32 +17,6 @@ task_is : (tasks : List row.Task) (index n : ℕ) (own : row.Task) (t : Task) �
 task_is tasks index n own t at is there =
     let one = made_of task_of (slice_get tasks n) t (sym (slice_get-map task_of tasks n) ∙ there) in
     sym (ap task_of (is ∙ (ap (λ p. get_or tasks p own) at ∙ get_or_from_slice_get tasks n one.0 own one.1)) ∙ one.2)
-
-module _ (app : App) (kind : Kind) (n : ℕ) (t : Task) (entries : List ℕ) (lines : List Line) where
-  tells_own : (entry : ℕ) → n < length entries → is_of_kind kind t ≡ true
-      → ((more : List Line) → DeclaredStands app n (lines ++ more) entry)
-      → TellsTask app kind n t entries (slice_set entries n entry) lines
-  tells_own entry within of stands = record {
-    long = length-set entries n entry;
-    stands = λ is more. subst (DeclaredStands app n (lines ++ more))
-        (sym (get_or-set_same entries n entry 0 within)) (stands more);
-    same = λ other. absurd (never (sym of ∙ other));
-    others = λ k other. get_or-set_other entries n k entry 0 other;
-  }
-    where
-      never : true ≡ false → ⊥
-      never e = cc
-
-  tells_none : is_of_kind kind t ≡ false → TellsTask app kind n t entries entries lines
-  tells_none other = record {
-    long = refl;
-    stands = λ of. absurd (never (sym of ∙ other));
-    same = λ is. refl;
-    others = λ k is. refl;
-  }
-    where
-      never : true ≡ false → ⊥
-      never e = cc
 
 pub returns-in_ok-entries-clause-part : goal.returns-in_ok-entries-clause-part
 returns-in_ok-entries-clause-part c t there =
