@@ -7,4 +7,5 @@ pub mod Paired
 pub mod Ends
 pub mod Reads
 pub mod Defined
+pub mod Laws
 pub mod Inside

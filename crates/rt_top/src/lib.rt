@@ -10,6 +10,7 @@ mod decide;
 mod deepest;
 mod demo;
 mod format;
+pub mod laws;
 mod live;
 mod number;
 mod pair;
@@ -24,5 +25,6 @@ mod times;
 pub mod top;
 mod verify;
 
+pub use laws::one_status_is_due;
 pub use rt_devices::{Gate, NoGate};
 pub use top::rtic;
