@@ -143,7 +143,7 @@ module _ (app : App) (img : Image) (accepted : IsAccepted app) (is_image : IsIma
         let done = takes app sound (state_at es) irq v is.served pends over owing long (next_at es) allowed in
         let taking : IsTake (next_at es) = subst IsTake (sym done.1) tt in
         let agrees = (reached_by app img accepted is_image es (omega (arith, few)) known).agrees in
-        let words = takes_words app img accepted is_image (core_at es) (state_at es) agrees irq v is.served
+        let words = takes_words app img accepted is_image _ (core_at es) (state_at es) agrees irq v is.served
         (is_candidate app sound (state_at es) irq v is.served pends over) taking in (
           taking,
           subst (RestsBelow app sound (suc p)) (sym (state_step app img accepted is_image es))
@@ -185,7 +185,7 @@ module _ (app : App) (img : Image) (accepted : IsAccepted app) (is_image : IsIma
         let done = taken (starts irq n) room known p irq is pends (omega (arith, behind.low, is.some)) behind.owing
         long in
         let agrees = (reached_by app img accepted is_image (starts irq n) (omega (arith, room)) known).agrees in
-        let alone = alone_words app img accepted is_image (core_at (starts irq n)) (here n) agrees behind.job
+        let alone = alone_words app img accepted is_image _ (core_at (starts irq n)) (here n) agrees behind.job
         behind.jobs in
         record {
           steps = n + 1;

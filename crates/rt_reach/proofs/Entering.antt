@@ -32,6 +32,7 @@ use Rattle.rt_laws.specs.Preemption.{candidate}
 use Rattle.rt_sim.specs.Inside.Coupling.{Part, Coupling, jobs_of}
 use Rattle.rt_sim.specs.Inside.States.{core_of, state_of, words_under}
 use Rattle.rt_sim.specs.Inside.CouplingInvariant.{IsStacked}
+use Rattle.rt_sim.specs.Whereabouts.{Whereabouts}
 use Rattle.rt_sim.specs.Inside.Agrees.{Agrees}
 use Rattle.rt_sim.proofs.Choosing.{IfServed, picks}
 use Rattle.rt_sim.proofs.Depth.{used_is}
@@ -59,10 +60,11 @@ module _ (app : App) (img : Image) (accepted : IsAccepted app) (is_image : IsIma
   sound = accepted_are_sound app accepted
 
   -- where the two machines agree, and an interrupt is to be taken, and taken
-  pub takes_words : (c : Core) (s : State) → Agrees app img at.idle c s → (irq : ℕ) (v : Service)
+  pub takes_words : (Are : Whereabouts → Type 0) (c : Core) (s : State) → Agrees app img at.idle c s Are
+      → (irq : ℕ) (v : Service)
       → service_at app irq ≡ Some v → candidate app s ≡ Some irq → IsTake (step img c).1
       → stack_in_use img (step img c).0 ≡ stack_in_use img c + (entry_words img + handler_words app v.handler)
-  takes_words c s agrees irq v serves next takes =
+  takes_words Are c s agrees irq v serves next takes =
       subst (λ d. stack_in_use img (step img d).0 ≡ stack_in_use img d
       + (entry_words img + handler_words app v.handler))
       (sym agrees.core)
@@ -112,9 +114,10 @@ module _ (app : App) (img : Image) (accepted : IsAccepted app) (is_image : IsIma
           ∙ ap (λ o. settle (exception_entry img c_m irq o)) handler_is) taken
 
   -- where one job has started, the thread's frame is all
-  pub alone_words : (c : Core) (s : State) → Agrees app img at.idle c s → (job : Job) → s.jobs ≡ job ∷ []
+  pub alone_words : (Are : Whereabouts → Type 0) (c : Core) (s : State) → Agrees app img at.idle c s Are
+      → (job : Job) → s.jobs ≡ job ∷ []
       → stack_in_use img c ≡ thread_words app
-  alone_words c s agrees job alone =
+  alone_words Are c s agrees job alone =
       ap (stack_in_use img) agrees.core ∙ used_is app img at.idle agrees.coupling agrees.invariant
       ∙ by agrees.coupling.below (sym (ap (λ (t : State). t.jobs) agrees.state) ∙ alone) agrees.invariant.stack
     where

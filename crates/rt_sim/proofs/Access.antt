@@ -49,26 +49,25 @@ module _ (app : App) (img : Image) (thread : ℕ)
     (named : (r cell : ℕ) → resource_cell img r ≡ Some cell → (r < length app.shared) × (cell ≡ resource_at app r))
     (m : Coupling) (invariant : CouplingInvariant app img thread m) where
   -- as the running job is seen
-  inside_seen : (vs : List Seen) → StackWell app (state_of m).jobs vs → (r : ℕ)
-      → is_open m.running.held (section.Res r) ≡ true → IsInside vs (section.Res r)
-  inside_seen [] well r is = absurd well
-  inside_seen (seen ∷ seens) well r is = subst (λ xs. IsIn xs (section.Res r)) (sym well.0.inside)
-      (open_in m.running.held (section.Res r) is)
+  pub inside_seen : (vs : List Seen) → StackWell app (state_of m).jobs vs → (x : Section)
+      → is_open m.running.held x ≡ true → IsInside vs x
+  inside_seen [] well x is = absurd well
+  inside_seen (seen ∷ seens) well x is = subst (λ xs. IsIn xs x) (sym well.0.inside) (open_in m.running.held x is)
 
-  init_seen : (ps : List Part) (vs : List Seen) → StackWell app (job_of m.running ∷ map job_of ps) vs
+  pub init_seen : (ps : List Part) (vs : List Seen) → StackWell app (job_of m.running ∷ map job_of ps) vs
       → IsStacked app img thread m.running ps → m.running.role ≡ Init → IsInit app vs
   init_seen [] [] well is role = absurd well
   init_seen [] (seen ∷ []) well is role = well.0.priority ∙ is.greatest role
   init_seen [] (seen ∷ other ∷ seens) well is role = absurd well.2
   init_seen (q ∷ ps) vs well is role = absurd (let one : Serving is.0.irq ≡ Init = sym is.0.serves ∙ role in cc (one))
 
-  role_of : (role : Role) → runner_of role m.running.priority ≡ Starting → role ≡ Init
+  pub role_of : (role : Role) → runner_of role m.running.priority ≡ Starting → role ≡ Init
   role_of Init is = refl
   role_of Idle is = absurd (cc (is))
   role_of Waiting is = absurd (cc (is))
   role_of (Serving irq) is = absurd (cc (is))
 
-  priority_of : (role : Role) (p : ℕ) → runner_of role m.running.priority ≡ AtPriority p → m.running.priority ≡ p
+  pub priority_of : (role : Role) (p : ℕ) → runner_of role m.running.priority ≡ AtPriority p → m.running.priority ≡ p
   priority_of Init p is = absurd (cc (is))
   priority_of Idle p is = cc (is)
   priority_of Waiting p is = cc (is)
@@ -82,13 +81,13 @@ module _ (app : App) (img : Image) (thread : ℕ)
       subst (λ q. is_some_at app (lists r) q ≡ true) (sym (well.0.priority ∙ same)) is
 
   -- what it owns it may change
-  owned_seen : (v : Observer) → StateWell app (state_of m) v → (r : ℕ)
+  pub owned_seen : (v : Observer) → StateWell app (state_of m) v → (r : ℕ)
       → owns (storage app) (who m.running) m.running.held (Guarded (section.Res r)) ≡ true
       → MayChange app v.jobs r
   unfolding storage
   owned_seen v well r is = elim (or_cases (is_open m.running.held (section.Res r))
       (is_kept app (who m.running) (Guarded (section.Res r))) is) [
-        | inl opened ↦ inl (inside_seen v.jobs well.stack r opened)
+        | inl opened ↦ inl (inside_seen v.jobs well.stack (section.Res r) opened)
         | inr kept ↦ by (who m.running) refl kept
       ]
     where
@@ -100,7 +99,7 @@ module _ (app : App) (img : Image) (thread : ℕ)
           let parts = and_parts (is_lock_free app r) (is_some_at app (lists r) p) kept in
           inr (inr (parts.0, listed_seen v.jobs well.stack r p (priority_of m.running.role p same) parts.1))
 
-  read_seen : (v : Observer) → StateWell app (state_of m) v → (r : ℕ)
+  pub read_seen : (v : Observer) → StateWell app (state_of m) v → (r : ℕ)
       → reads (storage app) (who m.running) m.running.held (Guarded (section.Res r)) ≡ true
       → MayChange app v.jobs r ⊎ MayReadAlone app v.jobs r
   unfolding storage
@@ -140,34 +139,39 @@ module _ (app : App) (img : Image) (thread : ℕ)
   unfolding Stands
   no_steps s = s
 
-  -- the access of the next step is guarded
-  pub access_is_guarded : (v : Observer) → StateWell app (state_of m) v → FitIn app m
-      → IsGuarded app img v.jobs (access img (core_of app.bits m))
-  access_is_guarded v well fit = by_pick (pick img (core_of app.bits m)) refl
+  -- the access of the next step is so, where each is that the running job may do
+  pub each_access : (Is : Option Access → Type 0) → Is None
+      → ((a : Option Access) → MayAccess (storage app) (who m.running) (configuration_of m.cells m.queues m.running) a
+      → Is a)
+      → FitIn app m → Is (access img (core_of app.bits m))
+  each_access Is none may fit = by_pick (pick img (core_of app.bits m)) refl
     where
       working : IsWorking m.running.role → pick img (core_of app.bits m) ≡ None → (n : ℕ)
           → Stands (storage app) img.code m.running.rows thread (who m.running) n
           (configuration_of m.cells m.queues m.running)
-          → IsGuarded app img v.jobs (access img (core_of app.bits m))
+          → Is (access img (core_of app.bits m))
       working works picked zero stands = absurd (no_steps stands)
       working works picked (suc n) stands =
-          may_is_guarded v well (access img (core_of app.bits m))
+          may (access img (core_of app.bits m))
           (standing_leads (storage app) (with_rows img m.running.rows) thread (who m.running) (core_of app.bits m)
           (configuration_of m.cells m.queues m.running) n refl picked
           (clock_fits app img thread m invariant works fit) (is_at app img thread m invariant works) stands).touches
 
       by_role : (role : Role) → m.running.role ≡ role → pick img (core_of app.bits m) ≡ None
           → StandsBy app img thread role m.cells m.queues m.running
-          → IsGuarded app img v.jobs (access img (core_of app.bits m))
+          → Is (access img (core_of app.bits m))
       by_role Init is picked stands = working (subst IsWorking (sym is) tt) picked m.running.steps stands
       by_role Idle is picked stands = working (subst IsWorking (sym is) tt) picked m.running.steps stands
       by_role Waiting is picked waits =
-          subst (λ a. IsGuarded app img v.jobs a) (sym
-          (ap (access_by img (core_of app.bits m)) picked ∙ ap (access_by_line (core_of app.bits m)) waits.code)) tt
+          subst Is (sym (ap (access_by img (core_of app.bits m)) picked
+          ∙ ap (access_by_line (core_of app.bits m)) waits.code)) none
       by_role (Serving irq) is picked stands = working (subst IsWorking (sym is) tt) picked m.running.steps stands
 
-      by_pick : (o : Option IrqRow) → pick img (core_of app.bits m) ≡ o
-          → IsGuarded app img v.jobs (access img (core_of app.bits m))
+      by_pick : (o : Option IrqRow) → pick img (core_of app.bits m) ≡ o → Is (access img (core_of app.bits m))
       by_pick None picked = by_role m.running.role refl picked invariant.parts.0.stands
-      by_pick (Some row) picked = subst (λ a. IsGuarded app img v.jobs a) (sym
-          (ap (access_by img (core_of app.bits m)) picked)) tt
+      by_pick (Some row) picked = subst Is (sym (ap (access_by img (core_of app.bits m)) picked)) none
+
+  -- it is guarded
+  pub access_is_guarded : (v : Observer) → StateWell app (state_of m) v → FitIn app m
+      → IsGuarded app img v.jobs (access img (core_of app.bits m))
+  access_is_guarded v well = each_access (IsGuarded app img v.jobs) tt (may_is_guarded v well)

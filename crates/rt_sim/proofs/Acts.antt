@@ -28,7 +28,7 @@ use Rattle.rt_laws.specs.Preemption.{candidate}
 use Rattle.rt_laws.specs.Giving.{next_item, item_of}
 use Rattle.rt_laws.specs.Acting.{state_after_doing}
 use Rattle.rt_laws.specs.Allowed.{Turn}
-use Rattle.rt_sim.specs.Inside.Coupling.{Coupling, configuration_of, sections_of, job_of}
+use Rattle.rt_sim.specs.Inside.Coupling.{Coupling, configuration_of, sections_of, job_of, whereabouts_of}
 use Rattle.rt_sim.specs.Inside.States.{core_of, state_of}
 use Rattle.rt_sim.specs.Inside.Counts.{hands, IsOnce}
 use Rattle.rt_sim.specs.Inside.Ownership.{owns_in, sections_after, IsActionOf, IsEntered, ChangesOwn, RespectsOwnership}
@@ -180,7 +180,7 @@ module _ (app : App) (img : Image) (thread : ℕ) (m : Coupling) (invariant : Co
         (λ t. Stands (storage app) img.code m.running.rows thread (who m.running) n t)
 
     abbrev Both : Type 0
-    Both = StepsBoth app img thread (core_of app.bits m) (state_of m)
+    Both = StepsBoth app img thread (core_of app.bits m) (state_of m) (whereabouts_of m)
 
     abbrev Behind : Doing Values → Values → Coupling
     Behind rest vs = coupling_after app img thread m q n rest (reached_values rest vs) m.running.places m.queues
@@ -201,6 +201,7 @@ module _ (app : App) (img : Image) (thread : ℕ) (m : Coupling) (invariant : Co
             plain
             (changes_by _ _ is may) (λ h away. refl) (λ h away. refl) invariant.once stands invariant.parts.0.agrees
             invariant.parts.0.respects;
+        places = refl;
       };
     }
 
@@ -216,6 +217,7 @@ module _ (app : App) (img : Image) (thread : ℕ) (m : Coupling) (invariant : Co
         core = refl;
         state = acts_as (Emits value) acts.values acts.follows acts.is;
         invariant = acts_plainly q n (Emits value) 0 plain (changes_by _ _ is may) acts (λ vs. refl) (λ held. refl) tt;
+        places = refl;
       };
     }
 
@@ -232,6 +234,7 @@ module _ (app : App) (img : Image) (thread : ℕ) (m : Coupling) (invariant : Co
         core = refl;
         state = acts_as Clocks acts.values acts.follows acts.is;
         invariant = acts_plainly q n Clocks m.time plain (changes_by _ _ is may) acts (λ vs. refl) (λ held. refl) known;
+        places = refl;
       };
     }
 
@@ -247,6 +250,7 @@ module _ (app : App) (img : Image) (thread : ℕ) (m : Coupling) (invariant : Co
         core = refl;
         state = acts_as (FindsFull t) acts.values acts.follows acts.is;
         invariant = acts_plainly q n (FindsFull t) 0 plain (changes_by _ _ is may) acts (λ vs. refl) (λ held. refl) tt;
+        places = refl;
       };
     }
 
@@ -266,5 +270,6 @@ module _ (app : App) (img : Image) (thread : ℕ) (m : Coupling) (invariant : Co
             (slice_set m.pending irq true)
             (length-set m.pending irq true)
             (acts_plainly q n (Posts irq) 0 plain (changes_by _ _ is may) acts (λ vs. refl) (λ held. refl) tt);
+        places = refl;
       };
     }

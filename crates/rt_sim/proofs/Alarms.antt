@@ -34,7 +34,8 @@ use Rattle.rt_laws.specs.Acting.{state_after_doing, alarm_set}
 use Rattle.rt_laws.specs.Allowed.{after}
 use Rattle.rt_laws.specs.ByItems.{after_all}
 use Rattle.rt_laws.specs.Run.{RunsOn}
-use Rattle.rt_sim.specs.Inside.Coupling.{Coupling, configuration_of, job_of}
+use Rattle.rt_sim.specs.Whereabouts.{AreMoved}
+use Rattle.rt_sim.specs.Inside.Coupling.{Coupling, configuration_of, job_of, whereabouts_of}
 use Rattle.rt_sim.specs.Inside.States.{core_of, state_of}
 use Rattle.rt_sim.specs.Inside.PartInvariant.{who}
 use Rattle.rt_sim.specs.Inside.CouplingInvariant.{CouplingInvariant}
@@ -85,7 +86,7 @@ module _ (app : App) (img : Image) (thread : ℕ) where
       (access img (core_of app.bits m))) (q : Processor)
       (plain : GoesPlainly (configuration_of m.cells m.queues m.running) (core_of app.bits m).processor q) where
     abbrev Both : Type 0
-    Both = StepsBoth app img thread (core_of app.bits m) (state_of m)
+    Both = StepsBoth app img thread (core_of app.bits m) (state_of m) (whereabouts_of m)
 
     abbrev Next : Core
     Next = with_processor (core_of app.bits m) q
@@ -147,6 +148,7 @@ module _ (app : App) (img : Image) (thread : ℕ) where
         state = acted_alarm None sets false refl;
         invariant = alarmed_invariant (Behind None sets) None tt
             (invariant_behind None sets (changes_by app img thread m invariant works _ _ is may));
+        places = refl;
       };
     }
 
@@ -183,6 +185,7 @@ module _ (app : App) (img : Image) (thread : ℕ) where
                 (alarmed_invariant (Behind (Some instant) sets) None tt
                 (invariant_behind (Some instant) sets
                 (changes_by app img thread m invariant works _ _ (gives true due) may)));
+            places = refl;
           };
         }
         by false later = record {
@@ -198,6 +201,7 @@ module _ (app : App) (img : Image) (thread : ℕ) where
                 number
                 (invariant_behind (Some instant) sets
                 (changes_by app img thread m invariant works _ _ (gives false later) may));
+            places = refl;
           };
         }
 
@@ -211,6 +215,7 @@ module _ (app : App) (img : Image) (thread : ℕ) where
     pub invariant : CouplingInvariant app img thread coupling
     pub time : coupling.time ≡ suc m.time
     pub values : coupling.values ≡ m.values
+    pub places : AreMoved shown (whereabouts_of m) (whereabouts_of coupling)
     pub silent : (ls : List Label) → steps_of (shown ++ ls) ≡ steps_of ls
 
   -- the coupling with this alarm
@@ -241,6 +246,7 @@ module _ (app : App) (img : Image) (thread : ℕ) where
             (alarmed_invariant (with_alarm m a) None tt invariant));
         time = refl;
         values = refl;
+        places = (whereabouts_of m, refl, refl);
         silent = λ ls. refl;
       }
       rings a invariant false later = record {
@@ -257,6 +263,7 @@ module _ (app : App) (img : Image) (thread : ℕ) where
         invariant = time_invariant (with_alarm m a) (suc m.time) invariant;
         time = refl;
         values = refl;
+        places = refl;
         silent = λ ls. refl;
       }
 
@@ -271,6 +278,7 @@ module _ (app : App) (img : Image) (thread : ℕ) where
         invariant = time_invariant (record m { alarm = None }) (suc m.time) invariant;
         time = refl;
         values = refl;
+        places = refl;
         silent = λ ls. refl;
       }
       by (Some a) invariant = rings a invariant (nat_le a.instant (suc m.time)) refl

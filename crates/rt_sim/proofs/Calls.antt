@@ -27,7 +27,7 @@ use Rattle.rt_core.specs.Core.{stack_in_use}
 use Rattle.rt_trace.specs.declared.item.What.TheVariants as what
 use Rattle.rt_laws.specs.Preemption.{candidate}
 use Rattle.rt_laws.specs.State.{reached_values}
-use Rattle.rt_sim.specs.Inside.Coupling.{Part, Coupling, configuration_of, sections_of}
+use Rattle.rt_sim.specs.Inside.Coupling.{Part, Coupling, configuration_of, sections_of, whereabouts_of}
 use Rattle.rt_sim.specs.Inside.States.{core_of, state_of}
 use Rattle.rt_sim.specs.Inside.Chains.{base_of, mask_of, Saves}
 use Rattle.rt_sim.specs.Inside.Ownership.{ChangesOwn, RespectsOwnership}
@@ -219,7 +219,7 @@ module _ (app : App) (img : Image) (thread : ℕ) where
       pub calls_body : (is_empty (core_of app.bits m).below ≡ false
           → has_room img (core_of app.bits m) calls.called.frame ≡ true
           → step img (core_of app.bits m) ≡ (core_after_call (core_of app.bits m) calls.called from, None))
-          → StepsBoth app img thread (core_of app.bits m) (state_of m)
+          → StepsBoth app img thread (core_of app.bits m) (state_of m) (whereabouts_of m)
       calls_body gives = record {
         core = core_after_call (core_of app.bits m) calls.called from;
         shown = None;
@@ -230,6 +230,7 @@ module _ (app : App) (img : Image) (thread : ℕ) where
           core = refl;
           state = refl;
           invariant = invariant_called;
+          places = refl;
         };
       }
 
@@ -297,7 +298,7 @@ module _ (app : App) (img : Image) (thread : ℕ) where
 
       pub comes_back : step img (core_of app.bits m) ≡
           (in_frame (core_of app.bits m) back.frame, Some (what.End (body.Task t)))
-          → StepsBoth app img thread (core_of app.bits m) (state_of m)
+          → StepsBoth app img thread (core_of app.bits m) (state_of m) (whereabouts_of m)
       comes_back is = record {
         core = in_frame (core_of app.bits m) back.frame;
         shown = Some (what.End (body.Task t));
@@ -313,5 +314,6 @@ module _ (app : App) (img : Image) (thread : ℕ) where
           state = acts_as app img thread m invariant works (Ends (body.Task t)) back.acts.values back.acts.follows
               back.acts.is;
           invariant = invariant_back;
+          places = refl;
         };
       }

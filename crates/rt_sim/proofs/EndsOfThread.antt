@@ -26,7 +26,7 @@ use Rattle.rt_laws.specs.State.{Role, Init, Idle, Waiting, Serving, Job, State, 
 use Rattle.rt_laws.specs.Acting.{idle_job}
 use Rattle.rt_laws.specs.Allowed.{after}
 use Rattle.rt_laws.specs.Preemption.{candidate}
-use Rattle.rt_sim.specs.Inside.Coupling.{Part, Coupling, runner_of, configuration_of, job_of}
+use Rattle.rt_sim.specs.Inside.Coupling.{Part, Coupling, runner_of, configuration_of, job_of, whereabouts_of}
 use Rattle.rt_sim.specs.Inside.States.{core_of, state_of}
 use Rattle.rt_sim.specs.Inside.Chains.{is_init, base_inside, mask_inside}
 use Rattle.rt_sim.specs.Inside.Ownership.{AlwaysRespects}
@@ -192,6 +192,10 @@ module _ (app : App) (img : Image) (thread : ℕ)
     idling_is None = refl
     idling_is (Some c) = refl
 
+    none_in_hands : (o : Option Body) → (thread_part app img o thread m.running.slots m.values).places ≡ []
+    none_in_hands None = refl
+    none_in_hands (Some c) = refl
+
     core_is : (o : Option Body) → with_processor (core_of app.bits m0) (record
         (core_of app.bits m0).processor { address = thread; primask = false }) ≡ core_of app.bits (coupling_of o)
     core_is None = ap (λ k. record (core_of app.bits (coupling_of None)) { caller = k }) ends.own_frame
@@ -204,7 +208,7 @@ module _ (app : App) (img : Image) (thread : ℕ)
         (core_of app.bits m0).processor { address = thread; primask = false })
         → step img (core_of app.bits m0) ≡ (c, Some (what.End b))
         → after app (state_of m0) (Stepped (Some (what.End b))) ≡ State_of (idle_job app m.values app.idle)
-        → StepsBoth app img thread (core_of app.bits m0) (state_of m0)
+        → StepsBoth app img thread (core_of app.bits m0) (state_of m0) (whereabouts_of m0)
     thread_goes_on c there is state_is = record {
       core = c;
       shown = Some (what.End b);
@@ -219,6 +223,7 @@ module _ (app : App) (img : Image) (thread : ℕ)
         core = there ∙ core_is app.idle;
         state = state_is ∙ ap State_of (idling_is app.idle);
         invariant = invariant_thread app.idle refl;
+        places = ap (λ es. record (whereabouts_of m0) { in_hands = es ∷ [] }) (none_in_hands app.idle ∙ sym ends.empty);
       };
     }
 
@@ -230,6 +235,7 @@ module _ (app : App) (img : Image) (thread : ℕ)
       → step img (core_of app.bits (record m { below = [] })) ≡
       (core_serving (core_of app.bits (record m { below = [] })) thread, Some (what.End body.Init))
       → StepsBoth app img thread (core_of app.bits (record m { below = [] })) (state_of (record m { below = [] }))
+      (whereabouts_of (record m { below = [] }))
   ends_init m invariant works none left ends is =
       thread_goes_on m invariant works none left body.Init ends _ refl is
       (acts_as app img thread (record m { below = [] }) invariant works
@@ -250,6 +256,7 @@ module _ (app : App) (img : Image) (thread : ℕ)
       → step img (core_of app.bits (record m { below = [] })) ≡
       (at_address (core_of app.bits (record m { below = [] })) thread, Some (what.End body.Idle))
       → StepsBoth app img thread (core_of app.bits (record m { below = [] })) (state_of (record m { below = [] }))
+      (whereabouts_of (record m { below = [] }))
   ends_idle m invariant works none left low ends is =
       let clear : m.primask ≡ false = invariant.primask
       ∙ ap (λ held. mask_inside app held (is_init m.running.role)) ends.closed

@@ -35,7 +35,7 @@ use Rattle.rt_trace.specs.declared.item.What.TheVariants as what
 use Rattle.rt_laws.specs.State.{reached_values}
 use Rattle.rt_laws.specs.Preemption.{candidate}
 use Rattle.rt_laws.proofs.Armings.{armings}
-use Rattle.rt_sim.specs.Inside.Coupling.{Part, Coupling, configuration_of, sections_of}
+use Rattle.rt_sim.specs.Inside.Coupling.{Part, Coupling, configuration_of, sections_of, whereabouts_of}
 use Rattle.rt_sim.specs.Inside.States.{core_of, state_of}
 use Rattle.rt_sim.specs.Inside.Counts.{hands}
 use Rattle.rt_sim.specs.Inside.Ownership.{IsEntered, ChangesOwn, RespectsOwnership}
@@ -342,7 +342,7 @@ module _ (app : App) (img : Image) (thread : ℕ) where
           ((storage app).value ((storage app).ceiling x)) goes.kind),
       Some (what.Enter x),
     )
-        → StepsBoth app img thread (core_of app.bits m) (state_of m)
+        → StepsBoth app img thread (core_of app.bits m) (state_of m) (whereabouts_of m)
     enters is = record {
       core = with_processor (core_of app.bits m)
           (processor_after_opening (core_of app.bits m).processor ((storage app).value ((storage app).ceiling x))
@@ -359,5 +359,6 @@ module _ (app : App) (img : Image) (thread : ℕ) where
         core = core_inside goes.kind;
         state = acts_as app img thread m invariant works (Enters x goes.cost) goes.values goes.follows goes.is;
         invariant = invariant_inside;
+        places = refl;
       };
     }

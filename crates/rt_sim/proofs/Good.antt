@@ -37,12 +37,18 @@ use Rattle.rt_laws.proofs.Happens.{first_well}
 use Rattle.rt_laws.proofs.Keeping.{runs_keep_laws}
 use Rattle.rt_laws.proofs.AllMoments.{runs_keep_messages}
 use Rattle.rt_sim.specs.Guarded.{IsGuarded}
+use Rattle.rt_sim.specs.Owned.{IsOwned, AccessesAreOwned}
 use Rattle.rt_sim.specs.Good.{AreDeclared, CountsFit, RunsWell, ImagesAreGood}
+use Rattle.rt_sim.specs.Inside.Coupling.{Coupling, whereabouts_of}
 use Rattle.rt_sim.proofs.Access.{access_is_guarded}
+use Rattle.rt_sim.proofs.OwnedAccess.{access_is_owned, places_once}
 use Rattle.rt_sim.proofs.Armed.{front_fits}
+use Rattle.rt_sim.proofs.Bodies.{init_respects}
 use Rattle.rt_sim.proofs.Depth.{depth_within}
-use Rattle.rt_sim.proofs.Reached.{front_declared, reached_by, reached_fits}
+use Rattle.rt_sim.proofs.Reached.{front_declared, places_at_reset, reached_by, reached_fits}
 use Rattle.rt_sim.proofs.Running.{well_after}
+use Rattle.rt_sim.proofs.Starting.{at_reset}
+use Rattle.rt_sim.proofs.Unshared.{none_is_shared}
 use Rattle.rt_sim.proofs.Unspent.{leaves_steps}
 
 -- Baker's machine never traps
@@ -102,7 +108,7 @@ module _ (app : App) where
       (no_reason s w runs.0, no_traps labels (after app s (Stepped (Some w))) (suc n) runs.1)
 
 module _ (app : App) (img : Image) (accepted : IsAccepted app) (is_image : IsImageOf app img) where
-  sound : IsSound app
+  abbrev pub sound : IsSound app
   sound = accepted_are_sound app accepted
 
   -- the cell that the image names as a resource is the one that has it
@@ -118,6 +124,29 @@ module _ (app : App) (img : Image) (accepted : IsAccepted app) (is_image : IsIma
           → then_from o (cell_named img.cells) ≡ Some cell → r < length app.shared
       named_within None at is = absurd (none-some cell is)
       named_within (Some name) at is = omega (arith, declared, slice_get_within img.names.shared r name at)
+
+  -- the access after these events is owned
+  access_owned : (events : List Event) → CountsFit app img events → AreDeclared app events
+      → AccessesAreOwned app img events
+  access_owned events fit declared =
+      let part = reached_by app img accepted is_image events fit declared in
+      let m : Coupling = part.agrees.coupling in
+      let well = well_after app accepted (labels img (reset img) events) (first app) (first_sight app)
+      (first_well app accepted) part.runs in
+      let v : Observer = sees_all app (first_sight app) (labels img (reset img) events) in
+      record {
+        before = places_at_reset app img accepted is_image;
+        now = whereabouts_of m;
+        at_reset = at_reset app img accepted sound is_image (init_respects app accepted sound);
+        moved = part.agrees.places;
+        once = places_once app img is_image.at.idle cell_is m part.agrees.invariant;
+        owned = subst (λ (c : Core). IsOwned app v.jobs (whereabouts_of m) (access img c)) (sym part.agrees.core)
+            (access_is_owned app img is_image.at.idle cell_is m part.agrees.invariant v
+            (subst (λ s. StateWell app s v) part.agrees.state well)
+            (reached_fits app img accepted is_image events fit declared));
+        unshared = none_is_shared app img is_image.at.idle m part.agrees.invariant v.jobs
+            (subst (λ s. StateWell app s v) part.agrees.state well).stack;
+      }
 
   runs_well : (events : List Event) → CountsFit app img events → AreDeclared app events → RunsWell app img events
   runs_well events fit declared =
@@ -147,6 +176,7 @@ module _ (app : App) (img : Image) (accepted : IsAccepted app) (is_image : IsIma
             (access_is_guarded app img is_image.at.idle cell_is part.agrees.coupling part.agrees.invariant v
             (subst (λ s. StateWell app s v) part.agrees.state well)
             (reached_fits app img accepted is_image front fitting (front_declared app events n declared)));
+        owned = λ n. access_owned (take n events) (front_fits app img events n fit) (front_declared app events n declared);
       }
 
 pub images_are_good : ImagesAreGood

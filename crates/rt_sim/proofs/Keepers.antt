@@ -7,12 +7,11 @@ use Rattle.std.specs.List.{AllByRecursion}
 use Rattle.std.proofs.lemmas.Bool.{eqb-true}
 use Rattle.std.proofs.lemmas.Option.{same_Some, none-some}
 use Rattle.rt_lemmas.proofs.Bools.{and_parts, or_cases, true_and_false}
-use Rattle.rt_lemmas.proofs.Membership.{all_at, all_append, any_one}
+use Rattle.rt_lemmas.proofs.Membership.{all_at, any_one}
 use Rattle.rt_ids.specs.Choice.{IsIn}
 use Rattle.rt_ids.specs.Location.{Location, Guarded, Own}
 use Rattle.rt_ids.specs.Storage.{AtPriority}
 use Rattle.rt_ids.specs.declared.ids.Section.TheVariants as section
-use Rattle.rt_app.specs.declared.body.Listed.{Listed}
 use Rattle.rt_app.specs.Tree.{App}
 use Rattle.rt_app.specs.Accepted.{IsAccepted, IsBodyPlaced}
 use Rattle.rt_app.specs.Acceptance.{IsSound}

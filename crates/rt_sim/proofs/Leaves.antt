@@ -32,7 +32,7 @@ use Rattle.rt_trace.specs.declared.item.What.TheVariants as what
 use Rattle.rt_laws.specs.State.{reached_values}
 use Rattle.rt_laws.specs.Preemption.{candidate}
 use Rattle.rt_laws.specs.Giving.{left_value}
-use Rattle.rt_sim.specs.Inside.Coupling.{Part, Coupling, configuration_of, sections_of}
+use Rattle.rt_sim.specs.Inside.Coupling.{Part, Coupling, configuration_of, sections_of, whereabouts_of}
 use Rattle.rt_sim.specs.Inside.States.{core_of, state_of}
 use Rattle.rt_sim.specs.Inside.Ownership.{ChangesOwn, RespectsOwnership}
 use Rattle.rt_sim.specs.Inside.Chains.{base_inside, mask_inside, base_under, mask_under, base_by, mask_by, SavesBy}
@@ -303,6 +303,7 @@ module _ (app : App) (img : Image) (thread : ℕ) where
           Some (what.Leave x (note.left_value img (core_of app.bits m) x)),
         ))
         → StepsBoth app img thread (core_of app.bits m) (state_of (with_held m x kind outer))
+        (whereabouts_of (with_held m x kind outer))
     leaves_at gives = record {
       core = with_processor (core_of app.bits m) (processor_after_closing (core_of app.bits m).processor kind);
       shown = Some (what.Leave x (note.left_value img (core_of app.bits m) x));
@@ -317,5 +318,6 @@ module _ (app : App) (img : Image) (thread : ℕ) where
         core = core_outside kind;
         state = acts_as app img thread (with_held m x kind outer) invariant works (Leaves x) values follows is;
         invariant = invariant_outside;
+        places = refl;
       };
     }

@@ -30,6 +30,8 @@ pub mod Ownerships
 pub mod Bodies
 pub mod Access
 pub mod Reached
+pub mod OwnedAccess
+pub mod Unshared
 pub mod Unspent
 pub mod Good
 pub mod Responding

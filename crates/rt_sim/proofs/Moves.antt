@@ -1,7 +1,7 @@
 -- A note on a plain instruction that moves a place of a message is a step of Baker's machine: a place is taken, a
 -- message made ready or started, a place given back; a message is armed, fires, is taken back or put to another
 -- instant.
-use Rattle.std.proofs.Common.{◌≡◌, ℕ, ◌+◌, ◌++◌, Bool, true, false, List, [], ◌∷◌, Some, None, refl}
+use Rattle.std.proofs.Common.{◌≡◌, ℕ, ◌+◌, ◌++◌, Bool, true, false, List, [], ◌∷◌, map, Some, None, refl}
 use Rattle.std.proofs.Common.{ap, subst, ◌∙◌, if◌then◌else◌, arith}
 use Rattle.rt_lemmas.proofs.Bools.{true_and_false}
 use Rattle.rt_ids.specs.Location.{Location, Guarded, is_same_location}
@@ -25,7 +25,7 @@ use Rattle.rt_core.specs.Stepping.{step}
 use Rattle.rt_trace.specs.declared.item.What.TheVariants as what
 use Rattle.rt_laws.specs.Preemption.{candidate}
 use Rattle.rt_laws.specs.State.{reached_values}
-use Rattle.rt_sim.specs.Inside.Coupling.{Coupling, configuration_of}
+use Rattle.rt_sim.specs.Inside.Coupling.{Coupling, configuration_of, whereabouts_of}
 use Rattle.rt_sim.specs.Inside.States.{core_of, state_of}
 use Rattle.rt_sim.specs.Inside.Counts.{hands, IsOnce}
 use Rattle.rt_sim.specs.Inside.PartInvariant.{who, Owns}
@@ -59,7 +59,7 @@ module _ (app : App) (img : Image) (thread : ℕ) (m : Coupling) (invariant : Co
     Later t = Stands (storage app) img.code m.running.rows thread (who m.running) n t
 
     abbrev Both : Type 0
-    Both = StepsBoth app img thread (core_of app.bits m) (state_of m)
+    Both = StepsBoth app img thread (core_of app.bits m) (state_of m) (whereabouts_of m)
 
     once_behind : (x : Section) (places entries : List Entry)
         → ((e : Entry) → count e places + count e entries ≡ count e m.running.places + count e (m.queues (Guarded x)))
@@ -99,6 +99,16 @@ module _ (app : App) (img : Image) (thread : ℕ) (m : Coupling) (invariant : Co
                 (once_behind x places noted.others
                 (λ e. took e noted.entry m.running.places noted.others (m.queues (Guarded x)) noted.first))
                 (λ held. refl) tt;
+            places = record {
+              entry = noted.entry;
+              behind = noted.others;
+              mine = m.running.places;
+              others = map (λ p. p.places) m.below;
+              of_task = noted.of_task;
+              queue = noted.first;
+              hands = refl;
+              after = refl;
+            };
           };
         }
 
@@ -135,6 +145,17 @@ module _ (app : App) (img : Image) (thread : ℕ) (m : Coupling) (invariant : Co
                 (once_behind x noted.others entries
                 (λ e. put_behind e noted.entry m.running.places noted.others (m.queues (Guarded x)) noted.in_hands))
                 (λ held. refl) tt;
+            places = (
+              noted.level,
+              record {
+                entry = noted.entry;
+                mine = noted.others;
+                others = map (λ p. p.places) m.below;
+                of_task = noted.of_task.0;
+                hands = ap (λ es. es ∷ map (λ p. p.places) m.below) noted.in_hands;
+                after = refl;
+              },
+            );
           };
         }
 
@@ -172,6 +193,19 @@ module _ (app : App) (img : Image) (thread : ℕ) (m : Coupling) (invariant : Co
                 (once_behind x places noted.others
                 (λ e. took e noted.entry m.running.places noted.others (m.queues (Guarded x)) noted.first))
                 (λ held. refl) tt;
+            places = (
+              noted.level,
+              record {
+                entry = noted.entry;
+                behind = noted.others;
+                mine = m.running.places;
+                others = map (λ p. p.places) m.below;
+                of_task = noted.of_task.0;
+                queue = noted.first;
+                hands = refl;
+                after = refl;
+              },
+            );
           };
         }
 
@@ -206,6 +240,14 @@ module _ (app : App) (img : Image) (thread : ℕ) (m : Coupling) (invariant : Co
                 (once_behind x noted.others entries
                 (λ e. put_before e noted.entry m.running.places noted.others (m.queues (Guarded x)) noted.in_hands))
                 (λ held. refl) tt;
+            places = record {
+              entry = noted.entry;
+              mine = noted.others;
+              others = map (λ p. p.places) m.below;
+              of_task = noted.of_task;
+              hands = ap (λ es. es ∷ map (λ p. p.places) m.below) noted.in_hands;
+              after = refl;
+            };
           };
         }
 
@@ -243,6 +285,14 @@ module _ (app : App) (img : Image) (thread : ℕ) (m : Coupling) (invariant : Co
                 (once_behind x noted.others entries
                 (λ e. put_behind e noted.entry m.running.places noted.others (m.queues (Guarded x)) noted.in_hands))
                 (λ held. refl) tt;
+            places = record {
+              entry = noted.entry;
+              mine = noted.others;
+              others = map (λ p. p.places) m.below;
+              of_task = noted.of_task.0;
+              hands = ap (λ es. es ∷ map (λ p. p.places) m.below) noted.in_hands;
+              after = refl;
+            };
           };
         }
 
@@ -282,6 +332,19 @@ module _ (app : App) (img : Image) (thread : ℕ) (m : Coupling) (invariant : Co
                 (λ e. taken_out e noted.entry m.running.places noted.before noted.behind (m.queues (Guarded x))
                 noted.stands))
                 (λ held. refl) tt;
+            places = (
+              noted.before,
+              record {
+                entry = noted.entry;
+                behind = noted.behind;
+                mine = m.running.places;
+                others = map (λ p. p.places) m.below;
+                of_task = noted.of_task.0;
+                queue = noted.stands;
+                hands = refl;
+                after = refl;
+              },
+            );
           };
         }
 
@@ -320,6 +383,19 @@ module _ (app : App) (img : Image) (thread : ℕ) (m : Coupling) (invariant : Co
                 (λ e. taken_out e noted.entry m.running.places noted.before noted.behind (m.queues (Guarded x))
                 noted.stands))
                 (λ held. refl) tt;
+            places = (
+              noted.before,
+              record {
+                entry = noted.entry;
+                behind = noted.behind;
+                mine = m.running.places;
+                others = map (λ p. p.places) m.below;
+                of_task = noted.of_task;
+                queue = noted.stands;
+                hands = refl;
+                after = refl;
+              },
+            );
           };
         }
 
@@ -357,5 +433,13 @@ module _ (app : App) (img : Image) (thread : ℕ) (m : Coupling) (invariant : Co
                 (λ e. put_last e noted.entry m.running.places noted.before noted.behind (m.queues (Guarded x))
                 noted.stands))
                 (λ held. refl) tt;
+            places = record {
+              entry = noted.entry;
+              before = noted.before;
+              behind = noted.behind;
+              of_task = noted.of_task;
+              queue = noted.stands;
+              after = refl;
+            };
           };
         }

@@ -16,7 +16,8 @@ use Rattle.rt_laws.proofs.Armings.{armings, first_armings}
 use Rattle.rt_laws.proofs.Fine.{Queued}
 use Rattle.rt_laws.proofs.Happens.{first_well}
 use Rattle.rt_sim.specs.Good.{AreDeclared, CountsFit}
-use Rattle.rt_sim.specs.Inside.Coupling.{Coupling}
+use Rattle.rt_sim.specs.Whereabouts.{Whereabouts}
+use Rattle.rt_sim.specs.Inside.Coupling.{Coupling, whereabouts_of}
 use Rattle.rt_sim.specs.Inside.States.{core_of, state_of}
 use Rattle.rt_sim.specs.Inside.CouplingInvariant.{CouplingInvariant}
 use Rattle.rt_sim.specs.Inside.Agrees.{StepsBoth}
@@ -24,7 +25,7 @@ use Rattle.rt_sim.proofs.Armed.{counts_fit}
 use Rattle.rt_sim.proofs.Bodies.{init_respects, idle_respects, task_respects, dispatcher_respects, timer_respects}
 use Rattle.rt_sim.proofs.Fitting.{FitIn}
 use Rattle.rt_sim.proofs.Running.{Reaches, reaches}
-use Rattle.rt_sim.proofs.Starting.{agrees_first}
+use Rattle.rt_sim.proofs.Starting.{agrees_first, places_first}
 use Rattle.rt_sim.proofs.Stepping.{step_both}
 
 module _ (app : App) where
@@ -37,22 +38,28 @@ module _ (app : App) where
   front_declared (Step ∷ events) (suc n) declared = front_declared events n declared
 
 module _ (app : App) (img : Image) (accepted : IsAccepted app) (is_image : IsImageOf app img) where
-  sound : IsSound app
+  abbrev pub sound : IsSound app
   sound = accepted_are_sound app accepted
 
   pub steps_both : (m : Coupling) → CouplingInvariant app img is_image.at.idle m → Queued app m.values
-      → FitIn app m → StepsBoth app img is_image.at.idle (core_of app.bits m) (state_of m)
+      → FitIn app m → StepsBoth app img is_image.at.idle (core_of app.bits m) (state_of m) (whereabouts_of m)
   steps_both = step_both app img accepted sound is_image
       (resource_numbers app is_image.at img is_image.tables sound) (idle_respects app accepted sound)
       (task_respects app accepted sound) (dispatcher_respects app accepted sound) (timer_respects app accepted sound)
 
+  -- where places are at reset
+  abbrev pub places_at_reset : Whereabouts
+  places_at_reset = places_first app img accepted sound is_image (init_respects app accepted sound)
+
   abbrev pub ReachedBy : List Event → Type 0
-  ReachedBy events = Reaches app accepted img is_image.at.idle steps_both (reset img) (first app) events
+  ReachedBy events =
+      Reaches app accepted img is_image.at.idle steps_both (reset img) (first app) places_at_reset events
 
   pub reached_by : (events : List Event) → CountsFit app img events → AreDeclared app events → ReachedBy events
   reached_by events fit declared =
       let none = first_armings app accepted in
-      reaches app accepted img is_image.at.idle steps_both events (reset img) (first app) (first_sight app)
+      reaches app accepted img is_image.at.idle steps_both events (reset img) (first app) places_at_reset
+      (first_sight app)
       (agrees_first app img accepted sound is_image (init_respects app accepted sound)) (first_well app accepted)
       (λ mono is. let few = counts_fit app img events fit mono is in omega (arith, none, few)) declared
 

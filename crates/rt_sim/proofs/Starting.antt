@@ -27,7 +27,8 @@ use Rattle.rt_code.specs.Image.{Image}
 use Rattle.rt_code.specs.Standing.{Stands}
 use Rattle.rt_core.specs.Core.{reset}
 use Rattle.rt_laws.specs.State.{Init, first, first_values, reached_values}
-use Rattle.rt_sim.specs.Inside.Coupling.{Part, Coupling, configuration_of}
+use Rattle.rt_sim.specs.Whereabouts.{Whereabouts, IsAtReset, queue_at_reset}
+use Rattle.rt_sim.specs.Inside.Coupling.{Part, Coupling, configuration_of, whereabouts_of}
 use Rattle.rt_sim.specs.Inside.Ownership.{AlwaysRespects}
 use Rattle.rt_sim.specs.Inside.CouplingInvariant.{CouplingInvariant}
 use Rattle.rt_sim.specs.Inside.Agrees.{Agrees}
@@ -160,5 +161,25 @@ module _ (app : App) (img : Image) (accepted : IsAccepted app) (sound : IsSound 
     alarmed = tt;
   }
 
-  pub agrees_first : Agrees app img is_image.at.idle (reset img) (first app)
-  agrees_first = record { coupling = first_coupling; core = refl; state = refl; invariant = invariant_first }
+  -- so are places at reset
+  queues_first : (h : Location) → first_queues app h ≡ queue_at_reset app h
+  queues_first (Guarded (section.Res r)) = refl
+  queues_first (Guarded (section.Free n)) = refl
+  queues_first (Guarded (section.Ready p)) = refl
+  queues_first (Guarded section.Timer) = refl
+  queues_first (Own n) = refl
+
+  abbrev pub places_first : Whereabouts
+  places_first = whereabouts_of first_coupling
+
+  pub at_reset : IsAtReset app (whereabouts_of first_coupling)
+  at_reset = record { in_hands = refl; in_queues = queues_first }
+
+  pub agrees_first : Agrees app img is_image.at.idle (reset img) (first app) (λ u. u ≡ whereabouts_of first_coupling)
+  agrees_first = record {
+    coupling = first_coupling;
+    core = refl;
+    state = refl;
+    invariant = invariant_first;
+    places = refl;
+  }

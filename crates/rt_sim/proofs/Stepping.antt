@@ -37,7 +37,7 @@ use Rattle.rt_laws.specs.Preemption.{candidate, system_ceiling}
 use Rattle.rt_laws.specs.Allowed.{HasStep}
 use Rattle.rt_laws.proofs.Fine.{Queued}
 use Rattle.rt_laws.proofs.Pending.{starts_above}
-use Rattle.rt_sim.specs.Inside.Coupling.{Part, Coupling, jobs_of}
+use Rattle.rt_sim.specs.Inside.Coupling.{Part, Coupling, jobs_of, whereabouts_of}
 use Rattle.rt_sim.specs.Inside.States.{core_of, state_of}
 use Rattle.rt_sim.specs.Inside.Ownership.{AlwaysRespects}
 use Rattle.rt_sim.specs.Inside.PartInvariant.{StandsBy, WaitsAt}
@@ -126,7 +126,7 @@ module _ (app : App) (img : Image) (thread : ℕ) where
   waiting : (m : Coupling) → CouplingInvariant app img thread m → m.running.role ≡ Waiting
       → pick img (core_of app.bits m) ≡ None
       → candidate app (state_of m) ≡ None
-      → StepsBoth app img thread (core_of app.bits m) (state_of m)
+      → StepsBoth app img thread (core_of app.bits m) (state_of m) (whereabouts_of m)
   waiting m invariant role picked none =
       let waits : WaitsAt app img thread m.running =
       subst (λ r. StandsBy app img thread r m.cells m.queues m.running) role invariant.parts.0.stands in
@@ -148,6 +148,7 @@ module _ (app : App) (img : Image) (thread : ℕ) where
           state = refl;
           invariant =
               invariant_waited m invariant role waits;
+          places = refl;
         };
       }
 
@@ -173,7 +174,7 @@ module _ (app : App) (img : Image) (accepted : IsAccepted app) (sound : IsSound 
   taking : (m : Coupling) → CouplingInvariant app img at.idle m → (r : IrqRow) → pick img (core_of app.bits m) ≡ Some r
       → candidate app (state_of m) ≡ Some r.number
       → (o : Option Service) → service_at app r.number ≡ o → r.handler ≡ option_map (handler_row app at) o
-      → StepsBoth app img at.idle (core_of app.bits m) (state_of m)
+      → StepsBoth app img at.idle (core_of app.bits m) (state_of m) (whereabouts_of m)
   taking m invariant r picked next None serves served =
       absurd (let above = starts_above app (state_of m) r.number next in
       let none : priority_of app r.number ≡ 0 =
@@ -211,20 +212,21 @@ module _ (app : App) (img : Image) (accepted : IsAccepted app) (sound : IsSound 
 
   -- every core step
   pub step_both : (m : Coupling) → CouplingInvariant app img at.idle m → Queued app m.values → FitIn app m
-      → StepsBoth app img at.idle (core_of app.bits m) (state_of m)
+      → StepsBoth app img at.idle (core_of app.bits m) (state_of m) (whereabouts_of m)
   step_both m invariant queued fit =
       let both = picks app at few many sound (core_of app.bits m) (state_of m) refl
       (execution_is app img at.idle few many m invariant) img is_image.tables.irqs in
       by (pick img (core_of app.bits m)) refl both.0 both.1
     where
       on_with : IsWorking m.running.role → pick img (core_of app.bits m) ≡ None → candidate app (state_of m) ≡ None
-          → StepsBoth app img at.idle (core_of app.bits m) (state_of m)
+          → StepsBoth app img at.idle (core_of app.bits m) (state_of m) (whereabouts_of m)
       on_with works picked none =
           working app img at.idle many is_image.tables.fpu is_image.tables.stack named is_image.code.idle
           (kept_is_held app accepted sound) respects_idle m invariant works queued fit picked none
 
       goes_on : (role : Role) → m.running.role ≡ role → pick img (core_of app.bits m) ≡ None
           → candidate app (state_of m) ≡ None → StepsBoth app img at.idle (core_of app.bits m) (state_of m)
+          (whereabouts_of m)
       goes_on Waiting is picked none = waiting app img at.idle m invariant is picked none
       goes_on Init is picked none = on_with (subst IsWorking (sym is) tt) picked none
       goes_on Idle is picked none = on_with (subst IsWorking (sym is) tt) picked none
@@ -234,6 +236,6 @@ module _ (app : App) (img : Image) (accepted : IsAccepted app) (sound : IsSound 
           → option_map (λ r. r.number) o ≡ candidate app (state_of m)
           → IfServed app at few many sound (core_of app.bits m) (state_of m) refl
           (execution_is app img at.idle few many m invariant) o
-          → StepsBoth app img at.idle (core_of app.bits m) (state_of m)
+          → StepsBoth app img at.idle (core_of app.bits m) (state_of m) (whereabouts_of m)
       by None picked same served = goes_on m.running.role refl picked (sym same)
       by (Some r) picked same served = taking m invariant r picked (sym same) (service_at app r.number) refl served

@@ -36,7 +36,7 @@ use Rattle.rt_laws.specs.State.{Serving, reached_values}
 use Rattle.rt_laws.specs.Services.{service_at, handler_cost}
 use Rattle.rt_laws.specs.Allowed.{state_after_start}
 use Rattle.rt_laws.specs.Preemption.{candidate, system_ceiling}
-use Rattle.rt_sim.specs.Inside.Coupling.{Part, Coupling, configuration_of, jobs_of}
+use Rattle.rt_sim.specs.Inside.Coupling.{Part, Coupling, configuration_of, jobs_of, whereabouts_of}
 use Rattle.rt_sim.specs.Inside.States.{contexts_of, core_of, state_of}
 use Rattle.rt_sim.specs.Inside.Chains.{base_of, mask_of}
 use Rattle.rt_sim.specs.Inside.Ownership.{AlwaysRespects}
@@ -321,7 +321,7 @@ module _ (app : App) (img : Image) (thread : ℕ) (at : Entries) (few : 3 ≤ ap
           core_after_entry (core_of app.bits m) irq (handler_row app at v),
           Some (what.Take irq (depth img (core_after_entry (core_of app.bits m) irq (handler_row app at v)))),
         )
-        → StepsBoth app img thread (core_of app.bits m) (state_of m)
+        → StepsBoth app img thread (core_of app.bits m) (state_of m) (whereabouts_of m)
     takes next is = record {
       core = core_after_entry (core_of app.bits m) irq (handler_row app at v);
       shown = Some (what.Take irq (depth img (core_after_entry (core_of app.bits m) irq (handler_row app at v))));
@@ -333,5 +333,6 @@ module _ (app : App) (img : Image) (thread : ℕ) (at : Entries) (few : 3 ≤ ap
         state = ap (λ o. state_after_start app (record (state_of m) { pending = slice_set m.pending irq false }) irq o)
             serves;
         invariant = invariant_taken;
+        places = refl;
       };
     }

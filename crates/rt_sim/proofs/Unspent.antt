@@ -27,6 +27,7 @@ use Rattle.rt_laws.proofs.ByItems.{after_append}
 use Rattle.rt_sim.specs.Good.{AreDeclared, CountsFit}
 use Rattle.rt_sim.specs.Inside.Coupling.{Part, job_of, configuration_of}
 use Rattle.rt_sim.specs.Inside.PartInvariant.{who, StandsBy, PartInvariant}
+use Rattle.rt_sim.specs.Whereabouts.{Whereabouts}
 use Rattle.rt_sim.specs.Inside.Agrees.{Agrees}
 use Rattle.rt_laws.specs.Unspent.{AreUnspent, NoneIsSpent}
 use Rattle.rt_sim.specs.Unspent.{ImagesLeaveSteps}
@@ -121,8 +122,9 @@ module _ (app : App) (img : Image) (thread : ℕ) where
   parts_unspent cells queues values (p ∷ ps) invariant =
       (has_step p.role p cells queues invariant.0.stands, parts_unspent cells queues values ps invariant.1)
 
-  pub agreed_unspent : (c : Core) (s : State) → Agrees app img thread c s → AreUnspent s.jobs
-  agreed_unspent c s agrees =
+  pub agreed_unspent : (Are : Whereabouts → Type 0) (c : Core) (s : State) → Agrees app img thread c s Are
+      → AreUnspent s.jobs
+  agreed_unspent Are c s agrees =
       subst (λ (t : State). AreUnspent t.jobs) (sym agrees.state)
       (parts_unspent agrees.coupling.cells agrees.coupling.queues agrees.coupling.values
       (agrees.coupling.running ∷ agrees.coupling.below) agrees.invariant.parts)
@@ -136,7 +138,7 @@ module _ (app : App) (img : Image) (accepted : IsAccepted app) (is_image : IsIma
       there k =
           let whole = reached_by app img accepted is_image (take k events) (front_fits app img events k fit)
           (front_declared app events k declared) in
-          agreed_unspent app img is_image.at.idle _ _ whole.agrees
+          agreed_unspent app img is_image.at.idle _ _ _ whole.agrees
 
       by : Front img (reset img) events (take n (labels img (reset img) events))
           → AreUnspent (after_all app (first app) (take n (labels img (reset img) events))).jobs

@@ -46,7 +46,7 @@ use Rattle.rt_core.proofs.Standing.{standing_leads}
 use Rattle.rt_trace.specs.declared.item.What.TheVariants as what
 use Rattle.rt_laws.specs.Preemption.{candidate}
 use Rattle.rt_laws.proofs.Fine.{IsTimedOne, Queued}
-use Rattle.rt_sim.specs.Inside.Coupling.{Part, Coupling, runner_of, configuration_of}
+use Rattle.rt_sim.specs.Inside.Coupling.{Part, Coupling, runner_of, configuration_of, whereabouts_of}
 use Rattle.rt_sim.specs.Inside.States.{core_of, state_of}
 use Rattle.rt_sim.specs.Inside.Ownership.{IsEntered, AlwaysRespects}
 use Rattle.rt_sim.specs.Inside.PartInvariant.{who}
@@ -98,7 +98,7 @@ module _ (app : App) (img : Image) (thread : ℕ) (many : app.bits ≤ 7) (fpu :
       (may : MayAccess (storage app) (who m.running) (configuration_of m.cells m.queues m.running)
       (access img (core_of app.bits m))) where
     abbrev Both : Type 0
-    Both = StepsBoth app img thread (core_of app.bits m) (state_of m)
+    Both = StepsBoth app img thread (core_of app.bits m) (state_of m) (whereabouts_of m)
 
     abbrev Later : Configuration → Type 0
     Later t = Stands (storage app) img.code m.running.rows thread (who m.running) n t
@@ -145,6 +145,7 @@ module _ (app : App) (img : Image) (thread : ℕ) (many : app.bits ≤ 7) (fpu :
         → step img (core_of app.bits (record m { below = ps })) ≡
         (core_serving (core_of app.bits (record m { below = ps })) thread, Some (what.End body.Init))
         → StepsBoth app img thread (core_of app.bits (record m { below = ps })) (state_of (record m { below = ps }))
+        (whereabouts_of (record m { below = ps }))
     of_init starts ends [] coupled quiet gives =
         ends_init app img thread idle held_there respects m coupled works quiet left ends gives
     of_init starts ends (q ∷ ps) coupled quiet gives =
@@ -158,6 +159,7 @@ module _ (app : App) (img : Image) (thread : ℕ) (many : app.bits ≤ 7) (fpu :
         → step img (core_of app.bits (record m { below = ps })) ≡
         (at_address (core_of app.bits (record m { below = ps })) thread, Some (what.End body.Idle))
         → StepsBoth app img thread (core_of app.bits (record m { below = ps })) (state_of (record m { below = ps }))
+        (whereabouts_of (record m { below = ps }))
     of_idle low ends [] coupled quiet gives =
         ends_idle app img thread idle held_there respects m coupled works quiet left low ends gives
     of_idle low ends (q ∷ ps) coupled quiet gives = absurd (
@@ -174,6 +176,7 @@ module _ (app : App) (img : Image) (thread : ℕ) (many : app.bits ≤ 7) (fpu :
         → step img (core_of app.bits (record m { below = ps })) ≡
         (in_context (core_of app.bits (record m { below = ps })) x others, Some (what.Ret x.irq)))
         → StepsBoth app img thread (core_of app.bits (record m { below = ps })) (state_of (record m { below = ps }))
+        (whereabouts_of (record m { below = ps }))
     of_return ends [] coupled quiet gives =
         absurd (no_handler app img thread m.running coupled.stack (respects_next app img thread
         (record m { below = [] }) coupled works Returns ends.values ends.follows ends.is).0)
@@ -205,7 +208,8 @@ module _ (app : App) (img : Image) (thread : ℕ) (many : app.bits ≤ 7) (fpu :
         subst (λ held. CouplingInvariant app img thread (record m { running = record m.running { held = held } })
         → candidate app (state_of (record m { running = record m.running { held = held } })) ≡ None
         → StepsBoth app img thread (core_of app.bits m)
-        (state_of (record m { running = record m.running { held = held } }))) (sym comes.innermost)
+        (state_of (record m { running = record m.running { held = held } }))
+        (whereabouts_of (record m { running = record m.running { held = held } }))) (sym comes.innermost)
         (λ coupled quiet. leaves_at app img thread named m x comes.kind comes.outer coupled works n quiet left
         comes.values
         comes.follows comes.is comes.represented comes.on
@@ -249,13 +253,14 @@ module _ (app : App) (img : Image) (thread : ℕ) (many : app.bits ≤ 7) (fpu :
   -- a job that runs code
   pub working : (m : Coupling) → CouplingInvariant app img thread m → IsWorking m.running.role → Queued app m.values
       → FitIn app m → pick img (core_of app.bits m) ≡ None → candidate app (state_of m) ≡ None
-      → StepsBoth app img thread (core_of app.bits m) (state_of m)
+      → StepsBoth app img thread (core_of app.bits m) (state_of m) (whereabouts_of m)
   working m invariant works queued few picked none =
       go m.running.steps (stands_of app img thread m.running.role works m.cells m.queues m.running
       invariant.parts.0.stands)
     where
       go : (n : ℕ) → Stands (storage app) img.code m.running.rows thread (who m.running) n
           (configuration_of m.cells m.queues m.running) → StepsBoth app img thread (core_of app.bits m) (state_of m)
+          (whereabouts_of m)
       go zero stands = absurd (no_steps m stands)
       go (suc n) stands =
           let leads = standing_leads (storage app) (with_rows img m.running.rows) thread (who m.running)

@@ -1,7 +1,8 @@
 -- A good image of an application: whatever happens, what the core shows is a run of Baker's machine (Stack-Based
 -- Scheduling of Realtime Processes, 1991) with its three properties, messages are kept, the stack stays within the
--- printed bound, nothing traps, and a shared resource is touched inside its section, by `init`, or where RTIC allows it
--- without one (`Guarded`). No frame, mask or address is named here.
+-- printed bound, nothing traps, a shared resource is touched inside its section, by `init`, or where RTIC allows it
+-- without one (`Guarded`), and no two jobs race for any cell of memory (`Owned`). No frame, mask or address is named
+-- here.
 use Rattle.std.specs.Prelude.{◌≡◌, ℕ, ◌+◌, ◌^◌, ◌<◌, ◌≤◌, Bool, true, false, List, [], ◌∷◌, length, take, count_by}
 use Rattle.std.specs.Prelude.{Some}
 use Rattle.std.specs.List.{AllByRecursion}
@@ -25,6 +26,7 @@ use Rattle.rt_laws.specs.Properties.{KeepsLaws}
 use Rattle.rt_laws.specs.Messages.{KeepsMessages}
 use Rattle.rt_laws.specs.Unspent.{NoneIsSpent}
 use Rattle.rt_sim.specs.Guarded.{AccessesAreGuarded}
+use Rattle.rt_sim.specs.Owned.{AccessesAreOwned}
 
 -- each interrupt that arrives is declared
 abbrev pub AreDeclared : App → List Event → Type 0
@@ -76,6 +78,8 @@ pub record RunsWell (app : App) (img : Image) (events : List Event) : Type 0 whe
   pub no_trap : AllByRecursion (λ item. IsNoTrap item.what) (trace img events)
   -- each load or store on a shared resource's cell is made where it may be
   pub guarded : (n : ℕ) → AccessesAreGuarded app img (take n events)
+  -- each load or store of any cell is made by a job that owns the cell then: data-race freedom for all memory
+  pub owned : (n : ℕ) → AccessesAreOwned app img (take n events)
 
 -- The image is good: its stack region is as large as the stack bound, and all this holds of every list of events: core
 -- steps, ticks, and arrivals of declared interrupts, in any order, as many as the counts of the monotonic allow, and

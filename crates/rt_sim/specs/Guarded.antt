@@ -1,7 +1,7 @@
 -- Guarded accesses: a shared resource is touched by a job that is inside it, by `init`, or without a section where RTIC
--- allows it (the RTIC 1 book, resources): at a priority that lists the resource, where it is `lock_free`, or as `&name`,
--- which is read alone. Who is inside what is read from the labels before the step; what the step touches is the core's.
--- Which cell is that of a resource the image says by the cell's name.
+-- allows it (the RTIC 1 book, resources): at a priority that lists it, where it is `lock_free`, or as `&name`, which is
+-- read alone. Who is inside what is read from the labels before the step; what the step touches is the core's. Which
+-- cell is that of a resource the image says by the cell's name.
 use Rattle.std.specs.Prelude.{◌≡◌, ℕ, ◌^◌, ◌⊎◌, true, List, [], ◌∷◌, Option, Some, None}
 use Rattle.rt_ids.specs.Event.{Event}
 use Rattle.rt_ids.specs.declared.ids.Section.TheVariants as section

@@ -11,6 +11,7 @@ use Rattle.rt_code.specs.Owning.{OpenSection, Configuration}
 use Rattle.rt_code.specs.declared.image.BodyRow.{BodyRow}
 use Rattle.rt_core.specs.declared.alarm.Alarm.{Alarm}
 use Rattle.rt_laws.specs.State.{Role, Init, Serving, Job}
+use Rattle.rt_sim.specs.Whereabouts.{Whereabouts}
 
 -- a started job, and where its code is: in the running frame, or in the one that was interrupted
 pub record Part : Type 0 where
@@ -92,3 +93,10 @@ configuration_of cells queues p = record {
 -- a running job on those that it interrupted
 abbrev pub jobs_of : Part → List Part → List Job
 jobs_of p ps = job_of p ∷ map job_of ps
+
+-- where the places of messages are, in a coupling
+abbrev pub whereabouts_of : Coupling → Whereabouts
+whereabouts_of m = record {
+  in_hands = m.running.places ∷ map (λ p. p.places) m.below;
+  in_queues = m.queues;
+}
