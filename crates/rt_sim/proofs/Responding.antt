@@ -21,9 +21,9 @@ use Rattle.rt_laws.specs.Services.{is_declared}
 use Rattle.rt_laws.proofs.Pending.{found_passes, some_number, made_number}
 use Rattle.rt_rta.specs.Limits.{number_of, is_bound, every_of, AreLimits}
 use Rattle.rt_rta.specs.declared.limits.Limit.{Limit}
-use Rattle.rt_rta.proofs.Responding.{runs_respond}
+use Rattle.rt_rta.proofs.Responding.{runs_respond, runs_respond_once_init_ends}
 use Rattle.rt_sim.specs.Good.{AreDeclared}
-use Rattle.rt_sim.specs.Responding.{ImagesRespond}
+use Rattle.rt_sim.specs.Responding.{ImagesRespond, ImagesRespondOnceInitEnds}
 use Rattle.rt_sim.proofs.Good.{images_are_good}
 use Rattle.rt_sim.proofs.Unspent.{images_leave_steps}
 
@@ -79,11 +79,28 @@ module _ (app : App) where
       events_declared img events (step img c).0
       (declared_behind (Stepped (step img c).1 ∷ []) (labels img (step img c).0 events) declared)
 
+-- events whose requests have limits
+module _ (app : App) (limits : List Limit) (are : AreLimits app limits) (img : Image) (events : List Event) where
+  abbrev shown : List Label
+  shown = labels img (reset img) events
+
+  limited_events : ((front behind : List Label) (irq : ℕ) → shown ≡ front ++ Arrived irq ∷ behind
+      → IsSome (every_of limits irq))
+      → AreDeclared app events
+  limited_events limited =
+      events_declared app img events (reset img)
+      (λ front behind irq is. limited_declared app limits are irq (limited front behind irq is))
+
+pub images_respond_once_init_ends : ImagesRespondOnceInitEnds
+images_respond_once_init_ends app img accepted is_image form limits are events fit kept =
+    let declared = limited_events app limits are img events kept.limited in
+    runs_respond_once_init_ends app accepted form limits are (labels img (reset img) events)
+    ((images_are_good app img accepted is_image).each events fit declared).runs kept
+    (images_leave_steps app img accepted is_image events fit declared)
+
 pub images_respond : ImagesRespond
 images_respond app img accepted is_image form limits are events fit kept =
-    let declared : AreDeclared app events =
-    events_declared app img events (reset img)
-    (λ front behind irq is. limited_declared app limits are irq (kept.limited front behind irq is)) in
+    let declared = limited_events app limits are img events kept.limited in
     runs_respond app accepted form limits are (labels img (reset img) events)
     ((images_are_good app img accepted is_image).each events fit declared).runs kept
     (images_leave_steps app img accepted is_image events fit declared)

@@ -1,5 +1,5 @@
 ghost use Rattle.rt_sim.specs.Good.{CountsOfFewFit, ImagesAreGood};
-ghost use Rattle.rt_sim.specs.Responding.{ImagesRespond};
+ghost use Rattle.rt_sim.specs.Responding.{ImagesRespond, ImagesRespondOnceInitEnds};
 ghost use Rattle.rt_sim.specs.Unspent.{ImagesLeaveSteps};
 
 /// Every image of an accepted application is good: for each list of events in which only declared interrupts arrive,
@@ -26,4 +26,11 @@ pub fn images_leave_steps()
 /// response time of its priority, which `times` prints.
 pub fn images_respond()
     ensures { ImagesRespond }
+{}
+
+/// Where requests may also come during `init`, those behind its end keep limits, and so do the end and what was
+/// requested before it, each request is served within the response time of its priority, and what was requested during
+/// `init` within it from the end on.
+pub fn images_respond_once_init_ends()
+    ensures { ImagesRespondOnceInitEnds }
 {}

@@ -6,6 +6,9 @@
 pub mod laws;
 pub mod machine;
 
-pub use laws::{counts_of_few_fit, images_are_good, images_leave_steps, images_respond};
+pub use laws::{
+    counts_of_few_fit, images_are_good, images_leave_steps, images_respond,
+    images_respond_once_init_ends,
+};
 pub use machine::prepare;
 pub use rt_run::run_script;
