@@ -12,7 +12,7 @@ use Rattle.rt_rta.specs.Text as limits
 use Rattle.rt_rta.specs.declared.limits.Limit.{Limit}
 use Rattle.rt_rta.specs.declared.refusal.LimitsRefused.{LimitsRefused}
 use Rattle.rt_rta.specs.declared.response.ResponseTime.{ResponseTime}
-use Rattle.rt_sim.proofs.Responding.{images_respond}
+use Rattle.rt_sim.proofs.Responding.{images_respond, images_respond_once_init_ends}
 use Rattle.rt_top.specs.Outputs.{no_line, TellsDeepest, TellsTimes}
 use Rattle.rt_top.specs.Outputs as outputs
 use Rattle.rt_top.specs.SecondRefusal.{SaysLimits}
@@ -62,4 +62,7 @@ module _ (app : App) (more : List ℕ) where
         (λ ended bytes p. subst (λ s. AnswersTimes app more s bytes) (sym p.0)
         (answered.told ls status.Done bytes read
         (subst (λ b. TellsTimes app ls status.Done b) (sym p.1.2) (outputs.responds p.1.0 form p.1.1
-        (λ image of_app. images_respond app image accepted of_app form ls fine))))) r tells
+        (λ image of_app. (
+          images_respond app image accepted of_app form ls fine,
+          images_respond_once_init_ends app image accepted of_app form ls fine,
+        )))))) r tells

@@ -33,7 +33,7 @@ use Rattle.rt_rta.specs.declared.response.ResponseTime.{ResponseTime}
 use Rattle.rt_script.specs.Text.{IsScriptText}
 use Rattle.rt_script.specs.declared.line.Line.{Line}
 use Rattle.rt_sim.specs.Good.{Good}
-use Rattle.rt_sim.specs.Responding.{RespondsInTime}
+use Rattle.rt_sim.specs.Responding.{RespondsInTime, RespondsInTimeOnceInitEnds}
 use Rattle.rt_soak.specs.Soak.{IsSoak}
 use Rattle.rt_run.specs.Written.{text_of}
 use Rattle.rt_trace.specs.Reading.{IsTraceText}
@@ -135,10 +135,11 @@ abbrev pub IsDeepened : List ℕ → Status → List ℕ → Type 0
 IsDeepened text ended bytes = (app : App) × IsApplication text app × TellsDeepest app ended bytes
 
 -- The status and the bytes of `times` for an application and limits, by its form. Every image of the application
--- responds within the times that are printed.
+-- responds within the times that are printed, also where interrupts are requested during `init`.
 pub data TellsTimes (app : App) (limits : List Limit) : Status → List ℕ → Type 0 where
   responds : (rows : List ResponseTime) → has_response_times app ≡ true → AreResponseTimes app limits rows
-      → ((image : Image) → IsImageOf app image → RespondsInTime app limits image)
+      → ((image : Image) → IsImageOf app image
+      → RespondsInTime app limits image × RespondsInTimeOnceInitEnds app limits image)
       → TellsTimes app limits status.Done (times_report rows)
   no_times : has_response_times app ≡ false → TellsTimes app limits status.No no_line
 

@@ -64,7 +64,8 @@ pub fn rtic<R: Threads + Sync, A: Source, B: Source, C: Source, K: Sink + Send, 
     // rules that the image breaks. A text that is no listing is refused at its first wrong line with `Text`.
     //
     // `times` takes limits on requests. At `Done` each line has the response time of a priority, and in every run of
-    // every image of the application whose requests keep the limits each of them is served within it.
+    // every image of the application whose requests keep the limits each of them is served within it. Where requests
+    // come during `init`, limits are kept from its end, and those requests are served within it from there.
     //
     // `pair` takes two applications and a script over the names of the first. At `Done` it has written, for each of two
     // cores, the listing of an image of its application, and that image's trace beside the other core, with an account
