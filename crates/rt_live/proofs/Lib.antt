@@ -22,3 +22,4 @@ pub mod Outputs
 pub mod Closed
 pub mod Concluded
 pub mod Together
+pub mod Found

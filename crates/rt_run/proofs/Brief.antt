@@ -26,7 +26,7 @@ use Rattle.rt_run.proofs.Advancing.{labelled_steps}
 use Rattle.rt_run.proofs.Scripted.{events_length}
 
 -- no label gives more than one item
-items_few : (n : ℕ) (ls : List Label) → length (items_of n ls) ≤ length ls
+pub items_few : (n : ℕ) (ls : List Label) → length (items_of n ls) ≤ length ls
 items_few n [] = omega arith
 items_few n (Arrived irq ∷ ls) = omega (arith, items_few n ls)
 items_few n (Ticked ∷ ls) = omega (arith, items_few n ls)
@@ -34,7 +34,7 @@ items_few n (Rang ∷ ls) = omega (arith, items_few n ls)
 items_few n (Stepped None ∷ ls) = omega (arith, items_few (suc n) ls)
 items_few n (Stepped (Some w) ∷ ls) = omega (arith, items_few (suc n) ls)
 
-rings_once : (c : Core) (alarm : Option Alarm) → length (ring c alarm).1 ≤ 1
+pub rings_once : (c : Core) (alarm : Option Alarm) → length (ring c alarm).1 ≤ 1
 rings_once c None = omega arith
 rings_once c (Some alarm) = one (nat_le alarm.instant c.time)
   where
@@ -67,7 +67,7 @@ later n m items more = all_weaker (λ (item : Item). item.step ≤ n) (λ (item 
     (λ item at. let here : item.step ≤ m = omega (arith, at, more) in here) items
 
 -- no item comes later than all steps
-steps_within : (n : ℕ) (ls : List Label) → AllByRecursion (λ item. item.step ≤ n + steps_of ls) (items_of n ls)
+pub steps_within : (n : ℕ) (ls : List Label) → AllByRecursion (λ item. item.step ≤ n + steps_of ls) (items_of n ls)
 steps_within n [] = tt
 steps_within n (Arrived irq ∷ ls) = (omega arith, steps_within n ls)
 steps_within n (Ticked ∷ ls) = (omega arith, steps_within n ls)
@@ -79,7 +79,7 @@ steps_within n (Stepped (Some w) ∷ ls) = (
   later (suc n + steps_of ls) (n + suc (steps_of ls)) (items_of (suc n) ls) (omega arith) (steps_within (suc n) ls),
 )
 
-all_two : (P Q R : Item → Type 0) → ((item : Item) → P item → Q item → R item) → (items : List Item)
+pub all_two : (P Q R : Item → Type 0) → ((item : Item) → P item → Q item → R item) → (items : List Item)
     → AllByRecursion P items → AllByRecursion Q items → AllByRecursion R items
 all_two P Q R join [] ps qs = tt
 all_two P Q R join (item ∷ items) ps qs = (join item ps.0 qs.0, all_two P Q R join items ps.1 qs.1)

@@ -8,3 +8,4 @@ pub mod Happened
 pub mod Reached
 pub mod Scripted
 pub mod Brief
+pub mod Weighing

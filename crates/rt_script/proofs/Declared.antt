@@ -1,9 +1,10 @@
--- The lines of a script's text request declared interrupts.
+-- The lines of a script's text request declared interrupts, of devices that there are.
 use Rattle.std.proofs.Common.{◌≡◌, ◌==◌, ℕ, Bool, true, false, List, [], ◌∷◌, ◌++◌, cond, find, map, flat_map, bytes_eq}
 use Rattle.std.proofs.Common.{codes, Option, Some, None, Result, Ok, Err, IfOk, IfSome, IsSome, if◌then◌else◌, ◌||◌}
 use Rattle.std.proofs.Common.{nat_lt, option_map, option_to_list, refl, sym, subst}
+use Rattle.std.specs.List.{AllByRecursion}
 use Rattle.std.specs.Option.{ok_or}
-use Rattle.std.proofs.lemmas.Bool.{eq-eqb}
+use Rattle.std.proofs.lemmas.Bool.{eq-eqb, ltb-true}
 use Rattle.rt_ids.specs.Names.{Names, irq_of}
 use Rattle.rt_ids.specs.Naming.{irq_named}
 use Rattle.rt_ids.specs.Word.{is_identifier}
@@ -11,7 +12,7 @@ use Rattle.rt_ids.specs.declared.limits.TheConstants.{DEVICES}
 use Rattle.rt_lines.specs.Answers.{and_then, and_make}
 use Rattle.rt_lines.specs.Numbers.{short_number}
 use Rattle.rt_lines.specs.Parts.{spaced_words}
-use Rattle.rt_script.specs.Script.{HasName, HasNames}
+use Rattle.rt_script.specs.Script.{HasName, HasNames, HasDeviceInRange, IsScript}
 use Rattle.rt_script.specs.Text.{Says}
 use Rattle.rt_script.specs.Wording.{is_blank, is_comment, is_loose, only_count, count_or_one, irq_at, pends_of}
 use Rattle.rt_script.specs.Wording.{in_range, device_of, words_ask, line_of}
@@ -90,12 +91,20 @@ module _ (names : Names) where
       (λ n _. made IsDeclared HasDeclared (λ irq. (irq, n)) (λ irq is. is) (irq_at names i) (irq_declared i))
       (count_or_one more) (any_result (count_or_one more))
 
+  -- what is asked for has a name, and a device that there is
+  abbrev IsRight : Line → Type 0
+  IsRight line = HasName names line × HasDeviceInRange line
+
   abbrev NamesIt : Result Line Wrong → Type 0
-  NamesIt r = IfOk r (HasName names)
+  NamesIt r = IfOk r IsRight
 
   in_range_named : (device : ℕ) (pends : ℕ × ℕ) → HasDeclared pends → NamesIt (in_range device pends)
-  in_range_named device pends is =
-      either NamesIt (nat_lt device DEVICES) (Ok (Device device pends.0 pends.1)) (Err wrong.Device) is tt
+  in_range_named device pends is = by (nat_lt device DEVICES) refl
+    where
+      by : (b : Bool) → nat_lt device DEVICES ≡ b
+          → NamesIt (if b then Ok (Device device pends.0 pends.1) else Err wrong.Device)
+      by true within = (is, ltb-true device DEVICES within)
+      by false past = tt
 
   device_named : (words : List (List ℕ)) → NamesIt (device_of names words)
   device_named [] = tt
@@ -104,15 +113,15 @@ module _ (names : Names) where
       either NamesIt (bytes_eq verb (codes "pend"))
       (and_then (ok_or (short_number d) wrong.Form) (λ device. and_then (pends_of names words) (in_range device)))
       (Err wrong.Form)
-      (follows (λ _. Unit {0}) (HasName names) (λ device. and_then (pends_of names words) (in_range device))
-      (λ device _. follows HasDeclared (HasName names) (in_range device) (in_range_named device) (pends_of names words)
+      (follows (λ _. Unit {0}) IsRight (λ device. and_then (pends_of names words) (in_range device))
+      (λ device _. follows HasDeclared IsRight (in_range device) (in_range_named device) (pends_of names words)
       (pends_declared words))
       (ok_or (short_number d) wrong.Form) (any_result (ok_or (short_number d) wrong.Form)))
       tt
 
-  counted : (f : ℕ → Line) → ((n : ℕ) → HasName names (f n)) → (words : List (List ℕ))
+  counted : (f : ℕ → Line) → ((n : ℕ) → IsRight (f n)) → (words : List (List ℕ))
       → NamesIt (and_make (only_count words) f)
-  counted f is words = made (λ _. Unit {0}) (HasName names) f (λ n _. is n) (only_count words)
+  counted f is words = made (λ _. Unit {0}) IsRight f (λ n _. is n) (only_count words)
       (any_result (only_count words))
 
   -- the ways to go on behind each verb that is not the word
@@ -133,16 +142,16 @@ module _ (names : Names) where
   words_named [] = tt
   words_named (verb ∷ words) =
       either NamesIt (bytes_eq verb (codes "step")) (and_make (only_count words) Steps) (not_step verb words)
-      (counted Steps (λ n. tt) words)
+      (counted Steps (λ n. (tt, tt)) words)
       (either NamesIt (bytes_eq verb (codes "tick")) (and_make (only_count words) Ticks) (not_counted verb words)
-      (counted Ticks (λ n. tt) words)
+      (counted Ticks (λ n. (tt, tt)) words)
       (either NamesIt (bytes_eq verb (codes "pend")) (pends words) (otherwise verb words)
-      (made HasDeclared (HasName names) (λ p. Pends p.0 p.1) (λ p is. is) (pends_of names words) (pends_declared words))
+      (made HasDeclared IsRight (λ p. Pends p.0 p.1) (λ p is. (is, tt)) (pends_of names words) (pends_declared words))
       (either NamesIt (bytes_eq verb (codes "device")) (device_of names words) (Err wrong.Form) (device_named words)
       tt)))
 
   abbrev NamesIfAsked : Option Line → Type 0
-  NamesIfAsked asked = IfSome asked (HasName names)
+  NamesIfAsked asked = IfSome asked IsRight
 
   line_named : (line : List ℕ) → IfOk (line_of names line) NamesIfAsked
   line_named line =
@@ -150,7 +159,7 @@ module _ (names : Names) where
       (if is_loose line then Err wrong.Form else and_make (words_ask names (spaced_words line)) Some) tt
       (either (λ r. IfOk r NamesIfAsked) (is_loose line) (Err wrong.Form)
       (and_make (words_ask names (spaced_words line)) Some) tt
-      (made (HasName names) NamesIfAsked Some (λ asked is. is) (words_ask names (spaced_words line))
+      (made IsRight NamesIfAsked Some (λ asked is. is) (words_ask names (spaced_words line))
       (words_named (spaced_words line))))
 
   same_first : (a : Option Line) (r : Result (Option Line) Wrong) (rs : List (Result (Option Line) Wrong))
@@ -158,13 +167,13 @@ module _ (names : Names) where
       → r ∷ rs ≡ map Ok (a ∷ all) → (r ≡ Ok a) × (rs ≡ map Ok all)
   same_first a r rs all e = (cc, cc)
 
-  joined : (asked : Option Line) (script : List Line) → NamesIfAsked asked → HasNames names script
-      → HasNames names (option_to_list asked ++ script)
+  joined : (asked : Option Line) (script : List Line) → NamesIfAsked asked → AllByRecursion IsRight script
+      → AllByRecursion IsRight (option_to_list asked ++ script)
   joined (Some line) script is all = (is, all)
   joined None script is all = all
 
   all_named : (ls : List (List ℕ)) (asked : List (Option Line)) → map (line_of names) ls ≡ map Ok asked
-      → HasNames names (flat_map option_to_list asked)
+      → AllByRecursion IsRight (flat_map option_to_list asked)
   all_named [] [] each = tt
   all_named [] (a ∷ asked) each = absurd (cc)
   all_named (l ∷ ls) [] each = absurd (cc)
@@ -174,6 +183,22 @@ module _ (names : Names) where
       (line_named l))
       (all_named ls asked both.1)
 
+  all_right : (ls : List (List ℕ)) (script : List Line) → Says names ls script → AllByRecursion IsRight script
+  all_right ls script says = subst (AllByRecursion IsRight) (sym says.all) (all_named ls says.asked says.each)
+
+  of_names : (script : List Line) → AllByRecursion IsRight script → HasNames names script
+  of_names [] all = tt
+  of_names (line ∷ script) all = (all.0.0, of_names script all.1)
+
+  of_devices : (script : List Line) → AllByRecursion IsRight script → AllByRecursion HasDeviceInRange script
+  of_devices [] all = tt
+  of_devices (line ∷ script) all = (all.0.1, of_devices script all.1)
+
   -- the lines that are right request declared interrupts
   pub says_named : (ls : List (List ℕ)) (script : List Line) → Says names ls script → HasNames names script
-  says_named ls script says = subst (HasNames names) (sym says.all) (all_named ls says.asked says.each)
+  says_named ls script says = of_names script (all_right ls script says)
+
+  -- and they are a script
+  pub says_script : (ls : List (List ℕ)) (script : List Line) → Says names ls script → IsScript script
+  says_script ls script says =
+      record { devices = of_devices script (all_right ls script says); few = says.few }

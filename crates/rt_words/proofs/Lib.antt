@@ -14,3 +14,4 @@ pub mod Parting
 pub mod Closing
 pub mod Worked
 pub mod Blind
+pub mod Found

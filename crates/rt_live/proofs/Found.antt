@@ -1,0 +1,467 @@
+-- What looks find under a script: requests of its devices, each at most once.
+use Rattle.std.proofs.Common.{◌≡◌, ◌≢◌, ℕ, zero, suc, ◌+◌, ◌*◌, ◌<◌, ◌≤◌, ◌==◌, ◌⊎◌, Bool, true, false, cond, List, []}
+use Rattle.std.proofs.Common.{◌∷◌, ◌++◌, length, map, filter, flat_map, replicate, Contains, IsSome, Some, inl, inr}
+use Rattle.std.proofs.Common.{refl, ap, sym, subst, ◌∙◌, arith, length-append, if◌then◌else◌}
+use Rattle.std.proofs.Common.{drop, eq-eqb, ne_eqb}
+use Rattle.std.specs.Int.{bit_at}
+use Rattle.std.specs.List.{AllByRecursion}
+use Rattle.std.proofs.lemmas.List.{length-map, length-replicate}
+use Rattle.std.proofs.lemmas.List.Sums.{sum_by-cons}
+use Rattle.std.proofs.lemmas.Bool.{eqb-true}
+use native.Mathlib.Decide.{ℕ_discrete, dec_lt}
+use Rattle.rt_lemmas.proofs.Membership.{all_append, all_flat_map, all_weaker, contains_here, contains_there}
+use Rattle.rt_lemmas.proofs.Lists.{all_front, all_behind}
+use Rattle.rt_ids.specs.Arrivals.{arrivals, arrivals_below}
+use Rattle.rt_ids.specs.Event.{Event, Arrive, Tick, Step, steps}
+use Rattle.rt_ids.specs.Lists.{numbers_below}
+use Rattle.rt_ids.specs.Names.{Names}
+use Rattle.rt_devices.specs.Work.{interrupt_asked}
+use Rattle.rt_script.specs.Script.{HasDeviceInRange, HasName, HasNames, IsScript, pends, line_pends, count, count_of}
+use Rattle.rt_script.specs.Script.{core_events, core_line_events, events, line_events}
+use Rattle.rt_script.specs.declared.line.Line.{Line}
+use Rattle.rt_script.specs.declared.line.Line.TheVariants.{Steps, Ticks, Pends, Device}
+use Rattle.rt_run.proofs.Weighing.{Arrives, Named, weight, weight_append, steps_weigh}
+use Rattle.rt_words.specs.declared.call.Call.{Call}
+use Rattle.rt_words.specs.declared.call.Call.TheVariants.{Pend, Latch}
+use Rattle.rt_words.specs.declared.call.Entry.{Entry}
+use Rattle.rt_words.specs.Ending.{calls_in}
+use Rattle.rt_words.specs.History.{part}
+use Rattle.rt_words.proofs.Found.{as_many, found_in, asked_by, asked_in, found_few, part_found, lengths_of, asked_few}
+use Rattle.rt_words.proofs.Found.{all_parts, part_all, Asks, Finds, found_asked}
+use Rattle.rt_code.specs.Image.{Image}
+use Rattle.rt_live.specs.Account.{row_of}
+use Rattle.rt_live.specs.History.{IsHistory}
+use Rattle.rt_live.specs.Output.{IsLiveText}
+use Rattle.rt_live.specs.declared.account.AccountRow.{AccountRow}
+use Rattle.rt_live.specs.Interleaving.{Turn, Happens, Looks, turns, arrivals_from, look_arrivals, look_calls_from}
+use Rattle.rt_live.specs.Interleaving.{look_calls, interleaving}
+use Rattle.rt_live.proofs.Bits.{arrivals_more}
+use Rattle.rt_live.proofs.Requesting.{none_asked}
+
+-- the interrupts that looks found, in order
+abbrev pub found_irqs : List (List ℕ) → List ℕ
+found_irqs found = flat_map (λ words. arrivals_from 0 words) found
+
+-- the turn is no arrival, or one of such an interrupt
+abbrev pub TurnArrives : (ℕ → Type 0) → Turn → Type 0
+TurnArrives P (Happens event) = Arrives P event
+TurnArrives P Looks = Unit {0}
+
+-- how much the events of turns weigh
+abbrev pub turns_weight : List Turn → ℕ
+turns_weight [] = zero
+turns_weight (Happens event ∷ ts) = weight (event ∷ []) + turns_weight ts
+turns_weight (Looks ∷ ts) = turns_weight ts
+
+module _ (P : ℕ → Type 0) where
+  arrived_all : (irqs : List ℕ) → AllByRecursion P irqs → AllByRecursion (Arrives P) (map Arrive irqs)
+  arrived_all [] all = tt
+  arrived_all (irq ∷ irqs) all = (all.0, arrived_all irqs all.1)
+
+  -- what arrives and what the core does of itself
+  pub woven_all : (ts : List Turn) (found : List (List ℕ)) → AllByRecursion (TurnArrives P) ts
+      → AllByRecursion P (found_irqs found) → AllByRecursion (Arrives P) (interleaving ts found)
+  woven_all [] found all is = tt
+  woven_all (Happens Tick ∷ ts) found all is = (tt, woven_all ts found all.1 is)
+  woven_all (Happens (Arrive irq) ∷ ts) found all is = (all.0, woven_all ts found all.1 is)
+  woven_all (Happens Step ∷ ts) [] all is = tt
+  woven_all (Happens Step ∷ ts) (words ∷ found) all is =
+      all_append (Arrives P) (look_arrivals words) (Step ∷ interleaving ts found)
+      (arrived_all (arrivals_from 0 words)
+      (all_front P (arrivals_from 0 words) (found_irqs found) is)) (
+        tt,
+        woven_all ts found all.1
+            (all_behind P (arrivals_from 0 words) (found_irqs found) is),
+      )
+  woven_all (Looks ∷ ts) [] all is = tt
+  woven_all (Looks ∷ ts) (words ∷ found) all is =
+      all_append (Arrives P) (look_arrivals words) (interleaving ts found)
+      (arrived_all (arrivals_from 0 words)
+      (all_front P (arrivals_from 0 words) (found_irqs found) is))
+      (woven_all ts found all.1
+      (all_behind P (arrivals_from 0 words) (found_irqs found) is))
+
+  -- what a word is found with arrives
+  below_all : (k word n : ℕ) → n ≤ 32 → ((bit : ℕ) → bit < 32 → bit_at word bit ≡ 1 → P (32 * k + bit))
+      → AllByRecursion P (arrivals_below k word n)
+  unfolding numbers_below
+  below_all k word zero few finds = tt
+  below_all k word (suc n) few finds =
+      subst (AllByRecursion P) (sym (arrivals_more k word n))
+      (all_append P (arrivals_below k word n) (if bit_at word n == 1 then (32 * k + n) ∷ [] else [])
+      (below_all k word n (omega (arith, few)) finds)
+      (by (bit_at word n == 1) refl))
+    where
+      by : (b : Bool) → (bit_at word n == 1) ≡ b → AllByRecursion P (if b then (32 * k + n) ∷ [] else [])
+      by true is = (finds n (omega (arith, few)) (eqb-true (bit_at word n) 1 is), tt)
+      by false is = tt
+
+  look_all : (k : ℕ) (words : List ℕ) → AllByRecursion (Finds P) (look_calls_from k words)
+      → AllByRecursion P (arrivals_from k words)
+  look_all k [] all = tt
+  look_all k (word ∷ words) all =
+      all_append P (arrivals k word) (arrivals_from (suc k) words) (below_all k word 32 (omega arith) all.0)
+      (look_all (suc k) words all.1)
+
+  pub looks_all : (found : List (List ℕ)) → AllByRecursion (Finds P) (flat_map look_calls found)
+      → AllByRecursion P (found_irqs found)
+  looks_all [] all = tt
+  looks_all (words ∷ found) all =
+      all_append P (arrivals_from 0 words) (found_irqs found)
+      (look_all 0 words (all_front (Finds P) (look_calls words)
+      (flat_map look_calls found) all))
+      (looks_all found (all_behind (Finds P) (look_calls words)
+      (flat_map look_calls found) all))
+
+  -- calls that ask for these interrupts
+  pub asks_all : (calls : List Call) (irqs : List ℕ) → map interrupt_asked calls ≡ map (λ irq. Some irq) irqs
+      → AllByRecursion P irqs → AllByRecursion (Asks P) calls
+  asks_all [] irqs same all = tt
+  asks_all (c ∷ calls) [] same all = absurd (cc)
+  asks_all (Latch k word ∷ calls) (i ∷ irqs) same all =
+      (tt, asks_all calls irqs (ap (drop 1) same) all.1)
+  asks_all (Pend irq answer ∷ calls) (i ∷ irqs) same all =
+      let head : irq ≡ i = cc in
+      (subst P (sym head) all.0, asks_all calls irqs (ap (drop 1) same) all.1)
+
+-- how much what comes weighs
+arrived_weight : (irqs : List ℕ) → weight (map Arrive irqs) ≡ length irqs
+arrived_weight [] = refl
+arrived_weight (irq ∷ irqs) = omega (arith, arrived_weight irqs)
+
+pub woven_weight : (ts : List Turn) (found : List (List ℕ)) → weight (interleaving ts found) ≤ turns_weight ts
+    + length (found_irqs found)
+woven_weight [] found = omega arith
+woven_weight (Happens Tick ∷ ts) found = omega (arith, woven_weight ts found)
+woven_weight (Happens (Arrive irq) ∷ ts) found = omega (arith, woven_weight ts found)
+woven_weight (Happens Step ∷ ts) [] = omega arith
+woven_weight (Happens Step ∷ ts) (words ∷ found) =
+    omega (
+      arith,
+      weight_append (look_arrivals words) (Step ∷ interleaving ts found),
+      arrived_weight (arrivals_from 0 words),
+      length-append (arrivals_from 0 words) (found_irqs found),
+      woven_weight ts found,
+    )
+woven_weight (Looks ∷ ts) [] = omega arith
+woven_weight (Looks ∷ ts) (words ∷ found) =
+    omega (
+      arith,
+      weight_append (look_arrivals words) (interleaving ts found),
+      arrived_weight (arrivals_from 0 words),
+      length-append (arrivals_from 0 words) (found_irqs found),
+      woven_weight ts found,
+    )
+
+-- the arrivals of looks are as many as the bits that their latches found
+look_found : (k : ℕ) (words : List ℕ) → length (arrivals_from k words) ≡ found_in (look_calls_from k words)
+look_found k [] = refl
+look_found k (word ∷ words) =
+    omega (
+      arith,
+      as_many k word,
+      look_found (suc k) words,
+      length-append (arrivals k word) (arrivals_from (suc k) words),
+    )
+
+found_on : (xs ys : List Call) → found_in (xs ++ ys) ≡ found_in xs + found_in ys
+found_on [] ys = omega arith
+found_on (c ∷ xs) ys = omega (arith, found_on xs ys)
+
+pub looks_found : (found : List (List ℕ)) → length (found_irqs found) ≡ found_in (flat_map look_calls found)
+looks_found [] = refl
+looks_found (words ∷ found) =
+    omega (
+      arith,
+      look_found 0 words,
+      looks_found found,
+      found_on (look_calls words) (flat_map look_calls found),
+      length-append (arrivals_from 0 words) (found_irqs found),
+    )
+
+-- latches ask for nothing
+pub latched_all : (P : Call → Type 0) → ((k word : ℕ) → P (Latch k word)) → (found : List (List ℕ))
+    → AllByRecursion P (flat_map look_calls found)
+latched_all P is [] = tt
+latched_all P is (words ∷ found) =
+    all_append P (look_calls words) (flat_map look_calls found) (of_look 0 words) (latched_all P is found)
+  where
+    of_look : (k : ℕ) (ws : List ℕ) → AllByRecursion P (look_calls_from k ws)
+    of_look k [] = tt
+    of_look k (word ∷ ws) = (is k word, of_look (suc k) ws)
+
+-- the numbers below this one
+abbrev pub numbers_down : ℕ → List ℕ
+numbers_down zero = []
+numbers_down (suc n) = n ∷ numbers_down n
+
+down_has : (n number : ℕ) → number < n → Contains (numbers_down n) number
+down_has zero number few = absurd (omega (arith, few))
+down_has (suc n) number few = by (down_has n number) (ℕ_discrete n number)
+  where
+    by : (number < n → Contains (numbers_down n) number) → Dec (n ≡ number) → Contains (numbers_down (suc n)) number
+    by rest (yes e) = subst (λ m. Contains (m ∷ numbers_down n) number) (sym e) (contains_here number (numbers_down n))
+    by rest (no ne) = contains_there n (numbers_down n) number (rest (omega (arith, few, ne)))
+
+-- how many requests lines have of devices
+abbrev line_asks : Line → ℕ
+line_asks (Steps n) = 0
+line_asks (Ticks n) = 0
+line_asks (Pends irq n) = 0
+line_asks (Device d irq n) = n
+
+abbrev pub all_asked : List Line → ℕ
+all_asked [] = 0
+all_asked (line ∷ script) = line_asks line + all_asked script
+
+-- those of the devices below this number
+line_sum : ℕ → Line → ℕ
+line_sum zero line = 0
+line_sum (suc n) line = length (line_pends n line) + line_sum n line
+
+script_sum : ℕ → List Line → ℕ
+script_sum zero script = 0
+script_sum (suc n) script = length (pends script n) + script_sum n script
+
+line_none : (n : ℕ) (line : Line) → ((d : ℕ) → line_pends d line ≡ []) → line_sum n line ≡ 0
+unfolding line_sum
+line_none zero line none = refl
+line_none (suc n) line none = omega (arith, ap length (none n), line_none n line none)
+
+device_none : (n d irq count : ℕ) → n ≤ d → line_sum n (Device d irq count) ≡ 0
+unfolding line_sum
+device_none zero d irq count few = refl
+device_none (suc n) d irq count few =
+    let ne : d ≢ n = (λ e. omega (arith, e, few)) in
+    let none : length (line_pends n (Device d irq count)) ≡ 0 =
+    ap (λ b. length (cond b (replicate count irq) [])) (ne_eqb d n ne) in
+    omega (arith, none, device_none n d irq count (omega (arith, few)))
+
+device_few : (n d irq count : ℕ) → line_sum n (Device d irq count) ≤ count
+unfolding line_sum
+device_few zero d irq count = omega arith
+device_few (suc n) d irq count = by (device_few n d irq count) (ℕ_discrete d n)
+  where
+    by : line_sum n (Device d irq count) ≤ count → Dec (d ≡ n) → line_sum (suc n) (Device d irq count) ≤ count
+    by rest (yes e) =
+        let one : length (line_pends n (Device d irq count)) ≡ count =
+        ap (λ b. length (cond b (replicate count irq) [])) (eq-eqb d n e)
+        ∙ length-replicate count irq in
+        omega (arith, one, device_none n d irq count (omega (arith, e)))
+    by rest (no ne) =
+        let none : length (line_pends n (Device d irq count)) ≡ 0 =
+        ap (λ b. length (cond b (replicate count irq) [])) (ne_eqb d n ne) in
+        omega (arith, none, rest)
+
+line_few : (n : ℕ) (line : Line) → line_sum n line ≤ line_asks line
+line_few n (Steps m) = omega (arith, line_none n (Steps m) (λ d. refl))
+line_few n (Ticks m) = omega (arith, line_none n (Ticks m) (λ d. refl))
+line_few n (Pends irq m) = omega (arith, line_none n (Pends irq m) (λ d. refl))
+line_few n (Device d irq m) = device_few n d irq m
+
+sum_splits : (n : ℕ) (line : Line) (script : List Line) → script_sum n (line ∷ script) ≡ line_sum n line
+    + script_sum n script
+unfolding line_sum script_sum
+sum_splits zero line script = refl
+sum_splits (suc n) line script =
+    omega (arith, sum_splits n line script, length-append (line_pends n line) (pends script n))
+
+sum_none : (n : ℕ) → script_sum n [] ≡ 0
+unfolding script_sum
+sum_none zero = refl
+sum_none (suc n) = omega (arith, sum_none n)
+
+sum_few : (n : ℕ) (script : List Line) → script_sum n script ≤ all_asked script
+sum_few n [] = omega (arith, sum_none n)
+sum_few n (line ∷ script) = omega (arith, sum_splits n line script, line_few n line, sum_few n script)
+
+-- the core's own events and the devices' requests are all that a script counts
+own_length : (line : Line) → length (core_line_events line) + line_asks line ≡ count_of line
+own_length (Steps n) = omega (arith, length-replicate n Step)
+own_length (Ticks n) = omega (arith, length-replicate n Tick)
+own_length (Pends irq n) = omega (arith, length-replicate n (Arrive irq))
+own_length (Device d irq n) = omega arith
+
+own_few : (script : List Line) → length (core_events script) + all_asked script ≡ count script
+own_few [] = refl
+own_few (line ∷ script) =
+    omega (
+      arith,
+      own_length line,
+      own_few script,
+      length-append (core_line_events line) (core_events script),
+      sum_by-cons count_of line script,
+    )
+
+-- the core's own lines request what has a name
+replicated_events : (P : ℕ → Type 0) (n : ℕ) (e : Event) → Arrives P e → AllByRecursion (Arrives P) (replicate n e)
+replicated_events P zero e is = tt
+replicated_events P (suc n) e is = (is, replicated_events P n e is)
+
+own_line : (names : Names) (line : Line) → HasName names line
+    → AllByRecursion (Arrives (Named names)) (core_line_events line)
+own_line names (Steps n) has = replicated_events (Named names) n Step tt
+own_line names (Ticks n) has = replicated_events (Named names) n Tick tt
+own_line names (Pends irq n) has = replicated_events (Named names) n (Arrive irq) has
+own_line names (Device d irq n) has = tt
+
+any_line : (names : Names) (line : Line) → HasName names line
+    → AllByRecursion (Arrives (Named names)) (line_events line)
+any_line names (Steps n) has = replicated_events (Named names) n Step tt
+any_line names (Ticks n) has = replicated_events (Named names) n Tick tt
+any_line names (Pends irq n) has = replicated_events (Named names) n (Arrive irq) has
+any_line names (Device d irq n) has = replicated_events (Named names) n (Arrive irq) has
+
+own_named : (names : Names) (script : List Line) → HasNames names script
+    → AllByRecursion (Arrives (Named names)) (core_events script)
+own_named names script named =
+    all_flat_map (Arrives (Named names)) core_line_events script
+    (all_weaker (HasName names) (λ line. AllByRecursion (Arrives (Named names)) (core_line_events line))
+    (own_line names) script named)
+
+-- and so do all its lines
+pub named_events : (names : Names) (script : List Line) → HasNames names script
+    → AllByRecursion (Arrives (Named names)) (events script)
+named_events names script named =
+    all_flat_map (Arrives (Named names)) line_events script
+    (all_weaker (HasName names) (λ line. AllByRecursion (Arrives (Named names)) (line_events line))
+    (any_line names) script named)
+
+pub own_turns_named : (P : ℕ → Type 0) (es : List Event) (ts : List Turn) → AllByRecursion (Arrives P) es
+    → AllByRecursion (TurnArrives P) ts → AllByRecursion (TurnArrives P) (map Happens es ++ ts)
+own_turns_named P [] ts all more = more
+own_turns_named P (e ∷ es) ts all more = (all.0, own_turns_named P es ts all.1 more)
+
+added_named : (P : ℕ → Type 0) (n : ℕ) → AllByRecursion (TurnArrives P) (replicate n (Happens Step))
+added_named P zero = tt
+added_named P (suc n) = (tt, added_named P n)
+
+pub own_weight : (es : List Event) (ts : List Turn) → turns_weight (map Happens es ++ ts) ≡ weight es + turns_weight ts
+own_weight [] ts = omega arith
+own_weight (Arrive irq ∷ es) ts = omega (arith, own_weight es ts)
+own_weight (Tick ∷ es) ts = omega (arith, own_weight es ts)
+own_weight (Step ∷ es) ts = omega (arith, own_weight es ts)
+
+added_weight : (n : ℕ) → turns_weight (replicate n (Happens Step)) ≡ n
+added_weight zero = refl
+added_weight (suc n) = omega (arith, added_weight n)
+
+module _ (names : Names) (script : List Line) (found : List (List ℕ)) (history : List Entry)
+    (is : IsHistory script found history) (scripted : IsScript script) (named : HasNames names script) where
+  abbrev Is : ℕ → Call → Type 0
+  Is n c = Asks (Named names) c × ((asked_by c ≡ 0) ⊎ Contains (numbers_down 16) n)
+
+  replicated : (n irq : ℕ) → (Named names) irq → AllByRecursion (Named names) (replicate n irq)
+  replicated zero irq is = tt
+  replicated (suc n) irq is = (is, replicated n irq is)
+
+  line_named : (n : ℕ) (line : Line) → HasName names line → AllByRecursion (Named names) (line_pends n line)
+  line_named n (Steps m) has = tt
+  line_named n (Ticks m) has = tt
+  line_named n (Pends irq m) has = tt
+  line_named n (Device d irq m) has = by (d == n)
+    where
+      by : (b : Bool) → AllByRecursion (Named names) (cond b (replicate m irq) [])
+      by true = replicated m irq has
+      by false = tt
+
+  asked_named : (n : ℕ) → AllByRecursion (Named names) (pends script n)
+  asked_named n =
+      all_flat_map (Named names) (line_pends n) script
+      (all_weaker (HasName names) (λ line. AllByRecursion (Named names) (line_pends n line)) (line_named n) script
+      named)
+
+  in_range : (n : ℕ) (c : Call) → n < 16 → Asks (Named names) c → Is n c
+  in_range n c few asks = (asks, inr (down_has 16 n few))
+
+  none_all : (n : ℕ) (calls : List Call) → map interrupt_asked calls ≡ [] → AllByRecursion (Is n) calls
+  none_all n [] none = tt
+  none_all n (c ∷ calls) none = absurd (cc)
+
+  of_device : (n : ℕ) → n ≢ 255 → AllByRecursion (Is n) (part history n)
+  of_device n ne = by (dec_lt n 16)
+    where
+      by : Dec (n < 16) → AllByRecursion (Is n) (part history n)
+      by (yes few) =
+          all_weaker (Asks (Named names)) (Is n) (λ c asks. in_range n c few asks) (part history n)
+          (asks_all (Named names) (part history n) (pends script n) (is.devices n ne) (asked_named n))
+      by (no far) =
+          none_all n (part history n)
+          (is.devices n ne
+          ∙ ap (map (λ (irq : ℕ). Some irq)) (none_asked script n (omega (arith, far)) scripted.devices))
+
+  each_line : (n : ℕ) → AllByRecursion (Is n) (part history n)
+  each_line n = by (ℕ_discrete n 255)
+    where
+      by : Dec (n ≡ 255) → AllByRecursion (Is n) (part history n)
+      by (yes e) =
+          subst (λ m. AllByRecursion (Is m) (part history m)) (sym e)
+          (subst (AllByRecursion (Is 255)) (sym is.core) (latched_all (Is 255) (λ k word. (tt, inl refl)) found))
+      by (no ne) = of_device n ne
+
+  all_calls : AllByRecursion (λ (e : Entry). Is e.line e.call) history
+  all_calls = all_parts Is history each_line
+
+  -- what looks find has a name
+  pub found_named : AllByRecursion (Named names) (found_irqs found)
+  found_named =
+      looks_all (Named names) found
+      (subst (AllByRecursion (Finds (Named names))) is.core
+      (part_all (Finds (Named names)) history 255
+      (found_asked (Named names) history (replicate 16 0) is.legal
+      (all_weaker (λ (e : Entry). Is e.line e.call) (λ (e : Entry). Asks (Named names) e.call) (λ e all. all.0) history
+      all_calls))))
+
+  lengths_are : (n : ℕ) → n ≤ 16 → lengths_of (numbers_down n) history ≡ script_sum n script
+  unfolding script_sum
+  lengths_are zero few = refl
+  lengths_are (suc n) few =
+      let ne : n ≢ 255 = (λ e. omega (arith, e, few)) in
+      let same : length (part history n) ≡ length (pends script n) =
+      sym (length-map (part history n) interrupt_asked) ∙ ap length (is.devices n ne)
+      ∙ length-map (pends script n) (λ irq. Some irq) in
+      omega (arith, same, lengths_are n (omega (arith, few)))
+
+  -- and there is no more of it than the devices request
+  pub found_within : length (found_irqs found) ≤ all_asked script
+  found_within =
+      omega (
+        arith,
+        looks_found found,
+        ap found_in (sym is.core),
+        part_found history 255,
+        found_few history (replicate 16 0) is.legal,
+        asked_few (numbers_down 16) history
+            (all_weaker (λ (e : Entry). Is e.line e.call)
+            (λ (e : Entry). (asked_by e.call ≡ 0) ⊎ Contains (numbers_down 16) e.line) (λ e all. all.1) history
+            all_calls),
+        lengths_are 16 (omega arith),
+        sum_few 16 script,
+      )
+
+  -- each event of the run is of a declared interrupt
+  pub events_named : AllByRecursion (Arrives (Named names)) (interleaving (turns script) found)
+  events_named =
+      woven_all (Named names) (turns script) found
+      (own_turns_named (Named names) (core_events script)
+      (Looks ∷ replicate (steps (core_events script)) (Happens Step)) (own_named names script named)
+      (tt, added_named (Named names) (steps (core_events script)))) found_named
+
+  -- and they are few
+  pub events_weigh : weight (interleaving (turns script) found) ≤ 2000000
+  events_weigh =
+      omega (
+        arith,
+        woven_weight (turns script) found,
+        own_weight (core_events script) (Looks ∷ replicate (steps (core_events script)) (Happens Step)),
+        added_weight (steps (core_events script)),
+        steps_weigh (core_events script),
+        own_few script,
+        found_within,
+        scripted.few,
+      )
+
+-- the rows of the account of what `live` may write
+abbrev pub live_row : {image : Image} {script : List Line} {shown : List ℕ} → IsLiveText image script shown → ℕ
+    → AccountRow
+live_row live = row_of (calls_in live.history) (replicate 16 0)
