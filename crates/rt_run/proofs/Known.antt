@@ -48,7 +48,7 @@ ring_known img c (Some alarm) h = one (nat_le alarm.instant c.time)
     one false = h
 
 -- the core of a later moment can be written on
-happen_known : (img : Image) (c : Core) (e : Event) → HasLines img → IsKnown img c → IsKnown img (happen img c e).0
+pub happen_known : (img : Image) (c : Core) (e : Event) → HasLines img → IsKnown img c → IsKnown img (happen img c e).0
 unfolding happen
 happen_known img c (Arrive irq) lines h = record { cells = h.cells; below = h.below }
 happen_known img c Tick lines h =

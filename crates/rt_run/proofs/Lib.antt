@@ -9,3 +9,5 @@ pub mod Reached
 pub mod Scripted
 pub mod Brief
 pub mod Weighing
+pub mod Numbered
+pub mod Items
