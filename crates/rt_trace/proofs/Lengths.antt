@@ -153,17 +153,24 @@ lines_short names item are h few =
       length-append (decimal item.step ++ shown) (10 ∷ []),
     )
 
-texts_short : (names : Names) (items : List Item) → AreNames names → AllByRecursion
-    (λ item. HasLine names item × (item.step < 2000000)) items
+pub texts_fit : (names : Names) (items : List Item) → AreNames names → AllByRecursion
+    (λ item. HasLine names item × (item.step < 10 ^ 7)) items
     → length (flat_map (text names) items) ≤ 91 * length items
-texts_short names [] are all = omega arith
-texts_short names (item ∷ items) are all =
-    let early : item.step < 2000000 = all.0.1 in
-    let this = lines_short names item are all.0.0 (omega (arith, early)) in
-    let others = texts_short names items are all.1 in
+texts_fit names [] are all = omega arith
+texts_fit names (item ∷ items) are all =
+    let this = lines_short names item are all.0.0 all.0.1 in
+    let others = texts_fit names items are all.1 in
     omega (arith, this, others, length-append (text names item) (flat_map (text names) items))
 
-total_short : (total : ℕ) → total < 2 ^ 32 → length (total_text total ++ []) ≤ 17
+early_all : (names : Names) (items : List Item) → AllByRecursion
+    (λ item. HasLine names item × (item.step < 2000000)) items
+    → AllByRecursion (λ item. HasLine names item × (item.step < 10 ^ 7)) items
+early_all names [] all = tt
+early_all names (item ∷ items) all =
+    let early : item.step < 2000000 = all.0.1 in
+    ((all.0.0, omega (arith, early)), early_all names items all.1)
+
+pub total_short : (total : ℕ) → total < 2 ^ 32 → length (total_text total ++ []) ≤ 17
 total_short total few =
     let digits = length-decimal-le 10 total (omega arith) (omega (arith, few)) (omega (arith, few)) in
     omega (
@@ -177,6 +184,6 @@ total_short total few =
 
 pub runs_short : RunsAreShort
 runs_short names items total are few all small =
-    let lines = texts_short names items are all in
+    let lines = texts_fit names items are (early_all names items all) in
     let last = total_short total small in
     omega (arith, few, lines, last, length-append (flat_map (text names) items) (total_text total ++ []))

@@ -12,3 +12,5 @@ pub mod LinesRead
 pub mod Decoded
 pub mod Spelled
 pub mod OneWay
+pub mod Unbroken
+pub mod TextsRead
