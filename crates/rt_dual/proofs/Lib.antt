@@ -6,3 +6,4 @@ pub mod Routing
 pub mod Halving
 pub mod Coursing
 pub mod Beforehand
+pub mod Found
