@@ -39,6 +39,7 @@ use Rattle.rt_top.specs.declared.command.Command as code
 use Rattle.rt_top.specs.declared.command.Command.TheVariants as command
 use Rattle.rt_top.specs.declared.reply.Reply.{Reply}
 use Rattle.rt_top.specs.declared.reply.Reply.TheVariants as reply
+use Rattle.rt_top.proofs.Happening.{runs_script, runs_live}
 use Rattle.rt_top.proofs.Excluding.{tree_passes, application_passes}
 
 -- what a source holds that tells
@@ -365,6 +366,7 @@ module _ (first second third : Option (List ℕ)) (image : Image) (asked : List 
           script = asked;
           read = s.read more f;
           written = written;
+          runs = runs_script s.app image s.good more asked (s.read more f);
         },
       )))
 
@@ -390,6 +392,7 @@ module _ (first second third : Option (List ℕ)) (image : Image) (asked : List 
           shown = shown;
           live = live;
           written = written;
+          runs = runs_live s.app image s.good more asked (s.read more f) shown live;
         },
       )))
 

@@ -14,3 +14,4 @@ mod Auditing
 mod Verifying
 mod Within
 mod Pairing
+mod Happening

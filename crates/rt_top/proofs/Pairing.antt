@@ -36,6 +36,7 @@ use Rattle.rt_top.specs.declared.command.Command.TheVariants as command
 use Rattle.rt_top.proofs.Deciding.{told_text}
 use Rattle.rt_top.proofs.Excluding.{application_passes}
 use Rattle.rt_top.proofs.Giving.{made_tells}
+use Rattle.rt_top.proofs.Happening.{runs_first, runs_second}
 
 -- the line of a second application
 pub second_tells : {E : Type 0} (ended : Status) (own line : List ℕ) → own ≡ line → (made : Result (Vec ℕ Global) E)
@@ -160,6 +161,8 @@ module _ (first second third : Option (List ℕ)) (one : App) (is_one : (text : 
             script = asked;
             read = subst (λ m. script.IsScriptText (names_of one) m asked) (same last g) read;
             written = shows.is;
+            first_runs = runs_first one image good own asked read other shows.second shows.good text shows.is;
+            second_runs = runs_second one image good own asked read other shows.second shows.good text shows.is;
           },
         )))
 

@@ -22,6 +22,7 @@ use Rattle.rt_count.specs.Text.{summary_text}
 use Rattle.rt_count.specs.declared.summary.Summary.{Summary}
 use Rattle.rt_listing.specs.Listing.{listing}
 use Rattle.rt_listing.specs.Numbers.{HasShortNumbers}
+use Rattle.rt_live.specs.Interleaving.{turns, interleaving}
 use Rattle.rt_live.specs.Output.{IsLiveText}
 use Rattle.rt_reach.specs.Reached.{ReachesTheBound}
 use Rattle.rt_report.specs.Report.{report}
@@ -30,9 +31,10 @@ use Rattle.rt_rta.specs.Response.{AreResponseTimes}
 use Rattle.rt_rta.specs.Text.{IsLimitsText}
 use Rattle.rt_rta.specs.declared.limits.Limit.{Limit}
 use Rattle.rt_rta.specs.declared.response.ResponseTime.{ResponseTime}
+use Rattle.rt_script.specs.Script.{events}
 use Rattle.rt_script.specs.Text.{IsScriptText}
 use Rattle.rt_script.specs.declared.line.Line.{Line}
-use Rattle.rt_sim.specs.Good.{Good}
+use Rattle.rt_sim.specs.Good.{Good, RunsWell}
 use Rattle.rt_sim.specs.Responding.{RespondsInTime, RespondsInTimeOnceInitEnds}
 use Rattle.rt_soak.specs.Soak.{IsSoak}
 use Rattle.rt_run.specs.Written.{text_of}
@@ -74,7 +76,7 @@ pub record IsListed (text bytes : List ℕ) : Type 0 where
   pub written : bytes ≡ listing image
 
 -- `run`: the listing of a good image, and that image's trace under the events of the script, with its total of core
--- steps
+-- steps. What the image does under these events is a run of Baker's machine.
 pub record IsRun (text more bytes : List ℕ) : Type 0 where
   pub app : App
   pub image : Image
@@ -82,6 +84,7 @@ pub record IsRun (text more bytes : List ℕ) : Type 0 where
   pub script : List Line
   pub read : IsScriptText (names_of app) more script
   pub written : bytes ≡ listing image ++ codes "trace\n" ++ text_of image script
+  pub runs : RunsWell app image (events script)
 
 -- the status and the line for a verdict: how many items are right, or the number of the first that is not
 abbrev pub Says : Trace → Verdict → Status → List ℕ → Type 0
@@ -101,7 +104,8 @@ pub record IsAudited (text more : List ℕ) (ended : Status) (bytes : List ℕ) 
   pub says : Says trace verdict ended bytes
 
 -- `live`: the listing of a good image, and then what the image may write beside the devices of the script: a trace, and
--- the account of every pend of every device
+-- the account of every pend of every device. What the image does under the script's own events with what its looks
+-- found is a run of Baker's machine.
 pub record IsLive (text more bytes : List ℕ) : Type 0 where
   pub app : App
   pub image : Image
@@ -111,6 +115,7 @@ pub record IsLive (text more bytes : List ℕ) : Type 0 where
   pub shown : List ℕ
   pub live : IsLiveText image script shown
   pub written : bytes ≡ listing image ++ codes "trace\n" ++ shown
+  pub runs : RunsWell app image (interleaving (turns script) live.found)
 
 -- the summary of so many runs of one good image of an application, each under the script that is generated for it
 abbrev pub TellsSoak : App → ℕ → ℕ → List ℕ → Type 0

@@ -5,9 +5,11 @@ use Rattle.rt_app.specs.Names.{names_of}
 use Rattle.rt_app.specs.Tree.{App}
 use Rattle.rt_build.specs.Accepted.{IsApplication}
 use Rattle.rt_code.specs.Image.{Image}
+use Rattle.rt_dual.specs.Course.{first_events, second_events, course_events}
 use Rattle.rt_dual.specs.Output.{IsPairText}
 use Rattle.rt_script.specs.Text.{IsScriptText}
 use Rattle.rt_script.specs.declared.line.Line.{Line}
+use Rattle.rt_sim.specs.Good.{RunsWell}
 use Rattle.rt_top.specs.Outputs.{IsGoodImage}
 use Rattle.rt_top.specs.Refusal.{RefusesApplication}
 use Rattle.rt_top.specs.SecondRefusal.{RefusesScript}
@@ -26,7 +28,8 @@ pub record RefusesPairScript (text more last line : List ℕ) : Type 0 where
   pub of_other : IsApplication more other
   pub refuses : RefusesScript text last line
 
--- `pair`: what two cores may write under a script, each with a good image of its own application
+-- `pair`: what two cores may write under a script, each with a good image of its own application. What each does under
+-- its own events with what its looks found is a run of Baker's machine on its application.
 pub record IsPaired (text more last bytes : List ℕ) : Type 0 where
   pub first : App
   pub second : App
@@ -37,3 +40,5 @@ pub record IsPaired (text more last bytes : List ℕ) : Type 0 where
   pub script : List Line
   pub read : IsScriptText (names_of first) last script
   pub written : IsPairText first_image second_image script bytes
+  pub first_runs : RunsWell first first_image (course_events (first_events script) written.one)
+  pub second_runs : RunsWell second second_image (course_events (second_events script) written.two)
