@@ -1,6 +1,6 @@
 // What is made for a core of a pair before it runs, and what its words tell when they are closed.
 ghost use Rattle.std.specs.Prelude.{◌≡◌, IfOk};
-ghost use Rattle.rt_listing.specs.Numbers.{HasShortNumbers};
+ghost use Rattle.rt_listing.specs.Numbers.{HasTypedNumbers};
 ghost use Rattle.rt_live.specs.Ready.{irqs_of};
 ghost use Rattle.rt_dual.specs.Inside.Halves.{front, IsMade, CanClose, Settles};
 ghost use Rattle.rt_dual.specs.Inside.Own.{number_of, other_of};
@@ -41,7 +41,7 @@ pub struct Lines {
 #[inline(never)]
 fn front_of(alloc: Global, core_id: CoreId, image: &Image) -> Result<Vec<u8>, NoMemory>
     ensures text { IfOk result (λ text. text.items ≡ front core_id image.now) }
-    ensures numbers { IfOk result (λ _. HasShortNumbers image.now) }
+    ensures numbers { IfOk result (λ _. HasTypedNumbers image.now) }
 {
     let listed = listing(alloc, image)?;
     let mut text = Vec::new(alloc);
@@ -77,7 +77,7 @@ pub(crate) fn half_of(
     ensures made { IfOk result (λ r. IsMade image.now.names (number_of (other_of core_id)) r.0.words r.1.own r.1.bell
         r.0.rows.items) }
     ensures front { IfOk result (λ r. r.0.front.items ≡ front core_id image.now) }
-    ensures numbers { IfOk result (λ _. HasShortNumbers image.now) }
+    ensures numbers { IfOk result (λ _. HasTypedNumbers image.now) }
 {
     let front = front_of(alloc, core_id, image)?;
     let (words, lines, rows) = words_of(alloc, core_id, &image.names)?;

@@ -2,7 +2,7 @@ ghost use Rattle.std.specs.Prelude.{◌≡◌, ◌+◌, [], ℕ, List, IfOk, OnO
 ghost use Rattle.std.specs.Thread.{IsSync};
 ghost use Rattle.rt_code.specs.Lines.{HasLines};
 ghost use Rattle.rt_core.specs.Machine.{IsFresh};
-ghost use Rattle.rt_listing.specs.Numbers.{HasShortNumbers};
+ghost use Rattle.rt_listing.specs.Numbers.{HasTypedNumbers};
 ghost use Rattle.rt_outside.specs.Bytes.{Took, TookPrefix};
 ghost use Rattle.rt_outside.specs.Faults.{Rose, HasCause};
 ghost use Rattle.rt_script.specs.Script.{IsScript, HasNames, count};
@@ -63,8 +63,8 @@ pub fn pair<R: Threads + Sync, K: Sink, G: Gate + Sync>(
     ensures none { IsErrOf result LiveFail.NoMemory → Took (K.taken out.old) (K.taken out.new) [] }
 
     // Where it came to write, each listing is of its image alone.
-    ensures first_numbers { ¬ IsErrOf result LiveFail.NoMemory → HasShortNumbers first.old.image }
-    ensures second_numbers { ¬ IsErrOf result LiveFail.NoMemory → HasShortNumbers second.old.image }
+    ensures first_numbers { ¬ IsErrOf result LiveFail.NoMemory → HasTypedNumbers first.old.image }
+    ensures second_numbers { ¬ IsErrOf result LiveFail.NoMemory → HasTypedNumbers second.old.image }
 
     // A fault is told, and nothing else is told as one.
     ensures fault { IsErrOf result LiveFail.Fault → Rose (K.faults out.old) (K.faults out.new) }

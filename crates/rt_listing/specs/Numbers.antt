@@ -19,6 +19,14 @@ IsShort n = n < 2 ^ 64
 abbrev pub AreShort : List ℕ → Type 0
 AreShort = AllByRecursion IsShort
 
+-- a number of 32 bits
+abbrev pub IsWord : ℕ → Type 0
+IsWord n = n < 2 ^ 32
+
+-- numbers of 32 bits
+abbrev pub AreWords : List ℕ → Type 0
+AreWords = AllByRecursion IsWord
+
 -- the numbers of a handler, where the interrupt is enabled
 abbrev pub handler_numbers : Option Handler → List ℕ
 handler_numbers None = []
@@ -60,6 +68,17 @@ note_numbers (Some (note.Cancel t s)) = s ∷ []
 note_numbers (Some (note.Move t s a)) = s ∷ a ∷ []
 note_numbers n = []
 
+-- the level in the name of a section, where there is one, is of 8 bits
+abbrev pub HasLevel : Section → Type 0
+HasLevel (section.Ready p) = p < 2 ^ 8
+HasLevel s = Unit {0}
+
+-- the level that a note names, where it names one, is of 8 bits
+abbrev pub NamesLevel : Option Note → Type 0
+NamesLevel (Some (note.Enter s)) = HasLevel s
+NamesLevel (Some (note.Leave s)) = HasLevel s
+NamesLevel n = Unit {0}
+
 -- an image whose numbers are all of 64 bits
 pub record HasShortNumbers (img : Image) : Type 0 where
   pub bits : IsShort img.bits
@@ -70,3 +89,11 @@ pub record HasShortNumbers (img : Image) : Type 0 where
   pub bodies : AllByRecursion (λ row. AreShort (row.entry ∷ row.frame ∷ row.args ∷ [])) img.bodies
   pub instrs : AllByRecursion (λ line. AreShort (instr_numbers line.0)) img.code
   pub notes : AllByRecursion (λ line. AreShort (note_numbers line.1)) img.code
+
+-- An image whose numbers are in the range of the types in which a program holds them: first values and operands of 32
+-- bits, and levels of 8 bits.
+pub record HasTypedNumbers (img : Image) : Type 0 where
+  pub short : HasShortNumbers img
+  pub cells : AllByRecursion (λ cell. IsWord cell.first) img.cells
+  pub instrs : AllByRecursion (λ line. AreWords (instr_numbers line.0)) img.code
+  pub levels : AllByRecursion (λ line. NamesLevel line.1) img.code

@@ -1,11 +1,12 @@
--- Rows of an image that have only short numbers.
+-- Rows of an image that have only short numbers, and such in the range of their types.
 use Rattle.std.specs.Prelude.{[], ◌∷◌, Option}
 use Rattle.rt_ids.specs.declared.cell.CellRow.{CellRow}
 use Rattle.rt_code.specs.declared.image.IrqRow.{IrqRow}
 use Rattle.rt_code.specs.declared.image.BodyRow.{BodyRow}
 use Rattle.rt_code.specs.declared.instr.Instr.{Instr}
 use Rattle.rt_code.specs.declared.instr.Note.{Note}
-use Rattle.rt_listing.specs.Numbers.{IsShort, AreShort, handler_numbers, instr_numbers, note_numbers}
+use Rattle.rt_listing.specs.Numbers.{IsShort, AreShort, handler_numbers, instr_numbers, note_numbers, IsWord, AreWords}
+use Rattle.rt_listing.specs.Numbers.{NamesLevel}
 
 -- the first value of a cell is of 64 bits
 abbrev pub IsShortCell : CellRow → Type 0
@@ -26,3 +27,15 @@ HasShortInstr line = AreShort (instr_numbers line.0)
 -- the numbers in a note are of 64 bits
 abbrev pub HasShortNote : Instr × Option Note → Type 0
 HasShortNote line = AreShort (note_numbers line.1)
+
+-- the first value of a cell is of 32 bits
+abbrev pub IsWordCell : CellRow → Type 0
+IsWordCell cell = IsWord cell.first
+
+-- the operands of an instruction are of 32 bits
+abbrev pub HasWordInstr : Instr × Option Note → Type 0
+HasWordInstr line = AreWords (instr_numbers line.0)
+
+-- the level that a note names is of 8 bits
+abbrev pub HasLevelNote : Instr × Option Note → Type 0
+HasLevelNote line = NamesLevel line.1

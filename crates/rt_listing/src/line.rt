@@ -3,7 +3,8 @@ ghost use Rattle.rt_ids.specs.Naming.{section_name};
 ghost use Rattle.rt_ids.specs.Naming as name;
 ghost use Rattle.rt_listing.specs.Words.{spaced_number, instr_text, note_words, note_text};
 ghost use Rattle.rt_listing.specs.Words as word;
-ghost use Rattle.rt_listing.specs.Numbers.{IsShort, AreShort, instr_numbers, section_numbers, note_numbers};
+ghost use Rattle.rt_listing.specs.Numbers.{IsShort, AreShort, IsWord, AreWords, HasLevel, NamesLevel};
+ghost use Rattle.rt_listing.specs.Numbers.{instr_numbers, section_numbers, note_numbers};
 
 use crate::names::{body_name, irq_name, resource_name, task_name};
 use itoa::Buffer;
@@ -14,6 +15,7 @@ use rt_ids::{Irq, Names, NoMemory, Op, Section, TaskId, push_bytes, push_number}
 pub(crate) fn push_spaced(out: &mut Vec<u8>, number: u32) -> Result<(), NoMemory>
     ensures text { OnOk result (out.new.items ≡ out.old.items ++ spaced_number number) }
     ensures short { IsShort number }
+    ensures word { IsWord number }
 {
     push_bytes(out, b" ")?;
     push_number(out, number)
@@ -56,6 +58,7 @@ pub fn op_word(op: Op) -> &'static [u8]
 fn push_operands(out: &mut Vec<u8>, word: &[u8], operands: &[u32]) -> Result<(), NoMemory>
     ensures text { OnOk result (out.new.items ≡ out.old.items ++ word.now ++ flat_map spaced_number operands.now) }
     ensures short { AreShort operands.now }
+    ensures words { AreWords operands.now }
 {
     push_bytes(out, word)?;
     for operand in operands {
@@ -68,6 +71,7 @@ fn push_operands(out: &mut Vec<u8>, word: &[u8], operands: &[u32]) -> Result<(),
 pub(crate) fn push_instr(out: &mut Vec<u8>, instr: Instr, names: &Names) -> Result<(), NoMemory>
     ensures text { OnOk result (out.new.items ≡ out.old.items ++ instr_text names.now instr) }
     ensures short { AreShort (instr_numbers instr) }
+    ensures words { AreWords (instr_numbers instr) }
 {
     match instr {
         Instr::Set(slot, value) => push_operands(out, b"set", &[slot, value]),
@@ -108,6 +112,7 @@ fn push_with_irq(
     ensures text { OnOk result (out.new.items
         ≡ out.old.items ++ word.now ++ flat_map spaced_number operands.now ++ 32 ∷ name.irq_name names.now irq) }
     ensures short { AreShort operands.now }
+    ensures words { AreWords operands.now }
 {
     push_operands(out, word, operands)?;
     push_bytes(out, b" ")?;
@@ -118,6 +123,7 @@ fn push_with_irq(
 fn push_section(out: &mut Vec<u8>, section: Section, names: &Names) -> Result<(), NoMemory>
     ensures text { OnOk result (out.new.items ≡ out.old.items ++ section_name names.now section) }
     ensures short { AreShort (section_numbers section) }
+    ensures level { HasLevel section }
 {
     match section {
         Section::Res(resource) => push_bytes(out, resource_name(names, resource)),
@@ -158,6 +164,7 @@ fn push_slot(
 fn push_note_words(out: &mut Vec<u8>, note: Note, names: &Names) -> Result<(), NoMemory>
     ensures text { OnOk result (out.new.items ≡ out.old.items ++ note_words names.now note) }
     ensures short { AreShort (note_numbers (Some note)) }
+    ensures level { NamesLevel (Some note) }
 {
     match note {
         Note::Enter(section) => {
@@ -195,6 +202,7 @@ pub(crate) fn push_note(
 ) -> Result<(), NoMemory>
     ensures text { OnOk result (out.new.items ≡ out.old.items ++ note_text names.now note) }
     ensures short { AreShort (note_numbers note) }
+    ensures level { NamesLevel note }
 {
     match note {
         Some(note) => {

@@ -3,8 +3,9 @@ ghost use Rattle.rt_listing.specs.Listing.{form_text, first_line, sizes_line, li
 ghost use Rattle.rt_listing.specs.Listing.{body_line};
 ghost use Rattle.rt_listing.specs.Listing.{code_line};
 ghost use Rattle.rt_listing.specs.Listing as spec;
-ghost use Rattle.rt_listing.specs.Numbers.{AreShort, HasShortNumbers};
+ghost use Rattle.rt_listing.specs.Numbers.{AreShort, HasTypedNumbers};
 ghost use Rattle.rt_listing.specs.Short.{IsShortCell, IsShortIrq, IsShortBody, HasShortInstr, HasShortNote};
+ghost use Rattle.rt_listing.specs.Short.{IsWordCell, HasWordInstr, HasLevelNote};
 
 use crate::line::{push_count, push_instr, push_note, push_spaced};
 use crate::names::task_name;
@@ -15,7 +16,7 @@ use std::alloc::Global;
 /// The text of an image.
 pub fn listing(alloc: Global, image: &Image) -> Result<Vec<u8>, NoMemory>
     ensures text { IfOk result (λ text. text.items ≡ spec.listing image.now) }
-    ensures numbers { IfOk result (λ _. HasShortNumbers image.now) }
+    ensures numbers { IfOk result (λ _. HasTypedNumbers image.now) }
 {
     let mut out = Vec::new(alloc);
     push_sizes(&mut out, image)?;
@@ -64,6 +65,7 @@ pub fn push_first_line(
 fn push_cells(out: &mut Vec<u8>, cells: &[CellRow]) -> Result<(), NoMemory>
     ensures text { OnOk result (out.new.items ≡ out.old.items ++ lines_with_numbers cell_line 0 cells.now) }
     ensures short { OnOk result (All IsShortCell cells.now) }
+    ensures words { OnOk result (All IsWordCell cells.now) }
 {
     for (number, cell) in cells.iter().enumerate() {
         push_cell(out, number, cell)?;
@@ -75,6 +77,7 @@ fn push_cells(out: &mut Vec<u8>, cells: &[CellRow]) -> Result<(), NoMemory>
 pub fn push_cell(out: &mut Vec<u8>, number: usize, cell: &CellRow) -> Result<(), NoMemory>
     ensures text { OnOk result (out.new.items ≡ out.old.items ++ cell_line number cell.now) }
     ensures short { OnOk result (IsShortCell cell.now) }
+    ensures word { OnOk result (IsWordCell cell.now) }
 {
     push_bytes(out, b"cell")?;
     push_count(out, number)?;
@@ -143,6 +146,8 @@ fn push_code(out: &mut Vec<u8>, code: &[Line], names: &Names) -> Result<(), NoMe
     ensures text { OnOk result (out.new.items ≡ out.old.items ++ lines_with_numbers (code_line names.now) 0 code.now) }
     ensures instrs_short { OnOk result (All HasShortInstr code.now) }
     ensures notes_short { OnOk result (All HasShortNote code.now) }
+    ensures instrs_words { OnOk result (All HasWordInstr code.now) }
+    ensures notes_levels { OnOk result (All HasLevelNote code.now) }
 {
     for (address, line) in code.iter().enumerate() {
         push_line(out, address, *line, names)?;
@@ -160,6 +165,8 @@ pub fn push_line(
     ensures text { OnOk result (out.new.items ≡ out.old.items ++ code_line names.now address line) }
     ensures instr_short { HasShortInstr line }
     ensures note_short { HasShortNote line }
+    ensures instr_words { HasWordInstr line }
+    ensures note_level { HasLevelNote line }
 {
     push_bytes(out, b"code")?;
     push_count(out, address)?;

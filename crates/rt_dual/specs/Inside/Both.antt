@@ -2,7 +2,7 @@
 use Rattle.std.specs.Prelude.{◌≡◌, ℕ, ◌++◌, List, []}
 use Rattle.rt_code.specs.Image.{Image}
 use Rattle.rt_core.specs.Machine.{Machine}
-use Rattle.rt_listing.specs.Numbers.{HasShortNumbers}
+use Rattle.rt_listing.specs.Numbers.{HasTypedNumbers}
 use Rattle.rt_dual.specs.Course.{turns}
 use Rattle.rt_live.specs.Account.{account_text}
 use Rattle.rt_live.specs.Ready.{irqs_of}
@@ -23,7 +23,7 @@ pub record IsBefore (core_id : CoreId) (img other : Image) (half : Half) (side f
   pub made : IsMade img.names (number_of (other_of core_id)) half.words side.line far.bell half.rows.items
   pub front : half.front.items ≡ front core_id img
   -- the listing in it is of this image alone
-  pub numbers : HasShortNumbers img
+  pub numbers : HasTypedNumbers img
   pub at : side.core_id ≡ core_id
   pub routes : AreRoutes img other.names side.routes
   pub kept : side.trace.bytes.items ≡ []

@@ -1,6 +1,6 @@
 use Rattle.std.proofs.Common.{List, sym, subst, ◌∙◌}
 use Rattle.rt_code.specs.Image.{Image}
-use Rattle.rt_listing.specs.Numbers.{HasShortNumbers}
+use Rattle.rt_listing.specs.Numbers.{HasTypedNumbers}
 use Rattle.rt_script.specs.declared.line.Line.{Line}
 use Rattle.rt_dual.specs.Course.{turns, first_events, second_events}
 use Rattle.rt_dual.specs.Inside.Both.{AreBefore, HaveEnded, IsWritten}
@@ -99,16 +99,16 @@ returns-in-Err-clause-part g c = λ fault. (returns-in-Err-clause-begun g c faul
 
 pub returns-in-Ok-put_both-clause-first_numbers : goal.returns-in-Ok-put_both-clause-first_numbers
 returns-in-Ok-put_both-clause-first_numbers g c =
-    λ _. subst HasShortNumbers c.image.ensures c.in-Ok.ensures.one.numbers
+    λ _. subst HasTypedNumbers c.image.ensures c.in-Ok.ensures.one.numbers
 
 pub returns-in-Ok-put_both-clause-second_numbers : goal.returns-in-Ok-put_both-clause-second_numbers
 returns-in-Ok-put_both-clause-second_numbers g c =
-    λ _. subst HasShortNumbers c.image-2.ensures c.in-Ok.ensures.two.numbers
+    λ _. subst HasTypedNumbers c.image-2.ensures c.in-Ok.ensures.two.numbers
 
 pub returns-in-Err-clause-first_numbers : goal.returns-in-Err-clause-first_numbers
 returns-in-Err-clause-first_numbers g c =
-    λ _. subst HasShortNumbers c.image.ensures c.in-Ok.ensures.one.numbers
+    λ _. subst HasTypedNumbers c.image.ensures c.in-Ok.ensures.one.numbers
 
 pub returns-in-Err-clause-second_numbers : goal.returns-in-Err-clause-second_numbers
 returns-in-Err-clause-second_numbers g c =
-    λ _. subst HasShortNumbers c.image-2.ensures c.in-Ok.ensures.two.numbers
+    λ _. subst HasTypedNumbers c.image-2.ensures c.in-Ok.ensures.two.numbers
