@@ -6,7 +6,7 @@ use Rattle.std.specs.List.{AllByRecursion}
 use Rattle.std.proofs.lemmas.List.{length-map}
 use Rattle.std.proofs.lemmas.List.Sums.{sum_by-cons, sum_by-append}
 use Rattle.rt_lemmas.proofs.Membership.{all_weaker}
-use Rattle.rt_ids.specs.Names.{AreNames}
+use Rattle.rt_ids.specs.Names.{Names, AreNames}
 use Rattle.rt_ids.specs.declared.ids.BodyId.{BodyId}
 use Rattle.rt_ids.specs.declared.ids.BodyId.TheVariants as body
 use Rattle.rt_ids.specs.declared.ids.Section.TheVariants as section
@@ -21,7 +21,7 @@ use Rattle.rt_app.specs.Level.{levels}
 use Rattle.rt_app.specs.Names.{names_of}
 use Rattle.rt_code.specs.Image.{Image}
 use Rattle.rt_code.specs.Lines.{HasCell, HasLines}
-use Rattle.rt_code.specs.Listable.{IsWord, IsPlain, AreWritable, HasTask, HasInstr, HasNote}
+use Rattle.rt_code.specs.Listable.{IsWord, IsPlain, AreWritable, HasTask, HasInstr, HasNote, IsListable}
 use Rattle.rt_code.specs.Runnable.{TakeFewArguments, HaveImplementedValues, HaveNumbersApart}
 use Rattle.rt_code.specs.Runnable.{HasRightSizes, IsRunnable}
 use Rattle.rt_code.specs.declared.instr.Note.{Note}
@@ -134,3 +134,16 @@ module _ (app : App) (at : Entries) (img : Image) (tables : HasTables app at img
         (sym tables.irqs) (named_rows app at sound));
     left = all_weaker (IsNameable (names_of app)) (λ line. HasCell img line.1) leaves img.code named;
   }
+
+  nameable : (ls : List Line) → AllByRecursion (λ line. HasInstr (names_of app) line.0) ls
+      → AllByRecursion (λ line. HasNote (names_of app) line.1) ls → AllByRecursion (IsNameable (names_of app)) ls
+  nameable [] instrs notes = tt
+  nameable (line ∷ ls) instrs notes =
+      (record { instr = instrs.0; note = notes.0 }, nameable ls instrs.1 notes.1)
+
+  -- an image of the application that is listable has traces with lines
+  pub lines_of_tables : IsListable img → HasLines img
+  lines_of_tables listable =
+      lines (nameable img.code
+      (subst (λ (names : Names). AllByRecursion (λ line. HasInstr names line.0) img.code) tables.names listable.instrs)
+      (subst (λ (names : Names). AllByRecursion (λ line. HasNote names line.1) img.code) tables.names listable.notes))

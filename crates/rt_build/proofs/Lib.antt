@@ -22,3 +22,5 @@ pub mod ImageSizes
 pub mod Assembled
 pub mod Existing
 pub mod OneImage
+pub mod CellNames
+pub mod ImageCounts

@@ -29,3 +29,5 @@ pub mod Named
 pub mod Either
 pub mod OneWay
 pub mod Judged
+pub mod Headed
+pub mod Lengths

@@ -5,7 +5,7 @@ use Rattle.std.specs.List.{AllByRecursion}
 use Rattle.std.proofs.lemmas.List.Concat.{flat_map-append}
 use Rattle.rt_lemmas.proofs.Lists.{all_append}
 use Rattle.rt_code.specs.Image.{Image}
-use Rattle.rt_code.specs.Listable.{IsWord, IsPlain, HasInstr, HasNote}
+use Rattle.rt_code.specs.Listable.{IsWord, IsPlain, HasInstr, HasNote, IsListable}
 use Rattle.rt_code.specs.declared.image.IrqRow.{IrqRow}
 use Rattle.rt_code.specs.declared.image.BodyRow.{BodyRow}
 use Rattle.rt_code.specs.declared.instr.Instr.{Instr}
@@ -99,8 +99,14 @@ flat_four a b c d =
     ∙ ap (λ t. t ++ flat_map line_with_feed d) (flat_map-append line_with_feed (a ++ b) c
     ∙ ap (λ t. t ++ flat_map line_with_feed c) (flat_map-append line_with_feed a b))
 
-pub listing_is : (img : Image) (l : IsLoadable img) → listing img ≡ flat_map line_with_feed (listing_lines img l)
-listing_is img l =
+abbrev pub listing_rows : Image → List (List ℕ)
+listing_rows img =
+    first_text img (length img.code) (length img.cells)
+    ∷ (((texts_from cell_text 0 img.cells ++ map irq_text img.irqs) ++ map (body_text img.names) img.bodies)
+    ++ texts_from (code_text img.names) 0 img.code)
+
+pub listing_fed : (img : Image) → listing img ≡ flat_map line_with_feed (listing_rows img)
+listing_fed img =
     let a = texts_from cell_text 0 img.cells in
     let b = map irq_text img.irqs in
     let c = map (body_text img.names) img.bodies in
@@ -120,6 +126,9 @@ listing_is img l =
     ∙ five s (flat_map line_with_feed a) (flat_map line_with_feed b) (flat_map line_with_feed c)
     (flat_map line_with_feed d)
     ∙ ap (λ t. s ++ t) (sym (flat_four a b c d))
+
+pub listing_is : (img : Image) (l : IsLoadable img) → listing img ≡ flat_map line_with_feed (listing_lines img l)
+listing_is img l = listing_fed img
 
 cells_are_lines : (n : ℕ) (cells : List CellRow) → AllByRecursion (λ cell. IsWord cell.name) cells
     → AllByRecursion IsLine (texts_from cell_text n cells)
@@ -154,10 +163,8 @@ code_are_lines names n (line ∷ lines) known instrs notes = (
   code_are_lines names (suc n) lines known instrs.1 notes.1,
 )
 
-pub are_lines : (img : Image) (l : IsLoadable img) → AllByRecursion IsLine (listing_lines img l)
-are_lines img l =
-    let li = l.listable in
-    let known = known_names img.names l.fits.names in
+pub rows_are_lines : (img : Image) → IsListable img → AreKnown img.names → AllByRecursion IsLine (listing_rows img)
+rows_are_lines img li known =
     let a = texts_from cell_text 0 img.cells in
     let b = map irq_text img.irqs in
     let c = map (body_text img.names) img.bodies in
@@ -169,3 +176,6 @@ are_lines img l =
           (bodies_are_lines img.names img.bodies known li.bodies))
           (code_are_lines img.names 0 img.code known li.instrs li.notes),
     )
+
+pub are_lines : (img : Image) (l : IsLoadable img) → AllByRecursion IsLine (listing_lines img l)
+are_lines img l = rows_are_lines img l.listable (known_names img.names l.fits.names)
