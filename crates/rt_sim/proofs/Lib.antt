@@ -37,3 +37,4 @@ pub mod Good
 pub mod Responding
 pub mod Rows
 pub mod Prepared
+pub mod Judging
