@@ -40,6 +40,7 @@ use Rattle.rt_top.specs.declared.command.Command.TheVariants as command
 use Rattle.rt_top.specs.declared.reply.Reply.{Reply}
 use Rattle.rt_top.specs.declared.reply.Reply.TheVariants as reply
 use Rattle.rt_top.proofs.Happening.{runs_script, runs_live}
+use Rattle.rt_top.proofs.Writings.{run_short, live_short}
 use Rattle.rt_top.proofs.Excluding.{tree_passes, application_passes}
 
 -- what a source holds that tells
@@ -306,6 +307,7 @@ module _ (first second third : Option (List ℕ)) (app : App) (accepted : (text 
             is = record {
               of_text = accepted text.0 text.1;
               good = record {
+                accepted = is_accepted;
                 of_application = l.of_application;
                 runnable = l.runnable;
                 listable = l.listable;
@@ -367,6 +369,7 @@ module _ (first second third : Option (List ℕ)) (image : Image) (asked : List 
           read = s.read more f;
           written = written;
           runs = runs_script s.app image s.good more asked (s.read more f);
+          short = run_short s.app image s.good numbers more asked (s.read more f) bytes written;
         },
       )))
 
@@ -393,6 +396,7 @@ module _ (first second third : Option (List ℕ)) (image : Image) (asked : List 
           live = live;
           written = written;
           runs = runs_live s.app image s.good more asked (s.read more f) shown live;
+          short = live_short s.app image s.good numbers more asked (s.read more f) shown live bytes written;
         },
       )))
 

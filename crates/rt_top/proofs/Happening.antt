@@ -22,6 +22,7 @@ use Rattle.rt_dual.specs.Course.{first_events, second_events, course_events}
 use Rattle.rt_dual.specs.Output.{IsPairText}
 use Rattle.rt_dual.proofs.Found.{first_named, second_named, first_weighs, second_weighs}
 use Rattle.rt_sim.specs.Good.{Good, RunsWell, AreDeclared}
+use Rattle.rt_sim.proofs.Armed.{counts_of_few}
 use Rattle.rt_top.specs.Outputs.{IsGoodOf}
 
 -- an interrupt whose number has a name is declared
@@ -49,7 +50,8 @@ are_declared app (Step ∷ es) all = are_declared app es all.1
 -- a good image runs well under so many events of declared interrupts
 runs_under : (app : App) (image : Image) → Good app image → (es : List Event)
     → AllByRecursion (Arrives (Named (names_of app))) es → length es ≤ 2000000 → RunsWell app image es
-runs_under app image good es all few = good.each es (omega (arith, few)) (are_declared app es all)
+runs_under app image good es all few =
+    good.each es (counts_of_few app image es (omega (arith, few))) (are_declared app es all)
 
 module _ (app : App) (image : Image) (is : IsGoodOf app image) where
   own_names : image.names ≡ names_of app
@@ -60,10 +62,10 @@ module _ (app : App) (image : Image) (is : IsGoodOf app image) where
   renamed es all = subst (λ (n : Names). AllByRecursion (Arrives (Named n)) es) own_names all
 
   module _ (more : List ℕ) (script : List Line) (read : IsScriptText (names_of app) more script) where
-    scripted : IsScript script
+    pub scripted : IsScript script
     scripted = says_script (names_of app) (lines more) script read.says
 
-    named : HasNames image.names script
+    pub named : HasNames image.names script
     named = subst (λ (n : Names). HasNames n script) (sym own_names)
         (says_named (names_of app) (lines more) script read.says)
 

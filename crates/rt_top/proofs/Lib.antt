@@ -15,3 +15,6 @@ mod Verifying
 mod Within
 mod Pairing
 mod Happening
+mod Accounts
+mod Audits
+mod Writings

@@ -6,11 +6,11 @@ use Rattle.rt_code.specs.Image.{Image}
 use Rattle.rt_code.specs.Listable.{IsListable}
 use Rattle.rt_code.specs.Runnable.{IsRunnable}
 use Rattle.rt_listing.specs.Listing.{listing}
-use Rattle.rt_listing.specs.Numbers.{HasShortNumbers}
+use Rattle.rt_listing.specs.Numbers.{HasTypedNumbers}
 use Rattle.rt_top.specs.Inside.Decides.{Lists}
 
 pub lists_by : {T E : Type 0} (app : App) (image : Image) → IsImageOf app image → IsRunnable image → IsListable image
-    → (r : Result T E) (text : T → List ℕ) → IfOk r (λ t. text t ≡ listing image) → IfOk r (λ t. HasShortNumbers image)
+    → (r : Result T E) (text : T → List ℕ) → IfOk r (λ t. text t ≡ listing image) → IfOk r (λ t. HasTypedNumbers image)
     → IfOk r (λ t. Lists app (text t))
 lists_by app image is runnable listable (Ok t) text says numbers = record {
   image = image;

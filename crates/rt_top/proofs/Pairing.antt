@@ -10,7 +10,7 @@ use Rattle.rt_app.specs.Tree.{App}
 use Rattle.rt_build.specs.Accepted.{IsApplication}
 use Rattle.rt_code.specs.Image.{Image}
 use Rattle.rt_dual.specs.Output.{IsPairText, TookPart}
-use Rattle.rt_listing.specs.Numbers.{HasShortNumbers}
+use Rattle.rt_listing.specs.Numbers.{HasTypedNumbers}
 use Rattle.rt_outside.specs.Bytes.{Took}
 use Rattle.rt_outside.specs.Faults.{Rose}
 use Rattle.rt_script.specs.Text as script
@@ -37,6 +37,7 @@ use Rattle.rt_top.proofs.Deciding.{told_text}
 use Rattle.rt_top.proofs.Excluding.{application_passes}
 use Rattle.rt_top.proofs.Giving.{made_tells}
 use Rattle.rt_top.proofs.Happening.{runs_first, runs_second}
+use Rattle.rt_top.proofs.Writings.{first_short, second_short}
 
 -- the line of a second application
 pub second_tells : {E : Type 0} (ended : Status) (own line : List ℕ) → own ≡ line → (made : Result (Vec ℕ Global) E)
@@ -163,12 +164,18 @@ module _ (first second third : Option (List ℕ)) (one : App) (is_one : (text : 
             written = shows.is;
             first_runs = runs_first one image good own asked read other shows.second shows.good text shows.is;
             second_runs = runs_second one image good own asked read other shows.second shows.good text shows.is;
+            first_short =
+                first_short one image good shows.first_numbers own asked read other shows.second shows.good
+                shows.second_numbers text shows.is;
+            second_short =
+                second_short one image good shows.first_numbers own asked read other shows.second shows.good
+                shows.second_numbers text shows.is;
           },
         )))
 
 -- A run of two cores was written, or the sink failed.
 module _ (image second : Image) (other : App) (asked : List Line) (good : IsGoodOf other second)
-    (first_numbers : HasShortNumbers image) (second_numbers : HasShortNumbers second)
+    (first_numbers : HasTypedNumbers image) (second_numbers : HasTypedNumbers second)
     (before after : Option (List ℕ)) (fb fa : ℕ) where
   shows : (bytes : List ℕ) → IsPairText image second asked bytes → ShowsPair image other asked status.Done bytes
   shows bytes is = record {

@@ -8,7 +8,7 @@ use Rattle.rt_app.specs.Tree.{App}
 use Rattle.rt_build.specs.Accepted.{IsApplication}
 use Rattle.rt_code.specs.Image.{Image}
 use Rattle.rt_listing.specs.Listing.{listing}
-use Rattle.rt_listing.specs.Numbers.{HasShortNumbers}
+use Rattle.rt_listing.specs.Numbers.{HasTypedNumbers}
 use Rattle.rt_live.specs.Output.{IsLiveText}
 use Rattle.rt_run.specs.Written.{text_of}
 use Rattle.rt_script.specs.Text as script
@@ -28,7 +28,7 @@ pub run_bytes : (image : Image) (asked : List Line) (front : List ℕ) → front
 run_bytes image asked front is = ap (λ l. l ++ text_of image asked) is
 
 -- a run was written, or the sink failed
-module _ (image : Image) (asked : List Line) (numbers : HasShortNumbers image) (bytes : List ℕ)
+module _ (image : Image) (asked : List Line) (numbers : HasTypedNumbers image) (bytes : List ℕ)
     (same : bytes ≡ run_text image asked) (before after : Option (List ℕ)) (fb fa : ℕ) where
   pub whole_ends : Took before after bytes → EndsAs (ShowsRun image asked) WantsMemory before after fb fa status.Done
   whole_ends took = inl (status.Done, bytes, (refl, numbers, same), inl (refl, took))
@@ -62,7 +62,7 @@ started_by first second app of_text own same (Ok both) image asked good read = r
 started_by first second app of_text own same (Err e) image asked good read = tt
 
 -- what `live` shows was written behind what stands in front of it, or the sink failed
-module _ (image : Image) (asked : List Line) (numbers : HasShortNumbers image) (front : List ℕ)
+module _ (image : Image) (asked : List Line) (numbers : HasTypedNumbers image) (front : List ℕ)
     (is : front ≡ listing image ++ codes "trace\n") (before after : Option (List ℕ)) (fb fa : ℕ) where
   shows : (shown : List ℕ) → IsLiveText image asked shown → ShowsLive image asked status.Done (front ++ shown)
   shows shown live = (refl, numbers, shown, live, ap (λ l. l ++ shown) is)

@@ -8,4 +8,5 @@ pub mod Ends
 pub mod Reads
 pub mod Defined
 pub mod Laws
+pub mod Audited
 pub mod Inside

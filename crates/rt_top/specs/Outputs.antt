@@ -1,10 +1,12 @@
 -- What each command writes where its texts are not refused.
-use Rattle.std.specs.Prelude.{◌≡◌, ℕ, true, false, List, ◌++◌, codes, decimal, length}
+use Rattle.std.specs.Prelude.{◌≡◌, ◌<◌, ℕ, true, false, List, ◌++◌, codes, decimal, length}
+use Rattle.rt_ids.specs.declared.limits.TheConstants.{TRACE_BYTES}
 use Rattle.rt_ids.specs.declared.status.Status.{Status}
 use Rattle.rt_ids.specs.declared.status.Status.TheVariants as status
 use Rattle.rt_ast.specs.Tree as tree
 use Rattle.rt_ast.specs.Canonical.{canonical}
 use Rattle.rt_grammar.specs.Text.{IsText}
+use Rattle.rt_app.specs.Accepted.{IsAccepted}
 use Rattle.rt_app.specs.Tree.{App}
 use Rattle.rt_app.specs.Bounds.{bounds}
 use Rattle.rt_app.specs.Ceiling.{ceilings}
@@ -21,7 +23,7 @@ use Rattle.rt_code.specs.Runnable.{IsRunnable}
 use Rattle.rt_count.specs.Text.{summary_text}
 use Rattle.rt_count.specs.declared.summary.Summary.{Summary}
 use Rattle.rt_listing.specs.Listing.{listing}
-use Rattle.rt_listing.specs.Numbers.{HasShortNumbers}
+use Rattle.rt_listing.specs.Numbers.{HasTypedNumbers}
 use Rattle.rt_live.specs.Interleaving.{turns, interleaving}
 use Rattle.rt_live.specs.Output.{IsLiveText}
 use Rattle.rt_reach.specs.Reached.{ReachesTheBound}
@@ -53,20 +55,22 @@ check_report app = report app (ceilings app) (bounds app)
 abbrev pub IsCheckReport : List ℕ → List ℕ → Type 0
 IsCheckReport text bytes = (app : App) × IsApplication text app × (bytes ≡ check_report app)
 
--- An image of the application, which a core runs, and which is good: whatever happens to it, what it shows is a run of
--- Baker's machine on the application, within the printed bounds. Each name that its listing needs is there.
+-- An image of an accepted application, which a core runs, and which is good: whatever happens to it, what it shows is a
+-- run of Baker's machine on the application, within the printed bounds. Each name that its listing needs is there.
 pub record IsGoodOf (app : App) (image : Image) : Type 0 where
+  pub accepted : IsAccepted app
   pub of_application : IsImageOf app image
   pub runnable : IsRunnable image
   pub listable : IsListable image
   pub good : Good app image
 
--- A good image of the application of a text. It has only short numbers, so its listing is of it alone: of the images
--- over its names that are listable and have only short numbers no other has this listing (`TellsImagesApart`).
+-- A good image of the application of a text. Its numbers are in the range of their types, so they are short, and its
+-- listing is of it alone: of the images over its names that are listable and have only short numbers no other has this
+-- listing (`TellsImagesApart`).
 pub record IsGoodImage (text : List ℕ) (app : App) (image : Image) : Type 0 where
   pub of_text : IsApplication text app
   pub good : IsGoodOf app image
-  pub numbers : HasShortNumbers image
+  pub numbers : HasTypedNumbers image
 
 -- `build`: the listing of a good image
 pub record IsListed (text bytes : List ℕ) : Type 0 where
@@ -85,6 +89,8 @@ pub record IsRun (text more bytes : List ℕ) : Type 0 where
   pub read : IsScriptText (names_of app) more script
   pub written : bytes ≡ listing image ++ codes "trace\n" ++ text_of image script
   pub runs : RunsWell app image (events script)
+  -- the whole is no longer than a trace's text may be, so `audit` reads it
+  pub short : length bytes < TRACE_BYTES
 
 -- the status and the line for a verdict: how many items are right, or the number of the first that is not
 abbrev pub Says : Trace → Verdict → Status → List ℕ → Type 0
@@ -116,6 +122,8 @@ pub record IsLive (text more bytes : List ℕ) : Type 0 where
   pub live : IsLiveText image script shown
   pub written : bytes ≡ listing image ++ codes "trace\n" ++ shown
   pub runs : RunsWell app image (interleaving (turns script) live.found)
+  -- the account too is within what a trace's text may be, so `audit` reads it
+  pub short : length bytes < TRACE_BYTES
 
 -- the summary of so many runs of one good image of an application, each under the script that is generated for it
 abbrev pub TellsSoak : App → ℕ → ℕ → List ℕ → Type 0

@@ -1,12 +1,13 @@
 -- What `pair` writes: the refusal of its second application or of its script, or what two cores show that run beside
 -- each other. It is this project's own.
-use Rattle.std.specs.Prelude.{◌≡◌, ℕ, List, ◌++◌, codes}
+use Rattle.std.specs.Prelude.{◌≡◌, ◌<◌, ℕ, List, ◌++◌, codes, length}
+use Rattle.rt_ids.specs.declared.limits.TheConstants.{TRACE_BYTES}
 use Rattle.rt_app.specs.Names.{names_of}
 use Rattle.rt_app.specs.Tree.{App}
 use Rattle.rt_build.specs.Accepted.{IsApplication}
 use Rattle.rt_code.specs.Image.{Image}
 use Rattle.rt_dual.specs.Course.{first_events, second_events, course_events}
-use Rattle.rt_dual.specs.Output.{IsPairText}
+use Rattle.rt_dual.specs.Output.{IsPairText, core_text}
 use Rattle.rt_script.specs.Text.{IsScriptText}
 use Rattle.rt_script.specs.declared.line.Line.{Line}
 use Rattle.rt_sim.specs.Good.{RunsWell}
@@ -42,3 +43,6 @@ pub record IsPaired (text more last bytes : List ℕ) : Type 0 where
   pub written : IsPairText first_image second_image script bytes
   pub first_runs : RunsWell first first_image (course_events (first_events script) written.one)
   pub second_runs : RunsWell second second_image (course_events (second_events script) written.two)
+  -- the text of each core is within what a trace's text may be, so `audit` reads it
+  pub first_short : length (core_text (codes "core 1\n") first_image (first_events script) written.one) < TRACE_BYTES
+  pub second_short : length (core_text (codes "core 2\n") second_image (second_events script) written.two) < TRACE_BYTES

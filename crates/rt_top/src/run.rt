@@ -5,7 +5,7 @@ ghost use Rattle.rt_outside.specs.Faults.{Rose, HasCause};
 ghost use Rattle.rt_code.specs.Lines.{HasLines};
 ghost use Rattle.rt_core.specs.Machine.{IsFresh};
 ghost use Rattle.rt_listing.specs.Listing.{listing};
-ghost use Rattle.rt_listing.specs.Numbers.{HasShortNumbers};
+ghost use Rattle.rt_listing.specs.Numbers.{HasTypedNumbers};
 ghost use Rattle.rt_script.specs.Script.{HasNames};
 ghost use Rattle.rt_run.specs.Written.{text_of};
 ghost use Rattle.rt_top.specs.Words as word;
@@ -74,7 +74,7 @@ fn run_script<K: Sink>(alloc: Global, core: &mut Core, script: &Script, out: &mu
 /// The listing of an image, with the line that comes before a trace.
 pub(crate) fn heading(alloc: Global, image: &Image) -> Result<Vec<u8>, NoMemory>
     ensures text { IfOk result (λ text. text.items ≡ listing image.now ++ codes "trace\n") }
-    ensures numbers { IfOk result (λ _. HasShortNumbers image.now) }
+    ensures numbers { IfOk result (λ _. HasTypedNumbers image.now) }
 {
     let mut text = listing(alloc, image)?;
     push_bytes(&mut text, b"trace\n")?;

@@ -13,7 +13,7 @@ use Rattle.rt_code.specs.Image.{Image}
 use Rattle.rt_code.specs.Listable.{IsListable}
 use Rattle.rt_code.specs.Runnable.{IsRunnable}
 use Rattle.rt_listing.specs.Listing.{listing}
-use Rattle.rt_listing.specs.Numbers.{HasShortNumbers}
+use Rattle.rt_listing.specs.Numbers.{HasTypedNumbers}
 use Rattle.rt_top.specs.Words as word
 use Rattle.rt_top.specs.Refusal.{refusal_line}
 use Rattle.rt_top.specs.Ends.{Wrote}
@@ -47,7 +47,7 @@ pub record Lists (app : App) (bytes : List ℕ) : Type 0 where
   pub of_application : IsImageOf app image
   pub runnable : IsRunnable image
   pub listable : IsListable image
-  pub numbers : HasShortNumbers image
+  pub numbers : HasTypedNumbers image
   pub says : bytes ≡ listing image
 
 -- a status after the applications were accepted

@@ -6,7 +6,7 @@ use Rattle.rt_app.specs.Names.{names_of}
 use Rattle.rt_app.specs.Tree.{App}
 use Rattle.rt_code.specs.Image.{Image}
 use Rattle.rt_dual.specs.Output.{IsPairText}
-use Rattle.rt_listing.specs.Numbers.{HasShortNumbers}
+use Rattle.rt_listing.specs.Numbers.{HasTypedNumbers}
 use Rattle.rt_script.specs.Text.{IsScriptText}
 use Rattle.rt_script.specs.declared.line.Line.{Line}
 use Rattle.rt_top.specs.Inside.Replies.{Replies}
@@ -26,8 +26,8 @@ pub record ShowsPair (image : Image) (other : App) (asked : List Line) (ended : 
   pub done : ended ≡ status.Done
   pub second : Image
   pub good : IsGoodOf other second
-  pub first_numbers : HasShortNumbers image
-  pub second_numbers : HasShortNumbers second
+  pub first_numbers : HasTypedNumbers image
+  pub second_numbers : HasTypedNumbers second
   pub is : IsPairText image second asked bytes
 
 -- what `pair` says of two applications and the text of a script

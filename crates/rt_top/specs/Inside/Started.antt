@@ -7,7 +7,7 @@ use Rattle.rt_app.specs.Tree.{App}
 use Rattle.rt_build.specs.Accepted.{IsApplication}
 use Rattle.rt_code.specs.Image.{Image}
 use Rattle.rt_listing.specs.Listing.{listing}
-use Rattle.rt_listing.specs.Numbers.{HasShortNumbers}
+use Rattle.rt_listing.specs.Numbers.{HasTypedNumbers}
 use Rattle.rt_live.specs.Output.{IsLiveText}
 use Rattle.rt_script.specs.Text.{IsScriptText, IsRefused}
 use Rattle.rt_script.specs.declared.line.Line.{Line}
@@ -39,10 +39,10 @@ pub record AnswersRefusal (app : App) (more : List ℕ) (ended : Status) (line :
 
 -- what `run` writes of an image under a script; the listing is of this image alone
 abbrev pub ShowsRun : Image → List Line → Status → List ℕ → Type 0
-ShowsRun image asked ended bytes = (ended ≡ status.Done) × HasShortNumbers image × (bytes ≡ run_text image asked)
+ShowsRun image asked ended bytes = (ended ≡ status.Done) × HasTypedNumbers image × (bytes ≡ run_text image asked)
 
 -- what `live` writes of it, likewise
 abbrev pub ShowsLive : Image → List Line → Status → List ℕ → Type 0
 ShowsLive image asked ended bytes =
-    (ended ≡ status.Done) × HasShortNumbers image
+    (ended ≡ status.Done) × HasTypedNumbers image
     × (shown : List ℕ) × IsLiveText image asked shown × (bytes ≡ listing image ++ codes "trace\n" ++ shown)

@@ -1,7 +1,7 @@
 use Rattle.std.proofs.Common.{◌++◌, ℕ, codes, refl, ap, subst, ◌∙◌, List}
 use Rattle.rt_code.specs.Image.{Image}
 use Rattle.rt_listing.specs.Listing.{listing}
-use Rattle.rt_listing.specs.Numbers.{HasShortNumbers}
+use Rattle.rt_listing.specs.Numbers.{HasTypedNumbers}
 use Rattle.rt_live.specs.Output.{IsLiveText}
 use Rattle.rt_outside.specs.Bytes.{Took, TookPrefix}
 use Rattle.rt_script.specs.declared.line.Line.{Line}
@@ -13,7 +13,7 @@ returns-in-Ok-put_live-clause-ends g c =
     let image = c.args.core.now.image in
     let front = c.deref.ensures.value ∙ c.in-Ok.ensures.text
     ∙ ap (λ (i : Image). listing i ++ codes "trace\n") c.image.ensures in
-    live_ends image c.args.script.now (subst HasShortNumbers c.image.ensures c.in-Ok.ensures.numbers)
+    live_ends image c.args.script.now (subst HasTypedNumbers c.image.ensures c.in-Ok.ensures.numbers)
     c.deref.result.now front
     (g.K.Sink.taken c.args.out.now) (g.K.Sink.taken c.put_live.new.out) (g.K.Sink.faults c.args.out.now)
     (g.K.Sink.faults c.put_live.new.out)
@@ -26,7 +26,7 @@ returns-clause-ends g c =
     let image = c.args.core.now.image in
     let front = c.deref.ensures.value ∙ c.in-Ok.ensures.text
     ∙ ap (λ (i : Image). listing i ++ codes "trace\n") c.image.ensures in
-    live_stops image c.args.script.now (subst HasShortNumbers c.image.ensures c.in-Ok.ensures.numbers)
+    live_stops image c.args.script.now (subst HasTypedNumbers c.image.ensures c.in-Ok.ensures.numbers)
     c.deref.result.now front
     (g.K.Sink.taken c.args.out.now) (g.K.Sink.taken c.put_live.new.out) (g.K.Sink.faults c.args.out.now)
     (g.K.Sink.faults c.put_live.new.out) (c.in-Err.ensures.cause.failed refl)

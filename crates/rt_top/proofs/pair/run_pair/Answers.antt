@@ -8,6 +8,7 @@ returns-in-Ok-pair-clause-ends g c =
     let good = c.in-Ok.ensures in
     pair_ends c.args.core.now.image c.in-Ok.second.image (app_of c.args.other.now) c.args.script.now
     (record {
+      accepted = c.requires.accepted;
       of_application = good.image;
       runnable = good.runnable;
       listable = good.lines.listable;
@@ -22,6 +23,7 @@ returns-in-Err-Fault-clause-ends g c =
     let good = c.in-Ok.ensures in
     pair_stops c.args.core.now.image c.in-Ok.second.image (app_of c.args.other.now) c.args.script.now
     (record {
+      accepted = c.requires.accepted;
       of_application = good.image;
       runnable = good.runnable;
       listable = good.lines.listable;

@@ -14,6 +14,7 @@ pub returns-in-Ok-read_script-clause-good : goal.returns-in-Ok-read_script-claus
 returns-in-Ok-read_script-clause-good g c =
     let good = c.in-Ok.ensures in
     record {
+      accepted = c.requires.accepted;
       of_application = good.image;
       runnable = good.runnable;
       listable = good.lines.listable;

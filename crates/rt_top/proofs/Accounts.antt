@@ -1,0 +1,106 @@
+-- The lines of an account: a reader of traces passes over them, and they are few and short.
+use Rattle.std.proofs.Common.{◌≡◌, ℕ, ◌+◌, ◌*◌, ◌≤◌, ◌==◌, true, false, List, [], ◌∷◌, ◌++◌, length}
+use Rattle.std.proofs.Common.{map}
+use Rattle.std.proofs.Common.{flat_map, codes, decimal, Option, Some, None, option_map, unwrap_or, eqb, refl, sym}
+use Rattle.std.proofs.Common.{arith, length-append}
+use Rattle.std.specs.List.{AllByRecursion, list_all}
+use Rattle.std.proofs.lemmas.List.{length-map}
+use Rattle.rt_lemmas.proofs.Bools.{left_of_none, right_of_none}
+use Rattle.rt_lemmas.proofs.Lists.{find_has, flat_map-map}
+use Rattle.rt_lemmas.proofs.Membership.{all_weaker}
+use Rattle.rt_ids.specs.Names.{Names, AreNames}
+use Rattle.rt_ids.specs.Naming.{irq_named, irq_name}
+use Rattle.rt_ids.specs.Word.{IsName}
+use Rattle.rt_listing.proofs.Reading.{is_blank}
+use Rattle.rt_live.specs.Account.{account_text, counts_of, declared_irqs}
+use Rattle.rt_live.specs.declared.account.AccountRow.{AccountRow}
+use Rattle.rt_load.proofs.Clean.{IsClean, is_mark, decimal_clean}
+use Rattle.rt_load.proofs.Lengths.{decimal_few}
+use Rattle.rt_trace.specs.Reading.{is_account}
+use Rattle.rt_trace.specs.Text.{spaced_text}
+use Rattle.rt_trace.proofs.Short.{irq_name_short}
+use Rattle.rt_trace.proofs.Unbroken.{IsUnbroken, fed, name_unbroken, spaced_unbroken, unbroken_append}
+
+-- the line of a row, without its line feed
+abbrev account_line : Names → AccountRow → List ℕ
+account_line names row = codes "account" ++ spaced_text (irq_name names row.irq ∷ map decimal (counts_of row))
+
+abbrev pub account_lines : Names → List AccountRow → List (List ℕ)
+account_lines names rows = map (account_line names) rows
+
+pub account_fed : (names : Names) (rows : List AccountRow) → account_text names rows
+    ≡ flat_map fed (account_lines names rows)
+account_fed names rows = sym (flat_map-map fed (account_line names) rows)
+
+pub account_told : (names : Names) (rows : List AccountRow) → list_all is_account (account_lines names rows) ≡ true
+account_told names [] = refl
+account_told names (row ∷ rows) = account_told names rows
+
+clean_unbroken : (w : List ℕ) → IsClean w → IsUnbroken w
+clean_unbroken w clean =
+    all_weaker (λ b. is_mark b ≡ false) (λ b. (b == 10) ≡ false)
+    (λ b no. right_of_none (eqb b 32) (eqb b 10) (left_of_none (is_blank b) (eqb b 59) no)) w clean
+
+decimals_unbroken : (ns : List ℕ) → AllByRecursion IsUnbroken (map decimal ns)
+decimals_unbroken [] = tt
+decimals_unbroken (n ∷ ns) = (clean_unbroken (decimal n) (decimal_clean n), decimals_unbroken ns)
+
+found_unbroken : (found : Option (List ℕ × ℕ)) → ((irq : List ℕ × ℕ) → found ≡ Some irq → IsName irq.0)
+    → IsUnbroken (unwrap_or (option_map (λ irq. irq.0) found) [])
+found_unbroken None named = tt
+found_unbroken (Some irq) named = let name = named irq refl in name_unbroken irq.0 name.identifier
+
+irq_unbroken : (names : Names) (number : ℕ) → AreNames names → IsUnbroken (irq_name names number)
+irq_unbroken names number are = found_unbroken (irq_named names number)
+    (λ irq found. find_has (λ irq. IsName irq.0) (λ irq. irq.1 == number) names.irqs irq are.irqs found)
+
+pub account_unbroken : (names : Names) (rows : List AccountRow) → AreNames names
+    → AllByRecursion IsUnbroken (account_lines names rows)
+account_unbroken names [] are = tt
+account_unbroken names (row ∷ rows) are = (
+  unbroken_append (codes "account") (spaced_text (irq_name names row.irq ∷ map decimal (counts_of row)))
+      (refl, (refl, (refl, (refl, (refl, (refl, (refl, tt)))))))
+      (spaced_unbroken (irq_name names row.irq ∷ map decimal (counts_of row))
+      (irq_unbroken names row.irq are, decimals_unbroken (counts_of row))),
+  account_unbroken names rows are,
+)
+
+spaced_few : (ns : List ℕ) → length (spaced_text (map decimal ns)) ≤ 65 * length ns
+spaced_few [] = omega arith
+spaced_few (n ∷ ns) =
+    omega (arith, decimal_few n, spaced_few ns, length-append (32 ∷ decimal n) (spaced_text (map decimal ns)))
+
+line_few : (names : Names) (row : AccountRow) → AreNames names → length (account_line names row) ≤ 300
+line_few names row are =
+    let name = irq_name_short names row.irq are in
+    omega (
+      arith,
+      name,
+      spaced_few (counts_of row),
+      length-append (32 ∷ irq_name names row.irq) (spaced_text (map decimal (counts_of row))),
+      length-append (codes "account") (spaced_text (irq_name names row.irq ∷ map decimal (counts_of row))),
+    )
+
+lines_few : (names : Names) (rows : List AccountRow) → AreNames names
+    → length (flat_map fed (account_lines names rows)) ≤ 301 * length rows
+lines_few names [] are = omega arith
+lines_few names (row ∷ rows) are =
+    omega (
+      arith,
+      line_few names row are,
+      lines_few names rows are,
+      length-append (account_line names row) (10 ∷ []),
+      length-append (fed (account_line names row)) (flat_map fed (account_lines names rows)),
+    )
+
+-- the account of the declared interrupts
+pub account_brief : (names : Names) (f : ℕ → AccountRow) → AreNames names
+    → length (flat_map fed (account_lines names (map f (declared_irqs names)))) ≤ 100000
+account_brief names f are =
+    omega (
+      arith,
+      lines_few names (map f (declared_irqs names)) are,
+      length-map (declared_irqs names) f,
+      length-map names.irqs (λ (irq : List ℕ × ℕ). irq.1),
+      are.few_irqs,
+    )
