@@ -36,5 +36,6 @@ pub mod Unspent
 pub mod Good
 pub mod Responding
 pub mod Rows
+pub mod RowsOwned
 pub mod Prepared
 pub mod Judging
