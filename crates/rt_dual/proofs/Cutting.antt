@@ -1,133 +1,181 @@
 -- Turns of which the first events were done.
-use Rattle.std.proofs.Common.{◌≡◌, ℕ, ◌<◌, inl, inr, List, [], ◌∷◌, ◌++◌, length, Option, refl, ap}
-use Rattle.std.proofs.Common.{sym, subst, ◌∙◌, append_assoc, arith}
+use Rattle.std.proofs.Common.{◌≡◌, ℕ, zero, suc, ◌+◌, ◌-◌, ◌<◌, ◌≤◌, inl, inr, List, [], ◌∷◌, ◌++◌, length, Some, refl}
+use Rattle.std.proofs.Common.{ap, sym, subst, ◌∙◌, append_assoc, arith}
+use Rattle.std.specs.List.{AllByRecursion}
 use Rattle.std.proofs.lemmas.Bool.{cases_lt}
-use Rattle.std.proofs.lemmas.List.{append-nil, length-append}
-use Rattle.rt_ids.specs.Event.{Event, Arrive, Tick, Step}
+use Rattle.std.proofs.lemmas.List.{append-nil, length-append, length-replicate}
+use Rattle.rt_lemmas.proofs.Membership.{all_append}
+use Rattle.rt_ids.specs.Event.{Event}
+use Rattle.rt_ids.specs.Names.{Names}
+use Rattle.rt_code.specs.Image.{Image}
 use Rattle.rt_core.specs.Machine.{Machine}
-use Rattle.rt_run.specs.Done.{Leads, HasDone}
-use Rattle.rt_run.specs.Sending.{Breaks}
-use Rattle.rt_run.proofs.Advancing.{leads_on, stands_still}
+use Rattle.rt_run.specs.Done.{Leads}
+use Rattle.rt_run.specs.Sending.{EndsInItem}
+use Rattle.rt_run.proofs.Advancing.{leads_on, stands_still, ends_behind}
+use Rattle.rt_run.proofs.Sent.{breaks_end}
+use Rattle.rt_trace.specs.Lined.{IsDeclared}
 use Rattle.rt_words.specs.declared.call.Call.{Call}
-use Rattle.rt_live.specs.Interleaving.{Turn, Happens, Looks, looks, look_arrivals, interleaving}
-use Rattle.rt_live.specs.Going.{Stops}
+use Rattle.rt_live.specs.Interleaving.{Turn, looks, arrivals_from, look_arrivals, interleaving}
+use Rattle.rt_live.specs.Going.{IsWholeLook, FindsDeclared, Stops}
+use Rattle.rt_live.proofs.Bits.{zero_arrives}
+use Rattle.rt_live.proofs.Further.{found_on, interleaving_finished}
+use Rattle.rt_live.proofs.Onward.{zeros}
 use Rattle.rt_live.proofs.Woven.{looks-append, interleaving_on, interleaving_short}
-use Rattle.rt_dual.specs.Inside.Running.{BeginsTurns}
+use Rattle.rt_dual.specs.Output.{HasBegun}
+use Rattle.rt_dual.specs.Inside.Running.{Runs, BeginsTurns}
+use Rattle.rt_dual.specs.declared.side.Side.{Side}
 
--- the first events of more
-pub done_before : (es fs : List Event) (a b : Machine) → HasDone es a b → HasDone (es ++ fs) a b
-done_before es fs a b done = record {
-  done = done.done;
-  rest = done.rest ++ fs;
-  parts = ap (λ t. t ++ fs) done.parts ∙ append_assoc done.done done.rest fs;
-  leads = done.leads;
-}
+-- words of 0 behind those of a look that was cut make it whole
+abbrev padded_look : List ℕ → List ℕ
+padded_look words = words ++ zeros (16 - length words)
 
--- all events, and the first behind them
-pub done_behind : (es fs : List Event) (a b c : Machine) → Leads es a b → HasDone fs b c → HasDone (es ++ fs) a c
-done_behind es fs a b c run done = record {
-  done = es ++ done.done;
-  rest = done.rest;
-  parts = ap (λ t. es ++ t) done.parts ∙ sym (append_assoc es done.done done.rest);
-  leads = leads_on es done.done a b c run done.leads;
-}
-
--- all of them
-pub all_done : (es : List Event) (a b : Machine) → Leads es a b → HasDone es a b
-all_done es a b run = record { done = es; rest = []; parts = sym (append-nil es); leads = run }
-
--- the events of one look more begin with what it found
-look_more : (ts : List Turn) (found : List (List ℕ)) (last : List ℕ) → length found < looks ts
-    → (behind : List Event) × (interleaving ts (found ++ last ∷ []) ≡ (interleaving ts found ++ look_arrivals last)
-    ++ behind)
-look_more [] found last few = absurd (omega (arith, few))
-look_more (Happens Tick ∷ ts) found last few =
-    let rest = look_more ts found last few in
-    (rest.0, ap (λ es. Tick ∷ es) rest.1)
-look_more (Happens (Arrive irq) ∷ ts) found last few =
-    let rest = look_more ts found last few in
-    (rest.0, ap (λ es. Arrive irq ∷ es) rest.1)
-look_more (Happens Step ∷ ts) [] last few = (Step ∷ interleaving ts [], refl)
-look_more (Happens Step ∷ ts) (ws ∷ found) last few =
-    let rest = look_more ts found last (omega (arith, few)) in
-    let front : List Event = Step ∷ interleaving ts found in (
-      rest.0,
-      ap (λ es. look_arrivals ws ++ Step ∷ es) rest.1
-          ∙ sym (ap (λ es. es ++ rest.0) (append_assoc (look_arrivals ws) front (look_arrivals last))
-          ∙ append_assoc (look_arrivals ws) (front ++ look_arrivals last) rest.0),
-    )
-look_more (Looks ∷ ts) [] last few = (interleaving ts [], refl)
-look_more (Looks ∷ ts) (ws ∷ found) last few =
-    let rest = look_more ts found last (omega (arith, few)) in (
-      rest.0,
-      ap (λ es. look_arrivals ws ++ es) rest.1
-          ∙ sym (ap (λ es. es ++ rest.0) (append_assoc (look_arrivals ws) (interleaving ts found) (look_arrivals last))
-          ∙ append_assoc (look_arrivals ws) (interleaving ts found ++ look_arrivals last) rest.0),
+padded_whole : (words : List ℕ) → length words < 16 → IsWholeLook (padded_look words)
+padded_whole words short =
+    omega (
+      arith,
+      short,
+      length-append words (zeros (16 - length words)),
+      length-replicate {A = ℕ} (16 - length words) 0,
     )
 
-broken_done : (es : List Event) (a b : Machine) (x y : Option (List ℕ)) → Breaks es a b x y → HasDone es a b
-broken_done es a b x y cut = record {
-  done = cut.done ++ cut.last ∷ [];
-  rest = cut.rest;
-  parts = cut.parts ∙ sym (append_assoc cut.done (cut.last ∷ []) cut.rest);
-  leads = cut.leads;
-}
+zeros_arrive : (k n : ℕ) → arrivals_from k (zeros n) ≡ []
+zeros_arrive k zero = refl
+zeros_arrive k (suc n) = ap (λ is. is ++ arrivals_from (suc k) (zeros n)) (zero_arrives k 0 refl)
+    ∙ zeros_arrive (suc k) n
 
-module _ (ts : List Turn) (calls calls' : List Call) (a b : Machine) (x y : Option (List ℕ)) where
+padded_declared : (names : Names) (words : List ℕ) → FindsDeclared names words
+    → FindsDeclared names (padded_look words)
+padded_declared names words declared =
+    subst (AllByRecursion (IsDeclared names))
+    (sym (found_on 0 words (zeros (16 - length words))
+    ∙ ap (λ is. arrivals_from 0 words ++ is) (zeros_arrive (0 + length words) (16 - length words))
+    ∙ append-nil (arrivals_from 0 words))) declared
+
+module _ (ts : List Turn) (calls calls' : List Call) (a b : Machine) (x y : List ℕ)
+    (cut : Stops ts calls calls' a b (Some x) (Some y)) where
+  came : List Event
+  came = cut.breaks.done ++ cut.breaks.last ∷ []
+
+  all_parts : interleaving ts cut.found ++ look_arrivals cut.last ≡ came ++ cut.breaks.rest
+  unfolding came
+  all_parts = cut.breaks.parts ∙ sym (append_assoc cut.breaks.done (cut.breaks.last ∷ []) cut.breaks.rest)
+
+  leads : Leads came a b
+  unfolding came
+  leads = cut.breaks.leads
+
+  ends : EndsInItem came a
+  unfolding came
+  ends = breaks_end (interleaving ts cut.found ++ look_arrivals cut.last) a b x y cut.breaks
+
+  at_end : cut.last ≡ [] → length cut.found ≤ looks ts → BeginsTurns ts a b
+  at_end none most = record {
+    found = cut.found;
+    few = most;
+    whole = cut.whole;
+    declared = cut.declared;
+    done = came;
+    rest = cut.breaks.rest;
+    parts =
+        sym (append-nil (interleaving ts cut.found))
+        ∙ sym (ap (λ ws. interleaving ts cut.found ++ look_arrivals ws) none) ∙ all_parts;
+    leads = leads;
+    ends = ends;
+  }
+
+  in_midst : length cut.found < looks ts → BeginsTurns ts a b
+  in_midst less =
+      let more = interleaving_finished ts cut.found [] cut.last (zeros (16 - length cut.last)) less in
+      record {
+        found = cut.found ++ padded_look cut.last ∷ [];
+        few = omega (arith, length-append cut.found (padded_look cut.last ∷ []), less);
+        whole =
+            all_append IsWholeLook cut.found (padded_look cut.last ∷ []) cut.whole
+            (padded_whole cut.last cut.short, tt);
+        declared =
+            all_append (FindsDeclared a.image.names) cut.found (padded_look cut.last ∷ []) cut.declared
+            (padded_declared a.image.names cut.last cut.last_declared, tt);
+        done = came;
+        rest = cut.breaks.rest ++ more.0;
+        parts = more.1 ∙ ap (λ es. es ++ more.0) all_parts ∙ append_assoc came cut.breaks.rest more.0;
+        leads = leads;
+        ends = ends;
+      }
+
   -- a fault in them
-  pub stopped : Stops ts calls calls' a b x y → BeginsTurns ts a b
-  stopped cut = elim cut.few [
-    | inl less ↦ in_midst less
-    | inr most ↦ record { found = cut.found; few = most.1; done = at_end most.0 }
-  ]
-    where
-      came : HasDone (interleaving ts cut.found ++ look_arrivals cut.last) a b
-      came = broken_done (interleaving ts cut.found ++ look_arrivals cut.last) a b x y cut.breaks
+  pub stopped : BeginsTurns ts a b
+  stopped = elim cut.few [ inl less ↦ in_midst less | inr most ↦ at_end most.0 most.1 ]
 
-      at_end : cut.last ≡ [] → HasDone (interleaving ts cut.found) a b
-      at_end none =
-          subst (λ es. HasDone es a b)
-          (ap (λ ws. interleaving ts cut.found ++ look_arrivals ws) none ∙ append-nil (interleaving ts cut.found)) came
-
-      in_midst : length cut.found < looks ts → BeginsTurns ts a b
-      in_midst less =
-          let more = look_more ts cut.found cut.last less in
-          record {
-            found = cut.found ++ cut.last ∷ [];
-            few = omega (arith, length-append cut.found (cut.last ∷ []), less);
-            done =
-                subst (λ es. HasDone es a b) (sym more.1)
-                (done_before (interleaving ts cut.found ++ look_arrivals cut.last) more.0 a b came);
-          }
+-- what more turns add to the events of some
+more_turns : (ts us : List Turn) (found : List (List ℕ)) → length found ≤ looks ts
+    → (more : List Event) × (interleaving (ts ++ us) found ≡ interleaving ts found ++ more)
+more_turns ts us found few = elim (cases_lt (length found) (looks ts)) [
+  | inl less ↦ (
+    [],
+    interleaving_short ts us found less ∙ sym (append-nil (interleaving ts found)),
+  )
+  | inr most ↦ (
+    interleaving us [],
+    ap (interleaving (ts ++ us)) (sym (append-nil found)) ∙ interleaving_on ts us found [] (omega (arith, most, few)),
+  )
+]
 
 -- the first of more turns
 pub begins_before : (ts us : List Turn) (a b : Machine) → BeginsTurns ts a b → BeginsTurns (ts ++ us) a b
-begins_before ts us a b begun = record {
-  found = begun.found;
-  few = omega (arith, looks-append ts us, begun.few);
-  done = elim (cases_lt (length begun.found) (looks ts)) [
-    | inl less ↦ subst (λ es. HasDone es a b) (sym (interleaving_short ts us begun.found less)) begun.done
-    | inr more ↦ subst (λ es. HasDone es a b) (sym (all (omega (arith, more, begun.few))))
-        (done_before (interleaving ts begun.found) (interleaving us []) a b begun.done)
-  ];
-}
-  where
-    all : length begun.found ≡ looks ts → interleaving (ts ++ us) begun.found ≡ interleaving ts begun.found
-        ++ interleaving us []
-    all many =
-        ap (interleaving (ts ++ us)) (sym (append-nil begun.found)) ∙ interleaving_on ts us begun.found [] many
+begins_before ts us a b begun =
+    let more = more_turns ts us begun.found begun.few in
+    record {
+      found = begun.found;
+      few = omega (arith, looks-append ts us, begun.few);
+      whole = begun.whole;
+      declared = begun.declared;
+      done = begun.done;
+      rest = begun.rest ++ more.0;
+      parts = more.1 ∙ ap (λ es. es ++ more.0) begun.parts ∙ append_assoc begun.done begun.rest more.0;
+      leads = begun.leads;
+      ends = begun.ends;
+    }
 
 -- all turns, and the first behind them
-pub begins_behind : (ts us : List Turn) (found : List (List ℕ)) (a b c : Machine) → length found ≡ looks ts
-    → Leads (interleaving ts found) a b → BeginsTurns us b c → BeginsTurns (ts ++ us) a c
-begins_behind ts us found a b c many run begun = record {
-  found = found ++ begun.found;
-  few = omega (arith, length-append found begun.found, looks-append ts us, many, begun.few);
-  done =
-      subst (λ es. HasDone es a c) (sym (interleaving_on ts us found begun.found many))
-      (done_behind (interleaving ts found) (interleaving us begun.found) a b c run begun.done);
+pub begins_behind : (ts us : List Turn) (a b c : Machine) (s t : Side) → Runs ts a b s t → BeginsTurns us b c
+    → BeginsTurns (ts ++ us) a c
+begins_behind ts us a b c s t run begun =
+    let front : List Event = interleaving ts run.found in
+    record {
+      found = run.found ++ begun.found;
+      few = omega (arith, length-append run.found begun.found, looks-append ts us, run.many, begun.few);
+      whole = all_append IsWholeLook run.found begun.found run.whole begun.whole;
+      declared =
+          all_append (FindsDeclared a.image.names) run.found begun.found run.declared
+          (subst (λ (i : Image). AllByRecursion (FindsDeclared i.names) begun.found) run.sends.leads.image
+          begun.declared);
+      done = front ++ begun.done;
+      rest = begun.rest;
+      parts =
+          interleaving_on ts us run.found begun.found run.many ∙ ap (λ es. front ++ es) begun.parts
+          ∙ sym (append_assoc front begun.done begun.rest);
+      leads = leads_on front begun.done a b c run.sends.leads begun.leads;
+      ends = ends_behind front begun.done a b run.sends.leads begun.ends;
+    }
+
+-- a core that stopped in its turns has begun them
+pub has_begun : (ts : List Turn) (a b : Machine) → BeginsTurns ts a b → HasBegun ts a b
+has_begun ts a b begun = record {
+  found = begun.found;
+  few = begun.few;
+  whole = begun.whole;
+  declared = begun.declared;
+  done = record { done = begun.done; rest = begun.rest; parts = begun.parts; leads = begun.leads };
+  stops = inr (inl begun.ends);
 }
 
 -- nothing was done
-pub none_begun : (ts : List Turn) (m : Machine) → (found : List (List ℕ)) × HasDone (interleaving ts found) m m
-none_begun ts m = ([], record { done = []; rest = interleaving ts []; parts = refl; leads = stands_still m })
+pub none_begun : (ts : List Turn) (m : Machine) → HasBegun ts m m
+none_begun ts m = record {
+  found = [];
+  few = omega arith;
+  whole = tt;
+  declared = tt;
+  done = record { done = []; rest = interleaving ts []; parts = refl; leads = stands_still m };
+  stops = inl refl;
+}

@@ -65,7 +65,7 @@ once_begun n total ts a b c s t within first begun =
     subst (λ us. BeginsTurns us a c) all
     (begins_before (repeated_turns (n + 1) ts) (repeated_turns rest ts) a c
     (subst (λ us. BeginsTurns us a c) (repeated_more n ts)
-    (begins_behind (repeated_turns n ts) ts first.found a b c first.many first.sends.leads begun)))
+    (begins_behind (repeated_turns n ts) ts a b c s t first begun)))
 
 -- the events of a line are its turns
 repeated_one : (n : ℕ) (e : Event) → repeated_turns n (Happens e ∷ []) ≡ map Happens (replicate n e)
@@ -178,8 +178,7 @@ module _ (core_id : CoreId) (script : List Line) (i : ℕ) (line : Line) (below 
       (begins_before (own_turns core_id (take (i + 1) script)) (own_turns core_id (drop (i + 1) script)) a c
       (subst (λ ts. BeginsTurns ts a c) (sym own_more)
       (begins_behind (own_turns core_id (take i script)) (repeated_turns (count_of line) (turn_of core_id line))
-      first.found a b c
-      first.many first.sends.leads begun)))
+      a b c s t first begun)))
     where
       all : own_turns core_id (take (i + 1) script) ++ own_turns core_id (drop (i + 1) script)
           ≡ own_turns core_id script

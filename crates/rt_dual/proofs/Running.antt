@@ -1,5 +1,5 @@
 -- Turns of a core of a pair that go on where others ended.
-use Rattle.std.proofs.Common.{◌≡◌, ℕ, ◌+◌, ◌≤◌, List, [], ◌∷◌, ◌++◌, flat_map, length, Option, Some}
+use Rattle.std.proofs.Common.{◌≡◌, ℕ, ◌+◌, ◌<◌, ◌≤◌, inl, inr, List, [], ◌∷◌, ◌++◌, flat_map, length, Option, Some}
 use Rattle.std.proofs.Common.{option_to_list, refl, ap, sym, subst, ◌∙◌, append_assoc, arith}
 use Rattle.std.specs.List.{AllByRecursion}
 use Rattle.std.proofs.lemmas.List.{append-nil, length-append}
@@ -8,8 +8,10 @@ use Rattle.rt_ids.specs.Event.{Event, Step, steps}
 use Rattle.rt_core.specs.Machine.{Machine}
 use Rattle.rt_core.specs.Stepping.{step}
 use Rattle.rt_core.specs.Trace.{labels}
-use Rattle.rt_run.specs.Done.{HasDone}
+use Rattle.rt_code.specs.Image.{Image}
+use Rattle.rt_run.specs.Done.{Leads}
 use Rattle.rt_run.specs.Sending.{Sends, shown_items, lines_of}
+use Rattle.rt_run.proofs.Advancing.{leads_on, ends_behind, ends_at}
 use Rattle.rt_run.proofs.Known.{time_led}
 use Rattle.rt_run.proofs.Sent.{sends_none, sends_on}
 use Rattle.rt_outside.specs.Bytes.{Took}
@@ -18,16 +20,16 @@ use Rattle.rt_trace.specs.declared.item.What.{What}
 use Rattle.rt_words.specs.Lines.{Row, Core, Line}
 use Rattle.rt_live.specs.Interleaving.{Turn, Happens, Looks, looks, look_arrivals, arrivals_from, look_calls}
 use Rattle.rt_live.specs.Interleaving.{interleaving}
-use Rattle.rt_live.specs.Going.{IsWholeLook, Goes, IsSameLine}
+use Rattle.rt_live.specs.Going.{IsWholeLook, FindsDeclared, Goes, IsSameLine}
 use Rattle.rt_live.proofs.Owning.{still_able, same_line, same_line_on}
 use Rattle.rt_live.proofs.Turning.{calls_on}
 use Rattle.rt_live.proofs.Woven.{looks-append, interleaving_on, steps_woven, ticks_woven, looks_below, all_latches}
 use Rattle.rt_live.proofs.Woven.{look_steps, no_steps}
+use Rattle.rt_dual.specs.Output.{HasBegun}
 use Rattle.rt_dual.specs.Inside.Forwarding.{Forwards, MayForward, IsSameBut, irqs_routed, irq_of_shown}
 use Rattle.rt_dual.specs.Inside.Running.{CanRun, Runs, BeginsTurns, Ends}
 use Rattle.rt_dual.specs.declared.kept.Kept.{Kept}
 use Rattle.rt_dual.specs.declared.side.Side.{Side}
-use Rattle.rt_dual.proofs.Cutting.{all_done, done_behind}
 use Rattle.rt_dual.proofs.Forwarding.{forwards_none, forwards_on, routed_split, silent, step_forwards}
 
 -- no turn was done
@@ -37,6 +39,7 @@ runs_none m s = record {
   found = [];
   many = refl;
   whole = tt;
+  declared = tt;
   latched = sym (append-nil s.line.calls);
   sends = sends_none m (Some s.trace.bytes.items);
   forwards = forwards_none s.bell;
@@ -59,6 +62,10 @@ runs_on ts us a b c s t u first second = record {
     second.many,
   );
   whole = all_append IsWholeLook first.found second.found first.whole second.whole;
+  declared =
+      all_append (FindsDeclared a.image.names) first.found second.found first.declared
+      (subst (λ (i : Image). AllByRecursion (FindsDeclared i.names) second.found) first.sends.leads.image
+      second.declared);
   latched =
       calls_on s.line.calls t.line.calls u.line.calls first.found second.found first.latched second.latched;
   sends =
@@ -96,6 +103,7 @@ looked a b s l k run same = record {
   found = run.found;
   many = run.many;
   whole = run.whole;
+  declared = run.declared;
   latched = run.latched;
   sends = run.sends;
   forwards =
@@ -116,6 +124,7 @@ happened e ts no_look is no_step a b s k sends = record {
   found = [];
   many = sym no_look;
   whole = tt;
+  declared = tt;
   latched = sym (append-nil s.line.calls);
   sends = subst (λ es. Sends es a b (Some s.trace.bytes.items) (Some k.bytes.items)) (sym is) sends;
   forwards =
@@ -139,17 +148,18 @@ module _ (a b : Machine) (s : Side) (l : Core) (k : Kept)
       → length u.bell.calls ≤ length s.bell.calls + 1
       → IsSameBut (record s { line = l; trace = m }) u → Runs (Happens Step ∷ []) a c s u
   stepped c m same sends shown is u forwards few rest =
-      at run.found run.many run.whole run.latched run.sends
+      at run.found run.many run.whole run.declared run.latched run.sends
     where
       at : (found : List (List ℕ)) → length found ≡ 1 → AllByRecursion IsWholeLook found
-          → l.calls ≡ s.line.calls ++ flat_map look_calls found
+          → AllByRecursion (FindsDeclared a.image.names) found → l.calls ≡ s.line.calls ++ flat_map look_calls found
           → Sends (interleaving (Looks ∷ []) found) a b (Some s.trace.bytes.items) (Some k.bytes.items)
           → Runs (Happens Step ∷ []) a c s u
-      at [] many whole latched came = absurd (omega (arith, many))
-      at (ws ∷ []) many whole latched came = record {
+      at [] many whole declared latched came = absurd (omega (arith, many))
+      at (ws ∷ []) many whole declared latched came = record {
         found = ws ∷ [];
         many = refl;
         whole = whole;
+        declared = declared;
         latched = ap (λ (x : Core). x.calls) rest.line ∙ latched;
         sends =
             subst (λ (x : Kept). Sends (look_arrivals ws ++ Step ∷ []) a c (Some s.trace.bytes.items)
@@ -176,27 +186,33 @@ module _ (a b : Machine) (s : Side) (l : Core) (k : Kept)
               ∙ ap (λ is. is ++ irqs_routed s.routes (shown_items b (Step ∷ [])))
               (silent s.routes a.image a.core a.steps (look_arrivals ws) (no_steps (arrivals_from 0 ws)))
               ∙ step_forwards s.routes b shown is
-      at (ws ∷ vs ∷ found) many whole latched came = absurd (omega (arith, many))
+      at (ws ∷ vs ∷ found) many whole declared latched came = absurd (omega (arith, many))
 
-  -- or the step was not shown
-  pub step_begun : (c : Machine) → HasDone (Step ∷ []) b c → BeginsTurns (Happens Step ∷ []) a c
-  step_begun c done = at run.found run.many run.sends
+  -- or the line of its item was not kept
+  pub step_begun : (c : Machine) → Leads (Step ∷ []) b c → 0 < length (shown_items b (Step ∷ []))
+      → BeginsTurns (Happens Step ∷ []) a c
+  step_begun c done shows = at run.found run.many run.whole run.declared run.sends
     where
-      at : (found : List (List ℕ)) → length found ≡ 1
+      at : (found : List (List ℕ)) → length found ≡ 1 → AllByRecursion IsWholeLook found
+          → AllByRecursion (FindsDeclared a.image.names) found
           → Sends (interleaving (Looks ∷ []) found) a b (Some s.trace.bytes.items) (Some k.bytes.items)
           → BeginsTurns (Happens Step ∷ []) a c
-      at [] many came = absurd (omega (arith, many))
-      at (ws ∷ []) many came = record {
+      at [] many whole declared came = absurd (omega (arith, many))
+      at (ws ∷ []) many whole declared came = record {
         found = ws ∷ [];
         few = omega arith;
-        done =
-            done_behind (look_arrivals ws) (Step ∷ []) a b c
-            (let alone : Sends (look_arrivals ws) a b (Some s.trace.bytes.items) (Some k.bytes.items) =
-            subst (λ es. Sends es a b (Some s.trace.bytes.items) (Some k.bytes.items)) (append-nil (look_arrivals ws))
-            came in
-            alone.leads) done;
+        whole = whole;
+        declared = declared;
+        done = look_arrivals ws ++ Step ∷ [];
+        rest = [];
+        parts = sym (append-nil (look_arrivals ws ++ Step ∷ []));
+        leads = leads_on (look_arrivals ws) (Step ∷ []) a b c arrived done;
+        ends = ends_behind (look_arrivals ws) (Step ∷ []) a b arrived (ends_at Step b shows);
       }
-      at (ws ∷ vs ∷ found) many came = absurd (omega (arith, many))
+        where
+          arrived : Leads (look_arrivals ws) a b
+          arrived = subst (λ es. Leads es a b) (append-nil (look_arrivals ws)) came.leads
+      at (ws ∷ vs ∷ found) many whole declared came = absurd (omega (arith, many))
 
 -- what turns leave to be done
 pub can_on : (ts : List Turn) (n k : ℕ) (a b : Machine) (s t : Side) (words there : Row) → Runs ts a b s t
@@ -233,11 +249,19 @@ pub can_fewer : (n k : ℕ) (m : Machine) (s : Side) (words there : Row) → n �
 can_fewer n k m s words there fits can = can_on [] n k m m s s words there (runs_none m s) (omega (arith, fits)) can
 
 -- turns that were done have begun
-pub all_begun : (ts : List Turn) (a b : Machine) (s t : Side) → Runs ts a b s t → BeginsTurns ts a b
+pub all_begun : (ts : List Turn) (a b : Machine) (s t : Side) → Runs ts a b s t → HasBegun ts a b
 all_begun ts a b s t run = record {
   found = run.found;
   few = omega (arith, run.many);
-  done = all_done (interleaving ts run.found) a b run.sends.leads;
+  whole = run.whole;
+  declared = run.declared;
+  done = record {
+    done = interleaving ts run.found;
+    rest = [];
+    parts = sym (append-nil (interleaving ts run.found));
+    leads = run.sends.leads;
+  };
+  stops = inr (inr (refl, run.many));
 }
 
 -- behind all turns the line of the total was kept

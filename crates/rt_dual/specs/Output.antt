@@ -1,16 +1,19 @@
 -- What `pair` may write of two images under a script. The form of the text is this project's own.
-use Rattle.std.specs.Prelude.{◌≡◌, ℕ, List, ◌++◌, Some, Option, codes}
+use Rattle.std.specs.Prelude.{◌≡◌, ℕ, ◌≤◌, ◌⊎◌, List, [], ◌++◌, length, Some, Option, codes}
+use Rattle.std.specs.List.{AllByRecursion}
 use Rattle.rt_ids.specs.Event.{Event, steps}
 use Rattle.rt_code.specs.Image.{Image}
 use Rattle.rt_core.specs.Machine.{Machine}
 use Rattle.rt_listing.specs.Listing.{listing}
 use Rattle.rt_outside.specs.Bytes.{TookPrefix}
 use Rattle.rt_run.specs.Done.{HasDone}
+use Rattle.rt_run.specs.Sending.{EndsInItem}
 use Rattle.rt_script.specs.declared.line.Line.{Line}
 use Rattle.rt_trace.specs.Text.{trace_text}
 use Rattle.rt_words.specs.Ending.{calls_in}
 use Rattle.rt_live.specs.Account.{account_of, account_text, declared_irqs}
-use Rattle.rt_live.specs.Interleaving.{Turn, interleaving}
+use Rattle.rt_live.specs.Going.{IsWholeLook, FindsDeclared}
+use Rattle.rt_live.specs.Interleaving.{Turn, looks, interleaving}
 use Rattle.rt_dual.specs.Course.{Course, IsCourse, first_events, second_events, course_events, course_items}
 use Rattle.rt_dual.specs.Forwarded.{forwarded_irqs}
 
@@ -53,6 +56,14 @@ pub record TookPart (first second : Image) (script : List Line) (before after : 
   pub is : IsPairText first second script bytes
   pub took : TookPrefix before after bytes
 
--- the core has done the first of the events of these turns, for some words of the looks
-abbrev pub HasBegun : List Turn → Machine → Machine → Type 0
-HasBegun ts old new = (found : List (List ℕ)) × HasDone (interleaving ts found) old new
+-- The core has done the first of the events of these turns and no others, for words that its looks may find: no more
+-- looks than the turns have, each of a word of each number, with the bits of declared interrupts alone. It stopped
+-- where memory was wanted for a line: nothing has happened to it, or the last event that it has done shows an item, or
+-- all turns are done.
+pub record HasBegun (ts : List Turn) (old new : Machine) : Type 0 where
+  pub found : List (List ℕ)
+  pub few : length found ≤ looks ts
+  pub whole : AllByRecursion IsWholeLook found
+  pub declared : AllByRecursion (FindsDeclared old.image.names) found
+  pub done : HasDone (interleaving ts found) old new
+  pub stops : (new ≡ old) ⊎ (EndsInItem done.done old ⊎ ((done.rest ≡ []) × (length found ≡ looks ts)))

@@ -11,7 +11,7 @@ ghost use Rattle.rt_dual.specs.Doing.{HasPaired, HasPairedPart};
 ghost use Rattle.rt_dual.specs.Output.{IsPairText, TookPart, HasBegun};
 ghost use Rattle.rt_dual.specs.Inside.Both.{AreBefore, HaveEnded, CanWrite, IsWritten};
 ghost use Rattle.rt_dual.specs.Inside.Own.{events_at, HasNamesAt};
-ghost use Rattle.rt_dual.specs.Inside.Running.{CanRun, Ends, BeginsTurns};
+ghost use Rattle.rt_dual.specs.Inside.Running.{CanRun, Ends};
 
 use crate::core_id::CoreId;
 use crate::half::{Half, account_of, half_of};
@@ -70,8 +70,8 @@ pub fn pair<R: Threads + Sync, K: Sink, G: Gate + Sync>(
     ensures fault { IsErrOf result LiveFail.Fault → Rose (K.faults out.old) (K.faults out.new) }
     ensures quiet { ¬ IsErrOf result LiveFail.Fault → K.faults out.new ≡ K.faults out.old }
 
-    // After either refusal, as behind a whole run, each core has done the first of its events and no others. Where
-    // memory is not there no clause says for which words of its looks.
+    // After either refusal, as behind a whole run, each core has done the first of its events and no others, for words
+    // of declared interrupts. Where memory is not there it has not gone on behind the line that wanted it.
     ensures first_begun { HasBegun (turns (first_events script.now)) first.old first.new }
     ensures second_begun { HasBegun (turns (second_events script.now)) second.old second.new }
 
@@ -159,12 +159,10 @@ fn beside<R: Threads + Sync, G: Gate + Sync>(
     requires second_declared { HasNamesAt right.old.core_id second.old.image.names script.now }
     ensures first_ok { OnOk result.0 (Ends (turns (events_at left.old.core_id script.now)) first.old first.new left.old
         left.new) }
-    ensures first_err { OnErr result.0
-        (BeginsTurns (turns (events_at left.old.core_id script.now)) first.old first.new) }
+    ensures first_begun { HasBegun (turns (events_at left.old.core_id script.now)) first.old first.new }
     ensures second_ok { OnOk result.1
         (Ends (turns (events_at right.old.core_id script.now)) second.old second.new right.old right.new) }
-    ensures second_err { OnErr result.1
-        (BeginsTurns (turns (events_at right.old.core_id script.now)) second.old second.new) }
+    ensures second_begun { HasBegun (turns (events_at right.old.core_id script.now)) second.old second.new }
 {
     join_mut(
         rt,
@@ -174,16 +172,16 @@ fn beside<R: Threads + Sync, G: Gate + Sync>(
             requires declared { HasNamesAt left.now.core_id first.now.image.names script.now }
             ensures ok { OnOk result (Ends (turns (events_at left.entry.now.core_id script.entry.now))
                 first.entry.now first.exit.now left.entry.now left.exit.now) }
-            ensures err { OnErr result (BeginsTurns (turns (events_at left.entry.now.core_id script.entry.now))
-                first.entry.now first.exit.now) }
+            ensures begun { HasBegun (turns (events_at left.entry.now.core_id script.entry.now))
+                first.entry.now first.exit.now }
         { run_side(first, left, here, there, script, gate) },
         &mut || -> Result<(), Failed>
             requires can { CanRun (count script.now + 1) second.now right.now there.now here.now }
             requires declared { HasNamesAt right.now.core_id second.now.image.names script.now }
             ensures ok { OnOk result (Ends (turns (events_at right.entry.now.core_id script.entry.now))
                 second.entry.now second.exit.now right.entry.now right.exit.now) }
-            ensures err { OnErr result (BeginsTurns (turns (events_at right.entry.now.core_id script.entry.now))
-                second.entry.now second.exit.now) }
+            ensures begun { HasBegun (turns (events_at right.entry.now.core_id script.entry.now))
+                second.entry.now second.exit.now }
         { run_side(second, right, there, here, script, gate) },
     )
 }

@@ -1,10 +1,10 @@
 // One core step, whose line is kept and whose item is told.
-ghost use Rattle.std.specs.Prelude.{◌≡◌, ◌+◌, ◌^◌, ◌<◌, [], ◌∷◌, ◌++◌, Some, IfOk, OnOk, OnErr};
+ghost use Rattle.std.specs.Prelude.{◌≡◌, ◌+◌, ◌^◌, ◌<◌, [], ◌∷◌, ◌++◌, length, Some, IfOk, OnOk, OnErr};
 ghost use Rattle.rt_core.specs.Stepping as stepping;
 ghost use Rattle.rt_ids.specs.Event.{Step};
 ghost use Rattle.rt_outside.specs.Faults.{HasCause};
-ghost use Rattle.rt_run.specs.Done.{HasDone};
-ghost use Rattle.rt_run.specs.Sending.{Sends};
+ghost use Rattle.rt_run.specs.Done.{Leads};
+ghost use Rattle.rt_run.specs.Sending.{Sends, shown_items};
 ghost use Rattle.rt_run.specs.Writable.{IsWritable};
 
 use crate::kept::Kept;
@@ -20,7 +20,8 @@ pub(crate) fn show_step(core: &mut Core, trace: &mut Kept) -> Result<Option<What
     ensures ok { OnOk result
         (Sends (Step ∷ []) core.old core.new (Some trace.old.bytes.items) (Some trace.new.bytes.items)) }
     ensures shown { IfOk result (λ shown. shown ≡ (stepping.step core.old.image core.old.core).1) }
-    ensures err { OnErr result (HasDone (Step ∷ []) core.old core.new) }
+    ensures err { OnErr result (Leads (Step ∷ []) core.old core.new) }
+    ensures some { OnErr result (0 < length (shown_items core.old (Step ∷ []))) }
     ensures cause { HasCause trace.old.failed trace.new.failed result }
     ensures quiet { OnOk result (trace.new.failed ≡ trace.old.failed) }
 {

@@ -6,6 +6,7 @@ ghost use Rattle.rt_script.specs.Script.{count, count_of};
 ghost use Rattle.rt_run.specs.Writable.{IsWritable};
 ghost use Rattle.rt_live.specs.Interleaving.{Happens, Looks, repeated_turns};
 ghost use Rattle.rt_dual.specs.Course.{turns};
+ghost use Rattle.rt_dual.specs.Output.{HasBegun};
 ghost use Rattle.rt_dual.specs.Inside.Own.{turn_of, request_of, own_turns, events_at, HasNameAt, HasNamesAt};
 ghost use Rattle.rt_dual.specs.Inside.Own.{IsDeclaredAt};
 ghost use Rattle.rt_dual.specs.Inside.Running.{CanRun, Runs, BeginsTurns, Ends};
@@ -174,7 +175,7 @@ pub(crate) fn run_side<G: Gate>(
     requires declared { HasNamesAt side.old.core_id core.old.image.names script.now }
     ensures ok { OnOk result
         (Ends (turns (events_at side.old.core_id script.now)) core.old core.new side.old side.new) }
-    ensures err { OnErr result (BeginsTurns (turns (events_at side.old.core_id script.now)) core.old core.new) }
+    ensures begun { HasBegun (turns (events_at side.old.core_id script.now)) core.old core.new }
 {
     let mut held = LineBuffer::new();
     own_lines(core, side, words, there, script, &mut held, gate)?;

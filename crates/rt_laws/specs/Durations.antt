@@ -78,16 +78,16 @@ module _ (durations : Durations) (longest : ℕ) where
 abbrev pub StepsTakeTime : Type 0
 StepsTakeTime = (durations : Durations) (longest : ℕ) → LastAtMost longest durations → TakesTime durations longest
 
--- Where an interrupt waits for one section of one lower job at most, the time that it waits for it is one step less than
--- the waiting bound at most, in steps of the longest duration.
+-- Where an interrupt waits for one section of one lower job at most, the time that it waits for it is one step less
+-- than the waiting bound at most, in steps of the longest duration.
 abbrev pub WaitsAreShortInTime : Type 0
 WaitsAreShortInTime = (durations : Durations) (longest : ℕ) → LastAtMost longest durations
     → (app : App) (labels : List Label) → OneSection app labels
     → AtEach (λ v label behind. WaitsInTime durations longest app v label behind) app (first_sight app) labels
 
 -- Where at least so many core steps lie between two ticks, steps see as many ticks as that number goes into them, and
--- one more at most. Steps that begin right behind a tick see no more than that: so a message that is due at a tick fires
--- no more ticks late than that number goes into the steps between.
+-- one more at most. Steps that begin right behind a tick see no more than that: so a message that is due at a tick
+-- fires no more ticks late than that number goes into the steps between.
 pub record TicksAreFew : Type 0 where
   pub anywhere : (every : ℕ) (front part behind : List Label) → 0 < every
       → TicksApart every (front ++ (part ++ behind)) → ticks_of part ≤ steps_of part / every + 1

@@ -51,10 +51,10 @@ pub fn fronts_are_runs()
 /// In every run, at every moment: a place is taken where one is left and refused where none is; messages start in the
 /// order in which they became ready; of armed messages the least fires, not before its instant; each armed message has
 /// a handle that was given, and no other armed message has it; and the places that are out are those in transit, armed
-/// and ready. At each beginning of the items the counts of each task, the order of each level's starts and what is armed
-/// still are so by what is shown alone. Where messages are ready and no job has the section of their queue open, the
-/// dispatcher of their level is pending, or has started and is about to enter that section. Where messages are due, no
-/// alarm is owed and no job has the section of the timer queue open, the same holds of the monotonic's handler. Each
+/// and ready. At each beginning of the items the counts of each task, the order of each level's starts and what is
+/// armed still are so by what is shown alone. Where messages are ready and no job has the section of their queue open,
+/// the dispatcher of their level is pending, or has started and is about to enter that section. Where messages are due,
+/// no alarm is owed and no job has the section of the timer queue open, the same holds of the monotonic's handler. Each
 /// message waits for no more than one outermost section of one lower job from its `ready` until its start, and from the
 /// moment at which it is due until it fires, in fewer steps than the waiting bound, if in any.
 pub fn runs_keep_messages()

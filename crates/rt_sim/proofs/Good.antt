@@ -176,7 +176,8 @@ module _ (app : App) (img : Image) (accepted : IsAccepted app) (is_image : IsIma
             (access_is_guarded app img is_image.at.idle cell_is part.agrees.coupling part.agrees.invariant v
             (subst (λ s. StateWell app s v) part.agrees.state well)
             (reached_fits app img accepted is_image front fitting (front_declared app events n declared)));
-        owned = λ n. access_owned (take n events) (front_fits app img events n fit) (front_declared app events n declared);
+        owned = λ n. access_owned (take n events) (front_fits app img events n fit)
+            (front_declared app events n declared);
       }
 
 pub images_are_good : ImagesAreGood

@@ -44,11 +44,11 @@ pub fn rtic<R: Threads + Sync, A: Source, B: Source, C: Source, K: Sink + Send, 
     //
     // At `Done`, `build` has written the listing of an image of the application, and `run` that and the image's trace
     // on the model of an ARMv7-M core under the script's events. No other good image of the application has this
-    // listing. Of that image they promise: for every list of events in which only declared interrupts arrive, and with a
-    // monotonic of fewer than 2^31 ticks and armings, its trace is a run of Baker's machine on the application and shows
-    // just these events, sections are exclusive, no lock is found taken, interrupts and messages wait for lower jobs
-    // within the bounds that `check` prints, the stack keeps within its bound, no job hangs, nothing traps, and each
-    // cell of memory is touched only by a job that owns it. What `run` has written is such a trace.
+    // listing. Of that image they promise: for every list of events in which only declared interrupts arrive, and with
+    // a monotonic of fewer than 2^31 ticks and armings, its trace is a run of Baker's machine on the application and
+    // shows just these events, sections are exclusive, no lock is found taken, interrupts and messages wait for lower
+    // jobs within the bounds that `check` prints, the stack keeps within its bound, no job hangs, nothing traps, and
+    // each cell of memory is touched only by a job that owns it. What `run` has written is such a trace.
     //
     // `audit` takes every accepted application, and judges a trace, whatever made it. With `yes N` and `Done` the
     // trace, of N items, is a run of Baker's machine on the application with each depth within the stack bound, so

@@ -2,11 +2,12 @@
 use Rattle.std.specs.Prelude.{◌≡◌, ℕ, ◌+◌, ◌-◌, ◌*◌, ◌^◌, ◌<◌, ◌≤◌, List, ◌++◌, flat_map, length, Some}
 use Rattle.std.specs.List.{AllByRecursion}
 use Rattle.rt_core.specs.Machine.{Machine}
-use Rattle.rt_run.specs.Done.{Leads, HasDone}
-use Rattle.rt_run.specs.Sending.{Sends, shown_items, lines_of}
+use Rattle.rt_ids.specs.Event.{Event}
+use Rattle.rt_run.specs.Done.{Leads}
+use Rattle.rt_run.specs.Sending.{Sends, EndsInItem, shown_items, lines_of}
 use Rattle.rt_trace.specs.Text.{total_text}
 use Rattle.rt_words.specs.Lines.{Row}
-use Rattle.rt_live.specs.Going.{IsWholeLook, IsSameLine}
+use Rattle.rt_live.specs.Going.{IsWholeLook, FindsDeclared, IsSameLine}
 use Rattle.rt_live.specs.Interleaving.{Turn, looks, look_calls, interleaving}
 use Rattle.rt_live.specs.Able.{IsAble}
 use Rattle.rt_dual.specs.Inside.Forwarding.{Forwards, MayForward, irqs_routed}
@@ -22,12 +23,14 @@ pub record CanRun (n : ℕ) (m : Machine) (side : Side) (words there : Row) : Ty
   pub room : length side.line.calls + 16 * n < 2 ^ 32 - 1
   pub forward_room : length side.bell.calls + n < 2 ^ 32 - 1
 
--- All of these turns were done. The core's line made the latches of their looks, and the line of the other core's words
--- the pends of what the core showed. The lines of the events of the interleaving were kept.
+-- All of these turns were done, and their looks found declared interrupts alone. The core's line made the latches of
+-- the looks, and the line of the other core's words the pends of what the core showed. The lines of the events of the
+-- interleaving were kept.
 pub record Runs (ts : List Turn) (a b : Machine) (old new : Side) : Type 0 where
   pub found : List (List ℕ)
   pub many : length found ≡ looks ts
   pub whole : AllByRecursion IsWholeLook found
+  pub declared : AllByRecursion (FindsDeclared a.image.names) found
   pub latched : new.line.calls ≡ old.line.calls ++ flat_map look_calls found
   pub sends : Sends (interleaving ts found) a b (Some old.trace.bytes.items) (Some new.trace.bytes.items)
   pub forwards : Forwards (irqs_routed old.routes (shown_items a (interleaving ts found))) old.bell new.bell
@@ -49,8 +52,15 @@ pub record Ends (ts : List Turn) (a b : Machine) (old new : Side) : Type 0 where
   pub few : length new.bell.calls ≤ length old.bell.calls + length ts
   pub line : IsSameLine old.line new.line
 
--- the core did the first of the events of these turns, for words of no more looks than the turns have
+-- The core did the first of the events of these turns, the last of which shows an item, for words of no more looks than
+-- the turns have, with declared interrupts alone.
 pub record BeginsTurns (ts : List Turn) (a b : Machine) : Type 0 where
   pub found : List (List ℕ)
   pub few : length found ≤ looks ts
-  pub done : HasDone (interleaving ts found) a b
+  pub whole : AllByRecursion IsWholeLook found
+  pub declared : AllByRecursion (FindsDeclared a.image.names) found
+  pub done : List Event
+  pub rest : List Event
+  pub parts : interleaving ts found ≡ done ++ rest
+  pub leads : Leads done a b
+  pub ends : EndsInItem done a

@@ -6,9 +6,8 @@ use Rattle.rt_code.specs.Image.{Image}
 use Rattle.rt_outside.specs.Bytes.{Took}
 use Rattle.rt_run.specs.Inside.Writing.{HasWords, ShowsWords}
 use Rattle.rt_run.proofs.Worded.{operands, step_known}
-use Rattle.rt_run.proofs.Happened.{step_leads, silent_lines, silent_lined, step_lines, step_lined}
+use Rattle.rt_run.proofs.Happened.{step_leads, silent_lines, silent_lined, step_lines, step_lined, step_shows}
 use Rattle.rt_run.proofs.Taking.{took_none}
-use Rattle.rt_dual.proofs.Cutting.{all_done}
 use Rattle.rt_dual.proofs.showing.show_step.Goals as goal
 
 pub line-text-requires : goal.line-text-requires
@@ -67,5 +66,9 @@ returns-clause-ok c =
 pub returns-in_err-put_all-clause-err : goal.returns-in_err-put_all-clause-err
 returns-in_err-put_all-clause-err c =
     let core = c.args.core.now in
+    on_err_from c.from_residual.result (step_leads core c.step.new.self c.step.ensures.state)
+
+pub returns-in_err-put_all-clause-some : goal.returns-in_err-put_all-clause-some
+returns-in_err-put_all-clause-some c =
     on_err_from c.from_residual.result
-    (all_done (Step ∷ []) core c.step.new.self (step_leads core c.step.new.self c.step.ensures.state))
+    (step_shows c.args.core.now c.step.result c.in-Some.what c.step.ensures.item c.in-Some.is)

@@ -1,10 +1,9 @@
 use Rattle.std.proofs.Common.{◌+◌, ◌∷◌, [], arith}
 use Rattle.std.proofs.lemmas.Result.{on_ok_weaker}
-use Rattle.rt_lemmas.proofs.Results.{on_err_from}
 use Rattle.rt_live.specs.Interleaving.{Looks}
 use Rattle.rt_script.specs.Script.{count}
 use Rattle.rt_dual.specs.Inside.Own.{own_turns}
-use Rattle.rt_dual.proofs.Cutting.{begins_before, begins_behind}
+use Rattle.rt_dual.proofs.Cutting.{begins_before, begins_behind, has_begun}
 use Rattle.rt_dual.proofs.Running.{runs_on, can_on, can_fewer, all_begun, ended}
 use Rattle.rt_dual.proofs.Owning.{own_few}
 use Rattle.rt_dual.proofs.turns.run_side.Goals as goal
@@ -14,9 +13,9 @@ own_lines-requires-clause-can g c =
     can_fewer (count c.args.script.now) (count c.args.script.now + 1) c.args.core.now c.args.side.now _ _ (omega arith)
     c.requires.can
 
-pub returns-in_err-own_lines-clause-err : goal.returns-in_err-own_lines-clause-err
-returns-in_err-own_lines-clause-err g c =
-    on_err_from c.from_residual.result
+pub returns-in_err-own_lines-clause-begun : goal.returns-in_err-own_lines-clause-begun
+returns-in_err-own_lines-clause-begun g c =
+    has_begun _ c.args.core.now c.own_lines.new.core
     (begins_before (own_turns c.args.side.now.core_id c.args.script.now) (Looks ∷ []) c.args.core.now
     c.own_lines.new.core
     c.in_err-own_lines.ensures.err)
@@ -27,12 +26,12 @@ last_look-requires-clause-can g c =
     c.own_lines.new.core c.args.side.now c.own_lines.new.side _ _ c.in_ok-own_lines.ensures.ok
     (omega (arith, own_few c.args.side.now.core_id c.args.script.now)) c.requires.can
 
-pub returns-in_err-last_look-clause-err : goal.returns-in_err-last_look-clause-err
-returns-in_err-last_look-clause-err g c =
-    let run = c.in_ok-own_lines.ensures.ok in
-    on_err_from c.from_residual-in_err-last_look.result
-    (begins_behind (own_turns c.args.side.now.core_id c.args.script.now) (Looks ∷ []) run.found c.args.core.now
-    c.own_lines.new.core c.last_look.new.core run.many run.sends.leads c.in_err-last_look.ensures.err)
+pub returns-in_err-last_look-clause-begun : goal.returns-in_err-last_look-clause-begun
+returns-in_err-last_look-clause-begun g c =
+    has_begun _ c.args.core.now c.last_look.new.core
+    (begins_behind (own_turns c.args.side.now.core_id c.args.script.now) (Looks ∷ []) c.args.core.now
+    c.own_lines.new.core c.last_look.new.core c.args.side.now c.own_lines.new.side c.in_ok-own_lines.ensures.ok
+    c.in_err-last_look.ensures.err)
 
 pub put_end-requires : goal.put_end-requires
 put_end-requires g c =
@@ -54,10 +53,9 @@ returns-clause-ok g c =
     c.in_ok-last_look.ensures.none_held c.steps.ensures)
     c.put_end.ensures.ok
 
-pub returns-clause-err : goal.returns-clause-err
-returns-clause-err g c =
+pub returns-clause-begun : goal.returns-clause-begun
+returns-clause-begun g c =
     let turns = own_turns c.args.side.now.core_id c.args.script.now in
-    on_err_from c.put_end.result
-    (all_begun _ c.args.core.now c.last_look.new.core c.args.side.now c.last_look.new.side
+    all_begun _ c.args.core.now c.last_look.new.core c.args.side.now c.last_look.new.side
     (runs_on turns (Looks ∷ []) c.args.core.now c.own_lines.new.core c.last_look.new.core c.args.side.now
-    c.own_lines.new.side c.last_look.new.side c.in_ok-own_lines.ensures.ok c.in_ok-last_look.ensures.ok))
+    c.own_lines.new.side c.last_look.new.side c.in_ok-own_lines.ensures.ok c.in_ok-last_look.ensures.ok)

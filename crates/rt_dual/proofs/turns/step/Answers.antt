@@ -32,7 +32,7 @@ pub returns-in_err-shown-clause-err : goal.returns-in_err-shown-clause-err
 returns-in_err-shown-clause-err g c =
     on_err_from c.from_residual-in_err-shown.result
     (step_begun c.args.core.now c.look.new.core c.args.side.now c.look.new.line c.look.new.out c.in_ok-look.ensures.ok
-    c.show_step.new.core c.in_err-shown.ensures.err)
+    c.show_step.new.core c.in_err-shown.ensures.err c.in_err-shown.ensures.some)
 
 pub returns-clause-ok : goal.returns-clause-ok
 returns-clause-ok g c =
