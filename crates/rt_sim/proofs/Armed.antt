@@ -36,7 +36,7 @@ use Rattle.rt_laws.proofs.Armings.{armings}
 use Rattle.rt_laws.proofs.Fine.{SameQueues, Queued, IsFine, held_after, queued_effect, effect_same, reached_same}
 use Rattle.rt_laws.proofs.FineHandlers.{idle_fine, services_fine}
 use Rattle.rt_laws.proofs.Well.{NextKept, AllKept, StackWell, StateWell}
-use Rattle.rt_sim.specs.Good.{is_tick, is_arming, CountsFit, CountsOfFewFit}
+use Rattle.rt_sim.specs.Good.{is_tick_event, is_arming, CountsFit, CountsOfFewFit}
 use Rattle.rt_sim.proofs.Fitting.{Fits}
 
 -- how many armings the item of a step shows
@@ -83,7 +83,7 @@ one_arming (Stepped (Some w)) = either (is_arming w)
 module _ (img : Image) where
   -- the ticks and the armings of events
   abbrev pub counted : Core → List Event → ℕ
-  counted c events = count_by is_tick events + armed (labels img c events)
+  counted c events = count_by is_tick_event events + armed (labels img c events)
 
   ring_arms_none : (c : Core) (o : Option Alarm) → armed (ring c o).1 ≡ 0
   ring_arms_none c None = refl
@@ -93,7 +93,7 @@ module _ (img : Image) where
       elim (nat_le alarm.instant c.time) as (λ b. armed (if◌then◌else◌ {A = Core × List Label} b rung left).1 ≡ 0)
       [ true ↦ refl | false ↦ refl ]
 
-  one_count : (c : Core) (e : Event) → cond (is_tick e) 1 0 + armed (happen img c e).1 ≤ 1
+  one_count : (c : Core) (e : Event) → cond (is_tick_event e) 1 0 + armed (happen img c e).1 ≤ 1
   unfolding happen
   one_count c (Arrive irq) = omega arith
   one_count c Tick =
@@ -103,10 +103,10 @@ module _ (img : Image) where
 
   -- one event more in front
   pub counted_more : (c : Core) (e : Event) (events : List Event) → counted c (e ∷ events)
-      ≡ cond (is_tick e) 1 0 + armed (happen img c e).1 + counted (happen img c e).0 events
+      ≡ cond (is_tick_event e) 1 0 + armed (happen img c e).1 + counted (happen img c e).0 events
   unfolding labels
   counted_more c e events =
-      let ticks = sum_by-cons (λ (e : Event). cond (is_tick e) 1 0) e events in
+      let ticks = sum_by-cons (λ (e : Event). cond (is_tick_event e) 1 0) e events in
       let arms = armed-append (happen img c e).1 (labels img (happen img c e).0 events) in
       omega (arith, ticks, arms)
 
@@ -150,7 +150,7 @@ module _ (app : App) (img : Image) (events : List Event) where
       let same = armed_items 0 (labels img (reset img) events) in
       let front = armed_items 0 (labels img (reset img) (take n events)) in
       let arms = armed_front img events (reset img) n in
-      let ticks = sum_by-take-le (λ (e : Event). cond (is_tick e) 1 0) events n in
+      let ticks = sum_by-take-le (λ (e : Event). cond (is_tick_event e) 1 0) events n in
       let few = fit mono is in
       omega (arith, same, front, arms, ticks, few)
 

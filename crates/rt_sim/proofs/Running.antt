@@ -22,7 +22,7 @@ use Rattle.rt_laws.proofs.ByItems.{runs_append, after_append}
 use Rattle.rt_laws.proofs.Fine.{Queued}
 use Rattle.rt_laws.proofs.Happens.{happens as happens_well, after_well}
 use Rattle.rt_laws.proofs.Well.{StateWell}
-use Rattle.rt_sim.specs.Good.{AreDeclared, is_tick}
+use Rattle.rt_sim.specs.Good.{AreDeclared, is_tick_event}
 use Rattle.rt_sim.specs.Whereabouts.{Whereabouts, AreMoved}
 use Rattle.rt_sim.specs.Inside.Coupling.{Coupling, whereabouts_of}
 use Rattle.rt_sim.specs.Inside.States.{core_of, state_of}
@@ -61,7 +61,7 @@ module _ (app : App) (accepted : IsAccepted app) (img : Image) (thread : ℕ)
     pub runs : RunsOn app s shown
     pub agrees : Agrees app img thread core (after_all app s shown) (AreMoved shown w)
     pub time : core.time + armings (after_all app s shown).values ≤ c.time + armings s.values
-        + (cond (is_tick e) 1 0 + armed shown)
+        + (cond (is_tick_event e) 1 0 + armed shown)
     pub counts : (ls : List Label) → steps_of (shown ++ ls) ≡ steps_in (e ∷ []) + steps_of ls
 
   happens : (m : Coupling) → CouplingInvariant app img thread m → (v : Observer) → StateWell app (state_of m) v
@@ -185,9 +185,9 @@ module _ (app : App) (accepted : IsAccepted app) (img : Image) (thread : ℕ)
       (after_all app s (labels img c (e ∷ events))) (AreMoved ls w)) (sym shown)
       (subst (λ t. Agrees app img thread (core_after img first.core events) t (AreMoved (first.shown ++ more) w))
       (sym state_is) moved) in
-      let count : counted img c (e ∷ events) ≡ cond (is_tick e) 1 0 + armed first.shown + counted img first.core events
-      = counted_more img c e events
-      ∙ ap (λ (r : Core × List Label). cond (is_tick e) 1 0 + armed r.1 + counted img r.0 events) first.is in
+      let count : counted img c (e ∷ events)
+      ≡ cond (is_tick_event e) 1 0 + armed first.shown + counted img first.core events = counted_more img c e events
+      ∙ ap (λ (r : Core × List Label). cond (is_tick_event e) 1 0 + armed r.1 + counted img r.0 events) first.is in
       record {
         time = omega (arith, same, alike, first.time, rest.time, count);
         counts = ap steps_of shown ∙ omega (arith, first.counts more, rest.counts, steps_more e events);
@@ -233,7 +233,7 @@ module _ (app : App) (accepted : IsAccepted app) (img : Image) (thread : ℕ)
       happens_next c s w v agrees well (λ mono is. let few = fit mono is in omega (arith, few)) e
       (one_declared e events declared) in
       let count = counted_more img c e events
-      ∙ ap (λ (r : Core × List Label). cond (is_tick e) 1 0 + armed r.1 + counted img r.0 events) first.is in
+      ∙ ap (λ (r : Core × List Label). cond (is_tick_event e) 1 0 + armed r.1 + counted img r.0 events) first.is in
       reaches_more c s w e events first
       (reaches events first.core (after_all app s first.shown) (whereabouts_of first.agrees.coupling)
       (sees_all app v first.shown) (record {

@@ -35,9 +35,9 @@ AreDeclared app (Arrive irq ∷ events) = (is_declared app irq ≡ true) × AreD
 AreDeclared app (e ∷ events) = AreDeclared app events
 
 -- the system timer ticks
-abbrev pub is_tick : Event → Bool
-is_tick Tick = true
-is_tick e = false
+abbrev pub is_tick_event : Event → Bool
+is_tick_event Tick = true
+is_tick_event e = false
 
 -- a message is armed, or is moved to another instant, which counts as an arming
 abbrev pub is_arming : What → Bool
@@ -50,7 +50,7 @@ is_arming w = false
 -- nothing is asked of an application without a monotonic.
 abbrev pub CountsFit : App → Image → List Event → Type 0
 CountsFit app img events = (mono : Mono) → app.mono ≡ Some mono
-    → count_by is_tick events + count_by (λ item. is_arming item.what) (trace img events) < 2 ^ 31
+    → count_by is_tick_event events + count_by (λ item. is_arming item.what) (trace img events) < 2 ^ 31
 
 -- The counts of fewer than 2 ^ 31 events fit: each of them is one tick or shows one arming at most.
 abbrev pub CountsOfFewFit : Type 0
