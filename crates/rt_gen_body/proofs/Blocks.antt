@@ -33,8 +33,8 @@ use Rattle.rt_gen_body.proofs.Scopes.{IsAboutToRun, Body, Fits, Inside, Performs
 use Rattle.rt_gen_body.proofs.Scopes.{front_of}
 use Rattle.rt_gen_body.proofs.Scopes.{goes_behind, inside_as, threshold_inside, listed_by, named, needs, part_fits}
 use Rattle.rt_gen_body.proofs.Scopes.{sooner}
-use Rattle.rt_gen_body.specs.Inside.Blocks.{block_code, guard_at, statement_code}
-use Rattle.rt_gen_body.specs.Inside.Values.{Context, next_slot}
+use Rattle.rt_gen_body.specs.BlockCode.{block_code, guard_at, statement_code}
+use Rattle.rt_gen_body.specs.ValueCode.{Context, next_slot}
 
 -- a section costs its steps, where they are few
 section_cost : (app : App) (inner : Block) → 2 + block_steps (cost_measure app) inner ≤ BODY_COST

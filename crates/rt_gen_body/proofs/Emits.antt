@@ -24,11 +24,11 @@ use Rattle.rt_gen_timer.specs.TimerLines as lines
 use Rattle.rt_gen_timer.specs.declared.slots.TheConstants.{ARGUMENTS, MASK}
 use Rattle.rt_gen_body.specs.Form.{EmitNothing, HasEmits, HasNoVariables, IsFixedEmit, IsNoEmit, emitted, emitted_by}
 use Rattle.rt_gen_body.specs.Form.{emitted_of, end_line}
-use Rattle.rt_gen_body.specs.Inside.Blocks.{block_code, branch_code, guard_at, lock_code, statement_code}
-use Rattle.rt_gen_body.specs.Inside.Simple.{goes_code, is_timed, send_code, values_code, values_of}
-use Rattle.rt_gen_body.specs.Inside.Values.{Context, arguments_code, expression_code, load, next_slot, store}
-use Rattle.rt_gen_body.specs.Inside.Values.{value_code}
-use Rattle.rt_gen_body.specs.Inside.Whole.{blocks_of, code_of, context_of, threshold_of}
+use Rattle.rt_gen_body.specs.BlockCode.{block_code, branch_code, guard_at, lock_code, statement_code}
+use Rattle.rt_gen_body.specs.SimpleCode.{goes_code, is_timed, send_code, values_code, values_of}
+use Rattle.rt_gen_body.specs.ValueCode.{Context, arguments_code, expression_code, load, next_slot, store}
+use Rattle.rt_gen_body.specs.ValueCode.{value_code}
+use Rattle.rt_gen_body.specs.BodyCode.{blocks_of, code_of, context_of, threshold_of}
 
 -- of a line with a note that it is no `emit`; of one without, nothing where it is none; and the rest
 abbrev Needs : Option Note → Instr → Type 0 → Type 0

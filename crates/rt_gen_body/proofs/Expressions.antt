@@ -23,8 +23,8 @@ use Rattle.rt_gen_body.proofs.Owning.{represented_put, writes_cell}
 use Rattle.rt_gen_body.proofs.Scopes.{IsAboutToRun, Behind, Body, Inside, Knows, Performs, Scope, free_slot, front_of}
 use Rattle.rt_gen_body.proofs.Scopes.{goes_behind, listed_by, named, sooner, still_behind}
 use Rattle.rt_gen_body.proofs.Storing.{local_owned, resource_owned, resource_read}
-use Rattle.rt_gen_body.specs.Inside.Simple.{assign_code, emit_code}
-use Rattle.rt_gen_body.specs.Inside.Values.{Context, expression_code, next_slot, value_code}
+use Rattle.rt_gen_body.specs.SimpleCode.{assign_code, emit_code}
+use Rattle.rt_gen_body.specs.ValueCode.{Context, expression_code, next_slot, value_code}
 
 -- A value has come into a slot; but for it, all slots below those that were free and from the top on are as before.
 pub record Evaluated (slot free top result : ℕ) (before after : List ℕ) : Type 0 where

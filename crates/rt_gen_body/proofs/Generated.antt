@@ -23,9 +23,10 @@ use Rattle.rt_gen_queue.specs.declared.guard.Guard.{Guard}
 use Rattle.rt_gen_body.proofs.Promises.{BodyThere, body_between, called_stands, contains_range, idle_stands}
 use Rattle.rt_gen_body.proofs.Promises.{init_stands, of_task, task_stands}
 use Rattle.rt_gen_body.specs.Bodies.{BodyStands, DeclaredStands, IsBodyOf}
-use Rattle.rt_gen_body.specs.Inside.{Generating.slots_code, Values.Context}
-use Rattle.rt_gen_body.specs.Inside.Blocks.{EndsWith, block_code, branch_code, first_code, statement_code, two_code}
-use Rattle.rt_gen_body.specs.Inside.Whole.{blocks_of, code_of, guards_of}
+use Rattle.rt_gen_body.specs.{Inside.Generating.slots_code, ValueCode.Context}
+use Rattle.rt_gen_body.specs.BlockCode.{block_code, branch_code, statement_code, two_code}
+use Rattle.rt_gen_body.specs.Inside.Choices.{EndsWith, first_code}
+use Rattle.rt_gen_body.specs.BodyCode.{blocks_of, code_of, guards_of}
 
 -- the address after lines
 pub behind_at : (n : ℕ) (xs ys : List Line) → n + length (xs ++ ys) ≡ n + length xs + length ys

@@ -17,7 +17,7 @@ use Rattle.rt_gen_body.proofs.Expressions.{Sound, next_begins, still_known, valu
 use Rattle.rt_gen_body.proofs.Scopes.{IsAboutToRun, Behind, Body, Inside, Knows, Performs, Scope, fewer_visible}
 use Rattle.rt_gen_body.proofs.Scopes.{free_slot}
 use Rattle.rt_gen_body.proofs.Scopes.{goes_behind, inside_as, named, sooner, still_behind}
-use Rattle.rt_gen_body.specs.Inside.{Blocks.block_code, Blocks.loop_back, Blocks.statement_code, Values.value_code}
+use Rattle.rt_gen_body.specs.{BlockCode.block_code, BlockCode.loop_back, BlockCode.statement_code, ValueCode.value_code}
 
 -- a block does what it means, and leaves in scope what was
 abbrev pub BlockPerforms : Body → Scope → Block → Type 0

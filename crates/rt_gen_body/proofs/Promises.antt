@@ -27,8 +27,8 @@ use Rattle.rt_gen_queue.specs.Called.{CalledBodyStands}
 use Rattle.rt_gen_body.proofs.{Blocks.block_stands, Storing.facts_for}
 use Rattle.rt_gen_body.proofs.Owning.{AllRepresented, all_agreed, known_of, represented}
 use Rattle.rt_gen_body.proofs.Scopes.{Body, Facts, Scope, State, then_at}
-use Rattle.rt_gen_body.specs.{Bodies.BodyStands, Form.end_line, Inside.Blocks.block_code}
-use Rattle.rt_gen_body.specs.Inside.Whole.{blocks_of, code_of, context_of, threshold_of}
+use Rattle.rt_gen_body.specs.{Bodies.BodyStands, Form.end_line, BlockCode.block_code}
+use Rattle.rt_gen_body.specs.BodyCode.{blocks_of, code_of, context_of, threshold_of}
 
 -- a cost that is short is the steps and the end
 pub cost_is : (app : App) (b : AppBody) → block_steps (cost_measure app) b.block + 1 ≤ BODY_COST

@@ -18,7 +18,7 @@ use Rattle.rt_app.specs.declared.expr.Atom.TheVariants as atom
 use Rattle.rt_gen_queue.proofs.Layer.{Here, InTime, IsFree, S, Setting, lasts_less}
 use Rattle.rt_gen_queue.proofs.Placing.{code_front}
 use Rattle.rt_gen_body.proofs.Owning.{IsRepresented, OpenAre}
-use Rattle.rt_gen_body.specs.Inside.{Values.Context, Whole.context_of}
+use Rattle.rt_gen_body.specs.{ValueCode.Context, BodyCode.context_of}
 
 -- a section that opens raises the level that is held off
 pub threshold_inside : (app : App) (who : Runner) (held : List OpenSection) (threshold : ℕ) (h : OpenSection)

@@ -24,8 +24,8 @@ use Rattle.rt_gen_body.proofs.Owning.{not_open, represented_left}
 use Rattle.rt_gen_body.proofs.Scopes.{IsAboutToRun, Body, Performs, Scope, Settled, State, free_slot, front_of}
 use Rattle.rt_gen_body.proofs.Scopes.{goes_behind}
 use Rattle.rt_gen_body.proofs.Scopes.{listed_by, named, sooner, then_at}
-use Rattle.rt_gen_body.specs.Inside.Simple.{bind_code, goes_code, send_code, values_of}
-use Rattle.rt_gen_body.specs.Inside.Values.{Context, arguments_code, expression_code, next_slot}
+use Rattle.rt_gen_body.specs.SimpleCode.{bind_code, goes_code, send_code, values_of}
+use Rattle.rt_gen_body.specs.ValueCode.{Context, arguments_code, expression_code, next_slot}
 use Rattle.rt_gen_timer.proofs.{Afters.afters_stand, Cancelling.cancels_all_stand, Moving.moves_all_stand}
 use Rattle.rt_gen_timer.specs.TimerCalls.{MayUsePlaces, MayUseTimer, StandsBefore}
 use Rattle.rt_gen_timer.specs.TimerCode.{after_code, cancel_code, move_code}

@@ -32,11 +32,11 @@ use Rattle.rt_gen_queue.proofs.{Named.spawn_claimed, Named.spawned, Named.task_d
 use Rattle.rt_gen_queue.specs.declared.guard.Guard.{Guard}
 use Rattle.rt_gen_body.proofs.Emits.{code_emits}
 use Rattle.rt_gen_body.specs.Form.{HasForm, end_line, fixed_block, fixed_body}
-use Rattle.rt_gen_body.specs.Inside.Blocks.{block_code, branch_code, guard_at, lock_code, loop_back, statement_code}
-use Rattle.rt_gen_body.specs.Inside.Simple.{goes_code, is_timed, send_code, values_code, values_of}
-use Rattle.rt_gen_body.specs.Inside.Values.{Context, arguments_code, expression_code, load, next_slot, store}
-use Rattle.rt_gen_body.specs.Inside.Values.{value_code}
-use Rattle.rt_gen_body.specs.Inside.Whole.{blocks_of, code_of, context_of, threshold_of}
+use Rattle.rt_gen_body.specs.BlockCode.{block_code, branch_code, guard_at, lock_code, loop_back, statement_code}
+use Rattle.rt_gen_body.specs.SimpleCode.{goes_code, is_timed, send_code, values_code, values_of}
+use Rattle.rt_gen_body.specs.ValueCode.{Context, arguments_code, expression_code, load, next_slot, store}
+use Rattle.rt_gen_body.specs.ValueCode.{value_code}
+use Rattle.rt_gen_body.specs.BodyCode.{blocks_of, code_of, context_of, threshold_of}
 use Rattle.rt_gen_timer.proofs.Generated.{after_claimed, after_short, cancel_claimed, move_claimed, timer_named}
 use Rattle.rt_gen_timer.specs.TimerCode.{queue_of}
 

@@ -20,7 +20,7 @@ use Rattle.rt_app.specs.Listing.{Listing, is_lock_free, is_read_alone, listings,
 use Rattle.rt_app.specs.Statements.{is_free, is_init, is_lockable, listing_in}
 use Rattle.rt_app.specs.declared.expr.Atom.TheVariants as atom
 use Rattle.rt_gen_body.proofs.{Owning.OpenAre, Owning.open_as, Scopes.Facts}
-use Rattle.rt_gen_body.specs.Inside.{Blocks.guard_at, Values.Context, Whole.context_of}
+use Rattle.rt_gen_body.specs.{BlockCode.guard_at, ValueCode.Context, BodyCode.context_of}
 
 pub guard_is : (app : App) (m : Member) (r : ℕ) → r < length app.shared → guard_at (context_of app m) r
     ≡ guard_of app (section.Res r)

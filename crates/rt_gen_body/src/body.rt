@@ -14,7 +14,7 @@ ghost use Rattle.rt_gen_queue.specs.Line.{IsNameable};
 ghost use Rattle.rt_gen_queue.specs.Guards.{guard_of_ceiling};
 ghost use Rattle.rt_gen_body.specs.Bodies.{IsBodyOf, BodyStands};
 ghost use Rattle.rt_gen_body.specs.Form.{end_line, HasForm};
-ghost use Rattle.rt_gen_body.specs.Inside.Whole.{guards_of, blocks_of, code_of};
+ghost use Rattle.rt_gen_body.specs.BodyCode.{guards_of, blocks_of, body_code};
 ghost use Rattle.rt_gen_queue.specs.Making.{next_address, Appends};
 ghost use Rattle.rt_gen_body.specs.Inside.Generating.{slots_code};
 
@@ -167,7 +167,7 @@ fn generate(
     requires planned { IsPlan plan.now }
     requires rows { rows.now ≡ plan.now.app.now }
     ensures { OnOk result (Appends lines.old lines.new
-        (code_of (app_of plan.now.app.now) id (member_at (app_of plan.now.app.now) id) (next_address lines.old))) }
+        (body_code (app_of plan.now.app.now) id (next_address lines.old))) }
 {
     let guards = guards(alloc, plan.app.bits, &plan.ceil.shared)?;
     let entry = lines.next_address()?;
@@ -175,12 +175,12 @@ fn generate(
     end(plan.app, &id, entry, lines)
 }
 
-/// Appends the code of a body of an application to code, and answers the address where it begins. Its lines name only
-/// what the application declares, and there are no more of them than the rule on sizes counts for the body: one for
-/// `init` or `idle` where it is not declared. The last one is the body's end, and those of a body that emits literals
-/// and pends interrupts alone are fixed. It is correct there, whatever is appended later: `init` leads to what comes
-/// after it, `idle` back to its first instruction, a task that is bound to an interrupt returns, and one that
-/// dispatchers call goes back. An error leaves the code as it was.
+/// Appends the code of a body of an application to code, and answers the address where it begins. Its lines are
+/// determined by the application and that address; they name only what the application declares, and there are no more
+/// of them than the rule on sizes counts for the body: one for `init` or `idle` where it is not declared. The last one
+/// is the body's end. The code is correct there, whatever is appended later: `init` leads to what comes after it,
+/// `idle` back to its first instruction, a task that is bound to an interrupt returns, and one that dispatchers call
+/// goes back. An error leaves the code as it was.
 pub fn gen_body(
     alloc: Global,
     plan: &Plan<'_>,
@@ -194,7 +194,8 @@ pub fn gen_body(
     requires of_app { IsBodyOf (app_of plan.now.app.now) id }
     ensures entry { IfOk result (λ entry. entry ≡ length code.old.items) }
     ensures kept { IfOk result (λ entry. take entry code.new.items ≡ code.old.items) }
-    ensures lines { IfOk result (λ entry. AllByRecursion (IsNameable (names_of (app_of plan.now.app.now)))
+    ensures lines { IfOk result (λ entry. drop entry code.new.items ≡ body_code (app_of plan.now.app.now) id entry) }
+    ensures names { IfOk result (λ entry. AllByRecursion (IsNameable (names_of (app_of plan.now.app.now)))
         (drop entry code.new.items)) }
     ensures form { IfOk result (λ entry. HasForm (app_of plan.now.app.now) id entry (drop entry code.new.items)) }
     ensures size { OnOk result (length code.new.items ≤ length code.old.items

@@ -1,7 +1,7 @@
 ghost use Rattle.std.specs.Prelude.{◌≡◌, ◌+◌, OnOk};
 ghost use Rattle.rt_app.specs.View.{expression_of, value_of};
-ghost use Rattle.rt_gen_body.specs.Inside.Values as values;
-ghost use Rattle.rt_gen_body.specs.Inside.Simple as simple;
+ghost use Rattle.rt_gen_body.specs.ValueCode as values;
+ghost use Rattle.rt_gen_body.specs.SimpleCode as simple;
 ghost use Rattle.rt_gen_queue.specs.Making.{next_address, Appends};
 
 use rt_app::{Atom, Expr, Plan, Value};

@@ -4,8 +4,8 @@ ghost use Rattle.rt_app.specs.Level.{is_software};
 ghost use Rattle.rt_app.specs.View.{expression_of, spawn_of};
 ghost use Rattle.rt_gen_queue.specs.Making.{next_address, Appends};
 ghost use Rattle.rt_gen_queue.specs.SpawnCode.{spawn_code};
-ghost use Rattle.rt_gen_body.specs.Inside.Values as values;
-ghost use Rattle.rt_gen_body.specs.Inside.Simple as simple;
+ghost use Rattle.rt_gen_body.specs.ValueCode as values;
+ghost use Rattle.rt_gen_body.specs.SimpleCode as simple;
 ghost use Rattle.rt_gen_body.specs.Inside.Generating.{context, IsReady};
 
 use crate::body::is_called;

@@ -3,9 +3,9 @@ ghost use Rattle.rt_ids.specs.Lists.{or_zero};
 ghost use Rattle.rt_app.specs.Handlers as handlers;
 ghost use Rattle.rt_app.specs.View.{statement_of, block_of};
 ghost use Rattle.rt_gen_queue.specs.Guards.{enter_line, leave_line};
-ghost use Rattle.rt_gen_body.specs.Inside.Blocks as blocks;
+ghost use Rattle.rt_gen_body.specs.BlockCode as blocks;
 ghost use Rattle.rt_gen_queue.specs.Making.{next_address, Appends};
-ghost use Rattle.rt_gen_body.specs.Inside.Blocks.{EndsWith};
+ghost use Rattle.rt_gen_body.specs.Inside.Choices.{EndsWith, first_code};
 ghost use Rattle.rt_gen_body.specs.Inside.Generating.{context, IsReady};
 
 use crate::generator::{Generator, next_slot};
@@ -107,7 +107,7 @@ impl<'a> Generator<'a> {
         ensures lines { let at = next_address code.old + 1 in
             let block = blocks.block_code (context self.now) threshold lock at (block_of first.now) in
             OnOk result (Appends code.old code.new
-            (blocks.first_code (context self.now) (next_address code.old) block)) }
+            (first_code (context self.now) (next_address code.old) block)) }
     {
         let over = code.len();
         code.push(Instr::JumpZ(self.expressions, 0))?;

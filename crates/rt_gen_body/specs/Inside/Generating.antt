@@ -7,8 +7,8 @@ use Rattle.rt_app.specs.View.{app_of}
 use Rattle.rt_app.specs.Tree.{Body, App}
 use Rattle.rt_gen_queue.specs.Line.{Line}
 use Rattle.rt_gen_queue.specs.declared.guard.Guard.{Guard}
-use Rattle.rt_gen_body.specs.Inside.Values.{Context}
-use Rattle.rt_gen_body.specs.Inside.Blocks.{block_code}
+use Rattle.rt_gen_body.specs.ValueCode.{Context}
+use Rattle.rt_gen_body.specs.BlockCode.{block_code}
 use Rattle.rt_gen_body.specs.declared.generator.Generator.{Generator}
 
 -- the context that a generator's fields are

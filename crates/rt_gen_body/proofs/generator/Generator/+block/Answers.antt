@@ -7,7 +7,7 @@ use Rattle.rt_frames.proofs.Views.{branch_at, locked_at, repeat_at}
 use Rattle.rt_gen_body.proofs.Generated.{behind_at, behind_four, behind_loop, block_code-append, first_within}
 use Rattle.rt_gen_body.proofs.Generated.{fourth_seam, no_second, some_second, statement_within, two_emitted}
 use Rattle.rt_gen_body.proofs.generator.Generator.+block.Goals as goal
-use Rattle.rt_gen_body.specs.Inside.{Blocks.block_code, Blocks.one_code, Generating.context}
+use Rattle.rt_gen_body.specs.{BlockCode.block_code, BlockCode.one_code, Inside.Generating.context}
 
 pub block-loop-stmt-preserved : goal.block-loop-stmt-preserved
 block-loop-stmt-preserved t c =

@@ -2,7 +2,7 @@
 use Rattle.rt_gen_queue.proofs.Vocabulary.{Appends, block_of, next_address, statements_in, take, ◌*◌, ◌+◌}
 use Rattle.rt_app.specs.{Limits.statements_of, View.statement_of}
 use Rattle.rt_gen_body.proofs.generator.Generator.+block.Given as goal
-use Rattle.rt_gen_body.specs.Inside.{Blocks.block_code, Generating.context}
+use Rattle.rt_gen_body.specs.{BlockCode.block_code, Inside.Generating.context}
 
 abbrev pub invariant-block-loop-stmt : goal.invariant-block-loop-stmt
 invariant-block-loop-stmt l =

@@ -2,7 +2,7 @@ use Rattle.rt_gen_queue.proofs.Vocabulary.{List, Made, ap, append-nil, append_as
 use Rattle.rt_gen_queue.proofs.Vocabulary.{sym, ◌++◌, ◌∙◌}
 use Rattle.rt_app.specs.{View.expression_of, declared.expr.Expr.Expr}
 use Rattle.rt_gen_body.proofs.generator.Generator.arguments.Goals as goal
-use Rattle.rt_gen_body.specs.Inside.{Generating.context, Values.arguments_code}
+use Rattle.rt_gen_body.specs.{Inside.Generating.context, ValueCode.arguments_code}
 
 pub loop-arg-init : goal.loop-arg-init
 loop-arg-init c = (refl, refl)

@@ -2,7 +2,7 @@
 use Rattle.rt_gen_queue.proofs.Vocabulary.{drop, map, ◌++◌, ◌≡◌}
 use Rattle.rt_app.specs.View.{expression_of}
 use Rattle.rt_gen_body.proofs.generator.Generator.arguments.Given as goal
-use Rattle.rt_gen_body.specs.Inside.{Generating.context, Values.arguments_code}
+use Rattle.rt_gen_body.specs.{Inside.Generating.context, ValueCode.arguments_code}
 
 abbrev pub invariant-loop-arg : goal.invariant-loop-arg
 invariant-loop-arg l =

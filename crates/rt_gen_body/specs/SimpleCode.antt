@@ -11,7 +11,7 @@ use Rattle.rt_gen_queue.specs.SpawnCode.{spawn_code}
 use Rattle.rt_gen_timer.specs.TimerCode.{after_code, cancel_code, move_code}
 use Rattle.rt_gen_body.specs.declared.spawn.Timed.{Timed}
 use Rattle.rt_gen_body.specs.declared.spawn.Timed.TheVariants as timed
-use Rattle.rt_gen_body.specs.Inside.Values.{Context, store, value_code, arguments_code}
+use Rattle.rt_gen_body.specs.ValueCode.{Context, store, value_code, arguments_code}
 
 -- the expressions of a spawn, in the order of the text: its delay, its arguments or its handle
 abbrev pub values_of : Spawn → List Expression

@@ -3,7 +3,7 @@ use Rattle.std.specs.Prelude.{ℕ, ◌^◌, List, [], ◌∷◌, ◌++◌, lengt
 use Rattle.std.specs.List.{range_with_len}
 use Rattle.rt_ids.specs.declared.ids.BodyId.{BodyId}
 use Rattle.rt_ids.specs.declared.ids.Section.TheVariants as section
-use Rattle.rt_app.specs.Bodies.{Member}
+use Rattle.rt_app.specs.Bodies.{Member, member_at}
 use Rattle.rt_app.specs.Frame.{first_expression_slot, first_lock_slot, first_spawn_slot}
 use Rattle.rt_app.specs.Statements.{is_init}
 use Rattle.rt_app.specs.Tree.{App}
@@ -11,8 +11,8 @@ use Rattle.rt_gen_queue.specs.Line.{Line}
 use Rattle.rt_gen_queue.specs.Guards.{guard_of}
 use Rattle.rt_gen_queue.specs.declared.guard.Guard.{Guard}
 use Rattle.rt_gen_body.specs.Form.{end_line}
-use Rattle.rt_gen_body.specs.Inside.Values.{Context}
-use Rattle.rt_gen_body.specs.Inside.Blocks.{block_code}
+use Rattle.rt_gen_body.specs.ValueCode.{Context}
+use Rattle.rt_gen_body.specs.BlockCode.{block_code}
 
 -- how the sections of each shared resource mask
 abbrev pub guards_of : App → List Guard
@@ -41,3 +41,7 @@ blocks_of app (Some m) entry =
 -- the code of a body: its blocks, and then the line that ends it
 abbrev pub code_of : App → BodyId → Option Member → ℕ → List Line
 code_of app id member entry = blocks_of app member entry ++ end_line app id entry ∷ []
+
+-- the code of the body that the application declares there
+abbrev pub body_code : App → BodyId → ℕ → List Line
+body_code app id entry = code_of app id (member_at app id) entry

@@ -1,6 +1,6 @@
 -- The code of statements and blocks, instruction by instruction, from an address on: choices, loops, and sections of
 -- resources. Not this file but the promise that it stands says what it means.
-use Rattle.std.specs.Prelude.{◌≡◌, ℕ, ◌+◌, max, List, [], ◌∷◌, ◌++◌, length, slice_index_or, slice_set}
+use Rattle.std.specs.Prelude.{ℕ, ◌+◌, max, List, [], ◌∷◌, ◌++◌, length, slice_index_or}
 use Rattle.rt_ids.specs.Lists.{or_zero}
 use Rattle.rt_ids.specs.declared.ids.Section.TheVariants as section
 use Rattle.rt_ids.specs.declared.op.Op.TheVariants as op
@@ -8,19 +8,10 @@ use Rattle.rt_app.specs.Handlers.{irq_number}
 use Rattle.rt_app.specs.Tree.{Statement, Bind, Assign, Branch, Repeat, Locked, Emit, Pend, Spawns, Block, Empty, Then}
 use Rattle.rt_code.specs.declared.instr.Instr.TheVariants as instr
 use Rattle.rt_gen_queue.specs.Line.{Line, plain}
-use Rattle.rt_gen_queue.specs.Making.{Made, next_address}
 use Rattle.rt_gen_queue.specs.Guards.{enter_line, leave_line}
 use Rattle.rt_gen_queue.specs.declared.guard.Guard.{Guard}
-use Rattle.rt_gen_body.specs.Inside.Values.{Context, next_slot, value_code}
-use Rattle.rt_gen_body.specs.Inside.Simple.{send_code, bind_code, assign_code, emit_code}
-
--- code is longer by these lines, and the jump at an index of it leads past them
-abbrev pub EndsWith : Made → Made → ℕ → List Line → Type 0
-EndsWith before after over lines =
-    after
-    ≡ record before {
-      lines = slice_set (before.lines ++ lines) over (plain (instr.Jump (next_address before + length lines)));
-    }
+use Rattle.rt_gen_body.specs.ValueCode.{Context, next_slot, value_code}
+use Rattle.rt_gen_body.specs.SimpleCode.{send_code, bind_code, assign_code, emit_code}
 
 module _ (c : Context) where
   -- how a resource's sections mask; those of one that is not declared mask nothing
@@ -44,11 +35,6 @@ module _ (c : Context) where
   abbrev pub branch_code : ℕ → (ℕ → List Line) → (ℕ → List Line) → Block → List Line
   branch_code at first second Empty = one_code at first
   branch_code at first second other = two_code at first second
-
-  -- the first of two blocks, with a jump that leads past it, and one that is still to lead past the second
-  abbrev pub first_code : ℕ → List Line → List Line
-  first_code at block =
-      plain (instr.JumpZ c.expressions (at + 1 + length block + 1)) ∷ (block ++ plain (instr.Jump 0) ∷ [])
 
   -- the lines before the turns of a loop
   abbrev pub loop_front : ℕ → ℕ → ℕ → List Line
