@@ -16,26 +16,30 @@ use Rattle.rt_app.specs.BodyCost.{size_measure, cost_of, dispatcher_size, timer_
 use Rattle.rt_app.specs.Level.{is_software, levels}
 use Rattle.rt_code.specs.declared.instr.Instr.TheVariants as instr
 use Rattle.rt_gen_queue.specs.Line.{Line}
+use Rattle.rt_gen_body.specs.BodyCode.{body_code}
 use Rattle.rt_gen_body.specs.Form.{HasForm}
 use Rattle.rt_build.specs.Entries.{Entries}
+use Rattle.rt_gen_disp.specs.Code.{dispatcher_code}
+use Rattle.rt_gen_timer.specs.TimerCode.{timer_code}
+use Rattle.rt_build.specs.Built.{part_code, idle_code, mono_code, IsWritten}
 use Rattle.rt_build.specs.Order.{Part, OfBody, OfLevel, OfTimer, begin_of, size_of, IsIdleFormed, IsFormed}
-use Rattle.rt_build.specs.Order.{task_parts, timer_parts, fixed_parts, free_parts, AreAbutting, IsInOrder}
-use Rattle.rt_build.specs.Inside.Code.{IsKept, AddsParts, is_of_kind, part_of_kind, AddsTask, AddsTasksBelow}
-use Rattle.rt_build.specs.Inside.Code.{AddsTasks, TellsTask, AddsDispatchers}
+use Rattle.rt_build.specs.Order.{task_parts, timer_parts, fixed_parts, free_parts, IsPart, AreAbutting, IsInOrder}
+use Rattle.rt_build.specs.Inside.Code.{IsKept, IsPut, AddsParts, HasParts, is_of_kind, part_of_kind, AddsTask}
+use Rattle.rt_build.specs.Inside.Code.{AddsTasksBelow, AddsTasks, TellsTask, AddsDispatchers}
 use Rattle.rt_build.specs.declared.code.Kind.{Kind}
 use Rattle.rt_build.specs.declared.code.Kind.TheVariants.{Hardware, Software}
 use Rattle.rt_build.proofs.Grown.{behind, whole, kept_then}
 use Rattle.rt_build.proofs.Levels.{index_is}
 
-module _ (app : App) (at : Entries) where
+module _ (IsThere : Part → ℕ → List Line → Type 0) where
   -- parts after parts
-  abut_append : (ps qs : List Part) (from : ℕ) (xs ys : List Line) → AreAbutting app at from ps xs
-      → AreAbutting app at (from + length xs) qs ys → AreAbutting app at from (ps ++ qs) (xs ++ ys)
+  abut_append : (ps qs : List Part) (from : ℕ) (xs ys : List Line) → AreAbutting IsThere from ps xs
+      → AreAbutting IsThere (from + length xs) qs ys → AreAbutting IsThere from (ps ++ qs) (xs ++ ys)
   abut_append [] qs from xs ys none after =
       let here : from + length xs ≡ from =
       (let e : length xs ≡ 0 = ap (λ (l : List Line). length l) none in omega arith) in
-      subst (λ (l : List Line). AreAbutting app at from qs (l ++ ys)) (sym none)
-      (subst (λ n. AreAbutting app at n qs ys) here after)
+      subst (λ (l : List Line). AreAbutting IsThere from qs (l ++ ys)) (sym none)
+      (subst (λ n. AreAbutting IsThere n qs ys) here after)
   abut_append (p ∷ ps) qs from xs ys (own, more, is, part, rest) after =
       let long : from + length xs ≡ from + length own + length more =
       (let e : length xs ≡ length own + length more =
@@ -44,9 +48,24 @@ module _ (app : App) (at : Entries) where
         more ++ ys,
         ap (λ (l : List Line). l ++ ys) is ∙ append_assoc own more ys,
         part,
-        abut_append ps qs (from + length own) more ys rest (subst (λ n. AreAbutting app at n qs ys) long after),
+        abut_append ps qs (from + length own) more ys rest (subst (λ n. AreAbutting IsThere n qs ys) long after),
       )
 
+  -- parts of which less is said
+  abut_weaker : (IsSo : Part → ℕ → List Line → Type 0)
+      → ((part : Part) (from : ℕ) (lines : List Line) → IsThere part from lines → IsSo part from lines)
+      → (ps : List Part) (from : ℕ) (lines : List Line) → AreAbutting IsThere from ps lines
+      → AreAbutting IsSo from ps lines
+  abut_weaker IsSo less [] from lines none = none
+  abut_weaker IsSo less (p ∷ ps) from lines (own, more, is, part, rest) = (
+    own,
+    more,
+    is,
+    less p from own part,
+    abut_weaker IsSo less ps (from + length own) more rest,
+  )
+
+module _ (app : App) (at : Entries) where
   -- no parts after code, and parts after parts
   pub parts_none : (lines : List Line) → AddsParts app at [] lines lines
   parts_none lines = drop_all (length lines) lines (omega arith)
@@ -63,22 +82,26 @@ module _ (app : App) (at : Entries) where
       let long : length second ≡ length first + length (behind first second) =
       sym (ap (λ (l : List Line). length l) (whole first second kept))
       ∙ length-append first (behind first second) in
-      subst (AreAbutting app at (length first) (ps ++ qs)) (sym after)
-      (abut_append ps qs (length first) (behind first second) (behind second third) adds
-      (subst (λ n. AreAbutting app at n qs (behind second third)) long more))
+      subst (AreAbutting (IsPut app at) (length first) (ps ++ qs)) (sym after)
+      (abut_append (IsPut app at) ps qs (length first) (behind first second) (behind second third) adds
+      (subst (λ n. AreAbutting (IsPut app at) n qs (behind second third)) long more))
 
   -- what a call that appends the code of a part says
   pub part_put : (part : Part) (entry : ℕ) (before after : List Line) → entry ≡ length before
       → begin_of at part ≡ entry → length after ≤ length before + size_of app part
-      → IsFormed app part entry (drop entry after) → AddsParts app at (part ∷ []) before after
-  part_put part entry before after is begins short formed = (
+      → IsFormed app part entry (drop entry after) → drop entry after ≡ part_code app part entry
+      → AddsParts app at (part ∷ []) before after
+  part_put part entry before after is begins short formed are = (
     behind before after,
     [],
     sym (append-nil (behind before after)),
     record {
-      begins = begins ∙ is;
-      short = omega (arith, length-drop (length before) after, short);
-      formed = subst (λ n. IsFormed app part n (drop n after)) is formed;
+      is = record {
+        begins = begins ∙ is;
+        short = omega (arith, length-drop (length before) after, short);
+        formed = subst (λ n. IsFormed app part n (drop n after)) is formed;
+      };
+      are = subst (λ n. drop n after ≡ part_code app part n) is are;
     },
     refl,
   )
@@ -139,11 +162,12 @@ module _ (app : App) (first before after : List Line) (kept : IsKept first befor
   -- the code of one dispatcher more
   pub level_added : (k p entry : ℕ) (entries more : List ℕ) → slice_get (levels app) k ≡ Some p → length entries ≡ k
       → more ≡ entries ++ entry ∷ [] → AddsDispatchers app entries first before → entry ≡ length before
-      → length after ≤ length before + dispatcher_size app p → AddsDispatchers app more first after
-  level_added k p entry entries more there counted is has begins short at agrees =
+      → length after ≤ length before + dispatcher_size app p → drop entry after ≡ dispatcher_code app p entry
+      → AddsDispatchers app more first after
+  level_added k p entry entries more there counted is has begins short are at agrees =
       subst (λ (ps : List Part). AddsParts app at ps first after) (sym all_parts)
       (parts_then app at (map OfLevel (take (length entries) (levels app))) (OfLevel p ∷ []) first before after kept
-      further (has at before_it) (part_put app at (OfLevel p) entry before after begins here short tt))
+      further (has at before_it) (part_put app at (OfLevel p) entry before after begins here short tt are))
     where
       long : length more ≡ length entries + 1
       long = ap (λ (es : List ℕ). length es) is ∙ length_push entries entry
@@ -179,10 +203,12 @@ module _ (app : App) (first before after : List Line) (kept : IsKept first befor
 module _ (app : App) (at : Entries) (entry : ℕ) (before after : List Line) (is : entry ≡ length before) where
   pub idle_added : (b : Body) → app.idle ≡ Some b → at.idle ≡ entry
       → length after ≤ length before + cost_of (size_measure app) app.idle
-      → HasForm app body.Idle entry (drop entry after) → AddsParts app at (OfBody body.Idle ∷ []) before after
-  idle_added b declared begins short formed =
+      → HasForm app body.Idle entry (drop entry after) → drop entry after ≡ body_code app body.Idle entry
+      → AddsParts app at (OfBody body.Idle ∷ []) before after
+  idle_added b declared begins short formed are =
       part_put app at (OfBody body.Idle) entry before after is begins short
       (subst (λ o. IsIdleFormed app o entry (drop entry after)) (sym declared) formed)
+      (subst (λ o. drop entry after ≡ idle_code app o entry) (sym declared) are)
 
   pub wait_added : app.idle ≡ None → at.idle ≡ entry → after ≡ before ++ (instr.Wait, None) ∷ []
       → AddsParts app at (OfBody body.Idle ∷ []) before after
@@ -194,26 +220,31 @@ module _ (app : App) (at : Entries) (entry : ℕ) (before after : List Line) (is
         length-append before ((instr.Wait, None) ∷ []),
         ap (cost_of (size_measure app)) absent,
       ))
-      (subst (λ o. IsIdleFormed app o entry (drop entry after)) (sym absent)
-      (ap (drop entry) grown ∙ drop_at before ((instr.Wait, None) ∷ []) entry (sym is)))
+      (subst (λ o. IsIdleFormed app o entry (drop entry after)) (sym absent) waits)
+      (subst (λ o. drop entry after ≡ idle_code app o entry) (sym absent) waits)
+    where
+      waits : drop entry after ≡ (instr.Wait, None) ∷ []
+      waits = ap (drop entry) grown ∙ drop_at before ((instr.Wait, None) ∷ []) entry (sym is)
 
   pub timer_added : (mono : Mono) → app.mono ≡ Some mono → at.timer ≡ entry
       → length after ≤ length before + timer_size app (Some mono)
-      → AddsParts app at (timer_parts app.mono) before after
-  timer_added mono timed begins short =
+      → drop entry after ≡ timer_code app mono.priority entry → AddsParts app at (timer_parts app.mono) before after
+  timer_added mono timed begins short are =
       subst (λ o. AddsParts app at (timer_parts o) before after) (sym timed)
       (part_put app at OfTimer entry before after is begins
-      (subst (λ o. length after ≤ length before + timer_size app o) (sym timed) short) tt)
+      (subst (λ o. length after ≤ length before + timer_size app o) (sym timed) short) tt
+      (subst (λ o. drop entry after ≡ mono_code app o entry) (sym timed) are))
 
 -- what a task adds that is of a kind, and one that is not
 module _ (app : App) (kind : Kind) (n : ℕ) (t : Task) (there : slice_get app.tasks n ≡ Some t) (entries : List ℕ)
     (before after : List Line) where
   pub task_added : (entry : ℕ) → is_of_kind kind t ≡ true → entry ≡ length before → slice_index entries n ≡ entry
       → length after ≤ length before + cost_of (size_measure app) (body_at app (body.Task n))
-      → HasForm app (body.Task n) entry (drop entry after) → AddsTask app kind n t entries before after
-  task_added entry of is told short formed at agrees =
+      → HasForm app (body.Task n) entry (drop entry after) → drop entry after ≡ body_code app (body.Task n) entry
+      → AddsTask app kind n t entries before after
+  task_added entry of is told short formed are at agrees =
       subst (λ b. AddsParts app at (if b then OfBody (body.Task n) ∷ [] else []) before after) (sym of)
-      (part_put app at (OfBody (body.Task n)) entry before after is (agrees of ∙ told) short formed)
+      (part_put app at (OfBody (body.Task n)) entry before after is (agrees of ∙ told) short formed are)
 
   pub task_left : is_of_kind kind t ≡ false → after ≡ before → AddsTask app kind n t entries before after
   task_left other same at agrees =
@@ -240,15 +271,15 @@ module _ (app : App) (at : Entries) (entries : List ℕ) (before after : List Li
 
 -- all parts, put after none
 module _ (app : App) (at : Entries) (none first second third fourth fifth all : List Line) (empty : none ≡ []) where
-  pub in_order : IsKept none first → IsKept first second → IsKept second third → IsKept third fourth
+  pub parts_put : IsKept none first → IsKept first second → IsKept second third → IsKept third fourth
       → IsKept fourth fifth → IsKept fifth all
       → AddsParts app at (OfBody body.Init ∷ []) none first → AddsParts app at (OfBody body.Idle ∷ []) first second
       → AddsParts app at (task_parts (is_of_kind Hardware) 0 app.tasks) second third
       → AddsParts app at (task_parts (is_of_kind Software) 0 app.tasks) third fourth
       → AddsParts app at (map OfLevel (levels app)) fourth fifth
       → AddsParts app at (timer_parts app.mono) fifth all
-      → IsInOrder app at all
-  in_order kept1 kept2 kept3 kept4 kept5 kept6 init idle hardware software dispatchers timer =
+      → HasParts app at all
+  parts_put kept1 kept2 kept3 kept4 kept5 kept6 init idle hardware software dispatchers timer =
       let after5 = kept_then fourth fifth all kept5 kept6 in
       let after4 = kept_then third fourth all kept4 after5 in
       let after3 = kept_then second third all kept3 after4 in
@@ -256,16 +287,27 @@ module _ (app : App) (at : Entries) (none first second third fourth fifth all : 
       let last : List Part = map OfLevel (levels app) ++ timer_parts app.mono in
       let free : List Part = task_parts is_software 0 app.tasks ++ last in
       let tasks : List Part = task_parts (λ t. not (is_software t)) 0 app.tasks ++ free in
-      record {
-        behind = free_parts app;
-        free = IsPermutation-refl (free_parts app);
-        abut = subst (λ n. AreAbutting app at n (fixed_parts app ++ free_parts app) (drop n all))
-            (ap (λ (lines : List Line). length lines) empty)
-            (parts_then app at (OfBody body.Init ∷ []) (OfBody body.Idle ∷ tasks) none first all kept1 after2 init
-            (parts_then app at (OfBody body.Idle ∷ []) tasks first second all kept2 after3 idle
-            (parts_then app at (task_parts (λ t. not (is_software t)) 0 app.tasks) free second third all kept3 after4
-            hardware
-            (parts_then app at (task_parts is_software 0 app.tasks) last third fourth all kept4 after5 software
-            (parts_then app at (map OfLevel (levels app)) (timer_parts app.mono) fourth fifth all kept5 kept6
-            dispatchers timer)))));
-      }
+      subst (λ n. AreAbutting (IsPut app at) n (fixed_parts app ++ free_parts app) (drop n all))
+      (ap (λ (lines : List Line). length lines) empty)
+      (parts_then app at (OfBody body.Init ∷ []) (OfBody body.Idle ∷ tasks) none first all kept1 after2 init
+      (parts_then app at (OfBody body.Idle ∷ []) tasks first second all kept2 after3 idle
+      (parts_then app at (task_parts (λ t. not (is_software t)) 0 app.tasks) free second third all kept3 after4 hardware
+      (parts_then app at (task_parts is_software 0 app.tasks) last third fourth all kept4 after5 software
+      (parts_then app at (map OfLevel (levels app)) (timer_parts app.mono) fourth fifth all kept5 kept6 dispatchers
+      timer)))))
+
+-- what follows of the parts of an application's code
+module _ (app : App) (at : Entries) (code : List Line) (parts : HasParts app at code) where
+  pub parts_ordered : IsInOrder app at code
+  parts_ordered = record {
+    behind = free_parts app;
+    free = IsPermutation-refl (free_parts app);
+    abut = abut_weaker (IsPut app at) (IsPart app at) (λ part from lines put. put.is)
+        (fixed_parts app ++ free_parts app) 0 code parts;
+  }
+
+  pub parts_written : AreAbutting (IsWritten app at) 0 (fixed_parts app ++ free_parts app) code
+  parts_written =
+      abut_weaker (IsPut app at) (IsWritten app at)
+      (λ part from lines put. record { begins = put.is.begins; are = put.are }) (fixed_parts app ++ free_parts app) 0
+      code parts

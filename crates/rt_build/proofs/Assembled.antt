@@ -34,10 +34,12 @@ use Rattle.rt_gen_queue.specs.Called.{rows_for}
 use Rattle.rt_gen_timer.proofs.Timers.{timers_stand}
 use Rattle.rt_build.specs.Entries.{Entries, irq_rows}
 use Rattle.rt_build.specs.Image.{IdleStands, HasTables, HasCode, IsImageOf}
-use Rattle.rt_build.specs.Order.{IsInOrder, code_size}
+use Rattle.rt_build.specs.Built.{IsBuilt}
+use Rattle.rt_build.specs.Order.{code_size}
 use Rattle.rt_build.specs.Inside.Plan.{IsAcceptedPlan}
-use Rattle.rt_build.specs.Inside.Code.{HasThread, HasDispatcher, HasTimerHandler, IsCodeOf, entries_of}
+use Rattle.rt_build.specs.Inside.Code.{HasParts, HasThread, HasDispatcher, HasTimerHandler, IsCodeOf, entries_of}
 use Rattle.rt_build.specs.declared.code.Code.{Code}
+use Rattle.rt_build.proofs.Abutting.{parts_ordered, parts_written}
 use Rattle.rt_build.proofs.Dispatched.{dispatcher_stands}
 use Rattle.rt_build.proofs.Entries.{dispatcher_entry}
 use Rattle.rt_build.proofs.ImageCells.{resource_numbers}
@@ -46,19 +48,20 @@ use Rattle.rt_build.proofs.ImageSizes.{runnable, lines}
 -- what is promised of an image
 pub record IsMade (app : App) (img : Image) : Type 0 where
   pub image : IsImageOf app img
+  pub built : IsBuilt app img
   pub cells : (r : ℕ) → r < length app.shared → resource_cell img r ≡ Some r
   pub runnable : IsRunnable img
   pub lines : HasLines img
 
--- what is at each of these entries stands or is there, all lines name only what is declared, lie in order, and are no
--- more than the rule on sizes counts
+-- what is at each of these entries stands or is there, all lines name only what is declared, are the parts of the
+-- application, and are no more than the rule on sizes counts
 pub record HasEach (app : App) (at : Entries) (code : List Line) : Type 0 where
   pub thread : HasThread app code at.idle
   pub tasks : (n : ℕ) (t : Task) → slice_get app.tasks n ≡ Some t → DeclaredStands app n code (at.task n)
   pub dispatchers : (p : ℕ) → Contains (levels app) p → HasDispatcher app p code (at.dispatcher p)
   pub timer : (mono : Mono) → app.mono ≡ Some mono → HasTimerHandler app mono.priority code at.timer
   pub named : AllByRecursion (IsNameable (names_of app)) code
-  pub order : IsInOrder app at code
+  pub parts : HasParts app at code
   pub short : length code ≤ code_size app
 
 -- an image with such code and the tables that lead to it
@@ -92,9 +95,10 @@ module _ {app : App} (accepted : IsAccepted app) (at : Entries) (img : Image) (t
           at = at;
           tables = tabled;
           code = has_code;
-          order = coded.order;
+          order = parts_ordered app at img.code coded.parts;
           size = coded.short;
         };
+        built = record { at = at; tables = tabled; parts = parts_written app at img.code coded.parts };
         cells = resource_numbers app at img tabled sound;
         runnable = runnable app at img tabled sound accepted coded.short;
         lines = lines app at img tabled sound accepted coded.named;
@@ -141,7 +145,7 @@ module _ (app : App) (made : Code) (coded : IsCodeOf app made) where
     timer = λ mono is. subst (λ (all : List Line). HasTimerHandler app mono.priority all made.timer) whole_code
         (coded.timer mono is []);
     named = coded.named;
-    order = coded.order;
+    parts = coded.parts;
     short = coded.short;
   }
 

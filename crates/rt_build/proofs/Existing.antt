@@ -15,7 +15,7 @@ use Rattle.rt_ids.specs.declared.ids.BodyId.TheVariants as body
 use Rattle.rt_app.specs.declared.app.Mono.{Mono}
 use Rattle.rt_app.specs.Tree.{Body, Task, App}
 use Rattle.rt_app.specs.Accepted.{IsAccepted}
-use Rattle.rt_app.specs.Bodies.{body_at, member_at}
+use Rattle.rt_app.specs.Bodies.{body_at}
 use Rattle.rt_app.specs.BodyCost.{size_measure, body_cost, cost_of, dispatcher_size, timer_size}
 use Rattle.rt_app.specs.Layout.{layout}
 use Rattle.rt_app.specs.Level.{is_software, levels}
@@ -30,7 +30,7 @@ use Rattle.rt_gen_queue.proofs.Nameable.{nameable}
 use Rattle.rt_gen_queue.proofs.Named.{dispatcher_named}
 use Rattle.rt_gen_body.specs.Bodies.{DeclaredStands}
 use Rattle.rt_gen_body.specs.Form.{HasForm}
-use Rattle.rt_gen_body.specs.Inside.Whole.{code_of}
+use Rattle.rt_gen_body.specs.BodyCode.{body_code}
 use Rattle.rt_gen_body.proofs.Generated.{generated_stands}
 use Rattle.rt_gen_body.proofs.Shapes.{code_claimed, code_formed, code_short}
 use Rattle.rt_gen_disp.specs.Code.{dispatcher_code}
@@ -48,7 +48,7 @@ use Rattle.rt_build.specs.Inside.Code.{LeavesOthers, is_of_kind, kind_size}
 use Rattle.rt_build.specs.declared.code.Kind.{Kind}
 use Rattle.rt_build.specs.declared.code.Kind.TheVariants.{Hardware, Software}
 use Rattle.rt_build.proofs.Abutting.{part_put, parts_none, task_added, task_left, tasks_added, level_added, idle_added}
-use Rattle.rt_build.proofs.Abutting.{wait_added, timer_added, tasks_whole, levels_whole, in_order}
+use Rattle.rt_build.proofs.Abutting.{wait_added, timer_added, tasks_whole, levels_whole, parts_put}
 use Rattle.rt_build.proofs.Assembled.{HasEach, assembled}
 use Rattle.rt_build.proofs.Grown.{kept_more, kept_then, adds_none, adds_then, adds_wait, all_named, kinds_sum}
 use Rattle.rt_build.proofs.Grown.{tells_own, tells_none, next_task, next_level, idle_declared, idle_absent}
@@ -70,26 +70,27 @@ module _ {app : App} (accepted : IsAccepted app) where
     short = omega (arith, length-append before lines, short);
   }
 
-  -- the code of a body at an address, and put after code
-  abbrev own_code : BodyId → ℕ → List Line
-  own_code id entry = code_of app id (member_at app id) entry
-
+  -- the code of a body, put after code
   abbrev with_body : BodyId → List Line → List Line
-  with_body id before = before ++ own_code id (length before)
+  with_body id before = before ++ body_code app id (length before)
 
   body_adds : (id : BodyId) (before : List Line)
       → Adds app (cost_of (size_measure app) (body_at app id)) before (with_body id before)
   body_adds id before =
       let entry : ℕ = length before in
-      adds_lines (cost_of (size_measure app) (body_at app id)) before (own_code id entry)
-      (nameable (names_of app) (own_code id entry) (code_claimed app accepted id entry))
+      adds_lines (cost_of (size_measure app) (body_at app id)) before (body_code app id entry)
+      (nameable (names_of app) (body_code app id entry) (code_claimed app accepted id entry))
       (code_short app accepted id entry)
+
+  body_is : (id : BodyId) (before : List Line)
+      → drop (length before) (with_body id before) ≡ body_code app id (length before)
+  body_is id before = drop_at before (body_code app id (length before)) (length before) refl
 
   body_formed : (id : BodyId) (before : List Line)
       → HasForm app id (length before) (drop (length before) (with_body id before))
   body_formed id before =
       let entry : ℕ = length before in
-      subst (HasForm app id entry) (sym (drop_at before (own_code id entry) entry refl)) (code_formed app id entry)
+      subst (HasForm app id entry) (sym (body_is id before)) (code_formed app id entry)
 
   -- code with that of `idle`, or with a wait, after it
   record IdlePut (first : List Line) : Type 0 where
@@ -117,7 +118,7 @@ module _ {app : App} (accepted : IsAccepted app) where
             after = with_body body.Idle first;
             adds = adds;
             part = λ at begins. idle_added app at (length first) first (with_body body.Idle first) refl b declared
-                begins adds.short (body_formed body.Idle first);
+                begins adds.short (body_formed body.Idle first) (body_is body.Idle first);
             stands = idle_declared app (with_body body.Idle first) (length first) b declared
                 (generated_stands accepted first body.Idle tt);
           }
@@ -151,7 +152,8 @@ module _ {app : App} (accepted : IsAccepted app) where
             told = told;
             adds = subst (λ most. Adds app most before after) size adds;
             part = task_added app kind n t there told before after entry of refl
-                (get_or-set_same entries n entry 0 within) adds.short (body_formed (body.Task n) before);
+                (get_or-set_same entries n entry 0 within) adds.short (body_formed (body.Task n) before)
+                (body_is (body.Task n) before);
             tells = tells_own app kind n t entries after entry within of
                 (generated_stands accepted before (body.Task n) (slice_get_within app.tasks n t there));
           }
@@ -228,9 +230,9 @@ module _ {app : App} (accepted : IsAccepted app) where
       let adds = adds_lines (dispatcher_size app p) has.after own
       (dispatcher_lines_named app p (dispatcher_named app p accepted (is_level app k p one.1)) entry)
       (dispatcher_short app p entry accepted.limits.tasks) in
+      let put : drop entry after ≡ own = drop_at has.after own entry refl in
       let all = next_level app k p entry first has.after after has.entries more one.1 has.counted has.adds has.stands
-      refl adds (dispatcher_put app p entry has.after after refl (take_at has.after own entry refl)
-      (drop_at has.after own entry refl)) in
+      refl adds (dispatcher_put app p entry has.after after refl (take_at has.after own entry refl) put) in
       subst (LevelsPut first) (next k)
       (record {
         after = after;
@@ -238,7 +240,7 @@ module _ {app : App} (accepted : IsAccepted app) where
         counted = all.0;
         adds = all.1;
         parts = level_added app first has.after after has.adds.kept adds.kept k p entry has.entries more one.1
-            has.counted refl has.parts refl adds.short;
+            has.counted refl has.parts refl adds.short put;
         stands = all.2;
       })
 
@@ -270,13 +272,13 @@ module _ {app : App} (accepted : IsAccepted app) where
           let adds = adds_lines (timer_size app (Some mono)) first own
           (nameable (names_of app) own (timer_claimed app accepted (timer_named app accepted some) mono.priority entry))
           (timer_short app mono entry) in
+          let put : drop entry after ≡ own = drop_at first own entry refl in
           record {
             after = after;
             entry = entry;
             adds = subst (λ o. Adds app (timer_size app o) first after) (sym timed) adds;
-            part = λ at begins. timer_added app at entry first after refl mono timed begins adds.short;
-            stands = timer_put app entry mono first after timed refl (take_at first own entry refl)
-                (drop_at first own entry refl);
+            part = λ at begins. timer_added app at entry first after refl mono timed begins adds.short put;
+            stands = timer_put app entry mono first after timed refl (take_at first own entry refl) put;
           }
 
   -- all parts, one after the other
@@ -393,9 +395,10 @@ module _ {app : App} (accepted : IsAccepted app) where
     timer = λ mono is. subst (λ (lines : List Line). HasTimerHandler app mono.priority lines at.timer) (append-nil all)
         (timer.stands mono is []);
     named = all_adds.0;
-    order = in_order app at [] first idle.after hardware.after software.after dispatchers.after all refl begun.kept
+    parts = parts_put app at [] first idle.after hardware.after software.after dispatchers.after all refl begun.kept
         idle.adds.kept hardware.adds.kept software.adds.kept dispatchers.adds.kept timer.adds.kept
-        (part_put app at (OfBody body.Init) 0 [] first refl refl begun.short (body_formed body.Init []))
+        (part_put app at (OfBody body.Init) 0 [] first refl refl begun.short (body_formed body.Init [])
+        (body_is body.Init []))
         (idle.part at refl)
         (tasks_whole app at hardware.entries idle.after hardware.after Hardware hardware.parts
         (λ n t there of. software.others.others n t there (hardware_apart t of)))
@@ -436,7 +439,7 @@ module _ {app : App} (accepted : IsAccepted app) where
   has_image : HasImage app
   has_image =
       let is = assembled accepted at made has_tables has_each in
-      record { image = made; of_app = is.image; runnable = is.runnable; lines = is.lines }
+      record { image = made; of_app = is.image; built = is.built; runnable = is.runnable; lines = is.lines }
 
 pub images_exist : ImagesExist
 images_exist app accepted = has_image accepted

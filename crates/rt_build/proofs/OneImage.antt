@@ -1,4 +1,5 @@
--- An application whose code is fixed has one image.
+-- An application has one image that `build` makes, and where its code is fixed it has one image at all: two such images
+-- have the same lines and parts that begin at the same addresses, so their tables are the same.
 use Rattle.std.proofs.Common.{◌≡◌, ℕ, ◌+◌, Bool, true, false, List, [], ◌∷◌, ◌++◌, length, map, filter, Option, Some}
 use Rattle.std.proofs.Common.{None}
 use Rattle.std.proofs.Common.{option_map, slice_get, refl, sym, ap, subst, ◌∙◌, append-nil, if◌then◌else◌, not, arith}
@@ -7,6 +8,7 @@ use Rattle.std.specs.Prelude.{is_none, IsPermutation}
 use Rattle.std.specs.List.{AllByRecursion}
 use Rattle.std.proofs.lemmas.List.Sorted.{sum_by-IsPermutation}
 use Rattle.std.proofs.lemmas.List.Sums.{sum_by-cons}
+use Rattle.rt_lemmas.proofs.Lists.{all_append, all_front, all_behind}
 use Rattle.rt_ids.specs.declared.ids.BodyId.{BodyId}
 use Rattle.rt_ids.specs.declared.ids.BodyId.TheVariants as body
 use Rattle.rt_app.specs.declared.app.IrqDecl.{IrqDecl}
@@ -17,24 +19,22 @@ use Rattle.rt_app.specs.Handlers.{timer_service, services, service_of}
 use Rattle.rt_app.specs.Level.{is_software, levels}
 use Rattle.rt_app.specs.Tree.{Body, Task, App}
 use Rattle.rt_code.specs.Image.{Image}
+use Rattle.rt_code.specs.declared.image.BodyRow.{BodyRow}
 use Rattle.rt_code.specs.declared.image.IrqRow.{IrqRow}
 use Rattle.rt_gen_queue.specs.Line.{Line}
 use Rattle.rt_gen_queue.specs.Called.{row_for, rows_for}
 use Rattle.rt_gen_body.specs.Form.{fixed_body, HasForm}
+use Rattle.rt_build.specs.Built.{IsWritten, IsBuilt}
 use Rattle.rt_build.specs.Entries.{Entries, entry_of, handler_row, irq_rows}
-use Rattle.rt_build.specs.Image.{IsImageOf}
-use Rattle.rt_build.specs.Laws.{IsFixedPart, HasFixedCode, FixedCodeHasOneImage}
+use Rattle.rt_build.specs.Image.{HasTables, IsImageOf}
+use Rattle.rt_build.specs.Laws.{IsFixedPart, HasFixedCode, FixedCodeHasOneImage, OneImageIsBuilt}
 use Rattle.rt_build.specs.Order.{Part, OfBody, OfLevel, OfTimer, begin_of, IsIdleFormed, IsFormed, task_parts}
-use Rattle.rt_build.specs.Order.{timer_parts, fixed_parts, free_parts, AreAbutting, IsInOrder}
+use Rattle.rt_build.specs.Order.{timer_parts, fixed_parts, free_parts, IsPart, AreAbutting, IsInOrder}
 
--- two lists are none where they are none together
-none_both : {A : Type 0} (xs ys : List A) → xs ++ ys ≡ [] → (xs ≡ []) × (ys ≡ [])
-none_both [] ys is = (refl, is)
-none_both (x ∷ xs) ys is = absurd cc
-
-none_mapped : {A B : Type 0} (f : A → B) (xs : List A) → map f xs ≡ [] → xs ≡ []
-none_mapped f [] is = refl
-none_mapped f (x ∷ xs) is = absurd cc
+-- nothing is asked of each
+none_asked : {A : Type 0} (xs : List A) → AllByRecursion (λ x. Unit {0}) xs
+none_asked [] = tt
+none_asked (x ∷ xs) = (tt, none_asked xs)
 
 -- each of nothing is in its order alone
 none_permuted : {A : Type 0} (xs ys : List A) → IsPermutation xs ys → ys ≡ [] → xs ≡ []
@@ -87,18 +87,23 @@ module _ (app : App) where
     abbrev BeginsAlike : Part → Type 0
     BeginsAlike part = begin_of one part ≡ begin_of other part
 
-    parts_same : (parts : List Part) (from : ℕ) (xs ys : List Line) → AllByRecursion (IsFixedPart app) parts
-        → AreAbutting app one from parts xs → AreAbutting app other from parts ys
+    -- parts of which these are known, each of which has the same lines in both, and begins alike
+    parts_same : (IsKnown : Part → Type 0) (First Second : Part → ℕ → List Line → Type 0)
+        → ((part : Part) (from : ℕ) (xs ys : List Line) → IsKnown part → First part from xs → Second part from ys
+        → (xs ≡ ys) × BeginsAlike part)
+        → (parts : List Part) (from : ℕ) (xs ys : List Line) → AllByRecursion IsKnown parts
+        → AreAbutting First from parts xs → AreAbutting Second from parts ys
         → (xs ≡ ys) × AllByRecursion BeginsAlike parts
-    parts_same [] from xs ys fixed first second = (first ∙ sym second, tt)
-    parts_same (part ∷ parts) from xs ys (fixed, more_fixed) (own, more, is, first, rest)
-        (own2, more2, is2, second, rest2) =
-        let same : own ≡ own2 = part_same part from own own2 fixed first.formed second.formed in
-        let behind = parts_same parts (from + length own) more more2 more_fixed rest
-        (subst (λ (lines : List Line). AreAbutting app other (from + length lines) parts more2) (sym same) rest2) in (
-          is ∙ (ap (λ (lines : List Line). lines ++ more) same ∙ (ap (λ (lines : List Line). own2 ++ lines) behind.0
-              ∙ sym is2)),
-          (first.begins ∙ sym second.begins, behind.1),
+    parts_same IsKnown First Second same [] from xs ys known first second = (first ∙ sym second, tt)
+    parts_same IsKnown First Second same (part ∷ parts) from xs ys (known, more_known) (own, more, is, here, rest)
+        (own2, more2, is2, here2, rest2) =
+        let one_part : (own ≡ own2) × BeginsAlike part = same part from own own2 known here here2 in
+        let behind = parts_same IsKnown First Second same parts (from + length own) more more2 more_known rest
+        (subst (λ (lines : List Line). AreAbutting Second (from + length lines) parts more2) (sym one_part.0) rest2)
+        in (
+          is ∙ (ap (λ (lines : List Line). lines ++ more) one_part.0
+              ∙ (ap (λ (lines : List Line). own2 ++ lines) behind.0 ∙ sym is2)),
+          (one_part.1, behind.1),
         )
 
     -- what serves an interrupt is taken alike
@@ -118,6 +123,23 @@ module _ (app : App) where
             → AllByRecursion EntersAlike (bound_service n t o ++ task_services (n + 1) ts)
         go None behind all = behind all
         go (Some irq) behind all = (all.0, behind all.1)
+
+    levels_alike : (ps : List ℕ) → AllByRecursion BeginsAlike (map OfLevel ps)
+        → AllByRecursion EntersAlike (flat_map (λ p. dispatcher_service p (dispatcher_of app p)) ps)
+    levels_alike [] all = tt
+    levels_alike (p ∷ ps) (here, behind) =
+        all_append EntersAlike (dispatcher_service p (dispatcher_of app p))
+        (flat_map (λ p. dispatcher_service p (dispatcher_of app p)) ps) (go (dispatcher_of app p))
+        (levels_alike ps behind)
+      where
+        go : (o : Option ℕ) → AllByRecursion EntersAlike (dispatcher_service p o)
+        go None = tt
+        go (Some irq) = (here, tt)
+
+    timer_alike : (o : Option Mono) → AllByRecursion BeginsAlike (timer_parts o)
+        → AllByRecursion EntersAlike (timer_service o)
+    timer_alike None all = tt
+    timer_alike (Some mono) (here, none) = (here, tt)
 
     rows_same : (ss : List Service) → AllByRecursion EntersAlike ss
         → option_map (handler_row app one) (slice_get ss 0) ≡ option_map (handler_row app other) (slice_get ss 0)
@@ -139,66 +161,90 @@ module _ (app : App) where
               (slice_get (service_of app i) 0);
         } ∷ rows) (irqs_same all (i + 1) ds)
 
-    bodies_same : (n : ℕ) (ts : List Task) → task_parts is_software n ts ≡ []
+    bodies_same : (n : ℕ) (ts : List Task) → AllByRecursion BeginsAlike (task_parts is_software n ts)
         → rows_for one.task n ts ≡ rows_for other.task n ts
-    bodies_same n [] none = refl
-    bodies_same n (t ∷ ts) none = go (is_software t) (bodies_same (n + 1) ts) none
+    bodies_same n [] all = refl
+    bodies_same n (t ∷ ts) all = go (is_software t) (bodies_same (n + 1) ts) all
       where
         go : (b : Bool)
-            → (task_parts is_software (n + 1) ts ≡ [] → rows_for one.task (n + 1) ts ≡ rows_for other.task (n + 1) ts)
-            → (if b then OfBody (body.Task n) ∷ [] else []) ++ task_parts is_software (n + 1) ts ≡ []
+            → (AllByRecursion BeginsAlike (task_parts is_software (n + 1) ts)
+            → rows_for one.task (n + 1) ts ≡ rows_for other.task (n + 1) ts)
+            → AllByRecursion BeginsAlike ((if b then OfBody (body.Task n) ∷ [] else [])
+            ++ task_parts is_software (n + 1) ts)
             → (if b then row_for one.task n t ∷ [] else []) ++ rows_for one.task (n + 1) ts
             ≡ (if b then row_for other.task n t ∷ [] else []) ++ rows_for other.task (n + 1) ts
-        go true behind none = absurd cc
-        go false behind none = behind none
+        go true behind (here, rest) =
+            ap (λ entry. record (row_for one.task n t) { entry = entry } ∷ rows_for one.task (n + 1) ts) here
+            ∙ ap (λ (rows : List BodyRow). row_for other.task n t ∷ rows) (behind rest)
+        go false behind all = behind all
+
+    module _ (all : AllByRecursion BeginsAlike (fixed_parts app ++ free_parts app)) where
+      free_alike : AllByRecursion BeginsAlike (free_parts app)
+      free_alike = all_behind BeginsAlike (fixed_parts app) (free_parts app) all
+
+      handlers_alike : AllByRecursion BeginsAlike (map OfLevel (levels app) ++ timer_parts app.mono)
+      handlers_alike = all_behind BeginsAlike (task_parts is_software 0 app.tasks) _ free_alike
+
+      services_alike : AllByRecursion EntersAlike (services app)
+      services_alike =
+          all_append EntersAlike (task_services 0 app.tasks) _
+          (tasks_alike 0 app.tasks (all_front BeginsAlike (fixed_parts app) (free_parts app) all).1.1)
+          (all_append EntersAlike (flat_map (λ p. dispatcher_service p (dispatcher_of app p)) (levels app))
+          (timer_service app.mono)
+          (levels_alike (levels app) (all_front BeginsAlike (map OfLevel (levels app)) _ handlers_alike))
+          (timer_alike app.mono (all_behind BeginsAlike (map OfLevel (levels app)) _ handlers_alike)))
+
+      same_images : (a b : Image) → HasTables app one a → HasTables app other b → a.code ≡ b.code → a ≡ b
+      same_images a b first second code =
+          ap (λ v. record a { bits = v }) (first.bits ∙ sym second.bits)
+          ∙ ap (λ v. record a { bits = b.bits; fpu = v }) (first.fpu ∙ sym second.fpu)
+          ∙ ap (λ v. record a { bits = b.bits; fpu = b.fpu; stack_bytes = v }) (first.stack ∙ sym second.stack)
+          ∙ ap (λ v. record a { bits = b.bits; fpu = b.fpu; stack_bytes = b.stack_bytes; thread_words = v })
+          (first.thread ∙ sym second.thread)
+          ∙ ap (λ v. record b { cells = v; irqs = a.irqs; bodies = a.bodies; code = a.code; names = a.names })
+          (first.cells ∙ sym second.cells)
+          ∙ ap (λ v. record b { irqs = v; bodies = a.bodies; code = a.code; names = a.names })
+          (first.irqs ∙ irqs_same services_alike 0 app.irqs ∙ sym second.irqs)
+          ∙ ap (λ v. record b { bodies = v; code = a.code; names = a.names })
+          (first.bodies
+          ∙ bodies_same 0 app.tasks (all_front BeginsAlike (task_parts is_software 0 app.tasks) _ free_alike)
+          ∙ sym second.bodies)
+          ∙ ap (λ v. record b { code = v; names = a.names }) code
+          ∙ ap (λ v. record b { names = v }) (first.names ∙ sym second.names)
 
   module _ (fixed : HasFixedCode app) where
-    no_tasks : task_parts is_software 0 app.tasks ≡ []
-    no_tasks = (none_both (task_parts is_software 0 app.tasks) _ fixed.alone).0
-
-    no_others : map OfLevel (levels app) ++ timer_parts app.mono ≡ []
-    no_others = (none_both (task_parts is_software 0 app.tasks) _ fixed.alone).1
-
-    -- hardware tasks alone are served
-    services_are : services app ≡ task_services 0 app.tasks
-    services_are =
-        ap (λ (ps : List ℕ). task_services 0 app.tasks ++ (flat_map (λ p. dispatcher_service p (dispatcher_of app p)) ps
-        ++ timer_service app.mono)) (none_mapped OfLevel (levels app)
-        (none_both (map OfLevel (levels app)) _ no_others).0)
-        ∙ (ap (λ (ss : List Service). task_services 0 app.tasks ++ ss)
-        (untimed app.mono (none_both (map OfLevel (levels app)) _ no_others).1)
-        ∙ append-nil (task_services 0 app.tasks))
-      where
-        untimed : (o : Option Mono) → timer_parts o ≡ [] → timer_service o ≡ []
-        untimed None none = refl
-        untimed (Some mono) none = absurd cc
-
-    code_abuts : (at : Entries) (code : List Line) → IsInOrder app at code → AreAbutting app at 0 (fixed_parts app) code
+    code_abuts : (at : Entries) (code : List Line) → IsInOrder app at code
+        → AreAbutting (IsPart app at) 0 (fixed_parts app) code
     code_abuts at code order =
-        subst (λ (ps : List Part). AreAbutting app at 0 ps code)
+        subst (λ (ps : List Part). AreAbutting (IsPart app at) 0 ps code)
         (ap (λ (ps : List Part). fixed_parts app ++ ps)
         (none_permuted order.behind (free_parts app) order.free fixed.alone) ∙ append-nil (fixed_parts app)) order.abut
 
-    same_images : (a b : Image) → IsImageOf app a → IsImageOf app b → a ≡ b
-    same_images a b one other =
-        let code = parts_same one.at other.at (fixed_parts app) 0 a.code b.code fixed.bodies
-        (code_abuts one.at a.code one.order) (code_abuts other.at b.code other.order) in
-        let enters : AllByRecursion (EntersAlike one.at other.at) (services app) =
-        subst (AllByRecursion (EntersAlike one.at other.at)) (sym services_are)
-        (tasks_alike one.at other.at 0 app.tasks code.1.1.1) in
-        ap (λ v. record a { bits = v }) (one.tables.bits ∙ sym other.tables.bits)
-        ∙ ap (λ v. record a { bits = b.bits; fpu = v }) (one.tables.fpu ∙ sym other.tables.fpu)
-        ∙ ap (λ v. record a { bits = b.bits; fpu = b.fpu; stack_bytes = v }) (one.tables.stack ∙ sym other.tables.stack)
-        ∙ ap (λ v. record a { bits = b.bits; fpu = b.fpu; stack_bytes = b.stack_bytes; thread_words = v })
-        (one.tables.thread ∙ sym other.tables.thread)
-        ∙ ap (λ v. record b { cells = v; irqs = a.irqs; bodies = a.bodies; code = a.code; names = a.names })
-        (one.tables.cells ∙ sym other.tables.cells)
-        ∙ ap (λ v. record b { irqs = v; bodies = a.bodies; code = a.code; names = a.names })
-        (one.tables.irqs ∙ irqs_same one.at other.at enters 0 app.irqs ∙ sym other.tables.irqs)
-        ∙ ap (λ v. record b { bodies = v; code = a.code; names = a.names })
-        (one.tables.bodies ∙ bodies_same one.at other.at 0 app.tasks no_tasks ∙ sym other.tables.bodies)
-        ∙ ap (λ v. record b { code = v; names = a.names }) code.0
-        ∙ ap (λ v. record b { names = v }) (one.tables.names ∙ sym other.tables.names)
+    fixed_images : (a b : Image) → IsImageOf app a → IsImageOf app b → a ≡ b
+    fixed_images a b first second =
+        let Alike = BeginsAlike first.at second.at in
+        let code = parts_same first.at second.at (IsFixedPart app) (IsPart app first.at) (IsPart app second.at)
+        (λ part from xs ys known here there. (
+          part_same part from xs ys known here.formed there.formed,
+          here.begins ∙ sym there.begins,
+        ))
+        (fixed_parts app) 0 a.code b.code fixed.bodies (code_abuts first.at a.code first.order)
+        (code_abuts second.at b.code second.order) in
+        let all : AllByRecursion Alike (fixed_parts app ++ free_parts app) =
+        subst (λ (ps : List Part). AllByRecursion Alike (fixed_parts app ++ ps)) (sym fixed.alone)
+        (subst (AllByRecursion Alike) (sym (append-nil (fixed_parts app))) code.1) in
+        same_images first.at second.at all a b first.tables second.tables code.0
+
+  built_images : (a b : Image) → IsBuilt app a → IsBuilt app b → a ≡ b
+  built_images a b first second =
+      let code = parts_same first.at second.at (λ part. Unit {0}) (IsWritten app first.at) (IsWritten app second.at)
+      (λ part from xs ys known here there. (here.are ∙ sym there.are, here.begins ∙ sym there.begins))
+      (fixed_parts app ++ free_parts app) 0 a.code b.code (none_asked (fixed_parts app ++ free_parts app)) first.parts
+      second.parts in
+      same_images first.at second.at code.1 a b first.tables second.tables code.0
 
 pub one_image : FixedCodeHasOneImage
-one_image app a b fixed one other = same_images app fixed a b one other
+one_image app a b fixed first second = fixed_images app fixed a b first second
+
+pub one_is_built : OneImageIsBuilt
+one_is_built app a b first second = built_images app a b first second

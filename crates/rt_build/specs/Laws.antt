@@ -10,6 +10,7 @@ use Rattle.rt_code.specs.Lines.{HasLines}
 use Rattle.rt_code.specs.Runnable.{IsRunnable}
 use Rattle.rt_code.specs.StandingLaws.{StandingLaws}
 use Rattle.rt_gen_body.specs.Form.{fixed_body}
+use Rattle.rt_build.specs.Built.{IsBuilt}
 use Rattle.rt_build.specs.Image.{IsImageOf}
 use Rattle.rt_build.specs.Order.{Part, OfBody, OfLevel, OfTimer, fixed_parts, free_parts}
 
@@ -32,10 +33,15 @@ pub record HasFixedCode (app : App) : Type 0 where
 abbrev pub FixedCodeHasOneImage : Type 0
 FixedCodeHasOneImage = (app : App) (a b : Image) → HasFixedCode app → IsImageOf app a → IsImageOf app b → a ≡ b
 
+-- An application has one image that `build` makes: two answers for it are equal.
+abbrev pub OneImageIsBuilt : Type 0
+OneImageIsBuilt = (app : App) (a b : Image) → IsBuilt app a → IsBuilt app b → a ≡ b
+
 -- the application has an image, which a core runs, and whose listing and traces can be written
 pub record HasImage (app : App) : Type 0 where
   pub image : Image
   pub of_app : IsImageOf app image
+  pub built : IsBuilt app image
   pub runnable : IsRunnable image
   pub lines : HasLines image
 

@@ -4,3 +4,4 @@ pub mod Image
 pub mod Inside
 pub mod Laws
 pub mod Order
+pub mod Built

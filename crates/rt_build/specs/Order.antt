@@ -71,6 +71,14 @@ fixed_parts app = OfBody body.Init ∷ OfBody body.Idle ∷ task_parts (λ t. no
 abbrev pub free_parts : App → List Part
 free_parts app = task_parts is_software 0 app.tasks ++ (map OfLevel (levels app) ++ timer_parts app.mono)
 
+-- These parts, one after the other, are all of these lines, from an address on, where this is so of each part with its
+-- lines.
+abbrev pub AreAbutting : (Part → ℕ → List Line → Type 0) → ℕ → List Part → List Line → Type 0
+AreAbutting IsThere from [] lines = lines ≡ []
+AreAbutting IsThere from (part ∷ parts) lines =
+    (own more : List Line) × (lines ≡ own ++ more) × IsThere part from own
+    × AreAbutting IsThere (from + length own) parts more
+
 module _ (app : App) (at : Entries) where
   -- a part is these lines, from an address on
   pub record IsPart (part : Part) (from : ℕ) (lines : List Line) : Type 0 where
@@ -78,19 +86,12 @@ module _ (app : App) (at : Entries) where
     pub short : length lines ≤ size_of app part
     pub formed : IsFormed app part from lines
 
-  -- These parts, one after the other, are all of these lines, from an address on.
-  abbrev pub AreAbutting : ℕ → List Part → List Line → Type 0
-  AreAbutting from [] lines = lines ≡ []
-  AreAbutting from (part ∷ parts) lines =
-      (own more : List Line) × (lines ≡ own ++ more) × IsPart part from own
-      × AreAbutting (from + length own) parts more
-
   -- the parts of the application are all of its code, first those whose order is fixed, and then the others in some
   -- order
   pub record IsInOrder (code : List Line) : Type 0 where
     pub behind : List Part
     pub free : IsPermutation behind (free_parts app)
-    pub abut : AreAbutting 0 (fixed_parts app ++ behind) code
+    pub abut : AreAbutting IsPart 0 (fixed_parts app ++ behind) code
 
 -- how many instructions all code may have, as the rule on sizes counts them
 abbrev pub code_size : App → ℕ

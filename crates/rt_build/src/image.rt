@@ -1,6 +1,7 @@
 ghost use Rattle.std.specs.Prelude.{◌≡◌, ℕ, ◌<◌, length, Some, IfOk};
 ghost use Rattle.rt_app.specs.Accepted.{IsAccepted};
 ghost use Rattle.rt_app.specs.View.{app_of};
+ghost use Rattle.rt_build.specs.Built.{IsBuilt};
 ghost use Rattle.rt_build.specs.Image.{IsImageOf};
 ghost use Rattle.rt_code.specs.Cells.{resource_cell};
 ghost use Rattle.rt_code.specs.Lines.{HasLines};
@@ -51,11 +52,13 @@ fn assemble(plan: Plan<'_>, code: Code, tables: Tables) -> Image
 }
 
 /// The image of an application that is accepted: its tables, and code that stands at the entry of each body, of each
-/// dispatcher and of the timer handler. A core runs it; its listing can be written, and so can the lines of its traces.
+/// dispatcher and of the timer handler. The same application has the same image each time (the law
+/// `one_image_is_built`). A core runs it; its listing can be written, and so can the lines of its traces.
 /// The cell of a shared resource has the resource's own number.
 pub fn build(alloc: Global, app: &App) -> Result<Image, NoMemory>
     requires { IsAccepted (app_of app.now) }
     ensures image { IfOk result (λ image. IsImageOf (app_of app.now) image) }
+    ensures built { IfOk result (λ image. IsBuilt (app_of app.now) image) }
     ensures cells { IfOk result (λ image. (r : ℕ) → r < length (app_of app.now).shared
         → resource_cell image r ≡ Some r) }
     ensures runnable { IfOk result (λ image. IsRunnable image) }

@@ -1,4 +1,4 @@
-ghost use Rattle.rt_build.specs.Laws.{CodeKeepsLaws, FixedCodeHasOneImage, ImagesExist};
+ghost use Rattle.rt_build.specs.Laws.{CodeKeepsLaws, FixedCodeHasOneImage, ImagesExist, OneImageIsBuilt};
 
 /// What holds of all code that stands, in every application's memory: it stands with more code after it, with more
 /// steps than it needs, and whatever others do to what is not its own; and of each of its steps, what it does, which
@@ -11,6 +11,11 @@ pub fn code_that_stands_keeps_its_laws()
 /// do nothing else, has one image, and so one listing.
 pub fn fixed_code_has_one_image()
     ensures { FixedCodeHasOneImage }
+{}
+
+/// An application has one image that `build` makes: two answers for it are equal, and so are their listings.
+pub fn one_image_is_built()
+    ensures { OneImageIsBuilt }
 {}
 
 /// Every accepted application has an image, which a core runs, and whose listing and the lines of its traces can be

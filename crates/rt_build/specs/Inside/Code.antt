@@ -22,7 +22,9 @@ use Rattle.rt_gen_disp.specs.Code.{dispatcher_code}
 use Rattle.rt_gen_timer.specs.TimerCode.{timer_code}
 use Rattle.rt_build.specs.Entries.{Entries}
 use Rattle.rt_build.specs.Image.{IdleStands}
-use Rattle.rt_build.specs.Order.{Part, OfBody, OfLevel, task_parts, AreAbutting, IsInOrder, code_size}
+use Rattle.rt_build.specs.Built.{part_code}
+use Rattle.rt_build.specs.Order.{Part, OfBody, OfLevel, task_parts, fixed_parts, free_parts, IsPart, AreAbutting}
+use Rattle.rt_build.specs.Order.{code_size}
 use Rattle.rt_build.specs.declared.code.Code.{Code}
 use Rattle.rt_build.specs.declared.code.Kind.{Kind}
 use Rattle.rt_build.specs.declared.code.Kind.TheVariants.{Hardware, Software}
@@ -37,9 +39,18 @@ pub record Adds (app : App) (size : ℕ) (before after : List Line) : Type 0 whe
   pub named : AllByRecursion (IsNameable (names_of app)) (drop (length before) after)
   pub short : length after ≤ length before + size
 
+-- a part as it is put: it is one of the order, and its lines are determined
+pub record IsPut (app : App) (at : Entries) (part : Part) (from : ℕ) (lines : List Line) : Type 0 where
+  pub is : IsPart app at part from lines
+  pub are : lines ≡ part_code app part from
+
 -- after code these parts were put, which begin where these entries say
 abbrev pub AddsParts : App → Entries → List Part → List Line → List Line → Type 0
-AddsParts app at parts before after = AreAbutting app at (length before) parts (drop (length before) after)
+AddsParts app at parts before after = AreAbutting (IsPut app at) (length before) parts (drop (length before) after)
+
+-- the code is the parts of the application, those whose order is free in this one
+abbrev pub HasParts : App → Entries → List Line → Type 0
+HasParts app at code = AreAbutting (IsPut app at) 0 (fixed_parts app ++ free_parts app) code
 
 -- whether a task is of a kind: one that binds an interrupt, or one that does not
 abbrev pub is_of_kind : Kind → Task → Bool
@@ -148,7 +159,7 @@ entries_of app code = record {
 }
 
 -- the bodies are correct, dispatchers and timer handler are where the entries say, all lines name only what is
--- declared, lie in order, and are no more than the rule on sizes counts
+-- declared, are the parts of the application, and are no more than the rule on sizes counts
 pub record IsCodeOf (app : App) (code : Code) : Type 0 where
   pub entries : HasEntries app code
   pub thread : HasThread app code.lines.items code.idle
@@ -157,5 +168,5 @@ pub record IsCodeOf (app : App) (code : Code) : Type 0 where
   pub dispatchers : HasDispatchers app code.lines.items code.dispatchers.items
   pub timer : HasTimer app code.lines.items code.timer
   pub named : AllByRecursion (IsNameable (names_of app)) code.lines.items
-  pub order : IsInOrder app (entries_of app code) code.lines.items
+  pub parts : HasParts app (entries_of app code) code.lines.items
   pub short : length code.lines.items ≤ code_size app

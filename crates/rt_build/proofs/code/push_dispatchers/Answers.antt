@@ -40,6 +40,7 @@ loop-row-preserved c =
       adds = next.1;
       parts = level_added app c.args.lines.now.items before after c.loop-row.invariant.adds.kept own.kept
           c.loop-row.row-index row.level entry c.loop-row.entries.items c.push.new.self.items there
-          c.loop-row.invariant.counted c.in_ok-push.ensures.items c.loop-row.invariant.parts made.entry made.size;
+          c.loop-row.invariant.counted c.in_ok-push.ensures.items c.loop-row.invariant.parts made.entry made.size
+          made.lines;
       stands = next.2;
     }

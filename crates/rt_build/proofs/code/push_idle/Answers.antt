@@ -8,6 +8,7 @@ use Rattle.rt_app.specs.View.{app_of, body_of}
 use Rattle.rt_code.specs.declared.image.BodyRow.{BodyRow}
 use Rattle.rt_code.specs.declared.instr.Instr.TheVariants as instr
 use Rattle.rt_gen_body.specs.Bodies.{BodyStands}
+use Rattle.rt_gen_body.specs.BodyCode.{body_code}
 use Rattle.rt_gen_body.specs.Form.{HasForm}
 use Rattle.rt_ids.specs.declared.ids.BodyId.TheVariants as body
 use Rattle.rt_gen_queue.specs.Line.{Line}
@@ -30,10 +31,11 @@ module _ (app : App) (before after : List Line) where
   idle_part : (b : Body) → app.idle ≡ Some b → (r : Result ℕ NoMemory) → IfOk r (λ entry. entry ≡ length before)
       → OnOk r (length after ≤ length before + cost_of (size_measure app) app.idle)
       → IfOk r (λ entry. HasForm app body.Idle entry (drop entry after))
+      → IfOk r (λ entry. drop entry after ≡ body_code app body.Idle entry)
       → IfOk r (λ entry. (at : Entries) → at.idle ≡ entry → AddsParts app at (OfBody body.Idle ∷ []) before after)
-  idle_part b declared (Ok entry) is short formed =
-      λ at begins. idle_added app at entry before after is b declared begins short formed
-  idle_part b declared (Err e) is short formed = tt
+  idle_part b declared (Ok entry) is short formed are =
+      λ at begins. idle_added app at entry before after is b declared begins short formed are
+  idle_part b declared (Err e) is short formed are = tt
 
   wait_part : app.idle ≡ None → (r : Result ℕ NoMemory) → IfOk r (λ entry. entry ≡ length before)
       → OnOk r (after ≡ before ++ (instr.Wait, None) ∷ [])
@@ -45,7 +47,7 @@ pub returns-in-Some-clause-part : goal.returns-in-Some-clause-part
 returns-in-Some-clause-part c =
     idle_part (app_of c.args.plan.now.app.now) c.args.lines.now.items c.gen_body.new.code.items
     (body_of c.in-Some._body) (ap (option_map body_of) c.in-Some.is) c.gen_body.result c.gen_body.ensures.entry
-    c.gen_body.ensures.size c.gen_body.ensures.form
+    c.gen_body.ensures.size c.gen_body.ensures.form c.gen_body.ensures.lines
 
 pub returns-in-None-clause-part : goal.returns-in-None-clause-part
 returns-in-None-clause-part c =

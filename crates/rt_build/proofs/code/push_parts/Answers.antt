@@ -14,7 +14,7 @@ use Rattle.rt_build.specs.declared.code.Kind.TheVariants.{Hardware, Software}
 use Rattle.rt_build.proofs.Grown.{thread_kept, thread_made, tasks_kept, tasks_left, hardware_apart, kinds_sum}
 use Rattle.rt_build.proofs.Grown.{dispatchers_kept}
 use Rattle.rt_build.proofs.Grown.{adds_then, all_named, adds_behind, kept_then, written}
-use Rattle.rt_build.proofs.Abutting.{part_put, tasks_whole, levels_whole, in_order}
+use Rattle.rt_build.proofs.Abutting.{part_put, tasks_whole, levels_whole, parts_put}
 use Rattle.rt_build.proofs.ImageSizes.{all_code}
 use Rattle.rt_build.proofs.code.push_parts.Goals as goal
 
@@ -36,7 +36,7 @@ returns c =
     let f = sum_by (dispatcher_size app) (levels app) in
     let g = timer_size app app.mono in
     let begin = adds_behind app a c.in_ok-gen_body.field-0 none first c.in_ok-gen_body.ensures.entry
-    c.in_ok-gen_body.ensures.kept c.in_ok-gen_body.ensures.lines c.in_ok-gen_body.ensures.size in
+    c.in_ok-gen_body.ensures.kept c.in_ok-gen_body.ensures.names c.in_ok-gen_body.ensures.size in
     let hardware = c.in_ok-push_tasks.ensures.adds in
     let software = c.in_ok-push_tasks-2.ensures.adds in
     let levelled = c.in_ok-code-2.ensures.adds in
@@ -94,11 +94,11 @@ returns c =
           c.in_ok-code-2.ensures.stands;
       timer = c.in_ok-code-3.ensures.stands;
       named = all.0;
-      order = in_order app at none first second third fourth fifth sixth c.requires.empty begin.kept
+      parts = parts_put app at none first second third fourth fifth sixth c.requires.empty begin.kept
           c.in_ok-code.ensures.adds.kept hardware.kept software.kept levelled.kept last.kept
           (part_put app at (OfBody body.Init) c.in_ok-gen_body.field-0 none first c.in_ok-gen_body.ensures.entry
           (sym (c.in_ok-gen_body.ensures.entry ∙ ap (λ (lines : List Line). length lines) c.requires.empty))
-          c.in_ok-gen_body.ensures.size c.in_ok-gen_body.ensures.form)
+          c.in_ok-gen_body.ensures.size c.in_ok-gen_body.ensures.form c.in_ok-gen_body.ensures.lines)
           (c.in_ok-code.ensures.part at refl)
           (tasks_whole app at one second third Hardware c.in_ok-push_tasks.ensures.parts
           (λ n t there of. ap (λ (es : List ℕ). slice_index es n) second_pass

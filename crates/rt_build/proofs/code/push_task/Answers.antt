@@ -30,7 +30,7 @@ returns-in_ok-entries-clause-part c t there =
     task_added app c.args.kind c.args.number t there
     (slice_set c.args.entries.now c.from-index.result entry) c.args.lines.now.items c.gen_body.new.code.items entry
     (ap (is_of_kind c.args.kind) is ∙ sym c.if-is_of_kind.ensures) c.in_ok-entries.ensures.entry told
-    c.in_ok-entries.ensures.size c.in_ok-entries.ensures.form
+    c.in_ok-entries.ensures.size c.in_ok-entries.ensures.form c.in_ok-entries.ensures.lines
 
 pub returns-in_ok-entries-clause-tells : goal.returns-in_ok-entries-clause-tells
 returns-in_ok-entries-clause-tells c t there =

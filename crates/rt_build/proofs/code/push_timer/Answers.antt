@@ -30,9 +30,11 @@ module _ (app : App) (mono : Mono) (timed : app.mono ≡ Some mono) (before afte
 
   part_timer : (r : Result ℕ NoMemory) → IfOk r (λ entry. entry ≡ length before)
       → OnOk r (length after ≤ length before + timer_size app (Some mono))
+      → IfOk r (λ entry. drop entry after ≡ timer_code app mono.priority entry)
       → IfOk r (λ entry. (at : Entries) → at.timer ≡ entry → AddsParts app at (timer_parts app.mono) before after)
-  part_timer (Ok entry) is short = λ at begins. timer_added app at entry before after is mono timed begins short
-  part_timer (Err e) is short = tt
+  part_timer (Ok entry) is short are =
+      λ at begins. timer_added app at entry before after is mono timed begins short are
+  part_timer (Err e) is short are = tt
 
   stands_timer : (r : Result ℕ NoMemory) → IfOk r (λ entry. entry ≡ length before)
       → IfOk r (λ entry. take entry after ≡ before)
@@ -51,6 +53,7 @@ pub returns-in-Some-clause-part : goal.returns-in-Some-clause-part
 returns-in-Some-clause-part c =
     part_timer (app_of c.args.plan.now.app.now) c.in-Some.mono c.in-Some.is c.args.lines.now.items
     c.gen_timer.new.code.items c.gen_timer.result c.gen_timer.ensures.entry c.gen_timer.ensures.size
+    c.gen_timer.ensures.lines
 
 pub returns-in-Some-clause-stands : goal.returns-in-Some-clause-stands
 returns-in-Some-clause-stands c =

@@ -12,4 +12,4 @@ returns c =
     c.in_ok-plan.ensures.planned) c.in_ok-code.ensures c.args.app.now c.in_ok-plan.ensures.of_app
     c.in_ok-tables.ensures.words c.in_ok-tables.ensures.bytes c.in_ok-tables.ensures.irqs c.in_ok-tables.ensures.bodies
     c.in_ok-tables.ensures.names in
-    record { image = all.image; cells = all.cells; runnable = all.runnable; lines = all.lines }
+    record { image = all.image; built = all.built; cells = all.cells; runnable = all.runnable; lines = all.lines }
