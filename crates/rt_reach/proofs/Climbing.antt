@@ -20,6 +20,7 @@ use Rattle.rt_app.specs.Names.{names_of}
 use Rattle.rt_app.specs.Stack.{has_handler, need, priority_bytes, bytes_below, thread_words, stack_bytes}
 use Rattle.rt_app.specs.declared.costs.TheConstants.{PRIORITIES}
 use Rattle.rt_app.proofs.Sound.{accepted_are_sound}
+use Rattle.rt_build.specs.Built.{IsBuilt}
 use Rattle.rt_build.specs.Image.{IsImageOf}
 use Rattle.rt_code.specs.Image.{Image, entry_words}
 use Rattle.rt_core.specs.Core.{reset, stack_in_use, depth}
@@ -253,10 +254,11 @@ module _ (app : App) (img : Image) (accepted : IsAccepted app) (is_image : IsIma
       let long = length-replicate {A = ℕ} img.thread_words 0 in
       ap (depth img) (happens_by_event.core_none img (reset img)) ∙ omega (arith, long, is_image.tables.thread)
 
-  pub flat_reaches : Good app img → deepest_irqs app ≡ [] → ReachesTheBound app []
-  flat_reaches good none = record {
+  pub flat_reaches : Good app img → IsBuilt app img → deepest_irqs app ≡ [] → ReachesTheBound app []
+  flat_reaches good built none = record {
     image = img;
     is_image = is_image;
+    built = built;
     good = good;
     lines = [];
     says = is_script_text (names_of app) (accepted_are_sound app accepted).names 0 [] (omega arith) (omega arith) tt tt;
@@ -279,9 +281,9 @@ module _ (app : App) (img : Image) (accepted : IsAccepted app) (is_image : IsIma
             omega (arith, long))
       ]
 
-  pub up_reaches : Good app img → (irq : ℕ) (more : List ℕ) → deepest_irqs app ≡ irq ∷ more → (steps : ℕ)
-      → IsFirstTake img irq steps → ReachesTheBound app (script_text (names_of app) steps (irq ∷ more))
-  up_reaches good irq more is steps first_take = by climbed
+  pub up_reaches : Good app img → IsBuilt app img → (irq : ℕ) (more : List ℕ) → deepest_irqs app ≡ irq ∷ more
+      → (steps : ℕ) → IsFirstTake img irq steps → ReachesTheBound app (script_text (names_of app) steps (irq ∷ more))
+  up_reaches good built irq more is steps first_take = by climbed
     where
       by : Climbed PRIORITIES → ReachesTheBound app (script_text (names_of app) steps (irq ∷ more))
       by (inl flat) = absurd (let none : irq ∷ more ≡ [] = sym is ∙ flat.none in let long = ap length none in
@@ -304,6 +306,7 @@ module _ (app : App) (img : Image) (accepted : IsAccepted app) (is_image : IsIma
           record {
             image = img;
             is_image = is_image;
+            built = built;
             good = good;
             lines = script_of steps (irq ∷ more);
             says = is_script_text (names_of app) (accepted_are_sound app accepted).names steps (irq ∷ more)

@@ -5,6 +5,7 @@ use Rattle.rt_ids.specs.Names.{Names}
 use Rattle.rt_app.specs.Tree.{App}
 use Rattle.rt_app.specs.Accepted.{IsAccepted}
 use Rattle.rt_app.specs.Names.{names_of}
+use Rattle.rt_build.specs.Built.{IsBuilt}
 use Rattle.rt_build.specs.Image.{IsImageOf}
 use Rattle.rt_code.specs.Image.{Image}
 use Rattle.rt_sim.specs.Good.{Good}
@@ -34,21 +35,22 @@ module _ (app : App) (img : Image) (accepted : IsAccepted app) (form : has_deepe
   soon_taken first some is =
       soon app img accepted is_image form first (drop 1 irqs) (sym are ∙ first_of irqs first some is)
 
-  pub none_made : Good app img → (text : List ℕ) → text ≡ [] → length irqs < 1 → ReachesTheBound app text
-  none_made good text empty few =
+  pub none_made : Good app img → IsBuilt app img → (text : List ℕ) → text ≡ [] → length irqs < 1
+      → ReachesTheBound app text
+  none_made good built text empty few =
       subst (ReachesTheBound app) (sym empty)
-      (flat_reaches app img accepted is_image form good (sym are ∙ none_of irqs few))
+      (flat_reaches app img accepted is_image form good built (sym are ∙ none_of irqs few))
 
-  pub some_made : Good app img → (text : List ℕ) (first steps : ℕ) → 1 ≤ length irqs → first ≡ get_or irqs 0 first
-      → IsFirstTake img first steps
+  pub some_made : Good app img → IsBuilt app img → (text : List ℕ) (first steps : ℕ) → 1 ≤ length irqs
+      → first ≡ get_or irqs 0 first → IsFirstTake img first steps
       → (names : Names) → names ≡ names_of app → (old : List ℕ) → old ≡ []
       → text ≡ old ++ (priority_text names steps first
       ++ flat_map (priority_text names 1) (take (length irqs - 1) (drop 1 irqs)))
       → ReachesTheBound app text
-  some_made good text first steps some is taken names named old empty made =
+  some_made good built text first steps some is taken names named old empty made =
       subst (ReachesTheBound app)
       (sym (made ∙ ap (λ is. old ++ script_text names steps (first ∷ is)) (others_of irqs)
       ∙ ap (λ o. o ++ script_text names steps (first ∷ drop 1 irqs)) empty
       ∙ ap (λ n. script_text n steps (first ∷ drop 1 irqs)) named))
-      (up_reaches app img accepted is_image form good first (drop 1 irqs) (sym are ∙ first_of irqs first some is)
+      (up_reaches app img accepted is_image form good built first (drop 1 irqs) (sym are ∙ first_of irqs first some is)
       steps taken)

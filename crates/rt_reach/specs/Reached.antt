@@ -4,6 +4,7 @@ use Rattle.rt_ids.specs.Event.{Event}
 use Rattle.rt_app.specs.Tree.{App}
 use Rattle.rt_app.specs.Names.{names_of}
 use Rattle.rt_app.specs.Stack.{stack_bytes}
+use Rattle.rt_build.specs.Built.{IsBuilt}
 use Rattle.rt_build.specs.Image.{IsImageOf}
 use Rattle.rt_code.specs.Image.{Image}
 use Rattle.rt_core.specs.Trace.{depth_after}
@@ -20,11 +21,12 @@ pub record Reached (app : App) (img : Image) (events : List Event) : Type 0 wher
   pub within : (n : ℕ) → depth_after img (take n events) ≤ stack_bytes app
   pub met : (n : ℕ) × (depth_after img (take n events) ≡ stack_bytes app)
 
--- A text that reaches the bound: it is read as a script, and on a good image of the application that script is the one
--- that goes deepest, and the bound is reached.
+-- A text that reaches the bound: it is read as a script, and on the image that `build` makes of the application, which
+-- is a good one, that script is the one that goes deepest, and the bound is reached.
 pub record ReachesTheBound (app : App) (text : List ℕ) : Type 0 where
   pub image : Image
   pub is_image : IsImageOf app image
+  pub built : IsBuilt app image
   pub good : Good app image
   pub lines : List Line
   pub says : IsScriptText (names_of app) text lines

@@ -1,6 +1,7 @@
 ghost use Rattle.std.specs.Prelude.{◌≡◌, true, is_some, IfOk, IfSome};
 ghost use Rattle.rt_app.specs.View.{app_of};
 ghost use Rattle.rt_app.specs.Accepted.{IsAccepted};
+ghost use Rattle.rt_build.specs.Built.{IsBuilt};
 ghost use Rattle.rt_build.specs.Image.{IsImageOf};
 ghost use Rattle.rt_core.specs.Machine.{IsFresh};
 ghost use Rattle.rt_sim.specs.Good.{Good};
@@ -22,6 +23,7 @@ fn script_text(alloc: Global, app: &App, mut core: Core) -> Result<Vec<u8>, NoMe
     requires accepted { IsAccepted (app_of app.now) }
     requires form { has_deepest_script (app_of app.now) ≡ true }
     requires image { IsImageOf (app_of app.now) core.image }
+    requires built { IsBuilt (app_of app.now) core.image }
     requires good { Good (app_of app.now) core.image }
     requires fresh { IsFresh core }
     ensures { IfOk result (λ text. ReachesTheBound (app_of app.now) text.items) }

@@ -2,6 +2,7 @@
 use Rattle.std.specs.Prelude.{◌≡◌, ℕ, List, map, flat_map}
 use Rattle.rt_ids.specs.Lists.{numbers_below}
 use Rattle.rt_app.specs.Tree.{App}
+use Rattle.rt_build.specs.Built.{IsBuilt}
 use Rattle.rt_build.specs.Image.{IsImageOf}
 use Rattle.rt_code.specs.Image.{Image}
 use Rattle.rt_code.specs.Runnable.{IsRunnable}
@@ -27,10 +28,11 @@ abbrev pub soak_summary : Image → List ℕ → ℕ → ℕ → Summary
 soak_summary image irqs number count = summary_of count (flat_map (items_of_run image irqs number)
     (numbers_below count))
 
--- There is a good image of the application, the same for all runs, whose runs count up to this.
+-- The image that `build` makes of the application, the same for all runs, is a good one, and its runs count up to this.
 pub record IsSoak (app : App) (number count : ℕ) (s : Summary) : Type 0 where
   pub image : Image
   pub of_application : IsImageOf app image
+  pub built : IsBuilt app image
   pub runnable : IsRunnable image
   pub good : Good app image
   pub counted : s ≡ soak_summary image (irqs_of app) number count

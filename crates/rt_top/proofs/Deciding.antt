@@ -309,6 +309,7 @@ module _ (first second third : Option (List ℕ)) (app : App) (accepted : (text 
               good = record {
                 accepted = is_accepted;
                 of_application = l.of_application;
+                built = l.built;
                 runnable = l.runnable;
                 listable = l.listable;
                 good = images_are_good app l.image is_accepted l.of_application;

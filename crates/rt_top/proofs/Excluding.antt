@@ -69,7 +69,7 @@ application_passes text line app is (fault, inr b, says) =
     b.broken.first)
 
 -- the application of a text is one
-application_only : (text : List ℕ) (a b : App) → IsApplication text a → IsApplication text b → a ≡ b
+pub application_only : (text : List ℕ) (a b : App) → IsApplication text a → IsApplication text b → a ≡ b
 application_only text a b one other =
     one.kept.same ∙ (ap resolved_app (text_only text one.tree other.tree one.text other.text) ∙ sym other.kept.same)
 

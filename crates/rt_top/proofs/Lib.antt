@@ -18,3 +18,4 @@ mod Happening
 mod Accounts
 mod Audits
 mod Writings
+mod OneImage

@@ -9,4 +9,5 @@ pub mod Reads
 pub mod Defined
 pub mod Laws
 pub mod Audited
+pub mod OneImage
 pub mod Inside

@@ -16,6 +16,7 @@ use Rattle.rt_baker.specs.Audit.{IsVerdict}
 use Rattle.rt_baker.specs.declared.verdict.Verdict.{Verdict}
 use Rattle.rt_baker.specs.declared.verdict.Verdict.TheVariants as judged
 use Rattle.rt_build.specs.Accepted.{IsApplication}
+use Rattle.rt_build.specs.Built.{IsBuilt}
 use Rattle.rt_build.specs.Image.{IsImageOf}
 use Rattle.rt_code.specs.Image.{Image}
 use Rattle.rt_code.specs.Listable.{IsListable}
@@ -55,11 +56,13 @@ check_report app = report app (ceilings app) (bounds app)
 abbrev pub IsCheckReport : List ℕ → List ℕ → Type 0
 IsCheckReport text bytes = (app : App) × IsApplication text app × (bytes ≡ check_report app)
 
--- An image of an accepted application, which a core runs, and which is good: whatever happens to it, what it shows is a
--- run of Baker's machine on the application, within the printed bounds. Each name that its listing needs is there.
+-- The image that `build` makes of an accepted application, which a core runs, and which is good: whatever happens to
+-- it, what it shows is a run of Baker's machine on the application, within the printed bounds. Each name that its
+-- listing needs is there. There is one such image of an application (`OneImageIsBuilt`).
 pub record IsGoodOf (app : App) (image : Image) : Type 0 where
   pub accepted : IsAccepted app
   pub of_application : IsImageOf app image
+  pub built : IsBuilt app image
   pub runnable : IsRunnable image
   pub listable : IsListable image
   pub good : Good app image

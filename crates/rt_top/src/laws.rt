@@ -1,5 +1,7 @@
 ghost use Rattle.rt_top.specs.Audited.{LivesAreAudited, PairsAreAudited, RunsAreAudited};
 ghost use Rattle.rt_top.specs.Laws.{OneStatusIsDue};
+ghost use Rattle.rt_top.specs.OneImage.{LivesShowTheListing, OneListingIsBuilt, OneRunIsWritten, OneSoakIsWritten};
+ghost use Rattle.rt_top.specs.OneImage.{PairsShowTheListings, RunsShowTheListing};
 
 /// No two statuses are due, whatever the command and the texts of its sources: a text that is refused has no tree or
 /// breaks a rule, and then nothing is its output.
@@ -12,4 +14,16 @@ pub fn what_is_written_is_audited()
     ensures runs { RunsAreAudited }
     ensures lives { LivesAreAudited }
     ensures pairs { PairsAreAudited }
+{}
+
+/// All that is written of an application shows the one image that `build` makes of it: `build` answers one listing,
+/// `run` one text for each script and `soak` one summary for its numbers; `run`, `live` and each core of `pair` begin
+/// with that listing.
+pub fn what_is_written_shows_one_image()
+    ensures listing { OneListingIsBuilt }
+    ensures run { OneRunIsWritten }
+    ensures soak { OneSoakIsWritten }
+    ensures runs { RunsShowTheListing }
+    ensures lives { LivesShowTheListing }
+    ensures pairs { PairsShowTheListings }
 {}

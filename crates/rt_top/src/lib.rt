@@ -25,6 +25,6 @@ mod times;
 pub mod top;
 mod verify;
 
-pub use laws::{one_status_is_due, what_is_written_is_audited};
+pub use laws::{one_status_is_due, what_is_written_is_audited, what_is_written_shows_one_image};
 pub use rt_devices::{Gate, NoGate};
 pub use top::rtic;

@@ -8,6 +8,7 @@ use Rattle.rt_outside.specs.Bytes.{Took}
 use Rattle.rt_ast.specs.Tree as tree
 use Rattle.rt_app.specs.Tree.{App}
 use Rattle.rt_build.specs.Accepted.{IsBroken}
+use Rattle.rt_build.specs.Built.{IsBuilt}
 use Rattle.rt_build.specs.Image.{IsImageOf}
 use Rattle.rt_code.specs.Image.{Image}
 use Rattle.rt_code.specs.Listable.{IsListable}
@@ -45,6 +46,7 @@ pub record IsBrokenBy (text : List ℕ) (a : tree.App) (line : List ℕ) : Type 
 pub record Lists (app : App) (bytes : List ℕ) : Type 0 where
   pub image : Image
   pub of_application : IsImageOf app image
+  pub built : IsBuilt app image
   pub runnable : IsRunnable image
   pub listable : IsListable image
   pub numbers : HasTypedNumbers image

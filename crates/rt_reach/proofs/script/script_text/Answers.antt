@@ -20,10 +20,12 @@ returns c =
     elim c.if-as_slice-lt1.branch [
       | in_default w ↦
           none_made app img c.requires.accepted c.requires.form c.requires.image irqs are c.requires.good
+          c.requires.built
           c.if-as_slice-lt1.text.items (ap (λ (v : Vec ℕ Global). v.items) w.text-is ∙ c.new-text.ensures.items)
           w.in_default.len_below
       | in-len1-up+in_ok-push_script w ↦
           some_made app img c.requires.accepted c.requires.form c.requires.image irqs are c.requires.good
+          c.requires.built
           c.if-as_slice-lt1.text.items w.first-item.result w.steps_to_take-steps.result w.in-len1-up.len_at_least
           w.first-item.is w.steps_to_take-steps.ensures.first _
           (ap (λ (i : Image). i.names) (w.behind-core.view_is ∙ w.image.ensures ∙ w.steps_to_take-steps.ensures.image)

@@ -32,6 +32,7 @@ returns g c =
     (λ (summary : Summary) there is. record {
       image = image;
       of_application = c.in_ok-core.ensures.image;
+      built = c.in_ok-core.ensures.built;
       runnable = c.in_ok-core.ensures.runnable;
       good = c.in_ok-core.ensures.good;
       counted =

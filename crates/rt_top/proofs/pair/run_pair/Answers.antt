@@ -10,6 +10,7 @@ returns-in-Ok-pair-clause-ends g c =
     (record {
       accepted = c.requires.accepted;
       of_application = good.image;
+      built = good.built;
       runnable = good.runnable;
       listable = good.lines.listable;
       good = good.good;
@@ -25,6 +26,7 @@ returns-in-Err-Fault-clause-ends g c =
     (record {
       accepted = c.requires.accepted;
       of_application = good.image;
+      built = good.built;
       runnable = good.runnable;
       listable = good.lines.listable;
       good = good.good;

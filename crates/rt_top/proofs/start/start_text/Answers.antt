@@ -16,6 +16,7 @@ returns-in-Ok-read_script-clause-good g c =
     record {
       accepted = c.requires.accepted;
       of_application = good.image;
+      built = good.built;
       runnable = good.runnable;
       listable = good.lines.listable;
       good = good.good;
