@@ -71,10 +71,11 @@ pub record Gives (x : Section) (t : ℕ) (put : Entry → List Entry → List En
     in_queues = with_queue w.in_queues x (put entry (w.in_queues (Guarded x)));
   }
 
--- a place is put behind all others, or before them
+-- a place is put behind all others
 abbrev pub to_back : Entry → List Entry → List Entry
 to_back e es = es ++ e ∷ []
 
+-- a place is put before all others
 abbrev pub to_front : Entry → List Entry → List Entry
 to_front e es = e ∷ es
 

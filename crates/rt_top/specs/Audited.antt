@@ -33,6 +33,7 @@ pub record AreAuditedApart (text more bytes : List ℕ) (first second : ℕ) : T
   pub one_is_right : IsAuditedRight text one first
   pub two_is_right : IsAuditedRight more two second
 
+-- what `pair` writes, of both cores
 abbrev pub PairsAreAudited : Type 0
 PairsAreAudited =
     (text more last bytes : List ℕ) (p : IsPaired text more last bytes)
