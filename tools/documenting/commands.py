@@ -9,7 +9,7 @@ import tempfile
 from documenting.page import Page
 from documenting.tree import ROOT
 
-LONG = ("./build", "rt ", ".ci/run", "bench/")
+LONG = ("./build", "./test", "rt ", ".ci/run", "bench/")
 STATUS = re.compile(r"\s+# status (\d+)$")
 SECONDS = 60
 

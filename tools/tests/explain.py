@@ -175,8 +175,9 @@ def main():
     amiss = [] if word else pictures_amiss(pictures)
     print("\n".join(amiss) + "\n" * bool(amiss), end="")
     print(f"explain: {len(rows) - wrong - left_out} of {len(rows)} texts are answered as they are to be"
-          + f" ({left_out} cannot be tried as root)" * bool(left_out)
           + f", in {took:.1f} s with {asks} questions; the longest took {longest:.2f} s")
+    if left_out:
+        print(f"explain: skipped in part: {left_out} texts cannot be tried as root")
     return 1 if wrong or amiss else 0
 
 

@@ -31,7 +31,7 @@ def main():
     if program is None:
         count = sum(len(block) for path in DOCUMENTS for block in commands(Page(path)))
         missing = "the proved program is not built (./build makes it), and RTIC names no other"
-        print(f"shown: skipped {count} commands: {missing}")
+        print(f"shown: skipped: {count} commands, because {missing}")
         return 0
     faults = [f"not seen: {text}" for text in PLANTED if not faults_of("README.md", program, text)[2]]
     run, left_out = 0, []

@@ -165,7 +165,7 @@ def compare_program():
     """Where the proved program is built, its outputs on the examples are taken."""
     program = os.path.join(ROOT, "crates", "rtic", "out", "rtic")
     if not os.access(program, os.X_OK):
-        print("view_summary: skipped: crates/rtic/out/rtic is not there (./build makes it)")
+        print("view_summary: skipped in part: crates/rtic/out/rtic is not there (./build makes it)")
         return
     for name in RUNS[:5]:
         app = os.path.join(ROOT, "examples", ("serial" if name == "burst" else name) + ".rtic")
