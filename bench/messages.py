@@ -20,7 +20,8 @@ EXAMPLES = Path(__file__).resolve().parent.parent / "examples"
 # the tables in the order in which the crate runs them
 TABLES = (
     "tokens", "canonical", "syntax", "limits", "reports", "refusals", "runs", "builds", "messages", "alone", "live",
-    "slow", "held", "pairs", "soaks", "demos", "failing", "scripts", "audits", "listings", "cuts", "lines", "commands",
+    "slow", "held", "meetings", "pairs", "soaks", "demos", "failing", "scripts", "audits", "listings", "cuts", "lines",
+    "calls", "commands",
 )
 SECTIONS = "enter leave"
 UNSET = "enter leave set"

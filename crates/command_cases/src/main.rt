@@ -4,11 +4,13 @@
 #![tactic(auto)]
 
 mod account;
+mod calls;
 mod cuts;
 mod demos;
 mod failing;
 mod held;
 mod live;
+mod meeting;
 mod messages;
 mod pairs;
 mod sides;
@@ -42,6 +44,8 @@ enum Table {
     Slow,
     /// Such runs with a gate that holds the core and a device.
     Held,
+    /// Such runs with a gate that holds each device until all of them run.
+    Meeting,
     /// Runs of two cores beside each other.
     Pairs,
     /// Many runs as one.
@@ -63,6 +67,7 @@ fn case_difference<R: Threads + Clock + Sync>(
         Table::Live => live::verdict(rt, alloc, case),
         Table::Slow => slow::verdict(rt, alloc, case),
         Table::Held => held::verdict(rt, alloc, case),
+        Table::Meeting => meeting::verdict(rt, alloc, case),
         Table::Pairs => pairs::verdict(rt, alloc, case),
         Table::Soaks => soaks::verdict(rt, alloc, case),
     }
@@ -101,10 +106,12 @@ enum Sweep {
     Lines,
     /// Demonstration applications.
     Demos,
+    /// The cases of another table, by a call that the program does not make.
+    Calls,
 }
 
 /// The first of a case's texts that is not as it is to be, by its number.
-fn wrong<R: Threads + Sync>(
+fn wrong<R: Threads + Sync + Files + AllocGlobal>(
     rt: &R,
     alloc: Global,
     sweep: Sweep,
@@ -114,11 +121,12 @@ fn wrong<R: Threads + Sync>(
         Sweep::Cuts => cuts::wrong_cut(rt, alloc, case),
         Sweep::Lines => cuts::wrong_line(rt, alloc, case),
         Sweep::Demos => demos::wrong(rt, alloc, case),
+        Sweep::Calls => calls::wrong(rt, alloc, case),
     }
 }
 
 /// Prints the line of a case that stands for many texts.
-fn print_sweep<R: Threads + Sync + Print + AllocGlobal>(
+fn print_sweep<R: Threads + Sync + Files + Print + AllocGlobal>(
     rt: &R,
     sweep: Sweep,
     case: &Case,
@@ -162,6 +170,7 @@ fn run_threads<R: Threads + Clock + Sync + Files + Print + AllocGlobal>(rt: &R) 
     run(rt, "live", Table::Live)?;
     run(rt, "slow", Table::Slow)?;
     run(rt, "held", Table::Held)?;
+    run(rt, "meetings", Table::Meeting)?;
     run(rt, "pairs", Table::Pairs)?;
     run(rt, "soaks", Table::Soaks)?;
     run_sweep(rt, "demos", Sweep::Demos)
@@ -176,5 +185,6 @@ fn main(rt: HostRuntime) -> Result<()> {
     run(&rt, "listings", Table::Command("verify image"))?;
     run_sweep(&rt, "cuts", Sweep::Cuts)?;
     run_sweep(&rt, "lines", Sweep::Lines)?;
+    run_sweep(&rt, "calls", Sweep::Calls)?;
     run(&rt, "commands", Table::Command(""))
 }

@@ -20,24 +20,36 @@ const ANSWERED: u64 = 2;
 /// Requests of an interrupt that may be left when a core ends.
 const MOST_LEFT: u64 = 1;
 
-/// A gate that holds the first request of the second core until a step of the first has come, and the first core at
-/// that step until the second core has answered. Cores that run one after the other do not come through it.
-struct Answers<'a, R>(Sides<'a, R>);
+/// A gate that fixes the turn in which each core finds what the other one asks. The first core posts in one step, and
+/// waits in front of it for the first request of the second core, which waits for the step behind. That step finds this
+/// request and no other: it waits for the next one, which waits until the step is over. Cores that run one after the
+/// other do not come through it.
+struct Answers<'a, R> {
+    sides: Sides<'a, R>,
+    /// The step of the first core that posts.
+    post: u64,
+}
 
 impl<R> Drop for Answers<'_, R> {
     fn drop(self) {
-        let Answers(_) = self;
+        let Answers { sides: _, post: _ } = self;
     }
 }
 
 impl<R: Clock> Gate for Answers<'_, R> {
     fn before_step(&self, n: u64) {
-        self.0.step(n, ANSWERED);
+        if n == self.post {
+            self.sides.hold_for(1);
+        }
+        self.sides.step(n, ANSWERED);
     }
 
     fn before_pend(&self, core: u8, n: u64) {
         if core == SECOND {
-            self.0.pend(n);
+            self.sides.pend(n);
+            if n.saturating_add(1) == ANSWERED {
+                self.sides.hold_behind(1);
+            }
         }
     }
 }
@@ -84,6 +96,9 @@ fn pair_difference<R: Threads + Sync>(
     let Some((first, second)) = texts_of(output) else {
         return Ok("there are no two cores");
     };
+    if !first.starts_with(case.text("front").context("no text")?) {
+        return Ok("the text of the first core begins in another way");
+    }
     let requests = case.text("first_requests").context("no requests")?;
     let whole = case.text("first").context("no text")?;
     let told = told_of_core(rt, alloc, case.bytes("app"), first, requests, whole)?;
@@ -96,9 +111,10 @@ fn pair_difference<R: Threads + Sync>(
 }
 
 /// What is told of a case: `ok`, or what differs. Its parts are the texts `app`, `second` and `third`, two applications
-/// and a script; perhaps the `step` of the first core at which a gate holds it; and what is wanted of each core:
-/// `first_requests` and `second_requests`, a line for each declared interrupt in order with the number of the other
-/// core's requests, and perhaps its whole text, `first` and `other`.
+/// and a script; perhaps the `step` of the first core at which a gate holds it, behind the one that posts; and what is
+/// wanted: `first_requests` and `second_requests`, a line for each declared interrupt of a core in order with the
+/// number of the other core's requests, perhaps the whole text of each, `first` and `other`, and the `front` of the
+/// first one's.
 pub fn verdict<R: Threads + Clock + Sync>(
     rt: &R,
     alloc: Global,
@@ -115,9 +131,12 @@ pub fn verdict<R: Threads + Clock + Sync>(
         let ran = run_on(rt, alloc, &words, outside, &NoGate);
         return pair_difference(rt, alloc, case, &ran);
     };
-    let gate = Answers(Sides::of(rt, u64::from(step)));
+    let gate = Answers {
+        sides: Sides::of(rt, u64::from(step)),
+        post: u64::from(step.saturating_sub(1)),
+    };
     let ran = run_on(rt, alloc, &words, outside, &gate);
-    if gate.0.is_late() {
+    if gate.sides.is_late() {
         return Ok("a hold gave up");
     }
     pair_difference(rt, alloc, case, &ran)
