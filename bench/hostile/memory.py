@@ -33,16 +33,25 @@ def in_turn(ready, growths, told, only):
     return ended_by_it, whole
 
 
+def refuse_first(ready, growths, told):
+    """How many growths a command asks for, and of how many bytes, where it has no memory if the first is refused."""
+    ended, asked, size = growths.ended(ready.words)
+    if not ready.is_whole(ended):
+        told.differs(f"{ready.command.word}: counted growths change the answer")
+    for until in (1, growths.ALL):
+        first, _asked, _bytes = growths.ended(ready.words, 1, until)
+        if asked == 0 or not is_out_of_memory(first):
+            told.differs(f"{ready.command.word}: its memory does not come from the allocator that is refused")
+            return 0, 0
+    return asked, size
+
+
 def refuse_growths(commands, starter, told):
     """Each growth of each command refused in turn, once it is shown that its memory comes from there."""
     growths = Growths(starter)
     for ready in commands:
-        ended, asked, size = growths.ended(ready.words)
-        if not ready.is_whole(ended):
-            told.differs(f"{ready.command.word}: counted growths change the answer")
-        first, _asked, _bytes = growths.ended(ready.words, 1, growths.ALL)
-        if asked == 0 or not is_out_of_memory(first):
-            told.differs(f"{ready.command.word}: its memory does not come from the allocator that is refused")
+        asked, size = refuse_first(ready, growths, told)
+        if asked == 0:
             continue
         one, whole = in_turn(ready, growths, told, only=True)
         rest, rest_whole = in_turn(ready, growths, told, only=False)

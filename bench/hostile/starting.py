@@ -29,6 +29,8 @@ class Starter:
         self.folder = tempfile.TemporaryDirectory(prefix="rtic-faults-")
         self.output, self.error = self.path("output"), self.path("error")
         self.starts, self.under_way = 0, None
+        # the statuses with which the words of each command ended
+        self.statuses = set()
 
     def path(self, name):
         return os.path.join(self.folder.name, name)
@@ -58,7 +60,9 @@ class Starter:
         self.under_way = (pid, time.monotonic())
         _pid, how = os.waitpid(pid, 0)
         self.under_way = None
-        return Ended(os.waitstatus_to_exitcode(how), b"" if output else self.read(self.output), self.read(self.error))
+        status = os.waitstatus_to_exitcode(how)
+        self.statuses.add((words[0] if words else "", status))
+        return Ended(status, b"" if output else self.read(self.output), self.read(self.error))
 
     def stack(self):
         """The stack that a program which is started has, in kibibytes, as a shell says it."""
@@ -103,25 +107,67 @@ def with_little_stack(kibibytes, starter, work):
         raise caught[0]
 
 
-class Growths:
-    """Growths of a program's memory, counted and refused by a library that is made of refuse.c."""
+class Preloaded:
+    """A library that is made of a file of this folder and loaded in front of the C library, and the numbers that it
+    shares with whoever starts the program."""
 
-    PARTS = struct.Struct("QQQQ")
+    def __init__(self, starter, source, variable, count):
+        self.starter, self.variable = starter, variable
+        self.parts, self.count = struct.Struct("Q" * count), count
+        self.library = starter.path(f"{source}.so")
+        subprocess.run(["gcc", "-O2", "-shared", "-fPIC", "-o", self.library, str(HERE / f"{source}.c")], check=True)
+        self.told = starter.write(variable, bytes(self.parts.size))
+        with open(self.told, "r+b") as file:
+            self.shared = mmap.mmap(file.fileno(), self.parts.size)
+
+    def started(self, words, *numbers):
+        """Starts the program with these numbers, and zeros behind them; answers how it ended, and the numbers then."""
+        self.shared[:] = self.parts.pack(*numbers, *[0] * (self.count - len(numbers)))
+        ended = self.starter.ended(words, {"LD_PRELOAD": self.library, self.variable: self.told})
+        return ended, self.parts.unpack(self.shared[:])
+
+
+class Growths(Preloaded):
+    """Growths of a program's memory, counted and refused."""
+
     ALL = 2**64 - 1
 
     def __init__(self, starter):
-        self.starter = starter
-        self.library = starter.path("refuse.so")
-        source = str(HERE / "refuse.c")
-        subprocess.run(["gcc", "-O2", "-shared", "-fPIC", "-o", self.library, source], check=True)
-        self.told = starter.write("growths", bytes(self.PARTS.size))
-        with open(self.told, "r+b") as file:
-            self.shared = mmap.mmap(file.fileno(), self.PARTS.size)
+        super().__init__(starter, "refuse", "GROWTHS", 4)
 
     def ended(self, words, refused=0, until=0):
         """Starts the program while the growths from one number to another are refused; answers how it ended, how many
         growths it asked for, and of how many bytes."""
-        self.shared[:] = self.PARTS.pack(refused, until, 0, 0)
-        ended = self.starter.ended(words, {"LD_PRELOAD": self.library, "GROWTHS": self.told})
-        _refused, _until, growths, size = self.PARTS.unpack(self.shared[:])
+        ended, (_refused, _until, growths, size) = self.started(words, refused, until)
         return ended, growths, size
+
+
+class Reads(Preloaded):
+    """Reads of one file, which move so many bytes at most; one of them fails, or finds the end of the file."""
+
+    FAILS, ENDS = 1, 2
+
+    def __init__(self, starter):
+        super().__init__(starter, "reads", "READS", 6)
+
+    def ended(self, words, path, most, number=0, how=0):
+        """Starts the program while each read of a file moves `most` bytes at most, where that is not 0, and the one of
+        a number, from 1, does not read; answers how it ended, how many reads there were, and how many bytes came before
+        that one."""
+        ended, (_file, _most, _number, _how, reads, before) = self.started(
+            words, os.stat(path).st_ino, most, number, how)
+        return ended, reads, before
+
+
+class Told:
+    """What is said, and how many differences."""
+
+    def __init__(self):
+        self.differences = 0
+
+    def says(self, line):
+        print(line, flush=True)
+
+    def differs(self, line):
+        self.differences += 1
+        self.says(f"DIFFERS: {line}")
