@@ -12,7 +12,10 @@ PATH = re.compile(rf"\.?/?[\w.*-]+(?:/[\w.*-]+)*\.(?:{SUFFIXES})|(?:[\w.*-]+/)+[
 NUMBERED = re.compile(r"`([\w.]+)`(,? \(?`?)([\w/]+\.(?:antt|rt)):(\d+)")
 PLACED = re.compile(r"`([A-Za-z_]\w*)`(?:,| in)? \(?`((?:[\w.-]+/)*[\w]+\.(?:antt|rt))`")
 CRATE = re.compile(r"`(?:crates/)?(rt_\w+|rtic|\w+_cases|\w+_tests)\b")
-MADE = {"out/", "crates/rtic/out/rtic", "run.html", "run.json", "run.vcd", "three.rtic", "three.script"}
+MADE = {
+    "out/", "crates/rtic/out/rtic", "crates/rtic/out/build.log", "run.html", "run.json", "run.vcd", "three.rtic",
+    "three.script",
+}
 ELSEWHERE = {"reschedule_at", "unsafe", "runtimepath", "IK"}
 OUTSIDE = re.compile(r"(?<![\w.])/(?:work|opt|tmp|home|root|usr)/\w|\bproxy\.|\bregistry\.|\bpypi\b")
 COUNTED = [

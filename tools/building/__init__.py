@@ -1,0 +1,1 @@
+"""What `./build` does: the proofs that the program needs, by the gate's command, and how far they are."""
