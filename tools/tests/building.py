@@ -188,7 +188,11 @@ def try_stopped(case):
 def try_interrupted(case):
     """A call that is told to end ends all that it began; what a killed one left goes with the next; no two at once."""
     case.begin(BLOCK.format("low"), waits="")
+    # (a signal that is ignored where this test is started would be ignored by the call too)
+    signal.signal(signal.SIGINT, signal.default_int_handler)
     for number in (signal.SIGTERM, signal.SIGINT, signal.SIGHUP):
+        if signal.getsignal(number) is signal.SIG_IGN:
+            signal.signal(number, signal.SIG_DFL)
         process = case.start()
         lines = [process.stdout.readline() for _ in range(2)]
         if number == signal.SIGTERM:
