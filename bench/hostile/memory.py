@@ -41,7 +41,8 @@ def refuse_first(ready, growths, told):
     for until in (1, growths.ALL):
         first, _asked, _bytes = growths.ended(ready.words, 1, until)
         if asked == 0 or not is_out_of_memory(first):
-            told.differs(f"{ready.command.word}: its memory does not come from the allocator that is refused")
+            told.differs(f"{ready.command.word}: the first of {asked} growths refused: status {first.status}, "
+                         f"{len(first.output)} bytes")
             return 0, 0
     return asked, size
 
