@@ -1,5 +1,4 @@
 // A sink that is slow at times: the core of a run beside device threads waits for it, and the devices go on.
-ghost use Rattle.std.specs.Prelude.{Some};
 
 use crate::live::live_difference;
 use anyhow::Result;
@@ -38,7 +37,7 @@ impl<R> Drop for Slow<'_, R> {
 }
 
 impl<R: Clock> Sink for Slow<'_, R> {
-    ghost taken = { λ s. Some s.kept.taken };
+    ghost taken = { λ s. s.kept.taken };
 
     ghost faults = { λ s. s.kept.faults };
 

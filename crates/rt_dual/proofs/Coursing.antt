@@ -190,7 +190,7 @@ pair_text script a a' b b' old new bytes fresh_a fresh_b before ended written =
 -- and each core has done the events of its trace in it
 pub has_paired : (script : List Line) (a a' b b' : Machine) (old new : Both) (bytes : List ℕ) → IsFresh a → IsFresh b
     → AreBefore a.image b.image old → HaveEnded script a a' b b' old new → IsWritten a.image b.image new bytes
-    → (x y : Option (List ℕ)) → Took x y bytes → HasPaired script a a' b b' x y
+    → (x y : List ℕ) → Took x y bytes → HasPaired script a a' b b' x y
 has_paired script a a' b b' old new bytes fresh_a fresh_b before ended written x y took = record {
   bytes = bytes;
   is = pair_text script a a' b b' old new bytes fresh_a fresh_b before ended written;

@@ -1,5 +1,5 @@
 -- Turns of which the first events were done.
-use Rattle.std.proofs.Common.{◌≡◌, ℕ, zero, suc, ◌+◌, ◌-◌, ◌<◌, ◌≤◌, inl, inr, List, [], ◌∷◌, ◌++◌, length, Some, refl}
+use Rattle.std.proofs.Common.{◌≡◌, ℕ, zero, suc, ◌+◌, ◌-◌, ◌<◌, ◌≤◌, inl, inr, List, [], ◌∷◌, ◌++◌, length, refl}
 use Rattle.std.proofs.Common.{ap, sym, subst, ◌∙◌, append_assoc, arith}
 use Rattle.std.specs.List.{AllByRecursion}
 use Rattle.std.proofs.lemmas.Bool.{cases_lt}
@@ -52,7 +52,7 @@ padded_declared names words declared =
     ∙ append-nil (arrivals_from 0 words))) declared
 
 module _ (ts : List Turn) (calls calls' : List Call) (a b : Machine) (x y : List ℕ)
-    (cut : Stops ts calls calls' a b (Some x) (Some y)) where
+    (cut : Stops ts calls calls' a b x y) where
   came : List Event
   came = cut.breaks.done ++ cut.breaks.last ∷ []
 

@@ -1,5 +1,5 @@
 -- Turns of a core of a pair that go on where others ended.
-use Rattle.std.proofs.Common.{◌≡◌, ℕ, ◌+◌, ◌<◌, ◌≤◌, inl, inr, List, [], ◌∷◌, ◌++◌, flat_map, length, Option, Some}
+use Rattle.std.proofs.Common.{◌≡◌, ℕ, ◌+◌, ◌<◌, ◌≤◌, inr, List, [], ◌∷◌, ◌++◌, flat_map, length, Option}
 use Rattle.std.proofs.Common.{option_to_list, refl, ap, sym, subst, ◌∙◌, append_assoc, arith}
 use Rattle.std.specs.List.{AllByRecursion}
 use Rattle.std.proofs.lemmas.List.{append-nil, length-append}
@@ -41,7 +41,7 @@ runs_none m s = record {
   whole = tt;
   declared = tt;
   latched = sym (append-nil s.line.calls);
-  sends = sends_none m (Some s.trace.bytes.items);
+  sends = sends_none m s.trace.bytes.items;
   forwards = forwards_none s.bell;
   few = omega arith;
   line = same_line s.line;
@@ -69,9 +69,9 @@ runs_on ts us a b c s t u first second = record {
   latched =
       calls_on s.line.calls t.line.calls u.line.calls first.found second.found first.latched second.latched;
   sends =
-      subst (λ es. Sends es a c (Some s.trace.bytes.items) (Some u.trace.bytes.items)) (sym woven)
-      (sends_on (interleaving ts first.found) (interleaving us second.found) a b c (Some s.trace.bytes.items)
-      (Some t.trace.bytes.items) (Some u.trace.bytes.items) first.sends second.sends);
+      subst (λ es. Sends es a c s.trace.bytes.items u.trace.bytes.items) (sym woven)
+      (sends_on (interleaving ts first.found) (interleaving us second.found) a b c s.trace.bytes.items
+      t.trace.bytes.items u.trace.bytes.items first.sends second.sends);
   forwards =
       subst (λ is. Forwards is s.bell u.bell) (sym routed)
       (forwards_on (irqs_routed s.routes (shown_items a (interleaving ts first.found)))
@@ -97,7 +97,7 @@ runs_on ts us a b c s t u first second = record {
 
 -- a look alone
 pub looked : (a b : Machine) (s : Side) (l : Core) (k : Kept)
-    → Goes (Looks ∷ []) s.line.calls l.calls a b (Some s.trace.bytes.items) (Some k.bytes.items)
+    → Goes (Looks ∷ []) s.line.calls l.calls a b s.trace.bytes.items k.bytes.items
     → IsSameLine s.line l → Runs (Looks ∷ []) a b s (record s { line = l; trace = k })
 looked a b s l k run same = record {
   found = run.found;
@@ -118,7 +118,7 @@ looked a b s l k run same = record {
 
 -- an event that is no step and comes without a look
 pub happened : (e : Event) (ts : List Turn) → looks ts ≡ 0 → interleaving ts [] ≡ e ∷ [] → steps (e ∷ []) ≡ 0
-    → (a b : Machine) (s : Side) (k : Kept) → Sends (e ∷ []) a b (Some s.trace.bytes.items) (Some k.bytes.items)
+    → (a b : Machine) (s : Side) (k : Kept) → Sends (e ∷ []) a b s.trace.bytes.items k.bytes.items
     → Runs ts a b s (record s { trace = k })
 happened e ts no_look is no_step a b s k sends = record {
   found = [];
@@ -126,7 +126,7 @@ happened e ts no_look is no_step a b s k sends = record {
   whole = tt;
   declared = tt;
   latched = sym (append-nil s.line.calls);
-  sends = subst (λ es. Sends es a b (Some s.trace.bytes.items) (Some k.bytes.items)) (sym is) sends;
+  sends = subst (λ es. Sends es a b s.trace.bytes.items k.bytes.items) (sym is) sends;
   forwards =
       subst (λ is. Forwards is s.bell s.bell)
       (sym (ap (λ es. irqs_routed s.routes (shown_items a es)) is ∙ silent s.routes a.image a.core a.steps (e ∷ [])
@@ -140,9 +140,9 @@ happened e ts no_look is no_step a b s k sends = record {
 
 -- a look, and then a step with what it pends
 module _ (a b : Machine) (s : Side) (l : Core) (k : Kept)
-    (run : Goes (Looks ∷ []) s.line.calls l.calls a b (Some s.trace.bytes.items) (Some k.bytes.items)) where
+    (run : Goes (Looks ∷ []) s.line.calls l.calls a b s.trace.bytes.items k.bytes.items) where
   pub stepped : (c : Machine) (m : Kept) → IsSameLine s.line l
-      → Sends (Step ∷ []) b c (Some k.bytes.items) (Some m.bytes.items)
+      → Sends (Step ∷ []) b c k.bytes.items m.bytes.items
       → (shown : Option What) → shown ≡ (step b.image b.core).1 → (u : Side)
       → Forwards (option_to_list (irq_of_shown s.routes shown)) s.bell u.bell
       → length u.bell.calls ≤ length s.bell.calls + 1
@@ -152,7 +152,7 @@ module _ (a b : Machine) (s : Side) (l : Core) (k : Kept)
     where
       at : (found : List (List ℕ)) → length found ≡ 1 → AllByRecursion IsWholeLook found
           → AllByRecursion (FindsDeclared a.image.names) found → l.calls ≡ s.line.calls ++ flat_map look_calls found
-          → Sends (interleaving (Looks ∷ []) found) a b (Some s.trace.bytes.items) (Some k.bytes.items)
+          → Sends (interleaving (Looks ∷ []) found) a b s.trace.bytes.items k.bytes.items
           → Runs (Happens Step ∷ []) a c s u
       at [] many whole declared latched came = absurd (omega (arith, many))
       at (ws ∷ []) many whole declared latched came = record {
@@ -162,11 +162,9 @@ module _ (a b : Machine) (s : Side) (l : Core) (k : Kept)
         declared = declared;
         latched = ap (λ (x : Core). x.calls) rest.line ∙ latched;
         sends =
-            subst (λ (x : Kept). Sends (look_arrivals ws ++ Step ∷ []) a c (Some s.trace.bytes.items)
-            (Some x.bytes.items))
+            subst (λ (x : Kept). Sends (look_arrivals ws ++ Step ∷ []) a c s.trace.bytes.items x.bytes.items)
             (sym rest.trace)
-            (sends_on (look_arrivals ws) (Step ∷ []) a b c (Some s.trace.bytes.items) (Some k.bytes.items)
-            (Some m.bytes.items) alone sends);
+            (sends_on (look_arrivals ws) (Step ∷ []) a b c s.trace.bytes.items k.bytes.items m.bytes.items alone sends);
         forwards = subst (λ is. Forwards is s.bell u.bell) (sym routed) forwards;
         few = few;
         line = subst (λ (x : Core). IsSameLine s.line x) (sym rest.line) same;
@@ -174,9 +172,9 @@ module _ (a b : Machine) (s : Side) (l : Core) (k : Kept)
         routes = rest.routes;
       }
         where
-          alone : Sends (look_arrivals ws) a b (Some s.trace.bytes.items) (Some k.bytes.items)
+          alone : Sends (look_arrivals ws) a b s.trace.bytes.items k.bytes.items
           alone =
-              subst (λ es. Sends es a b (Some s.trace.bytes.items) (Some k.bytes.items)) (append-nil (look_arrivals ws))
+              subst (λ es. Sends es a b s.trace.bytes.items k.bytes.items) (append-nil (look_arrivals ws))
               came
 
           routed : irqs_routed s.routes (shown_items a (look_arrivals ws ++ Step ∷ []))
@@ -195,7 +193,7 @@ module _ (a b : Machine) (s : Side) (l : Core) (k : Kept)
     where
       at : (found : List (List ℕ)) → length found ≡ 1 → AllByRecursion IsWholeLook found
           → AllByRecursion (FindsDeclared a.image.names) found
-          → Sends (interleaving (Looks ∷ []) found) a b (Some s.trace.bytes.items) (Some k.bytes.items)
+          → Sends (interleaving (Looks ∷ []) found) a b s.trace.bytes.items k.bytes.items
           → BeginsTurns (Happens Step ∷ []) a c
       at [] many whole declared came = absurd (omega (arith, many))
       at (ws ∷ []) many whole declared came = record {
@@ -266,7 +264,7 @@ all_begun ts a b s t run = record {
 
 -- behind all turns the line of the total was kept
 pub ended : (ts : List Turn) (a b : Machine) (s t : Side) (k : Kept) (held : List ℕ) (total : ℕ) → Runs ts a b s t
-    → held ≡ [] → total ≡ b.steps → Took (Some t.trace.bytes.items) (Some k.bytes.items) (held ++ total_text total)
+    → held ≡ [] → total ≡ b.steps → Took t.trace.bytes.items k.bytes.items (held ++ total_text total)
     → Ends ts a b s (record t { trace = k })
 ended ts a b s t k held total run empty counted took = record {
   found = run.found;

@@ -1,5 +1,5 @@
 -- What both cores have done when a run under `pair` has answered: the events of the traces that were taken.
-use Rattle.std.specs.Prelude.{ℕ, List, Option}
+use Rattle.std.specs.Prelude.{ℕ, List}
 use Rattle.rt_core.specs.Machine.{Machine}
 use Rattle.rt_outside.specs.Bytes.{Took}
 use Rattle.rt_run.specs.Done.{Leads}
@@ -9,8 +9,7 @@ use Rattle.rt_dual.specs.Output.{IsPairText, TookPart}
 
 -- The texts of both cores were taken, and each core has done the events of its trace there and no other: its own, with
 -- what the looks found in the same course.
-pub record HasPaired (script : List Line) (first first' second second' : Machine) (before after : Option (List ℕ))
-    : Type 0 where
+pub record HasPaired (script : List Line) (first first' second second' : Machine) (before after : List ℕ) : Type 0 where
   pub bytes : List ℕ
   pub is : IsPairText first.image second.image script bytes
   pub took : Took before after bytes
@@ -19,7 +18,7 @@ pub record HasPaired (script : List Line) (first first' second second' : Machine
 
 -- A beginning of the texts of both cores was taken, and each core has done all the events of its trace there and no
 -- other.
-pub record HasPairedPart (script : List Line) (first first' second second' : Machine) (before after : Option (List ℕ))
+pub record HasPairedPart (script : List Line) (first first' second second' : Machine) (before after : List ℕ)
     : Type 0 where
   pub part : TookPart first.image second.image script before after
   pub one_leads : Leads (course_events (first_events script) part.is.one) first first'

@@ -1,5 +1,5 @@
 -- What `pair` may write of two images under a script. The form of the text is this project's own.
-use Rattle.std.specs.Prelude.{◌≡◌, ℕ, ◌≤◌, ◌⊎◌, List, [], ◌++◌, length, Some, Option, codes}
+use Rattle.std.specs.Prelude.{◌≡◌, ℕ, ◌≤◌, ◌⊎◌, List, [], ◌++◌, length, Some, codes}
 use Rattle.std.specs.List.{AllByRecursion}
 use Rattle.rt_ids.specs.Event.{Event, steps}
 use Rattle.rt_code.specs.Image.{Image}
@@ -51,7 +51,7 @@ pub record IsPairText (first second : Image) (script : List Line) (bytes : List 
       ++ core_text (codes "core 2\n") second (second_events script) two
 
 -- a beginning of such a text was taken
-pub record TookPart (first second : Image) (script : List Line) (before after : Option (List ℕ)) : Type 0 where
+pub record TookPart (first second : Image) (script : List Line) (before after : List ℕ) : Type 0 where
   pub bytes : List ℕ
   pub is : IsPairText first second script bytes
   pub took : TookPrefix before after bytes

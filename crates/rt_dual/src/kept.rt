@@ -1,4 +1,4 @@
-ghost use Rattle.std.specs.Prelude.{◌≡◌, ◌++◌, ℕ, ◌<◌, ◌≤◌, [], Some, length, take, IfOk, OnOk, OnErr};
+ghost use Rattle.std.specs.Prelude.{◌≡◌, ◌++◌, ℕ, ◌<◌, ◌≤◌, [], length, take, IfOk, OnOk, OnErr};
 ghost use Rattle.rt_outside.specs.Bytes.{Took};
 ghost use Rattle.rt_outside.specs.Faults.{HasCause};
 ghost use Rattle.rt_outside.specs.Memory.{next_fault};
@@ -29,16 +29,15 @@ impl Kept {
 }
 
 impl Sink for Kept {
-    ghost taken = { λ kept. Some kept.bytes.items };
+    ghost taken = { λ kept. kept.bytes.items };
 
     ghost faults = { λ kept. kept.failed };
 
     fn write(&mut self, piece: &[u8]) -> Result<usize, Failed>
         ensures within { IfOk result (λ n. n ≤ length piece.now) }
         ensures some { IfOk result (λ n. 0 < length piece.now → 0 < n) }
-        ensures took { IfOk result (λ n. Took (Some self.old.bytes.items) (Some self.new.bytes.items)
-            (take n piece.now)) }
-        ensures err { OnErr result (Some self.new.bytes.items ≡ Some self.old.bytes.items) }
+        ensures took { IfOk result (λ n. Took self.old.bytes.items self.new.bytes.items (take n piece.now)) }
+        ensures err { OnErr result (self.new.bytes.items ≡ self.old.bytes.items) }
         ensures cause { HasCause self.old.failed self.new.failed result }
         ensures quiet { OnOk result (self.new.failed ≡ self.old.failed) }
         ensures counted { OnErr result (self.new.failed ≡ next_fault self.old.failed) }

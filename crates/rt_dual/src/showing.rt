@@ -1,5 +1,5 @@
 // One core step, whose line is kept and whose item is told.
-ghost use Rattle.std.specs.Prelude.{◌≡◌, ◌+◌, ◌^◌, ◌<◌, [], ◌∷◌, ◌++◌, length, Some, IfOk, OnOk, OnErr};
+ghost use Rattle.std.specs.Prelude.{◌≡◌, ◌+◌, ◌^◌, ◌<◌, [], ◌∷◌, ◌++◌, length, IfOk, OnOk, OnErr};
 ghost use Rattle.rt_core.specs.Stepping as stepping;
 ghost use Rattle.rt_ids.specs.Event.{Step};
 ghost use Rattle.rt_outside.specs.Faults.{HasCause};
@@ -18,7 +18,7 @@ pub(crate) fn show_step(core: &mut Core, trace: &mut Kept) -> Result<Option<What
     requires writable { IsWritable core.old }
     requires few { core.old.steps < 2 ^ 31 }
     ensures ok { OnOk result
-        (Sends (Step ∷ []) core.old core.new (Some trace.old.bytes.items) (Some trace.new.bytes.items)) }
+        (Sends (Step ∷ []) core.old core.new trace.old.bytes.items trace.new.bytes.items) }
     ensures shown { IfOk result (λ shown. shown ≡ (stepping.step core.old.image core.old.core).1) }
     ensures err { OnErr result (Leads (Step ∷ []) core.old core.new) }
     ensures some { OnErr result (0 < length (shown_items core.old (Step ∷ []))) }

@@ -1,7 +1,7 @@
 -- What arrives of a word, bit after bit, and of words, word after word.
 use Rattle.std.proofs.Common.{◌≡◌, ℕ, zero, suc, ◌+◌, ◌*◌, ◌==◌, ◌<◌, Bool, true, false, if◌then◌else◌, List, [], ◌∷◌}
 use Rattle.std.proofs.Common.{◌++◌}
-use Rattle.std.proofs.Common.{map, filter, length, Option, refl, ap, sym, subst, ◌∙◌, append_assoc, arith, ◌-◌, ◌≢◌}
+use Rattle.std.proofs.Common.{map, filter, length, refl, ap, sym, subst, ◌∙◌, append_assoc, arith, ◌-◌, ◌≢◌}
 use Rattle.std.proofs.Common.{eq-eqb, ne_eqb, ◌≤◌}
 use Rattle.std.specs.List.{AllByRecursion}
 use mathlib.Core.Logic.{dite}
@@ -59,7 +59,7 @@ arrivals_split k word bit (suc rest) =
           ∙ append_assoc (arrivals_below k word bit) before.0 last,
     )
 
-module _ (k word bit : ℕ) (a b c : Machine) (x y z : Option (List ℕ))
+module _ (k word bit : ℕ) (a b c : Machine) (x y z : List ℕ)
     (first : Sends (map Arrive (arrivals_below k word bit)) a b x y) where
   abbrev front : List Event
   front = map Arrive (arrivals_below k word bit)
@@ -123,19 +123,18 @@ pub zero_arrives : (k word : ℕ) → word ≡ 0 → arrivals k word ≡ []
 zero_arrives k word none = ap (arrivals k) none ∙ zero_below k 32
 
 -- of a bit that does not stand nothing arrives
-pub bit_skipped : (k word bit : ℕ) → bit_at word bit ≢ 1 → (m : Machine) (x : Option (List ℕ))
+pub bit_skipped : (k word bit : ℕ) → bit_at word bit ≢ 1 → (m : Machine) (x : List ℕ)
     → Sends (map Arrive (if bit_at word bit == 1 then (32 * k + bit) ∷ [] else [])) m m x x
 bit_skipped k word bit other m x =
     subst (λ b. Sends (map Arrive (if b then (32 * k + bit) ∷ [] else [])) m m x x)
     (sym (ne_eqb (bit_at word bit) 1 other)) (sends_none m x)
 
 -- before the first bit nothing arrived
-pub bit_none : (k word : ℕ) (m : Machine) (x : Option (List ℕ)) → Sends (map Arrive (arrivals_below k word 0)) m m x x
+pub bit_none : (k word : ℕ) (m : Machine) (x : List ℕ) → Sends (map Arrive (arrivals_below k word 0)) m m x x
 bit_none k word m x =
     subst (λ is. Sends (map Arrive is) m m x x) (sym (none_below k word)) (sends_none m x)
 
-pub word_none : (k word : ℕ) → word ≡ 0 → (m : Machine) (x : Option (List ℕ))
-    → Sends (map Arrive (arrivals k word)) m m x x
+pub word_none : (k word : ℕ) → word ≡ 0 → (m : Machine) (x : List ℕ) → Sends (map Arrive (arrivals k word)) m m x x
 word_none k word none m x =
     subst (λ is. Sends (map Arrive is) m m x x) (sym (zero_arrives k word none)) (sends_none m x)
 

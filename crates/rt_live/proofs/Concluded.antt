@@ -2,7 +2,7 @@
 -- allows, or a beginning of one.
 use Rattle.std.proofs.Common.{◌≡◌, ◌≢◌, ◌⊎◌, ℕ, ◌*◌, ◌<◌, ◌≤◌, List, [], ◌∷◌, ◌++◌, map, flat_map, replicate}
 use Rattle.std.proofs.Common.{length, drop}
-use Rattle.std.proofs.Common.{Option, Contains, get_or, sym, ap, subst, ◌∙◌, arith, ⊎_elim, inr, Some, append_assoc}
+use Rattle.std.proofs.Common.{Contains, get_or, sym, ap, subst, ◌∙◌, arith, ⊎_elim, inr, Some, append_assoc}
 use Rattle.std.specs.List.{AllByRecursion}
 use Rattle.rt_lemmas.proofs.Membership.{all_has}
 use Rattle.rt_core.specs.Machine.{Machine, IsFresh}
@@ -114,7 +114,7 @@ module _ (ready : Prepared) (is : IsReady ready) (gone : ready.devices ≡ [])
           live_whole old.image ready.script all.ends.found closed.history all.ends.many all.ends.whole allowed
 
       -- the trace was written
-      pub has_lived : irqs_of ready.rows ≡ declared_irqs old.image.names → (x y : Option (List ℕ))
+      pub has_lived : irqs_of ready.rows ≡ declared_irqs old.image.names → (x y : List ℕ)
           → Took x y (live_text old.image ready.script all.ends.found) → HasLived ready.script old next x y rows
       has_lived irqs x y took = record {
         lives = record {
@@ -130,7 +130,7 @@ module _ (ready : Prepared) (is : IsReady ready) (gone : ready.devices ≡ [])
       }
 
       -- the trace was written, and the account behind it
-      pub has_written : irqs_of ready.rows ≡ declared_irqs old.image.names → (x y z : Option (List ℕ))
+      pub has_written : irqs_of ready.rows ≡ declared_irqs old.image.names → (x y z : List ℕ)
           → Took x y (live_text old.image ready.script all.ends.found)
           → Took y z (account_text old.image.names rows) → HasWritten ready.script old next x z
       has_written irqs x y z took then =
@@ -145,7 +145,7 @@ module _ (ready : Prepared) (is : IsReady ready) (gone : ready.devices ≡ [])
           }
 
       -- a fault came in the line of the total
-      pub total_part : (x y : Option (List ℕ)) → TookToTotal old ready.script all.ends.found x y
+      pub total_part : (x y : List ℕ) → TookToTotal old ready.script all.ends.found x y
           → HasWrittenPart ready.script old next x y
       total_part x y part =
           let text : List ℕ = live_text old.image ready.script all.ends.found in
@@ -156,7 +156,7 @@ module _ (ready : Prepared) (is : IsReady ready) (gone : ready.devices ≡ [])
           }
 
       -- a fault came in a line of the account
-      pub account_part : irqs_of ready.rows ≡ declared_irqs old.image.names → (x y z : Option (List ℕ))
+      pub account_part : irqs_of ready.rows ≡ declared_irqs old.image.names → (x y z : List ℕ)
           → Took x y (live_text old.image ready.script all.ends.found)
           → TookPrefix y z (account_text old.image.names rows) → HasWrittenPart ready.script old next x z
       account_part irqs x y z took part =
@@ -194,7 +194,7 @@ module _ (ready : Prepared) (is : IsReady ready) (gone : ready.devices ≡ [])
           (low ready.rows is.counted))
 
     -- a fault came in the turns
-    pub halted_part : (x y : Option (List ℕ)) → Halts (turns ready.script) ready.line old next x y
+    pub halted_part : (x y : List ℕ) → Halts (turns ready.script) ready.line old next x y
         → HasWrittenPart ready.script old next x y
     halted_part x y halts =
         let stops = halts.stops in
@@ -208,13 +208,13 @@ module _ (ready : Prepared) (is : IsReady ready) (gone : ready.devices ≡ [])
         (cut_history stops.found stops.last stops.latched) stops.whole settles stops.short stops.few stops.breaks
 
     -- a fault came in the line of the total
-    pub completed_part : (x y : Option (List ℕ))
+    pub completed_part : (x y : List ℕ)
         → Completes (turns ready.script) ready.line old next (λ found. TookToTotal old ready.script found x y)
         → HasWrittenPart ready.script old next x y
     completed_part x y all = total_part (λ found. TookToTotal old ready.script found x y) all x y all.ends.wrote
 
     -- what `go` tells of a fault
-    pub failed_part : (x y : Option (List ℕ))
+    pub failed_part : (x y : List ℕ)
         → Halts (turns ready.script) ready.line old next x y
         ⊎ Completes (turns ready.script) ready.line old next (λ found. TookToTotal old ready.script found x y)
         → HasWrittenPart ready.script old next x y

@@ -1,6 +1,6 @@
 -- The end of a run: the steps behind the last look, the total, and the whole text.
 use Rattle.std.proofs.Common.{◌≡◌, ℕ, suc, List, [], ◌∷◌, ◌++◌, map, flat_map}
-use Rattle.std.proofs.Common.{length, replicate, Option, refl, ap, sym, subst, ◌∙◌, append_assoc, arith}
+use Rattle.std.proofs.Common.{length, replicate, refl, ap, sym, subst, ◌∙◌, append_assoc, arith}
 use Rattle.std.proofs.lemmas.List.{append-nil, length-append}
 use Rattle.rt_lemmas.proofs.Membership.{all_append}
 use Rattle.rt_ids.specs.Event.{Event, Arrive, Tick, Step, steps}
@@ -29,7 +29,7 @@ use Rattle.rt_live.proofs.Woven.{looks-append, interleaving_on, steps_behind}
 abbrev pub lines_and_total : List Turn → Machine → ℕ → List (List ℕ) → List ℕ
 lines_and_total ts m total found = lines_of m (interleaving ts found) ++ total_text total
 
-module _ (ts : List Turn) (calls calls' : List Call) (a b : Machine) (x y z : Option (List ℕ)) (held : List ℕ)
+module _ (ts : List Turn) (calls calls' : List Call) (a b : Machine) (x y z held : List ℕ)
     (total : ℕ)
     (empty : held ≡ []) (counted : total ≡ b.steps) (run : Goes ts calls calls' a b x y) where
   last_bytes : held ++ total_text total ≡ total_text b.steps
@@ -78,7 +78,7 @@ own_steps (Step ∷ es) (ws ∷ found) many =
     ∙ ap suc (own_steps es found (omega (arith, many)))
 
 -- the turns of a script, where its own events were done by a fresh core
-pub all_turns : (script : List Line) (calls calls' : List Call) (a b : Machine) (x y : Option (List ℕ)) → IsFresh a
+pub all_turns : (script : List Line) (calls calls' : List Call) (a b : Machine) (x y : List ℕ) → IsFresh a
     → Goes (own_turns script) calls calls' a b x y
     → own_turns script ++ Looks ∷ replicate b.steps (Happens Step) ≡ turns script
 all_turns script calls calls' a b x y fresh run =
@@ -105,7 +105,7 @@ text_is m n script found fresh run =
     ∙ ap (λ t. put 0 (reset img) ++ t) (sym (append-nil (total_text (steps es))))
 
 module _ (script : List Line) (us : List Turn) (calls calls' calls'' : List Call) (a b c : Machine)
-    (x y : Option (List ℕ))
+    (x y : List ℕ)
     (fresh : IsFresh a) (all : own_turns script ++ us ≡ turns script)
     (own : Goes (own_turns script) calls calls' a b x y) where
   abbrev ts : List Turn
@@ -152,7 +152,7 @@ module _ (script : List Line) (us : List Turn) (calls calls' calls'' : List Call
           wrote = this;
         })
 
-  module _ (z : Option (List ℕ)) where
+  module _ (z : List ℕ) where
     -- all was written
     pub all_ended : Ends us calls' calls'' b c (λ found. Took y z (lines_and_total us b c.steps found))
         → Ends (turns script) calls calls'' a c (λ found. Took x z (live_text a.image script found))

@@ -1,6 +1,6 @@
 -- What looks find under a script: requests of its devices, each at most once.
 use Rattle.std.proofs.Common.{◌≡◌, ◌≢◌, ℕ, zero, suc, ◌+◌, ◌*◌, ◌<◌, ◌≤◌, ◌==◌, ◌⊎◌, Bool, true, false, cond, List, []}
-use Rattle.std.proofs.Common.{◌∷◌, ◌++◌, length, map, filter, flat_map, replicate, Contains, IsSome, Some, inl, inr}
+use Rattle.std.proofs.Common.{◌∷◌, ◌++◌, length, map, flat_map, replicate, Contains, Some, inl, inr}
 use Rattle.std.proofs.Common.{refl, ap, sym, subst, ◌∙◌, arith, length-append, if◌then◌else◌}
 use Rattle.std.proofs.Common.{drop, eq-eqb, ne_eqb}
 use Rattle.std.specs.Int.{bit_at}
@@ -16,7 +16,7 @@ use Rattle.rt_ids.specs.Event.{Event, Arrive, Tick, Step, steps}
 use Rattle.rt_ids.specs.Lists.{numbers_below}
 use Rattle.rt_ids.specs.Names.{Names}
 use Rattle.rt_devices.specs.Work.{interrupt_asked}
-use Rattle.rt_script.specs.Script.{HasDeviceInRange, HasName, HasNames, IsScript, pends, line_pends, count, count_of}
+use Rattle.rt_script.specs.Script.{HasName, HasNames, IsScript, pends, line_pends, count, count_of}
 use Rattle.rt_script.specs.Script.{core_events, core_line_events, events, line_events}
 use Rattle.rt_script.specs.declared.line.Line.{Line}
 use Rattle.rt_script.specs.declared.line.Line.TheVariants.{Steps, Ticks, Pends, Device}
@@ -26,7 +26,7 @@ use Rattle.rt_words.specs.declared.call.Call.TheVariants.{Pend, Latch}
 use Rattle.rt_words.specs.declared.call.Entry.{Entry}
 use Rattle.rt_words.specs.Ending.{calls_in}
 use Rattle.rt_words.specs.History.{part}
-use Rattle.rt_words.proofs.Found.{as_many, found_in, asked_by, asked_in, found_few, part_found, lengths_of, asked_few}
+use Rattle.rt_words.proofs.Found.{as_many, found_in, asked_by, found_few, part_found, lengths_of, asked_few}
 use Rattle.rt_words.proofs.Found.{all_parts, part_all, Asks, Finds, found_asked}
 use Rattle.rt_code.specs.Image.{Image}
 use Rattle.rt_live.specs.Account.{row_of}

@@ -1,6 +1,6 @@
 -- How late the looks of a run were, where it ended and where a fault came.
-use Rattle.std.proofs.Common.{◌≡◌, ℕ, zero, suc, ◌≤◌, List, [], ◌∷◌, ◌++◌, flat_map, length, drop, Option}
-use Rattle.std.proofs.Common.{refl, ap, sym, subst, ◌∙◌, arith}
+use Rattle.std.proofs.Common.{◌≡◌, ℕ, ◌≤◌, List, [], ◌∷◌, ◌++◌, flat_map, length, drop}
+use Rattle.std.proofs.Common.{ap, sym, subst, ◌∙◌, arith}
 use Rattle.std.proofs.lemmas.List.{length-append}
 use Rattle.rt_core.specs.Machine.{Machine}
 use Rattle.rt_words.specs.Lines.{Core}
@@ -25,7 +25,7 @@ so_late ts found found' last last' line same end late =
     subst (λ f. LatchedSo ts f last' line) (sym same) (subst (λ l. LatchedSo ts found l line) (sym end) late)
 
 -- a fault at the core's own turns
-pub halts_own : (ts us : List Turn) (line : Core) (a b : Machine) (x y : Option (List ℕ))
+pub halts_own : (ts us : List Turn) (line : Core) (a b : Machine) (x y : List ℕ)
     → Stops ts [] line.calls a b x y → Halts (ts ++ Looks ∷ us) line a b x y
 halts_own ts us line a b x y cut =
     let same = before_found ts (Looks ∷ us) a b x y [] line.calls cut in
@@ -36,11 +36,10 @@ halts_own ts us line a b x y cut =
           (latched_own ts us cut.found cut.last line cut.few);
     }
 
-module _ (ts us : List Turn) (line : Core) (calls : List Call) (a b c : Machine) (x y : Option (List ℕ))
+module _ (ts us : List Turn) (line : Core) (calls : List Call) (a b c : Machine) (x y : List ℕ)
     (within : line.since ≤ length calls) (first : Goes ts [] calls a b x y) where
   -- a fault behind them
-  pub halts_behind : (z : Option (List ℕ)) → Stops (Looks ∷ us) calls line.calls b c y z
-      → Halts (ts ++ Looks ∷ us) line a c x z
+  pub halts_behind : (z : List ℕ) → Stops (Looks ∷ us) calls line.calls b c y z → Halts (ts ++ Looks ∷ us) line a c x z
   halts_behind z cut =
       let same = behind_found ts (Looks ∷ us) a b c x y z [] calls line.calls first cut in
       record {
@@ -69,13 +68,13 @@ module _ (ts us : List Turn) (line : Core) (calls : List Call) (a b c : Machine)
       ))
 
 -- the same of equal turns and calls
-pub stops_same : (ts us : List Turn) (cs ds cs' ds' : List Call) (a b : Machine) (x y : Option (List ℕ)) → ts ≡ us
+pub stops_same : (ts us : List Turn) (cs ds cs' ds' : List Call) (a b : Machine) (x y : List ℕ) → ts ≡ us
     → cs ≡ ds → cs' ≡ ds' → Stops ts cs cs' a b x y → Stops us ds ds' a b x y
 stops_same ts us cs ds cs' ds' a b x y turns_are from to cut =
     subst (λ t. Stops t ds ds' a b x y) turns_are
     (subst (λ k. Stops ts k ds' a b x y) from (subst (λ k. Stops ts cs k a b x y) to cut))
 
-pub goes_same : (ts us : List Turn) (cs ds cs' ds' : List Call) (a b : Machine) (x y : Option (List ℕ)) → ts ≡ us
+pub goes_same : (ts us : List Turn) (cs ds cs' ds' : List Call) (a b : Machine) (x y : List ℕ) → ts ≡ us
     → cs ≡ ds → cs' ≡ ds' → Goes ts cs cs' a b x y → Goes us ds ds' a b x y
 goes_same ts us cs ds cs' ds' a b x y turns_are from to run =
     subst (λ t. Goes t ds ds' a b x y) turns_are

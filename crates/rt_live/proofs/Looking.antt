@@ -1,6 +1,6 @@
 -- A look, word by word, and the turns of one event.
 use Rattle.std.proofs.Common.{◌≡◌, ℕ, suc, ◌+◌, ◌<◌, ◌≤◌, ◌⊎◌, inl, inr, List, [], ◌∷◌, ◌++◌, map, flat_map, length}
-use Rattle.std.proofs.Common.{Option, refl, ap, sym, subst, ◌∙◌, append_assoc, arith}
+use Rattle.std.proofs.Common.{refl, ap, sym, subst, ◌∙◌, append_assoc, arith}
 use Rattle.std.specs.List.{AllByRecursion}
 use Rattle.std.proofs.lemmas.Bool.{cases_lt}
 use Rattle.std.proofs.lemmas.List.{append-nil, length-append}
@@ -19,14 +19,14 @@ use Rattle.rt_lemmas.proofs.Membership.{all_append}
 use Rattle.rt_trace.specs.Lined.{IsDeclared}
 
 -- The first words of a look were latched, so many of them, and what they hold arrived.
-pub record Finds (k : ℕ) (calls calls' : List Call) (old new : Machine) (before after : Option (List ℕ)) : Type 0 where
+pub record Finds (k : ℕ) (calls calls' : List Call) (old new : Machine) (before after : List ℕ) : Type 0 where
   pub found : List ℕ
   pub many : length found ≡ k
   pub declared : FindsDeclared old.image.names found
   pub latched : calls' ≡ calls ++ look_calls found
   pub sends : Sends (look_arrivals found) old new before after
 
-pub finds_none : (calls : List Call) (m : Machine) (x : Option (List ℕ)) → Finds 0 calls calls m m x x
+pub finds_none : (calls : List Call) (m : Machine) (x : List ℕ) → Finds 0 calls calls m m x x
 finds_none calls m x =
     record { found = []; many = refl; declared = tt; latched = sym (append-nil calls); sends = sends_none m x }
 
@@ -34,7 +34,7 @@ finds_none calls m x =
 abbrev IsFew : List Turn → List (List ℕ) → List ℕ → Type 0
 IsFew ts found last = (length found < looks ts) ⊎ ((last ≡ []) × (length found ≤ looks ts))
 
-module _ (calls calls' : List Call) (a b : Machine) (x y : Option (List ℕ)) where
+module _ (calls calls' : List Call) (a b : Machine) (x y : List ℕ) where
   -- all words were latched
   pub looks_alone : (k : ℕ) → k ≡ 16 → Finds k calls calls' a b x y → Goes (Looks ∷ []) calls calls' a b x y
   looks_alone k all finds = record {
@@ -47,7 +47,7 @@ module _ (calls calls' : List Call) (a b : Machine) (x y : Option (List ℕ)) wh
   }
 
   module _ (k word : ℕ) (finds : Finds k calls calls' a b x y) (calls'' : List Call)
-      (call : calls'' ≡ calls' ++ Latch k word ∷ []) (c : Machine) (z : Option (List ℕ))
+      (call : calls'' ≡ calls' ++ Latch k word ∷ []) (c : Machine) (z : List ℕ)
       (may : AllByRecursion (IsDeclared a.image.names) (arrivals k word)) where
     abbrev words : List ℕ
     words = finds.found ++ word ∷ []
@@ -120,7 +120,7 @@ module _ (calls calls' : List Call) (a b : Machine) (x y : Option (List ℕ)) wh
         }
 
 -- a look, and then a core step
-module _ (calls calls' : List Call) (a b c : Machine) (x y z : Option (List ℕ)) where
+module _ (calls calls' : List Call) (a b c : Machine) (x y z : List ℕ) where
   pub step_alone : Goes (Looks ∷ []) calls calls' a b x y → Sends (Step ∷ []) b c y z
       → Goes (Happens Step ∷ []) calls calls' a c x z
   step_alone run step = at run.found run.many run.whole run.declared run.latched run.sends
@@ -169,7 +169,7 @@ module _ (calls calls' : List Call) (a b c : Machine) (x y z : Option (List ℕ)
       at (ws ∷ vs ∷ found) many whole declared latched sends = absurd (omega (arith, many))
 
 -- a fault at the look before a step
-pub step_look_cut : (calls calls' : List Call) (a b : Machine) (x y : Option (List ℕ))
+pub step_look_cut : (calls calls' : List Call) (a b : Machine) (x y : List ℕ)
     → Stops (Looks ∷ []) calls calls' a b x y → Stops (Happens Step ∷ []) calls calls' a b x y
 step_look_cut calls calls' a b x y cut =
     at cut.found cut.last cut.few cut.whole cut.short cut.declared cut.last_declared cut.latched cut.breaks
@@ -215,7 +215,7 @@ step_look_cut calls calls' a b x y cut =
 
 -- an event that comes without a look
 module _ (e : Event) (ts : List Turn) (no_look : looks ts ≡ 0) (is : interleaving ts [] ≡ e ∷ []) (calls : List Call)
-    (a b : Machine) (x y : Option (List ℕ)) where
+    (a b : Machine) (x y : List ℕ) where
   pub event_alone : Sends (e ∷ []) a b x y → Goes ts calls calls a b x y
   event_alone sends = record {
     found = [];

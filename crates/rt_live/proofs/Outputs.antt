@@ -1,5 +1,5 @@
 -- What was written of a run is a text that `live` allows, or a beginning of one.
-use Rattle.std.proofs.Common.{◌≡◌, ◌⊎◌, ℕ, ◌+◌, ◌<◌, ◌≤◌, List, [], ◌∷◌, ◌++◌, length, map, flat_map, replicate, Option}
+use Rattle.std.proofs.Common.{◌≡◌, ◌⊎◌, ℕ, ◌+◌, ◌<◌, ◌≤◌, List, [], ◌∷◌, ◌++◌, length, map, flat_map, replicate}
 use Rattle.std.proofs.Common.{inl, refl, sym, ap, subst, ◌∙◌, arith, append_assoc}
 use Rattle.std.specs.List.{AllByRecursion}
 use Rattle.rt_ids.specs.Event.{Event, Step, steps}
@@ -77,7 +77,7 @@ extended_text image script found last e = live_whole image script e.all e.histor
 
 -- a fault came in the turns
 pub part_cut : (m next : Machine) (script : List Line) (found : List (List ℕ)) (last words : List ℕ)
-    (history : List Entry) (x y : Option (List ℕ)) → IsFresh m → IsCutHistory script found last words history
+    (history : List Entry) (x y : List ℕ) → IsFresh m → IsCutHistory script found last words history
     → AllByRecursion IsWholeLook found → Settles (turns script) found last words → length last < 16
     → (length found < looks (turns script)) ⊎ ((last ≡ []) × (length found ≤ looks (turns script)))
     → Breaks (interleaving (turns script) found ++ look_arrivals last) m next x y

@@ -1,6 +1,6 @@
 -- The core's own lines of a script, event by event and line by line, and the steps behind the last look.
 use Rattle.std.proofs.Common.{◌≡◌, ℕ, zero, suc, ◌+◌, ◌-◌, ◌<◌, ◌≤◌, List, [], ◌∷◌, ◌++◌, map, length, take, drop}
-use Rattle.std.proofs.Common.{replicate, Option, get_or, refl, ap, sym, subst, ◌∙◌, append_assoc, arith}
+use Rattle.std.proofs.Common.{replicate, get_or, refl, ap, sym, subst, ◌∙◌, append_assoc, arith}
 use Rattle.std.proofs.lemmas.Grind.{flat_map-append}
 use Rattle.std.proofs.lemmas.List.{append-nil, length-append, length-map, length-replicate, map-append, take_more}
 use Rattle.std.proofs.lemmas.List.{take-append-drop, replicate_more, replicate-append-replicate}
@@ -72,7 +72,7 @@ length-repeated (suc n) ts one =
 pub few_turns : (n : ℕ) (line : Line) → length (repeated_turns n (own_turn line)) ≤ n
 few_turns n line = length-repeated n (own_turn line) (own_one line)
 
-module _ (n : ℕ) (ts : List Turn) (a b c : Machine) (x y z : Option (List ℕ)) (calls calls' calls'' : List Call) where
+module _ (n : ℕ) (ts : List Turn) (a b c : Machine) (x y z : List ℕ) (calls calls' calls'' : List Call) where
   -- the same turns once more
   pub once_more : Goes (repeated_turns n ts) calls calls' a b x y → Goes ts calls' calls'' b c y z
       → Goes (repeated_turns (n + 1) ts) calls calls'' a c x z
@@ -170,7 +170,7 @@ module _ (script : List Line) (i : ℕ) (line : Line) (below : i < length script
         ap count_of is,
       )
 
-  module _ (a b c : Machine) (x y z : Option (List ℕ)) (calls calls' calls'' : List Call) where
+  module _ (a b c : Machine) (x y z : List ℕ) (calls calls' calls'' : List Call) where
     pub own_line_more : Goes (own_turns (take i script)) calls calls' a b x y
         → Goes (repeated_turns (count_of line) (own_turn line)) calls' calls'' b c y z
         → Goes (own_turns (take (i + 1) script)) calls calls'' a c x z

@@ -1,5 +1,5 @@
 -- What a whole run writes beside the devices, of what `go` and `close` tell.
-use Rattle.std.proofs.Common.{◌≡◌, ◌⊎◌, ℕ, ◌*◌, ◌≤◌, List, [], Option, sym, subst}
+use Rattle.std.proofs.Common.{◌≡◌, ◌⊎◌, ℕ, ◌*◌, ◌≤◌, List, [], sym, subst}
 use Rattle.std.specs.List.{AllByRecursion}
 use Rattle.rt_core.specs.Machine.{Machine, IsFresh}
 use Rattle.rt_ids.specs.Names.{Names}
@@ -21,7 +21,7 @@ module _ (ready : Prepared) (is : IsReady ready) (gone : ready.devices ≡ []) (
     (same : ready.script ≡ script)
     (ranges : AllByRecursion HasDeviceInRange ready.script) (rows : List AccountRow) (closed : Closes ready rows)
     (early : ready.line.since ≤ 16 * steps (core_events script))
-    (old next : Machine) (fresh : IsFresh old) (x y : Option (List ℕ)) where
+    (old next : Machine) (fresh : IsFresh old) (x y : List ℕ) where
   early_gathered : ready.line.since ≤ 16 * steps (core_events ready.script)
   early_gathered = subst (λ (s : List Line). ready.line.since ≤ 16 * steps (core_events s)) (sym same) early
 
@@ -48,7 +48,7 @@ module _ (ready : Prepared) (is : IsReady ready) (gone : ready.devices ≡ []) (
       (λ found. Took x y (live_text old.image ready.script found)) all irqs x y all.ends.wrote)
 
   module _ (irqs : irqs_of ready.rows ≡ declared_irqs old.image.names) (names : Names)
-      (named : names ≡ next.image.names) (z : Option (List ℕ)) where
+      (named : names ≡ next.image.names) (z : List ℕ) where
     abbrev Whole : List Line → Type 0
     Whole s = Completes (turns s) ready.line old next (λ found. Took x y (live_text old.image s found))
 

@@ -1,6 +1,6 @@
 -- Turns that go on where others ended, and turns in which a fault came.
 use Rattle.std.proofs.Common.{◌≡◌, ℕ, ◌+◌, ◌*◌, ◌<◌, ◌≤◌, ◌⊎◌, inl, inr, List, [], ◌∷◌, ◌++◌, flat_map, length}
-use Rattle.std.proofs.Common.{Option, refl, ap, sym, subst, ◌∙◌, append_assoc, arith}
+use Rattle.std.proofs.Common.{refl, ap, sym, subst, ◌∙◌, append_assoc, arith}
 use Rattle.std.proofs.lemmas.Bool.{cases_lt}
 use Rattle.std.proofs.lemmas.Grind.{flat_map-append}
 use Rattle.std.proofs.lemmas.List.{append-nil, length-append}
@@ -18,7 +18,7 @@ use Rattle.rt_live.proofs.Woven.{looks-append, interleaving_on, interleaving_sho
 use Rattle.rt_live.proofs.Woven.{looks_below, all_latches, length-latches}
 
 -- no turn was done
-pub goes_none : (calls : List Call) (m : Machine) (x : Option (List ℕ)) → Goes [] calls calls m m x x
+pub goes_none : (calls : List Call) (m : Machine) (x : List ℕ) → Goes [] calls calls m m x x
 goes_none calls m x = record {
   found = [];
   many = refl;
@@ -37,7 +37,7 @@ calls_on calls calls' calls'' found more first second =
     ∙ append_assoc calls (flat_map look_calls found) (flat_map look_calls more)
     ∙ ap (λ cs. calls ++ cs) (sym (flat_map-append look_calls found more))
 
-module _ (ts us : List Turn) (a b c : Machine) (x y z : Option (List ℕ)) (calls calls' calls'' : List Call) where
+module _ (ts us : List Turn) (a b c : Machine) (x y z : List ℕ) (calls calls' calls'' : List Call) where
   -- turns, and those behind them
   pub goes_on : Goes ts calls calls' a b x y → Goes us calls' calls'' b c y z → Goes (ts ++ us) calls calls'' a c x z
   goes_on first second = record {
@@ -106,7 +106,7 @@ module _ (ts us : List Turn) (a b c : Machine) (x y z : Option (List ℕ)) (call
   unfolding stops_behind
   behind_found first cut = (refl, refl)
 
-module _ (ts us : List Turn) (a b : Machine) (x y : Option (List ℕ)) (calls calls' : List Call) where
+module _ (ts us : List Turn) (a b : Machine) (x y : List ℕ) (calls calls' : List Call) where
   -- a fault, with more turns to come
   pub stops_before : Stops ts calls calls' a b x y → Stops (ts ++ us) calls calls' a b x y
   stops_before cut = record {
@@ -158,7 +158,7 @@ module _ (ts us : List Turn) (a b : Machine) (x y : Option (List ℕ)) (calls ca
   before_found cut = (refl, refl)
 
 -- how far turns bring the steps, the time and the calls
-module _ (ts : List Turn) (a b : Machine) (x y : Option (List ℕ)) (calls calls' : List Call)
+module _ (ts : List Turn) (a b : Machine) (x y : List ℕ) (calls calls' : List Call)
     (run : Goes ts calls calls' a b x y) where
   pub steps_below : b.steps ≤ a.steps + length ts
   steps_below = omega (arith, run.sends.leads.steps, steps_woven ts run.found)
@@ -188,7 +188,7 @@ module _ (ts : List Turn) (a b : Machine) (x y : Option (List ℕ)) (calls calls
       )
 
 -- and the calls of turns in which a fault came
-pub calls_cut : (ts : List Turn) (a b : Machine) (x y : Option (List ℕ)) (calls calls' : List Call)
+pub calls_cut : (ts : List Turn) (a b : Machine) (x y : List ℕ) (calls calls' : List Call)
     → Stops ts calls calls' a b x y → length calls' ≤ length calls + 16 * looks ts
 calls_cut ts a b x y calls calls' cut =
     let made : length calls' ≡ length calls + (16 * length cut.found + length cut.last) =

@@ -1,6 +1,6 @@
 -- How far turns of `live` have come: what the looks found, the calls that the core's line made for them, and what the
 -- core did and wrote.
-use Rattle.std.specs.Prelude.{◌≡◌, ℕ, ◌<◌, ◌≤◌, ◌⊎◌, List, [], ◌∷◌, ◌++◌, flat_map, length, drop, Option, Contains}
+use Rattle.std.specs.Prelude.{◌≡◌, ℕ, ◌<◌, ◌≤◌, ◌⊎◌, List, [], ◌∷◌, ◌++◌, flat_map, length, drop, Contains}
 use Rattle.std.specs.List.{AllByRecursion}
 use Rattle.rt_core.specs.Machine.{Machine}
 use Rattle.rt_ids.specs.Names.{Names}
@@ -23,8 +23,7 @@ FindsDeclared names words = AllByRecursion (IsDeclared names) (arrivals_from 0 w
 
 -- All of these turns were done. Their looks found declared interrupts alone. The line made the latches of the looks and
 -- no other call, and the core the events of the interleaving; their lines were written.
-pub record Goes (ts : List Turn) (calls calls' : List Call) (old new : Machine) (before after : Option (List ℕ))
-    : Type 0 where
+pub record Goes (ts : List Turn) (calls calls' : List Call) (old new : Machine) (before after : List ℕ) : Type 0 where
   pub found : List (List ℕ)
   pub many : length found ≡ looks ts
   pub whole : AllByRecursion IsWholeLook found
@@ -36,8 +35,7 @@ pub record Goes (ts : List Turn) (calls calls' : List Call) (old new : Machine) 
 -- looks found declared interrupts alone, and the line made their latches, those of the cut one among them. The core
 -- did the events of the interleaving, with what the cut look found behind them, up to the one in whose lines the fault
 -- came.
-pub record Stops (ts : List Turn) (calls calls' : List Call) (old new : Machine) (before after : Option (List ℕ))
-    : Type 0 where
+pub record Stops (ts : List Turn) (calls calls' : List Call) (old new : Machine) (before after : List ℕ) : Type 0 where
   pub found : List (List ℕ)
   pub last : List ℕ
   pub few : (length found < looks ts) ⊎ ((last ≡ []) × (length found ≤ looks ts))

@@ -1,5 +1,5 @@
 -- What the core's line latched behind the last line that it gathered: what was pending then is pending no more.
-use Rattle.std.specs.Prelude.{ℕ, suc, ◌≤◌, List, [], length, drop, Option, Contains}
+use Rattle.std.specs.Prelude.{ℕ, suc, ◌≤◌, List, [], length, drop, Contains}
 use Rattle.rt_core.specs.Machine.{Machine}
 use Rattle.rt_words.specs.Lines.{Core}
 use Rattle.rt_words.specs.declared.call.Call.{Call}
@@ -15,7 +15,7 @@ pub record LatchedSo (ts : List Turn) (found : List (List ℕ)) (last : List ℕ
   pub all : looks ts ≤ length found → LatchedLast line
 
 -- A fault came in these turns, before all of them were done, and so late the looks were done.
-pub record Halts (ts : List Turn) (line : Core) (old new : Machine) (before after : Option (List ℕ)) : Type 0 where
+pub record Halts (ts : List Turn) (line : Core) (old new : Machine) (before after : List ℕ) : Type 0 where
   pub stops : Stops ts [] line.calls old new before after
   pub late : LatchedSo ts stops.found stops.last line
 

@@ -1,5 +1,5 @@
 -- What `live` may write under a script, and what its account tells. It is this project's own.
-use Rattle.std.specs.Prelude.{◌≡◌, ℕ, ◌+◌, List, ◌++◌, length, replicate, Option}
+use Rattle.std.specs.Prelude.{◌≡◌, ℕ, ◌+◌, List, ◌++◌, length, replicate}
 use Rattle.std.specs.List.{AllByRecursion}
 use Rattle.rt_code.specs.Image.{Image}
 use Rattle.rt_outside.specs.Bytes.{Took, TookPrefix}
@@ -26,14 +26,13 @@ pub record IsLiveText (image : Image) (script : List Line) (bytes : List ℕ) : 
       ++ account_text image.names (account_of (declared_irqs image.names) (calls_in history) (replicate 16 0))
 
 -- a beginning of such a text was taken
-pub record TookPart (image : Image) (script : List Line) (before after : Option (List ℕ)) : Type 0 where
+pub record TookPart (image : Image) (script : List Line) (before after : List ℕ) : Type 0 where
   pub bytes : List ℕ
   pub is : IsLiveText image script bytes
   pub took : TookPrefix before after bytes
 
 -- The trace was taken, and these rows are the account, of looks and calls of which all this is so.
-pub record Lives (image : Image) (script : List Line) (before after : Option (List ℕ)) (rows : List AccountRow)
-    : Type 0 where
+pub record Lives (image : Image) (script : List Line) (before after : List ℕ) (rows : List AccountRow) : Type 0 where
   pub found : List (List ℕ)
   pub many : length found ≡ looks (turns script)
   pub whole : AllByRecursion IsWholeLook found

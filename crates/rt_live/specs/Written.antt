@@ -1,6 +1,6 @@
 -- The text that `live` writes of a run: the trace of the image, from reset, under the interleaving of the script's own
 -- events with what the looks found, with its total of core steps. It is this project's own.
-use Rattle.std.specs.Prelude.{ℕ, List, Option, Some}
+use Rattle.std.specs.Prelude.{ℕ, List, Some}
 use Rattle.rt_ids.specs.Event.{steps}
 use Rattle.rt_code.specs.Image.{Image}
 use Rattle.rt_core.specs.Machine.{Machine}
@@ -20,7 +20,7 @@ live_text img script found =
     })
 
 -- the lines of the whole trace were taken, and of the line of its total a beginning, not all
-abbrev pub TookToTotal : Machine → List Line → List (List ℕ) → Option (List ℕ) → Option (List ℕ) → Type 0
+abbrev pub TookToTotal : Machine → List Line → List (List ℕ) → List ℕ → List ℕ → Type 0
 TookToTotal m script found before after =
     TookAtLeast before after (lines_of m (interleaving (turns script) found))
     × TookPrefix before after (live_text m.image script found)

@@ -1,13 +1,11 @@
 -- Lines of a text that go out as they end.
 use Rattle.std.proofs.Common.{◌≡◌, ◌<◌, ℕ, suc, ◌+◌, Bool, true, false, cond, ◌==◌, List, [], ◌∷◌, ◌++◌, length, refl}
 use Rattle.std.proofs.Common.{ap, sym, ◌∙◌, subst, arith, append_assoc, append-nil, length-append, if◌then◌else◌}
-use Rattle.std.proofs.Common.{Option}
 use Rattle.std.specs.List.{slice_split, onto_first}
 use Rattle.std.proofs.lemmas.List.Splits.{slice_split-cons_no}
 use Rattle.rt_ids.specs.Lists.{is_empty}
 use Rattle.rt_lines.specs.Parts.{lines, lines_of_parts, parts}
 use Rattle.rt_lines.proofs.Splitting.{split_some}
-use Rattle.rt_outside.specs.Bytes.{Gave}
 use Rattle.rt_outside.specs.Lines.{HasHanded}
 use Rattle.rt_outside.specs.Inside.Handed.{HoldsLast, IsUnended, LeavesOf}
 
@@ -164,28 +162,23 @@ lines_front [] part more = refl
 lines_front (b ∷ []) part more = refl
 lines_front (b ∷ c ∷ bs) part more = ap (λ (ls : List (List ℕ)). b ∷ ls) (lines_front (c ∷ bs) part more)
 
--- the source failed behind this text
-pub handed_text : (came : List (List ℕ) → Type 0) (text held : List ℕ) (count : ℕ) (before after : Option (List ℕ))
-    → HoldsLast came text held count → Gave before after text → HasHanded came before after
-handed_text came text held count before after h gave = record {
-  text = text;
-  gave = gave;
+-- the lines that ended are out, what is held is not
+pub handed_text : (came : List (List ℕ) → Type 0) (text held : List ℕ) (count : ℕ) → HoldsLast came text held count
+    → HasHanded came text
+handed_text came text held count h = record {
   first = h.leaves.before;
   others = if is_empty held then [] else held ∷ [];
   splits = lines_held came text held count h;
   are_out = h.leaves.are_out;
 }
 
--- a piece more went, whose lines are not out
+-- a piece more was given, whose lines are not out
 pub handed_piece : (came : List (List ℕ) → Type 0) (text held piece : List ℕ) (count : ℕ)
-    (before after : Option (List ℕ)) → HoldsLast came text held count → Gave before after (text ++ piece)
-    → HasHanded came before after
-handed_piece came text held piece count before after h gave =
+    → HoldsLast came text held count → HasHanded came (text ++ piece)
+handed_piece came text held piece count h =
     let more = piece_comes came text held piece count h in
     let some = split_some feeds (held ++ piece) in
     record {
-      text = text ++ piece;
-      gave = gave;
       first = more.before;
       others = lines_of_parts (some.0 ∷ some.1);
       splits =

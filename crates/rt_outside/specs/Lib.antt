@@ -1,6 +1,7 @@
 pub mod Faults
 pub mod Bytes
 pub mod Lines
+pub mod Passed
 pub mod Memory
 pub mod Outside
 pub mod Inside

@@ -8,6 +8,7 @@ pub mod mem_sink;
 pub mod mem_source;
 pub mod never_fails;
 pub mod out_sink;
+mod passed;
 pub mod sink;
 pub mod source;
 

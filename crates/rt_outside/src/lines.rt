@@ -2,7 +2,7 @@ ghost use Rattle.std.specs.Prelude.{◌≡◌, ℕ, suc, ◌+◌, ◌-◌, ◌^�
 ghost use Rattle.std.specs.Prelude.{OnErr, IsErrOf, IfSome, MatchOption};
 ghost use Rattle.rt_lines.specs.Parts.{lines, parts};
 ghost use Rattle.rt_outside.specs.Faults.{Rose};
-ghost use Rattle.rt_outside.specs.Bytes.{GaveAll, GaveCount};
+ghost use Rattle.rt_outside.specs.Bytes.{given_since, HasGiven, IsAtEnd};
 ghost use Rattle.rt_outside.specs.Lines.{HasHanded};
 ghost use Rattle.rt_outside.specs.Inside.Handed.{HoldsLast, IsUnended};
 
@@ -36,20 +36,23 @@ pub fn read_lines<S: Source, L: LineSink>(
 ) -> Result<u32, ReadFail>
     requires limit { limit < 2 ^ 32 - 1 }
     requires begun { L.came sink.old [] }
-    ensures whole { IfOk result (λ n. (text : List ℕ) × GaveAll (S.left source.old) (S.left source.new) text
-        × (length text ≤ limit) × (n ≡ length (lines text)) × L.came sink.new (lines text)) }
+    ensures given { HasGiven S.past S.left source.old source.new }
+    ensures handed { let text = given_since (S.past source.old) (S.past source.new) in
+        IfOk result (λ n. (n ≡ length (lines text)) × L.came sink.new (lines text)) }
+    ensures ended { OnOk result (IsAtEnd S.past S.left source.new) }
+    ensures within { OnOk result (length (given_since (S.past source.old) (S.past source.new)) ≤ limit) }
 
-    // It is too long exactly where one byte more than the limit was taken.
-    ensures too_long { IsErrOf result ReadFail.TooLong → GaveCount (S.left source.old) (S.left source.new) (limit + 1) }
-    ensures not_longer { OnErr result
-        (¬ IsErrOf result ReadFail.TooLong → (n : ℕ) × (n ≤ limit)
-        × GaveCount (S.left source.old) (S.left source.new) n) }
+    // It is too long exactly where one byte more than the limit was given.
+    ensures too_long { IsErrOf result ReadFail.TooLong →
+        length (given_since (S.past source.old) (S.past source.new)) ≡ limit + 1 }
+    ensures not_longer { OnErr result (¬ IsErrOf result ReadFail.TooLong →
+        length (given_since (S.past source.old) (S.past source.new)) ≤ limit) }
 
-    // Where the text is too long or the source fails, the sink has had the first lines of what was taken.
+    // Where the text is too long or the source fails, the sink has had the first lines of what was given.
     ensures long_handed { IsErrOf result ReadFail.TooLong →
-        HasHanded (L.came sink.new) (S.left source.old) (S.left source.new) }
+        HasHanded (L.came sink.new) (given_since (S.past source.old) (S.past source.new)) }
     ensures fault_handed { IsErrOf result ReadFail.Fault →
-        HasHanded (L.came sink.new) (S.left source.old) (S.left source.new) }
+        HasHanded (L.came sink.new) (given_since (S.past source.old) (S.past source.new)) }
 
     // A fault is reported, and nothing else is reported as one.
     ensures fault { IsErrOf result ReadFail.Fault → Rose (S.faults source.old) (S.faults source.new) }

@@ -1,10 +1,10 @@
-ghost use Rattle.std.specs.Prelude.{◌≡◌, ℕ, ◌<◌, ◌≤◌, nat_lt, if◌then◌else◌, Some, None, length, take, IfOk, OnOk};
+ghost use Rattle.std.specs.Prelude.{◌≡◌, ℕ, ◌<◌, ◌≤◌, nat_lt, if◌then◌else◌, Some, None, [], length, take, IfOk, OnOk};
 ghost use Rattle.std.specs.Prelude.{OnErr};
 ghost use Rattle.rt_outside.specs.Faults.{HasCause};
 ghost use Rattle.rt_outside.specs.Bytes.{Took};
 ghost use Rattle.rt_outside.specs.Memory.{next_fault};
-ghost use Rattle.rt_outside.specs.Outside.{no_bytes_told};
 
+use crate::passed::Passed;
 use crate::{Failed, Sink};
 use std::marker::Model;
 
@@ -14,23 +14,29 @@ use std::marker::Model;
 #[derive(Drop)]
 pub struct OutSink<'a, R: Print> {
     rt: &'a R,
+    taken: Passed,
     failed: u64,
 }
 
 impl<'a, R: Print> Model for OutSink<'a, R> {
-    ghost use Rattle.std.specs.Prelude.{ℕ};
+    ghost use Rattle.rt_outside.specs.Outside.{StandardOutput};
+    ghost use Rattle.rt_outside.specs.Passed.{passed_bytes};
 
-    ghost Value = { ℕ };
+    ghost Value = { StandardOutput };
 
-    ghost view = { λ s. s.failed };
+    ghost view = { λ s. record { taken = passed_bytes s.taken; faults = s.failed } };
 }
 
 impl<'a, R: Print> OutSink<'a, R> {
-    /// Standard output, which has not failed yet.
+    /// Standard output, which no write has been handed yet.
     pub fn of(rt: &'a R) -> OutSink<'a, R>
-        ensures { result ≡ 0 }
+        ensures { result ≡ record { taken = []; faults = 0 } }
     {
-        OutSink { rt, failed: 0 }
+        OutSink {
+            rt,
+            taken: Passed::Nothing,
+            failed: 0,
+        }
     }
 }
 
@@ -46,25 +52,28 @@ fn taken_count<E: Drop>(answer: Result<usize, E>) -> Option<usize>
 }
 
 impl<R: Print> Sink for OutSink<'_, R> {
-    ghost taken = { no_bytes_told };
+    ghost taken = { λ s. s.taken };
 
-    ghost faults = { λ s. s };
+    ghost faults = { λ s. s.faults };
 
     fn write(&mut self, piece: &[u8]) -> Result<usize, Failed>
         ensures within { IfOk result (λ n. n ≤ length piece.now) }
         ensures some { IfOk result (λ n. 0 < length piece.now → 0 < n) }
-        ensures took { IfOk result (λ n. Took (no_bytes_told self.old) (no_bytes_told self.new) (take n piece.now)) }
-        ensures err { OnErr result (no_bytes_told self.new ≡ no_bytes_told self.old) }
-        ensures cause { HasCause self.old self.new result }
+        ensures took { IfOk result (λ n. Took self.old.taken self.new.taken (take n piece.now)) }
+        ensures err { OnErr result (self.new.taken ≡ self.old.taken) }
+        ensures cause { HasCause self.old.faults self.new.faults result }
 
-        ensures quiet { OnOk result (self.new ≡ self.old) }
-        ensures counted { OnErr result (self.new ≡ next_fault self.old) }
+        ensures quiet { OnOk result (self.new.faults ≡ self.old.faults) }
+        ensures counted { OnErr result (self.new.faults ≡ next_fault self.old.faults) }
     {
         if piece.is_empty() {
             return Ok(0);
         }
         match taken_count(self.rt.write_some(piece)) {
-            Some(count) => Ok(count),
+            Some(count) => {
+                self.taken.add(&piece[..count]);
+                Ok(count)
+            }
             None => {
                 self.failed = self.failed.saturating_add(1);
                 Err(Failed)

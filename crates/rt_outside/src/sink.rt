@@ -1,4 +1,4 @@
-ghost use Rattle.std.specs.Prelude.{◌≡◌, ℕ, ◌<◌, ◌≤◌, List, Option, length, take, IfOk, OnOk, OnErr};
+ghost use Rattle.std.specs.Prelude.{◌≡◌, ℕ, ◌<◌, ◌≤◌, List, length, take, IfOk, OnOk, OnErr};
 ghost use Rattle.rt_outside.specs.Faults.{HasCause};
 ghost use Rattle.rt_outside.specs.Bytes.{Took, TookPrefix};
 
@@ -6,8 +6,8 @@ use crate::Failed;
 
 /// Where bytes go to.
 pub trait Sink {
-    /// What it has taken, where it tells that.
-    ghost taken: { Self → Option (List ℕ) };
+    /// What its writes have taken so far.
+    ghost taken: { Self → List ℕ };
 
     /// How often it has failed. It never falls.
     ghost faults: { Self → ℕ };

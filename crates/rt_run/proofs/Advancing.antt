@@ -116,12 +116,12 @@ lines_split es fs a b run =
     ∙ ap (λ (i : Image). lines_of a es ++ flat_map (text i.names) (shown_items b fs)) (sym run.image)
 
 -- nothing was run and nothing written
-pub nothing_yet : (m : Machine) (x : Option (List ℕ)) (held : List ℕ) → Writes [] m m x x held held
+pub nothing_yet : (m : Machine) (x held : List ℕ) → Writes [] m m x x held held
 unfolding labels
 nothing_yet m x held = record { leads = stands_still m; lined = tt; wrote = wrote_none x held }
 
 -- one run and one that goes on are one
-pub goes_on : (es fs : List Event) (a b c : Machine) (x y z : Option (List ℕ)) (held mid kept : List ℕ)
+pub goes_on : (es fs : List Event) (a b c : Machine) (x y z held mid kept : List ℕ)
     → Writes es a b x y held mid → Writes fs b c y z mid kept → Writes (es ++ fs) a c x z held kept
 goes_on es fs a b c x y z held mid kept first second = record {
   leads = leads_on es fs a b c first.leads second.leads;
@@ -152,7 +152,7 @@ ends_behind es fs a b run ends = record {
 }
 
 -- a run, and a fault behind it
-pub cut_behind : (es fs : List Event) (a b c : Machine) (x y z : Option (List ℕ)) (held mid : List ℕ)
+pub cut_behind : (es fs : List Event) (a b c : Machine) (x y z held mid : List ℕ)
     → Writes es a b x y held mid → Cut fs b c y z mid → Cut (es ++ fs) a c x z held
 cut_behind es fs a b c x y z held mid first cut = record {
   done = es ++ cut.done;
@@ -169,7 +169,7 @@ cut_behind es fs a b c x y z held mid first cut = record {
 }
 
 -- a fault, with more to come
-pub cut_before : (es fs : List Event) (a b : Machine) (x y : Option (List ℕ)) (held : List ℕ) → Cut es a b x y held
+pub cut_before : (es fs : List Event) (a b : Machine) (x y held : List ℕ) → Cut es a b x y held
     → Cut (es ++ fs) a b x y held
 cut_before es fs a b x y held cut = record {
   done = cut.done;
@@ -182,7 +182,7 @@ cut_before es fs a b x y held cut = record {
 }
 
 -- equal events, one more behind some
-pub more : (n : ℕ) (e : Event) (a b c : Machine) (x y z : Option (List ℕ)) (held mid kept : List ℕ)
+pub more : (n : ℕ) (e : Event) (a b c : Machine) (x y z held mid kept : List ℕ)
     → Writes (replicate n e) a b x y held mid → Writes (e ∷ []) b c y z mid kept
     → Writes (replicate (n + 1) e) a c x z held kept
 more n e a b c x y z held mid kept first second =
@@ -190,7 +190,7 @@ more n e a b c x y z held mid kept first second =
     (goes_on (replicate n e) (e ∷ []) a b c x y z held mid kept first second)
 
 -- equal events, and a fault at the next of them
-pub more_cut : (n count : ℕ) (e : Event) (a b c : Machine) (x y z : Option (List ℕ)) (held mid : List ℕ) → n < count
+pub more_cut : (n count : ℕ) (e : Event) (a b c : Machine) (x y z held mid : List ℕ) → n < count
     → Writes (replicate n e) a b x y held mid → Cut (e ∷ []) b c y z mid → Cut (replicate count e) a c x z held
 more_cut n count e a b c x y z held mid within first cut =
     let rest : ℕ = count - (n + 1) in
@@ -203,10 +203,9 @@ more_cut n count e a b c x y z held mid within first cut =
     (cut_behind (replicate n e) (e ∷ []) a b c x y z held mid first cut)))
 
 -- equal events, some more of those that are left
-pub some_more : (count left now : ℕ) (e : Event) (a b c : Machine) (x y z : Option (List ℕ)) (held mid kept : List ℕ)
-    → left ≤ count → now ≤ left
-    → Writes (replicate (count - left) e) a b x y held mid → Writes (replicate (left - now) e) b c y z mid kept
-    → Writes (replicate (count - now) e) a c x z held kept
+pub some_more : (count left now : ℕ) (e : Event) (a b c : Machine) (x y z held mid kept : List ℕ) → left ≤ count
+    → now ≤ left → Writes (replicate (count - left) e) a b x y held mid
+    → Writes (replicate (left - now) e) b c y z mid kept → Writes (replicate (count - now) e) a c x z held kept
 some_more count left now e a b c x y z held mid kept within fewer first second =
     subst (λ es. Writes es a c x z held kept)
     (replicate-append-replicate (count - left) (left - now) e
@@ -215,8 +214,7 @@ some_more count left now e a b c x y z held mid kept within fewer first second =
     (goes_on (replicate (count - left) e) (replicate (left - now) e) a b c x y z held mid kept first second)
 
 -- and a fault among those that are left
-pub left_cut : (count left : ℕ) (e : Event) (a b c : Machine) (x y z : Option (List ℕ)) (held mid : List ℕ)
-    → left ≤ count
+pub left_cut : (count left : ℕ) (e : Event) (a b c : Machine) (x y z held mid : List ℕ) → left ≤ count
     → Writes (replicate (count - left) e) a b x y held mid → Cut (replicate left e) b c y z mid
     → Cut (replicate count e) a c x z held
 left_cut count left e a b c x y z held mid within first cut =
@@ -226,9 +224,8 @@ left_cut count left e a b c x y z held mid within first cut =
     (cut_behind (replicate (count - left) e) (replicate left e) a b c x y z held mid first cut)
 
 -- a fault among the first of equal events
-pub cut_more : (n count : ℕ) (e : Event) (a b : Machine) (x y : Option (List ℕ)) (held : List ℕ) → n ≤ count
-    → Cut (replicate n e) a b x y held
-    → Cut (replicate count e) a b x y held
+pub cut_more : (n count : ℕ) (e : Event) (a b : Machine) (x y held : List ℕ) → n ≤ count
+    → Cut (replicate n e) a b x y held → Cut (replicate count e) a b x y held
 cut_more n count e a b x y held within cut =
     subst (λ es. Cut es a b x y held)
     (replicate-append-replicate n (count - n) e ∙ ap (λ k. replicate k e)
@@ -236,14 +233,14 @@ cut_more n count e a b x y held within cut =
     (cut_before (replicate n e) (replicate (count - n) e) a b x y held cut)
 
 -- events that came, with these lines
-pub written : (es : List Event) (a b : Machine) (x y : Option (List ℕ)) (held kept bytes : List ℕ) → Leads es a b
+pub written : (es : List Event) (a b : Machine) (x y held kept bytes : List ℕ) → Leads es a b
     → AllByRecursion (HasLine a.image.names) (shown_items a es) → lines_of a es ≡ bytes → Wrote x y held kept bytes
     → Writes es a b x y held kept
 written es a b x y held kept bytes run lined is wrote =
     record { leads = run; lined = lined; wrote = subst (Wrote x y held kept) (sym is) wrote }
 
 -- events came, the last of which alone shows an item, and then a fault
-module _ (earlier : List Event) (last : Event) (a b : Machine) (x y : Option (List ℕ)) (held bytes : List ℕ)
+module _ (earlier : List Event) (last : Event) (a b : Machine) (x y held bytes : List ℕ)
     (silent : shown_items a earlier ≡ []) (shows : 0 < length (shown_items a (earlier ++ last ∷ [])))
     (few : length held ≤ BUFFER_BYTES) where
   pub stopped : Leads (earlier ++ last ∷ []) a b → lines_of a (earlier ++ last ∷ []) ≡ bytes
@@ -276,7 +273,7 @@ ends_at e a shows =
     record { earlier = []; last = e; parts = refl; shows = omega (arith, ap length (no_items a), shows) }
 
 -- one event came, and then a fault
-pub stopped_at : (e : Event) (a b : Machine) (x y : Option (List ℕ)) (held bytes : List ℕ)
+pub stopped_at : (e : Event) (a b : Machine) (x y held bytes : List ℕ)
     → 0 < length (shown_items a (e ∷ [])) → length held ≤ BUFFER_BYTES → Leads (e ∷ []) a b
     → lines_of a (e ∷ []) ≡ bytes → TookPrefix x y (held ++ bytes) → Cut (e ∷ []) a b x y held
 stopped_at e a b x y held bytes shows few = stopped [] e a b x y held bytes (no_items a) shows few

@@ -1,9 +1,8 @@
 -- Each item that a core shows has a line, and a take states no more than the stack region has.
-use Rattle.std.proofs.Common.{◌≡◌, ℕ, zero, suc, ◌+◌, ◌^◌, ◌<◌, ◌≤◌, Bool, true, false, if◌then◌else◌, nat_le, List, []}
-use Rattle.std.proofs.Common.{◌∷◌, ◌++◌, length, Option, Some, None, refl, sym, subst, arith}
+use Rattle.std.proofs.Common.{ℕ, suc, ◌+◌, ◌^◌, ◌<◌, Bool, true, false, if◌then◌else◌, nat_le, List, []}
+use Rattle.std.proofs.Common.{◌∷◌, ◌++◌, Option, Some, None, refl, arith}
 use Rattle.std.specs.List.{AllByRecursion}
 use Rattle.rt_ids.specs.Event.{Event, Arrive, Tick, Step, steps}
-use Rattle.rt_ids.specs.Names.{Names}
 use Rattle.rt_code.specs.Image.{Image}
 use Rattle.rt_code.specs.Lines.{HasLines}
 use Rattle.rt_code.specs.Runnable.{IsRunnable}
@@ -13,13 +12,12 @@ use Rattle.rt_core.specs.Trace.{ring, tick, happen, labels, trace}
 use Rattle.rt_core.specs.Transfer.{core_after_pend}
 use Rattle.rt_core.specs.declared.alarm.Alarm.{Alarm}
 use Rattle.rt_core.proofs.Keeping.{step_keeps_time, tick_adds_one}
-use Rattle.rt_trace.specs.Label.{Label, Arrived, Ticked, Rang, Stepped, items_of}
-use Rattle.rt_trace.specs.Lined.{HasLine, HasOperands}
+use Rattle.rt_trace.specs.Label.{Label, Rang, Stepped, items_of}
+use Rattle.rt_trace.specs.Lined.{HasLine}
 use Rattle.rt_trace.specs.declared.item.Item.{Item}
 use Rattle.rt_trace.specs.declared.item.What.{What}
 use Rattle.rt_trace.specs.declared.item.What.TheVariants as what
 use Rattle.rt_run.specs.Inside.Writing.{HasWords, ShowsWords}
-use Rattle.rt_run.specs.Numbers.{HasNumbers}
 use Rattle.rt_run.specs.Ranges.{HasRanges}
 use Rattle.rt_run.specs.Writable.{IsKnown}
 use Rattle.rt_run.proofs.Known.{ticks, happen_known, fresh_known}

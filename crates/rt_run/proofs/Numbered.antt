@@ -2,10 +2,10 @@
 -- states no more than the stack region has.
 use Rattle.std.proofs.Common.{◌≡◌, ℕ, zero, suc, ◌+◌, ◌-◌, ◌*◌, ◌/◌, ◌%◌, ◌^◌, ◌<◌, ◌≤◌, ◌==◌, ◌||◌, Bool, true}
 use Rattle.std.proofs.Common.{false, not}
-use Rattle.std.proofs.Common.{if◌then◌else◌, nat_le, nat_lt, List, [], ◌∷◌, ◌++◌, length, map, take, drop, replicate}
-use Rattle.std.proofs.Common.{Option, Some, None, option_map, slice_get, slice_index, slice_set, IfSome, find}
+use Rattle.std.proofs.Common.{if◌then◌else◌, nat_le, nat_lt, List, [], ◌∷◌, length, map, take, drop, replicate}
+use Rattle.std.proofs.Common.{Option, Some, None, option_map, slice_get, slice_index, slice_set, find}
 use Rattle.std.proofs.Common.{unwrap_or}
-use Rattle.std.proofs.Common.{refl, sym, ap, subst, ◌∙◌, arith, length-take, cond}
+use Rattle.std.proofs.Common.{refl, sym, subst, arith, length-take}
 use Rattle.std.specs.List.{AllByRecursion}
 use Rattle.std.proofs.Math.Nat.{div-le_self, mod-le}
 use Rattle.std.proofs.lemmas.Bool.{leb-true}
@@ -27,7 +27,7 @@ use Rattle.rt_code.specs.Image.{Image, entry_words}
 use Rattle.rt_code.specs.Operands.{slots_of, are_there}
 use Rattle.rt_code.specs.Processor.{Processor, Effect, Traps, Leads}
 use Rattle.rt_code.specs.Runnable.{IsRunnable, TakeFewArguments}
-use Rattle.rt_code.specs.Stack.{interrupted_context, words_of, caller_frame, last_slot, body_frame, return_address}
+use Rattle.rt_code.specs.Stack.{interrupted_context, words_of, caller_frame, last_slot}
 use Rattle.rt_code.specs.Tables.{argument_count}
 use Rattle.rt_code.specs.Trap.{trap_number}
 use Rattle.rt_code.specs.declared.image.BodyRow.{BodyRow}
@@ -48,13 +48,13 @@ use Rattle.rt_trace.proofs.Tables.{found_at}
 use Rattle.rt_trace.specs.declared.item.What.{What}
 use Rattle.rt_trace.specs.declared.item.What.TheVariants as what
 use Rattle.rt_core.specs.Core.{Core, Context, depth, stack_in_use, context_words, reset}
-use Rattle.rt_core.specs.Note.{item_of_note, left_value, slots_from}
+use Rattle.rt_core.specs.Note.{item_of_note, left_value}
 use Rattle.rt_core.specs.Outcome.{Outcome, Trapped, Done, settle}
 use Rattle.rt_core.specs.Priority.{pick}
 use Rattle.rt_core.specs.Stepping as stepping
 use Rattle.rt_core.specs.Transfer as transfer
 use Rattle.rt_core.proofs.Happening.{step_by, step_is}
-use Rattle.rt_run.specs.Numbers.{HasNumbers, HasLevel, IsWordIf}
+use Rattle.rt_run.specs.Numbers.{HasNumbers, IsWordIf}
 use Rattle.rt_run.specs.Ranges.{AreWords, IsWordInstr, HasLevelNote, HasRanges}
 
 -- what an operation gives on two numbers of 32 bits

@@ -112,7 +112,7 @@ reached_words most a b shown w goes some lines known =
     (labels_known a.image a.core goes.done lines known)))
 
 -- what is written where no step shows an item
-pub none_written : (most : ℕ) (a b : Machine) (shown : Option What) (x : Option (List ℕ)) (held : List ℕ)
+pub none_written : (most : ℕ) (a b : Machine) (shown : Option What) (x held : List ℕ)
     (goes : StepsToItem most a b shown)
     → shown ≡ None → Writes (replicate (most - 0) Step) a b x x held held
 none_written most a b shown x held goes none =
@@ -143,7 +143,7 @@ module _ (most : ℕ) (a b : Machine) (shown : Option What) (w : What) (goes : S
       subst (AllByRecursion (HasLine a.image.names)) (sym (reached_item most a b shown w goes some)) (here, tt)
 
   -- and a fault at it
-  pub item_stopped : (x y : Option (List ℕ)) (held : List ℕ) → length held ≤ BUFFER_BYTES
+  pub item_stopped : (x y held : List ℕ) → length held ≤ BUFFER_BYTES
       → TookPrefix x y (held ++ text names (numbered (k - 1) w)) → Cut (replicate goes.done Step) a b x y held
   item_stopped x y held few part =
       let n : ℕ = goes.reaches.silent in

@@ -1,6 +1,6 @@
 -- A run line by line of a script, from a fresh core to the text of the whole trace.
 use Rattle.std.proofs.Common.{◌≡◌, ℕ, ◌+◌, ◌<◌, ◌≤◌, List, [], ◌∷◌, ◌++◌, length, flat_map, take, drop}
-use Rattle.std.proofs.Common.{Option, if◌then◌else◌, inl, inr, refl, ap, sym, subst, ◌∙◌, get_or, arith}
+use Rattle.std.proofs.Common.{if◌then◌else◌, inl, inr, refl, ap, sym, subst, ◌∙◌, get_or, arith}
 use Rattle.std.proofs.lemmas.Grind.{flat_map-append}
 use Rattle.std.proofs.lemmas.List.{append-nil, take_more, take-append-drop, length-append, length-replicate}
 use Rattle.std.proofs.lemmas.List.Sums.{sum_by-cons, sum_by-take-le}
@@ -58,16 +58,14 @@ module _ (script : List Line) (i : ℕ) (line : Line) (below : i < length script
         scripted.few,
       )
 
-  pub line_more : (a b c : Machine) (x y z : Option (List ℕ)) (held mid kept : List ℕ)
-      → Writes (events (take i script)) a b x y held mid → Writes (line_events line) b c y z mid kept
-      → Writes (events (take (i + 1) script)) a c x z held kept
+  pub line_more : (a b c : Machine) (x y z held mid kept : List ℕ) → Writes (events (take i script)) a b x y held mid
+      → Writes (line_events line) b c y z mid kept → Writes (events (take (i + 1) script)) a c x z held kept
   line_more a b c x y z held mid kept first second =
       subst (λ es. Writes es a c x z held kept) (sym events_more)
       (goes_on (events (take i script)) (line_events line) a b c x y z held mid kept first second)
 
-  pub line_cut : (a b c : Machine) (x y z : Option (List ℕ)) (held mid : List ℕ)
-      → Writes (events (take i script)) a b x y held mid → Cut (line_events line) b c y z mid
-      → Cut (events script) a c x z held
+  pub line_cut : (a b c : Machine) (x y z held mid : List ℕ) → Writes (events (take i script)) a b x y held mid
+      → Cut (line_events line) b c y z mid → Cut (events script) a c x z held
   line_cut a b c x y z held mid first cut =
       subst (λ es. Cut es a c x z held) all
       (cut_before (events (take (i + 1) script)) (events (drop (i + 1) script)) a c x z held
@@ -80,12 +78,12 @@ module _ (script : List Line) (i : ℕ) (line : Line) (below : i < length script
           ∙ ap events (take-append-drop (i + 1) script)
 
 -- the same of equal lines
-pub ran_same : (s t : List Line) (a b : Machine) (x y : Option (List ℕ)) (held kept : List ℕ) → s ≡ t
+pub ran_same : (s t : List Line) (a b : Machine) (x y held kept : List ℕ) → s ≡ t
     → Writes (events s) a b x y held kept → Writes (events t) a b x y held kept
 ran_same s t a b x y held kept same run =
     subst (λ (lines : List Line). Writes (events lines) a b x y held kept) same run
 
-pub cut_same : (s t : List Line) (a b : Machine) (x y : Option (List ℕ)) (held : List ℕ) → s ≡ t
+pub cut_same : (s t : List Line) (a b : Machine) (x y held : List ℕ) → s ≡ t
     → Cut (events s) a b x y held → Cut (events t) a b x y held
 cut_same s t a b x y held same cut = subst (λ (lines : List Line). Cut (events lines) a b x y held) same cut
 
@@ -100,8 +98,7 @@ text_is m script fresh =
     ∙ ap (λ c. put 0 c ++ total) (sym fresh.core)
     ∙ ap (λ k. put k m.core ++ total) (sym fresh.steps)
 
-module _ (m n : Machine) (script : List Line) (fresh : IsFresh m) (x y : Option (List ℕ)) (held : List ℕ)
-    (empty : held ≡ []) where
+module _ (m n : Machine) (script : List Line) (fresh : IsFresh m) (x y held : List ℕ) (empty : held ≡ []) where
   -- what a fault at one of the lines leaves done
   pub cut_off : Cut (events script) m n x y held → BreaksOff (events script) m n x y
   cut_off cut = record {
@@ -129,7 +126,7 @@ module _ (m n : Machine) (script : List Line) (fresh : IsFresh m) (x y : Option 
       (part_more x y (lines_of m cut.done) (lines_of n cut.rest) front) in
       subst (TookPrefix x y) (sym (text_is m script fresh)) (part_more x y (lines_of m (events script)) total lines)
 
-  module _ (z : Option (List ℕ)) (kept : List ℕ) (run : Writes (events script) m n x y held kept) (total : ℕ)
+  module _ (z kept : List ℕ) (run : Writes (events script) m n x y held kept) (total : ℕ)
       (counted : total ≡ n.steps) where
     all_steps : total ≡ steps (events script)
     all_steps = omega (arith, counted, run.leads.steps, fresh.steps)

@@ -1,5 +1,5 @@
 -- Events whose lines went out at once, runs that go on where others ended, and runs in which a fault came.
-use Rattle.std.proofs.Common.{◌≡◌, ◌⊎◌, inl, inr, ℕ, ◌+◌, ◌<◌, List, [], ◌∷◌, ◌++◌, length, flat_map, Option, Some}
+use Rattle.std.proofs.Common.{◌≡◌, ◌⊎◌, inl, inr, ℕ, ◌+◌, ◌<◌, List, [], ◌∷◌, ◌++◌, length, flat_map}
 use Rattle.std.proofs.Common.{refl, ap, sym, subst, ◌∙◌}
 use Rattle.std.proofs.Common.{append_assoc, arith, length-append}
 use Rattle.std.proofs.lemmas.List.{append-nil}
@@ -16,12 +16,11 @@ use Rattle.rt_run.specs.Inside.Writing.{Writes, Cut}
 use Rattle.rt_run.proofs.Taking.{took_on, part_on, least_on}
 use Rattle.rt_run.proofs.Advancing.{nothing_yet, goes_on, leads_on, items_split, lines_split}
 
-module _ (es : List Event) (a b : Machine) (x : Option (List ℕ)) (held : List ℕ) (empty : held ≡ []) where
-  behind : (y : Option (List ℕ)) (kept : List ℕ) (run : Writes es a b x y held kept)
-      → run.wrote.front ++ kept ≡ lines_of a es
+module _ (es : List Event) (a b : Machine) (x held : List ℕ) (empty : held ≡ []) where
+  behind : (y kept : List ℕ) (run : Writes es a b x y held kept) → run.wrote.front ++ kept ≡ lines_of a es
   behind y kept run = sym run.wrote.parts ∙ ap (λ h. h ++ lines_of a es) empty
 
-  module _ (y z : Option (List ℕ)) (kept : List ℕ) (run : Writes es a b x y held kept) where
+  module _ (y z kept : List ℕ) (run : Writes es a b x y held kept) where
     -- events came, and then what was held went out
     pub sent : Took y z kept → Sends es a b x z
     sent took = record {
@@ -41,7 +40,7 @@ unfolding labels
 no_lines m = refl
 
 -- a fault in the lines of one event
-at_event : (e : Event) (a b : Machine) (x y : Option (List ℕ)) → Leads (e ∷ []) a b
+at_event : (e : Event) (a b : Machine) (x y : List ℕ) → Leads (e ∷ []) a b
     → TookPrefix x y (lines_of a (e ∷ [])) → Breaks (e ∷ []) a b x y
 at_event e a b x y run part = record {
   done = [];
@@ -54,7 +53,7 @@ at_event e a b x y run part = record {
 }
 
 -- nothing goes on in no bytes
-not_in_none : (x y : Option (List ℕ)) → TookPrefix x y [] → ⊥
+not_in_none : (x y : List ℕ) → TookPrefix x y [] → ⊥
 not_in_none x y part = omega (arith, part.1.1, length-append part.0 part.1.0, ap length part.1.2)
 
 -- the first of one event are none or all
@@ -63,14 +62,13 @@ first_of_one e [] rest parts = inl refl
 first_of_one e (d ∷ []) rest parts = let same : e ≡ d = cc in inr (ap (λ (f : Event). f ∷ []) (sym same))
 first_of_one e (d ∷ f ∷ ds) rest parts = let none : [] ≡ f ∷ (ds ++ rest) = cc in absurd cc
 
-module _ (e : Event) (a b : Machine) (x : Option (List ℕ)) (held : List ℕ) (empty : held ≡ []) where
+module _ (e : Event) (a b : Machine) (x held : List ℕ) (empty : held ≡ []) where
   -- an event came, and of what was held a beginning went out
-  pub sent_cut : (y z : Option (List ℕ)) (kept : List ℕ) → Writes (e ∷ []) a b x y held kept → TookPrefix y z kept
-      → Breaks (e ∷ []) a b x z
+  pub sent_cut : (y z kept : List ℕ) → Writes (e ∷ []) a b x y held kept → TookPrefix y z kept → Breaks (e ∷ []) a b x z
   sent_cut y z kept run part = at_event e a b x z run.leads (sent_part (e ∷ []) a b x held empty y z kept run part)
 
   -- a fault came at the event
-  pub broken : (y : Option (List ℕ)) → Cut (e ∷ []) a b x y held → Breaks (e ∷ []) a b x y
+  pub broken : (y : List ℕ) → Cut (e ∷ []) a b x y held → Breaks (e ∷ []) a b x y
   broken y cut = elim (first_of_one e cut.done cut.rest cut.parts) [
     | inl none ↦ absurd (not_in_none x y
         (subst (TookPrefix x y) (ap (lines_of a) none ∙ no_lines a) part))
@@ -82,14 +80,14 @@ module _ (e : Event) (a b : Machine) (x : Option (List ℕ)) (held : List ℕ) (
       part = subst (λ h. TookPrefix x y (h ++ lines_of a cut.done)) empty cut.took
 
 -- the same, with a buffer that is empty
-unsent : (es : List Event) (a b : Machine) (x y : Option (List ℕ)) → Sends es a b x y → Writes es a b x y [] []
+unsent : (es : List Event) (a b : Machine) (x y : List ℕ) → Sends es a b x y → Writes es a b x y [] []
 unsent es a b x y run = record {
   leads = run.leads;
   lined = run.lined;
   wrote = record { front = lines_of a es; took = run.took; parts = sym (append-nil (lines_of a es)) };
 }
 
-without : (es : List Event) (a b : Machine) (x y : Option (List ℕ)) → Writes es a b x y [] [] → Sends es a b x y
+without : (es : List Event) (a b : Machine) (x y : List ℕ) → Writes es a b x y [] [] → Sends es a b x y
 without es a b x y run = record {
   leads = run.leads;
   lined = run.lined;
@@ -97,18 +95,18 @@ without es a b x y run = record {
 }
 
 -- nothing came, and nothing was written
-pub sends_none : (m : Machine) (x : Option (List ℕ)) → Sends [] m m x x
+pub sends_none : (m : Machine) (x : List ℕ) → Sends [] m m x x
 sends_none m x = without [] m m x x (nothing_yet m x [])
 
 -- one run and one that goes on are one
-pub sends_on : (es fs : List Event) (a b c : Machine) (x y z : Option (List ℕ)) → Sends es a b x y → Sends fs b c y z
+pub sends_on : (es fs : List Event) (a b c : Machine) (x y z : List ℕ) → Sends es a b x y → Sends fs b c y z
     → Sends (es ++ fs) a c x z
 sends_on es fs a b c x y z first second =
     without (es ++ fs) a c x z
     (goes_on es fs a b c x y z [] [] [] (unsent es a b x y first) (unsent fs b c y z second))
 
 -- a run, and a fault behind it
-pub breaks_behind : (es fs : List Event) (a b c : Machine) (x y z : Option (List ℕ)) → Sends es a b x y
+pub breaks_behind : (es fs : List Event) (a b c : Machine) (x y z : List ℕ) → Sends es a b x y
     → Breaks fs b c y z → Breaks (es ++ fs) a c x z
 breaks_behind es fs a b c x y z first cut =
     let came : List Event = cut.done ++ cut.last ∷ [] in
@@ -128,8 +126,7 @@ breaks_behind es fs a b c x y z first cut =
     }
 
 -- a fault, with more to come
-pub breaks_before : (es fs : List Event) (a b : Machine) (x y : Option (List ℕ)) → Breaks es a b x y
-    → Breaks (es ++ fs) a b x y
+pub breaks_before : (es fs : List Event) (a b : Machine) (x y : List ℕ) → Breaks es a b x y → Breaks (es ++ fs) a b x y
 breaks_before es fs a b x y cut = record {
   done = cut.done;
   last = cut.last;
@@ -145,8 +142,8 @@ some_items : (names : Names) (items : List Item) → 0 < length (flat_map (text 
 some_items names [] some = absurd (omega (arith, some))
 some_items names (i ∷ is) some = omega arith
 
--- the event in whose lines a fault came shows an item, where the sink tells what it took
-pub breaks_end : (es : List Event) (a b : Machine) (x y : List ℕ) (cut : Breaks es a b (Some x) (Some y))
+-- the event in whose lines a fault came shows an item
+pub breaks_end : (es : List Event) (a b : Machine) (x y : List ℕ) (cut : Breaks es a b x y)
     → EndsInItem (cut.done ++ cut.last ∷ []) a
 breaks_end es a b x y cut =
     let mid : Machine =

@@ -1,5 +1,5 @@
 -- The line of a tick, and that of the alarm behind it.
-use Rattle.std.proofs.Common.{◌≡◌, ℕ, List, [], ◌∷◌, ◌++◌, flat_map, Option, Bool, true, false, if◌then◌else◌, ap, sym}
+use Rattle.std.proofs.Common.{◌≡◌, ℕ, List, [], ◌∷◌, ◌++◌, flat_map, Bool, true, false, if◌then◌else◌, ap, sym}
 use Rattle.std.proofs.Common.{subst, ◌∙◌, append_assoc}
 use Rattle.std.proofs.lemmas.List.{append-nil}
 use Rattle.rt_ids.specs.Names.{Names}
@@ -23,7 +23,7 @@ behind names step came = flat_map (text names) (items_of step (if came then Rang
 abbrev both : Names → ℕ → Bool → List ℕ
 both names step came = flat_map (text names) (items_of step (Ticked ∷ (if came then Rang ∷ [] else [])))
 
-module _ (names : Names) (step : ℕ) (came : Bool) (a b : Option (List ℕ)) (held mid : List ℕ) where
+module _ (names : Names) (step : ℕ) (came : Bool) (a b held mid : List ℕ) where
   -- no alarm came
   pub tick_alone : came ≡ false → Wrote a b held mid (tick_line names step) → Wrote a b held mid (both names step came)
   tick_alone none wrote =
@@ -42,7 +42,7 @@ module _ (names : Names) (step : ℕ) (came : Bool) (a b : Option (List ℕ)) (h
       ap (λ t. tick_line names step ++ t) (sym (append-nil (alarm_line names step)))
       ∙ ap (λ r. tick_line names step ++ behind names step r) (sym rang)
 
-  module _ (c : Option (List ℕ)) (rang : came ≡ true) (first : Wrote a b held mid (tick_line names step)) where
+  module _ (c : List ℕ) (rang : came ≡ true) (first : Wrote a b held mid (tick_line names step)) where
     pub tick_all : (kept : List ℕ) → Wrote b c mid kept (alarm_line names step)
         → Wrote a c held kept (both names step came)
     tick_all kept second =

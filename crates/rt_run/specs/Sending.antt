@@ -1,5 +1,5 @@
 -- Events that come to a machine, and the lines of what they show, where nothing of them is held back.
-use Rattle.std.specs.Prelude.{◌≡◌, ℕ, ◌<◌, ◌≤◌, ◌⊎◌, List, [], ◌∷◌, ◌++◌, flat_map, length, if◌then◌else◌, Option}
+use Rattle.std.specs.Prelude.{◌≡◌, ℕ, ◌<◌, ◌≤◌, ◌⊎◌, List, [], ◌∷◌, ◌++◌, flat_map, length, if◌then◌else◌}
 use Rattle.std.specs.List.{AllByRecursion}
 use Rattle.rt_ids.specs.Event.{Event}
 use Rattle.rt_ids.specs.Lists.{is_empty}
@@ -22,14 +22,14 @@ abbrev pub lines_of : Machine → List Event → List ℕ
 lines_of m events = flat_map (text m.image.names) (shown_items m events)
 
 -- these events lead from the old machine to the new one, each item that they show has a line, and these were taken
-pub record Sends (events : List Event) (old new : Machine) (before after : Option (List ℕ)) : Type 0 where
+pub record Sends (events : List Event) (old new : Machine) (before after : List ℕ) : Type 0 where
   pub leads : Leads events old new
   pub lined : AllByRecursion (HasLine old.image.names) (shown_items old events)
   pub took : Took before after (lines_of old events)
 
 -- A fault came in the lines of one of these events. Those before it and this one lead from the old machine to the new
 -- one. The lines of those before it were taken, and of its own a beginning, not all.
-pub record Breaks (events : List Event) (old new : Machine) (before after : Option (List ℕ)) : Type 0 where
+pub record Breaks (events : List Event) (old new : Machine) (before after : List ℕ) : Type 0 where
   pub done : List Event
   pub last : Event
   pub rest : List Event
@@ -39,7 +39,7 @@ pub record Breaks (events : List Event) (old new : Machine) (before after : Opti
   pub cut : TookPrefix before after (lines_of old (done ++ last ∷ []))
 
 -- these bytes were taken but for some at the end, no more than a buffer of lines holds
-pub record TookButHeld (before after : Option (List ℕ)) (bytes : List ℕ) : Type 0 where
+pub record TookButHeld (before after : List ℕ) (bytes : List ℕ) : Type 0 where
   pub front : List ℕ
   pub held : List ℕ
   pub parts : bytes ≡ front ++ held
@@ -54,7 +54,7 @@ pub record EndsInItem (events : List Event) (old : Machine) : Type 0 where
   pub shows : length (shown_items old earlier) < length (shown_items old events)
 
 -- the last of these events shows an item, and the lines of those before it were taken but for a buffer
-pub record StopsAtItem (done : List Event) (old : Machine) (before after : Option (List ℕ)) : Type 0 where
+pub record StopsAtItem (done : List Event) (old : Machine) (before after : List ℕ) : Type 0 where
   pub ends : EndsInItem done old
   pub held : TookButHeld before after (lines_of old ends.earlier)
 
@@ -62,7 +62,7 @@ pub record StopsAtItem (done : List Event) (old : Machine) (before after : Optio
 -- beginning was taken, and not all, of their lines and, where no event is left, of the line of the total behind them.
 -- The core did not go on behind the fault: it stopped at an event that shows an item, or all events are done. So what
 -- it did unseen is bounded: of the lines before that event, or of all, no more than a buffer was not taken.
-pub record BreaksOff (events : List Event) (old new : Machine) (before after : Option (List ℕ)) : Type 0 where
+pub record BreaksOff (events : List Event) (old new : Machine) (before after : List ℕ) : Type 0 where
   pub done : List Event
   pub rest : List Event
   pub parts : events ≡ done ++ rest

@@ -1,100 +1,60 @@
--- The clauses of the top call, of words that name a command.
-use Rattle.std.proofs.Common.{◌≡◌, ℕ, ◌≤◌, ◌⊎◌, List, [], Option, inl, inr, subst}
+-- From how a command was conducted to the clauses of the top call.
+use Rattle.std.proofs.Common.{◌≡◌, ℕ, zero, suc, ◌<◌, ◌≤◌, ◌⊎◌, List, inl, inr, subst, arith}
 use Rattle.rt_ids.specs.declared.status.Status.{Status}
 use Rattle.rt_ids.specs.declared.status.Status.TheVariants as status
-use Rattle.rt_outside.specs.Faults.{Rose}
-use Rattle.rt_outside.specs.Bytes.{Took}
-use Rattle.rt_top.specs.Words.{Command, Names, IsCommand, reads}
-use Rattle.rt_top.specs.Defined.{Inputs, IsDue, IsAnswer, IsFirstRefused, IsApplicationRefused, AreTold, AreReadTold}
-use Rattle.rt_top.specs.Defined.{SkipsFirst, SkipsSecond, SkipsThird, WroteAll, WrotePart}
-use Rattle.rt_top.specs.Inside.Decides.{HasFailed, Concludes}
+use Rattle.rt_top.specs.Words.{Command, Names, IsCommand}
+use Rattle.rt_top.specs.Kinds.{Kind, kinds_of}
+use Rattle.rt_top.specs.Defined.{Inputs}
+use Rattle.rt_top.specs.Inside.Decides.{Conducts}
 use Rattle.rt_top.specs.Inside.Meant.{command_word}
+use Rattle.rt_top.specs.Inside.Using.{Use, Unread, Failed, Sources, No, Then, Reading, Stopped, AreRead}
 use Rattle.rt_top.specs.declared.command.Command as code
 use Rattle.rt_top.proofs.CommandWords.{one_command}
-use Rattle.rt_top.proofs.Ending as ending
+use Rattle.rt_top.proofs.Using.{failed_at, Did, behind}
+use Rattle.rt_top.specs.Inside.Using.{AreUnread}
+use Rattle.std.proofs.Common.{length}
 
--- the words name the command
-module _ (words : List (List ℕ)) (c : code.Command) (named : Names words (command_word c)) where
-  -- and no other
-  pub any : (P : Command → Type 0) → P (command_word c) → (d : Command) → Names words d → P d
-  any P p d named_so = subst P (one_command words (command_word c) d named named_so) p
-
-  pub is_command : IsCommand words
-  is_command = (command_word c, named)
-
-  pub first_unread : (kept : Type 0) → (reads (command_word c) ≡ 0 → kept) → SkipsFirst words → kept
-  first_unread kept keeps skips = keeps (skips (command_word c) named)
-
-  module _ (t : Inputs) (rose kept kept_third rose_second rose_third : Type 0) (before after : Option (List ℕ))
-      (fb fa : ℕ)
-      (result : Status)
-      (k : Concludes (command_word c) t (rose × kept × kept_third)
-      ((rose_second × kept_third) ⊎ ((3 ≤ reads (command_word c)) × rose_third)) before after fb fa result) where
-    abbrev FirstFailed : Type 0
-    FirstFailed = rose × kept × kept_third
-
-    abbrev OtherFailed : Type 0
-    OtherFailed = (rose_second × kept_third) ⊎ ((3 ≤ reads (command_word c)) × rose_third)
-
-    pub answered : (e : Command) → Names words e → IsAnswer result → AreReadTold e t result
-        → WroteAll e t result before after
-    answered e named_so answer =
-        any (λ x. AreReadTold x t result → WroteAll x t result before after)
-        (ending.answered (command_word c) t FirstFailed OtherFailed before after fb fa result k answer) e named_so
-
-    pub complete : (e : Command) (due : Status) → Names words e → IsDue e t due → (rose → ⊥)
-        → (rose_second → ⊥) → (rose_third → ⊥) → (Rose fb fa → ⊥) → (result ≡ due) ⊎ (result ≡ status.Memory)
-    complete e due named_so is_due no_first no_second no_third no_sink =
-        ending.complete (command_word c) t FirstFailed OtherFailed before after fb fa result due (back is_due)
-        (λ all. no_first all.0) no_other no_sink k
-      where
-        no_other : OtherFailed → ⊥
-        no_other (inl both) = no_second both.0
-        no_other (inr both) = no_third both.1
-
-        back : IsDue e t due → IsDue (command_word c) t due
-        back x = subst (λ y. IsDue y t due) (one_command words e (command_word c) named_so named) x
-
-    pub no_usage : result ≡ status.Usage → IsCommand words → ⊥
-    no_usage usage _ = ending.no_usage (command_word c) t FirstFailed OtherFailed before after fb fa result k usage
-
-    pub read : result ≡ status.Read → (e : Command) × Names words e
-        × (((1 ≤ reads e) × rose × kept × kept_third) ⊎ ((2 ≤ reads e) × rose_second × kept_third)
-        ⊎ ((3 ≤ reads e) × rose_third))
-    read is = (
-      command_word c,
-      named,
-      flat (ending.read (command_word c) t FirstFailed OtherFailed before after fb fa result k is),
-    )
-      where
-        flat : HasFailed (command_word c) FirstFailed OtherFailed
-            → ((1 ≤ reads (command_word c)) × rose × kept × kept_third)
-            ⊎ ((2 ≤ reads (command_word c)) × rose_second × kept_third)
-            ⊎ ((3 ≤ reads (command_word c)) × rose_third)
-        flat (inl (some, all)) = inl (some, all.0, all.1, all.2)
-        flat (inr (two, inl both)) = inr (inl (two, both.0, both.1))
-        flat (inr (two, inr last)) = inr (inr last)
-
-    pub silent : (result ≡ status.Read) ⊎ (result ≡ status.Memory) → Took before after []
-    silent quiet = ending.silent (command_word c) t FirstFailed OtherFailed before after fb fa result k quiet
-
-    pub write : result ≡ status.Write → Rose fb fa
-    write is = ending.write (command_word c) t FirstFailed OtherFailed before after fb fa result k is
-
-    pub part : (e : Command) → Names words e → result ≡ status.Write → AreTold e t ⊎ IsApplicationRefused e t
-        → WrotePart e t before after
-    part e named_so failed =
-        any (λ x. AreTold x t ⊎ IsApplicationRefused x t → WrotePart x t before after)
-        (ending.part (command_word c) t FirstFailed OtherFailed before after fb fa result k failed) e named_so
-
-    pub second_unread : ((reads (command_word c) ≤ 1) ⊎ IsFirstRefused (command_word c) t → kept) → SkipsSecond words t
-        → kept
-    second_unread keeps skips = keeps (skips (command_word c) named)
-
-    pub third_unread : ((reads (command_word c) ≤ 2) ⊎ IsApplicationRefused (command_word c) t → kept_third)
-        → SkipsThird words t → kept_third
-    third_unread keeps skips = keeps (skips (command_word c) named)
+-- the words name one command, so this is the one that was conducted
+pub conducted : (words : List (List ℕ)) (c : code.Command) → Names words (command_word c) → (t : Inputs)
+    (sources : Sources) (before after : List ℕ) (fb fa : ℕ) (result : Status)
+    → Conducts (command_word c) (kinds_of (command_word c)) t sources before after fb fa result → (e : Command)
+    → Names words e → Conducts e (kinds_of e) t sources before after fb fa result
+conducted words c named t sources before after fb fa result k e named_so =
+    subst (λ x. Conducts x (kinds_of x) t sources before after fb fa result)
+    (one_command words (command_word c) e named named_so) k
 
 -- words that name a command
 pub no_words : (words : List (List ℕ)) → (IsCommand words → ⊥) → {A : Type 0} → (c : Command) → Names words c → A
 no_words words none c named = absurd (none (c, named))
+
+-- of three sources one failed, and those behind it were not come to
+module _ (kinds : List Kind) (first a b d : List ℕ) (DA DB DD : ℕ → Use → Type 0) (end : Reading)
+    (read : AreRead kinds first (Then a DA (Then b DB (Then d DD No))) end) (is : end ≡ Stopped status.Read)
+    (FA FB FD : Type 0) (fa : (limit : ℕ) → DA limit Failed → FA) (fb : (limit : ℕ) → DB limit Failed → FB)
+    (fd : (limit : ℕ) → DD limit Failed → FD) where
+  pub one_failed : ((1 ≤ length kinds) × FA × DB 0 Unread × DD 0 Unread) ⊎ ((2 ≤ length kinds) × FB × DD 0 Unread)
+      ⊎ ((3 ≤ length kinds) × FD)
+  one_failed = let (n, limit, within, there, failed, unread) = failed_at kinds first
+      (Then a DA (Then b DB (Then d DD No))) end read is in by n limit within there failed unread
+    where
+      by : (n limit : ℕ) → n < length kinds → n < 3 → Did n (Then a DA (Then b DB (Then d DD No))) limit Failed
+          → AreUnread (behind (suc n) (Then a DA (Then b DB (Then d DD No))))
+          → ((1 ≤ length kinds) × FA × DB 0 Unread × DD 0 Unread) ⊎ ((2 ≤ length kinds) × FB × DD 0 Unread)
+          ⊎ ((3 ≤ length kinds) × FD)
+      by zero limit within there failed unread =
+          inl (omega (arith, within), fa limit failed, unread.0, unread.1.0)
+      by (suc zero) limit within there failed unread =
+          inr (inl (omega (arith, within), fb limit failed, unread.0))
+      by (suc (suc zero)) limit within there failed unread =
+          inr (inr (omega (arith, within), fd limit failed))
+      by (suc (suc (suc n))) limit within there failed unread = absurd (omega (arith, there))
+
+  -- so where none failed this is absurd
+  pub none_failed : (FA → ⊥) → (FB → ⊥) → (FD → ⊥) → ⊥
+  none_failed no_a no_b no_d = by one_failed
+    where
+      by : ((1 ≤ length kinds) × FA × DB 0 Unread × DD 0 Unread) ⊎ ((2 ≤ length kinds) × FB × DD 0 Unread)
+          ⊎ ((3 ≤ length kinds) × FD) → ⊥
+      by (inl f) = no_a f.1
+      by (inr (inl f)) = no_b f.1
+      by (inr (inr f)) = no_d f.1

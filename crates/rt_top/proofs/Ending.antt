@@ -1,143 +1,218 @@
 -- From how a command ends to what the top call says.
-use Rattle.std.proofs.Common.{◌≡◌, ℕ, ◌⊎◌, List, [], Option, inl, inr, sym, subst, ◌∙◌, arith}
+use Rattle.std.proofs.Common.{◌≡◌, ℕ, ◌⊎◌, List, [], ◌∷◌, inl, inr, refl, sym, ap, subst, ◌∙◌}
 use Rattle.rt_ids.specs.declared.status.Status.{Status}
 use Rattle.rt_ids.specs.declared.status.Status.TheVariants as status
 use Rattle.rt_outside.specs.Faults.{Rose}
 use Rattle.rt_outside.specs.Bytes.{Took}
-use Rattle.rt_top.specs.Words.{Command}
-use Rattle.rt_top.specs.Defined.{Inputs, Defined, IsDue, IsAnswer, IsFirstRefused, IsSecondRefused}
-use Rattle.rt_top.specs.Defined.{IsApplicationRefused, AreTold, AreReadTold, WroteAll, WrotePart}
-use Rattle.rt_top.specs.Inside.Decides.{IsPast, is_done, is_text, is_no, IsDecided, HasFailed, Concludes}
-use Rattle.rt_top.proofs.Excluding.{one_due, told_of_due, is_told}
+use Rattle.rt_rta.specs.declared.limits.Limit.{Limit}
+use Rattle.rt_baker.specs.declared.verdict.Verdict.{Verdict}
+use Rattle.rt_baker.specs.declared.verdict.Verdict.TheVariants as judged
+use Rattle.rt_app.specs.Tree.{App}
+use Rattle.rt_trace.specs.Trace.{Trace}
+use Rattle.rt_code.specs.Image.{Image}
+use Rattle.rt_top.specs.Words.{Command, Run, Check, Fmt, Build, Audit, Live, Soak, Demo, Deepest, Verify, Pair, Times}
+use Rattle.rt_top.specs.Kinds.{Kind, kinds_of, IsRefusedBy, IsRefusedAmong}
+use Rattle.rt_top.specs.Kinds as kind
+use Rattle.rt_top.specs.Ends.{Wrote}
+use Rattle.rt_top.specs.Outputs.{Says, TellsDeepest, TellsTimes}
+use Rattle.rt_top.specs.Outputs as outputs
+use Rattle.rt_top.specs.Verified.{TellsImage}
+use Rattle.rt_top.specs.Verified as verified
+use Rattle.rt_top.specs.Defined.{Inputs, Writes, Defined, refused, output, IsDue, IsAnswer, WroteAll, WrotePart}
+use Rattle.rt_top.specs.Inside.Decides.{EndsBy, Conducts}
+use Rattle.rt_top.specs.Inside.Using.{Sources, Reading, Done, Refused, Stopped, AreRead}
+use Rattle.rt_top.proofs.Excluding.{one_due}
+use Rattle.rt_top.proofs.Using.{gaves}
+use Rattle.rt_top.proofs.Using as using
 
-no_answer : (ended : Status) → (ended ≡ status.Memory) ⊎ (ended ≡ status.Read) → IsAnswer ended → ⊥
-no_answer ended (inl is) answer = subst IsAnswer is answer
-no_answer ended (inr is) answer = subst IsAnswer is answer
+-- a status with which a command replies; the others say why the program stopped, or that there is no command
+abbrev IsReplied : Status → Type 0
+IsReplied status.Usage = ⊥
+IsReplied status.Read = ⊥
+IsReplied status.Write = ⊥
+IsReplied status.Memory = ⊥
+IsReplied other = Unit {0}
 
--- what is written at an end that is no refusal of an application is told by all sources that are read
-read_told : (c : Command) (t : Inputs) (ended : Status) → IsPast ended → AreTold c t → AreReadTold c t ended
-read_told c t ended is_done told = told
-read_told c t ended is_text told = told
-read_told c t ended is_no told = told
+-- What is due has a status with which commands reply.
+done : (ended : Status) → ended ≡ status.Done → IsReplied ended
+done ended is = subst IsReplied (sym is) tt
 
-first_told : (c : Command) (t : Inputs) → IsApplicationRefused c t ⊎ AreTold c t → AreReadTold c t status.App
-first_told c t (inl (inl (text, line, e, r))) = (λ _. is_told t.first text e, λ _. inl (text, line, e, r))
-first_told c t (inl (inr (text, more, line, e, f, r))) =
-    (λ _. is_told t.first text e, λ _. inr (is_told t.second more f))
-first_told c t (inr told) = (told.0, λ three. inr (told.1 (omega (arith, three))))
+said : (shown : Trace) (v : Verdict) (ended : Status) (bytes : List ℕ) → Says shown v ended bytes → IsReplied ended
+said shown judged.Yes ended bytes s = done ended s.0
+said shown (judged.No n) ended bytes s = subst IsReplied (sym s.0) tt
 
-module _ (c : Command) (t : Inputs) (ended : Status) (bytes : List ℕ) (d : IsDecided c t ended bytes) where
-  -- where the sources that the command reads tell, or an application is refused
-  defined_by : IsApplicationRefused c t ⊎ AreTold c t → Defined c t ended bytes
-  defined_by told = at d.which
+deepened : (app : App) (ended : Status) (bytes : List ℕ) → TellsDeepest app ended bytes → IsReplied ended
+deepened app ended bytes (outputs.reaches_bound bytes' form is) = tt
+deepened app ended bytes (outputs.no_script form) = tt
+
+timed : (app : App) (ls : List Limit) (ended : Status) (bytes : List ℕ) → TellsTimes app ls ended bytes
+    → IsReplied ended
+timed app ls ended bytes (outputs.responds rows form are hold) = tt
+timed app ls ended bytes (outputs.no_times form) = tt
+
+imaged : (image : Image) (ended : Status) (line : List ℕ) → TellsImage image ended line → IsReplied ended
+imaged image ended line (verified.is_safe checked safe) = tt
+imaged image ended line (verified.breaks rule least) = tt
+
+refused_by : (k : Kind) (first text : List ℕ) (ended : Status) (line : List ℕ) → IsRefusedBy k first text ended line
+    → IsReplied ended
+refused_by kind.Tree first text ended line r = subst IsReplied (sym r.0) tt
+refused_by kind.Application first text ended line r = subst IsReplied (sym r.0) tt
+refused_by kind.OtherApplication first text ended line r = subst IsReplied (sym r.0) tt
+refused_by kind.Script first text ended line r = subst IsReplied (sym r.0) tt
+refused_by kind.Trace first text ended line r = subst IsReplied (sym r.0) tt
+refused_by kind.Limits first text ended line r = subst IsReplied (sym r.0) tt
+refused_by kind.Listing first text ended line r = subst IsReplied (sym r.0) tt
+
+refused_among : (kinds : List Kind) (first : List ℕ) (texts : List (List ℕ)) (ended : Status) (line : List ℕ)
+    → IsRefusedAmong kinds first texts ended line → IsReplied ended
+refused_among [] first texts ended line r = absurd r
+refused_among (k ∷ kinds) first [] ended line r = absurd r
+refused_among (k ∷ kinds) first (text ∷ texts) ended line (inl r) = refused_by k first text ended line r
+refused_among (k ∷ kinds) first (text ∷ texts) ended line (inr r) = refused_among kinds first texts ended line r.1
+
+written : (c : Command) (t : Inputs) (ended : Status) (bytes : List ℕ) → Writes c t ended bytes → IsReplied ended
+written Run t ended bytes w = done ended w.0
+written Check t ended bytes w = done ended w.0
+written Fmt t ended bytes w = done ended w.0
+written Build t ended bytes w = done ended w.0
+written Audit t ended bytes w = said w.trace w.verdict ended bytes w.says
+written Live t ended bytes w = done ended w.0
+written (Soak number count workers) t ended bytes w = done ended w.0
+written (Demo n) t ended bytes w = done ended w.0
+written Deepest t ended bytes (app, is, tells) = deepened app ended bytes tells
+written Times t ended bytes w = timed w.app w.limits ended bytes w.tells
+written Verify t ended bytes (image, is, tells) = imaged image ended bytes tells
+written Pair t ended bytes w = done ended w.0
+
+replied : (c : Command) (t : Inputs) (ended : Status) (bytes : List ℕ) → Defined c t ended bytes → IsReplied ended
+replied c t ended bytes (refused ended' line r) =
+    refused_among (kinds_of c) t.first (t.first ∷ t.second ∷ t.third ∷ []) ended line r
+replied c t ended bytes (output ended' bytes' w) = written c t ended bytes w
+
+-- A command that was conducted, for these texts: what is due was written as far as the sink took it, or nothing was,
+-- since memory was wanted or a source failed.
+module _ (c : Command) (t : Inputs) (sources : Sources) (same : gaves sources ≡ t.first ∷ t.second ∷ t.third ∷ [])
+    (before after : List ℕ) (fb fa : ℕ) (result : Status)
+    (k : Conducts c (kinds_of c) t sources before after fb fa result) where
+  abbrev Failed : Type 0
+  Failed = k.end ≡ Stopped status.Read
+
+  -- in one form, whatever the reading ended with
+  abbrev Outcome : Type 0
+  Outcome =
+      ((ended : Status) × (bytes : List ℕ) × Defined c t ended bytes × Wrote before after fb fa ended result bytes)
+      ⊎ (((result ≡ status.Memory) ⊎ ((result ≡ status.Read) × Failed)) × Took before after [])
+
+  outcome_of : (end : Reading) → k.end ≡ end → AreRead (kinds_of c) t.first sources end
+      → EndsBy c t end before after fb fa result → Outcome
+  outcome_of Done is read (inl (ended, bytes, w, wrote)) = inl (ended, bytes, output ended bytes w, wrote)
+  outcome_of Done is read (inr (stops, none)) = inr (inl stops, none)
+  outcome_of (Refused ended line) is read wrote =
+      inl (
+        ended,
+        line,
+        refused ended line
+            (subst (λ (texts : List (List ℕ)). IsRefusedAmong (kinds_of c) t.first texts ended line) same
+            (using.refused_among (kinds_of c) t.first sources ended line read)),
+        wrote,
+      )
+  outcome_of (Stopped ended) is read (told, none) = stops (using.stopped_for (kinds_of c) t.first sources ended read)
     where
-      other : IsPast ended → (IsFirstRefused c t → ⊥) → (IsSecondRefused c t → ⊥) → IsApplicationRefused c t
-          ⊎ AreTold c t
-          → Defined c t ended bytes
-      other past passed none (inl (inl r)) = absurd (passed r)
-      other past passed none (inl (inr r)) = absurd (none r)
-      other past passed none (inr all) = d.defined (read_told c t ended past all)
+      stops : (ended ≡ status.Memory) ⊎ (ended ≡ status.Read) → Outcome
+      stops (inl e) = inr (inl (told ∙ e), none)
+      stops (inr e) = inr (inr (told ∙ e, is ∙ ap Stopped e), none)
 
-      at : (ended ≡ status.App) ⊎ (IsPast ended × (IsFirstRefused c t → ⊥) × (IsSecondRefused c t → ⊥))
-          → Defined c t ended bytes
-      at (inl is) = d.defined (subst (AreReadTold c t) (sym is) (first_told c t told))
-      at (inr (past, passed, none)) = other past passed none told
+  outcome : Outcome
+  outcome = outcome_of k.end refl k.read k.ends
 
-  is_due : (due : Status) → IsDue c t due → ended ≡ due
-  is_due due (other, x) = one_due c t ended due bytes other (defined_by (told_of_due c t due other x)) x
-
-  -- the status is none of those that no command replies with
-  is_answer : (P : Status → Type 0) → (P status.App → ⊥) → ((s : Status) → IsPast s → P s → ⊥) → P ended → ⊥
-  is_answer P app past p = at d.which
+  pub answered : IsAnswer result → WroteAll c t result before after
+  answered answer = by outcome
     where
-      at : (ended ≡ status.App) ⊎ (IsPast ended × (IsFirstRefused c t → ⊥) × (IsSecondRefused c t → ⊥)) → ⊥
-      at (inl is) = app (subst P is p)
-      at (inr (is, passed, none)) = past ended is p
+      by : Outcome → WroteAll c t result before after
+      by (inl (ended, bytes, d, inl (is, took))) = (bytes, subst (λ s. Defined c t s bytes) (sym is) d, took)
+      by (inl (ended, bytes, d, inr (is, rose, part))) = absurd (subst IsAnswer is answer)
+      by (inr (inl is, none)) = absurd (subst IsAnswer is answer)
+      by (inr (inr (is, failed), none)) = absurd (subst IsAnswer is answer)
 
--- no status behind the first text says why the program stopped
-past_no_usage : (s : Status) → IsPast s → s ≡ status.Usage → ⊥
-past_no_usage s is_done e = absurd cc
-past_no_usage s is_text e = absurd cc
-past_no_usage s is_no e = absurd cc
-
-past_no_read : (s : Status) → IsPast s → s ≡ status.Read → ⊥
-past_no_read s is_done e = absurd cc
-past_no_read s is_text e = absurd cc
-past_no_read s is_no e = absurd cc
-
-past_no_memory : (s : Status) → IsPast s → s ≡ status.Memory → ⊥
-past_no_memory s is_done e = absurd cc
-past_no_memory s is_text e = absurd cc
-past_no_memory s is_no e = absurd cc
-
-past_no_write : (s : Status) → IsPast s → s ≡ status.Write → ⊥
-past_no_write s is_done e = absurd cc
-past_no_write s is_text e = absurd cc
-past_no_write s is_no e = absurd cc
-
-module _ (c : Command) (t : Inputs) (first second : Type 0) (before after : Option (List ℕ)) (fb fa : ℕ)
-    (result : Status) where
-  pub answered : Concludes c t first second before after fb fa result → IsAnswer result → AreReadTold c t result
-      → WroteAll c t result before after
-  answered (inl (ended, bytes, d, inl (is, took))) answer told =
-      (bytes, subst (λ s. Defined c t s bytes) (sym is) (d.defined (subst (AreReadTold c t) is told)), took)
-  answered (inl (ended, bytes, d, inr (is, rose, part))) answer told = absurd (subst IsAnswer is answer)
-  answered (inr (inl is, none)) answer told = absurd (no_answer result (inl is) answer)
-  answered (inr (inr (is, failed), none)) answer told = absurd (no_answer result (inr is) answer)
-
-  pub complete : (due : Status) → IsDue c t due → (first → ⊥) → (second → ⊥) → (Rose fb fa → ⊥)
-      → Concludes c t first second before after fb fa result → (result ≡ due) ⊎ (result ≡ status.Memory)
-  complete due is_due_so no_first no_second no_third (inl (ended, bytes, d, inl (is, took))) =
-      inl (is ∙ is_due c t ended bytes d due is_due_so)
-  complete due is_due_so no_first no_second no_third (inl (ended, bytes, d, inr (is, rose, part))) =
-      absurd (no_third rose)
-  complete due is_due_so no_first no_second no_third (inr (inl is, none)) = inr is
-  complete due is_due_so no_first no_second no_third (inr (inr (is, inl f), none)) = absurd (no_first f.1)
-  complete due is_due_so no_first no_second no_third (inr (inr (is, inr f), none)) = absurd (no_second f.1)
+  pub complete : (due : Status) → IsDue c t due → (Failed → ⊥) → (Rose fb fa → ⊥)
+      → (result ≡ due) ⊎ (result ≡ status.Memory)
+  complete due (other, x) no_source no_sink = by outcome
+    where
+      by : Outcome → (result ≡ due) ⊎ (result ≡ status.Memory)
+      by (inl (ended, bytes, d, inl (is, took))) = inl (is ∙ one_due c t ended due bytes other d x)
+      by (inl (ended, bytes, d, inr (is, rose, part))) = absurd (no_sink rose)
+      by (inr (inl is, none)) = inr is
+      by (inr (inr (is, failed), none)) = absurd (no_source failed)
 
   -- no command ends with this status
-  pub no_usage : Concludes c t first second before after fb fa result → result ≡ status.Usage → ⊥
-  no_usage (inl (ended, bytes, d, inl (is, took))) usage =
-      is_answer c t ended bytes d (λ s. s ≡ status.Usage) (λ e. absurd cc) past_no_usage (sym is ∙ usage)
-  no_usage (inl (ended, bytes, d, inr (is, rose, part))) usage = absurd cc
-  no_usage (inr (inl is, none)) usage = absurd cc
-  no_usage (inr (inr (is, failed), none)) usage = absurd cc
-
-  pub read : Concludes c t first second before after fb fa result → result ≡ status.Read → HasFailed c first second
-  read (inl (ended, bytes, d, inl (is, took))) is_read =
-      absurd (is_answer c t ended bytes d (λ s. s ≡ status.Read) (λ e. absurd cc) past_no_read (sym is ∙ is_read))
-  read (inl (ended, bytes, d, inr (is, rose, part))) is_read = absurd cc
-  read (inr (inl is, none)) is_read = absurd cc
-  read (inr (inr (is, failed), none)) is_read = failed
-
-  pub silent : Concludes c t first second before after fb fa result → (result ≡ status.Read) ⊎ (result ≡ status.Memory)
-      → Took before after []
-  silent (inl (ended, bytes, d, inl (is, took))) quiet = absurd (loud quiet)
+  pub no_usage : result ≡ status.Usage → ⊥
+  no_usage usage = by outcome
     where
-      loud : (result ≡ status.Read) ⊎ (result ≡ status.Memory) → ⊥
-      loud (inl e) = is_answer c t ended bytes d (λ s. s ≡ status.Read) (λ e. absurd cc) past_no_read (sym is ∙ e)
-      loud (inr e) = is_answer c t ended bytes d (λ s. s ≡ status.Memory) (λ e. absurd cc) past_no_memory (sym is ∙ e)
-  silent (inl (ended, bytes, d, inr (is, rose, part))) quiet = absurd (loud quiet)
+      by : Outcome → ⊥
+      by (inl (ended, bytes, d, inl (is, took))) =
+          subst IsReplied (sym is ∙ usage) (replied c t ended bytes d)
+      by (inl (ended, bytes, d, inr (is, rose, part))) = absurd cc
+      by (inr (inl is, none)) = absurd cc
+      by (inr (inr (is, failed), none)) = absurd cc
+
+  pub failed : result ≡ status.Read → Failed
+  failed is_read = by outcome
     where
-      loud : (result ≡ status.Read) ⊎ (result ≡ status.Memory) → ⊥
-      loud (inl e) = absurd cc
-      loud (inr e) = absurd cc
-  silent (inr (stops, none)) quiet = none
+      by : Outcome → Failed
+      by (inl (ended, bytes, d, inl (is, took))) =
+          absurd (subst IsReplied (sym is ∙ is_read) (replied c t ended bytes d))
+      by (inl (ended, bytes, d, inr (is, rose, part))) = absurd cc
+      by (inr (inl is, none)) = absurd cc
+      by (inr (inr (is, failed), none)) = failed
 
-  pub write : Concludes c t first second before after fb fa result → result ≡ status.Write → Rose fb fa
-  write (inl (ended, bytes, d, inl (is, took))) is_write =
-      absurd (is_answer c t ended bytes d (λ s. s ≡ status.Write) (λ e. absurd cc) past_no_write (sym is ∙ is_write))
-  write (inl (ended, bytes, d, inr (is, rose, part))) is_write = rose
-  write (inr (inl is, none)) is_write = absurd cc
-  write (inr (inr (is, failed), none)) is_write = absurd cc
+  -- a source that failed stops the program so
+  pub told : Failed → result ≡ status.Read
+  told is = by k.end is k.ends
+    where
+      by : (end : Reading) → end ≡ Stopped status.Read → EndsBy c t end before after fb fa result
+          → result ≡ status.Read
+      by Done e ends = absurd cc
+      by (Refused ended line) e ends = absurd cc
+      by (Stopped ended) e (stops, none) = let same : ended ≡ status.Read = cc in stops ∙ same
 
-  pub part : Concludes c t first second before after fb fa result → result ≡ status.Write
-      → AreTold c t ⊎ IsApplicationRefused c t → WrotePart c t before after
-  part (inl (ended, bytes, d, inl (is, took))) is_write told =
-      absurd (is_answer c t ended bytes d (λ s. s ≡ status.Write) (λ e. absurd cc) past_no_write (sym is ∙ is_write))
-  part (inl (ended, bytes, d, inr (is, rose, took))) is_write (inl told) =
-      (ended, bytes, defined_by c t ended bytes d (inr told), took)
-  part (inl (ended, bytes, d, inr (is, rose, took))) is_write (inr r) =
-      (ended, bytes, defined_by c t ended bytes d (inl r), took)
-  part (inr (inl is, none)) is_write told = absurd cc
-  part (inr (inr (is, failed), none)) is_write told = absurd cc
+  pub silent : (result ≡ status.Read) ⊎ (result ≡ status.Memory) → Took before after []
+  silent quiet = by outcome quiet
+    where
+      by : Outcome → (result ≡ status.Read) ⊎ (result ≡ status.Memory) → Took before after []
+      by (inl (ended, bytes, d, inl (is, took))) (inl e) =
+          absurd (subst IsReplied (sym is ∙ e) (replied c t ended bytes d))
+      by (inl (ended, bytes, d, inl (is, took))) (inr e) =
+          absurd (subst IsReplied (sym is ∙ e) (replied c t ended bytes d))
+      by (inl (ended, bytes, d, inr (is, rose, part))) (inl e) = absurd cc
+      by (inl (ended, bytes, d, inr (is, rose, part))) (inr e) = absurd cc
+      by (inr (stops, none)) e = none
+
+  pub write : result ≡ status.Write → Rose fb fa
+  write is_write = by outcome
+    where
+      by : Outcome → Rose fb fa
+      by (inl (ended, bytes, d, inl (is, took))) =
+          absurd (subst IsReplied (sym is ∙ is_write) (replied c t ended bytes d))
+      by (inl (ended, bytes, d, inr (is, rose, part))) = rose
+      by (inr (inl is, none)) = absurd cc
+      by (inr (inr (is, failed), none)) = absurd cc
+
+  pub part : result ≡ status.Write → WrotePart c t before after
+  part is_write = by outcome
+    where
+      by : Outcome → WrotePart c t before after
+      by (inl (ended, bytes, d, inl (is, took))) =
+          absurd (subst IsReplied (sym is ∙ is_write) (replied c t ended bytes d))
+      by (inl (ended, bytes, d, inr (is, rose, took))) = (ended, bytes, d, took)
+      by (inr (inl is, none)) = absurd cc
+      by (inr (inr (is, failed), none)) = absurd cc
+
+  -- with an answer the program did not stop
+  pub alive : IsAnswer result → (ended : Status) → k.end ≡ Stopped ended → ⊥
+  alive answer ended is = by (using.stopped_for (kinds_of c) t.first sources ended (subst (AreRead (kinds_of c) t.first
+      sources) is k.read)) (subst (λ end. EndsBy c t end before after fb fa result) is k.ends)
+    where
+      by : (ended ≡ status.Memory) ⊎ (ended ≡ status.Read) → (result ≡ ended) × Took before after [] → ⊥
+      by (inl e) (stops, none) = subst IsAnswer (stops ∙ e) answer
+      by (inr e) (stops, none) = subst IsAnswer (stops ∙ e) answer

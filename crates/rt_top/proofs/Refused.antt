@@ -3,9 +3,8 @@ use Rattle.std.proofs.Common.{ℕ, ◌≤◌, ◌+◌, List, length, arith}
 use Rattle.rt_ids.specs.declared.limits.TheConstants.{TEXT_BYTES}
 use Rattle.rt_ids.specs.declared.refusal.Fault.{Fault}
 use Rattle.rt_ids.specs.declared.refusal.Refusal.TheVariants as refusal
-use Rattle.rt_ast.specs.Tree as tree
-use Rattle.rt_grammar.specs.Text.{IsText, IsRefused}
-use Rattle.rt_parse.proofs.WholeRefused.{text_not_refused, long_refused}
+use Rattle.rt_grammar.specs.Text.{IsRefused}
+use Rattle.rt_parse.proofs.WholeRefused.{long_refused}
 
 abbrev pub too_long : Fault
 too_long = record { place = record { line = 1; col = 1 }; refusal = refusal.TooLong }
@@ -13,7 +12,3 @@ too_long = record { place = record { line = 1; col = 1 }; refusal = refusal.TooL
 -- a text that is too long is refused so
 pub refused_long : (text : List ℕ) → TEXT_BYTES + 1 ≤ length text → IsRefused text too_long
 refused_long text long = long_refused text (omega (arith, long))
-
--- a text that is read is not refused
-pub not_refused : (text : List ℕ) (a : tree.App) (fault : Fault) → IsText text a → IsRefused text fault → ⊥
-not_refused text a fault is r = text_not_refused text a fault is r

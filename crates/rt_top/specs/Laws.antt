@@ -1,8 +1,16 @@
--- A law of what is defined: a command and the texts of its sources have one status at most.
-use Rattle.std.specs.Prelude.{◌≡◌}
+-- Laws of what is defined: a text is of its kind or is refused, not both, and a command and the texts of its sources
+-- have one status at most.
+use Rattle.std.specs.Prelude.{◌≡◌, ℕ, List}
 use Rattle.rt_ids.specs.declared.status.Status.{Status}
 use Rattle.rt_top.specs.Words.{Command}
+use Rattle.rt_top.specs.Kinds.{Kind, IsOfKind, IsRefusedBy}
 use Rattle.rt_top.specs.Defined.{Inputs, IsDue}
+
+-- no text that is of a kind is refused
+abbrev pub OneOfEachKind : Type 0
+OneOfEachKind =
+    (kind : Kind) (first text : List ℕ) (ended : Status) (line : List ℕ) → IsOfKind kind first text
+    → IsRefusedBy kind first text ended line → ⊥
 
 -- no two statuses are due
 abbrev pub OneStatusIsDue : Type 0

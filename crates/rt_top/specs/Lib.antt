@@ -6,6 +6,7 @@ pub mod Verified
 pub mod Paired
 pub mod Ends
 pub mod Reads
+pub mod Kinds
 pub mod Defined
 pub mod Laws
 pub mod Audited

@@ -1,10 +1,8 @@
--- What `pair` writes: the refusal of its second application or of its script, or what two cores show that run beside
--- each other. It is this project's own.
-use Rattle.std.specs.Prelude.{◌≡◌, ◌<◌, ℕ, List, ◌++◌, codes, length}
+-- What `pair` writes: what two cores show that run beside each other. It is this project's own.
+use Rattle.std.specs.Prelude.{◌<◌, ℕ, List, codes, length}
 use Rattle.rt_ids.specs.declared.limits.TheConstants.{TRACE_BYTES}
 use Rattle.rt_app.specs.Names.{names_of}
 use Rattle.rt_app.specs.Tree.{App}
-use Rattle.rt_build.specs.Accepted.{IsApplication}
 use Rattle.rt_code.specs.Image.{Image}
 use Rattle.rt_dual.specs.Course.{first_events, second_events, course_events}
 use Rattle.rt_dual.specs.Output.{IsPairText, core_text}
@@ -12,22 +10,6 @@ use Rattle.rt_script.specs.Text.{IsScriptText}
 use Rattle.rt_script.specs.declared.line.Line.{Line}
 use Rattle.rt_sim.specs.Good.{RunsWell}
 use Rattle.rt_top.specs.Outputs.{IsGoodImage}
-use Rattle.rt_top.specs.Refusal.{RefusesApplication}
-use Rattle.rt_top.specs.SecondRefusal.{RefusesScript}
-
--- the line refuses the second application, where the first is accepted
-pub record RefusesOther (text more line : List ℕ) : Type 0 where
-  pub app : App
-  pub of_text : IsApplication text app
-  pub own : List ℕ
-  pub refuses : RefusesApplication more own
-  pub says : line ≡ codes "second " ++ own
-
--- the line refuses a text that is no script over the names of the first application, where both are accepted
-pub record RefusesPairScript (text more last line : List ℕ) : Type 0 where
-  pub other : App
-  pub of_other : IsApplication more other
-  pub refuses : RefusesScript text last line
 
 -- `pair`: what two cores may write under a script, each with a good image of its own application. What each does under
 -- its own events with what its looks found is a run of Baker's machine on its application.

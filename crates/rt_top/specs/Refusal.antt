@@ -66,3 +66,7 @@ RefusesText text line = (fault : Fault) × IsRefused text fault × (line ≡ ref
 -- or one that breaks a rule: by the first that it breaks
 abbrev pub RefusesApplication : List ℕ → List ℕ → Type 0
 RefusesApplication text line = (fault : Fault) × IsRefusedText text fault × (line ≡ refusal_line fault)
+
+-- or the second of two, by the same line with a word in front
+abbrev pub RefusesOther : List ℕ → List ℕ → Type 0
+RefusesOther text line = (own : List ℕ) × RefusesApplication text own × (line ≡ codes "second " ++ own)

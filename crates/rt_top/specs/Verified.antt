@@ -29,9 +29,10 @@ pub data TellsImage (image : Image) : Status → List ℕ → Type 0 where
   breaks : (rule : ℕ) → IsLeastBroken image rule → TellsImage image status.No
       (codes "no " ++ decimal rule ++ codes "\n")
 
--- `verify`: the status and the line for a text
-pub data IsVerified (text : List ℕ) : Status → List ℕ → Type 0 where
-  of_image : (image : Image) (ended : Status) (line : List ℕ) → IsListingText text image → TellsImage image ended line
-      → IsVerified text ended line
-  no_listing : (refusal : LoadRefused) (line : List ℕ) → IsRefused text refusal → SaysImage refusal line
-      → IsVerified text status.Text line
+-- the line refuses a text that is no listing
+abbrev pub RefusesListing : List ℕ → List ℕ → Type 0
+RefusesListing text line = (refusal : LoadRefused) × IsRefused text refusal × SaysImage refusal line
+
+-- `verify`: the status and the line for the listing of an image
+abbrev pub IsVerified : List ℕ → Status → List ℕ → Type 0
+IsVerified text ended line = (image : Image) × IsListingText text image × TellsImage image ended line

@@ -1,5 +1,5 @@
 -- The words after the program's name, by position, and the command that they name.
-use Rattle.std.specs.Prelude.{◌≡◌, ℕ, ◌<◌, ◌≤◌, ◌^◌, true, List, [], ◌∷◌, ◌++◌, codes, length, map}
+use Rattle.std.specs.Prelude.{◌≡◌, ℕ, ◌≤◌, ◌-◌, ◌^◌, true, List, [], ◌∷◌, ◌++◌, codes, length, map}
 use Rattle.std.specs.List.{list_all}
 use Rattle.std.specs.Str.Parse.{digits_value}
 use Rattle.std.specs.Borrow.{Bor}
@@ -24,23 +24,14 @@ pub data Command : Type 0 where
   Verify : Command
   Pair : Command
 
--- a word of one to twenty digits, which spell this number
-pub record IsNumber (word : List ℕ) (n : ℕ) : Type 0 where
+-- a word of one to twenty digits, which spell this number, and the number is in this range
+pub record IsNumber (least most : ℕ) (word : List ℕ) (n : ℕ) : Type 0 where
   pub some : 1 ≤ length word
   pub short : length word ≤ 20
   pub digits : list_all is_digit word ≡ true
   pub value : digits_value 10 word ≡ n
-
--- the words name `soak`, with these numbers, which are in range
-pub record NamesSoak (words : List (List ℕ)) (number count workers : ℕ) : Type 0 where
-  pub app : List ℕ
-  pub number_word : List ℕ
-  pub count_word : List ℕ
-  pub workers_word : List ℕ
-  pub named : words ≡ codes "soak" ∷ app ∷ number_word ∷ count_word ∷ workers_word ∷ []
-  pub is_number : IsNumber number_word number × (number < 2 ^ 64)
-  pub is_count : IsNumber count_word count × (1 ≤ count) × (count ≤ 10000)
-  pub is_workers : IsNumber workers_word workers × (1 ≤ workers) × (workers ≤ 64)
+  pub enough : least ≤ n
+  pub within : n ≤ most
 
 -- the words name this command
 abbrev pub Names : List (List ℕ) → Command → Type 0
@@ -50,27 +41,14 @@ Names words Fmt = (app : List ℕ) × (words ≡ codes "fmt" ∷ app ∷ [])
 Names words Build = (app : List ℕ) × (words ≡ codes "build" ∷ app ∷ [])
 Names words Audit = (app trace : List ℕ) × (words ≡ codes "audit" ∷ app ∷ trace ∷ [])
 Names words Live = (app script : List ℕ) × (words ≡ codes "live" ∷ app ∷ script ∷ [])
-Names words (Soak number count workers) = NamesSoak words number count workers
-Names words (Demo n) = (word : List ℕ) × (words ≡ codes "demo" ∷ word ∷ []) × IsNumber word n × (1 ≤ n) × (n ≤ 48)
+Names words (Soak number count workers) =
+    (app a b c : List ℕ) × (words ≡ codes "soak" ∷ app ∷ a ∷ b ∷ c ∷ []) × IsNumber 0 (2 ^ 64 - 1) a number
+    × IsNumber 1 10000 b count × IsNumber 1 64 c workers
+Names words (Demo n) = (word : List ℕ) × (words ≡ codes "demo" ∷ word ∷ []) × IsNumber 1 48 word n
 Names words Deepest = (app : List ℕ) × (words ≡ codes "deepest" ∷ app ∷ [])
 Names words Times = (app limits : List ℕ) × (words ≡ codes "times" ∷ app ∷ limits ∷ [])
 Names words Verify = (image : List ℕ) × (words ≡ codes "verify" ∷ image ∷ [])
 Names words Pair = (first second script : List ℕ) × (words ≡ codes "pair" ∷ first ∷ second ∷ script ∷ [])
-
--- how many of the sources it reads, in order
-abbrev pub reads : Command → ℕ
-reads Run = 2
-reads Check = 1
-reads Fmt = 1
-reads Build = 1
-reads Audit = 2
-reads Live = 2
-reads (Soak number count workers) = 1
-reads (Demo n) = 0
-reads Deepest = 1
-reads Times = 2
-reads Verify = 1
-reads Pair = 3
 
 -- the words name a command
 abbrev pub IsCommand : List (List ℕ) → Type 0

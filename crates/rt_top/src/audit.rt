@@ -1,22 +1,18 @@
-ghost use Rattle.std.specs.Prelude.{◌≡◌, ◌<◌, ◌≤◌, ◌-◌, ◌^◌, ℕ, List, Option, Some, length};
-ghost use Rattle.rt_ids.specs.declared.limits.TheConstants.{TEXT_BYTES, TRACE_BYTES};
-ghost use Rattle.rt_lines.specs.Parts.{lines};
-ghost use Rattle.rt_outside.specs.Faults.{Rose};
+ghost use Rattle.std.specs.Prelude.{◌≡◌, ℕ, List, [], ◌∷◌, Some};
 ghost use Rattle.rt_app.specs.Accepted.{IsAccepted};
 ghost use Rattle.rt_app.specs.Names.{names_of};
-ghost use Rattle.rt_app.specs.Tree as tree;
 ghost use Rattle.rt_app.specs.View.{app_of};
 ghost use Rattle.rt_baker_moves.specs.Machine.{IsMachine};
+ghost use Rattle.rt_build.specs.Accepted.{IsApplication};
 ghost use Rattle.rt_top.specs.Words as word;
-ghost use Rattle.rt_top.specs.Ends.{IsKept};
-ghost use Rattle.rt_top.specs.Defined.{inputs, IsFirstRefused, IsAnswer, IsLaterAnswer};
-ghost use Rattle.rt_top.specs.Reads.{IsReadWithin};
-ghost use Rattle.rt_top.specs.Inside.Auditor.{HasAudited};
-ghost use Rattle.rt_top.specs.Inside.Decides.{Decides, Stops, AnswersTrace};
-ghost use Rattle.rt_top.specs.Inside.Replies.{Gives, Replies, status_of, IsHeard, AnswersAudit};
+ghost use Rattle.rt_top.specs.Kinds as kind;
+ghost use Rattle.rt_top.specs.Defined.{inputs};
+ghost use Rattle.rt_top.specs.Reads.{given_by};
+ghost use Rattle.rt_top.specs.Inside.Auditor.{IsJudgedText};
+ghost use Rattle.rt_top.specs.Inside.Decides.{Answers};
+ghost use Rattle.rt_top.specs.Inside.Using.{HasUse, No, Reads, Then};
 
 use crate::auditor::{Auditor, Chosen};
-use crate::reading::read_accepted;
 use crate::reply::{Reply, refuse_trace, reply_number};
 use rt_app::App;
 use rt_baker::Verdict;
@@ -30,86 +26,70 @@ use std::marker::Brand;
 
 /// `audit APP TRACE`: whether the trace is a run of Baker's machine on the application, and if not, its first wrong
 /// item.
-pub(crate) fn audit<A: Source, B: Source>(alloc: Global, app: &mut A, second: &mut B) -> Reply
-    ensures decides { (third : Option (List ℕ)) → Decides word.Audit (inputs (A.left app.old) (B.left second.old) third)
-        (Rose (A.faults app.old) (A.faults app.new) × IsKept B.left B.faults second.old second.new)
-        (Rose (B.faults second.old) (B.faults second.new)) result }
-    ensures kept { (third : Option (List ℕ)) →
-        IsFirstRefused word.Audit (inputs (A.left app.old) (B.left second.old) third) →
-        IsKept B.left B.faults second.old second.new }
-    ensures first_heard { IsHeard (A.faults app.old) (A.faults app.new) result }
-    ensures second_heard { IsHeard (B.faults second.old) (B.faults second.new) result }
-    ensures first_within { IsAnswer (status_of result) → IsReadWithin TEXT_BYTES (A.left app.old) (A.left app.new) }
-    ensures second_within { IsLaterAnswer (status_of result) →
-        IsReadWithin TRACE_BYTES (B.left second.old) (B.left second.new) }
-{
-    let accepted = match read_accepted(alloc, app) {
-        Ok(accepted) => accepted,
-        Err(reply) => return reply,
-    };
-    audit_source(alloc, &accepted, second)
-}
-
-/// The reply to the trace that a source holds.
-fn audit_source<B: Source>(alloc: Global, app: &App, second: &mut B) -> Reply
+pub(crate) fn audit<S: Source>(alloc: Global, app: &App, source: &mut S) -> Reply
     requires { IsAccepted (app_of app.now) }
-    ensures answers { Gives (AnswersTrace (app_of app.now) (B.left second.old))
-        (Stops (Rose (B.faults second.old) (B.faults second.new))) result }
-    ensures heard { IsHeard (B.faults second.old) (B.faults second.new) result }
-    ensures within { IsLaterAnswer (status_of result) →
-        IsReadWithin TRACE_BYTES (B.left second.old) (B.left second.new) }
+    ensures { (first third : List ℕ) → IsApplication first (app_of app.now) →
+        let gave = given_by S.past source.old source.new in
+        Answers word.Audit (kind.Trace ∷ []) (inputs first gave third)
+        (Then gave (HasUse S.past S.left S.faults source.old source.new) No) result }
 {
-    let Ok(names) = app.names(alloc) else {
-        return Reply::Stop(Status::Memory);
-    };
-    let Ok(tables) = Tables::new(alloc, app) else {
-        return Reply::Stop(Status::Memory);
-    };
-    let code = tables.code(alloc, app);
-    let machine = tables.machine(&code);
-    audit_lines::<Brand, B>(alloc, &names, &machine, second)
-}
-
-/// The reply to the lines of a source, by Baker's machine on an application of these names.
-fn audit_lines<C: Chosen, B: Source>(
-    alloc: Global,
-    names: &Names,
-    machine: &Machine<'_>,
-    second: &mut B,
-) -> Reply
-    requires follows { IsMachine machine.now }
-    requires chosen { C.app ≡ Some (app_of machine.now.code.now.app.now) }
-    requires names { names.now ≡ names_of (app_of machine.now.code.now.app.now) }
-    ensures answers { Gives (AnswersTrace (app_of machine.now.code.now.app.now) (B.left second.old))
-        (Stops (Rose (B.faults second.old) (B.faults second.new))) result }
-    ensures heard { IsHeard (B.faults second.old) (B.faults second.new) result }
-    ensures within { IsLaterAnswer (status_of result) →
-        IsReadWithin TRACE_BYTES (B.left second.old) (B.left second.new) }
-{
-    let Ok(mut auditor) = Auditor::<C>::new(names, machine) else {
-        return Reply::Stop(Status::Memory);
-    };
-    match read_lines(alloc, second, TRACE_BYTES, &mut auditor) {
-        Ok(count) => audit_reply(alloc, &mut auditor, count),
-        Err(ReadFail::TooLong) => refuse_trace(alloc, TraceRefused::TooLong),
-        Err(ReadFail::Fault) => Reply::Stop(Status::Read),
-        Err(ReadFail::NoMemory) => Reply::Stop(Status::Memory),
+    match judge_source(alloc, app, source) {
+        Ok((Verdict::Yes, items)) => reply_number(alloc, Status::Done, b"yes ", items, b"\n"),
+        Ok((Verdict::No(number), _)) => reply_number(alloc, Status::No, b"no ", number, b"\n"),
+        Err(reply) => reply,
     }
 }
 
-/// The reply to a text whose lines came to an auditor, so many.
-fn audit_reply<C: Chosen>(alloc: Global, auditor: &mut Auditor<'_, C>, count: u32) -> Reply
-    requires follows { IsMachine auditor.old.machine.now }
-    requires few { count < 2 ^ 32 - 1 }
-    ensures { (app : tree.App) (text : List ℕ) → C.app ≡ Some app → length text ≤ TRACE_BYTES
-        → length (lines text) ≡ count
-        → HasAudited C.app auditor.old.names.now auditor.old.machine.now auditor.old.reader auditor.old.judge
-        auditor.old.refused (lines text)
-        → Replies (AnswersAudit app text) result }
+/// The verdict on the trace that a source holds, and how many items it has.
+fn judge_source<S: Source>(
+    alloc: Global,
+    app: &App,
+    source: &mut S,
+) -> Result<(Verdict, u64), Reply>
+    requires { IsAccepted (app_of app.now) }
+    ensures { (first : List ℕ) → IsApplication first (app_of app.now) →
+        let gave = given_by S.past source.old source.new in
+        Reads kind.Trace first gave (HasUse S.past S.left S.faults source.old source.new)
+        (λ told. IsJudgedText (app_of app.now) gave told.0 told.1) result }
 {
+    let Ok(names) = app.names(alloc) else {
+        return Err(Reply::Stop(Status::Memory));
+    };
+    let Ok(tables) = Tables::new(alloc, app) else {
+        return Err(Reply::Stop(Status::Memory));
+    };
+    let code = tables.code(alloc, app);
+    let machine = tables.machine(&code);
+    judge_lines::<Brand, S>(alloc, &names, &machine, source)
+}
+
+/// The verdict on the lines of a source, by Baker's machine on an application of these names, and how many items they
+/// have.
+fn judge_lines<C: Chosen, S: Source>(
+    alloc: Global,
+    names: &Names,
+    machine: &Machine<'_>,
+    source: &mut S,
+) -> Result<(Verdict, u64), Reply>
+    requires follows { IsMachine machine.now }
+    requires chosen { C.app ≡ Some (app_of machine.now.code.now.app.now) }
+    requires names { names.now ≡ names_of (app_of machine.now.code.now.app.now) }
+    ensures { (first : List ℕ) → let app = app_of machine.now.code.now.app.now in
+        IsApplication first app → let gave = given_by S.past source.old source.new in
+        Reads kind.Trace first gave (HasUse S.past S.left S.faults source.old source.new)
+        (λ told. IsJudgedText app gave told.0 told.1) result }
+{
+    let Ok(mut auditor) = Auditor::<C>::new(names, machine) else {
+        return Err(Reply::Stop(Status::Memory));
+    };
+    let count = match read_lines(alloc, source, TRACE_BYTES, &mut auditor) {
+        Ok(count) => count,
+        Err(ReadFail::TooLong) => return Err(refuse_trace(alloc, TraceRefused::TooLong)),
+        Err(ReadFail::Fault) => return Err(Reply::Stop(Status::Read)),
+        Err(ReadFail::NoMemory) => return Err(Reply::Stop(Status::Memory)),
+    };
     match auditor.end(count) {
-        Ok((Verdict::Yes, items)) => reply_number(alloc, Status::Done, b"yes ", items, b"\n"),
-        Ok((Verdict::No(number), _)) => reply_number(alloc, Status::No, b"no ", number, b"\n"),
-        Err(refusal) => refuse_trace(alloc, refusal),
+        Ok(told) => Ok(told),
+        Err(refusal) => Err(refuse_trace(alloc, refusal)),
     }
 }

@@ -1,11 +1,10 @@
-ghost use Rattle.std.specs.Prelude.{ℕ, List, Option};
-ghost use Rattle.rt_ids.specs.declared.limits.TheConstants.{TEXT_BYTES};
-ghost use Rattle.rt_outside.specs.Faults.{Rose};
+ghost use Rattle.std.specs.Prelude.{ℕ, List, [], ◌∷◌};
+ghost use Rattle.rt_top.specs.Kinds as kind;
 ghost use Rattle.rt_top.specs.Words as word;
-ghost use Rattle.rt_top.specs.Defined.{inputs, IsAnswer};
-ghost use Rattle.rt_top.specs.Reads.{IsReadWithin};
-ghost use Rattle.rt_top.specs.Inside.Decides.{Decides};
-ghost use Rattle.rt_top.specs.Inside.Replies.{status_of, IsHeard};
+ghost use Rattle.rt_top.specs.Defined.{inputs};
+ghost use Rattle.rt_top.specs.Reads.{given_by};
+ghost use Rattle.rt_top.specs.Inside.Decides.{Answers};
+ghost use Rattle.rt_top.specs.Inside.Using.{HasUse, No, Then};
 
 use crate::reading::read_tree;
 use crate::reply::{Reply, reply_of_text};
@@ -15,15 +14,13 @@ use rt_print::canonical;
 use std::alloc::Global;
 
 /// `fmt APP`: the canonical text of the application.
-pub(crate) fn fmt<A: Source>(alloc: Global, app: &mut A) -> Reply
-    ensures decides { (second third : Option (List ℕ)) → Decides word.Fmt (inputs (A.left app.old) second third)
-        (Rose (A.faults app.old) (A.faults app.new)) ⊥ result }
-    ensures heard { IsHeard (A.faults app.old) (A.faults app.new) result }
-    ensures within { IsAnswer (status_of result) → IsReadWithin TEXT_BYTES (A.left app.old) (A.left app.new) }
+pub(crate) fn fmt<S: Source>(alloc: Global, source: &mut S) -> Reply
+    ensures { (second third : List ℕ) → let gave = given_by S.past source.old source.new in
+        Answers word.Fmt (kind.Tree ∷ []) (inputs gave second third)
+        (Then gave (HasUse S.past S.left S.faults source.old source.new) No) result }
 {
-    let written = match read_tree(alloc, app) {
-        Ok(written) => written,
-        Err(reply) => return reply,
-    };
-    reply_of_text(Status::Done, canonical(alloc, &written.tree))
+    match read_tree(alloc, source) {
+        Ok(written) => reply_of_text(Status::Done, canonical(alloc, &written.tree)),
+        Err(reply) => reply,
+    }
 }

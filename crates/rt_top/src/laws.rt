@@ -1,7 +1,12 @@
 ghost use Rattle.rt_top.specs.Audited.{LivesAreAudited, PairsAreAudited, RunsAreAudited};
-ghost use Rattle.rt_top.specs.Laws.{OneStatusIsDue};
+ghost use Rattle.rt_top.specs.Laws.{OneOfEachKind, OneStatusIsDue};
 ghost use Rattle.rt_top.specs.OneImage.{LivesShowTheListing, OneListingIsBuilt, OneRunIsWritten, OneSoakIsWritten};
 ghost use Rattle.rt_top.specs.OneImage.{PairsShowTheListings, RunsShowTheListing};
+
+/// A text is of its kind or is refused, not both, whatever the kind.
+pub fn one_of_each_kind()
+    ensures { OneOfEachKind }
+{}
 
 /// No two statuses are due, whatever the command and the texts of its sources: a text that is refused has no tree or
 /// breaks a rule, and then nothing is its output.

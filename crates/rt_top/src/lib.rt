@@ -18,13 +18,15 @@ mod reading;
 mod refusal;
 mod reply;
 mod run;
-mod single;
 mod soak;
 mod start;
 mod times;
 pub mod top;
 mod verify;
 
-pub use laws::{one_status_is_due, what_is_written_is_audited, what_is_written_shows_one_image};
+pub use laws::{
+    one_of_each_kind, one_status_is_due, what_is_written_is_audited,
+    what_is_written_shows_one_image,
+};
 pub use rt_devices::{Gate, NoGate};
 pub use top::rtic;

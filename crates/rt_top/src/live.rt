@@ -1,7 +1,9 @@
-ghost use Rattle.std.specs.Prelude.{◌≡◌, ◌⊎◌, ◌++◌, [], ℕ, List, Option, OnOk, OnErr};
-ghost use Rattle.rt_ids.specs.declared.limits.TheConstants.{TEXT_BYTES, SCRIPT_BYTES};
+ghost use Rattle.std.specs.Prelude.{◌≡◌, ◌⊎◌, ◌++◌, ℕ, List, [], ◌∷◌, OnOk, OnErr};
+ghost use Rattle.rt_app.specs.Accepted.{IsAccepted};
+ghost use Rattle.rt_app.specs.View.{app_of};
+ghost use Rattle.rt_build.specs.Accepted.{IsApplication};
 ghost use Rattle.rt_outside.specs.Bytes.{Took, TookPrefix};
-ghost use Rattle.rt_outside.specs.Faults.{Rose, HasCause};
+ghost use Rattle.rt_outside.specs.Faults.{HasCause};
 ghost use Rattle.rt_code.specs.Lines.{HasLines};
 ghost use Rattle.rt_core.specs.Machine.{IsFresh};
 ghost use Rattle.rt_live.specs.Account.{declared_irqs};
@@ -9,15 +11,18 @@ ghost use Rattle.rt_live.specs.Output.{IsLiveText};
 ghost use Rattle.rt_live.specs.Ready.{irqs_of};
 ghost use Rattle.rt_script.specs.Script.{IsScript, HasNames};
 ghost use Rattle.rt_top.specs.Words as word;
-ghost use Rattle.rt_top.specs.Ends.{IsKept};
-ghost use Rattle.rt_top.specs.Defined.{inputs, IsFirstRefused, IsAnswer, IsLaterAnswer};
-ghost use Rattle.rt_top.specs.Reads.{IsReadWithin};
-ghost use Rattle.rt_top.specs.Inside.Decides.{Concludes, EndsAs};
+ghost use Rattle.rt_top.specs.Kinds as kind;
+ghost use Rattle.rt_top.specs.Defined.{inputs};
+ghost use Rattle.rt_top.specs.Reads.{given_by};
+ghost use Rattle.rt_top.specs.Inside.Decides.{Conducts, EndsAs};
 ghost use Rattle.rt_top.specs.Inside.Replies.{WantsMemory};
 ghost use Rattle.rt_top.specs.Inside.Started.{ShowsLive};
+ghost use Rattle.rt_top.specs.Inside.Using.{HasUse, No, Then};
 
+use crate::reply::finish;
 use crate::run::heading;
 use crate::start::start;
+use rt_app::App;
 use rt_core::Core;
 use rt_devices::Gate;
 use rt_ids::Status;
@@ -29,32 +34,24 @@ use std::thread::Threads;
 
 /// `live APP SCRIPT`: the listing of the application's image, and that image's trace beside the devices of the script,
 /// with their account.
-pub(crate) fn live<R: Threads + Sync, A: Source, B: Source, K: Sink + Send, G: Gate + Sync>(
+pub(crate) fn live<R: Threads + Sync, S: Source, K: Sink + Send, G: Gate + Sync>(
     rt: &R,
     alloc: Global,
-    app: &mut A,
-    second: &mut B,
+    app: &App,
+    source: &mut S,
     out: &mut K,
     gate: &G,
 ) -> Status
-    ensures concludes { (third : Option (List ℕ)) →
-        Concludes word.Live (inputs (A.left app.old) (B.left second.old) third)
-        (Rose (A.faults app.old) (A.faults app.new) × IsKept B.left B.faults second.old second.new)
-        (Rose (B.faults second.old) (B.faults second.new))
+    requires { IsAccepted (app_of app.now) }
+    ensures { (first third : List ℕ) → IsApplication first (app_of app.now) →
+        let gave = given_by S.past source.old source.new in
+        Conducts word.Live (kind.Script ∷ []) (inputs first gave third)
+        (Then gave (HasUse S.past S.left S.faults source.old source.new) No)
         (K.taken out.old) (K.taken out.new) (K.faults out.old) (K.faults out.new) result }
-    ensures kept { (third : Option (List ℕ)) →
-        IsFirstRefused word.Live (inputs (A.left app.old) (B.left second.old) third) →
-        IsKept B.left B.faults second.old second.new }
-    ensures first_heard { (A.faults app.new ≡ A.faults app.old) ⊎ (result ≡ Status.Read) }
-    ensures second_heard { (B.faults second.new ≡ B.faults second.old) ⊎ (result ≡ Status.Read) }
-    ensures first_within { IsAnswer result → IsReadWithin TEXT_BYTES (A.left app.old) (A.left app.new) }
-    ensures second_within { IsLaterAnswer result →
-        IsReadWithin SCRIPT_BYTES (B.left second.old) (B.left second.new) }
-    ensures sink_heard { (K.faults out.new ≡ K.faults out.old) ⊎ (result ≡ Status.Write) }
 {
-    match start(alloc, app, second, out) {
+    match start(alloc, app, source) {
         Ok((mut core, script)) => run_live(rt, alloc, &mut core, &script, out, gate),
-        Err(status) => status,
+        Err(reply) => finish(out, &reply),
     }
 }
 

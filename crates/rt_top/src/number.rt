@@ -1,4 +1,4 @@
-ghost use Rattle.std.specs.Prelude.{◌≤◌, ℕ, IfSome, IfNone};
+ghost use Rattle.std.specs.Prelude.{ℕ, IfSome, IfNone};
 ghost use Rattle.rt_top.specs.Words.{IsNumber};
 
 use rt_lines::all_digits;
@@ -8,8 +8,8 @@ const MOST_DIGITS: usize = 20;
 
 /// The number that a word of one to twenty decimal digits spells, where it is one of these.
 pub(crate) fn number_in(word: &str, least: u64, most: u64) -> Option<u64>
-    ensures some { IfSome result (λ n. IsNumber word.now n × (least ≤ n) × (n ≤ most)) }
-    ensures none { IfNone result ((n : ℕ) → IsNumber word.now n → least ≤ n → n ≤ most → ⊥) }
+    ensures some { IfSome result (λ n. IsNumber least most word.now n) }
+    ensures none { IfNone result ((n : ℕ) → ¬ IsNumber least most word.now n) }
 {
     if word.is_empty() || word.len() > MOST_DIGITS || !all_digits(word.as_bytes()) {
         return None;

@@ -1,20 +1,14 @@
-ghost use Rattle.std.specs.Prelude.{◌≡◌, ◌<◌, ◌-◌, ◌^◌, ◌⊎◌, ℕ, List, Some, true, Option, length, IfOk, IfErr, IfSome};
-ghost use Rattle.std.specs.Prelude.{IfNone, IsErrOf, OnOk};
-ghost use Rattle.rt_ids.specs.declared.limits.TheConstants.{TEXT_BYTES};
+ghost use Rattle.std.specs.Prelude.{◌≡◌, ◌<◌, ◌-◌, ◌^◌, ℕ, List, IfOk, IfErr};
 ghost use Rattle.rt_ids.specs.declared.status.Status.TheVariants as status;
-ghost use Rattle.rt_outside.specs.Faults.{Rose};
 ghost use Rattle.rt_ast.specs.View.{app_of};
 ghost use Rattle.rt_grammar.specs.Text.{IsText};
 ghost use Rattle.rt_app.specs.View as resolved;
 ghost use Rattle.rt_app.specs.Accepted.{IsAccepted};
 ghost use Rattle.rt_build.specs.Accepted.{KeepsRules, IsApplication};
-ghost use Rattle.rt_top.specs.Refusal.{RefusesText, RefusesApplication};
-ghost use Rattle.rt_top.specs.Words as word;
-ghost use Rattle.rt_top.specs.Ends.{IsKept};
-ghost use Rattle.rt_top.specs.Defined.{inputs, IsFirstRefused, IsAnswer, IsLaterAnswer};
-ghost use Rattle.rt_top.specs.Reads.{IsReadWithin};
-ghost use Rattle.rt_top.specs.Inside.Decides.{Tells, Stops, Halts, IsBrokenBy, Decides};
-ghost use Rattle.rt_top.specs.Inside.Replies.{IsHeardIn, status_of, WhereAnswered};
+ghost use Rattle.rt_top.specs.Kinds as kind;
+ghost use Rattle.rt_top.specs.Reads.{given_by};
+ghost use Rattle.rt_top.specs.Inside.Decides.{Tells, IsBrokenBy};
+ghost use Rattle.rt_top.specs.Inside.Using.{HasUse, Reads, ReadsBytes};
 
 use crate::reply::{Reply, of_second, refuse};
 use rt_app::App;
@@ -39,21 +33,34 @@ pub(crate) struct Written {
     pub(crate) tree: AppTree,
 }
 
-/// Reads the tree of the application.
-pub(crate) fn read_tree<A: Source>(alloc: Global, app: &mut A) -> Result<Written, Reply>
-    ensures read { IfOk result (λ read. IsText read.text.items (app_of read.tree)) }
-    ensures same { (text : List ℕ) → A.left app.old ≡ Some text → IfOk result (λ read. read.text.items ≡ text) }
-    ensures text { (text : List ℕ) → A.left app.old ≡ Some text → IfOk result (λ read. IsText text (app_of read.tree)) }
-    ensures halts { IfErr result (Halts (A.left app.old) RefusesText (Rose (A.faults app.old) (A.faults app.new))) }
-    ensures heard { IsHeardIn (A.faults app.old) (A.faults app.new) result }
-    ensures within { WhereAnswered (λ r. IsAnswer (status_of r))
-        (IsReadWithin TEXT_BYTES (A.left app.old) (A.left app.new)) result }
+/// Reads the bytes of a source, None where it has more than the limit. An error is the status to end with.
+pub(crate) fn read_within<S: Source>(
+    alloc: Global,
+    source: &mut S,
+    limit: u32,
+) -> Result<Option<Vec<u8>>, Status>
+    requires { limit < 2 ^ 32 - 1 }
+    ensures { ReadsBytes limit (given_by S.past source.old source.new)
+        (HasUse S.past S.left S.faults source.old source.new) result }
 {
-    let text = match read_text(alloc, app, TEXT_BYTES) {
-        Ok(text) => text,
-        Err(ReadFail::TooLong) => return Err(refuse(alloc, TOO_LONG)),
-        Err(ReadFail::Fault) => return Err(Reply::Stop(Status::Read)),
-        Err(ReadFail::NoMemory) => return Err(Reply::Stop(Status::Memory)),
+    match read_text(alloc, source, limit) {
+        Ok(text) => Ok(Some(text)),
+        Err(ReadFail::TooLong) => Ok(None),
+        Err(ReadFail::Fault) => Err(Status::Read),
+        Err(ReadFail::NoMemory) => Err(Status::Memory),
+    }
+}
+
+/// Reads the tree of an application.
+pub(crate) fn read_tree<S: Source>(alloc: Global, source: &mut S) -> Result<Written, Reply>
+    ensures { let gave = given_by S.past source.old source.new in
+        Reads kind.Tree gave gave (HasUse S.past S.left S.faults source.old source.new)
+        (λ written. IsText written.text.items (app_of written.tree) × (written.text.items ≡ gave)) result }
+{
+    let text = match read_within(alloc, source, TEXT_BYTES) {
+        Ok(Some(text)) => text,
+        Ok(None) => return Err(refuse(alloc, TOO_LONG)),
+        Err(status) => return Err(Reply::Stop(status)),
     };
     match parse(alloc, &text) {
         Ok(tree) => Ok(Written { text, tree }),
@@ -76,85 +83,26 @@ fn judged_app(alloc: Global, written: &Written) -> Result<App, Reply>
     }
 }
 
-/// Reads the application, where it breaks no rule.
-pub(crate) fn read_accepted<A: Source>(alloc: Global, app: &mut A) -> Result<App, Reply>
-    ensures accepted { (text : List ℕ) → A.left app.old ≡ Some text →
-        IfOk result (λ app. IsApplication text (resolved.app_of app)) }
+/// Reads an application, where it breaks no rule.
+pub(crate) fn read_accepted<S: Source>(alloc: Global, source: &mut S) -> Result<App, Reply>
+    ensures reads { let gave = given_by S.past source.old source.new in
+        Reads kind.Application gave gave (HasUse S.past S.left S.faults source.old source.new)
+        (λ app. IsApplication gave (resolved.app_of app)) result }
     ensures kept { IfOk result (λ app. IsAccepted (resolved.app_of app)) }
-    ensures halts { IfErr result (Halts (A.left app.old) RefusesApplication
-        (Rose (A.faults app.old) (A.faults app.new))) }
-    ensures heard { IsHeardIn (A.faults app.old) (A.faults app.new) result }
-    ensures within { WhereAnswered (λ r. IsAnswer (status_of r))
-        (IsReadWithin TEXT_BYTES (A.left app.old) (A.left app.new)) result }
 {
-    match read_tree(alloc, app) {
-        Ok(written) => judged_app(alloc, &written),
-        Err(reply) => Err(reply),
-    }
+    let written = read_tree(alloc, source)?;
+    judged_app(alloc, &written)
 }
 
-/// Two applications.
-#[derive(Drop)]
-pub(crate) struct Both {
-    pub(crate) first: App,
-    pub(crate) second: App,
-}
-
-/// Reads two applications, the second where the first breaks no rule.
-pub(crate) fn read_both<A: Source, B: Source>(
-    alloc: Global,
-    app: &mut A,
-    second: &mut B,
-) -> Result<Both, Reply>
-    ensures first { (text : List ℕ) → A.left app.old ≡ Some text →
-        IfOk result (λ both. IsApplication text (resolved.app_of both.first)) }
-    ensures second { (text : List ℕ) → B.left second.old ≡ Some text →
-        IfOk result (λ both. IsApplication text (resolved.app_of both.second)) }
-    ensures first_accepted { IfOk result (λ both. IsAccepted (resolved.app_of both.first)) }
-    ensures second_accepted { IfOk result (λ both. IsAccepted (resolved.app_of both.second)) }
-    ensures decides { (third : Option (List ℕ)) →
-        IfErr result (Decides word.Pair (inputs (A.left app.old) (B.left second.old) third)
-        (Rose (A.faults app.old) (A.faults app.new) × IsKept B.left B.faults second.old second.new)
-        (Rose (B.faults second.old) (B.faults second.new))) }
-    ensures kept { (third : Option (List ℕ)) →
-        IsFirstRefused word.Pair (inputs (A.left app.old) (B.left second.old) third) →
-        IsKept B.left B.faults second.old second.new }
-    ensures first_heard { IsHeardIn (A.faults app.old) (A.faults app.new) result }
-    ensures second_heard { IsHeardIn (B.faults second.old) (B.faults second.new) result }
-    ensures first_within { WhereAnswered (λ r. IsAnswer (status_of r))
-        (IsReadWithin TEXT_BYTES (A.left app.old) (A.left app.new)) result }
-    ensures second_within { OnOk result (IsReadWithin TEXT_BYTES (B.left second.old) (B.left second.new)) }
-    ensures refuses { IfErr result (λ r. ¬ IsLaterAnswer (status_of r)) }
+/// Reads a second application, likewise; its refusal says that it is of the second.
+pub(crate) fn read_other<S: Source>(alloc: Global, source: &mut S) -> Result<App, Reply>
+    ensures reads { (first : List ℕ) → let gave = given_by S.past source.old source.new in
+        Reads kind.OtherApplication first gave (HasUse S.past S.left S.faults source.old source.new)
+        (λ app. IsApplication gave (resolved.app_of app)) result }
+    ensures kept { IfOk result (λ app. IsAccepted (resolved.app_of app)) }
 {
-    let first = match read_accepted(alloc, app) {
-        Ok(first) => first,
-        Err(reply) => return Err(reply),
-    };
-    match read_accepted(alloc, second) {
-        Ok(second) => Ok(Both { first, second }),
+    match read_accepted(alloc, source) {
+        Ok(app) => Ok(app),
         Err(reply) => Err(of_second(alloc, reply)),
-    }
-}
-
-/// Reads the text of a source, None where it has more bytes than the limit. An error is the status to end with.
-pub(crate) fn read_within<S: Source>(
-    alloc: Global,
-    source: &mut S,
-    limit: u32,
-) -> Result<Option<Vec<u8>>, Status>
-    requires { limit < 2 ^ 32 - 1 }
-    ensures whole { (text : List ℕ) → S.left source.old ≡ Some text →
-        IfOk result (λ read. IfSome read (λ own. own.items ≡ text)) }
-    ensures long { (text : List ℕ) → S.left source.old ≡ Some text →
-        IfOk result (λ read. IfNone read (limit < length text)) }
-    ensures err { IfErr result (Stops (Rose (S.faults source.old) (S.faults source.new))) }
-    ensures heard { (S.faults source.new ≡ S.faults source.old) ⊎ IsErrOf result Status.Read }
-    ensures within { OnOk result (IsReadWithin limit (S.left source.old) (S.left source.new)) }
-{
-    match read_text(alloc, source, limit) {
-        Ok(text) => Ok(Some(text)),
-        Err(ReadFail::TooLong) => Ok(None),
-        Err(ReadFail::Fault) => Err(Status::Read),
-        Err(ReadFail::NoMemory) => Err(Status::Memory),
     }
 }

@@ -1,13 +1,11 @@
-ghost use Rattle.std.specs.Prelude.{◌≡◌, ◌≤◌, ◌⊎◌, ℕ, List, [], Option};
-ghost use Rattle.rt_ids.specs.declared.limits.TheConstants.{SCRIPT_BYTES};
+ghost use Rattle.std.specs.Prelude.{◌≡◌, ◌≤◌, ◌⊎◌, [], length};
 ghost use Rattle.rt_outside.specs.Faults.{Rose};
 ghost use Rattle.rt_outside.specs.Bytes.{Took};
-ghost use Rattle.rt_top.specs.Words.{Command, texts, Names, IsCommand, reads, usage_line};
-ghost use Rattle.rt_top.specs.Defined.{inputs, IsDue, IsAnswer, IsLaterAnswer, IsApplicationRefused, AreTold};
-ghost use Rattle.rt_top.specs.Defined.{AreReadTold};
-ghost use Rattle.rt_top.specs.Defined.{SkipsFirst, SkipsSecond, SkipsThird, WroteAll, WrotePart};
+ghost use Rattle.rt_top.specs.Words.{Command, texts, Names, IsCommand, usage_line};
+ghost use Rattle.rt_top.specs.Kinds.{Kind, kinds_of, most_bytes};
+ghost use Rattle.rt_top.specs.Defined.{inputs, IsDue, IsAnswer, Skips, ComesTo, WroteAll, WrotePart};
 ghost use Rattle.rt_top.specs.Ends.{Wrote, IsKept};
-ghost use Rattle.rt_top.specs.Reads.{IsReadWithin, first_limit, second_limit};
+ghost use Rattle.rt_top.specs.Reads.{given_by, IsReadWithin};
 
 use crate::command::command_of;
 use crate::decide::decide;
@@ -27,9 +25,9 @@ const USAGE: &[u8] =
 /// Runs the command that the words name, and answers its status. `app` is the source of the application, of `verify`
 /// that of the listing; `second` is that of the script, the trace or the limits. `pair` has its second application in
 /// `second` and its script in `third`, which no other command reads. All that is written goes to `out`. `rt` starts the
-/// threads of `live`, `soak` and `pair`; `gate` is a seam for tests. What is written is promised for sources and a sink
-/// that tell their bytes; where they tell nothing, as files and standard output do, only the clauses on faults and
-/// statuses say anything. The statuses are those of `Status`, whose numbers are the exit statuses.
+/// threads of `live`, `soak` and `pair`; `gate` is a seam for tests. What is written is promised of the texts that the
+/// sources have given in this call, whatever they are: files, or memory. The statuses are those of `Status`, whose
+/// numbers are the exit statuses.
 pub fn rtic<R: Threads + Sync, A: Source, B: Source, C: Source, K: Sink + Send, G: Gate + Sync>(
     rt: &R,
     alloc: Global,
@@ -40,7 +38,7 @@ pub fn rtic<R: Threads + Sync, A: Source, B: Source, C: Source, K: Sink + Send, 
     out: &mut K,
     gate: &G,
 ) -> Status
-    // With an answer all that is defined was written, and nothing else.
+    // With an answer all that is defined for the texts that were given was written, and nothing else.
     //
     // At `Done`, `build` has written the listing of an image of the application, and `run` that and the image's trace
     // on the model of an ARMv7-M core under the script's events. No other good image of the application has this
@@ -72,12 +70,15 @@ pub fn rtic<R: Threads + Sync, A: Source, B: Source, C: Source, K: Sink + Send, 
     // cores, the listing of an image of its application, and that image's trace beside the other core, with an account
     // of the other core's requests; of each image all holds that `run` promises of its own.
     ensures answered { (c : Command) → Names (texts words.now) c → IsAnswer result →
-        let t = inputs (A.left app.old) (B.left second.old) (C.left third.old) in
-        AreReadTold c t result → WroteAll c t result (K.taken out.old) (K.taken out.new) }
+        let t = inputs (given_by A.past app.old app.new) (given_by B.past second.old second.new)
+        (given_by C.past third.old third.new) in
+        WroteAll c t result (K.taken out.old) (K.taken out.new) }
 
     // Where nothing failed, the status is the one that is due, or memory was wanted.
     ensures complete { (c : Command) (due : Status) → Names (texts words.now) c →
-        IsDue c (inputs (A.left app.old) (B.left second.old) (C.left third.old)) due →
+        let t = inputs (given_by A.past app.old app.new) (given_by B.past second.old second.new)
+        (given_by C.past third.old third.new) in
+        IsDue c t due →
         ¬ Rose (A.faults app.old) (A.faults app.new) → ¬ Rose (B.faults second.old) (B.faults second.new) →
         ¬ Rose (C.faults third.old) (C.faults third.new) → ¬ Rose (K.faults out.old) (K.faults out.new) →
         (result ≡ due) ⊎ (result ≡ Status.Memory) }
@@ -88,31 +89,39 @@ pub fn rtic<R: Threads + Sync, A: Source, B: Source, C: Source, K: Sink + Send, 
         Status.Usage result usage_line }
     ensures no_usage { result ≡ Status.Usage → ¬ IsCommand (texts words.now) }
 
-    // A source that the command does not come to keeps what it has, whatever the status.
-    ensures first_unread { SkipsFirst (texts words.now) → IsKept A.left A.faults app.old app.new }
-    ensures second_unread { SkipsSecond (texts words.now)
-        (inputs (A.left app.old) (B.left second.old) (C.left third.old)) →
-        IsKept B.left B.faults second.old second.new }
-    ensures third_unread { SkipsThird (texts words.now)
-        (inputs (A.left app.old) (B.left second.old) (C.left third.old)) →
-        IsKept C.left C.faults third.old third.new }
+    // A source that the command does not come to gives nothing and keeps what it has, whatever the status.
+    ensures first_unread { let t = inputs (given_by A.past app.old app.new) (given_by B.past second.old second.new)
+        (given_by C.past third.old third.new) in
+        Skips 0 (texts words.now) t → IsKept A.past A.left A.faults app.old app.new }
+    ensures second_unread { let t = inputs (given_by A.past app.old app.new) (given_by B.past second.old second.new)
+        (given_by C.past third.old third.new) in
+        Skips 1 (texts words.now) t → IsKept B.past B.left B.faults second.old second.new }
+    ensures third_unread { let t = inputs (given_by A.past app.old app.new) (given_by B.past second.old second.new)
+        (given_by C.past third.old third.new) in
+        Skips 2 (texts words.now) t → IsKept C.past C.left C.faults third.old third.new }
 
-    // With an answer each source that the command came to was read to its end, or up to one byte more than its text may
-    // have. After the refusal of an application this is said of the first source alone.
-    ensures first_read { (c : Command) → Names (texts words.now) c → 1 ≤ reads c → IsAnswer result →
-        IsReadWithin (first_limit c) (A.left app.old) (A.left app.new) }
-    ensures second_read { (c : Command) → Names (texts words.now) c → 2 ≤ reads c → IsLaterAnswer result →
-        IsReadWithin (second_limit c) (B.left second.old) (B.left second.new) }
-    ensures third_read { (c : Command) → Names (texts words.now) c → 3 ≤ reads c → IsLaterAnswer result →
-        IsReadWithin SCRIPT_BYTES (C.left third.old) (C.left third.new) }
+    // With an answer each source that the command comes to was read to its end, or up to one byte more than its text
+    // may have.
+    ensures first_read { (c : Command) (kind : Kind) → Names (texts words.now) c →
+        let t = inputs (given_by A.past app.old app.new) (given_by B.past second.old second.new)
+        (given_by C.past third.old third.new) in
+        ComesTo 0 c t kind → IsAnswer result → IsReadWithin (most_bytes kind) A.past A.left app.old app.new }
+    ensures second_read { (c : Command) (kind : Kind) → Names (texts words.now) c →
+        let t = inputs (given_by A.past app.old app.new) (given_by B.past second.old second.new)
+        (given_by C.past third.old third.new) in
+        ComesTo 1 c t kind → IsAnswer result → IsReadWithin (most_bytes kind) B.past B.left second.old second.new }
+    ensures third_read { (c : Command) (kind : Kind) → Names (texts words.now) c →
+        let t = inputs (given_by A.past app.old app.new) (given_by B.past second.old second.new)
+        (given_by C.past third.old third.new) in
+        ComesTo 2 c t kind → IsAnswer result → IsReadWithin (most_bytes kind) C.past C.left third.old third.new }
 
     // A source that the command reads failed, and then no source after it was read and nothing was written.
     ensures read { result ≡ Status.Read → (c : Command) × Names (texts words.now) c
-        × (((1 ≤ reads c) × Rose (A.faults app.old) (A.faults app.new)
-        × IsKept B.left B.faults second.old second.new × IsKept C.left C.faults third.old third.new)
-        ⊎ ((2 ≤ reads c) × Rose (B.faults second.old) (B.faults second.new)
-        × IsKept C.left C.faults third.old third.new)
-        ⊎ ((3 ≤ reads c) × Rose (C.faults third.old) (C.faults third.new))) }
+        × (((1 ≤ length (kinds_of c)) × Rose (A.faults app.old) (A.faults app.new)
+        × IsKept B.past B.left B.faults second.old second.new × IsKept C.past C.left C.faults third.old third.new)
+        ⊎ ((2 ≤ length (kinds_of c)) × Rose (B.faults second.old) (B.faults second.new)
+        × IsKept C.past C.left C.faults third.old third.new)
+        ⊎ ((3 ≤ length (kinds_of c)) × Rose (C.faults third.old) (C.faults third.new))) }
     ensures silent { (result ≡ Status.Read) ⊎ (result ≡ Status.Memory) → Took (K.taken out.old) (K.taken out.new) [] }
 
     // A fault is told: where one came, the status says so.
@@ -124,8 +133,9 @@ pub fn rtic<R: Threads + Sync, A: Source, B: Source, C: Source, K: Sink + Send, 
     // The sink failed, having taken a beginning of what is defined.
     ensures write { result ≡ Status.Write → Rose (K.faults out.old) (K.faults out.new) }
     ensures part { (c : Command) → Names (texts words.now) c → result ≡ Status.Write →
-        let t = inputs (A.left app.old) (B.left second.old) (C.left third.old) in
-        AreTold c t ⊎ IsApplicationRefused c t → WrotePart c t (K.taken out.old) (K.taken out.new) }
+        let t = inputs (given_by A.past app.old app.new) (given_by B.past second.old second.new)
+        (given_by C.past third.old third.new) in
+        WrotePart c t (K.taken out.old) (K.taken out.new) }
 {
     match command_of(words) {
         Some(command) => decide(rt, alloc, command, app, second, third, out, gate),

@@ -1,13 +1,14 @@
-ghost use Rattle.std.specs.Prelude.{◌≡◌, ℕ, List, Option};
-ghost use Rattle.rt_outside.specs.Faults.{Rose};
+ghost use Rattle.std.specs.Prelude.{ℕ, List, [], ◌∷◌, IfOk};
 ghost use Rattle.rt_load.specs.Loadable.{IsLoadable};
-ghost use Rattle.rt_load.specs.declared.refusal.TheConstants.{IMAGE_BYTES};
+ghost use Rattle.rt_load.specs.Reading.{IsListingText};
+ghost use Rattle.rt_top.specs.Kinds as kind;
 ghost use Rattle.rt_top.specs.Words as word;
-ghost use Rattle.rt_top.specs.Defined.{inputs, IsAnswer};
-ghost use Rattle.rt_top.specs.Reads.{IsReadWithin};
-ghost use Rattle.rt_top.specs.Verified.{IsVerified, TellsImage};
-ghost use Rattle.rt_top.specs.Inside.Decides.{Decides};
-ghost use Rattle.rt_top.specs.Inside.Replies.{status_of, IsHeard, Replies};
+ghost use Rattle.rt_top.specs.Defined.{inputs};
+ghost use Rattle.rt_top.specs.Reads.{given_by};
+ghost use Rattle.rt_top.specs.Verified.{TellsImage};
+ghost use Rattle.rt_top.specs.Inside.Decides.{Answers};
+ghost use Rattle.rt_top.specs.Inside.Replies.{Replies};
+ghost use Rattle.rt_top.specs.Inside.Using.{HasUse, No, Reads, Then};
 
 use crate::reading::read_within;
 use crate::reply::{Reply, line, refuse_image, reply_number};
@@ -19,26 +20,32 @@ use std::alloc::Global;
 
 /// `verify IMAGE`: whether the image of a listing, whatever made it, keeps the rules by which it is safe, and else the
 /// least rule that it breaks.
-pub(crate) fn verify<A: Source>(alloc: Global, image: &mut A) -> Reply
-    ensures decides { (second third : Option (List ℕ)) → Decides word.Verify (inputs (A.left image.old) second third)
-        (Rose (A.faults image.old) (A.faults image.new)) ⊥ result }
-    ensures heard { IsHeard (A.faults image.old) (A.faults image.new) result }
-    ensures within { IsAnswer (status_of result) → IsReadWithin IMAGE_BYTES (A.left image.old) (A.left image.new) }
+pub(crate) fn verify<S: Source>(alloc: Global, source: &mut S) -> Reply
+    ensures { (second third : List ℕ) → let gave = given_by S.past source.old source.new in
+        Answers word.Verify (kind.Listing ∷ []) (inputs gave second third)
+        (Then gave (HasUse S.past S.left S.faults source.old source.new) No) result }
 {
-    match read_within(alloc, image, IMAGE_BYTES) {
-        Ok(Some(text)) => verify_reply(alloc, &text),
-        Ok(None) => refuse_image(alloc, LoadRefused::TooLong),
-        Err(status) => Reply::Stop(status),
+    match read_listing(alloc, source) {
+        Ok(image) => image_reply(alloc, &image),
+        Err(reply) => reply,
     }
 }
 
-/// The reply to the text of a listing.
-fn verify_reply(alloc: Global, text: &[u8]) -> Reply
-    ensures { Replies (IsVerified text.now) result }
+/// Reads the image of a listing.
+fn read_listing<S: Source>(alloc: Global, source: &mut S) -> Result<Image, Reply>
+    ensures reads { let gave = given_by S.past source.old source.new in
+        Reads kind.Listing gave gave (HasUse S.past S.left S.faults source.old source.new)
+        (λ image. IsListingText gave image) result }
+    ensures loadable { IfOk result (λ image. IsLoadable image) }
 {
-    match load(alloc, text) {
-        Ok(image) => image_reply(alloc, &image),
-        Err(refusal) => refuse_image(alloc, refusal),
+    let text = match read_within(alloc, source, IMAGE_BYTES) {
+        Ok(Some(text)) => text,
+        Ok(None) => return Err(refuse_image(alloc, LoadRefused::TooLong)),
+        Err(status) => return Err(Reply::Stop(status)),
+    };
+    match load(alloc, &text) {
+        Ok(image) => Ok(image),
+        Err(refusal) => Err(refuse_image(alloc, refusal)),
     }
 }
 

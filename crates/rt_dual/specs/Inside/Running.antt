@@ -1,5 +1,5 @@
 -- How far the turns of a core of a pair have come.
-use Rattle.std.specs.Prelude.{◌≡◌, ℕ, ◌+◌, ◌-◌, ◌*◌, ◌^◌, ◌<◌, ◌≤◌, List, ◌++◌, flat_map, length, Some}
+use Rattle.std.specs.Prelude.{◌≡◌, ℕ, ◌+◌, ◌-◌, ◌*◌, ◌^◌, ◌<◌, ◌≤◌, List, ◌++◌, flat_map, length}
 use Rattle.std.specs.List.{AllByRecursion}
 use Rattle.rt_core.specs.Machine.{Machine}
 use Rattle.rt_ids.specs.Event.{Event}
@@ -32,7 +32,7 @@ pub record Runs (ts : List Turn) (a b : Machine) (old new : Side) : Type 0 where
   pub whole : AllByRecursion IsWholeLook found
   pub declared : AllByRecursion (FindsDeclared a.image.names) found
   pub latched : new.line.calls ≡ old.line.calls ++ flat_map look_calls found
-  pub sends : Sends (interleaving ts found) a b (Some old.trace.bytes.items) (Some new.trace.bytes.items)
+  pub sends : Sends (interleaving ts found) a b old.trace.bytes.items new.trace.bytes.items
   pub forwards : Forwards (irqs_routed old.routes (shown_items a (interleaving ts found))) old.bell new.bell
   pub few : length new.bell.calls ≤ length old.bell.calls + length ts
   pub line : IsSameLine old.line new.line

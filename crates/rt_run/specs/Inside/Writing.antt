@@ -51,14 +51,13 @@ abbrev pub HasRoom : List ℕ → Type 0
 HasRoom held = length held + LINE_BYTES ≤ BUFFER_BYTES
 
 -- Bytes were written: those that were held, and these behind them, were taken in front and are held behind.
-pub record Wrote (before after : Option (List ℕ)) (held kept bytes : List ℕ) : Type 0 where
+pub record Wrote (before after : List ℕ) (held kept bytes : List ℕ) : Type 0 where
   pub front : List ℕ
   pub took : Took before after front
   pub parts : held ++ bytes ≡ front ++ kept
 
 -- these events lead from the old machine to the new one, each item that they show has a line, and these were written
-pub record Writes (events : List Event) (old new : Machine) (before after : Option (List ℕ)) (held kept : List ℕ)
-    : Type 0 where
+pub record Writes (events : List Event) (old new : Machine) (before after : List ℕ) (held kept : List ℕ) : Type 0 where
   pub leads : Leads events old new
   pub lined : AllByRecursion (HasLine old.image.names) (shown_items old events)
   pub wrote : Wrote before after held kept (lines_of old events)
@@ -66,8 +65,7 @@ pub record Writes (events : List Event) (old new : Machine) (before after : Opti
 -- A fault came: the first of these events lead from the old machine to the new one, and a beginning of what was held
 -- and of their lines was taken. The last of them shows an item, and what was held and the lines of those before it were
 -- taken but for a buffer.
-pub record Cut (events : List Event) (old new : Machine) (before after : Option (List ℕ)) (held : List ℕ)
-    : Type 0 where
+pub record Cut (events : List Event) (old new : Machine) (before after : List ℕ) (held : List ℕ) : Type 0 where
   pub done : List Event
   pub rest : List Event
   pub parts : events ≡ done ++ rest

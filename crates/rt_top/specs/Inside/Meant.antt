@@ -1,5 +1,5 @@
--- The commands of the code, as those of the definitions, and words that are a verb with so many after it.
-use Rattle.std.specs.Prelude.{◌≡◌, ℕ, ◌<◌, ◌≤◌, ◌^◌, List, [], ◌∷◌}
+-- The commands of the code, as those of the definitions.
+use Rattle.std.specs.Prelude.{◌<◌, ◌≤◌, ◌^◌}
 use Rattle.rt_top.specs.Words as word
 use Rattle.rt_top.specs.declared.command.Command.{Command}
 use Rattle.rt_top.specs.declared.command.Command.TheVariants as command
@@ -25,15 +25,3 @@ IsInRange (word.Soak number count workers) =
     (number < 2 ^ 64) × (1 ≤ count) × (count ≤ 10000) × (1 ≤ workers) × (workers ≤ 64)
 IsInRange (word.Demo n) = (1 ≤ n) × (n ≤ 48)
 IsInRange other = Unit {0}
-
--- the words are this verb and one after it
-abbrev pub IsVerbWithOne : List (List ℕ) → List ℕ → Type 0
-IsVerbWithOne words verb = (one : List ℕ) × (words ≡ verb ∷ one ∷ [])
-
--- the words are this verb and two after it
-abbrev pub IsVerbWithTwo : List (List ℕ) → List ℕ → Type 0
-IsVerbWithTwo words verb = (one two : List ℕ) × (words ≡ verb ∷ one ∷ two ∷ [])
-
--- the words are this verb and three after it
-abbrev pub IsVerbWithThree : List (List ℕ) → List ℕ → Type 0
-IsVerbWithThree words verb = (one two three : List ℕ) × (words ≡ verb ∷ one ∷ two ∷ three ∷ [])

@@ -2,16 +2,13 @@
 use Rattle.std.specs.Prelude.{◌≡◌, ℕ, List, ◌++◌, codes}
 use Rattle.rt_ids.specs.declared.status.Status.{Status}
 use Rattle.rt_ids.specs.declared.status.Status.TheVariants as status
-use Rattle.rt_app.specs.Names.{names_of}
 use Rattle.rt_app.specs.Tree.{App}
 use Rattle.rt_code.specs.Image.{Image}
 use Rattle.rt_dual.specs.Output.{IsPairText}
 use Rattle.rt_listing.specs.Numbers.{HasTypedNumbers}
-use Rattle.rt_script.specs.Text.{IsScriptText}
 use Rattle.rt_script.specs.declared.line.Line.{Line}
 use Rattle.rt_top.specs.Inside.Replies.{Replies}
 use Rattle.rt_top.specs.Outputs.{IsGoodOf}
-use Rattle.rt_top.specs.Inside.Started.{AnswersRefusal}
 use Rattle.rt_top.specs.declared.reply.Reply.{Reply}
 use Rattle.rt_top.specs.declared.reply.Reply.TheVariants as reply
 
@@ -29,11 +26,3 @@ pub record ShowsPair (image : Image) (other : App) (asked : List Line) (ended : 
   pub first_numbers : HasTypedNumbers image
   pub second_numbers : HasTypedNumbers second
   pub is : IsPairText image second asked bytes
-
--- what `pair` says of two applications and the text of a script
-pub data AnswersPair (first other : App) (last : List ℕ) : Status → List ℕ → Type 0 where
-  refused_script : (ended : Status) (line : List ℕ) → AnswersRefusal first last ended line
-      → AnswersPair first other last ended line
-  shown : (image : Image) (asked : List Line) (ended : Status) (bytes : List ℕ) → IsGoodOf first image
-      → IsScriptText (names_of first) last asked → ShowsPair image other asked ended bytes
-      → AnswersPair first other last ended bytes

@@ -1,6 +1,5 @@
-use Rattle.std.proofs.Common.{◌≡◌, suc, List, ℕ, [], ◌∷◌, Some, ap, sym, subst, ◌∙◌, arith}
+use Rattle.std.proofs.Common.{◌≡◌, suc, List, ℕ, ap, sym, subst, ◌∙◌, arith}
 use Rattle.rt_lemmas.proofs.Results.{on_err_from}
-use Rattle.rt_ids.specs.Event.{Step}
 use Rattle.rt_ids.specs.Names.{Names}
 use Rattle.rt_code.specs.Image.{Image}
 use Rattle.rt_outside.specs.Bytes.{Took}
@@ -31,9 +30,9 @@ returns-in_default-clause-ok c =
       leads = step_leads core c.step.new.self c.step.ensures.state;
       lined = silent_lined core c.step.result c.step.ensures.item c.in_default.is;
       took =
-          subst (Took (Some kept) (Some kept))
+          subst (Took kept kept)
           (sym (silent_lines core c.step.result c.step.ensures.item c.in_default.is))
-          (took_none (Some kept));
+          (took_none kept);
     }
 
 pub returns-clause-ok : goal.returns-clause-ok
@@ -56,7 +55,7 @@ returns-clause-ok c =
             operands = operands c.behind-core.inside.names c.in-Some.what words c.numbers_fit.ensures;
           });
       took =
-          subst (Took (Some kept) (Some after))
+          subst (Took kept after)
           (c.as_slice.ensures.value ∙ c.line-text.ensures
           ∙ sym (step_lines core c.behind-core.inside.names c.step.result c.in-Some.what c.steps-step.result named
           c.step.ensures.item c.in-Some.is counted))

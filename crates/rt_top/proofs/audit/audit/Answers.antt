@@ -1,51 +1,43 @@
-use Rattle.std.proofs.Common.{refl, arith}
-use Rattle.rt_outside.specs.Faults.{Rose}
+use Rattle.std.proofs.Common.{subst}
 use Rattle.rt_app.specs.View.{app_of}
-use Rattle.rt_top.specs.Words.{Audit}
-use Rattle.rt_top.specs.Refusal.{RefusesApplication}
-use Rattle.rt_top.specs.Ends.{IsKept}
+use Rattle.rt_baker.specs.declared.verdict.Verdict.{Verdict}
 use Rattle.rt_top.specs.Defined.{inputs}
-use Rattle.rt_top.specs.Inside.Decides.{Stops, AnswersTrace, IsDecided, HasFailed}
-use Rattle.rt_top.proofs.Deciding.{halts_decides, stops_decides, audit_passes, trace_decided}
-use Rattle.rt_top.proofs.Giving.{gives_as}
-use Rattle.rt_top.proofs.Within.{halts_not_later}
+use Rattle.rt_top.specs.Inside.Auditor.{IsJudgedText}
+use Rattle.rt_top.specs.Kinds as kind
+use Rattle.rt_top.specs.Reads.{given_by}
+use Rattle.rt_top.specs.Words.{Audit}
+use Rattle.rt_top.proofs.Conducting.{answers_behind, refused_answers, replies_answers}
+use Rattle.rt_top.proofs.Deciding.{judged_yes, judged_no}
 use Rattle.rt_top.proofs.audit.audit.Goals as goal
 
-pub returns-in-Err-clause-decides : goal.returns-in-Err-clause-decides
-returns-in-Err-clause-decides g c third =
-    halts_decides Audit (inputs (g.A.Source.left c.args.app.now) (g.B.Source.left c.args.second.now) third)
-    (omega arith) RefusesApplication (λ text line r. r)
-    (Rose (g.A.Source.faults c.args.app.now) (g.A.Source.faults c.read_accepted.new.app))
-    (Rose (g.A.Source.faults c.args.app.now) (g.A.Source.faults c.read_accepted.new.app)
-    × IsKept g.B.Source.left g.B.Source.faults c.args.second.now c.args.second.now)
-    (Rose (g.B.Source.faults c.args.second.now) (g.B.Source.faults c.args.second.now))
-    (λ h. (h, record { has_all = refl; no_fault = refl }))
-    c.in-Err.reply c.in-Err.ensures.halts
+pub returns-in-Ok-Yes-default : goal.returns-in-Ok-Yes-default
+returns-in-Ok-Yes-default g c first third is =
+    let gave = given_by g.S.Source.past c.args.source.now c.judge_source.new.source in
+    let t = inputs first gave third in
+    let app = app_of c.args.app.now in
+    let read = c.in-Ok-Yes-default.ensures first is in
+    let j = subst (λ (v : Verdict). IsJudgedText app gave v c.in-Ok-Yes-default.items) c.in-Ok-Yes-default.field-0-0-is
+    read.1 in
+    answers_behind Audit kind.Trace _ t gave _ _ read.0 (app, is, j.trace, j.read) c.reply_number.result
+    (replies_answers Audit t _ tt _
+    (λ ended bytes says. judged_yes t app is ended bytes c.in-Ok-Yes-default.items j says) c.reply_number.result
+    c.reply_number.ensures)
 
-pub returns-clause-decides : goal.returns-clause-decides
-returns-clause-decides g c third =
-    let both : Type 0 = Rose (g.A.Source.faults c.args.app.now) (g.A.Source.faults c.read_accepted.new.app)
-    × IsKept g.B.Source.left g.B.Source.faults c.args.second.now c.audit_source.new.second in
-    let second : Type 0 = Rose (g.B.Source.faults c.args.second.now) (g.B.Source.faults c.audit_source.new.second) in
-    gives_as (AnswersTrace (app_of c.in-Ok.accepted) (g.B.Source.left c.args.second.now))
-    (IsDecided Audit (inputs (g.A.Source.left c.args.app.now) (g.B.Source.left c.args.second.now) third))
-    (Stops second) (Stops (HasFailed Audit both second))
-    (trace_decided (g.A.Source.left c.args.app.now) (g.B.Source.left c.args.second.now) third (app_of c.in-Ok.accepted)
-    (λ text told. c.in-Ok.ensures.accepted text told))
-    (stops_decides Audit both second (omega arith)) c.audit_source.result c.audit_source.ensures.answers
+pub returns-in-Ok-No-default : goal.returns-in-Ok-No-default
+returns-in-Ok-No-default g c first third is =
+    let gave = given_by g.S.Source.past c.args.source.now c.judge_source.new.source in
+    let t = inputs first gave third in
+    let app = app_of c.args.app.now in
+    let read = c.in-Ok-No-default.ensures first is in
+    let j = subst (λ (v : Verdict). IsJudgedText app gave v c.in-Ok-No-default.field-0-1)
+    c.in-Ok-No-default.field-0-0-is read.1 in
+    answers_behind Audit kind.Trace _ t gave _ _ read.0 (app, is, j.trace, j.read)
+    c.reply_number-in-Ok-No-default.result
+    (replies_answers Audit t _ tt _
+    (λ ended bytes says. judged_no t app is ended bytes c.in-Ok-No-default.number c.in-Ok-No-default.field-0-1 j says)
+    c.reply_number-in-Ok-No-default.result c.reply_number-in-Ok-No-default.ensures)
 
-pub returns-clause-kept : goal.returns-clause-kept
-returns-clause-kept g c third r =
-    absurd (audit_passes (g.A.Source.left c.args.app.now) (g.B.Source.left c.args.second.now) third
-    (app_of c.in-Ok.accepted)
-    (λ text told. c.in-Ok.ensures.accepted text told) r)
-
-pub returns-in-Err-clause-second_within : goal.returns-in-Err-clause-second_within
-returns-in-Err-clause-second_within g c later =
-    absurd (halts_not_later (g.A.Source.left c.args.app.now) RefusesApplication
-    (Rose (g.A.Source.faults c.args.app.now) (g.A.Source.faults c.read_accepted.new.app)) c.in-Err.reply
-    c.in-Err.ensures.halts later)
-
-pub returns-clause-first_within : goal.returns-clause-first_within
-returns-clause-first_within g c =
-    λ _. c.in-Ok.ensures.within
+pub returns-in-Err : goal.returns-in-Err
+returns-in-Err g c first third is =
+    let gave = given_by g.S.Source.past c.args.source.now c.judge_source.new.source in
+    refused_answers Audit kind.Trace _ (inputs first gave third) gave _ _ tt c.in-Err.reply (c.in-Err.ensures first is)

@@ -1,79 +1,70 @@
-use Rattle.std.proofs.Common.{◌≤◌, refl, arith}
-use Rattle.rt_outside.specs.Faults.{Rose}
-use Rattle.rt_top.specs.Ends.{IsKept}
-use Rattle.rt_top.specs.Defined.{inputs}
-use Rattle.rt_top.specs.Words.{reads}
-use Rattle.rt_top.specs.Inside.Meant.{command_word}
+use Rattle.std.proofs.Common.{subst}
+use Rattle.rt_app.specs.View.{app_of}
+use Rattle.rt_top.specs.Kinds as kind
+use Rattle.rt_top.specs.Reads.{given_by}
+use Rattle.rt_top.specs.Words as word
+use Rattle.rt_top.specs.Inside.Meant.{command_word, IsInRange}
 use Rattle.rt_top.specs.declared.command.Command.TheVariants as command
-use Rattle.rt_top.proofs.Deciding.{some_read}
-use Rattle.rt_top.proofs.Pairing.{pair_concludes, pair_second_kept, pair_third_kept, third_left, reads_two}
-use Rattle.rt_top.proofs.Within.{first_as, second_as}
+use Rattle.rt_top.specs.Inside.Using.{No}
+use Rattle.rt_top.proofs.Conducting.{unread_source, kept, conducts_kinds, conducts_as, conducts_behind, conducts_more, finished, of_application}
+use Rattle.rt_top.proofs.Conducting.{refused_answers, replies_answers}
 use Rattle.rt_top.proofs.decide.decide.Goals as goal
 
-pub returns-in-Pair-clause-concludes : goal.returns-in-Pair-clause-concludes
-returns-in-Pair-clause-concludes g c =
-    pair_concludes c.args.command c.in-Pair.is
-    (inputs (g.A.Source.left c.args.app.now) (g.B.Source.left c.args.second.now) (g.C.Source.left c.args.third.now))
-    (Rose (g.A.Source.faults c.args.app.now) (g.A.Source.faults c.pair.new.app)
-    × IsKept g.B.Source.left g.B.Source.faults c.args.second.now c.pair.new.second
-    × IsKept g.C.Source.left g.C.Source.faults c.args.third.now c.pair.new.third)
-    (Rose (g.B.Source.faults c.args.second.now) (g.B.Source.faults c.pair.new.second)
-    × IsKept g.C.Source.left g.C.Source.faults c.args.third.now c.pair.new.third)
-    (Rose (g.C.Source.faults c.args.third.now) (g.C.Source.faults c.pair.new.third))
-    (g.K.Sink.taken c.args.out.now) (g.K.Sink.taken c.pair.new.out) (g.K.Sink.faults c.args.out.now)
-    (g.K.Sink.faults c.pair.new.out) c.pair.result c.pair.ensures.concludes
+pub demo-requires : goal.demo-requires
+demo-requires g c =
+    let range = subst (λ x. IsInRange (command_word x)) c.in-Demo.is c.requires in
+    record { some = range.0; most = range.1 }
 
-pub returns-in-Pair-clause-first_kept : goal.returns-in-Pair-clause-first_kept
-returns-in-Pair-clause-first_kept g c none = some_read c.args.command command.Pair c.in-Pair.is (omega arith) none
+pub returns-in-Demo : goal.returns-in-Demo
+returns-in-Demo g c =
+    let third = unread_source g.C.Source.past g.C.Source.left g.C.Source.faults c.args.third.now No in
+    let second = unread_source g.B.Source.past g.B.Source.left g.B.Source.faults c.args.second.now third in
+    let first = unread_source g.A.Source.past g.A.Source.left g.A.Source.faults c.args.first.now second in
+    conducts_as c.args.command (command.Demo c.in-Demo.tasks) c.in-Demo.is _ _ _ _ _ _ c.finish.result
+    (finished (word.Demo c.in-Demo.tasks) _ _ _ c.demo.result
+    (replies_answers (word.Demo c.in-Demo.tasks) _ first
+    (kept, (kept, (kept, tt))) _ (λ ended bytes p. p) c.demo.result c.demo.ensures)
+    _ _ _ _ c.finish.result c.finish.ensures.finished c.finish.ensures.heard)
 
-pub returns-in-Pair-clause-second_kept : goal.returns-in-Pair-clause-second_kept
-returns-in-Pair-clause-second_kept g c either =
-    pair_second_kept c.args.command c.in-Pair.is
-    (inputs (g.A.Source.left c.args.app.now) (g.B.Source.left c.args.second.now) (g.C.Source.left c.args.third.now))
-    (IsKept g.B.Source.left g.B.Source.faults c.args.second.now c.pair.new.second) c.pair.ensures.second_kept either
+pub returns-in-Fmt : goal.returns-in-Fmt
+returns-in-Fmt g c =
+    let third = unread_source g.C.Source.past g.C.Source.left g.C.Source.faults c.args.third.now No in
+    let second = unread_source g.B.Source.past g.B.Source.left g.B.Source.faults c.args.second.now third in
+    conducts_as c.args.command command.Fmt c.in-Fmt.is _ _ _ _ _ _ c.finish-in-Fmt.result
+    (conducts_more word.Fmt _ _ _ second (kept, (kept, tt)) _ _ _ _ c.finish-in-Fmt.result
+    (finished word.Fmt _ _ _ c.fmt.result (c.fmt.ensures _ _) _ _ _ _ c.finish-in-Fmt.result
+    c.finish-in-Fmt.ensures.finished c.finish-in-Fmt.ensures.heard))
 
-pub returns-in-Pair-clause-third_kept : goal.returns-in-Pair-clause-third_kept
-returns-in-Pair-clause-third_kept g c either =
-    pair_third_kept c.args.command c.in-Pair.is
-    (inputs (g.A.Source.left c.args.app.now) (g.B.Source.left c.args.second.now) (g.C.Source.left c.args.third.now))
-    (IsKept g.C.Source.left g.C.Source.faults c.args.third.now c.pair.new.third) c.pair.ensures.third_kept either
+pub returns-in-Verify : goal.returns-in-Verify
+returns-in-Verify g c =
+    let third = unread_source g.C.Source.past g.C.Source.left g.C.Source.faults c.args.third.now No in
+    let second = unread_source g.B.Source.past g.B.Source.left g.B.Source.faults c.args.second.now third in
+    conducts_as c.args.command command.Verify c.in-Verify.is _ _ _ _ _ _ c.finish-in-Verify.result
+    (conducts_more word.Verify _ _ _ second (kept, (kept, tt)) _ _ _ _ c.finish-in-Verify.result
+    (finished word.Verify _ _ _ c.verify.result (c.verify.ensures _ _) _ _ _ _ c.finish-in-Verify.result
+    c.finish-in-Verify.ensures.finished c.finish-in-Verify.ensures.heard))
 
-pub decide_two-requires-clause-two : goal.decide_two-requires-clause-two
-decide_two-requires-clause-two g c lifetimes outlives = reads_two c.args.command c.in_default.not-Pair
+pub decide_of-requires-clause-of_application : goal.decide_of-requires-clause-of_application
+decide_of-requires-clause-of_application g c lifetimes outlives =
+    of_application c.args.command c.in_default.not-Demo c.in_default.not-Fmt c.in_default.not-Verify
 
-pub returns-in_default-clause-concludes : goal.returns-in_default-clause-concludes
-returns-in_default-clause-concludes g c =
-    third_left (command_word c.args.command)
-    (inputs (g.A.Source.left c.args.app.now) (g.B.Source.left c.args.second.now) (g.C.Source.left c.args.third.now))
-    (Rose (g.A.Source.faults c.args.app.now) (g.A.Source.faults c.decide_two.new.app))
-    (IsKept g.B.Source.left g.B.Source.faults c.args.second.now c.decide_two.new.second)
-    (Rose (g.B.Source.faults c.args.second.now) (g.B.Source.faults c.decide_two.new.second))
-    (IsKept g.C.Source.left g.C.Source.faults c.args.third.now c.args.third.now)
-    ((3 ≤ reads (command_word c.args.command)) × Rose (g.C.Source.faults c.args.third.now)
-    (g.C.Source.faults c.args.third.now))
-    (record { has_all = refl; no_fault = refl })
-    (g.K.Sink.taken c.args.out.now) (g.K.Sink.taken c.decide_two.new.out) (g.K.Sink.faults c.args.out.now)
-    (g.K.Sink.faults c.decide_two.new.out) c.decide_two.result
-    (c.decide_two.ensures.concludes (g.C.Source.left c.args.third.now))
+pub returns-in-Ok : goal.returns-in-Ok
+returns-in-Ok g c =
+    let left = of_application c.args.command c.in_default.not-Demo c.in_default.not-Fmt c.in_default.not-Verify in
+    let first = given_by g.A.Source.past c.args.first.now c.read_accepted.new.source in
+    let read = c.in-Ok.ensures.reads in
+    conducts_kinds (command_word c.args.command) _ _ left.1 _ _ _ _ _ _ c.decide_of.result
+    (conducts_behind (command_word c.args.command) kind.Application left.0 _ first _ _ read.0
+    (app_of c.in-Ok.app, read.1) _ _ _ _ c.decide_of.result (c.decide_of.ensures first left.0 read.1 left.1))
 
-pub returns-in_default-clause-second_kept : goal.returns-in_default-clause-second_kept
-returns-in_default-clause-second_kept g c either = c.decide_two.ensures.kept (g.C.Source.left c.args.third.now) either
-
-pub returns-in-Pair-clause-first_within : goal.returns-in-Pair-clause-first_within
-returns-in-Pair-clause-first_within g c some answer =
-    first_as c.args.command command.Pair c.in-Pair.is (g.A.Source.left c.args.app.now) (g.A.Source.left c.pair.new.app)
-    (c.pair.ensures.first_within answer)
-
-pub returns-in-Pair-clause-second_within : goal.returns-in-Pair-clause-second_within
-returns-in-Pair-clause-second_within g c two later =
-    second_as c.args.command command.Pair c.in-Pair.is (g.B.Source.left c.args.second.now)
-    (g.B.Source.left c.pair.new.second)
-    (c.pair.ensures.second_within later)
-
-pub returns-in-Pair-clause-third_within : goal.returns-in-Pair-clause-third_within
-returns-in-Pair-clause-third_within g c three later =
-    c.pair.ensures.third_within later
-
-pub returns-in_default-clause-third_within : goal.returns-in_default-clause-third_within
-returns-in_default-clause-third_within g c three later =
-    let two = reads_two c.args.command c.in_default.not-Pair in absurd (omega (arith, two, three))
+pub returns-in-Err : goal.returns-in-Err
+returns-in-Err g c =
+    let left = of_application c.args.command c.in_default.not-Demo c.in_default.not-Fmt c.in_default.not-Verify in
+    let first = given_by g.A.Source.past c.args.first.now c.read_accepted.new.source in
+    let third = unread_source g.C.Source.past g.C.Source.left g.C.Source.faults c.args.third.now No in
+    let second = unread_source g.B.Source.past g.B.Source.left g.B.Source.faults c.args.second.now third in
+    conducts_kinds (command_word c.args.command) _ _ left.1 _ _ _ _ _ _ c.finish-in-Err.result
+    (finished (command_word c.args.command) _ _ _ c.in-Err.reply
+    (refused_answers (command_word c.args.command) kind.Application left.0 _ first _ second (kept, (kept, tt))
+    c.in-Err.reply c.in-Err.ensures.reads)
+    _ _ _ _ c.finish-in-Err.result c.finish-in-Err.ensures.finished c.finish-in-Err.ensures.heard)

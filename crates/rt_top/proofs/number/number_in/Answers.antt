@@ -9,7 +9,7 @@ own : IsNumeralModel (λ ds. list_all is_digit ds ≡ true) (digits_value 10)
 own = numerals_by_value (λ ds. list_all is_digit ds ≡ true) (search rules)
 
 pub returns-in_default-3-clause-none : goal.returns-in_default-3-clause-none
-returns-in_default-3-clause-none c n is least most =
+returns-in_default-3-clause-none c n is =
     let word = c.args.word.now in
     let small : digits_value 10 word < 2 ^ 64 = omega (arith, is.value) in
     let some : 0 < length word = omega (arith, is.some) in

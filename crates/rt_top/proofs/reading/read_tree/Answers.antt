@@ -1,48 +1,40 @@
-use Rattle.std.proofs.Common.{subst, sym, ◌∙◌, refl, inr}
-use Rattle.rt_outside.specs.Faults.{Rose}
-use Rattle.rt_ast.specs.View.{app_of}
-use Rattle.rt_grammar.specs.Text.{IsRefused, IsText}
-use Rattle.rt_top.proofs.FirstText.{whole_text, long_text, refused_halts}
+use Rattle.std.proofs.Common.{◌≡◌, subst, ◌∙◌, refl, arith}
+use Rattle.rt_ids.specs.declared.status.Status.TheVariants as status
+use Rattle.rt_grammar.specs.Text.{IsRefused}
+use Rattle.rt_top.specs.Kinds as kind
+use Rattle.rt_top.specs.Reads.{given_by}
+use Rattle.rt_top.specs.Refusal.{refusal_line}
+use Rattle.rt_top.specs.Inside.Using.{for_memory, stop}
+use Rattle.rt_top.proofs.Conducting.{refusal_reads}
 use Rattle.rt_top.proofs.Refused.{too_long, refused_long}
-use Rattle.rt_ids.specs.declared.limits.TheConstants.{TEXT_BYTES}
-use Rattle.rt_top.proofs.Within.{text_within}
 use Rattle.rt_top.proofs.reading.read_tree.Goals as goal
 
-pub returns-in-Err-TooLong-clause-halts : goal.returns-in-Err-TooLong-clause-halts
-returns-in-Err-TooLong-clause-halts g c =
-    let gave = (rw c.in-Err-TooLong.field-0-is at c.in-Err-TooLong.ensures.too_long) refl in
-    refused_halts (g.A.Source.left c.args.app.now) (Rose (g.A.Source.faults c.args.app.now)
-    (g.A.Source.faults c.read_text.new.source)) too_long
-    (λ text told. refused_long text (long_text (g.A.Source.left c.args.app.now) (g.A.Source.left c.read_text.new.source)
-    262145 text told gave)) c.refuse.result c.refuse.ensures
+pub returns-in-Ok-None : goal.returns-in-Ok-None
+returns-in-Ok-None g c =
+    let gave = given_by g.S.Source.past c.args.source.now c.read_within.new.source in
+    let read = rw c.in-Ok-None.field-0-is at c.in-Ok-None.ensures in
+    refusal_reads kind.Tree gave gave _ read.0 read.0.1 status.App (λ line. line ≡ refusal_line too_long)
+    (λ line says. (refl, (too_long, refused_long gave (omega (arith, read.1)), says))) c.refuse.result c.refuse.ensures
 
-pub returns-in-Err-At-clause-halts : goal.returns-in-Err-At-clause-halts
-returns-in-Err-At-clause-halts g c =
+pub returns-in-Err-At : goal.returns-in-Err-At
+returns-in-Err-At g c =
+    let gave = given_by g.S.Source.past c.args.source.now c.read_within.new.source in
+    let read = rw c.in-Ok-Some.field-0-is at c.in-Ok-Some.ensures in
     let refused = (rw c.in-Err-At.field-0-is at c.in-Err-At.ensures.refused) c.in-Err-At.fault refl in
-    refused_halts (g.A.Source.left c.args.app.now) (Rose (g.A.Source.faults c.args.app.now)
-    (g.A.Source.faults c.read_text.new.source)) c.in-Err-At.fault
-    (λ text told.
-    let whole = whole_text (g.A.Source.left c.args.app.now) (g.A.Source.left c.read_text.new.source) c.in-Ok.text.items
-    text told c.in-Ok.ensures.whole in
-    subst (λ t. IsRefused t c.in-Err-At.fault) (c.deref.ensures.value ∙ sym whole) refused)
+    refusal_reads kind.Tree gave gave _ read.0 read.0.1 status.App (λ line. line ≡ refusal_line c.in-Err-At.fault)
+    (λ line says. (
+      refl,
+      (
+        c.in-Err-At.fault,
+        subst (λ t. IsRefused t c.in-Err-At.fault) (c.deref.ensures.value ∙ read.1) refused,
+        says,
+      ),
+    ))
     c.refuse-in-Err-At.result c.refuse-in-Err-At.ensures
 
-pub returns-in-Ok-parse-clause-text : goal.returns-in-Ok-parse-clause-text
-returns-in-Ok-parse-clause-text g c = λ text told.
-    let whole = whole_text (g.A.Source.left c.args.app.now) (g.A.Source.left c.read_text.new.source) c.in-Ok.text.items
-    text told c.in-Ok.ensures.whole in
-    subst (λ t. IsText t (app_of c.in-Ok-parse.tree)) (c.deref.ensures.value ∙ sym whole) c.in-Ok-parse.ensures.ok
+pub returns-in-Err : goal.returns-in-Err
+returns-in-Err g c = stop c.in-Err.status c.in-Err.ensures
 
-pub returns-in-Err-TooLong-clause-within : goal.returns-in-Err-TooLong-clause-within
-returns-in-Err-TooLong-clause-within g c =
-    λ _. inr ((rw c.in-Err-TooLong.field-0-is at c.in-Err-TooLong.ensures.too_long) refl)
-
-pub returns-in-Ok-parse-clause-within : goal.returns-in-Ok-parse-clause-within
-returns-in-Ok-parse-clause-within g c =
-    text_within TEXT_BYTES (g.A.Source.left c.args.app.now) (g.A.Source.left c.read_text.new.source) c.in-Ok.text
-    c.in-Ok.ensures.whole c.in-Ok.ensures.within
-
-pub returns-in-Err-At-clause-within : goal.returns-in-Err-At-clause-within
-returns-in-Err-At-clause-within g c =
-    λ _. text_within TEXT_BYTES (g.A.Source.left c.args.app.now) (g.A.Source.left c.read_text.new.source) c.in-Ok.text
-    c.in-Ok.ensures.whole c.in-Ok.ensures.within
+pub returns : goal.returns
+returns g c =
+    let read = rw c.in-Ok-Some.field-0-is at c.in-Ok-Some.ensures in stop status.Memory (for_memory read.0.1)

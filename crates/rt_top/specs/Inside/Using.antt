@@ -1,0 +1,88 @@
+-- What is done with the sources of a command, one after the other, and how its reading ends.
+use Rattle.std.specs.Prelude.{◌≡◌, ◌<◌, ◌⊎◌, ℕ, List, [], ◌∷◌, Option, Some, None, Result, Ok, Err, length, Vec}
+use Rattle.std.specs.Global.{Global}
+use Rattle.rt_ids.specs.declared.status.Status.{Status}
+use Rattle.rt_ids.specs.declared.status.Status.TheVariants as status
+use Rattle.rt_outside.specs.Bytes.{Past}
+use Rattle.rt_outside.specs.Faults.{Rose}
+use Rattle.rt_top.specs.Ends.{IsKept}
+use Rattle.rt_top.specs.Reads.{IsReadWithin}
+use Rattle.rt_top.specs.Kinds.{Kind, most_bytes, IsOfKind, IsRefusedBy}
+use Rattle.rt_top.specs.declared.reply.Reply.{Reply}
+use Rattle.rt_top.specs.declared.reply.Reply.TheVariants as reply
+
+-- what is done with a source
+pub data Use : Type 0 where
+  -- nothing: the command did not come to it
+  Unread : Use
+  -- it was read to its end, or one byte past its limit
+  Whole : Use
+  -- it failed
+  Failed : Use
+  -- memory was wanted, before it was read or in between
+  Left : Use
+
+-- this was done with the source, of which the command takes so many bytes at most
+abbrev pub HasUse : {S : Type 0} → (S → Past) → (S → Option (List ℕ)) → (S → ℕ) → S → S → ℕ → Use → Type 0
+HasUse past left faults old new limit Unread = IsKept past left faults old new
+HasUse past left faults old new limit Whole = IsReadWithin limit past left old new × (faults new ≡ faults old)
+HasUse past left faults old new limit Failed = Rose (faults old) (faults new)
+HasUse past left faults old new limit Left = faults new ≡ faults old
+
+-- Sources, one after the other: what each gave, and what was done with it.
+pub data Sources : Type 1 where
+  No : Sources
+  Then : (gave : List ℕ) → (Does : ℕ → Use → Type 0) → Sources → Sources
+
+-- none of them was come to
+abbrev pub AreUnread : Sources → Type 0
+AreUnread No = Unit {0}
+AreUnread (Then gave Does more) = Does 0 Unread × AreUnread more
+
+-- how the reading of a command's texts ends
+pub data Reading : Type 0 where
+  -- each is of its kind
+  Done : Reading
+  -- one is refused, with this status and line
+  Refused : (ended : Status) → (line : List ℕ) → Reading
+  -- a source failed, or memory was wanted
+  Stopped : (ended : Status) → Reading
+
+-- one text was read and is refused
+abbrev pub EndsRefused : Kind → List ℕ → List ℕ → Reading → Type 0
+EndsRefused kind first text Done = ⊥
+EndsRefused kind first text (Refused ended line) = IsRefusedBy kind first text ended line
+EndsRefused kind first text (Stopped ended) = ⊥
+
+-- The sources were read for texts of these kinds: each up to the first whose text is refused, which fails, or for which
+-- memory is wanted. Those behind it were not come to, nor any that the command has no text in.
+abbrev pub AreRead : List Kind → List ℕ → Sources → Reading → Type 0
+AreRead [] first sources end = AreUnread sources × (end ≡ Done)
+AreRead (kind ∷ kinds) first No end = ⊥
+AreRead (kind ∷ kinds) first (Then gave Does more) end =
+    (Does (most_bytes kind) Whole × IsOfKind kind first gave × AreRead kinds first more end)
+    ⊎ (Does (most_bytes kind) Whole × AreUnread more × EndsRefused kind first gave end)
+    ⊎ (Does (most_bytes kind) Failed × AreUnread more × (end ≡ Stopped status.Read))
+    ⊎ (Does (most_bytes kind) Left × AreUnread more × (end ≡ Stopped status.Memory))
+
+-- why the program stops while a source is read: memory was wanted, or the source failed
+pub data Stops (limit : ℕ) (Does : ℕ → Use → Type 0) : Status → Type 0 where
+  for_memory : Does limit Left → Stops limit Does status.Memory
+  at_fault : Does limit Failed → Stops limit Does status.Read
+
+-- no text of the kind was read: the one that came is refused, or the program stops
+pub data IsNotRead (kind : Kind) (first gave : List ℕ) (Does : ℕ → Use → Type 0) : Reply → Type 0 where
+  refusal : (ended : Status) (line : Vec ℕ Global) → Does (most_bytes kind) Whole
+      → IsRefusedBy kind first gave ended line.items → IsNotRead kind first gave Does (reply.Write ended line)
+  stop : (ended : Status) → Stops (most_bytes kind) Does ended → IsNotRead kind first gave Does (reply.Stop ended)
+
+-- One text of the kind was read from the source, of which this is so; or none was.
+abbrev pub Reads : {T : Type 0} → Kind → List ℕ → List ℕ → (ℕ → Use → Type 0) → (T → Type 0) → Result T Reply → Type 0
+Reads kind first gave Does Is (Ok x) = Does (most_bytes kind) Whole × Is x
+Reads kind first gave Does Is (Err r) = IsNotRead kind first gave Does r
+
+-- All bytes of the source were read, or one more than the limit; or why the program stops.
+abbrev pub ReadsBytes : ℕ → List ℕ → (ℕ → Use → Type 0) → Result (Option (Vec ℕ Global)) Status → Type 0
+ReadsBytes limit gave Does (Ok (Some text)) = Does limit Whole × (text.items ≡ gave)
+ReadsBytes limit gave Does (Ok None) = Does limit Whole × (limit < length gave)
+ReadsBytes limit gave Does (Err ended) = Stops limit Does ended
