@@ -16,24 +16,34 @@ const MEET: u64 = 2;
 /// Core steps that have to begin before the last pend is made, from the held one on.
 const LATER: u64 = 2;
 
-/// A gate that lets two pends of a device come before one core step, and the third behind the next.
-struct ByTurns<'a, R>(Sides<'a, R>);
+/// A gate that lets two pends of a device come before one core step, and the third behind the next. A pend of another
+/// device does not count, so the step would wait in vain.
+struct ByTurns<'a, R> {
+    sides: Sides<'a, R>,
+    /// The number of the device.
+    device: u32,
+}
 
 impl<R> Drop for ByTurns<'_, R> {
     fn drop(self) {
-        let ByTurns(_) = self;
+        let ByTurns {
+            sides: _,
+            device: _,
+        } = self;
     }
 }
 
 impl<R: Clock> Gate for ByTurns<'_, R> {
     fn before_step(&self, n: u64) {
-        self.0.step(n, MEET + 1);
+        self.sides.step(n, MEET + 1);
     }
 
-    fn before_pend(&self, _device: u8, n: u64) {
-        self.0.pend(n);
-        if n == MEET {
-            self.0.hold_behind(LATER);
+    fn before_pend(&self, device: u8, n: u64) {
+        if u32::from(device) == self.device {
+            self.sides.pend(n);
+            if n == MEET {
+                self.sides.hold_behind(LATER);
+            }
         }
     }
 }
@@ -63,18 +73,21 @@ fn held_difference(output: &str, case: &Case) -> Option<&'static str> {
 }
 
 /// What is told of a case: `ok`, or what differs. Its parts are the texts `app` and `second`, a script of one device
-/// with three pends; the `step` that is held; and what is wanted: the `items` that come first behind the end of
-/// `init`, the `total`, and the first lines of the `account`.
+/// with three pends; the number of this `device`; the `step` that is held; and what is wanted: the `items` that come
+/// first behind the end of `init`, the `total`, and the first lines of the `account`.
 pub fn verdict<R: Threads + Clock + Sync>(
     rt: &R,
     alloc: Global,
     case: &Case,
 ) -> Result<&'static str> {
     let step = case.number("step").context("no number of a step")?;
-    let gate = ByTurns(Sides::of(rt, u64::from(step)));
+    let gate = ByTurns {
+        sides: Sides::of(rt, u64::from(step)),
+        device: case.number("device").context("no number of a device")?,
+    };
     let outside = Outside::of(alloc, case.bytes("app"), case.bytes("second"))?;
     let ran = run_on(rt, alloc, &["live", "app", "script"], outside, &gate);
-    if gate.0.is_late() {
+    if gate.sides.is_late() {
         return Ok("a hold gave up");
     }
     if ran.status != Status::Done {
