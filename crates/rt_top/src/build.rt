@@ -11,6 +11,7 @@ use rt_listing::listing;
 use std::alloc::Global;
 
 /// `build APP`: the listing of the application's image.
+#[inline(never)]
 pub(crate) fn build(alloc: Global, app: &App) -> Reply
     requires { IsAccepted (app_of app.now) }
     ensures { Tells status.Done (Lists (app_of app.now)) result }

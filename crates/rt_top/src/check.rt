@@ -14,6 +14,7 @@ use rt_report::report;
 use std::alloc::Global;
 
 /// `check APP`: the ceilings, frames, costs, waiting bounds and the stack bound of the application.
+#[inline(never)]
 pub(crate) fn check(alloc: Global, app: &App) -> Reply
     requires { IsAccepted (app_of app.now) }
     ensures { Tells status.Done (λ bytes. bytes ≡ check_report (app_of app.now)) result }

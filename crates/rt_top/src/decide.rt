@@ -71,7 +71,8 @@ pub(crate) fn decide<
     }
 }
 
-/// Does what a command is of its application, which is the first of its texts.
+/// Does what a command is of its application, which is the first of its texts. No command is inlined, because then each
+/// would pay for the stack of all.
 #[inline(never)]
 fn decide_of<R: Threads + Sync, B: Source, C: Source, K: Sink + Send, G: Gate + Sync>(
     rt: &R,

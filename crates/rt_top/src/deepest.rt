@@ -9,6 +9,7 @@ use rt_ids::{NoMemory, Status};
 use std::alloc::Global;
 
 /// `deepest APP`: a script on which the stack reaches its bound, or that the application is not of its form.
+#[inline(never)]
 pub(crate) fn deepest(alloc: Global, app: &App) -> Reply
     requires { IsAccepted (app_of app.now) }
     ensures { Replies (TellsDeepest (app_of app.now)) result }

@@ -34,6 +34,7 @@ use std::thread::Threads;
 
 /// `live APP SCRIPT`: the listing of the application's image, and that image's trace beside the devices of the script,
 /// with their account.
+#[inline(never)]
 pub(crate) fn live<R: Threads + Sync, S: Source, K: Sink + Send, G: Gate + Sync>(
     rt: &R,
     alloc: Global,

@@ -31,6 +31,7 @@ use rt_script::Script;
 use std::alloc::Global;
 
 /// `run APP SCRIPT`: the listing of the application's image, and that image's trace under the script.
+#[inline(never)]
 pub(crate) fn run<S: Source, K: Sink>(
     alloc: Global,
     app: &App,

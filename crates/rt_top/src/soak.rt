@@ -12,6 +12,7 @@ use std::alloc::Global;
 use std::thread::Threads;
 
 /// `soak APP NUMBER COUNT WORKERS`: what so many runs of the application add up to.
+#[inline(never)]
 pub(crate) fn soak<R: Threads + Sync>(
     rt: &R,
     alloc: Global,

@@ -28,6 +28,7 @@ use rt_rta::{Limits, LimitsRefused, read_limits};
 use std::alloc::Global;
 
 /// `times APP LIMITS`: the response time of each priority, or that the application is not of its form.
+#[inline(never)]
 pub(crate) fn times<S: Source>(alloc: Global, app: &App, source: &mut S) -> Reply
     requires { IsAccepted (app_of app.now) }
     ensures { (first third : List ℕ) → IsApplication first (app_of app.now) →
