@@ -1,6 +1,7 @@
 #!/usr/bin/env python3
 """Runs the program itself with words, files and standard output: rows of the tables of commands, words that are no
-text, texts and an output that fail, and reads and memory that a library in front of the C library's disturbs.
+text, texts and an output that fail, reads and memory that a library in front of the C library's disturbs, and each
+command in little stack.
 
 The program is the one that the other tests of the tools try: that of RTIC, or the proved one where ./build or the gate
 has made it; without one nothing is run, and without gcc no read or growth is disturbed, and this says so. The parts are
@@ -24,6 +25,8 @@ from starting import Growths, Starter, Told, with_little_stack
 # the statuses that have to be seen of these commands
 SEEN = {"live": {0, 1, 2, 3, 5, 6}, "pair": {0, 1, 2, 3, 5, 6}, "audit": {4}}
 DISTURBED = {"live": {7}, "pair": {7}}
+# the kibibytes of stack in which each command ends
+STACK = 128
 
 
 def strange_words(starter, told):
@@ -69,6 +72,15 @@ def try_all(starter, told):
         told.differs(f"commands that are not known: {unknown}; statuses that were not seen: {missing}")
 
 
+def try_little_stack(starter, told):
+    """Each command, on small texts and on large ones."""
+    for chosen in (commands.COMMANDS, commands.LARGE):
+        known, failed = commands.built(starter, chosen)
+        told.says(f"stack: {len(known)} commands in {STACK} KiB")
+        if failed:
+            told.differs(f"commands that do not end well in {STACK} KiB of stack: {failed}")
+
+
 def main():
     """Ends with 1 where anything differs."""
     program = asked_program()
@@ -77,6 +89,7 @@ def main():
         return 0
     told, starter = Told(), Starter(program)
     with_little_stack(0, starter, lambda: try_all(starter, told))
+    with_little_stack(STACK, starter, lambda: try_little_stack(starter, told))
     starter.folder.cleanup()
     print(f"program: {starter.starts} starts, {told.differences} differences")
     return 1 if told.differences else 0
