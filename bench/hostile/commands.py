@@ -69,7 +69,9 @@ class Ready:
 
     def __init__(self, command, starter):
         self.command, self.starter = command, starter
-        paths = [starter.write(f"{command.word}-{name}", self.text(text)) for name, text in
+        # the files of another set of commands stay as they are
+        front = f"{command.word}-{starter.starts}"
+        paths = [starter.write(f"{front}-{name}", self.text(text)) for name, text in
                  zip(command.files, command.texts)]
         self.words = [command.word, *paths, *command.numbers]
         self.answer = starter.ended(self.words)
