@@ -13,7 +13,7 @@ use Rattle.rt_run.specs.Done.{Leads}
 use Rattle.rt_run.specs.Sending.{EndsInItem}
 use Rattle.rt_run.proofs.Advancing.{leads_on, stands_still, ends_behind}
 use Rattle.rt_run.proofs.Sent.{breaks_end}
-use Rattle.rt_trace.specs.Lined.{IsDeclared}
+use Rattle.rt_lines.specs.Operand.{IsDeclared}
 use Rattle.rt_words.specs.declared.call.Call.{Call}
 use Rattle.rt_live.specs.Interleaving.{Turn, looks, arrivals_from, look_arrivals, interleaving}
 use Rattle.rt_live.specs.Going.{IsWholeLook, FindsDeclared, Stops}

@@ -1,2 +1,11 @@
 pub mod Splitting
 pub mod Digits
+pub mod Reading
+pub mod Short
+pub mod Found
+pub mod Numerals
+pub mod Decoded
+pub mod Spelled
+pub mod Told
+pub mod Words
+pub mod Unbroken

@@ -1,5 +1,6 @@
 -- The numbers that words spell in decimal.
-use Rattle.std.specs.Prelude.{ℕ, Bool, ◌&&◌, ◌||◌, not, ◌==◌, nat_le, nat_lt, List, length, slice_index, Option, Some}
+use Rattle.std.specs.Prelude.{ℕ, ◌<◌, ◌^◌, Bool, ◌&&◌, ◌||◌, not, ◌==◌, nat_le, nat_lt, List, length, slice_index}
+use Rattle.std.specs.Prelude.{Option, Some}
 use Rattle.std.specs.Prelude.{None, if◌then◌else◌}
 use Rattle.std.specs.List.{list_all}
 use Rattle.std.specs.Str.Parse.{digits_value}
@@ -22,3 +23,7 @@ abbrev pub number_below : ℕ → List ℕ → Option ℕ
 number_below bound word =
     if are_digits 10 word && has_no_leading_zero word && nat_lt (digits_value 10 word) bound
     then Some (digits_value 10 word) else None
+
+-- a number of 32 bits
+abbrev pub IsWord : ℕ → Type 0
+IsWord n = n < 2 ^ 32

@@ -16,7 +16,7 @@ use Rattle.rt_live.specs.Interleaving.{interleaving}
 use Rattle.rt_live.specs.Going.{IsWholeLook, FindsDeclared, Goes, Stops}
 use Rattle.rt_live.proofs.Bits.{found_more, arrived_more, latches_more}
 use Rattle.rt_lemmas.proofs.Membership.{all_append}
-use Rattle.rt_trace.specs.Lined.{IsDeclared}
+use Rattle.rt_lines.specs.Operand.{IsDeclared}
 
 -- The first words of a look were latched, so many of them, and what they hold arrived.
 pub record Finds (k : ℕ) (calls calls' : List Call) (old new : Machine) (before after : List ℕ) : Type 0 where

@@ -22,7 +22,7 @@ use Rattle.rt_script.specs.declared.line.Line.{Line}
 use Rattle.rt_script.specs.declared.line.Line.TheVariants.{Steps, Ticks, Pends, Device as DeviceLine}
 use Rattle.rt_devices.specs.Work.{requests, interrupt_asked, Works}
 use Rattle.rt_devices.specs.declared.device.Device.{Device}
-use Rattle.rt_trace.specs.Lined.{IsDeclared}
+use Rattle.rt_lines.specs.Operand.{IsDeclared}
 use Rattle.rt_words.specs.Lines.{Row, Core, numbers, count as row_count}
 use Rattle.rt_words.specs.Object.{IsPending}
 use Rattle.rt_words.specs.declared.view.Part.{Part}

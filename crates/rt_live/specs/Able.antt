@@ -5,7 +5,7 @@ use Rattle.rt_ids.specs.Names.{Names}
 use Rattle.rt_ids.specs.declared.limits.TheConstants.{IRQ_NUMBERS}
 use Rattle.rt_core.specs.Machine.{Machine}
 use Rattle.rt_run.specs.Writable.{IsWritable}
-use Rattle.rt_trace.specs.Lined.{IsDeclared}
+use Rattle.rt_lines.specs.Operand.{IsDeclared}
 use Rattle.rt_words.specs.Lines.{Row, Core, count}
 use Rattle.rt_words.specs.Object.{IsPending}
 use Rattle.rt_live.specs.declared.turns.TheConstants.{WORDS}

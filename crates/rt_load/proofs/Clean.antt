@@ -11,8 +11,8 @@ use Rattle.rt_lemmas.proofs.Lists.{all_append}
 use Rattle.rt_ids.specs.Byte.{is_letter, is_name_byte}
 use Rattle.rt_ids.specs.Word.{is_identifier}
 use Rattle.rt_lines.specs.Parts.{words}
-use Rattle.rt_trace.specs.Text.{spaced_text}
-use Rattle.rt_trace.proofs.Words.{IsUnspaced, words_spaced}
+use Rattle.rt_lines.specs.Table.{spaced_text}
+use Rattle.rt_lines.proofs.Words.{IsUnspaced, words_spaced}
 use Rattle.rt_listing.proofs.Reading.{is_blank, HasNoBlank}
 use Rattle.rt_load.specs.Reading.{IsLine}
 use Rattle.rt_load.specs.Inside.Operand.{is_end}

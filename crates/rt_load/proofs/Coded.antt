@@ -13,8 +13,8 @@ use Rattle.rt_code.specs.declared.instr.Note.TheVariants as note
 use Rattle.rt_lines.specs.Answers.{and_then, and_make}
 use Rattle.rt_listing.specs.Numbers.{instr_numbers}
 use Rattle.rt_listing.specs.Words.{op_word, instr_text, note_words}
-use Rattle.rt_trace.specs.Text.{spaced_text}
-use Rattle.rt_trace.proofs.Numerals.{number_spelled}
+use Rattle.rt_lines.specs.Table.{spaced_text}
+use Rattle.rt_lines.proofs.Numerals.{number_spelled}
 use Rattle.rt_load.specs.Loadable.{Is32Bits, IsNoteWithin}
 use Rattle.rt_load.specs.Inside.Operand.{word_at, irq_at, task_at, section_at, body_at}
 use Rattle.rt_load.specs.Inside.Coding.{instr_word, instr_at}

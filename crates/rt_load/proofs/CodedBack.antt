@@ -13,7 +13,7 @@ use Rattle.rt_code.specs.declared.instr.Note.{Note}
 use Rattle.rt_code.specs.declared.instr.Note.TheVariants as note
 use Rattle.rt_lines.specs.Answers.{and_then, and_make}
 use Rattle.rt_listing.specs.Numbers.{instr_numbers}
-use Rattle.rt_trace.proofs.Tables.{found_passes}
+use Rattle.rt_lines.proofs.Found.{found_passes}
 use Rattle.rt_load.specs.Loadable.{Is32Bits, IsNoteWithin}
 use Rattle.rt_load.specs.Inside.Operand.{word_at, irq_at, task_at, section_at, body_at}
 use Rattle.rt_load.specs.Inside.Coding.{instr_word, instr_named, bare_instrs, instrs_of_one, instrs_of_two}

@@ -19,7 +19,7 @@ use Rattle.rt_code.specs.declared.image.Handler.{Handler}
 use Rattle.rt_code.specs.declared.image.BodyRow.{BodyRow}
 use Rattle.rt_lines.specs.Answers.{and_then, and_make}
 use Rattle.rt_listing.specs.Listing.{irq_line, body_line}
-use Rattle.rt_trace.proofs.Numerals.{number_spelled}
+use Rattle.rt_lines.proofs.Numerals.{number_spelled}
 use Rattle.rt_load.specs.Loadable.{IsLoadable, IsIrqWithin, IsHandlerWithin, IsBodyWithin}
 use Rattle.rt_load.specs.Reading.{line_with_feed}
 use Rattle.rt_load.specs.Inside.Operand.{number_at, word_at}

@@ -29,7 +29,7 @@ use Rattle.rt_code.specs.declared.instr.Note.{Note}
 use Rattle.rt_code.specs.declared.instr.Note.TheVariants as note
 use Rattle.rt_listing.specs.Listing.{form_text, handler_text, listing}
 use Rattle.rt_listing.specs.Words.{spaced_number, op_word, instr_text, note_words, note_text}
-use Rattle.rt_trace.proofs.Short.{irq_name_short, task_name_short, resource_name_short}
+use Rattle.rt_lines.proofs.Short.{irq_name_short, task_name_short, resource_name_short}
 use Rattle.rt_load.specs.Reading.{line_with_feed}
 use Rattle.rt_load.proofs.ForwardCells.{texts_from}
 use Rattle.rt_load.proofs.Lines.{cell_text, irq_text, body_text, code_text}

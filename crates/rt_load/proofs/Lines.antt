@@ -28,7 +28,7 @@ use Rattle.rt_listing.specs.Words.{instr_text, note_text}
 use Rattle.rt_listing.specs.Words as number
 use Rattle.rt_listing.specs.Listing.{form_text, handler_text}
 use Rattle.rt_listing.proofs.Reading.{HasNoBlank, word_has_no_blank}
-use Rattle.rt_trace.specs.Text.{spaced_text}
+use Rattle.rt_lines.specs.Table.{spaced_text}
 use Rattle.rt_load.specs.Inside.Operand.{in_front, behind}
 use Rattle.rt_load.specs.Inside.Coding.{instr_word}
 use Rattle.rt_load.specs.Inside.Noting.{note_word}

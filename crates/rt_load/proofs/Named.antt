@@ -18,7 +18,7 @@ use Rattle.rt_code.specs.declared.instr.Note.{Note}
 use Rattle.rt_lines.specs.Answers.{and_then, and_make}
 use Rattle.rt_lines.specs.Parts.{words}
 use Rattle.rt_listing.specs.Listing.{cell_line, irq_line, body_line, code_line}
-use Rattle.rt_trace.specs.Text.{spaced_text}
+use Rattle.rt_lines.specs.Table.{spaced_text}
 use Rattle.rt_load.specs.Loadable.{IsIrqWithin}
 use Rattle.rt_load.specs.Reading.{line_with_feed, IsOfUnknownName, AreMore}
 use Rattle.rt_load.specs.Inside.Operand.{number_at, word_at, is_end, in_front, behind}

@@ -5,8 +5,7 @@ use Rattle.std.specs.Option.{ok_or}
 use Rattle.std.proofs.lemmas.Slice.Eq.{bytes_eq-Decides}
 use Rattle.rt_lines.specs.Answers.{and_then, and_make}
 use Rattle.rt_lines.specs.Numbers.{number_below}
-use Rattle.rt_trace.specs.declared.operand.Wrong.TheVariants as trace
-use Rattle.rt_trace.proofs.Decoded.{number_spelling}
+use Rattle.rt_lines.proofs.Numerals.{number_spelling}
 use Rattle.rt_load.specs.Reading.{line_with_feed}
 use Rattle.rt_load.specs.Inside.Operand.{number_at}
 use Rattle.rt_load.specs.Inside.Taking.{if_line}
@@ -47,4 +46,4 @@ pub number_from : (bound n : ℕ) (word : List ℕ) → bound ≤ 2 ^ 32 → num
     × (n < bound)
 number_from bound n word few e =
     let some : number_below bound word ≡ Some n = or_ok (number_below bound word) wrong.Form n e in
-    number_spelling bound n word few (ap (λ (o : Option ℕ). ok_or o trace.Form) some)
+    number_spelling bound n word few some

@@ -18,8 +18,8 @@ use Rattle.rt_ids.specs.declared.ids.Section.{Section}
 use Rattle.rt_ids.specs.declared.ids.Section.TheVariants as section
 use Rattle.rt_code.specs.Listable.{HasIrq, HasTask, HasSection, HasBody}
 use Rattle.rt_lines.specs.Answers.{and_make}
-use Rattle.rt_trace.proofs.Numerals.{number_spelled}
-use Rattle.rt_trace.proofs.Tables.{irq_known, name_at, task_found, resource_found}
+use Rattle.rt_lines.proofs.Numerals.{number_spelled}
+use Rattle.rt_lines.proofs.Found.{irq_known, name_at, task_found, resource_found}
 use Rattle.rt_load.specs.Loadable.{IsSectionWithin}
 use Rattle.rt_load.specs.Inside.Operand.{number_at, index_or_wrong, first_named, irq_at, task_at, resource_at, ready_at}
 use Rattle.rt_load.specs.Inside.Operand.{queue_at, section_at, body_at}

@@ -27,7 +27,7 @@ use Rattle.rt_code.specs.declared.instr.Note.TheVariants as note
 use Rattle.rt_lines.specs.Answers.{and_then, and_make}
 use Rattle.rt_listing.specs.Listing.{cell_line, irq_line, body_line, code_line}
 use Rattle.rt_listing.specs.Words.{instr_text, note_text, note_words}
-use Rattle.rt_trace.proofs.Tables.{found_passes, found_at}
+use Rattle.rt_lines.proofs.Found.{found_passes, found_at}
 use Rattle.rt_load.specs.Loadable.{Is32Bits, IsLineWithin, IsNoteWithin, IsSectionWithin}
 use Rattle.rt_load.specs.Reading.{line_with_feed, IsLine, AreMore, IsOfUnknownName}
 use Rattle.rt_load.specs.Inside.Operand.{word_at, irq_at, task_at, resource_at, queue_at, section_at, body_at, in_front}

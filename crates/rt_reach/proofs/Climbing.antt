@@ -32,8 +32,8 @@ use Rattle.rt_laws.specs.State.{State}
 use Rattle.rt_script.specs.Script.{events}
 use Rattle.rt_sim.specs.Good.{Good, AreDeclared}
 use Rattle.rt_sim.proofs.Armed.{counts_of_few}
-use Rattle.rt_trace.specs.Lined.{IsDeclared}
-use Rattle.rt_trace.proofs.Tables.{found_at}
+use Rattle.rt_lines.specs.Operand.{IsDeclared}
+use Rattle.rt_lines.proofs.Found.{found_at}
 use Rattle.rt_reach.specs.Deepest.{script_of, IsFirstTake, LeadsToTake}
 use Rattle.rt_app.specs.Forms.{has_deepest_script}
 use Rattle.rt_reach.specs.Inside.Soon.{TakesWithin}

@@ -32,7 +32,7 @@ use Rattle.rt_laws.specs.Preemption.{system_ceiling}
 use Rattle.rt_script.specs.Script.{events, line_events}
 use Rattle.rt_sim.specs.Good.{AreDeclared}
 use Rattle.rt_trace.specs.Label.{Arrived, Stepped}
-use Rattle.rt_trace.specs.Lined.{IsDeclared}
+use Rattle.rt_lines.specs.Operand.{IsDeclared}
 use Rattle.rt_trace.specs.declared.item.What.{What}
 use Rattle.rt_reach.specs.Deepest.{priority_lines, script_of, item_after, IsFirstTake}
 use Rattle.rt_app.specs.Forms.{has_deepest_script}

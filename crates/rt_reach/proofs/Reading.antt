@@ -1,28 +1,29 @@
 -- The text of the script that goes deepest is read as that script.
 use Rattle.std.proofs.Common.{◌≡◌, ℕ, ◌+◌, ◌-◌, ◌*◌, ◌==◌, ◌<◌, ◌≤◌, ◌^◌, ◌||◌, true, false, List, [], ◌∷◌, ◌++◌}
-use Rattle.std.proofs.Common.{length, map, flat_map, codes, decimal, get_or, Option, Some, Result, Ok}
-use Rattle.std.proofs.Common.{option_to_list, refl, ap, ◌∙◌, arith, append_assoc, length-append}
+use Rattle.std.proofs.Common.{length, map, flat_map, codes, decimal, get_or, Some, Ok}
+use Rattle.std.proofs.Common.{refl, ap, sym, subst, ◌∙◌, arith, append_assoc, append-nil, length-append}
 use Rattle.std.specs.List.{AllByRecursion}
 use Rattle.std.specs.Str.Lines.{lines, strip_carriage_return}
-use Rattle.std.proofs.lemmas.List.Sums.{sum_by-append}
+use Rattle.std.proofs.lemmas.Bool.{le-leb}
+use Rattle.std.proofs.lemmas.List.Sums.{sum_by-append, sum_by-cons}
 use Rattle.std.proofs.lemmas.Fmt.{decimal_nonempty}
 use Rattle.rt_ids.specs.Lists.{is_empty}
 use Rattle.rt_ids.specs.Names.{Names, AreNames, irq_of}
 use Rattle.rt_ids.specs.Naming.{irq_name}
 use Rattle.rt_ids.specs.Word.{is_identifier}
-use Rattle.rt_ids.specs.declared.limits.TheConstants.{NAME_BYTES}
+use Rattle.rt_ids.specs.declared.limits.TheConstants.{NAME_BYTES, SCRIPT_EVENTS}
 use Rattle.rt_lines.specs.Answers.{and_make}
 use Rattle.rt_lines.specs.Numbers.{short_number}
 use Rattle.rt_lines.specs.Parts.{spaced_words}
+use Rattle.rt_lines.specs.Reading.{Lead}
 use Rattle.rt_script.specs.Script.{count, count_of}
-use Rattle.rt_script.specs.Text.{IsScriptText}
+use Rattle.rt_script.specs.Text.{IsScriptText, script_reader}
 use Rattle.rt_script.specs.Wording.{is_blank, is_comment, is_loose, words_ask, line_of}
 use Rattle.rt_script.specs.declared.line.Line.{Line}
 use Rattle.rt_script.specs.declared.line.Line.TheVariants.{Steps, Pends}
-use Rattle.rt_script.specs.declared.words.Wrong.{Wrong}
 use Rattle.rt_script.proofs.Lines.{lines_next}
-use Rattle.rt_trace.specs.Lined.{IsDeclared}
-use Rattle.rt_trace.proofs.Tables.{irq_known}
+use Rattle.rt_lines.specs.Operand.{IsDeclared}
+use Rattle.rt_lines.proofs.Found.{irq_known}
 use Rattle.rt_reach.specs.Deepest.{priority_lines, script_of}
 use Rattle.rt_reach.specs.Spelled.{pend_line, step_line, line_with_feed, priority_text, script_text}
 use Rattle.rt_reach.proofs.Words.{IsPlain, plain_without, name_plain, decimal_plain, decimal_length, decimal_read}
@@ -96,6 +97,27 @@ module _ (names : Names) where
     -- these lines say this script
     abbrev Say : List (List ℕ) → List Line → Type 0
     Say ls script = map (line_of names) ls ≡ map (λ line. Ok (Some line)) script
+
+    -- and lead to it, where its events are not too many
+    asks_lead : (ls : List (List ℕ)) (script before : List Line) → Say ls script
+        → count (before ++ script) ≤ SCRIPT_EVENTS → Lead (script_reader names) before ls (before ++ script)
+    asks_lead [] [] before says few = sym (append-nil before)
+    asks_lead [] (asked ∷ script) before says few = absurd cc
+    asks_lead (line ∷ ls) [] before says few = absurd cc
+    asks_lead (line ∷ ls) (asked ∷ script) before says few =
+        let reads : line_of names line ≡ Ok (Some asked) = cc in
+        let behind : Say ls script = cc in
+        let whole = append_assoc before (asked ∷ []) script in
+        let all = sum_by-append count_of before (asked ∷ script) in
+        let more = sum_by-cons count_of asked script in
+        let room : count before + count_of asked ≤ SCRIPT_EVENTS = omega (arith, few, all, more) in
+        let fits = le-leb (count before + count_of asked) SCRIPT_EVENTS room in (
+          before ++ asked ∷ [],
+          rw (reads, fits) refl,
+          subst (Lead (script_reader names) (before ++ asked ∷ []) ls) whole
+              (asks_lead ls script (before ++ asked ∷ []) behind
+              (subst (λ lines. count lines ≤ SCRIPT_EVENTS) (sym whole) few)),
+        )
 
     -- a priority's lines in front
     priority_says : (steps irq : ℕ) (rest : List ℕ) (script : List Line) → steps < 10 ^ 9 → IsDeclared names irq
@@ -199,24 +221,10 @@ module _ (names : Names) where
         let low : steps < 10 ^ 9 = omega arith in
         let bytes = script_short steps irqs low short in
         let events = script_count steps irqs in
-        let script : List Line = script_of steps irqs in
         record {
           short = omega (arith, bytes, priorities);
-          says = record {
-            asked = map Some script;
-            each = script_says steps irqs low declared ∙ ok_somes script;
-            all = all_asked script;
-            few = omega (arith, events, few, priorities);
-          };
+          lead =
+              asks_lead (lines (script_text names steps irqs)) (script_of steps irqs) []
+              (script_says steps irqs low declared) (omega (arith, events, few, priorities));
+          whole = refl;
         }
-      where
-        right : Option Line → Result (Option Line) Wrong
-        right = Ok
-
-        ok_somes : (script : List Line) → map (λ (line : Line). right (Some line)) script ≡ map right (map Some script)
-        ok_somes [] = refl
-        ok_somes (line ∷ script) = ap (λ rs. right (Some line) ∷ rs) (ok_somes script)
-
-        all_asked : (script : List Line) → script ≡ flat_map option_to_list (map Some script)
-        all_asked [] = refl
-        all_asked (line ∷ script) = ap (λ ls. line ∷ ls) (all_asked script)

@@ -17,7 +17,7 @@ use Rattle.rt_app.specs.Handlers.{irq_number, has_no_monotonic}
 use Rattle.rt_app.specs.Level.{is_software}
 use Rattle.rt_app.specs.Stack.{is_bound_at, is_timed_at, has_handler, frames_of, need}
 use Rattle.rt_app.proofs.Sound.{accepted_are_sound}
-use Rattle.rt_trace.proofs.Tables.{found_passes, found_at}
+use Rattle.rt_lines.proofs.Found.{found_passes, found_at}
 use Rattle.rt_app.specs.Forms.{has_no_software, body_holds_no_pend, is_brief, has_deepest_script}
 use Rattle.rt_reach.specs.Priorities.{deepest_task, bound_number, deepest_irq}
 use Rattle.rt_reach.proofs.Served.{IsDeepestAt, deepest_at, need_is}

@@ -25,7 +25,7 @@ use Rattle.rt_app.specs.Stack.{is_bound_at, is_timed_at, has_handler, frames_of,
 use Rattle.rt_app.proofs.Different.{contains_front, contains_back}
 use Rattle.rt_laws.specs.Services.{service_at}
 use Rattle.rt_laws.proofs.Dispatchers.{only_service}
-use Rattle.rt_trace.proofs.Tables.{found_passes, found_at}
+use Rattle.rt_lines.proofs.Found.{found_passes, found_at}
 use Rattle.rt_app.specs.Forms.{has_no_software}
 use Rattle.rt_reach.proofs.Greatest.{greatest_attained}
 use Rattle.rt_reach.specs.Priorities.{deepest_task, bound_number, deepest_irq}

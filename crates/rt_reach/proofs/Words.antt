@@ -14,7 +14,7 @@ use Rattle.rt_ids.specs.Lists.{is_empty}
 use Rattle.rt_ids.specs.Word.{is_identifier}
 use Rattle.rt_lines.specs.Numbers.{are_digits, short_number}
 use Rattle.rt_lines.specs.Parts.{spaced_words}
-use Rattle.rt_trace.proofs.Words.{words_spaced}
+use Rattle.rt_lines.proofs.Words.{words_spaced}
 
 -- a word of name bytes
 abbrev pub IsPlain : List ℕ → Type 0

@@ -11,5 +11,4 @@ pub mod InTime
 pub mod Responding
 pub mod Least
 pub mod Telling
-pub mod OneWay
 pub mod ByClock

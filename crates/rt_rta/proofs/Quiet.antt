@@ -2,7 +2,6 @@
 -- an interrupt or sets the alarm.
 use Rattle.std.proofs.Common.{◌≡◌, ℕ, zero, suc, ◌+◌, ◌==◌, Bool, true, false, ◌&&◌, if◌then◌else◌, List, [], ◌∷◌, ◌++◌}
 use Rattle.std.proofs.Common.{replicate, slice_get, slice_set, option_map, Option, Some, None, refl, sym, ap, subst}
-use Rattle.std.proofs.Common.{◌∙◌}
 use Rattle.std.specs.Prelude.{is_none}
 use Rattle.std.specs.List.{AllByRecursion, list_any, list_all}
 use Rattle.rt_lemmas.proofs.Bools.{and_left, and_right, and_parts, not_true, true_and_false}
@@ -10,7 +9,7 @@ use Rattle.rt_lemmas.proofs.Membership.{all_at, any_passes}
 use Rattle.rt_ids.specs.Lists.{then_from}
 use Rattle.rt_ids.specs.Choice.{IsIn}
 use Rattle.rt_ids.specs.Content.{Values}
-use Rattle.rt_ids.specs.Action.{Action, Enters, Leaves, Emits, Posts, SetsAlarm, Ends, Returns}
+use Rattle.rt_ids.specs.Action.{Action, Posts, SetsAlarm, Ends, Returns}
 use Rattle.rt_ids.specs.Doing.{Doing, over, does}
 use Rattle.rt_ids.specs.declared.ids.BodyId.{BodyId}
 use Rattle.rt_ids.specs.declared.ids.BodyId.TheVariants as body

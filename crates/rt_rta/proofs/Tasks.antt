@@ -1,6 +1,6 @@
 -- Where there are hardware tasks alone, each interrupt that is served is bound by a task, and the other way round.
-use Rattle.std.proofs.Common.{◌≡◌, ℕ, zero, suc, ◌+◌, arith, eq-eqb, ◌==◌, Bool, true, false, List, [], ◌∷◌, ◌++◌}
-use Rattle.std.proofs.Common.{flat_map, slice_get, option_map, Option, Some, None, refl, sym, ap, subst, ◌∙◌}
+use Rattle.std.proofs.Common.{◌≡◌, ℕ, zero, suc, ◌+◌, arith, eq-eqb, ◌==◌, true, List, [], ◌∷◌}
+use Rattle.std.proofs.Common.{slice_get, Option, Some, None, refl, sym, ap, subst, ◌∙◌}
 use Rattle.std.specs.List.{AllByRecursion, list_any}
 use Rattle.std.proofs.lemmas.Option.{same_Some, none-some}
 use Rattle.rt_lemmas.proofs.Bools.{and_left, true_and_false}
@@ -17,7 +17,7 @@ use Rattle.rt_app.specs.Handlers.{timer_service, services, irq_number}
 use Rattle.rt_app.specs.Accepted.{IsAccepted}
 use Rattle.rt_app.proofs.Members.{in_front, in_back}
 use Rattle.rt_app.specs.Forms.{has_response_times}
-use Rattle.rt_laws.specs.Services.{service_at, handler_cost}
+use Rattle.rt_laws.specs.Services.{service_at}
 use Rattle.rt_laws.proofs.Pending.{found_passes, some_number}
 use Rattle.rt_laws.proofs.Dispatchers.{only_service}
 use Rattle.rt_rta.specs.Limits.{number_of}

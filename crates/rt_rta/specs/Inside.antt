@@ -1,4 +1,3 @@
 -- What private contracts alone cite.
 pub mod Loads
 pub mod Least
-pub mod Telling

@@ -1,8 +1,10 @@
 -- What a limits text says, and which is its first wrong line. Its lines are those of `str::lines` of Rust, as a
 -- script's are. Each line is judged behind those before it, since an interrupt has one limit at most.
-use Rattle.std.specs.Prelude.{◌≡◌, ℕ, suc, ◌<◌, ◌≤◌, List, [], ◌∷◌, ◌++◌, length, Option, option_to_list, Ok, Err}
+use Rattle.std.specs.Prelude.{ℕ, List, [], ◌++◌, option_to_list, None}
 use Rattle.std.specs.Str.Lines.{lines}
 use Rattle.rt_ids.specs.declared.limits.TheConstants.{SCRIPT_BYTES}
+use Rattle.rt_lines.specs.Answers.{and_make}
+use Rattle.rt_lines.specs.Reading.{Reader, IsRead, IsFirstWrong, IsTooLong}
 use Rattle.rt_app.specs.Tree.{App}
 use Rattle.rt_rta.specs.Wording.{line_of}
 use Rattle.rt_rta.specs.declared.limits.Limit.{Limit}
@@ -11,32 +13,27 @@ use Rattle.rt_rta.specs.declared.line.Wrong.TheVariants as wrong
 use Rattle.rt_rta.specs.declared.refusal.LimitsRefused.{LimitsRefused}
 use Rattle.rt_rta.specs.declared.refusal.LimitsRefused.TheVariants as refused
 
--- these lines are right behind the first limits, and with them make all these
-abbrev pub Tell : App → List (List ℕ) → List Limit → List Limit → Type 0
-Tell app [] first all = all ≡ first
-Tell app (line ∷ ls) first all =
-    (told : Option Limit) × (line_of app first line ≡ Ok told) × Tell app ls (first ++ option_to_list told) all
+-- the reader of limits on the interrupts of an application; a text is as long as a script may be at most
+abbrev pub limits_reader : App → Reader (List Limit) Wrong
+limits_reader app = record {
+  most = SCRIPT_BYTES;
+  lines = lines;
+  start = [];
+  step = λ limits line. and_make (line_of app limits line) (λ told. limits ++ option_to_list told);
+  missing = λ limits. None;
+}
 
--- the text is as long as a script may be at most
-pub record IsLimitsText (app : App) (text : List ℕ) (limits : List Limit) : Type 0 where
-  pub short : length text ≤ SCRIPT_BYTES
-  pub tells : Tell app (lines text) [] limits
+-- a text that is not too long, whose lines tell these limits
+abbrev pub IsLimitsText : App → List ℕ → List Limit → Type 0
+IsLimitsText app text limits = IsRead (limits_reader app) text limits
 
--- the first line that is wrong has this number, from 1, and this is wrong with it
-pub record IsFirstWrong (app : App) (text : List ℕ) (number : ℕ) (w : Wrong) : Type 0 where
-  pub short : length text ≤ SCRIPT_BYTES
-  pub before : List (List ℕ)
-  pub line : List ℕ
-  pub behind : List (List ℕ)
-  pub parts : lines text ≡ before ++ line ∷ behind
-  pub number_is : number ≡ suc (length before)
-  pub limits : List Limit
-  pub tells : Tell app before [] limits
-  pub has : line_of app limits line ≡ Err w
+-- the refusal of a text whose first wrong line has this number, where this is wrong with it
+abbrev pub refusal_of : ℕ → Wrong → LimitsRefused
+refusal_of n wrong.Form = refused.BadLine n
+refusal_of n wrong.Interrupt = refused.UnknownInterrupt n
 
 -- the refusal of a text; want of memory has no cause in it
-abbrev pub IsRefused : App → List ℕ → LimitsRefused → Type 0
-IsRefused app text refused.TooLong = SCRIPT_BYTES < length text
-IsRefused app text (refused.BadLine n) = IsFirstWrong app text n wrong.Form
-IsRefused app text (refused.UnknownInterrupt n) = IsFirstWrong app text n wrong.Interrupt
-IsRefused app text refused.NoMemory = Unit {0}
+pub data IsRefused (app : App) (text : List ℕ) : LimitsRefused → Type 0 where
+  too_long : IsTooLong (limits_reader app) text → IsRefused app text refused.TooLong
+  first_wrong : (n : ℕ) (w : Wrong) → IsFirstWrong (limits_reader app) text n w → IsRefused app text (refusal_of n w)
+  no_memory : IsRefused app text refused.NoMemory

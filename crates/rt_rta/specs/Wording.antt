@@ -2,7 +2,7 @@
 -- with an interrupt I that a task binds and that has no limit yet, and a number N of one to nine digits, at least 1.
 -- One or more spaces separate its words, and none stand before the first or behind the last. The form is this project's
 -- own.
-use Rattle.std.specs.Prelude.{ℕ, Bool, ◌&&◌, ◌||◌, nat_le, if◌then◌else◌, bytes_eq, codes, List, [], ◌∷◌, find}
+use Rattle.std.specs.Prelude.{ℕ, ◌&&◌, ◌||◌, nat_le, if◌then◌else◌, bytes_eq, codes, List, [], ◌∷◌, find}
 use Rattle.std.specs.Prelude.{Option, Some, None, option_map, is_some, Result, Ok, Err}
 use Rattle.rt_ids.specs.Lists.{then_from}
 use Rattle.rt_ids.specs.Word.{is_identifier}

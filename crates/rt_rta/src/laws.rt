@@ -1,10 +1,19 @@
+ghost use Rattle.rt_lines.specs.Reading.{IsReadOneWay};
+ghost use Rattle.rt_app.specs.Tree.{App};
 ghost use Rattle.rt_rta.specs.ByClock.{ResponseTimesHoldByClock};
 ghost use Rattle.rt_rta.specs.Constants.{TellSteps};
 ghost use Rattle.rt_rta.specs.Laws.{OnceInitEndsSaysMore, RunsRespond, RunsRespondOnceInitEnds};
+ghost use Rattle.rt_rta.specs.Text.{limits_reader};
 
 /// The greatest response time that is looked for in numbers, as the documents have it.
 pub fn constants_are_as_documented()
     ensures { TellSteps }
+{}
+
+/// Each text that is not too long tells limits or has a first wrong line, not both, and in one way.
+#[tactic(auto, using(rt_lines::proofs::Reading::read_one_way))]
+pub fn texts_are_read_one_way()
+    ensures { (app : App) → IsReadOneWay (limits_reader app) }
 {}
 
 /// Where requests keep the limits, and no job's cost is spent before it ends, each request of an interrupt is served

@@ -13,7 +13,7 @@ pub mod text;
 
 pub use laws::{
     constants_are_as_documented, once_init_ends_says_more, response_times_hold_by_clock,
-    runs_respond, runs_respond_once_init_ends,
+    runs_respond, runs_respond_once_init_ends, texts_are_read_one_way,
 };
 pub use limits::{Limit, Limits};
 pub use reading::read_limits;

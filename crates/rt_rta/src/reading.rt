@@ -1,10 +1,10 @@
-ghost use Rattle.std.specs.Prelude.{◌≡◌, ◌∷◌, [], ◌++◌, IfOk, IfErr, OnOk};
+ghost use Rattle.std.specs.Prelude.{◌≡◌, IfOk, IfErr};
+ghost use Rattle.rt_lines.specs.Answers.{and_make};
 ghost use Rattle.rt_app.specs.View.{app_of};
 ghost use Rattle.rt_rta.specs.Limits.{AreLimits};
 ghost use Rattle.rt_rta.specs.Text as spec;
-ghost use Rattle.rt_rta.specs.Inside.Telling as telling;
 
-use crate::limits::{Limit, Limits};
+use crate::limits::Limits;
 use crate::line::{Wrong, read_line};
 use crate::refusal::LimitsRefused;
 use rt_app::App;
@@ -30,39 +30,30 @@ pub fn read_limits(alloc: Global, bytes: &[u8], app: &App) -> Result<Limits, Lim
     while !rest.is_empty() {
         let (line, behind) = first_line(rest);
         number += 1;
-        take_line(&mut limits, app, line, number)?;
-        rest = behind;
+        match take_line(&mut limits, app, line) {
+            Ok(Ok(())) => rest = behind,
+            Ok(Err(wrong)) => return Err(refusal(number, wrong)),
+            Err(NoMemory) => return Err(LimitsRefused::NoMemory),
+        }
     }
     Ok(limits)
 }
 
-/// Adds what a line of this number tells.
-fn take_line(limits: &mut Limits, app: &App, line: &[u8], number: u32) -> Result<(), LimitsRefused>
-    ensures taken { OnOk result (telling.Takes (app_of app.now) limits.old line.now limits.new) }
-    ensures refused { IfErr result
-        (λ refusal. telling.IsRefusedLine (app_of app.now) limits.old line.now number refusal) }
+/// Adds what a line tells, or says what is wrong with the line.
+fn take_line(limits: &mut Limits, app: &App, line: &[u8]) -> Result<Result<(), Wrong>, NoMemory>
+    ensures { IfOk result (λ taken.
+        (spec.limits_reader (app_of app.now)).step limits.old line.now ≡ and_make taken (λ _. limits.new)) }
 {
     match read_line(app, limits, line) {
-        Ok(None) => Ok(()),
-        Ok(Some(limit)) => add(limits, limit),
-        Err(wrong) => Err(refusal(wrong, number)),
+        Ok(None) => Ok(Ok(())),
+        Ok(Some(limit)) => Ok(Ok(limits.push(limit)?)),
+        Err(wrong) => Ok(Err(wrong)),
     }
 }
 
-/// Adds a limit.
-fn add(limits: &mut Limits, limit: Limit) -> Result<(), LimitsRefused>
-    ensures added { OnOk result (limits.new ≡ limits.old ++ limit ∷ []) }
-    ensures refused { IfErr result telling.IsWanting }
-{
-    match limits.push(limit) {
-        Ok(()) => Ok(()),
-        Err(NoMemory) => Err(LimitsRefused::NoMemory),
-    }
-}
-
-/// The refusal of a line of this number.
-fn refusal(wrong: Wrong, number: u32) -> LimitsRefused
-    ensures { result ≡ telling.refusal wrong number }
+/// The refusal of a text whose first wrong line has this number.
+fn refusal(number: u32, wrong: Wrong) -> LimitsRefused
+    ensures { result ≡ spec.refusal_of number wrong }
 {
     match wrong {
         Wrong::Form => LimitsRefused::BadLine(number),

@@ -18,7 +18,8 @@ use Rattle.rt_core.specs.Stepping.{step}
 use Rattle.rt_core.specs.Trace.{happen, core_after, labels}
 use Rattle.rt_core.specs.Transfer.{core_after_pend}
 use Rattle.rt_trace.specs.Label.{Label, Ticked, Rang, Stepped, items_of}
-use Rattle.rt_trace.specs.Lined.{HasLine, IsDeclared}
+use Rattle.rt_trace.specs.Lined.{HasLine, HasOperands}
+use Rattle.rt_lines.specs.Operand.{IsDeclared}
 use Rattle.rt_trace.specs.Text.{text}
 use Rattle.rt_trace.specs.declared.item.Item.{Item}
 use Rattle.rt_trace.specs.declared.item.What.{What}
@@ -126,10 +127,13 @@ tick_lined m came few shown =
     subst (λ ls. AllByRecursion (HasLine m.image.names) (items_of m.steps ls))
     (sym (append-nil (happen m.image m.core Tick).1 ∙ shown)) (by came)
   where
+    bare : {w : What} → HasOperands m.image.names w → HasLine m.image.names (record { step = m.steps; what = w })
+    bare has = record { step = few; operands = has }
+
     by : (came : Bool)
         → AllByRecursion (HasLine m.image.names) (items_of m.steps (Ticked ∷ (if came then Rang ∷ [] else [])))
-    by true = (record { step = few; operands = tt }, (record { step = few; operands = tt }, tt))
-    by false = (record { step = few; operands = tt }, tt)
+    by true = (bare (record { written = tt; few = tt }), (bare (record { written = tt; few = tt }), tt))
+    by false = (bare (record { written = tt; few = tt }), tt)
 
 -- of a power of two one bit is set
 only_bits : (k n : ℕ) → (k < n → filter (λ bit. bit_at (2 ^ k) bit == 1) (numbers_below n) ≡ k ∷ [])
@@ -197,4 +201,4 @@ pend_lines m names irq k named counted =
 pub pend_lined : (m : Machine) (irq : ℕ) → m.steps < 2 ^ 31 → IsDeclared m.image.names irq
     → AllByRecursion (HasLine m.image.names) (shown_items m (Arrive irq ∷ []))
 unfolding labels happen
-pend_lined m irq few declared = (record { step = few; operands = declared }, tt)
+pend_lined m irq few declared = (record { step = few; operands = record { written = (declared, tt); few = tt } }, tt)

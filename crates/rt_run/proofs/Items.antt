@@ -31,8 +31,13 @@ IsRightItem img item = HasLine img.names item × IsTakeWithin img item.what
 
 shown_right : (img : Image) (n : ℕ) (w : What) → IsRunnable img → n < 2 ^ 31 → HasWords img.names w
     → IsShownInRange img (Some w) → IsRightItem img (record { step = n; what = w })
-shown_right img n (what.Take irq depth) runnable few words shown =
-    (record { step = few; operands = (words, omega (arith, shown, runnable.sizes.stack_small)) }, shown)
+shown_right img n (what.Take irq depth) runnable few words shown = (
+  record {
+    step = few;
+    operands = record { written = (words, (omega (arith, shown, runnable.sizes.stack_small), tt)); few = tt };
+  },
+  shown,
+)
 shown_right img n (what.Start t args) runnable few words shown =
     (record { step = few; operands = operands img.names (what.Start t args) words shown }, tt)
 shown_right img n w runnable few words shown = (record { step = few; operands = operands img.names w words shown }, tt)
@@ -47,7 +52,7 @@ module _ (img : Image) (lines : HasLines img) (runnable : IsRunnable img) (range
     where
       one : (due : Bool) (x y : Core) → AllByRecursion (IsRightItem img)
           (items_of n ((if◌then◌else◌ {A = Core × List Label} due (x, Rang ∷ []) (y, [])).1 ++ ls))
-      one true x y = ((record { step = few; operands = tt }, tt), rest)
+      one true x y = ((record { step = few; operands = record { written = tt; few = tt } }, tt), rest)
       one false x y = rest
 
   rung_in : (c : Core) (alarm : Option Alarm) → IsInRange c → IsInRange (ring c alarm).0
@@ -71,12 +76,12 @@ module _ (img : Image) (lines : HasLines img) (runnable : IsRunnable img) (range
   unfolding labels happen
   items_right c n [] known h few early all = tt
   items_right c n (Arrive irq ∷ es) known h few early all = (
-    (record { step = omega (arith, few); operands = all.0 }, tt),
+    (record { step = omega (arith, few); operands = record { written = (all.0, tt); few = tt } }, tt),
     items_right (core_after_pend c irq) n es (record { cells = known.cells; below = known.below })
         (record { now = h.now; caller = h.caller; below = h.below }) few early all.1,
   )
   items_right c n (Tick ∷ es) known h few early all = (
-    (record { step = omega (arith, few); operands = tt }, tt),
+    (record { step = omega (arith, few); operands = record { written = tt; few = tt } }, tt),
     rung_right (record c { time = suc c.time }) c.alarm n (labels img (tick c).0 es) (omega (arith, few))
         (items_right (tick c).0 n es (happen_known img c Tick lines known)
         (rung_in (record c { time = suc c.time }) c.alarm

@@ -43,8 +43,8 @@ use Rattle.rt_code.specs.declared.processor.Trap.{Trap}
 use Rattle.rt_code.specs.declared.processor.Trap.TheVariants as trap
 use Rattle.rt_code.proofs.Done.{tested}
 use Rattle.rt_code.specs.Cells.{resource_cell}
-use Rattle.rt_trace.specs.Lined.{IsWord}
-use Rattle.rt_trace.proofs.Tables.{found_at}
+use Rattle.rt_lines.specs.Numbers.{IsWord}
+use Rattle.rt_lines.proofs.Found.{found_at}
 use Rattle.rt_trace.specs.declared.item.What.{What}
 use Rattle.rt_trace.specs.declared.item.What.TheVariants as what
 use Rattle.rt_core.specs.Core.{Core, Context, depth, stack_in_use, context_words, reset}

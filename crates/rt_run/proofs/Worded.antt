@@ -35,9 +35,11 @@ use Rattle.rt_code.specs.declared.processor.Request.TheVariants as request
 use Rattle.rt_code.specs.declared.processor.Trap.TheVariants as trap
 use Rattle.rt_code.proofs.Done.{tested}
 use Rattle.rt_code.proofs.Touching.{cells_after, cells_sized}
-use Rattle.rt_trace.specs.Lined.{HasOperands, IsSection, HasValue, IsBody}
+use Rattle.rt_trace.specs.Lined.{HasOperands}
+use Rattle.rt_lines.specs.Operand.{IsSection, IsBody}
 use Rattle.rt_trace.specs.declared.item.What.{What}
 use Rattle.rt_trace.specs.declared.item.What.TheVariants as what
+use Rattle.rt_trace.proofs.Values.{values_written}
 use Rattle.rt_core.specs.Core.{Core, Context, depth}
 use Rattle.rt_core.specs.Note.{item_of_note, left_value, slots_from}
 use Rattle.rt_core.specs.Outcome.{Outcome, Trapped, Done, settle}
@@ -56,12 +58,16 @@ is_section names (section.Free t) h n = h
 is_section names (section.Ready p) h n = n
 is_section names section.Timer h n = tt
 
-has_value : (x : Section) (value : Option ℕ) → HasValueOf x value → IsWordIf value → HasValue x value
-has_value (section.Res r) None h n = cc
-has_value (section.Res r) (Some v) h n = (v, refl, n)
-has_value (section.Free t) value h n = h
-has_value (section.Ready p) value h n = h
-has_value section.Timer value h n = h
+is_left : (names : Names) (x : Section) (value : Option ℕ) → HasSection names x → HasLevel x → HasValueOf x value
+    → IsWordIf value → HasOperands names (what.Leave x value)
+is_left names (section.Res r) None h l v n = absurd cc
+is_left names (section.Res r) (Some k) h l v n = record { written = (h, (n, tt)); few = tt }
+is_left names (section.Free t) None h l v n = record { written = (h, tt); few = tt }
+is_left names (section.Free t) (Some k) h l v n = absurd cc
+is_left names (section.Ready p) None h l v n = record { written = (l, tt); few = tt }
+is_left names (section.Ready p) (Some k) h l v n = absurd cc
+is_left names section.Timer None h l v n = record { written = (tt, tt); few = tt }
+is_left names section.Timer (Some k) h l v n = absurd cc
 
 is_body : (names : Names) (b : BodyId) → HasBody names b → IsBody names b
 is_body names body.Init h = tt
@@ -69,28 +75,28 @@ is_body names body.Idle h = tt
 is_body names (body.Task t) h = h
 
 pub operands : (names : Names) (w : What) → HasWords names w → HasNumbers w → HasOperands names w
-operands names (what.Pend i) h n = h
-operands names what.Tick h n = tt
-operands names what.Alarm h n = tt
-operands names what.AlarmSet h n = tt
-operands names (what.Take i depth) h n = (h, n)
-operands names (what.Ret i) h n = h
-operands names (what.Enter x) h n = is_section names x h n
-operands names (what.Leave x value) h n = (is_section names x h.0 n.0, has_value x value h.1 n.1)
-operands names (what.Emit v) h n = n
-operands names (what.Placed t) h n = h
-operands names (what.Full t) h n = h
-operands names (what.Ready t) h n = h
-operands names (what.Start t args) h n = (h, n.0, n.1)
-operands names (what.Free t) h n = h
-operands names (what.Post i) h n = h
-operands names (what.Clock v) h n = n
-operands names (what.Arm t v) h n = (h, n)
-operands names (what.Fire t) h n = h
-operands names (what.Cancel t handle) h n = (h, n)
-operands names (what.Move t handle v) h n = (h, n.0, n.1)
-operands names (what.End b) h n = is_body names b h
-operands names (what.Trap k) h n = n
+operands names (what.Pend i) h n = record { written = (h, tt); few = tt }
+operands names what.Tick h n = record { written = tt; few = tt }
+operands names what.Alarm h n = record { written = tt; few = tt }
+operands names what.AlarmSet h n = record { written = tt; few = tt }
+operands names (what.Take i depth) h n = record { written = (h, (n, tt)); few = tt }
+operands names (what.Ret i) h n = record { written = (h, tt); few = tt }
+operands names (what.Enter x) h n = record { written = (is_section names x h n, tt); few = tt }
+operands names (what.Leave x value) h n = is_left names x value h.0 n.0 h.1 n.1
+operands names (what.Emit v) h n = record { written = (n, tt); few = tt }
+operands names (what.Placed t) h n = record { written = (h, tt); few = tt }
+operands names (what.Full t) h n = record { written = (h, tt); few = tt }
+operands names (what.Ready t) h n = record { written = (h, tt); few = tt }
+operands names (what.Start t args) h n = record { written = (h, values_written names args n.1); few = n.0 }
+operands names (what.Free t) h n = record { written = (h, tt); few = tt }
+operands names (what.Post i) h n = record { written = (h, tt); few = tt }
+operands names (what.Clock v) h n = record { written = (n, tt); few = tt }
+operands names (what.Arm t v) h n = record { written = (h, (n, tt)); few = tt }
+operands names (what.Fire t) h n = record { written = (h, tt); few = tt }
+operands names (what.Cancel t handle) h n = record { written = (h, (n, tt)); few = tt }
+operands names (what.Move t handle v) h n = record { written = (h, (n.0, (n.1, tt))); few = tt }
+operands names (what.End b) h n = record { written = (is_body names b h, tt); few = tt }
+operands names (what.Trap k) h n = record { written = (n, tt); few = tt }
 
 abbrev IsKnownAfter : Image → Outcome → Type 0
 IsKnownAfter img (Trapped c trap) = IsKnown img c

@@ -6,7 +6,7 @@ use Rattle.rt_code.specs.declared.instr.Instr.{Instr}
 use Rattle.rt_code.specs.declared.instr.Instr.TheVariants as instr
 use Rattle.rt_code.specs.declared.instr.Note.{Note}
 use Rattle.rt_code.specs.declared.instr.Note.TheVariants as note
-use Rattle.rt_trace.specs.Lined.{IsWord}
+use Rattle.rt_lines.specs.Numbers.{IsWord}
 use Rattle.rt_run.specs.Numbers.{HasLevel}
 
 -- numbers of 32 bits

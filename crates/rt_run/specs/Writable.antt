@@ -5,7 +5,7 @@ use Rattle.rt_code.specs.Image.{Image}
 use Rattle.rt_code.specs.Lines.{HasLines}
 use Rattle.rt_core.specs.Core.{Core}
 use Rattle.rt_core.specs.Machine.{Machine}
-use Rattle.rt_trace.specs.Lined.{IsDeclared}
+use Rattle.rt_lines.specs.Operand.{IsDeclared}
 
 -- the core has as many cells as the image, and each active handler is of an interrupt with a name
 pub record IsKnown (img : Image) (c : Core) : Type 0 where

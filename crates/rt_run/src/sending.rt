@@ -2,7 +2,7 @@
 ghost use Rattle.std.specs.Prelude.{◌≡◌, ◌<◌, ◌^◌, [], ◌∷◌, OnOk, OnErr};
 ghost use Rattle.rt_ids.specs.Event.{Arrive, Tick, Step};
 ghost use Rattle.rt_outside.specs.Faults.{HasCause};
-ghost use Rattle.rt_trace.specs.Lined.{IsDeclared};
+ghost use Rattle.rt_lines.specs.Operand.{IsDeclared};
 ghost use Rattle.rt_run.specs.Sending.{Sends, Breaks};
 ghost use Rattle.rt_run.specs.Writable.{IsWritable};
 

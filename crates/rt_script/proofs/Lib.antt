@@ -1,5 +1,4 @@
 pub mod Lines
-pub mod Taking
+pub mod Keeping
 pub mod Drawing
-pub mod OneWay
 pub mod Declared

@@ -3,4 +3,3 @@ pub mod Wording
 pub mod Text
 pub mod Generated
 pub mod Inside
-pub mod Laws

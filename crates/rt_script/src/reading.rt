@@ -1,11 +1,9 @@
-ghost use Rattle.std.specs.Prelude.{◌≡◌, ◌<◌, ◌≤◌, ◌+◌, ◌⊎◌, [], ◌∷◌, ◌++◌, length, IfOk, IfErr, OnOk};
+ghost use Rattle.std.specs.Prelude.{◌≡◌, ◌<◌, ◌∷◌, length, IfOk, IfErr};
 ghost use Rattle.std.specs.Str.Lines.{lines, strip_carriage_return};
-ghost use Rattle.rt_ids.specs.declared.limits.TheConstants.{SCRIPT_EVENTS};
-ghost use Rattle.rt_script.specs.Script.{HasDeviceInRange, HasNames, count, count_of};
+ghost use Rattle.rt_lines.specs.Answers.{and_make};
+ghost use Rattle.rt_script.specs.Script.{HasNames};
 ghost use Rattle.rt_script.specs.Text as spec;
-ghost use Rattle.rt_script.specs.Inside.Taking as taking;
 
-use crate::line::Line;
 use crate::refusal::ScriptRefused;
 use crate::script::Script;
 use crate::words::{Wrong, read_line};
@@ -31,8 +29,11 @@ pub fn read_script(alloc: Global, bytes: &[u8], names: &Names) -> Result<Script,
     while !rest.is_empty() {
         let (line, behind) = first_line(rest);
         number += 1;
-        take_line(&mut script, names, line, number)?;
-        rest = behind;
+        match take_line(&mut script, names, line) {
+            Ok(Ok(())) => rest = behind,
+            Ok(Err(wrong)) => return Err(refusal(number, wrong)),
+            Err(NoMemory) => return Err(ScriptRefused::NoMemory),
+        }
     }
     Ok(script)
 }
@@ -60,46 +61,26 @@ fn without_return(line: &[u8]) -> &[u8]
     }
 }
 
-/// Adds what a line of this number asks for.
-fn take_line(
-    script: &mut Script,
-    names: &Names,
-    line: &[u8],
-    number: u32,
-) -> Result<(), ScriptRefused>
-    ensures taken { OnOk result (taking.Takes names.now script.old line.now script.new) }
-    ensures refused { IfErr result (λ refusal. taking.IsRefusedLine names.now script.old line.now number refusal) }
+/// Adds what a line asks for, or says what is wrong with the line.
+fn take_line(script: &mut Script, names: &Names, line: &[u8]) -> Result<Result<(), Wrong>, NoMemory>
+    ensures { IfOk result (λ taken.
+        (spec.script_reader names.now).step script.old line.now ≡ and_make taken (λ _. script.new)) }
 {
     match read_line(names, line) {
-        Ok(None) => Ok(()),
-        Ok(Some(asked)) => add(script, asked, number),
-        Err(wrong) => Err(refusal(wrong, number)),
+        Ok(None) => Ok(Ok(())),
+        Ok(Some(asked)) => Ok(script.push(asked)?.then_some(()).ok_or(Wrong::Events)),
+        Err(wrong) => Ok(Err(wrong)),
     }
 }
 
-/// Adds a line, where the events are not too many then.
-fn add(script: &mut Script, line: Line, number: u32) -> Result<(), ScriptRefused>
-    requires { HasDeviceInRange line }
-    ensures added { OnOk result
-        ((script.new ≡ script.old ++ line ∷ []) × (count script.old + count_of line ≤ SCRIPT_EVENTS)) }
-    ensures refused { IfErr result
-        (λ refusal. (refusal ≡ ScriptRefused.NoMemory)
-        ⊎ ((refusal ≡ ScriptRefused.TooManyEvents number) × (SCRIPT_EVENTS < count script.old + count_of line))) }
-{
-    match script.push(line) {
-        Ok(true) => Ok(()),
-        Ok(false) => Err(ScriptRefused::TooManyEvents(number)),
-        Err(NoMemory) => Err(ScriptRefused::NoMemory),
-    }
-}
-
-/// The refusal of a line of this number.
-fn refusal(wrong: Wrong, number: u32) -> ScriptRefused
-    ensures { result ≡ taking.refusal wrong number }
+/// The refusal of a text whose first wrong line has this number.
+fn refusal(number: u32, wrong: Wrong) -> ScriptRefused
+    ensures { result ≡ spec.refusal_of number wrong }
 {
     match wrong {
         Wrong::Form => ScriptRefused::BadLine(number),
         Wrong::Interrupt => ScriptRefused::UnknownInterrupt(number),
         Wrong::Device => ScriptRefused::TooManyDevices(number),
+        Wrong::Events => ScriptRefused::TooManyEvents(number),
     }
 }

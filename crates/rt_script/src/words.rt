@@ -1,6 +1,5 @@
-ghost use Rattle.std.specs.Prelude.{◌≡◌, IfOk, IfSome};
+ghost use Rattle.std.specs.Prelude.{◌≡◌};
 ghost use Rattle.rt_lines.specs.Parts.{spaced_words};
-ghost use Rattle.rt_script.specs.Script.{HasDeviceInRange};
 ghost use Rattle.rt_script.specs.Wording as spec;
 
 use crate::line::Line;
@@ -17,12 +16,13 @@ pub enum Wrong {
     Interrupt,
     /// Its device's number is not in range.
     Device,
+    /// The events up to it are too many.
+    Events,
 }
 
 /// What a line asks for; None where it is blank or a comment.
 pub fn read_line(names: &Names, line: &[u8]) -> Result<Option<Line>, Wrong>
-    ensures line { result ≡ spec.line_of names.now line.now }
-    ensures device { IfOk result (λ asked. IfSome asked HasDeviceInRange) }
+    ensures { result ≡ spec.line_of names.now line.now }
 {
     if is_blank(line) || is_comment(line) {
         return Ok(None);
@@ -62,8 +62,7 @@ pub fn is_loose(line: &[u8]) -> bool
 
 /// What the words of a line ask for.
 fn read_words(names: &Names, line: &[u8]) -> Result<Line, Wrong>
-    ensures line { result ≡ spec.words_ask names.now (spaced_words line.now) }
-    ensures device { IfOk result HasDeviceInRange }
+    ensures { result ≡ spec.words_ask names.now (spaced_words line.now) }
 {
     let Some((verb, rest)) = next_spaced_word(line) else {
         return Err(Wrong::Form);
@@ -128,8 +127,7 @@ fn read_pends(names: &Names, words: &[u8]) -> Result<(Irq, u32), Wrong>
 
 /// What a device requests.
 fn read_device(names: &Names, words: &[u8]) -> Result<Line, Wrong>
-    ensures line { result ≡ spec.device_of names.now (spaced_words words.now) }
-    ensures device { IfOk result HasDeviceInRange }
+    ensures { result ≡ spec.device_of names.now (spaced_words words.now) }
 {
     let Some((number, rest)) = next_spaced_word(words) else {
         return Err(Wrong::Form);
@@ -146,8 +144,7 @@ fn read_device(names: &Names, words: &[u8]) -> Result<Line, Wrong>
 
 /// The line of a device, where its number is in range.
 fn in_range(device: u32, irq: Irq, count: u32) -> Result<Line, Wrong>
-    ensures line { result ≡ spec.in_range device (irq, count) }
-    ensures device { IfOk result HasDeviceInRange }
+    ensures { result ≡ spec.in_range device (irq, count) }
 {
     if device < u32::from(DEVICES) {
         Ok(Line::Device(device as u8, irq, count))

@@ -3,7 +3,7 @@ use Rattle.std.proofs.Common.{◌≡◌, ℕ, ◌*◌, ◌≤◌, ◌==◌, true
 use Rattle.std.proofs.Common.{map}
 use Rattle.std.proofs.Common.{flat_map, codes, decimal, Option, Some, None, option_map, unwrap_or, eqb, refl, sym}
 use Rattle.std.proofs.Common.{arith, length-append}
-use Rattle.std.specs.List.{AllByRecursion, list_all}
+use Rattle.std.specs.List.{AllByRecursion}
 use Rattle.std.proofs.lemmas.List.{length-map}
 use Rattle.rt_lemmas.proofs.Bools.{left_of_none, right_of_none}
 use Rattle.rt_lemmas.proofs.Lists.{find_has, flat_map-map}
@@ -17,9 +17,9 @@ use Rattle.rt_live.specs.declared.account.AccountRow.{AccountRow}
 use Rattle.rt_load.proofs.Clean.{IsClean, is_mark, decimal_clean}
 use Rattle.rt_load.proofs.Lengths.{decimal_few}
 use Rattle.rt_trace.specs.Reading.{is_account}
-use Rattle.rt_trace.specs.Text.{spaced_text}
-use Rattle.rt_trace.proofs.Short.{irq_name_short}
-use Rattle.rt_trace.proofs.Unbroken.{IsUnbroken, fed, name_unbroken, spaced_unbroken, unbroken_append}
+use Rattle.rt_lines.specs.Table.{spaced_text}
+use Rattle.rt_lines.proofs.Short.{irq_name_short}
+use Rattle.rt_lines.proofs.Unbroken.{IsUnbroken, fed, name_unbroken, spaced_unbroken, unbroken_append}
 
 -- the line of a row, without its line feed
 abbrev account_line : Names → AccountRow → List ℕ
@@ -32,9 +32,10 @@ pub account_fed : (names : Names) (rows : List AccountRow) → account_text name
     ≡ flat_map fed (account_lines names rows)
 account_fed names rows = sym (flat_map-map fed (account_line names) rows)
 
-pub account_told : (names : Names) (rows : List AccountRow) → list_all is_account (account_lines names rows) ≡ true
-account_told names [] = refl
-account_told names (row ∷ rows) = account_told names rows
+pub account_told : (names : Names) (rows : List AccountRow)
+    → AllByRecursion (λ line. is_account line ≡ true) (account_lines names rows)
+account_told names [] = tt
+account_told names (row ∷ rows) = (refl, account_told names rows)
 
 clean_unbroken : (w : List ℕ) → IsClean w → IsUnbroken w
 clean_unbroken w clean =

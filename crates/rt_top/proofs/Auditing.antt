@@ -1,6 +1,6 @@
 -- How an auditor goes on by a line, and how it ends.
 use Rattle.std.proofs.Common.{◌≡◌, ℕ, suc, ◌+◌, ◌<◌, ◌≤◌, ◌^◌, ◌==◌, true, false, if◌then◌else◌, List, [], ◌∷◌}
-use Rattle.std.proofs.Common.{◌++◌, length, Option, Some, None, inr, sym, ap}
+use Rattle.std.proofs.Common.{◌++◌, length, Option, Some, None, Ok, Err, refl, sym, ap}
 use Rattle.std.proofs.Common.{subst, ◌∙◌, arith, append_assoc, append-nil, length-append}
 use Rattle.rt_ids.specs.Names.{Names}
 use Rattle.rt_ids.specs.declared.limits.TheConstants.{TRACE_BYTES}
@@ -8,6 +8,7 @@ use Rattle.std.proofs.lemmas.List.Splits.{length-slice_split}
 use Rattle.std.proofs.lemmas.List.Sums.{count_by-le-length}
 use Rattle.rt_ids.specs.Lists.{is_empty}
 use Rattle.rt_lines.specs.Parts.{parts, lines_of_parts, lines}
+use Rattle.rt_lines.proofs.Reading.{lead_more}
 use Rattle.rt_app.specs.Names.{names_of}
 use Rattle.rt_app.specs.Tree.{App}
 use Rattle.rt_app.specs.View.{app_of}
@@ -16,61 +17,62 @@ use Rattle.rt_baker.specs.Judge.{HasJudged, MayTake}
 use Rattle.rt_baker.specs.declared.judge.Judge.{Judge}
 use Rattle.rt_baker.specs.declared.verdict.Verdict.{Verdict}
 use Rattle.rt_baker_moves.specs.declared.machine.Machine.{Machine}
-use Rattle.rt_trace.specs.Reader.{HasRead, ReadsMore, RefusesEnd, RefusesLine, RefusesMore}
-use Rattle.rt_trace.specs.Reading.{IsRefused, IsTraceText, IsWrongBehind}
+use Rattle.rt_trace.specs.Reader.{refusal_of, standing}
+use Rattle.rt_trace.specs.Reading.{IsRefused, IsTraceText, line_told, missing, total_of, trace_reader}
 use Rattle.rt_trace.specs.Trace.{Trace}
 use Rattle.rt_trace.specs.declared.item.Item.{Item}
-use Rattle.rt_trace.specs.declared.operand.Wrong.TheVariants as wrong
+use Rattle.rt_lines.specs.declared.operand.Wrong.{Wrong}
 use Rattle.rt_trace.specs.declared.reader.TraceReader.{TraceReader}
 use Rattle.rt_trace.specs.declared.refusal.TraceRefused.{TraceRefused}
-use Rattle.rt_trace.specs.declared.refusal.TraceRefused.TheVariants as refused
-use Rattle.rt_trace.proofs.Standing.{unended_text}
+use Rattle.rt_trace.proofs.Stepping.{line_passed, line_read, line_wrong, refused_so}
 use Rattle.rt_top.specs.Inside.Auditor.{Goes, Refuses, Stands, HasAudited, IsJudgedText}
 
 module _ (app : App) (names : Names) (ls : List (List ℕ)) (line : List ℕ) (old new : TraceReader) where
   -- a line that tells no item
-  pub goes_silent : (judge : Judge) → ReadsMore names old line None new → Goes app names ls old judge
-      → Goes app names (ls ++ line ∷ []) new judge
+  pub goes_silent : (judge : Judge) → line_told names old.phase line ≡ Ok (new.phase, None)
+      → Goes app names ls old judge → Goes app names (ls ++ line ∷ []) new judge
   goes_silent judge reads g = record {
     items = g.items;
     few = omega (arith, g.few, length-append ls (line ∷ []));
     read =
-        subst (λ (is : List Item). HasRead names (ls ++ line ∷ []) is new) (append-nil g.items)
-        (reads ls g.items g.read);
+        lead_more (trace_reader names) _ _ _ ls line g.read (line_passed names old.phase new.phase g.items line reads);
     judged = g.judged;
   }
 
   -- and one that tells an item
-  pub goes_on : (item : Item) (before after : Judge) → ReadsMore names old line (Some item) new
+  pub goes_on : (item : Item) (before after : Judge) → line_told names old.phase line ≡ Ok (new.phase, Some item)
       → ((items : List Item) → HasJudged app items before → HasJudged app (items ++ item ∷ []) after)
       → Goes app names ls old before → Goes app names (ls ++ line ∷ []) new after
   goes_on item before after reads judges g = record {
     items = g.items ++ item ∷ [];
     few = omega (arith, g.few, length-append g.items (item ∷ []), length-append ls (line ∷ []));
-    read = reads ls g.items g.read;
+    read =
+        lead_more (trace_reader names) _ _ _ ls line g.read
+        (line_read names old.phase new.phase g.items line (Some item) reads);
     judged = judges g.items g.judged;
   }
 
   -- a line that is wrong
   pub line_refuses : (judge : Judge) (number : ℕ) (refusal : TraceRefused) → suc (length ls) ≡ number
-      → RefusesMore names old line number refusal → Goes app names ls old judge
-      → Refuses names (ls ++ line ∷ []) refusal
-  line_refuses judge number refusal counted refuses g = record {
-    number = number;
-    refused = λ behind.
-        subst (λ (all : List (List ℕ)). RefusesLine names all number refusal) (sym (append_assoc ls (line ∷ []) behind))
-        (refuses ls behind g.items counted g.read);
-  }
+      → (w : Wrong) × (line_told names old.phase line ≡ Err w) × (refusal ≡ refusal_of w number)
+      → Goes app names ls old judge → Refuses names (ls ++ line ∷ []) refusal
+  line_refuses judge number refusal counted (w, told, says) g = λ text behind short parts.
+      refused_so names text (suc (length ls)) w refusal (record {
+        short = short;
+        before = ls;
+        behind = line ∷ behind;
+        parts = parts ∙ append_assoc ls (line ∷ []) behind;
+        number_is = refl;
+        reached = standing old g.items;
+        lead = g.read;
+        wrong = line_wrong names old.phase g.items line w told;
+      }) (says ∙ ap (refusal_of w) (sym counted))
 
 -- a line behind a wrong one
 pub refuses_on : (names : Names) (ls : List (List ℕ)) (line : List ℕ) (refusal : TraceRefused)
     → Refuses names ls refusal → Refuses names (ls ++ line ∷ []) refusal
-refuses_on names ls line refusal r = record {
-  number = r.number;
-  refused = λ behind.
-      subst (λ (all : List (List ℕ)). RefusesLine names all r.number refusal) (sym (append_assoc ls (line ∷ []) behind))
-      (r.refused (line ∷ behind));
-}
+refuses_on names ls line refusal refuses =
+    λ text behind short parts. refuses text (line ∷ behind) short (parts ∙ append_assoc ls (line ∷ []) behind)
 
 -- and where that is kept
 pub stands_on : (app : App) (names : Names) (ls : List (List ℕ)) (line : List ℕ) (reader : TraceReader) (judge : Judge)
@@ -104,19 +106,6 @@ may_take app names ls reader judge number counted small g = record {
   few = omega (arith, g.few, counted, small);
 }
 
-line_refused : (names : Names) (text : List ℕ) (number : ℕ) (r : TraceRefused) → length text ≤ TRACE_BYTES
-    → RefusesLine names (lines text) number r → IsRefused names text r
-line_refused names text number refused.TooLong short h = absurd h
-line_refused names text number (refused.BadLine n) short h = record {
-  short = short;
-  wrong_line = inr (subst (λ (k : ℕ). IsWrongBehind names (lines text) k wrong.Form) (sym h.0) h.1);
-}
-line_refused names text number (refused.UnknownName n) short h = record {
-  short = short;
-  wrong_line = inr (subst (λ (k : ℕ). IsWrongBehind names (lines text) k wrong.Name) (sym h.0) h.1);
-}
-line_refused names text number refused.NoMemory short h = tt
-
 some_same : (a b : App) → Some a ≡ Some b → a ≡ b
 some_same a b e = cc
 
@@ -133,14 +122,12 @@ module _ (chosen : Option App) (names : Names) (machine : Machine) (reader : Tra
 
   pub end_wrong : (refusal : TraceRefused) → refusing ≡ Some refusal → IsRefused (names_of app) text refusal
   end_wrong refusal wrong =
-      let stands : Refuses names (lines text) refusal =
+      let refuses : Refuses names (lines text) refusal =
       subst (λ (r : Option TraceRefused). Stands (app_of machine.code.now.app.now) names (lines text) reader judge r)
       wrong
       h.stands in
       subst (λ (n : Names). IsRefused n text refusal) same_names
-      (line_refused names text stands.number refusal short
-      (subst (λ (all : List (List ℕ)). RefusesLine names all stands.number refusal) (append-nil (lines text))
-      (stands.refused [])))
+      (refuses text [] short (sym (append-nil (lines text))))
 
   goes : refusing ≡ None → Goes (app_of machine.code.now.app.now) names (lines text) reader judge
   goes none =
@@ -149,15 +136,23 @@ module _ (chosen : Option App) (names : Names) (machine : Machine) (reader : Tra
       h.stands
 
   pub end_unended : refusing ≡ None → (count : ℕ) (refusal : TraceRefused) → length (lines text) ≡ count
-      → ((names : Names) (ls : List (List ℕ)) (items : List Item) → length ls ≡ count → HasRead names ls items reader
-      → RefusesEnd ls refusal) → IsRefused (names_of app) text refusal
-  end_unended none count refusal counted refuses =
+      → (w : Wrong) × (missing reader.phase ≡ Some w) × (refusal ≡ refusal_of w (count + 1))
+      → IsRefused (names_of app) text refusal
+  end_unended none count refusal counted (w, misses, says) =
       subst (λ (n : Names). IsRefused n text refusal) same_names
-      (unended_text names text (goes none).items reader count refusal short counted (goes none).read refuses)
+      (refused_so names text (count + 1) w refusal (record {
+        short = short;
+        before = lines text;
+        behind = [];
+        parts = sym (append-nil (lines text));
+        number_is = omega (arith, counted);
+        reached = standing reader (goes none).items;
+        lead = (goes none).read;
+        wrong = misses;
+      }) says)
 
   pub end_judged : refusing ≡ None → (total : Option ℕ) (verdict : Verdict) (count : ℕ)
-      → ((names : Names) (text : List ℕ) (items : List Item) → length text ≤ TRACE_BYTES
-      → HasRead names (lines text) items reader → IsTraceText names text (record { items = items; total = total }))
+      → (missing reader.phase ≡ None) × (total ≡ total_of reader.phase)
       → ((items : List Item) → HasJudged (app_of machine.code.now.app.now) items judge
       → IsVerdict (app_of machine.code.now.app.now) (record { items = items; total = total }) verdict)
       → ((a : App) (items : List Item) → HasJudged a items judge → count ≡ length items)
@@ -167,8 +162,11 @@ module _ (chosen : Option App) (names : Names) (machine : Machine) (reader : Tra
       let shown : Trace = record { items = g.items; total = total } in
       record {
         trace = shown;
-        read =
-            subst (λ (n : Names). IsTraceText n text shown) same_names (whole names text g.items short g.read);
+        read = subst (λ (n : Names). IsTraceText n text shown) same_names (record {
+          reached = standing reader g.items;
+          read = record { short = short; lead = g.read; whole = whole.0 };
+          tells = ap (λ t. record { items = g.items; total = t }) whole.1;
+        });
         is = subst (λ (a : App). IsVerdict a shown verdict) same_app (judges g.items g.judged);
         counted = counts (app_of machine.code.now.app.now) g.items g.judged;
       }

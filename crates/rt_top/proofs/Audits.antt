@@ -4,7 +4,7 @@ use Rattle.std.proofs.Common.{◌≡◌, ℕ, ◌+◌, ◌<◌, ◌≤◌, ◌^�
 use Rattle.std.proofs.Common.{length, flat_map, codes, decimal, Option, Some, None, refl}
 use Rattle.std.proofs.Common.{ap}
 use Rattle.std.proofs.Common.{sym, subst, ◌∙◌, arith, length-append}
-use Rattle.std.specs.List.{AllByRecursion, list_all}
+use Rattle.std.specs.List.{AllByRecursion}
 use Rattle.rt_lemmas.proofs.Membership.{all_weaker}
 use Rattle.rt_ids.specs.Event.{Event, steps}
 use Rattle.rt_ids.specs.Names.{Names, AreNames}
@@ -54,7 +54,7 @@ use Rattle.rt_trace.specs.Trace.{Trace}
 use Rattle.rt_trace.specs.declared.item.Item.{Item}
 use Rattle.rt_trace.proofs.Lengths.{texts_fit, total_short}
 use Rattle.rt_trace.proofs.TextsRead.{text_read}
-use Rattle.rt_trace.proofs.Unbroken.{IsUnbroken, fed}
+use Rattle.rt_lines.proofs.Unbroken.{IsUnbroken, fed}
 use Rattle.rt_top.specs.Outputs.{IsGoodOf, IsAudited}
 
 -- numbers of the types in which a program holds them are in range
@@ -177,7 +177,7 @@ module _ (app : App) (image : Image) (is : IsGoodOf app image) (numbers : HasTyp
 
     -- and are audited so
     pub audited : (text : List ℕ) → IsApplication text app → (accounts : List (List ℕ)) (bytes : List ℕ)
-        → AllByRecursion IsUnbroken accounts → list_all is_account accounts ≡ true
+        → AllByRecursion IsUnbroken accounts → AllByRecursion (λ line. is_account line ≡ true) accounts
         → length (flat_map fed accounts) ≤ 100000
         → bytes ≡ listing image ++ codes "trace\n" ++ (trace_text image.names shown ++ flat_map fed accounts)
         → IsAudited text bytes status.Done (codes "yes " ++ decimal (length (trace image es)) ++ codes "\n")

@@ -15,6 +15,7 @@ use Rattle.rt_baker.specs.declared.verdict.Verdict.TheVariants as judged
 use Rattle.rt_build.specs.Accepted.{tree_violations, IsApplication}
 use Rattle.rt_build.proofs.Firsts.{no_first}
 use Rattle.rt_code.specs.Image.{Image}
+use Rattle.rt_lines.proofs.Reading.{read_one_way}
 use Rattle.rt_load.specs.Reading.{IsListingText}
 use Rattle.rt_load.specs.Reading as loading
 use Rattle.rt_load.specs.declared.refusal.LoadRefused.{LoadRefused}
@@ -25,25 +26,19 @@ use Rattle.rt_resolve.specs.Resolved.{resolved_app}
 use Rattle.rt_app.specs.Forms.{has_response_times}
 use Rattle.rt_rta.specs.Text as limits
 use Rattle.rt_rta.specs.declared.limits.Limit.{Limit}
-use Rattle.rt_rta.specs.declared.line.Wrong.TheVariants as limits_wrong
 use Rattle.rt_rta.specs.declared.refusal.LimitsRefused.{LimitsRefused}
-use Rattle.rt_rta.specs.declared.refusal.LimitsRefused.TheVariants as in_limits
-use Rattle.rt_rta.proofs.OneWay.{not_both}
 use Rattle.rt_script.specs.Text as script
 use Rattle.rt_script.specs.declared.line.Line.{Line}
 use Rattle.rt_script.specs.declared.refusal.ScriptRefused.{ScriptRefused}
-use Rattle.rt_script.specs.declared.refusal.ScriptRefused.TheVariants as in_script
-use Rattle.rt_script.specs.declared.words.Wrong.TheVariants as script_wrong
-use Rattle.rt_script.proofs.OneWay as scripts
 use Rattle.rt_trace.specs.Reading as trace
 use Rattle.rt_trace.specs.Trace.{Trace}
-use Rattle.rt_trace.specs.declared.operand.Wrong.TheVariants as trace_wrong
+use Rattle.rt_lines.specs.declared.operand.Wrong.TheVariants as trace_wrong
 use Rattle.rt_trace.specs.declared.refusal.TraceRefused.{TraceRefused}
 use Rattle.rt_trace.specs.declared.refusal.TraceRefused.TheVariants as in_trace
-use Rattle.rt_trace.proofs.OneWay as traces
+use Rattle.rt_trace.proofs.Stepping.{one_trace}
 use Rattle.rt_top.specs.Words.{Command, Run, Check, Fmt, Build, Audit, Live, Soak, Demo, Deepest, Times, Verify, Pair}
 use Rattle.rt_top.specs.Refusal.{RefusesText, RefusesApplication}
-use Rattle.rt_top.specs.SecondRefusal.{SaysScript, SaysTrace, SaysLimits, RefusesScript, RefusesTrace, RefusesLimits}
+use Rattle.rt_top.specs.SecondRefusal.{RefusesOver, SaysScript, SaysTrace, SaysLimits}
 use Rattle.rt_top.specs.Kinds.{Kind, kinds_of, IsOfKind, IsRefusedBy, IsRefusedAmong}
 use Rattle.rt_top.specs.Kinds as kind
 use Rattle.rt_top.specs.Outputs.{Says, IsAudited, TellsDeepest, TellsTimes}
@@ -69,55 +64,44 @@ pub application_only : (text : List ℕ) (a b : App) → IsApplication text a �
 application_only text a b one other =
     one.kept.same ∙ (ap resolved_app (text_only text one.tree other.tree one.text other.text) ∙ sym other.kept.same)
 
+-- what is of a kind over the application of a text is not refused over it
+passes : {S R : Type 0} (IsOf : App → List ℕ → S → Type 0) (IsRefused : App → List ℕ → R → Type 0)
+    (Says : R → List ℕ → Type 0)
+    → ((app : App) (more line : List ℕ) (s : S) (r : R) → IsOf app more s → IsRefused app more r → Says r line → ⊥)
+    → (text more line : List ℕ) (app : App) → IsApplication text app → (s : S) → IsOf app more s
+    → RefusesOver IsRefused Says text more line → ⊥
+passes IsOf IsRefused Says excludes text more line app is s read r =
+    excludes r.app more line s r.refusal
+    (subst (λ a. IsOf a more s) (application_only text app r.app is r.of_text) read) r.refused r.says
+
 -- a script, over the names
 script_read : (names : Names) (more line : List ℕ) (s : List Line) (refusal : ScriptRefused)
     → script.IsScriptText names more s
     → script.IsRefused names more refusal → SaysScript refusal line → ⊥
-script_read names more line s in_script.TooLong is met says = omega (arith, is.short, met)
-script_read names more line s (in_script.BadLine n) is met says = scripts.read_one_way.not_both names more s n
-    (script.Alone script_wrong.Form) is met
-script_read names more line s (in_script.UnknownInterrupt n) is met says =
-    scripts.read_one_way.not_both names more s n (script.Alone script_wrong.Interrupt) is met
-script_read names more line s (in_script.TooManyEvents n) is met says =
-    scripts.read_one_way.not_both names more s n script.Events is met
-script_read names more line s (in_script.TooManyDevices n) is met says =
-    scripts.read_one_way.not_both names more s n (script.Alone script_wrong.Device) is met
-script_read names more line s in_script.NoMemory is met says = says
-
-script_passes : (text more line : List ℕ) (app : App) → IsApplication text app → (asked : List Line)
-    → script.IsScriptText (names_of app) more asked → RefusesScript text more line → ⊥
-script_passes text more line app is asked read r =
-    script_read (names_of r.app) more line asked r.refusal
-    (subst (λ a. script.IsScriptText (names_of a) more asked) (application_only text app r.app is r.of_text) read)
-    r.refused r.says
+script_read names more line s refusal is (script.too_long long) says = omega (arith, is.short, long)
+script_read names more line s refusal is (script.first_wrong n w first) says =
+    (read_one_way (script.script_reader names)).not_both more s n w is first
+script_read names more line s refusal is script.no_memory says = says
 
 -- limits
 limits_read : (app : App) (more line : List ℕ) (ls : List Limit) (refusal : LimitsRefused)
     → limits.IsLimitsText app more ls
     → limits.IsRefused app more refusal → SaysLimits refusal line → ⊥
-limits_read app more line ls in_limits.TooLong is met says = omega (arith, is.short, met)
-limits_read app more line ls (in_limits.BadLine n) is met says = not_both app more ls n limits_wrong.Form is met
-limits_read app more line ls (in_limits.UnknownInterrupt n) is met says =
-    not_both app more ls n limits_wrong.Interrupt is met
-limits_read app more line ls in_limits.NoMemory is met says = says
+limits_read app more line ls refusal is (limits.too_long long) says = omega (arith, is.short, long)
+limits_read app more line ls refusal is (limits.first_wrong n w first) says =
+    (read_one_way (limits.limits_reader app)).not_both more ls n w is first
+limits_read app more line ls refusal is limits.no_memory says = says
 
 -- a trace, over the names
 trace_read : (names : Names) (more line : List ℕ) (shown : Trace) (refusal : TraceRefused)
     → trace.IsTraceText names more shown
     → trace.IsRefused names more refusal → SaysTrace refusal line → ⊥
-trace_read names more line shown in_trace.TooLong is met says = omega (arith, is.short, met)
+trace_read names more line shown in_trace.TooLong is met says = omega (arith, is.read.short, met)
 trace_read names more line shown (in_trace.BadLine n) is met says =
-    traces.read_one_way.not_both names more shown n trace_wrong.Form is met
+    (read_one_way (trace.trace_reader names)).not_both more is.reached n trace_wrong.Form is.read met
 trace_read names more line shown (in_trace.UnknownName n) is met says =
-    traces.read_one_way.not_both names more shown n trace_wrong.Name is met
+    (read_one_way (trace.trace_reader names)).not_both more is.reached n trace_wrong.Name is.read met
 trace_read names more line shown in_trace.NoMemory is met says = says
-
-trace_passes : (text more line : List ℕ) (app : App) → IsApplication text app → (shown : Trace)
-    → trace.IsTraceText (names_of app) more shown → RefusesTrace text more line → ⊥
-trace_passes text more line app is shown read r =
-    trace_read (names_of r.app) more line shown r.refusal
-    (subst (λ a. trace.IsTraceText (names_of a) more shown) (application_only text app r.app is r.of_text) read)
-    r.refused r.says
 
 -- a trace is judged in one way
 one_verdict : (app : App) (shown : Trace) (v w : Verdict) (a b : Status) (x y : List ℕ) → IsVerdict app shown v
@@ -133,8 +117,7 @@ audited_once : (text more : List ℕ) (a b : Status) (x y : List ℕ) → IsAudi
 audited_once text more a b x y one other =
     let app : other.app ≡ one.app = application_only text other.app one.app other.of_text one.of_text in
     let read = subst (λ p. trace.IsTraceText (names_of p) more other.trace) app other.read in
-    let same : other.trace ≡ one.trace = traces.read_one_way.one_trace (names_of one.app) more other.trace one.trace
-    read one.read in
+    let same : other.trace ≡ one.trace = one_trace (names_of one.app) more other.trace one.trace read one.read in
     let is = subst (λ t. IsVerdict one.app t other.verdict) same
     (subst (λ p. IsVerdict p other.trace other.verdict) app other.is) in
     let says = subst (λ t. Says t other.verdict b y) same other.says in
@@ -156,13 +139,6 @@ timed_once app app' same ls ls' a b x y (outputs.responds rows form are hold) (o
 timed_once app app' same ls ls' a b x y (outputs.no_times form) (outputs.responds rows' form' are' hold') =
     let e = ap has_response_times same in absurd cc
 timed_once app app' same ls ls' a b x y (outputs.no_times form) (outputs.no_times form') = refl
-
--- limits, of an application
-limits_pass : (text more line : List ℕ) (app : App) → IsApplication text app → (ls : List Limit)
-    → limits.IsLimitsText app more ls → RefusesLimits text more line → ⊥
-limits_pass text more line app is ls read r =
-    limits_read r.app more line ls r.refusal
-    (subst (λ p. limits.IsLimitsText p more ls) (application_only text app r.app is r.of_text) read) r.refused r.says
 
 -- a listing is of one image, which is safe or is not
 told_once : (image image' : Image) → image' ≡ image → (a b : Status) (x y : List ℕ) → TellsImage image a x
@@ -193,11 +169,13 @@ one_of_each kind.Application first text ended line (app, is) (told, r) = applica
 one_of_each kind.OtherApplication first text ended line (app, is) (told, (own, r, says)) =
     application_passes text own app is r
 one_of_each kind.Script first text ended line (app, is, asked, read) (told, r) =
-    script_passes first text line app is asked read r
+    passes (λ a. script.IsScriptText (names_of a)) (λ a. script.IsRefused (names_of a)) SaysScript
+    (λ a. script_read (names_of a)) first text line app is asked read r
 one_of_each kind.Trace first text ended line (app, is, shown, read) (told, r) =
-    trace_passes first text line app is shown read r
+    passes (λ a. trace.IsTraceText (names_of a)) (λ a. trace.IsRefused (names_of a)) SaysTrace
+    (λ a. trace_read (names_of a)) first text line app is shown read r
 one_of_each kind.Limits first text ended line (app, is, ls, read) (told, r) =
-    limits_pass first text line app is ls read r
+    passes limits.IsLimitsText limits.IsRefused SaysLimits limits_read first text line app is ls read r
 one_of_each kind.Listing first text ended line (image, is) (told, (refusal, met, says)) =
     image_read text line image refusal is met says
 

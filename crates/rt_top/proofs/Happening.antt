@@ -12,7 +12,7 @@ use Rattle.rt_code.specs.Image.{Image}
 use Rattle.rt_script.specs.Script.{HasNames, IsScript, events}
 use Rattle.rt_script.specs.Text.{IsScriptText}
 use Rattle.rt_script.specs.declared.line.Line.{Line}
-use Rattle.rt_script.proofs.Declared.{says_named, says_script}
+use Rattle.rt_script.proofs.Declared.{AreRight, lead_right}
 use Rattle.rt_run.proofs.Scripted.{events_length}
 use Rattle.rt_run.proofs.Weighing.{Arrives, Named, length_weighs}
 use Rattle.rt_live.specs.Interleaving.{turns, interleaving}
@@ -62,12 +62,14 @@ module _ (app : App) (image : Image) (is : IsGoodOf app image) where
   renamed es all = subst (λ (n : Names). AllByRecursion (Arrives (Named n)) es) own_names all
 
   module _ (more : List ℕ) (script : List Line) (read : IsScriptText (names_of app) more script) where
+    right : AreRight (names_of app) script
+    right = lead_right (names_of app) (lines more) script read.lead
+
     pub scripted : IsScript script
-    scripted = says_script (names_of app) (lines more) script read.says
+    scripted = right.script
 
     pub named : HasNames image.names script
-    named = subst (λ (n : Names). HasNames n script) (sym own_names)
-        (says_named (names_of app) (lines more) script read.says)
+    named = subst (λ (n : Names). HasNames n script) (sym own_names) right.named
 
     -- under the events of a script
     pub runs_script : RunsWell app image (events script)

@@ -8,10 +8,10 @@ use Rattle.rt_code.specs.Image.{Image}
 use Rattle.rt_count.specs.Text.{summary_text}
 use Rattle.rt_dual.specs.Course.{first_events, second_events}
 use Rattle.rt_dual.specs.Output.{account, course_text}
+use Rattle.rt_lines.proofs.Reading.{read_one_way}
 use Rattle.rt_listing.specs.Listing.{listing}
-use Rattle.rt_script.specs.Text.{IsScriptText}
+use Rattle.rt_script.specs.Text.{IsScriptText, script_reader}
 use Rattle.rt_script.specs.declared.line.Line.{Line}
-use Rattle.rt_script.proofs.OneWay as scripts
 use Rattle.rt_soak.specs.Soak.{irqs_of, soak_summary}
 use Rattle.rt_top.specs.OneImage.{OneListingIsBuilt, OneRunIsWritten, OneSoakIsWritten, IsListingThenTrace}
 use Rattle.rt_top.specs.OneImage.{RunsShowTheListing, LivesShowTheListing, PairsShowTheListings}
@@ -53,7 +53,7 @@ one_run text more a b one other =
     let app : one.app ≡ other.app = application_only text one.app other.app one.is.of_text other.is.of_text in
     let image : one.image ≡ other.image = good_once text one.app other.app one.image other.image one.is other.is in
     let script : one.script ≡ other.script =
-    scripts.read_one_way.one_script (names_of other.app) more one.script other.script
+    (read_one_way (script_reader (names_of other.app))).one_state more one.script other.script
     (subst (λ (a : App). IsScriptText (names_of a) more one.script) app one.read) other.read in
     one.written
     ∙ ap (λ (i : Image). run_text i one.script) image

@@ -29,7 +29,7 @@ use Rattle.rt_script.specs.Text.{IsScriptText}
 use Rattle.rt_script.specs.declared.line.Line.{Line}
 use Rattle.rt_sim.specs.Good.{RunsWell}
 use Rattle.rt_trace.specs.Text.{trace_text}
-use Rattle.rt_trace.proofs.Unbroken.{fed}
+use Rattle.rt_lines.proofs.Unbroken.{fed}
 use Rattle.rt_top.specs.Inside.Replies.{run_text}
 use Rattle.rt_top.specs.Outputs.{IsGoodOf, IsAudited}
 use Rattle.rt_top.proofs.Accounts.{account_lines, account_fed, account_told, account_unbroken, account_brief}
@@ -89,7 +89,7 @@ module _ (app : App) (image : Image) (is : IsGoodOf app image) (numbers : HasTyp
       (codes "yes " ++ decimal (length (trace image (events script))) ++ codes "\n")
   run_audited text of_text bytes same =
       audited app image is numbers (events script) (runs_script app image is more script read) declared_script
-      script_weighs text of_text [] bytes tt refl (omega arith) (same ∙ written_run)
+      script_weighs text of_text [] bytes tt tt (omega arith) (same ∙ written_run)
 
   -- what `live` writes
   module _ (shown : List ℕ) (live : IsLiveText image script shown) (bytes : List ℕ)

@@ -49,26 +49,23 @@ SaysLimits (in_limits.BadLine n) line = line ≡ limits_line n (codes " 2 bad li
 SaysLimits (in_limits.UnknownInterrupt n) line = line ≡ limits_line n (codes " 3 unknown interrupt\n")
 SaysLimits in_limits.NoMemory line = ⊥
 
--- the line refuses a text that is no script over the names of an application
-pub record RefusesScript (text more line : List ℕ) : Type 0 where
+-- the line refuses a text over the application of another text: the refusal is the text's, and the line says it
+pub record RefusesOver {R : Type 0} (IsRefused : App → List ℕ → R → Type 0) (Says : R → List ℕ → Type 0)
+    (text more line : List ℕ) : Type 0 where
   pub app : App
   pub of_text : IsApplication text app
-  pub refusal : ScriptRefused
-  pub refused : script.IsRefused (names_of app) more refusal
-  pub says : SaysScript refusal line
+  pub refusal : R
+  pub refused : IsRefused app more refusal
+  pub says : Says refusal line
+
+-- the line refuses a text that is no script over the names of an application
+abbrev pub RefusesScript : List ℕ → List ℕ → List ℕ → Type 0
+RefusesScript text more line = RefusesOver (λ app. script.IsRefused (names_of app)) SaysScript text more line
 
 -- the line refuses a text that is no trace over the names of an application
-pub record RefusesTrace (text more line : List ℕ) : Type 0 where
-  pub app : App
-  pub of_text : IsApplication text app
-  pub refusal : TraceRefused
-  pub refused : trace.IsRefused (names_of app) more refusal
-  pub says : SaysTrace refusal line
+abbrev pub RefusesTrace : List ℕ → List ℕ → List ℕ → Type 0
+RefusesTrace text more line = RefusesOver (λ app. trace.IsRefused (names_of app)) SaysTrace text more line
 
 -- the line refuses a text that tells no limits of an application
-pub record RefusesLimits (text more line : List ℕ) : Type 0 where
-  pub app : App
-  pub of_text : IsApplication text app
-  pub refusal : LimitsRefused
-  pub refused : limits.IsRefused app more refusal
-  pub says : SaysLimits refusal line
+abbrev pub RefusesLimits : List ℕ → List ℕ → List ℕ → Type 0
+RefusesLimits text more line = RefusesOver limits.IsRefused SaysLimits text more line

@@ -1,18 +1,20 @@
 -- What is written is what is read: each item that has a line is what its line says, and a line that says an item is
 -- that item's. The second is said where no two declared interrupts have one number, as in every accepted
 -- application.
-use Rattle.std.specs.Prelude.{◌≡◌, ◌⊎◌, ◌≤◌, ◌<◌, ◌^◌, ℕ, List, length, map, Some, Ok}
+use Rattle.std.specs.Prelude.{◌≡◌, ◌≤◌, ◌<◌, ◌^◌, ℕ, List, length, map, Some, Ok}
 use Rattle.std.specs.List.{AllByRecursion}
 use Rattle.rt_ids.specs.Lists.{AreDifferent}
 use Rattle.rt_ids.specs.Names.{Names, AreNames}
 use Rattle.rt_ids.specs.declared.limits.TheConstants.{TRACE_BYTES}
+use Rattle.rt_lines.specs.Parts.{lines}
+use Rattle.rt_lines.specs.Reading.{IsReadOneWay}
 use Rattle.rt_trace.specs.Lined.{HasLine}
-use Rattle.rt_trace.specs.Reading.{IsTraceText, IsFirstWrong}
+use Rattle.rt_trace.specs.Reading.{trace_reader, IsTraceText}
 use Rattle.rt_trace.specs.Row.{row_of}
 use Rattle.rt_trace.specs.Text.{item_line, text, trace_text}
 use Rattle.rt_trace.specs.Trace.{Trace}
+use Rattle.rt_trace.specs.TraceLines.{AreTraceLines}
 use Rattle.rt_trace.specs.declared.item.Item.{Item}
-use Rattle.rt_trace.specs.declared.operand.Wrong.{Wrong}
 use Rattle.rt_trace.specs.declared.row.Row.TheVariants as row
 
 -- the line of an item is read as the item
@@ -27,18 +29,15 @@ ReadLinesAreLines =
     ≡ Ok (row.Shown item)
     → HasLine names item × (line ≡ item_line names item)
 
--- Each text that is not too long is read in one way: it is a trace's text or has a first wrong line, not both, and
--- it is the text of one trace, or has one first wrong line with one fault.
-pub record AreReadOneWay : Type 0 where
-  pub one_trace : (names : Names) (text : List ℕ) (s t : Trace) → IsTraceText names text s → IsTraceText names text t
-      → s ≡ t
-  pub not_both : (names : Names) (text : List ℕ) (t : Trace) (n : ℕ) (w : Wrong) → IsTraceText names text t
-      → IsFirstWrong names text n w → ⊥
-  pub one_fault : (names : Names) (text : List ℕ) (n m : ℕ) (v w : Wrong) → IsFirstWrong names text n v
-      → IsFirstWrong names text m w → (n ≡ m) × (v ≡ w)
-  pub either :
-      (names : Names) (text : List ℕ) → length text ≤ TRACE_BYTES
-      → ((t : Trace) × IsTraceText names text t) ⊎ ((n : ℕ) × (w : Wrong) × IsFirstWrong names text n w)
+-- each text that is not too long is a trace's or has a first wrong line, not both, and in one way
+abbrev pub AreReadOneWay : Type 0
+AreReadOneWay = (names : Names) → IsReadOneWay (trace_reader names)
+
+-- a text of the lines of a trace is read as that trace
+abbrev pub TraceLinesAreRead : Type 0
+TraceLinesAreRead =
+    (names : Names) (text : List ℕ) (trace : Trace) → length text ≤ TRACE_BYTES → AreTraceLines names (lines text) trace
+    → IsTraceText names text trace
 
 -- No line of an item is longer than 91 bytes with its line feed, where its step has at most seven digits: the longest
 -- is that of a start with a name of 32 bytes and four values of ten digits.

@@ -2,13 +2,12 @@ pub mod Padded
 pub mod Given
 pub mod Label
 pub mod Shown
-pub mod Verb
+pub mod Words
 pub mod Trace
 pub mod Text
 pub mod Lined
-pub mod Operand
 pub mod Row
 pub mod Reading
+pub mod TraceLines
 pub mod Reader
-pub mod Inside
 pub mod Laws

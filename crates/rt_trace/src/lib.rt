@@ -8,20 +8,21 @@ pub mod labels;
 pub mod laws;
 mod lined;
 mod names;
-mod operand;
 pub mod reader;
 mod reading;
 pub mod refusal;
 mod row;
 mod text;
 pub mod trace;
-mod verb;
 
 pub use args::Args;
 pub use buffer::{BUFFER_BYTES, LINE_BYTES, LineBuffer};
 pub use item::{Item, What};
 pub use labels::labels_show_their_events;
-pub use laws::{lines_are_read, lines_are_short, read_lines_are_lines, texts_are_read_one_way};
+pub use laws::{
+    lines_are_read, lines_are_short, read_lines_are_lines, texts_are_read_one_way,
+    trace_lines_are_read,
+};
 pub use lined::has_line;
 pub use reader::TraceReader;
 pub use reading::read_trace;

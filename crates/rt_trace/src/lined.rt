@@ -1,4 +1,6 @@
 ghost use Rattle.std.specs.Prelude.{◌≡◌, ◌↔◌, ◌<◌, ◌^◌, IsTrue};
+ghost use Rattle.rt_lines.specs.Numbers.{IsWord};
+ghost use Rattle.rt_lines.specs.Operand as operand;
 ghost use Rattle.rt_trace.specs.Lined as spec;
 
 use crate::item::{Item, What};
@@ -22,7 +24,8 @@ fn has_operands(what: &What, names: &Names) -> bool
         What::Pend(irq) | What::Ret(irq) | What::Post(irq) => is_declared(*irq, names),
         What::Take(irq, depth) => is_declared(*irq, names) && is_word(*depth),
         What::Enter(section) => is_section(*section, names),
-        What::Leave(section, value) => is_section(*section, names) && has_value(*section, *value),
+        What::Leave(section, None) => is_queue(*section, names),
+        What::Leave(section, Some(value)) => is_lock(*section, names) && is_word(*value),
         What::Placed(task) | What::Full(task) | What::Ready(task) => is_task(*task, names),
         What::Free(task) | What::Fire(task) => is_task(*task, names),
         What::Start(task, args) => is_task(*task, names) && args.len() <= args.values().len(),
@@ -37,7 +40,7 @@ fn has_operands(what: &What, names: &Names) -> bool
 
 /// Whether a number is of 32 bits, as each is that the code holds.
 fn is_word(number: u32) -> bool
-    ensures { IsTrue result ↔ spec.IsWord number }
+    ensures { IsTrue result ↔ IsWord number }
 {
     u64::from(number) < 1 << 32
 }
@@ -50,38 +53,47 @@ fn is_byte(number: u8) -> bool
 }
 
 fn is_declared(irq: Irq, names: &Names) -> bool
-    ensures { IsTrue result ↔ spec.IsDeclared names.now irq }
+    ensures { IsTrue result ↔ operand.IsDeclared names.now irq }
 {
     names.irq_name(irq).is_some()
 }
 
 fn is_task(task: TaskId, names: &Names) -> bool
-    ensures { IsTrue result ↔ spec.IsTask names.now task }
+    ensures { IsTrue result ↔ operand.IsTask names.now task }
 {
     usize::from(task.0) < names.task_count()
 }
 
-fn is_section(section: Section, names: &Names) -> bool
-    ensures { IsTrue result ↔ spec.IsSection names.now section }
+fn is_lock(section: Section, names: &Names) -> bool
+    ensures { IsTrue result ↔ operand.IsLock names.now section }
 {
     match section {
         Section::Res(resource) => usize::from(resource.0) < names.resource_count(),
+        Section::Free(_) | Section::Ready(_) | Section::Timer => false,
+    }
+}
+
+fn is_queue(section: Section, names: &Names) -> bool
+    ensures { IsTrue result ↔ operand.IsQueue names.now section }
+{
+    match section {
+        Section::Res(_) => false,
         Section::Free(task) => is_task(task, names),
         Section::Ready(_) | Section::Timer => true,
     }
 }
 
-fn has_value(section: Section, value: Option<u32>) -> bool
-    ensures { IsTrue result ↔ spec.HasValue section value }
+fn is_section(section: Section, names: &Names) -> bool
+    ensures { IsTrue result ↔ operand.IsSection names.now section }
 {
     match section {
-        Section::Res(_) => value.is_some(),
-        _ => value.is_none(),
+        Section::Res(_) => is_lock(section, names),
+        _ => is_queue(section, names),
     }
 }
 
 fn is_body(body: BodyId, names: &Names) -> bool
-    ensures { IsTrue result ↔ spec.IsBody names.now body }
+    ensures { IsTrue result ↔ operand.IsBody names.now body }
 {
     match body {
         BodyId::Task(task) => is_task(task, names),

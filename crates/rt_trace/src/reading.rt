@@ -1,9 +1,9 @@
-ghost use Rattle.std.specs.Prelude.{◌≡◌, ◌<◌, ◌⊎◌, [], ◌∷◌, ◌++◌, length, Option, Err, IfOk, IfErr, OnOk};
-ghost use Rattle.std.specs.Prelude.{option_to_list};
+ghost use Rattle.std.specs.Prelude.{◌≡◌, ◌<◌, ◌⊎◌, [], ◌∷◌, ◌++◌, length, Ok, Err, IfOk, IfErr, OnOk};
 ghost use Rattle.rt_ids.specs.declared.limits.TheConstants.{TRACE_BYTES};
-ghost use Rattle.rt_trace.specs.Reader.{ReadsMore, RefusesMore};
+ghost use Rattle.rt_trace.specs.Reader.{refusal_of, standing};
+ghost use Rattle.rt_trace.specs.Reading.{step};
 ghost use Rattle.rt_trace.specs.Reading as spec;
-ghost use Rattle.rt_trace.specs.declared.item.Item.{Item};
+ghost use Rattle.rt_lines.specs.declared.operand.Wrong.{Wrong};
 
 use crate::item::Item;
 use crate::reader::TraceReader;
@@ -47,10 +47,11 @@ fn take_line(
     number: u32,
     line: &[u8],
 ) -> Result<(), TraceRefused>
-    ensures taken { OnOk result ((told : Option Item) × ReadsMore names.now reader.old line.now told reader.new
-        × (items.new.items ≡ items.old.items ++ option_to_list told)) }
-    ensures refused { IfErr result (λ refusal. (refusal ≡ TraceRefused.NoMemory)
-        ⊎ RefusesMore names.now reader.old line.now number refusal) }
+    ensures taken { OnOk result (step names.now (standing reader.old items.old.items) line.now
+        ≡ Ok (standing reader.new items.new.items)) }
+    ensures refused { IfErr result (λ refusal. (refusal ≡ TraceRefused.NoMemory) ⊎ ((wrong : Wrong)
+        × (step names.now (standing reader.old items.old.items) line.now ≡ Err wrong)
+        × (refusal ≡ refusal_of wrong number))) }
 {
     match reader.take(names, number, line) {
         Ok(Some(item)) => Ok(add(items, item)?),

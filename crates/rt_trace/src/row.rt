@@ -1,19 +1,19 @@
-ghost use Rattle.std.specs.Prelude.{◌≡◌, ◌≤◌, ◌^◌, ◌∷◌};
+ghost use Rattle.std.specs.Prelude.{◌≡◌, ◌∷◌, ◌^◌, Some, None};
+ghost use Rattle.rt_lines.specs.Answers.{and_make};
 ghost use Rattle.rt_lines.specs.Parts.{words_of};
-ghost use Rattle.rt_lines.specs.Answers.{and_then, and_make};
-ghost use Rattle.rt_trace.specs.Operand as operand;
+ghost use Rattle.rt_lines.specs.Operand.{LockName, Number, QueueName, TaskName};
+ghost use Rattle.rt_lines.specs.Table.{AndNumbers, OneOrTwo, numbers_at, said_at, shape_at};
 ghost use Rattle.rt_trace.specs.Row as spec;
+ghost use Rattle.rt_trace.specs.Words.{body_rows, rows};
 
 use crate::args::Args;
 use crate::item::{Item, What};
-use crate::operand::{
-    Wrong, only, read_body, read_byte, read_irq, read_number, read_queue, read_resource,
-    read_section, read_task,
-};
-use crate::verb::Verb;
 use rt_ids::limits::ARGUMENTS;
-use rt_ids::{BodyId, Irq, Names, Section, TaskId};
-use rt_lines::{next_word, number_below};
+use rt_ids::{Names, Section, TaskId};
+use rt_lines::{
+    Operand, Wrong, both, next_word, none, number_below, one, read_lock, read_number, read_queue,
+    three, two,
+};
 
 /// What a line of a trace says.
 #[derive(Clone, Copy, PartialEq, Eq)]
@@ -32,7 +32,7 @@ pub fn read_row(names: &Names, line: &[u8]) -> Result<Row, Wrong>
         return Err(Wrong::Form);
     };
     if word == b"total".as_slice() {
-        let total = read_only_number(words)?;
+        let total: u32 = one(names, words)?;
         Ok(Row::Total(u64::from(total)))
     } else {
         let item = read_item(names, word, words)?;
@@ -45,160 +45,100 @@ fn read_item(names: &Names, step: &[u8], words: Option<&[u8]>) -> Result<Item, W
     ensures { and_make result Row.Shown ≡ spec.item_at names.now (step.now ∷ words_of words.entry) }
 {
     let step = number_below(step, 1 << 31).ok_or(Wrong::Form)?;
-    let (word, words) = next_word(words).ok_or(Wrong::Form)?;
-    let verb = Verb::of_spelling(word).ok_or(Wrong::Form)?;
-    let what = read_what(names, verb, words)?;
+    let (first, words) = next_word(words).ok_or(Wrong::Form)?;
+    let what = read_what(names, first, words)?;
     Ok(Item { step, what })
 }
 
-/// What is shown behind its first word.
-fn read_what(names: &Names, verb: Verb, words: Option<&[u8]>) -> Result<What, Wrong>
-    ensures { result ≡ spec.what_at names.now verb (words_of words.entry) }
+/// What is shown by a first word and the words behind it.
+fn read_what(names: &Names, first: &[u8], words: Option<&[u8]>) -> Result<What, Wrong>
+    ensures { result ≡ said_at rows names.now first.now (words_of words.entry) }
 {
-    match verb {
-        Verb::Pend => read_only_irq(names, words).map(What::Pend),
-        Verb::Tick => read_bare(words, What::Tick),
-        Verb::Alarm => read_bare(words, What::Alarm),
-        Verb::AlarmSet => read_bare(words, What::AlarmSet),
-        Verb::Take => read_take(names, words),
-        Verb::Ret => read_only_irq(names, words).map(What::Ret),
-        Verb::Enter => read_only_section(names, words).map(What::Enter),
-        Verb::Leave => read_leave(names, words),
-        Verb::Emit => read_only_number(words).map(What::Emit),
-        Verb::Placed => read_only_task(names, words).map(What::Placed),
-        Verb::Full => read_only_task(names, words).map(What::Full),
-        Verb::Ready => read_only_task(names, words).map(What::Ready),
-        Verb::Start => read_start(names, words),
-        Verb::Free => read_only_task(names, words).map(What::Free),
-        Verb::Post => read_only_irq(names, words).map(What::Post),
-        Verb::Clock => read_only_number(words).map(What::Clock),
-        Verb::Arm => read_arm(names, words),
-        Verb::Fire => read_only_task(names, words).map(What::Fire),
-        Verb::Cancel => read_cancel(names, words),
-        Verb::Move => read_move(names, words),
-        Verb::End => read_only_body(names, words).map(What::End),
-        Verb::Trap => read_only_byte(words).map(What::Trap),
+    if first == b"pend".as_slice() {
+        one(names, words).map(What::Pend)
+    } else if first == b"tick".as_slice() {
+        none(What::Tick, words)
+    } else if first == b"alarm".as_slice() {
+        none(What::Alarm, words)
+    } else if first == b"set".as_slice() {
+        none(What::AlarmSet, words)
+    } else if first == b"take".as_slice() {
+        two(names, words).map(|(irq, depth)| What::Take(irq, depth))
+    } else if first == b"ret".as_slice() {
+        one(names, words).map(What::Ret)
+    } else if first == b"post".as_slice() {
+        one(names, words).map(What::Post)
+    } else if first == b"clock".as_slice() {
+        one(names, words).map(What::Clock)
+    } else if first == b"trap".as_slice() {
+        one(names, words).map(What::Trap)
+    } else {
+        read_of_body(names, first, words)
     }
 }
 
-/// What has no words behind its first.
-fn read_bare(words: Option<&[u8]>, what: What) -> Result<What, Wrong>
-    ensures { result ≡ operand.bare (words_of words.entry) what }
+/// What is shown of bodies and messages.
+fn read_of_body(names: &Names, first: &[u8], words: Option<&[u8]>) -> Result<What, Wrong>
+    ensures { result ≡ said_at body_rows names.now first.now (words_of words.entry) }
 {
-    if next_word(words).is_none() {
-        Ok(what)
+    if first == b"enter".as_slice() {
+        one(names, words).map(What::Enter)
+    } else if first == b"leave".as_slice() {
+        read_leave(names, words)
+    } else if first == b"emit".as_slice() {
+        one(names, words).map(What::Emit)
+    } else if first == b"ok".as_slice() {
+        one(names, words).map(What::Placed)
+    } else if first == b"full".as_slice() {
+        one(names, words).map(What::Full)
+    } else if first == b"ready".as_slice() {
+        one(names, words).map(What::Ready)
+    } else if first == b"start".as_slice() {
+        read_start(names, words)
+    } else if first == b"free".as_slice() {
+        one(names, words).map(What::Free)
+    } else if first == b"arm".as_slice() {
+        two(names, words).map(|(task, instant)| What::Arm(task, instant))
+    } else if first == b"fire".as_slice() {
+        one(names, words).map(What::Fire)
+    } else if first == b"cancel".as_slice() {
+        two(names, words).map(|(task, handle)| What::Cancel(task, handle))
+    } else if first == b"move".as_slice() {
+        three(names, words).map(|(task, (handle, instant))| What::Move(task, handle, instant))
+    } else if first == b"end".as_slice() {
+        one(names, words).map(What::End)
     } else {
         Err(Wrong::Form)
     }
 }
 
-fn read_only_irq(names: &Names, words: Option<&[u8]>) -> Result<Irq, Wrong>
-    ensures { result ≡ and_then (operand.only (words_of words.entry)) (operand.irq_at names.now) }
-{
-    read_irq(names, only(words)?)
-}
-
-fn read_only_task(names: &Names, words: Option<&[u8]>) -> Result<TaskId, Wrong>
-    ensures { result ≡ and_then (operand.only (words_of words.entry)) (operand.task_at names.now) }
-{
-    read_task(names, only(words)?)
-}
-
-fn read_only_section(names: &Names, words: Option<&[u8]>) -> Result<Section, Wrong>
-    ensures { result ≡ and_then (operand.only (words_of words.entry)) (operand.section_at names.now) }
-{
-    read_section(names, only(words)?)
-}
-
-fn read_only_body(names: &Names, words: Option<&[u8]>) -> Result<BodyId, Wrong>
-    ensures { result ≡ and_then (operand.only (words_of words.entry)) (operand.body_at names.now) }
-{
-    read_body(names, only(words)?)
-}
-
-fn read_only_number(words: Option<&[u8]>) -> Result<u32, Wrong>
-    ensures { result ≡ and_then (operand.only (words_of words.entry)) (operand.number_at (2 ^ 32)) }
-{
-    read_number(only(words)?)
-}
-
-fn read_only_byte(words: Option<&[u8]>) -> Result<u8, Wrong>
-    ensures { result ≡ and_then (operand.only (words_of words.entry)) (operand.number_at (2 ^ 8)) }
-{
-    read_byte(only(words)?)
-}
-
-/// A word, and the only one behind it.
-fn pair<'a>(words: Option<&'a [u8]>) -> Result<(&'a [u8], &'a [u8]), Wrong>
-    ensures { and_make result (λ p. (p.0.now, p.1.now)) ≡ operand.pair (words_of words.entry) }
-{
-    let (first, rest) = next_word(words).ok_or(Wrong::Form)?;
-    Ok((first, only(rest)?))
-}
-
-/// The entry of a handler.
-fn read_take(names: &Names, words: Option<&[u8]>) -> Result<What, Wrong>
-    ensures { result ≡ spec.take_of names.now (words_of words.entry) }
-{
-    let (irq, depth) = pair(words)?;
-    let depth = read_number(depth)?;
-    Ok(What::Take(read_irq(names, irq)?, depth))
-}
-
-/// That a message is armed.
-fn read_arm(names: &Names, words: Option<&[u8]>) -> Result<What, Wrong>
-    ensures { result ≡ spec.arm_of names.now (words_of words.entry) }
-{
-    let (task, instant) = pair(words)?;
-    let instant = read_number(instant)?;
-    Ok(What::Arm(read_task(names, task)?, instant))
-}
-
-/// That an armed message is taken back.
-fn read_cancel(names: &Names, words: Option<&[u8]>) -> Result<What, Wrong>
-    ensures { result ≡ spec.cancel_of names.now (words_of words.entry) }
-{
-    let (task, handle) = pair(words)?;
-    let handle = read_number(handle)?;
-    Ok(What::Cancel(read_task(names, task)?, handle))
-}
-
-/// That an armed message is put to another instant.
-fn read_move(names: &Names, words: Option<&[u8]>) -> Result<What, Wrong>
-    ensures { result ≡ spec.move_of names.now (words_of words.entry) }
-{
-    let (task, rest) = next_word(words).ok_or(Wrong::Form)?;
-    let (handle, instant) = pair(rest)?;
-    let handle = read_number(handle)?;
-    let instant = read_number(instant)?;
-    Ok(What::Move(read_task(names, task)?, handle, instant))
-}
-
 /// That a section is left: a queue alone, or a resource with its value.
 fn read_leave(names: &Names, words: Option<&[u8]>) -> Result<What, Wrong>
-    ensures { result ≡ spec.leave_of names.now (words_of words.entry) }
+    ensures { result ≡ shape_at
+        (OneOrTwo QueueName (λ x. What.Leave x None) LockName (Number (2 ^ 32)) (λ x v. What.Leave x (Some v)))
+        names.now (words_of words.entry) }
 {
     let (section, rest) = next_word(words).ok_or(Wrong::Form)?;
     if next_word(rest).is_none() {
         Ok(What::Leave(read_queue(names, section)?, None))
     } else {
-        let value = read_number(only(rest)?)?;
-        Ok(What::Leave(Section::Res(read_resource(names, section)?), Some(value)))
+        let (section, value) = both(read_lock(names, section), one(names, rest))?;
+        Ok(What::Leave(section, Some(value)))
     }
 }
 
 /// That a body starts, with at most four values.
 fn read_start(names: &Names, words: Option<&[u8]>) -> Result<What, Wrong>
-    ensures { result ≡ spec.start_of names.now (words_of words.entry) }
+    ensures { result ≡ shape_at (AndNumbers TaskName 4 What.Start) names.now (words_of words.entry) }
 {
     let (task, rest) = next_word(words).ok_or(Wrong::Form)?;
-    let args = read_values(rest)?;
-    Ok(What::Start(read_task(names, task)?, args))
+    let (task, args) = both(TaskId::read(names, task), read_values(rest))?;
+    Ok(What::Start(task, args))
 }
 
 /// At most four values.
 fn read_values(words: Option<&[u8]>) -> Result<Args, Wrong>
-    ensures { result ≡ operand.values_at 4 (words_of words.entry) }
+    ensures { result ≡ numbers_at 4 (words_of words.entry) }
 {
     let mut values = [0; ARGUMENTS];
     let mut count = 0;

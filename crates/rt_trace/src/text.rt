@@ -1,13 +1,14 @@
 ghost use Rattle.std.specs.Prelude.{◌≡◌, ◌≤◌, ◌<◌, ◌+◌, ◌^◌, ◌∷◌, ◌++◌, length, map, take, decimal};
 ghost use Rattle.rt_ids.specs.Naming.{irq_name, task_name, section_name, body_name};
-ghost use Rattle.rt_trace.specs.Lined.{HasLine, HasOperands, IsBody, IsDeclared, IsSection, IsTask};
+ghost use Rattle.rt_lines.specs.Operand.{IsBody, IsDeclared, IsSection, IsTask};
+ghost use Rattle.rt_lines.specs.Table.{spaced_text};
+ghost use Rattle.rt_trace.specs.Lined.{HasLine, HasOperands};
 ghost use Rattle.rt_trace.specs.Text as spec;
-ghost use Rattle.rt_trace.specs.Verb.{spelling};
+ghost use Rattle.rt_trace.specs.Words.{first};
 
 use crate::buffer::LINE_BYTES;
 use crate::item::{Item, What};
 use crate::names::{irq_name, resource_name, task_name};
-use crate::verb::Verb;
 use arrayvec::ArrayVec;
 use itoa::write_digits;
 use rt_ids::{BodyId, Irq, Names, Section, TaskId};
@@ -35,7 +36,7 @@ pub(crate) fn put_line(out: &mut [u8], at: usize, item: &Item, names: &Names) ->
     ensures end { result ≤ at + LINE_BYTES }
 {
     let at = put_number(out, at, item.step as u32);
-    let at = put_verb(out, at, Verb::of(&item.what));
+    let at = put_first(out, at, &item.what);
     let at = put_operands(out, at, &item.what, names);
     put(out, at, b"\n")
 }
@@ -106,34 +107,34 @@ fn put_word(out: &mut [u8], at: usize, word: &[u8]) -> usize
 
 /// Writes a space and the word that stands behind the step number.
 #[inline(always)]
-fn put_verb(out: &mut [u8], at: usize, verb: Verb) -> usize
+fn put_first(out: &mut [u8], at: usize, what: &What) -> usize
     requires { at + 7 ≤ length out.old }
-    ensures written { take result out.new ≡ take at out.old ++ 32 ∷ spelling verb }
+    ensures written { take result out.new ≡ take at out.old ++ 32 ∷ first what.now }
     ensures end { result ≤ at + 7 }
 {
-    match verb {
-        Verb::Pend => put(out, at, b" pend"),
-        Verb::Tick => put(out, at, b" tick"),
-        Verb::Alarm => put(out, at, b" alarm"),
-        Verb::AlarmSet => put(out, at, b" set"),
-        Verb::Take => put(out, at, b" take"),
-        Verb::Ret => put(out, at, b" ret"),
-        Verb::Enter => put(out, at, b" enter"),
-        Verb::Leave => put(out, at, b" leave"),
-        Verb::Emit => put(out, at, b" emit"),
-        Verb::Placed => put(out, at, b" ok"),
-        Verb::Full => put(out, at, b" full"),
-        Verb::Ready => put(out, at, b" ready"),
-        Verb::Start => put(out, at, b" start"),
-        Verb::Free => put(out, at, b" free"),
-        Verb::Post => put(out, at, b" post"),
-        Verb::Clock => put(out, at, b" clock"),
-        Verb::Arm => put(out, at, b" arm"),
-        Verb::Fire => put(out, at, b" fire"),
-        Verb::Cancel => put(out, at, b" cancel"),
-        Verb::Move => put(out, at, b" move"),
-        Verb::End => put(out, at, b" end"),
-        Verb::Trap => put(out, at, b" trap"),
+    match what {
+        What::Pend(_) => put(out, at, b" pend"),
+        What::Tick => put(out, at, b" tick"),
+        What::Alarm => put(out, at, b" alarm"),
+        What::AlarmSet => put(out, at, b" set"),
+        What::Take(_, _) => put(out, at, b" take"),
+        What::Ret(_) => put(out, at, b" ret"),
+        What::Enter(_) => put(out, at, b" enter"),
+        What::Leave(_, _) => put(out, at, b" leave"),
+        What::Emit(_) => put(out, at, b" emit"),
+        What::Placed(_) => put(out, at, b" ok"),
+        What::Full(_) => put(out, at, b" full"),
+        What::Ready(_) => put(out, at, b" ready"),
+        What::Start(_, _) => put(out, at, b" start"),
+        What::Free(_) => put(out, at, b" free"),
+        What::Post(_) => put(out, at, b" post"),
+        What::Clock(_) => put(out, at, b" clock"),
+        What::Arm(_, _) => put(out, at, b" arm"),
+        What::Fire(_) => put(out, at, b" fire"),
+        What::Cancel(_, _) => put(out, at, b" cancel"),
+        What::Move(_, _, _) => put(out, at, b" move"),
+        What::End(_) => put(out, at, b" end"),
+        What::Trap(_) => put(out, at, b" trap"),
     }
 }
 
@@ -206,7 +207,7 @@ fn put_body(out: &mut [u8], at: usize, body: BodyId, names: &Names) -> usize
 fn put_values(out: &mut [u8], at: usize, values: &[u32]) -> usize
     requires few { length values.now ≤ 4 }
     requires room { at + 44 ≤ length out.old }
-    ensures written { take result out.new ≡ take at out.old ++ spec.spaced_text (map decimal values.now) }
+    ensures written { take result out.new ≡ take at out.old ++ spaced_text (map decimal values.now) }
     ensures end { result ≤ at + 44 }
 {
     let mut end = at;
@@ -220,7 +221,7 @@ fn put_values(out: &mut [u8], at: usize, values: &[u32]) -> usize
 fn put_operands(out: &mut [u8], at: usize, what: &What, names: &Names) -> usize
     requires lined { HasOperands names.now what.now }
     requires room { at + 80 ≤ length out.old }
-    ensures written { take result out.new ≡ take at out.old ++ spec.spaced_text (spec.operands names.now what.now) }
+    ensures written { take result out.new ≡ take at out.old ++ spaced_text (spec.operand_words names.now what.now) }
     ensures end { result ≤ at + 80 }
 {
     match what {

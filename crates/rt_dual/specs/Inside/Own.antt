@@ -5,7 +5,7 @@ use Rattle.rt_ids.specs.Event.{Event, Arrive, Tick, Step}
 use Rattle.rt_ids.specs.Names.{Names}
 use Rattle.rt_script.specs.declared.line.Line.{Line}
 use Rattle.rt_script.specs.declared.line.Line.TheVariants.{Steps, Ticks, Pends, Device}
-use Rattle.rt_trace.specs.Lined.{IsDeclared}
+use Rattle.rt_lines.specs.Operand.{IsDeclared}
 use Rattle.rt_live.specs.Interleaving.{Turn, Happens}
 use Rattle.rt_dual.specs.Course.{first_events, second_events}
 use Rattle.rt_dual.specs.declared.core_id.CoreId.{CoreId}

@@ -1,6 +1,8 @@
 -- What an auditor keeps after the lines that came.
 use Rattle.std.specs.Prelude.{◌≡◌, ◌≤◌, ℕ, List, ◌++◌, length, Option, Some, None}
 use Rattle.rt_ids.specs.Names.{Names}
+use Rattle.rt_ids.specs.declared.limits.TheConstants.{TRACE_BYTES}
+use Rattle.rt_lines.specs.Parts.{lines}
 use Rattle.rt_app.specs.Names.{names_of}
 use Rattle.rt_app.specs.Tree.{App}
 use Rattle.rt_app.specs.View.{app_of}
@@ -10,8 +12,8 @@ use Rattle.rt_baker.specs.declared.judge.Judge.{Judge}
 use Rattle.rt_baker.specs.declared.verdict.Verdict.{Verdict}
 use Rattle.rt_baker_moves.specs.Machine.{IsMachine}
 use Rattle.rt_baker_moves.specs.declared.machine.Machine.{Machine}
-use Rattle.rt_trace.specs.Reader.{HasRead, RefusesLine}
-use Rattle.rt_trace.specs.Reading.{IsTraceText}
+use Rattle.rt_trace.specs.Reader.{HasRead}
+use Rattle.rt_trace.specs.Reading.{IsRefused, IsTraceText}
 use Rattle.rt_trace.specs.Trace.{Trace}
 use Rattle.rt_trace.specs.declared.item.Item.{Item}
 use Rattle.rt_trace.specs.declared.reader.TraceReader.{TraceReader}
@@ -24,10 +26,11 @@ pub record Goes (app : App) (names : Names) (ls : List (List ℕ)) (reader : Tra
   pub read : HasRead names ls items reader
   pub judged : HasJudged app items judge
 
--- one of the lines is wrong, and is refused so whatever comes after them
-pub record Refuses (names : Names) (ls : List (List ℕ)) (refusal : TraceRefused) : Type 0 where
-  pub number : ℕ
-  pub refused : (behind : List (List ℕ)) → RefusesLine names (ls ++ behind) number refusal
+-- one of the lines is wrong: each text that begins with these lines is refused so
+abbrev pub Refuses : Names → List (List ℕ) → TraceRefused → Type 0
+Refuses names ls refusal =
+    (text : List ℕ) (behind : List (List ℕ)) → length text ≤ TRACE_BYTES → lines text ≡ ls ++ behind
+    → IsRefused names text refusal
 
 -- no line is wrong, or the first that is is refused so
 abbrev pub Stands : App → Names → List (List ℕ) → TraceReader → Judge → Option TraceRefused → Type 0

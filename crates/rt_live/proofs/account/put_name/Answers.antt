@@ -1,6 +1,6 @@
 use Rattle.std.proofs.Common.{rules, ◌≡◌, length, ap, arith, length-append}
 use Rattle.rt_ids.specs.Naming.{irq_name}
-use Rattle.rt_trace.proofs.Short.{irq_name_short}
+use Rattle.rt_lines.proofs.Short.{irq_name_short}
 use Rattle.rt_live.proofs.account.put_name.Goals as goal
 
 pub put-requires : goal.put-requires

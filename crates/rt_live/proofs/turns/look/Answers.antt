@@ -6,7 +6,7 @@ use Rattle.rt_run.proofs.Known.{still_writable}
 use Rattle.rt_words.specs.Lines.{Core}
 use Rattle.rt_live.specs.Interleaving.{look_arrivals, look_calls, arrivals_from}
 use Rattle.rt_live.specs.Able.{MayArrive}
-use Rattle.rt_trace.specs.Lined.{IsDeclared}
+use Rattle.rt_lines.specs.Operand.{IsDeclared}
 use Rattle.rt_live.proofs.Bits.{arriving_all}
 use Rattle.rt_live.proofs.Looking.{finds_none, find_more, find_cut, looks_alone}
 use Rattle.rt_live.proofs.Owning.{one_call_on, same_line}

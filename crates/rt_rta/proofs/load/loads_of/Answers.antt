@@ -1,4 +1,3 @@
-use Rattle.std.proofs.Common.{arith}
 use Rattle.rt_app.specs.View.{app_of}
 use Rattle.rt_rta.proofs.Least.{loads_next, loads_all}
 use Rattle.rt_rta.proofs.load.loads_of.Goals as goal

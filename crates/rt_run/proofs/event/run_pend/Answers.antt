@@ -4,7 +4,7 @@ use Rattle.rt_ids.specs.Arrivals.{arrivals}
 use Rattle.rt_ids.specs.Event.{Arrive}
 use Rattle.rt_ids.specs.Names.{Names}
 use Rattle.rt_code.specs.Image.{Image}
-use Rattle.rt_trace.specs.Lined.{IsDeclared}
+use Rattle.rt_lines.specs.Operand.{IsDeclared}
 use Rattle.rt_run.proofs.Advancing.{written, stopped_at}
 use Rattle.rt_run.proofs.Happened.{only_bit, one_arrival, pend_leads, pend_lines, pend_lined, pend_shows}
 use Rattle.rt_run.proofs.event.run_pend.Goals as goal
@@ -24,7 +24,10 @@ put_item-requires g c =
     let named = ap (λ (i : Image). i.names) (c.behind-core.view_is ∙ c.image.ensures ∙ run.image) in
     record {
       step = omega (arith, c.steps-step.ensures, run.steps, c.requires.few);
-      operands = subst (λ (n : Names). IsDeclared n c.args.irq) (sym named) c.requires.declared;
+      operands = record {
+        written = (subst (λ (n : Names). IsDeclared n c.args.irq) (sym named) c.requires.declared, tt);
+        few = tt;
+      };
     }
 
 pub returns-clause-ok : goal.returns-clause-ok

@@ -1,14 +1,29 @@
-use Rattle.rt_script.proofs.Declared.{says_named}
-use Rattle.rt_script.proofs.Taking.{progress_more}
+use Rattle.std.proofs.Common.{arith, ◌+◌}
+use Rattle.rt_lines.proofs.Reading.{line_more, wrong_line}
+use Rattle.rt_script.specs.Text.{script_reader, too_long, first_wrong, no_memory}
+use Rattle.rt_script.proofs.Declared.{lead_right}
 use Rattle.rt_script.proofs.reading.read_script.Goals as goal
+
+pub returns-then-bytes-clause-refused : goal.returns-then-bytes-clause-refused
+returns-then-bytes-clause-refused c = too_long (omega arith)
 
 pub loop-rest-preserved : goal.loop-rest-preserved
 loop-rest-preserved c =
-    let taken = rw c.in_ok-take_line.was at c.take_line.ensures.taken in
-    progress_more c.args.names.now c.args.bytes.now c.loop-rest.rest.now c.first_line.result.1.now
+    line_more (script_reader c.args.names.now) c.args.bytes.now c.loop-rest.rest.now c.first_line.result.1.now
     c.first_line.result.0.now c.loop-rest.number c.loop-rest.script c.take_line.new.script c.loop-rest.invariant
-    c.first_line.ensures.lines c.first_line.ensures.shorter taken
+    c.first_line.ensures.lines c.first_line.ensures.shorter (rw c.in-Ok-Ok.field-0-is at c.in-Ok-Ok.ensures)
+
+pub returns-in-Ok-Err-clause-refused : goal.returns-in-Ok-Err-clause-refused
+returns-in-Ok-Err-clause-refused c =
+    rw c.refusal.ensures
+    (first_wrong (c.loop-rest.number + 1) c.in-Ok-Err.wrong
+    (wrong_line (script_reader c.args.names.now) c.args.bytes.now c.loop-rest.rest.now c.first_line.result.1.now
+    c.first_line.result.0.now c.loop-rest.number c.loop-rest.script c.in-Ok-Err.wrong c.loop-rest.invariant
+    c.first_line.ensures.lines (omega arith) (rw c.in-Ok-Err.field-0-is at c.in-Ok-Err.ensures)))
+
+pub returns-in-Err-clause-refused : goal.returns-in-Err-clause-refused
+returns-in-Err-clause-refused c = no_memory
 
 pub returns-clause-names : goal.returns-clause-names
-returns-clause-names c = says_named c.args.names.now c.loop-rest.invariant.before c.loop-rest.script
-    c.loop-rest.invariant.says
+returns-clause-names c = (lead_right c.args.names.now c.loop-rest.invariant.before c.loop-rest.script
+    c.loop-rest.invariant.lead).named

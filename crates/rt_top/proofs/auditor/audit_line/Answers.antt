@@ -1,7 +1,4 @@
-use Rattle.std.proofs.Common.{subst, Option}
 use Rattle.rt_app.specs.View.{app_of}
-use Rattle.rt_trace.specs.Reader.{ReadsMore}
-use Rattle.rt_trace.specs.declared.item.Item.{Item}
 use Rattle.rt_top.proofs.Auditing.{goes_silent, goes_on, line_refuses}
 use Rattle.rt_top.proofs.auditor.audit_line.Goals as goal
 
@@ -9,15 +6,13 @@ pub returns-in-Ok-None : goal.returns-in-Ok-None
 returns-in-Ok-None c ls counted at =
     goes_silent (app_of c.args.machine.now.code.now.app.now) c.args.names.now ls c.args.line.now c.args.reader.now
     c.take.new.self c.args.judge.now
-    (subst (λ (told : Option Item). ReadsMore c.args.names.now c.args.reader.now c.args.line.now told c.take.new.self)
-    c.in-Ok-None.field-0-is c.in-Ok-None.ensures.read) at
+    (rw c.in-Ok-None.field-0-is at c.in-Ok-None.ensures.read) at
 
 pub returns-in_ok-take-in-Ok-Some : goal.returns-in_ok-take-in-Ok-Some
 returns-in_ok-take-in-Ok-Some c ls counted at =
     goes_on (app_of c.args.machine.now.code.now.app.now) c.args.names.now ls c.args.line.now c.args.reader.now
     c.take.new.self c.in-Ok-Some.item c.args.judge.now c.take-in-Ok-Some.new.self
-    (subst (λ (told : Option Item). ReadsMore c.args.names.now c.args.reader.now c.args.line.now told c.take.new.self)
-    c.in-Ok-Some.field-0-is c.in-Ok-Some.ensures.read)
+    (rw c.in-Ok-Some.field-0-is at c.in-Ok-Some.ensures.read)
     (λ items judged. c.in_ok-take-in-Ok-Some.ensures items judged) at
 
 pub returns-in-Err : goal.returns-in-Err

@@ -1,6 +1,6 @@
 use Rattle.std.proofs.Common.{refl, subst, ◌∙◌}
 use Rattle.rt_ids.specs.declared.status.Status.TheVariants as status
-use Rattle.rt_script.specs.Text.{IsRefused}
+use Rattle.rt_script.specs.Text.{IsRefused, too_long}
 use Rattle.rt_script.specs.declared.refusal.ScriptRefused.TheVariants as in_script
 use Rattle.rt_top.specs.Kinds as kind
 use Rattle.rt_top.specs.Reads.{given_by}
@@ -16,7 +16,7 @@ returns-in-Ok-None-clause-reads g c first app is named =
     refusal_reads kind.Script first gave _ read.0 read.0.1 status.Text (SaysScript in_script.TooLong)
     (λ line says. (
       refl,
-      record { app = app; of_text = is; refusal = in_script.TooLong; refused = read.1; says = says },
+      record { app = app; of_text = is; refusal = in_script.TooLong; refused = too_long read.1; says = says },
     ))
     c.refuse_script.result c.refuse_script.ensures
 

@@ -1,7 +1,7 @@
 use Rattle.std.proofs.Common.{refl, subst, ◌∙◌}
 use Rattle.rt_app.specs.View.{app_of}
 use Rattle.rt_ids.specs.declared.status.Status.TheVariants as status
-use Rattle.rt_rta.specs.Text.{IsRefused}
+use Rattle.rt_rta.specs.Text.{IsRefused, too_long}
 use Rattle.rt_rta.specs.declared.refusal.LimitsRefused.TheVariants as in_limits
 use Rattle.rt_top.specs.Kinds as kind
 use Rattle.rt_top.specs.Reads.{given_by}
@@ -21,7 +21,7 @@ returns-in-Ok-None-clause-reads g c first is =
         app = app_of c.args.app.now;
         of_text = is;
         refusal = in_limits.TooLong;
-        refused = read.1;
+        refused = too_long read.1;
         says = says;
       },
     ))

@@ -1,7 +1,7 @@
 use Rattle.std.proofs.Common.{rules, ◌≡◌, ◌≤◌, subst, sym, length, List, ℕ}
 use Rattle.rt_ids.specs.declared.limits.TheConstants.{NAME_BYTES}
 use Rattle.rt_ids.specs.Naming.{irq_name}
-use Rattle.rt_trace.proofs.Short.{irq_name_short}
+use Rattle.rt_lines.proofs.Short.{irq_name_short}
 use Rattle.rt_trace.proofs.names.irq_name.Goals as goal
 
 pub returns-clause-short : goal.returns-clause-short

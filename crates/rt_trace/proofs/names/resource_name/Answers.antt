@@ -3,7 +3,7 @@ use Rattle.std.specs.Option.{unwrap_or}
 use Rattle.std.proofs.lemmas.Option.{unwrap_or-slice_get}
 use Rattle.rt_lemmas.proofs.Options.{unwrap_or-now}
 use Rattle.rt_ids.specs.declared.limits.TheConstants.{NAME_BYTES}
-use Rattle.rt_trace.proofs.Short.{resource_name_short}
+use Rattle.rt_lines.proofs.Short.{resource_name_short}
 use Rattle.rt_trace.proofs.names.resource_name.Goals as goal
 
 pub returns : goal.returns

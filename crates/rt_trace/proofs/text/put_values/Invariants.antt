@@ -1,5 +1,5 @@
 use Rattle.std.proofs.Common.{◌≡◌, ◌≤◌, ◌+◌, ◌*◌, ◌++◌, map, take, decimal}
-use Rattle.rt_trace.specs.Text.{spaced_text}
+use Rattle.rt_lines.specs.Table.{spaced_text}
 use Rattle.rt_trace.proofs.text.put_values.Given as goal
 
 -- the values so far

@@ -1,4 +1,5 @@
-use Rattle.std.proofs.Common.{[], arith}
+use Rattle.std.proofs.Common.{[], ap, sym, arith}
+use Rattle.rt_trace.proofs.Stepping.{at}
 use Rattle.rt_top.proofs.auditor.Auditor.new.Goals as goal
 
 pub returns : goal.returns
@@ -9,7 +10,7 @@ returns g c = record {
   stands = record {
     items = [];
     few = omega arith;
-    read = c.new-2.ensures c.args.names.now;
+    read = ap (λ p. at p []) (sym c.new-2.ensures);
     judged = c.in_ok-judge.ensures;
   };
 }

@@ -1,5 +1,0 @@
-use Rattle.rt_script.proofs.OneWay.{read_one_way}
-use Rattle.rt_script.proofs.laws.texts_are_read_one_way.Goals as goal
-
-pub returns : goal.returns
-returns c = read_one_way
