@@ -1,16 +1,49 @@
-"""Refused lines of listings: what is wrong, and what is due."""
+"""Refused listings, and images that break a rule: what is wrong, and what is due."""
+import re
+
+from .listing import image_of
+from .points import TooMany
 from .scripts import Line
+from .seven import least_broken
 from .table import Phrase
 
+APPLICATION = re.compile(r"(?:\s|//[^\n]*\n)*app\b")
+TRACE = re.compile(r"\d+ [a-z]+\b")
+SCRIPT = re.compile(r"(?:#[^\n]*\n|\s)*(?:step|tick|pend|device) ")
 
-def image_line(number, source, size, table):
-    """What is wrong with the first line of a listing with which the lines begin none."""
+
+def image_line(number, source, front, size, table):
+    """What is wrong with the first line of a listing with which the lines begin none; its text has this beginning."""
     said = Line(source)
     key = f"image {number}"
     said.cause = table.cause(key, A=Phrase(f"{size:,}"))
     said.helps = [table.mending(key)]
-    if number == 2 and source.endswith("\r"):
+    if number == 2 and not front.startswith("image "):
+        other_text(said, front)
+    elif number == 2 and source.endswith("\r"):
         said.cause = "the line ends with a carriage return, and a line feed alone is due"
     elif number == 2 and source != " ".join(source.split()):
         said.cause = "words are separated by one space, with none before the first or after the last"
     return said
+
+
+def other_text(said, front):
+    """What a text is that is no listing, where its beginning tells."""
+    if APPLICATION.match(front):
+        said.cause = "this is an application, and `verify` takes the listing of an image"
+        said.helps = ["`rtic build APP > LISTING` writes one, and `rtic verify LISTING` judges it"]
+    elif SCRIPT.match(front):
+        said.cause = "this looks like a script, and `verify` takes the listing of an image"
+    elif TRACE.match(front):
+        said.cause = "this looks like a trace, and `verify` takes the listing of an image"
+
+
+def broken(text, number):
+    """The breach of the rule that the program named, or a sentence that says why none is shown."""
+    try:
+        found, breach = least_broken(image_of(text))
+    except TooMany:
+        return None, "where, is not looked for: the image has too many points"
+    if found != number:
+        return None, f"where, is not known: the walk through the image finds {found or 'no rule broken'}"
+    return breach, None

@@ -6,7 +6,7 @@ import stat
 import subprocess
 import traceback
 
-from . import audits, images, limits, scripts, texts, words as wording
+from . import audits, forms, images, limits, scripts, texts, words as wording
 from .expected import may_stand, met, told
 from .report import Report, shown
 from .rules import Rules
@@ -16,6 +16,8 @@ from .tree import tree_of
 from .warnings import warnings_of
 
 WARNINGS = 20
+PLACES = 3
+FRONT = 4_096
 APPLICATION, SECOND = 262_144, 268_435_456
 DONE, REFUSED, USAGE, BAD_LINE, NO, UNREAD = range(6)
 REFUSAL = re.compile(rb"(second )?(\d+):(\d+) E(\d\d) ([^\n]*)\n")
@@ -72,7 +74,7 @@ class Explained:
         elif status == NO and front.startswith(b"no "):
             self.wrong_item(int(front[3:]))
         elif status == NO and front == b"no\n":
-            self.report.line(wording.FORMS[self.words[0]])
+            self.other_form()
         elif status == UNREAD:
             self.report.line(shown(wording.of_files(wording.files_of(self.words))))
 
@@ -166,7 +168,7 @@ class Explained:
         lines, size = self.first_lines(place, line), os.path.getsize(self.paths[place])
         source = lines[line - 1] if line <= len(lines) else ""
         if which == "image":
-            said = images.image_line(number, source, size, self.table)
+            said = images.image_line(number, source, self.text(0)[:FRONT], size, self.table)
         elif which == "script":
             said = scripts.script_line(tree_of(self.text(0)), number, source, lines, size, self.table)
         elif which == "limits":
@@ -178,10 +180,35 @@ class Explained:
         self.sentences([("cause", said.cause)] + [("help", one) for one in said.helps])
 
     def broken_rule(self, number):
-        """The least rule that an image breaks."""
-        self.report.line(f"{self.names[0]}: no {number}")
-        key = f"verify {number}"
-        self.sentences([("cause", self.table.cause(key)), ("help", self.table.mending(key))])
+        """The least rule that an image breaks, and where."""
+        text, report, key = self.text(0), self.report, f"verify {number}"
+        breach, why = images.broken(text, number)
+        if not breach:
+            report.line(f"{self.names[0]}: no {number}")
+            return self.sentences([("cause", self.table.cause(key)), ("help", self.table.mending(key)), ("note", why)])
+        lines = text.split("\n")
+        report.head(self.names[0], breach.line, 1, f"no {number}")
+        report.rows([(breach.line, lines[breach.line - 1])], 0, len(lines[breach.line - 1]), breach.label)
+        report.say("cause", breach.cause)
+        self.sentences([("help", one) for one in breach.helps or [self.table.mending(key)]])
+        for sentence, line in breach.notes:
+            report.note(sentence, self.names[0], text, offset_of(text, line, 1), len(lines[line - 1]))
+        return report.say("note", breach.remark) if breach.remark else None
+
+    def other_form(self):
+        """Which conditions of `times` or `deepest` an application does not meet, and where."""
+        text, report, command = self.text(0), self.report, self.words[0]
+        report.line(wording.FORMS[command])
+        for one in forms.failed(tree_of(text), command):
+            token, label = one.places[0]
+            line, column = place_of(text, token.at)
+            report.head(self.names[0], line, column, "no")
+            report.picture(text, token.at, len(token.text), label)
+            report.say("cause", forms.need(one.key, command))
+            for token, label in one.places[1 : 1 + PLACES]:
+                report.note(label, self.names[0], text, token.at, len(token.text))
+            if len(one.places) > 1 + PLACES:
+                report.say("note", f"{len(one.places) - 1 - PLACES} more places are not shown")
 
     def wrong_item(self, number):
         """The item that is the first wrong one, and what `audit` takes in its place."""

@@ -147,11 +147,11 @@ def pictures_amiss(said):
     """The pictures of the page that are not what is said of `pictures.rows`; files have other names there."""
     found = []
     text = PAGE.read_text(encoding="utf-8")
-    for name in ("driver.rtic", "driver.script", "other.trace"):
-        text = text.replace(name, FILES[0] if name.endswith("rtic") else FILES[1])
+    for name in ("driver.rtic", "tank.rtic", "guarded.listing", "driver.script", "other.trace"):
+        text = text.replace(name, FILES[0] if name.endswith((".rtic", ".listing")) else FILES[1])
     for block in re.findall(r"(?:^    .*\n)+", text, flags=re.MULTILINE):
         lines = [line[4:] for line in block.splitlines()]
-        lines = [line for line in lines if not re.match(r"\$ |\d+:\d+ E|script:|no \d", line)]
+        lines = [line for line in lines if not re.match(r"\$ |\d+:\d+ E|script:|no( \d+)?$", line)]
         if "^" in block and not any("\n".join(lines) in "\n".join(one) for one in said):
             found.append(f"a picture of {PAGE.name} is not what is said: {lines[0]}")
     return found
