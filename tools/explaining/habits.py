@@ -6,9 +6,12 @@ after which a statement begins.
 """
 import re
 
+from .marks import COMMENT
 from .tokens import WORDS
 
+OPPOSITE = {"==": "!=", "!=": "==", "<": ">=", ">=": "<", ">": "<=", "<=": ">"}
 OTHER_NAME = rf"(?!(?:{'|'.join(sorted(WORDS))})\b)[A-Za-z_]\w*"
+OPERAND = r"(?:[=(,+*/%&|^<>-]|emit|if)"
 STATEMENT = r"(?<!interrupts )(?<!shared )(?<!local )[;{}]"
 TYPE = r"(?:[ui](?:8|16|32|64|128|size)|bool|char|f32|f64|int|str|String)\b"
 CALL = r"(?:\w+ : : )*"
@@ -24,7 +27,8 @@ ONE_NUMBER = "a resource or a variable is one number and has no fields: write it
 LISTED = "a local is declared in `local { <x> = 0 }`, and listed by its name alone"
 LISTING = "this is a listing, which `build` writes; an application begins with `app`"
 BRACES = "no `;` comes after a block"
-COMMENT = "a comment begins with `//` and ends with its line"
+NOT_EQUAL = "not equal is `!=`"
+HEXADECIMAL = "a hexadecimal number begins with `0x`: `0x<x>`"
 ONE_FILE = "an application is one file, and takes in no other"
 
 FOREIGN = [
@@ -39,7 +43,12 @@ FOREIGN = [
     (r"", r"# (?:! )?\[", "attributes of Rust have no place here: leave it out"),
     (r"", r"# include\b", ONE_FILE),
     (r"", r"# define\b", "there are no constants: write the number itself"),
+    (rf"{OPERAND}$", r"[#$] (?P<x>[0-9A-Fa-f]{1,8})\b", HEXADECIMAL),
     (r"", r"#", COMMENT),
+    (r"", r"\\ \\", COMMENT),
+    (r"", r"\\", "a line has no sign at its end: a statement ends with `;`, wherever that comes"),
+    (r"", r"~ =", NOT_EQUAL),
+    (r"\b(?P<n>\d{1,3})$", r"' (?P<x>\d{3})\b", "a number has no sign between its digits: write `<n><x>`"),
     (r"\blocal = \[ (?:[^\]]*, )?(?P<x>\w+)$", r": \w+ =", LISTED),
     (r"\b(?:shared|local) \{ (?:[^}]*, )?(?P<x>\w+)$", r": [A-Za-z]",
      "a resource is declared with its first value, and has no type: `<x> = 0`"),
@@ -73,7 +82,11 @@ FOREIGN = [
     (r"(?P<t>\w+)$", r"\. spawn \(", "`<t>.spawn(..)` is `spawn <t>(..);` here"),
     (r"\.\.$", r"\.", "a loop is `for i in 0..8 { .. }`, with two dots"),
     (r"\w$", r"\. \w", ONE_NUMBER),
-    (r"[A-Za-z_]\w*$", r"! [(\[{]", NO_MACROS),
+    (rf"(?:^|(?<!\w)){OTHER_NAME}$", r"! [(\[{]", NO_MACROS),
+    *[(r"", rf"! \( (?P<a>\w+) {sign} (?P<b>\w+) \)",
+       f"there is no `!`: for `!(<a> {sign} <b>)` write `<a> {other} <b>`") for sign, other in OPPOSITE.items()],
+    (r"", r"! \(", "there is no `!`: write `(..) == 0`, which is 1 where what is in the parentheses is 0"),
+    (r"", r"! (?P<x>[A-Za-z_]\w*)", "there is no `!`: write `<x> == 0`"),
     (r"", r"!", "there is no `!`: write `a == 0`"),
     (r"", r"~", "there is no `~`: write `a ^ 0xffffffff`"),
     (r"\)$", r"\?", "nothing panics: `spawn` gives 1, or 0 where no place was left, as in `let sent = spawn ..;`"),
@@ -88,6 +101,12 @@ SYNTAX = [
     (r"^$", r"(?:step|tick|pend|device)\b", "this looks like a script; the application comes first, then the script"),
     (r"^$", r"(?:use|mod|extern|pub|fn|struct|const|static)\b",
      "Rust is not read here: an application begins with `app name(bits = 4);`"),
+    (r"<$", r">", NOT_EQUAL),
+    (r"!=$", r"=(?: |$)", NOT_EQUAL),
+    (r"\bif [^;{}]*$", r"/ =(?: |$)", NOT_EQUAL),
+    (r"\b(?:if|emit) [^;{}]*$", r"= >", "greater or equal is `>=`"),
+    (r"\b(?:if|emit) [^;{}]*$", r"= <", "less or equal is `<=`"),
+    (r"\*$", r"\*", "there is no `**`: a power of 2 is `1 << n`"),
     (r"", r"/ \*", COMMENT),
     (r"/$", r"\*", COMMENT),
     (r"(?P<x>\w+)$", r"(?P<o>\+|-|\*|/|%|&|\||\^|<<|>>) =(?: |$)", "there is no `<o>=`: write `<x> = <x> <o> ..;`"),
@@ -100,7 +119,9 @@ SYNTAX = [
      "`lock_free` comes before the name: `lock_free <x> = 0`"),
     (r"\b(?:shared|local) \{ [^}]*=$", r"-", "a first value has no sign: for -1 write 0xffffffff"),
     (r"\bnow$", r"\(", "no parentheses come after `now`"),
-    (r"@ spawn_at$", r"\(", "there are no messages for an instant: `spawn_after(d) t(..);` waits for d ticks"),
+    (r"(?:@|=) spawn_at$", r"\(", "there are no messages for an instant: `spawn_after(d) t(..);` waits for d ticks"),
+    (r"(?:@|=) reschedule_at$", r"\(",
+     "no message is moved to an instant: `reschedule_after(d) t(h);` moves it to d ticks from now"),
     (r"\)$", r"- >", "a body hands back nothing: leave `-> ..` out"),
     (r"@ \w+$", r"< -", "to assign is `=`"),
     (r"\bpend \w+$", r",", "a `pend` names one interrupt: write two of them"),
@@ -108,6 +129,9 @@ SYNTAX = [
     (r"\blet [^;{}(]*$", r",", "a `let` declares one variable: write two of them"),
     (r"\b(?P<n>\d\w*)$", r"(?:[uUiI](?:8|16|32|64|128|size)?[lL]*|[lL]+|f32|f64)\b",
      "a number has no suffix: write `<n>`"),
+    (r"\b0+$", r"(?P<x>[0-9A-Fa-f]+)[hH]\b", HEXADECIMAL),
+    (r"(?:^|(?<!_after \( ))\b(?P<x>\d+)$", r"[hH]\b", HEXADECIMAL),
+    (r"\b(?P<n>\d+)$", r"(?P<x>[0-9A-Fa-f]*)[hH]\b", HEXADECIMAL.replace("<x>", "<n><x>")),
     (r"\b(?P<n>\d+)$", r"(?:ns|us|ms|s|millis|secs)\b", "a delay is a number of ticks: `spawn_after(<n>) ..`"),
     (r"\b\d\w*$", r"_\w*|[bo]\d\w*|[xX]\w*|[eE]\d+", NUMERAL),
     (r"(?:^|@ )(?P<w>while|loop|do|until|repeat)$", r"[\w({]", NO_LOOP),
@@ -121,7 +145,18 @@ SYNTAX = [
     (r"\|$", r"\|", COMPARED.replace("<w>", "||").replace("<o>", "|")),
     (r"\w\)?$", r"(?P<w>and)\b", COMPARED.replace("<o>", "&")),
     (r"\w\)?$", r"(?P<w>or)\b", COMPARED.replace("<o>", "|")),
+    (r"\bnot$", r"(?P<x>[A-Za-z_]\w*)", "there is no `not`: write `<x> == 0`"),
     (r"\bnot$", r"[\w(]", "there is no `not`: write `a == 0`"),
+    (r"\bspawn after \( (?P<d>[^;{}]*) \)$", r"(?P<t>[A-Za-z_]\w*)",
+     "`spawn_after` is one word: `spawn_after(<d>) <t>(..);`"),
+    (r"\breschedule$", r"after\b", "`reschedule_after` is one word: `reschedule_after(d) t(h);`"),
+    (r"\bspawn (?P<t>\w+) \([^;{}]*\)$", r"(?:after|in|at)\b", "a message for later is `spawn_after(d) <t>(..);`"),
+    (r"\bspawn_after \( [^;{}()]*$", r",",
+     "the form is `spawn_after(100) t(a, b);`: the delay alone is in the first parentheses"),
+    (r"\breschedule_after \( [^;{}()]*$", r",",
+     "the form is `reschedule_after(100) t(h);`: the delay, the task, and the handle"),
+    (r"\b(?P<w>cancel|reschedule_after)(?: \( [^;{}()]* \))? \w+ \( [^;{}()]*$", r",",
+     "`<w>` takes one handle: write two of them"),
     (r"\belse$", r"if\b", "there is no `else if`: write `else { if .. { .. } }`"),
     (r"@ (?P<w>elif|elsif|elseif)$", r"[\w(]", "there is no `<w>`: write `else { if .. { .. } }`"),
     (r"\bif [^;{}]*$", r"=(?: |$)", "to compare is `==`"),
@@ -203,7 +238,7 @@ SYNTAX = [
     (r"\}$", r";", BRACES),
     (r"@ if [^;{}]*\w\)?$", r"[A-Za-z_]",
      "what depends on an `if` goes in braces: `if a { .. } else { .. }`"),
-    (rf"(?P<f>{OTHER_NAME})$", r"\(", "there are no functions: write here what `<f>` is to calculate"),
+    (rf"(?:^|(?<!\w))(?P<f>{OTHER_NAME})$", r"\(", "there are no functions: write here what `<f>` is to calculate"),
     (r"\belse$", r"\w", "what depends on an `else` goes in braces: `else { .. }`"),
     (r"\binit \((?:.*,)?$", r"shared\b", "`init` uses every shared resource by its name, and lists none"),
     (r"\binit \((?:[^{]*,)?$", r"(?:priority|binds|capacity)\b", "`init` takes `local` alone"),

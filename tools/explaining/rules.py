@@ -1,5 +1,6 @@
 """E05 to E18: which cause it is, where the first one is, and how to mend it."""
 import difflib
+import re
 
 from .costs import MOST_CODE, MOST_STEPS, Costs, armed_tasks, sizes_before
 from .table import Phrase
@@ -10,6 +11,7 @@ KINDS = {
     "interrupt": "an interrupt", "task": "a task", "shared": "a shared resource", "local": "a local resource",
     "variable": "a variable", "value": "a value",
 }
+HEXADECIMAL = re.compile(r"(?P<a>[0-9A-F]{2,})h|(?P<b>[A-Fa-f]+[0-9][0-9A-Fa-f]*)[hH]|F{2,8}")
 ROLES = {"pend": "interrupt", "lock": "shared", "read": "value", "assign": "value", **{word: "task" for word in CALLS}}
 
 
@@ -102,7 +104,9 @@ class Rules:
         self.row(table, f"E05 {wanted}", N=name)
         if name in ("true", "false"):
             self.helps = ["`true` is 1 and `false` is 0"]
-        self.similar(name, wanted)
+        elif hexadecimal := HEXADECIMAL.fullmatch(name):
+            self.help(f"a hexadecimal number begins with `0x`: `0x{hexadecimal['a'] or hexadecimal['b'] or name}`")
+        self.similar(name, wanted, use)
         return None
 
     def wanted(self):
@@ -169,10 +173,17 @@ class Rules:
         elif wanted == "local" and kind == "shared":
             self.help(f"it is listed in `shared = [{name}]`")
 
-    def similar(self, name, wanted):
-        near = difflib.get_close_matches(name, self.names_of(wanted), 1, 0.7)
-        if near:
-            kind = "a resource" if wanted == "value" else KINDS[wanted]
+    def similar(self, name, wanted, use):
+        """A name that differs in capitals alone, or in few letters, among those that are declared and in scope."""
+        names = self.names_of(wanted)
+        variables = [one for scope in use.around.scopes for one in scope] if use and wanted == "value" else []
+        same = next((one for one in names + variables if one.lower() == name.lower()), None)
+        near = difflib.get_close_matches(name, names + variables, 1, 0.7)
+        if same:
+            told = "is declared" if same in names else "is a variable here"
+            self.help(f"small letters and capitals are told apart: `{same}` {told}")
+        elif near:
+            kind = KINDS["variable"] if near[0] not in names else "a resource" if wanted == "value" else KINDS[wanted]
             self.help(f"{kind} of a similar name is `{near[0]}`")
 
     def e06(self, table):
@@ -268,13 +279,28 @@ class Rules:
         if body.kind == "init":
             return self.row(table, "E11 init", **values)
         if row is None:
-            return self.row(table, "E11 unlisted free" if self.app.is_free(name) else "E11 unlisted", **values)
+            self.row(table, "E11 unlisted free" if self.app.is_free(name) else "E11 unlisted", **values)
+            return self.alone(name, body)
         if use.role == "lock":
             self.row(table, "E11 free" if self.app.is_free(name) else "E11 read", **values)
             return self.note(f"`{name}` is declared here", declared) if self.app.is_free(name) else None
         if use.around.locks:
             return self.row(table, "E11 other", M=use.around.locks[-1].text, **values)
-        return self.row(table, "E11 outside", **values)
+        self.row(table, "E11 outside", **values)
+        return self.alone(name, body)
+
+    def alone(self, name, body):
+        """A shared resource that one body alone has: a local one may be meant."""
+        users = {one.name.text for one in self.app.bodies for use in uses_of(one)
+                 if use.role in ("read", "assign", "lock") and use.token.text == name and one is not body}
+        users |= {one.name.text for one, _ in self.listings_of(name) if one is not body}
+        who = f"`{body.name.text}` alone lists `{name}`" if body.lists(name) else f"no other body uses `{name}`"
+        if users == {"init"}:
+            who = who.replace("no other body uses", "beside `init` no other body uses")
+            self.help(f"{who}{', and `init` uses it' * bool(body.lists(name))}: with its first value in "
+                      f"`local {{ {name} = .. }}`, listed in `local = [{name}]`, it needs no lock")
+        elif not users:
+            self.help(f"{who}: declared in `local {{ {name} = .. }}` and listed in `local = [{name}]` it needs no lock")
 
     def e12(self, table):
         _, use = self.use()

@@ -1,9 +1,12 @@
 """E01 to E04: what the text itself is refused for."""
 import difflib
+import functools
 import re
 import unicodedata
 
+from .calls import Named, called, nearly, without_task
 from .habits import FOREIGN, NO_TEXTS, SYNTAX, looked_up
+from .marks import grouped, stroke, unclosed_list
 from .table import Phrase
 from .tokens import WORDS, Token, place_of, skipped_bytes, tokens_of
 
@@ -47,6 +50,16 @@ class Syntax:
         near = text[at : at + AROUND]
         self.behind = " ".join(token.text for token in list(tokens_of(near))[:NEAR])
         self.depth = sum({"{": 1, "}": -1}.get(token.text, 0) for token in self.front)
+
+    @functools.cached_property
+    def rest(self):
+        """The tokens from the place on."""
+        return list(tokens_of(self.text, self.at))
+
+    @functools.cached_property
+    def named(self):
+        """The tasks of the text."""
+        return Named(self.front + self.rest)
 
 
 def too_long(text, table):
@@ -92,7 +105,10 @@ def foreign_help(sign, syntax, table):
 
 def syntax_help(syntax, found, program, table):
     """How to mend a fault of syntax: a habit, a sign that is missing, or a change that makes `fmt` take the text."""
-    help_ = looked_up(SYNTAX, syntax.before, syntax.behind)
+    help_ = None
+    for one in (without_task, called, nearly, unclosed_list, stroke, grouped):
+        help_ = help_ or one(syntax, found)
+    help_ = help_ or looked_up(SYNTAX, syntax.before, syntax.behind)
     for one in (returns, misspelt, declared, twice, unclosed, missing, no_name, chained, no_interrupts):
         help_ = help_ or one(syntax, found)
     if not help_ and found:

@@ -61,3 +61,13 @@ def offset_of(text, line, column):
     for _ in range(line - 1):
         start = text.find("\n", start) + 1
     return start + column - 1
+
+
+def between(tokens):
+    """The tokens inside the parentheses that the first of these opens, and those after them."""
+    depth = 0
+    for number, token in enumerate(tokens):
+        depth += {"(": 1, ")": -1}.get(token.text, 0)
+        if depth == 0:
+            return tokens[1:number], tokens[number + 1 :]
+    return tokens[1:], []

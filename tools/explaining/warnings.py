@@ -39,7 +39,9 @@ class Warnings:
         pended = {use.token.text for _, use in self.uses if use.role == "pend"}
         for name, _, _ in app.interrupts:
             if name.text not in served and name.text in pended:
-                self.warn(name, f"the interrupt `{name.text}` is pended, and no task binds it, so it is never taken")
+                self.warn(name, f"the interrupt `{name.text}` is pended, and no task here binds it",
+                          f"alone this application never takes it; as a core of `pair` it requests the `{name.text}` "
+                          "of the other core, if that one binds it")
             elif name.text not in served:
                 self.warn(name, f"nobody uses the interrupt `{name.text}`")
         levels = len(app.levels())

@@ -1,0 +1,90 @@
+"""What people write where a message is sent, moved or withdrawn, or a task is to run: E03 at the call."""
+import difflib
+import re
+
+from .tokens import between
+
+CALL_WORDS = ("spawn", "spawn_after", "cancel", "reschedule_after", "emit", "pend", "lock")
+NO_WORDS = ("spawn_at", "reschedule_at")
+NEARLY = 0.75
+FEW = 4
+
+
+class Named:
+    """The tasks of a text that need not be in the grammar, each with the interrupt that it binds, or None."""
+
+    def __init__(self, tokens):
+        self.tasks, self.armed = {}, []
+        for number, token in enumerate(tokens[:-1]):
+            behind = tokens[number + 1]
+            if token.text == "task" and behind.kind == "name":
+                self.tasks[behind.text] = bound(tokens[number + 2 :])
+            elif token.text == "spawn_after" and behind.text == "(":
+                inner, rest = between(tokens[number + 1 :])
+                if rest and rest[0].kind == "name" and rest[0].text not in self.armed:
+                    self.armed.append(rest[0].text)
+
+    @property
+    def software(self):
+        return [name for name, interrupt in self.tasks.items() if interrupt is None]
+
+
+def bound(tokens):
+    """The interrupt that a task binds, by the tokens after its name."""
+    for number, token in enumerate(tokens[:-2]):
+        if token.text == "{":
+            return None
+        if token.text == "binds":
+            return tokens[number + 2].text
+    return None
+
+
+def without_task(syntax, found):
+    """A cancel or a move that names no task: parentheses come where its name is due."""
+    word = re.search(r"\b(cancel|reschedule_after \( (?P<d>[^;{}]*) \))$", syntax.before)
+    if not word or syntax.token.text != "(":
+        return None
+    form = "cancel" if word[1] == "cancel" else f"reschedule_after({word['d']})"
+    inner = [token.text for token in between(syntax.rest)[0]]
+    named = syntax.named
+    if len(inner) >= 3 and inner[0] in named.tasks and inner[1] == ",":
+        return f"the task comes before the parentheses: `{form} {inner[0]}({' '.join(inner[2:])});`"
+    handle = " ".join(inner) if len(inner) == 1 else "h"
+    asks = f"a `{form.split('(')[0]}` names the task of its message: "
+    names = [name for name in named.tasks if name in named.armed] or named.software
+    if len(names) == 1:
+        return f"{asks}`{form} {names[0]}({handle});`"
+    several = ", ".join(f"`{name}`" for name in names[:FEW])
+    return f"{asks}`{form} t({handle});`" + (f", t one of {several}" if several else "")
+
+
+def called(syntax, found):
+    """A task that is called as a function, or named alone."""
+    if not syntax.front or syntax.front[-1].text not in syntax.named.tasks or syntax.token.text not in ("(", ";"):
+        return None
+    name = syntax.front[-1].text
+    interrupt, first = syntax.named.tasks[name], [token.text for token in syntax.front[-4:-1]]
+    if first[-1:] not in ([";"], ["{"], ["}"]) and syntax.token.text != "(":
+        return None
+    if interrupt:
+        return f"`{name}` is a hardware task: `pend {interrupt};` makes it run"
+    values = ".." if syntax.token.text == "(" and syntax.rest[1:2] and syntax.rest[1].text != ")" else ""
+    if first[-1:] in ([";"], ["{"], ["}"]):
+        return f"`{name}` is a task: `spawn {name}({values});` sends it a message"
+    answer = first[1] if first[:1] == ["let"] and first[2:] == ["="] else "sent"
+    return f"`{name}` is a task: `let {answer} = spawn {name}({values});` sends it a message"
+
+
+def nearly(syntax, found):
+    """A word of the language that is nearly written before a parenthesis or a name, where no such name is known."""
+    if not syntax.front or syntax.front[-1].kind != "name" or syntax.token.text == "after":
+        return None
+    word, first = syntax.front[-1].text, syntax.front[-2].text if len(syntax.front) > 1 else ""
+    starts = first in (";", "{", "}") or first == "=" and len(syntax.front) > 3 and syntax.front[-4].text == "let"
+    if not starts or syntax.token.kind != "name" and syntax.token.text != "(":
+        return None
+    if word in syntax.named.tasks or word in NO_WORDS:
+        return None
+    words = CALL_WORDS if first != "=" else CALL_WORDS[:4]
+    near = difflib.get_close_matches(word.lower(), words, 1, NEARLY)
+    return f"`{word}` is no word of the language: `{near[0]}` is" if near else None
