@@ -6,10 +6,11 @@ import stat
 import subprocess
 import traceback
 
-from . import audits, forms, images, limits, scripts, texts, words as wording
-from .expected import may_stand, met, told
+from . import audits, every, forms, images, limits, scripts, words as wording
+from .lines import LINE_REFUSAL, refused_lines
+from .refusals import NOT_ASKED, REFUSAL, Refusal, Telling
 from .report import Report, shown
-from .rules import Rules
+from .rules import counted
 from .table import Table
 from .tokens import offset_of, place_of
 from .tree import tree_of
@@ -20,16 +21,13 @@ PLACES = 3
 FRONT = 4_096
 APPLICATION, SECOND = 262_144, 268_435_456
 DONE, REFUSED, USAGE, BAD_LINE, NO, UNREAD = range(6)
-REFUSAL = re.compile(rb"(second )?(\d+):(\d+) E(\d\d) ([^\n]*)\n")
-LINE_REFUSAL = re.compile(rb"(script|trace|limits|image):(\d+) (\d) ([^\n]*)\n")
-NOT_ASKED = "what may come here is asked of the proved program, which is not built: ./build makes it"
 
 
 class Explained:
     """The words of one call, the files as the caller names them, and as they can be read again."""
 
-    def __init__(self, program, words):
-        self.program, self.words = program, words
+    def __init__(self, program, words, is_all):
+        self.program, self.words, self.is_all = program, words, is_all
         self.names = [shown(name) for name in words[1:]]
         files = wording.files_of(words)
         self.paths = [self.kept(number, name) for number, name in enumerate(files)]
@@ -64,11 +62,11 @@ class Explained:
         if status == DONE and self.words[0] == "check":
             self.warn()
         elif status == REFUSED and (found := REFUSAL.match(front)):
-            self.refused(1 if found[1] else 0, int(found[2]), int(found[3]), int(found[4]), found[5].decode())
+            self.refused(Refusal(self.text(1 if found[1] else 0), found))
         elif status == USAGE:
             self.command_line()
-        elif status == BAD_LINE and (found := LINE_REFUSAL.match(front)):
-            self.bad_line(found[1].decode(), int(found[2]), int(found[3]), found[4].decode())
+        elif status == BAD_LINE and (found := LINE_REFUSAL.match(front.decode("latin-1"))):
+            self.bad_lines(found[1], int(found[2]), int(found[3]), found[4])
         elif status == NO and self.words[0] == "verify":
             self.broken_rule(int(front[3:]))
         elif status == NO and front.startswith(b"no "):
@@ -77,10 +75,6 @@ class Explained:
             self.other_form()
         elif status == UNREAD:
             self.report.line(shown(wording.of_files(wording.files_of(self.words))))
-
-    def sentences(self, rows):
-        for kind, sentence in rows:
-            self.report.say(kind, sentence)
 
     # Status 2.
 
@@ -91,54 +85,24 @@ class Explained:
         self.report.line(" ".join(words))
         start = len(" ".join(words[:wrong])) + 1
         self.report.line(" " * start + "^" * max(len(words[wrong]) if wrong < len(words) else 1, 1))
-        self.sentences(wording.of_words(self.words))
+        self.report.sentences(wording.of_words(self.words))
 
     # Status 1.
 
-    def refused(self, which, line, column, number, words):
-        text, report = self.text(which), self.report
-        at = offset_of(text, line, column)
-        report.head(self.names[which], line, column, f"E{number:02} {words}")
-        if number == 1:
-            cause, mending = texts.too_long(text, self.table)
-            report.picture(text, at, 1)
-            self.sentences([("cause", cause), ("help", mending)])
-        elif number == 2:
-            label, mending, length = texts.foreign(texts.Syntax(text, at), self.table)
-            report.picture(text, at, length, label)
-            report.say("help", mending)
-        elif number == 3:
-            self.syntax(texts.Syntax(text, at))
-        elif number == 4:
-            syntax = texts.Syntax(text, at)
-            report.picture(text, at, len(syntax.token.text))
-            cause, mending = texts.limit(syntax, words.split(" ")[1], self.table)
-            self.sentences([("cause", cause), ("help", mending)])
-        else:
-            self.rule(which, text, at, number)
+    def refused(self, refusal):
+        which = 1 if refusal.is_second else 0
+        if self.is_all and self.program.answers:
+            return self.all_refused(which)
+        if self.is_all:
+            self.report.say("note", NOT_ASKED.replace("what may come here", "what else is refused"))
+        return Telling(self.program, self.table, self.report, self.names[which]).tell(refusal)
 
-    def syntax(self, syntax):
-        """What may come there, what is there, and how to mend it."""
-        found = may_stand(self.program, syntax.text[: syntax.at]) if self.program.answers else None
-        label = f"found {met(syntax.token)}"
-        if found:
-            label = f"expected {told(found, syntax.front)}, {label}"
-        length = max(len(syntax.token.text), 1)
-        self.report.picture(syntax.text, syntax.at, length, label, syntax.front[-1].at if syntax.front else None)
-        mending = texts.syntax_help(syntax, found or set(), self.program, self.table)
-        if mending or found:
-            self.report.say("help", mending or self.table.mending("E03"))
-        if not self.program.answers:
-            self.report.say("note", NOT_ASKED)
-
-    def rule(self, which, text, at, number):
-        rules = Rules(tree_of(text), at)
-        syntax = texts.Syntax(text, at)
-        self.report.picture(text, at, len(syntax.token.text))
-        getattr(rules, f"e{number:02}")(self.table)
-        self.sentences([("cause", cause) for cause in rules.causes] + [("help", one) for one in rules.helps])
-        for sentence, start, length in rules.notes:
-            self.report.note(sentence, self.names[which], text, start, length)
+    def all_refused(self, which):
+        """Each refusal of the application; of `pair` those of the second one too."""
+        command = "fmt" if self.words[0] == "fmt" else "check"
+        places = range(which, 2 if self.words[0] == "pair" else which + 1)
+        for place in places:
+            every.tell(self.program, self.table, self.report, self.names[place], self.text(place), command)
 
     # Status 0, of check.
 
@@ -163,8 +127,17 @@ class Explained:
         with open(self.paths[place], encoding="latin-1", newline="\n") as file:
             return [line.rstrip("\n") for line in itertools.islice(file, count)]
 
-    def bad_line(self, which, line, number, words):
+    def bad_lines(self, which, line, number, words):
+        """A refused line, or with `--all` each."""
         place = {"verify": 0, "pair": 2}.get(self.words[0], 1)
+        if not self.is_all or which == "image" or not self.program.answers:
+            return self.bad_line(which, line, number, words, place)
+        found = list(refused_lines(self.program, self.handed, place, self.text(place)))
+        for line, number, words in found:
+            self.bad_line(which, line, number, words, place)
+        return self.report.line(f"{self.names[place]}: {counted(len(found), 'refused line')}")
+
+    def bad_line(self, which, line, number, words, place):
         lines, size = self.first_lines(place, line), os.path.getsize(self.paths[place])
         source = lines[line - 1] if line <= len(lines) else ""
         if which == "image":
@@ -177,7 +150,7 @@ class Explained:
             said = scripts.trace_line(tree_of(self.text(0)), number, source, lines, line, self.table)
         self.report.head(self.names[place], line, said.start + 1, f"{which} {number} {words}")
         self.report.rows([(line, source)], said.start, said.length, "")
-        self.sentences([("cause", said.cause)] + [("help", one) for one in said.helps])
+        self.report.sentences([("cause", said.cause)] + [("help", one) for one in said.helps])
 
     def broken_rule(self, number):
         """The least rule that an image breaks, and where."""
@@ -185,12 +158,13 @@ class Explained:
         breach, why = images.broken(text, number)
         if not breach:
             report.line(f"{self.names[0]}: no {number}")
-            return self.sentences([("cause", self.table.cause(key)), ("help", self.table.mending(key)), ("note", why)])
+            report.sentences([("cause", self.table.cause(key)), ("help", self.table.mending(key)), ("note", why)])
+            return None
         lines = text.split("\n")
         report.head(self.names[0], breach.line, 1, f"no {number}")
         report.rows([(breach.line, lines[breach.line - 1])], 0, len(lines[breach.line - 1]), breach.label)
         report.say("cause", breach.cause)
-        self.sentences([("help", one) for one in breach.helps or [self.table.mending(key)]])
+        self.report.sentences([("help", one) for one in breach.helps or [self.table.mending(key)]])
         for sentence, line in breach.notes:
             report.note(sentence, self.names[0], text, offset_of(text, line, 1), len(lines[line - 1]))
         return report.say("note", breach.remark) if breach.remark else None
@@ -226,7 +200,7 @@ class Explained:
             return report.say("note", NOT_ASKED.replace("here", "in its place"))
         app = tree_of(self.text(0))
         asked = audits.Asked(app, audits.Audit(self.program, self.paths[0], trace, wrong), trace, wrong, self.bound())
-        return self.sentences(audits.told_total(asked) if in_total else audits.told_item(asked))
+        return self.report.sentences(audits.told_total(asked) if in_total else audits.told_item(asked))
 
     def bound(self):
         """The stack bound, as `check` prints it."""
@@ -237,7 +211,7 @@ class Explained:
 
 def explained_call(program, words):
     """Runs the words, and answers the program's status and the report of what more is said."""
-    explained = Explained(program, words)
+    explained = Explained(program, *wording.without_all(words))
     status, front = program.run(explained.handed)
     try:
         explained.explain(status, front)

@@ -66,6 +66,11 @@ class Report:
         """A sentence after a picture; its kind is cause, help or note."""
         self.line(f"  = {kind}: {sentence_shown(sentence)}")
 
+    def sentences(self, rows):
+        """Sentences with their kinds."""
+        for kind, sentence in rows:
+            self.say(kind, sentence)
+
     def picture(self, text, offset, length, label="", lead=None):
         """The source line with a caret under so many bytes from an offset on, after the line of an earlier offset."""
         lines = [line_at(text, offset)]
@@ -100,3 +105,24 @@ class Report:
             sys.stderr.buffer.flush()
         except (OSError, ValueError):
             pass
+
+
+class Mapped(Report):
+    """A report on a text that was changed, with the pictures of the text that it came from."""
+
+    def __init__(self, text, patched):
+        super().__init__()
+        self.text, self.patched = text, patched
+
+    def picture(self, text, offset, length, label="", lead=None):
+        lead = None if lead is None or self.patched.is_made(lead) else self.patched.origin(lead)
+        super().picture(self.text, self.patched.origin(offset), length, label, lead)
+
+    def note(self, sentence, file, text, offset, length):
+        if self.patched.is_made(offset):
+            return
+        start = self.patched.origin(offset)
+        line, column = place_of(self.text, start)
+        self.say("note", sentence)
+        self.line(f"--> {file}:{line}:{column}")
+        super().picture(self.text, start, length)

@@ -7,8 +7,9 @@ import unicodedata
 from .calls import Named, called, nearly, without_task
 from .habits import FOREIGN, NO_TEXTS, SYNTAX, looked_up
 from .marks import grouped, stroke, unclosed_list
+from .pieces import pieces_of
 from .table import Phrase
-from .tokens import WORDS, Token, place_of, skipped_bytes, tokens_of
+from .tokens import WORDS, Token, offset_of, place_of, skipped_bytes, tokens_of
 
 AROUND = 400
 DIGITS = 30
@@ -109,7 +110,7 @@ def syntax_help(syntax, found, program, table):
     for one in (without_task, called, nearly, unclosed_list, stroke, grouped):
         help_ = help_ or one(syntax, found)
     help_ = help_ or looked_up(SYNTAX, syntax.before, syntax.behind)
-    for one in (returns, misspelt, declared, twice, unclosed, missing, no_name, chained, no_interrupts):
+    for one in (returns, unclosed, misspelt, declared, twice, missing, no_name, chained, no_interrupts):
         help_ = help_ or one(syntax, found)
     if not help_ and found:
         help_ = repaired(syntax, found, program) or form(syntax)
@@ -165,8 +166,8 @@ def twice(syntax, found):
 
 
 def unclosed(syntax, found):
-    """A brace that is open at the end of the text."""
-    if syntax.token.kind != "end":
+    """A brace that is open at the end of the text, or where a task or a declaration begins."""
+    if syntax.token.kind != "end" and not (syntax.token.text in DECLARED and "}" in found):
         return None
     opened, last = [], None
     for token in syntax.front:
@@ -217,16 +218,24 @@ def no_interrupts(syntax, found):
 
 
 def repaired(syntax, found, program):
-    """One sign put in or the token taken out, where the whole text is then one of the grammar."""
+    """One sign put in or the token taken out, where the whole text is then one of the grammar; or where the declaration
+    or the task is read then, and the next refusal is in another one."""
     front, rest = syntax.text[: syntax.at], syntax.text[syntax.at :]
     put = [sign for sign in PUT if sign in found]
     texts = [f"{front}{sign} {rest}" for sign in put]
     if syntax.token.kind != "end":
         texts.append(front + syntax.text[syntax.token.end :])
-    told_ways = [f"with `{sign}` put before it the whole text is read" for sign in put]
-    told_ways.append(f"with `{syntax.token.text}` taken out the whole text is read")
+    told_ways = [f"with `{sign}` put before it" for sign in put] + [f"with `{syntax.token.text}` taken out"]
     answers = program.formats(texts)
-    return next((told_ways[number] for number, (status, _) in enumerate(answers) if status == 0), None)
+    for told_way, (status, _) in zip(told_ways, answers):
+        if status == 0:
+            return f"{told_way} the whole text is read"
+    stop = next((piece.stop for piece in pieces_of(syntax.text) if piece.start <= syntax.at < piece.stop), 0)
+    for told_way, text, (_, output) in zip(told_ways, texts, answers):
+        line, column = (int(word) for word in re.match(r"(\d+):(\d+) ", output).groups())
+        if offset_of(text, line, column) > stop + len(text) - len(syntax.text):
+            return f"{told_way} the text is read as far as line {line}"
+    return None
 
 
 def limit(syntax, which, table):

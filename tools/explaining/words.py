@@ -9,6 +9,7 @@ COMMANDS = {
     "times": ("APP", "LIMITS"), "verify": ("IMAGE",), "pair": ("APP1", "APP2", "SCRIPT"),
 }
 RANGES = {"NUMBER": (0, (1 << 64) - 1), "COUNT": (1, 10_000), "WORKERS": (1, 64), "N": (1, 48)}
+ALL = "--all"
 DIGITS = re.compile(r"[0-9]{1,20}")
 FORMS = {
     "deepest": "`deepest` is for hardware tasks alone, without a monotonic, and an `init` that has no `pend` and costs "
@@ -30,6 +31,21 @@ def is_in_range(word, kind):
         return True
     least, most = RANGES[kind]
     return bool(DIGITS.fullmatch(word)) and least <= int(word) <= most
+
+
+def is_command(words):
+    """Whether the words are a command."""
+    wanted = COMMANDS.get(words[0] if words else "")
+    return wanted is not None and len(words) - 1 == len(wanted) and all(map(is_in_range, words[1:], wanted))
+
+
+def without_all(words):
+    """The words without `--all`, and whether it is there: as the first word, or where without it they are a command."""
+    for place, word in enumerate(words):
+        rest = words[:place] + words[place + 1 :]
+        if word == ALL and (place == 0 or is_command(rest)):
+            return rest, True
+    return words, False
 
 
 def wrong_word(words):

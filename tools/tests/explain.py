@@ -6,6 +6,8 @@ sentences that must come, each on a line (one that begins with two blanks goes o
 beginning of what the program writes. `-- words W..` are other words, `-- warns` is an accepted application. In a file
 `%repeat N TEXT` is N lines, a `%` in them their number; `%join N TEXT` N times the text; `%bytes HEX` bytes, and the
 line's end after it is none; `%none`, `%folder` and `%closed` are no file, a folder, and a file that may not be read.
+After `-- all COMMAND STATUS ANSWER` the words begin with `--all`, and the places that are told must be those of the
+row, in its order.
 With a word only rows whose names have it are tried, and what is said is printed.
 """
 import concurrent.futures
@@ -25,6 +27,8 @@ from explaining.program import Program
 
 PAGE = HERE.parents[1] / "docs" / "EXPLAIN.md"
 FILES = ("app.rtic", "second")
+TWO_FILES = ("run", "audit", "live", "times")
+PLACE = re.compile(r"(?:app\.rtic|second):\d+:\d+: ")
 DIRECTIVE = re.compile(r"%bytes ([0-9a-f]+)\n|%join (\d+) (.*)\n|^%repeat (\d+) (.*\n)", re.MULTILINE)
 
 
@@ -77,7 +81,10 @@ def words_of(call, second):
         return [FILES[0] if word == "FILE" else word for word in call[1:]], 2, "usage: "
     if call[0] == "warns":
         return ["check", FILES[0]], 0, ""
-    two = second or call[0] in ("run", "audit", "live", "times")
+    if call[0] == "all":
+        words, status, answer = words_of(call[1:], second)
+        return ["--all"] + words, status, answer
+    two = second or call[0] in TWO_FILES
     return [call[0]] + list(FILES[: 2 if two else 1]), int(call[1]), " ".join(call[2:])
 
 
@@ -117,6 +124,10 @@ def faults_of(call, files, sentences, lines, status, output):
     if call[0] == "warns":
         heads = sum(1 for line in lines if ": warning: " in line)
         found += [f"{heads} warnings"] if heads != sum(1 for one in sentences if re.match(r"\d", one)) else []
+    if call[0] == "all":
+        heads = [line for line in lines if PLACE.match(line)]
+        due = [one for one in wanted(call, sentences) if PLACE.match(one)]
+        found += [f"the places are {heads}"] if heads != due else []
     if any("fault of tools/explain" in line for line in lines):
         found.append("tools/explain failed")
     if not caret_is_right(lines, answer, files[0]):

@@ -68,7 +68,9 @@ def program_rows(folder):
              ["check", ""], [], ["check"]]
     for call in calls:
         name = " ".join(pathlib.Path(word).name for word in call)
-        yield f"the words {name!r}", ran([program] + call)[:2] == ran([EXPLAIN] + call)[:2]
+        due = ran([program] + call)[:2]
+        yield f"the words {name!r}", due == ran([EXPLAIN] + call)[:2]
+        yield f"the words {name!r} with --all", due == ran([EXPLAIN, "--all"] + call)[:2]
     text = wrong.read_bytes()
     status, output, said = ran([EXPLAIN, "check", "/dev/stdin"], input=text)
     yield "a pipe", (status, output) == (1, b"3:15 E03 syntax\n") and b"/dev/stdin:3:15: E03 syntax" in said
