@@ -1,11 +1,10 @@
 """What people write where a message is sent, moved or withdrawn, or a task is to run: E03 at the call."""
-import difflib
 import re
 
-from .tokens import between
+from .tokens import between, nearest
 
 CALL_WORDS = ("spawn", "spawn_after", "cancel", "reschedule_after", "emit", "pend", "lock")
-NO_WORDS = ("spawn_at", "reschedule_at")
+NO_WORDS = ("spawn_at", "reschedule_at", "unlock", "unpend", "clock")
 NEARLY = 0.75
 FEW = 4
 
@@ -86,5 +85,5 @@ def nearly(syntax, found):
     if word in syntax.named.tasks or word in NO_WORDS:
         return None
     words = CALL_WORDS if first != "=" else CALL_WORDS[:4]
-    near = difflib.get_close_matches(word.lower(), words, 1, NEARLY)
-    return f"`{word}` is no word of the language: `{near[0]}` is" if near else None
+    near = nearest(word.lower(), words, NEARLY)
+    return f"`{word}` is no word of the language: `{near}` is" if near else None

@@ -31,6 +31,37 @@ NOT_EQUAL = "not equal is `!=`"
 HEXADECIMAL = "a hexadecimal number begins with `0x`: `0x<x>`"
 ONE_FILE = "an application is one file, and takes in no other"
 
+NO_DELAY = "no body waits: `spawn_after(d) t(..);` goes on in a task d ticks later"
+NO_PINS = "a body sets and reads no pin or register: `emit N;` shows a number in the trace"
+NO_MASKS = "nothing masks all interrupts: `lock a { .. }` holds off those who share the resource `a`"
+VARIABLE = "a variable of one body is declared in `local { <x> = 0 }`, one of several in `shared { <x> = 0 }`"
+BLOCKS = "what depends on an `if` goes in braces: `if a { .. } else { .. }`"
+RESOURCES = "resources are declared in `shared { a = 0 }` and `local { n = 0 }`"
+BY_NAME = "the values of a message have no names: write them in their order"
+DISPATCHERS = "interrupts for software tasks are named in the first declaration: `dispatchers = [SSI0]`"
+C_TYPE = (
+    r"(?:(?:volatile|static|extern|const|unsigned|signed|long|mut|pub|register) )*"
+    r"(?:int|unsigned|u?int\d+_t|[ui](?:8|16|32)|bool|char|long|short|float|double|let|var|static|mut|auto)"
+)
+DELAYS = r"(?:HAL_Delay|v?[Tt]askDelay(?:Until)?|osDelay|delay\w*|sleep\w*|wait\w*|_delay_\w+|msleep|usleep|nanosleep)"
+MASKS = (
+    r"(?:_*(?:disable|enable)_(?:irq|interrupts?)|noInterrupts|interrupts|cli|sei|taskENTER_CRITICAL|taskEXIT_CRITICAL"
+    r"|(?:enter|exit|begin|end)_critical\w*|critical_section|portDISABLE_INTERRUPTS|portENABLE_INTERRUPTS)"
+)
+CLOCKS = r"(?:millis|micros|HAL_GetTick|clock|get_?(?:tick|time|ticks)\w*|xTaskGetTickCount|time|ticks|now_ms)"
+REQUESTS = r"(?:NVIC_SetPendingIRQ|NVIC_SetPending|set_pending|trigger\w*|raise_irq|request_irq|generate_interrupt)"
+PINS = (
+    r"(?:digital(?:Write|Read)|analog(?:Write|Read)|HAL_\w+|gpio\w*|GPIO\w*|pinMode|(?:set|clear|toggle|read|write)_?"
+    r"(?:pin|led|port|reg|register|high|low)\w*|led_?(?:on|off|toggle)\w*|(?:read|write)[lbw]?)"
+)
+FUNCTIONS = [
+    (DELAYS, NO_DELAY), (MASKS, NO_MASKS), (CLOCKS, "the time in ticks is the value of `let x = now;`"),
+    (REQUESTS, "an interrupt is requested by `pend I;`"), (PINS, NO_PINS),
+]
+ENDED = "a statement ends with `;`"
+BEGINS = r"(?:let|if|for|lock|emit|pend|spawn|spawn_after|cancel|reschedule_after|\}|\w+ =(?!=))"
+WORD_SIGNS = {"mod": "%", "div": "/", "xor": "^", "shl": "<<", "shr": ">>", "rem": "%", "eq": "==", "ne": "!="}
+
 FOREIGN = [
     (r"", r"# \[ (?:rtic : : )?app\b",
      "`#[rtic::app(dispatchers = ..)]` is `app name(bits = 4, dispatchers = ..);` here"),
@@ -52,8 +83,12 @@ FOREIGN = [
     (r"\blocal = \[ (?:[^\]]*, )?(?P<x>\w+)$", r": \w+ =", LISTED),
     (r"\b(?:shared|local) \{ (?:[^}]*, )?(?P<x>\w+)$", r": [A-Za-z]",
      "a resource is declared with its first value, and has no type: `<x> = 0`"),
-    (r"\b(?:spawn|cancel) \w+ \( (?:[^;]*, )?\w+$", r": \w",
-     "the values of a message have no names: write them in their order"),
+    (r"\b(?:spawn|cancel) \w+ \( (?:[^;]*, )?\w+$", r": \w", BY_NAME),
+    (r"\b(?:if|else|for|while)\b[^;{}]*$", r":(?! :)", BLOCKS),
+    (r"\w$", r"\. (?:binds|priority|capacity|shared|local) =", "a `,` comes between two options"),
+    (r"\b(?:interrupts|shared|local) \{[^}]*$", r"\.", "commas separate what is in a list"),
+    (r"", r"(?:: : \w*delay\w*|: : sleep|\. await)\b", NO_DELAY),
+    (r"", r"\. delay(?:_\w+)? \(", NO_DELAY),
     (r"\w$", r": =", "to assign is `=`"),
     (r"\w$", rf": (?P<t>{TYPE})", NO_TYPES),
     (r"rtic$", rf": : pend \( {CALL}(?P<x>\w+) \)", "`rtic::pend(Interrupt::<x>)` is `pend <x>;` here"),
@@ -68,7 +103,9 @@ FOREIGN = [
     (r"[({,] (?P<x>\w+)$", r": \[", "write `=` here: `<x> = [..]`"),
     (rf"\b(?P<c>{CONTEXT})$", r"\. shared \. (?P<x>\w+) \. lock\b",
      "a lock is `lock <x> { .. }` here, and inside it `<x>` is a number"),
-    (rf"\b(?P<c>{CONTEXT})$", r"\. (?P<k>local|shared) \. (?P<x>\w+)",
+    (rf"\b(?P<c>{CONTEXT})$", r"\. schedule \. (?P<t>\w+)", "`<c>.schedule.<t>(..)` is `spawn_after(d) <t>(..);` here"),
+    (rf"\b(?P<c>{CONTEXT})$", r"\. spawn \. (?P<t>\w+)", "`<c>.spawn.<t>(..)` is `spawn <t>(..);` here"),
+    (rf"\b(?P<c>{CONTEXT})$", r"\. (?P<k>local|shared|resources) \. (?P<x>\w+)",
      "bodies get no context: write `<x>` for `<c>.<k>.<x>`"),
     (r"(?P<x>\w+)$", r"\. lock\b", "a lock is `lock <x> { .. }` here, and inside it `<x>` is a number"),
     (r"(?P<n>\b\d+)$", r"\. (?:nanos|micros|millis|secs|minutes|hours|Hz|kHz|MHz)\b",
@@ -81,6 +118,16 @@ FOREIGN = [
      "nothing panics: `spawn` gives 1, or 0 where no place was left, as in `let sent = spawn ..;`"),
     (r"(?P<t>\w+)$", r"\. spawn \(", "`<t>.spawn(..)` is `spawn <t>(..);` here"),
     (r"\.\.$", r"\.", "a loop is `for i in 0..8 { .. }`, with two dots"),
+    (r"(?P<x>\b\w+)$", r"\. (?:wrapping|saturating|checked|overflowing)_add\b",
+     "there are no methods, and sums, differences and products wrap: write `<x> + ..`"),
+    (r"(?P<x>\b\w+)$", r"\. (?:wrapping|saturating|checked|overflowing)_\w+",
+     "there are no methods, and sums, differences and products wrap: write `<x> - ..` or `<x> * ..`"),
+    (r"(?:\bemit|\bpend|=) [^;{}]*[\w)]$", rf"[:.] {BEGINS}(?: |$)", ENDED),
+    (r"", r"\. (?:set_high|set_low|toggle|is_high|is_low|set_output|write|read|modify)\b", NO_PINS),
+    (r"(?P<x>\b\w+)$", r"\. (?:is_some|is_none|is_ok|is_err|unwrap|is_empty)\b",
+     "each value is a number: compare it, as `<x> != 0`"),
+    (r"(?P<x>\b\w+)$", r"\. (?P<f>\w+) \(",
+     "there are no methods: `<x>` is one number, and what `<f>` calculates is written out"),
     (r"\w$", r"\. \w", ONE_NUMBER),
     (rf"(?:^|(?<!\w)){OTHER_NAME}$", r"! [(\[{]", NO_MACROS),
     *[(r"", rf"! \( (?P<a>\w+) {sign} (?P<b>\w+) \)",
@@ -107,6 +154,47 @@ SYNTAX = [
     (r"\b(?:if|emit) [^;{}]*$", r"= >", "greater or equal is `>=`"),
     (r"\b(?:if|emit) [^;{}]*$", r"= <", "less or equal is `<=`"),
     (r"\*$", r"\*", "there is no `**`: a power of 2 is `1 << n`"),
+    (r"(?:\w|\))$", rf"as (?:u|i)8\b", "there are no types: the low 8 bits of a value are `value & 255`"),
+    (r"(?:\w|\))$", rf"as (?:u|i)16\b", "there are no types: the low 16 bits of a value are `value & 65535`"),
+    (r"(?:\w|\))$", rf"as (?P<t>{TYPE})", NO_TYPES.replace(": <t>", "as <t>")),
+    (r"\bif$", r"let\b", "an `if` takes an expression: `let sent = spawn ..;` before it, and then `if sent { .. }`"),
+    (r"[(,]$", r"resources = \[",
+     "`resources = [..]` is `shared = [..]` here, or `local = [..]` for what one body alone uses"),
+    (r"[(,]$", r"(?P<w>spawn|schedule) = \[",
+     "each body may spawn every software task: leave `<w> = [..]` out"),
+    (r"[;}]$", r'extern " C', DISPATCHERS),
+    (r"[;}]$", rf"{C_TYPE} (?P<x>[A-Za-z_]\w*) (?:[=;:]|$)", VARIABLE),
+    (r"[;}]$", r"resources? \{", RESOURCES),
+    (r"[;}]$", r"(?:handler|isr|ISR|irq|interrupt|IRQ_HANDLER|INTERRUPT) (?:\( )?(?P<x>[A-Za-z_]\w*)",
+     "a task serves an interrupt: `task t(binds = <x>) { .. }`"),
+    (r"@$", r"(?P<o>[+-]) (?P=o) (?P<x>[A-Za-z_]\w*)", "there is no `<o><o>`: write `<x> = <x> <o> 1;`"),
+    (r"\bwith \w+(?: , \w+)*$", r"\(", "the options come before `with`: `task t(priority = 1) with x { .. }`"),
+    (r"\b(?:spawn|pend)$", r"init\b", "`init` runs by itself, once at the beginning"),
+    (r"\b(?:spawn|pend)$", r"idle\b", "`idle` runs by itself, whenever nothing else does"),
+    (r"@ unlock$", r"[\w(]", "there is no `unlock`: a lock ends with its block, `lock n { .. }`"),
+    (r"@ (?:unpend|clear|unset)$", r"[\w(]",
+     "no request of an interrupt is withdrawn; `cancel` withdraws an armed message"),
+    (r"\bpriority =$", r"[A-Za-z_]", "`priority` wants a number, from 1, the lowest of a task"),
+    (r"\b(?P<w>capacity|bits) =$", r"[A-Za-z_]", "`<w>` wants a number"),
+    (r"\bbinds =$", r"(?P<n>\d+)",
+     "an interrupt is named: `interrupts { I = <n> }` declares it, and `binds = I` takes it"),
+    (r"\b(?:interrupts|shared|local) \{(?: [^}]*,)?$", r"(?P<n>\d\w*) = (?P<x>\w+)",
+     "the name comes first: `<x> = <n>`"),
+    (r"\b0x[0-9a-fA-F]+$", r"(?![uUlL]+\b|[ui]\d)[G-Zg-z_]\w*", "hexadecimal digits are 0 to 9 and A to F"),
+    (r"\bemit [^;{}]*[\w)]$|@ \w+ = [^;{}]*[\w)]$", rf", {BEGINS}(?: |$)", ENDED),
+    (r"\bfor \w+ in \w+ \.\. \w+$", r"\.\.|,|step\b|by\b",
+     "a loop counts by 1: `for i in 0..5 { .. }`, and inside it `i * 2`"),
+    (r"\w -$", r">", ONE_NUMBER),
+    (r"@ (?P<w>unsafe|async|try|static|mut)$", r"\{", "there is no `<w>`: leave it out"),
+    (r"(?:^|(?<!\w))(?:__)?asm(?:__)?$", r"\(",
+     "no instruction of the processor can be written: bodies have the statements of the language alone"),
+    (r"(?:^|(?<!\w))(?P<w>Some|Ok|Err)$", r"\(", "there is no `<w>`: each value is a number"),
+    (r"\b(?:shared|local|dispatchers) =$", r"\( (?P<x>[A-Za-z_]\w*)", "a list goes in brackets: `[<x>]`"),
+    (r"\bspawn \w+ \( (?:[^;]*, )?\w+$", r"=(?: |$)", BY_NAME),
+    *[(r"(?:\w|\))$", rf"{word}\b", f"there is no `{word}`: write `{sign}`") for word, sign in WORD_SIGNS.items()],
+    (r"(?:[=(,]|emit|if)$", r"\+ (?P<n>\w+)",
+     "there is no sign before a number: leave the `+` out, or write `x = x + <n>;` to add"),
+    *[(rf"(?:^|(?<!\w)){name}$", r"\(", sentence) for name, sentence in FUNCTIONS],
     (r"", r"/ \*", COMMENT),
     (r"/$", r"\*", COMMENT),
     (r"(?P<x>\w+)$", r"(?P<o>\+|-|\*|/|%|&|\||\^|<<|>>) =(?: |$)", "there is no `<o>=`: write `<x> = <x> <o> ..;`"),
@@ -177,7 +265,7 @@ SYNTAX = [
     (r"\bspawn$", r"\( (?P<x>\w+)", "the task's name comes before the parentheses: `spawn <x>();`"),
     (r"@ (?:printf|println|print|puts|hprintln|log)$", r"\(", "to show a number in the trace is `emit N;`"),
     (rf"@ (?P<f>{OTHER_NAME})$", r"\(",
-     "there are no functions: `spawn <f>(..);` sends a message to a software task"),
+     "there are no functions: write out here what `<f>` does, or make it a software task, `spawn <f>(..);`"),
     (r"[(,]$", rf"(?:mut )?{CONTEXT} [:,)]", NO_CONTEXT),
     (r"\btask (?P<t>\w+) \($", r"[A-Za-z_]\w*(?: [,):]|$)",
      "the values of a message come after `with`: `task <t> with x { .. }`"),
@@ -215,7 +303,7 @@ SYNTAX = [
     (r"\b(?:shared|local|dispatchers) =$", r"\{", "a list goes in brackets: `[..]`"),
     (r"[;}]$", r"(?:pub )?(?:async )?(?:fn|void|def|func)\b",
      "there are no functions: only `init`, `idle` and tasks have bodies"),
-    (r"[;}]$", r"(?:pub )?struct\b", "resources are declared in `shared { a = 0 }` and `local { n = 0 }`"),
+    (r"[;}]$", r"(?:pub )?struct\b", RESOURCES),
     (r"[;}]$", r"(?:use|mod|extern|import)\b", ONE_FILE),
     (r"[;}]$", r"(?:const|static|type|enum|impl|trait)\b", "there are no constants and types: write the number itself"),
     (r"^app \w+ \([^;]*\)$", r"\{",
@@ -236,8 +324,7 @@ SYNTAX = [
      "a first value is a number; what is computed is set in `init`"),
     (r"\b(?:shared|local|interrupts) \{ [^}]*= \w+$", r";", "commas separate what is in a list"),
     (r"\}$", r";", BRACES),
-    (r"@ if [^;{}]*\w\)?$", r"[A-Za-z_]",
-     "what depends on an `if` goes in braces: `if a { .. } else { .. }`"),
+    (r"@ if [^;{}]*(?:\w|\w \))$", r"[A-Za-z_]", BLOCKS),
     (rf"(?:^|(?<!\w))(?P<f>{OTHER_NAME})$", r"\(", "there are no functions: write here what `<f>` is to calculate"),
     (r"\belse$", r"\w", "what depends on an `else` goes in braces: `else { .. }`"),
     (r"\binit \((?:.*,)?$", r"shared\b", "`init` uses every shared resource by its name, and lists none"),

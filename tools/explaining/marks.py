@@ -1,10 +1,15 @@
 """Marks that are missing or others: lists that are not closed, comments of one stroke, numbers with signs in them."""
 import re
 
+from .tokens import place_of
+
 COMMENT = "a comment begins with `//` and ends with its line"
 LISTS = ("shared", "local", "dispatchers")
 AFTER_LIST = ("binds", "priority", "capacity", "shared", "local", "bits", "fpu", "with")
-GROUPED = re.compile(r"\d{1,3}(?:,\d{3})+(?!\d)")
+GROUPED = re.compile(r"\d{1,3}(?:(,| )\d{3})(?:\1\d{3})*(?!\d)")
+CLOSED = {"{": "}", "(": ")", "[": "]"}
+DIGITS = str.maketrans("lIOo", "1100")
+OPERATORS = ("|", "^", "&", "<<", ">>", "+", "-", "*", "/", "%", "==", "!=", "<", "<=", ">", ">=")
 
 
 def unclosed_list(syntax, found):
@@ -42,10 +47,60 @@ def stroke(syntax, found):
 
 
 def grouped(syntax, found):
-    """A number with a comma before each three digits."""
-    if syntax.token.text != "," or not syntax.front or syntax.front[-1].kind != "number":
+    """A number with a comma or a blank before each three digits."""
+    if not syntax.front or syntax.front[-1].kind != "number" or not {";", ")"} & found:
         return None
     whole = GROUPED.match(syntax.text, syntax.front[-1].at)
-    if not whole or ";" not in found:
+    if not whole:
         return None
-    return f"a number has no sign between its digits: write `{whole[0].replace(',', '')}`"
+    return f"a number has no sign between its digits: write `{whole[0].replace(whole[1], '')}`"
+
+
+def lettered(syntax, found):
+    """A number with letters that look like digits, where a loop wants a number."""
+    text = syntax.token.text
+    if found == {"a number"} and re.fullmatch(r"[lIOo0-9]+", text):
+        return f"`{text}` is a name: with digits it is `{text.translate(DIGITS)}`"
+    return None
+
+
+def other_end(syntax, found):
+    """A bracket that closes another one than the last that is open."""
+    opened = []
+    for token in syntax.front:
+        if token.text in CLOSED:
+            opened.append(token)
+        elif token.text in CLOSED.values() and opened:
+            opened.pop()
+    if syntax.token.text not in CLOSED.values() or not opened or CLOSED[opened[-1].text] == syntax.token.text:
+        return None
+    line = place_of(syntax.text, opened[-1].at)[0]
+    due = CLOSED[opened[-1].text]
+    return f"the `{opened[-1].text}` of line {line} is closed by `{due}`, and this is `{syntax.token.text}`"
+
+
+def left_out(syntax, found):
+    """A value or a name that is missing between two signs or words."""
+    if not syntax.front or syntax.token.kind not in ("sign", "end"):
+        return None
+    before = syntax.front[-1].text
+    if {"a name", "a number", "("} <= found and "let" not in found:
+        return f"a value is missing between `{before}` and `{syntax.token.text}`" if syntax.token.text else None
+    return f"a name is missing after `{before}`" if found == {"a name"} and syntax.token.text == "=" else None
+
+
+def no_statement(syntax, found):
+    """A name at the beginning of a statement that assigns nothing."""
+    if found != {"="} or not syntax.depth or not syntax.front or syntax.front[-1].kind != "name":
+        return None
+    name = syntax.front[-1].text
+    told = "no body has a value: " if syntax.token.text in OPERATORS else ""
+    return f"{told}a statement is `{name} = ..;`, or begins with `let`, `if`, `for`, `lock`, `emit`, `pend` or a spawn"
+
+
+def unopened(syntax, found):
+    """A parenthesis that closes none, with more of the expression after it."""
+    behind = syntax.rest[1].text if len(syntax.rest) > 1 else ""
+    if syntax.token.text == ")" and "+" in found and behind in OPERATORS:
+        return "this `)` has no `(`: one is missing before it, or it is one too many"
+    return None

@@ -1,9 +1,9 @@
 """E05 to E18: which cause it is, where the first one is, and how to mend it."""
-import difflib
 import re
 
 from .costs import MOST_CODE, MOST_STEPS, Costs, armed_tasks, sizes_before
 from .table import Phrase
+from .tokens import nearest
 from .tree import CALLS
 from .walk import statements_of, uses_of
 
@@ -11,6 +11,8 @@ KINDS = {
     "interrupt": "an interrupt", "task": "a task", "shared": "a shared resource", "local": "a local resource",
     "variable": "a variable", "value": "a value",
 }
+OF_NUMBERS = {"true": 1, "false": 0, "null": 0, "nullptr": 0, "nil": 0, "none": 0}
+LIKE_DIGITS = {"O": 0, "o": 0, "l": 1, "I": 1}
 HEXADECIMAL = re.compile(r"(?P<a>[0-9A-F]{2,})h|(?P<b>[A-Fa-f]+[0-9][0-9A-Fa-f]*)[hH]|F{2,8}")
 ROLES = {"pend": "interrupt", "lock": "shared", "read": "value", "assign": "value", **{word: "task" for word in CALLS}}
 
@@ -104,6 +106,10 @@ class Rules:
         self.row(table, f"E05 {wanted}", N=name)
         if name in ("true", "false"):
             self.helps = ["`true` is 1 and `false` is 0"]
+        elif name.lower() in OF_NUMBERS and name != name.capitalize():
+            self.helps = [f"there is no `{name}`: write {OF_NUMBERS[name.lower()]}"]
+        elif name in LIKE_DIGITS:
+            self.help(f"if a digit is meant, it is `{LIKE_DIGITS[name]}`")
         elif hexadecimal := HEXADECIMAL.fullmatch(name):
             self.help(f"a hexadecimal number begins with `0x`: `0x{hexadecimal['a'] or hexadecimal['b'] or name}`")
         self.similar(name, wanted, use)
@@ -166,6 +172,8 @@ class Rules:
         task = self.app.task(name)
         if wanted == "interrupt" and task and task.binds:
             self.help(f"the interrupt of the task `{name}` is `{task.binds.text}`")
+        elif wanted == "interrupt" and task:
+            self.help(f"`{name}` is a software task: `spawn {name}(..);` sends it a message")
         elif wanted == "task" and kind == "interrupt":
             self.help(f"`pend {name};` makes its task run")
         elif wanted == "shared" and kind == "local":
@@ -178,13 +186,13 @@ class Rules:
         names = self.names_of(wanted)
         variables = [one for scope in use.around.scopes for one in scope] if use and wanted == "value" else []
         same = next((one for one in names + variables if one.lower() == name.lower()), None)
-        near = difflib.get_close_matches(name, names + variables, 1, 0.7)
+        near = nearest(name, names + variables, 0.7)
         if same:
             told = "is declared" if same in names else "is a variable here"
             self.help(f"small letters and capitals are told apart: `{same}` {told}")
         elif near:
-            kind = KINDS["variable"] if near[0] not in names else "a resource" if wanted == "value" else KINDS[wanted]
-            self.help(f"{kind} of a similar name is `{near[0]}`")
+            kind = KINDS["variable"] if near not in names else "a resource" if wanted == "value" else KINDS[wanted]
+            self.help(f"{kind} of a similar name is `{near}`")
 
     def e06(self, table):
         """A second declaration, a second listing, or a variable with a name that is taken."""

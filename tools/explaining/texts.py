@@ -1,15 +1,14 @@
 """E01 to E04: what the text itself is refused for."""
-import difflib
 import functools
 import re
 import unicodedata
 
 from .calls import Named, called, nearly, without_task
 from .habits import FOREIGN, NO_TEXTS, SYNTAX, looked_up
-from .marks import grouped, stroke, unclosed_list
+from .marks import grouped, left_out, lettered, no_statement, other_end, stroke, unclosed_list, unopened
 from .pieces import pieces_of
 from .table import Phrase
-from .tokens import WORDS, Token, offset_of, place_of, skipped_bytes, tokens_of
+from .tokens import WORDS, Token, nearest, offset_of, place_of, skipped_bytes, tokens_of
 
 AROUND = 400
 DIGITS = 30
@@ -107,18 +106,22 @@ def foreign_help(sign, syntax, table):
 def syntax_help(syntax, found, program, table):
     """How to mend a fault of syntax: a habit, a sign that is missing, or a change that makes `fmt` take the text."""
     help_ = None
-    for one in (without_task, called, nearly, unclosed_list, stroke, grouped):
+    for one in (without_task, called, nearly, unclosed_list, stroke, grouped, unopened, lettered):
         help_ = help_ or one(syntax, found)
     help_ = help_ or looked_up(SYNTAX, syntax.before, syntax.behind)
     for one in (returns, unclosed, misspelt, declared, twice, missing, no_name, chained, no_interrupts):
         help_ = help_ or one(syntax, found)
     if not help_ and found:
-        help_ = repaired(syntax, found, program) or form(syntax)
+        help_ = repaired(syntax, found, program)
+    for one in (other_end, left_out, no_statement, form):
+        help_ = help_ or one(syntax, found)
     return help_
 
 
-def form(syntax):
+def form(syntax, found):
     """The form of the declaration or statement in which the place is."""
+    if not found:
+        return None
     for token, behind in zip(reversed(syntax.front), [syntax.token] + syntax.front[:0:-1]):
         if token.text in FORMS and behind.text != "=":
             return f"the form is {FORMS[token.text]}"
@@ -138,9 +141,9 @@ def misspelt(syntax, found):
     """A word of the language that is nearly written, here or before a statement's place."""
     name, words = syntax.token, [word for word in found if word in WORDS]
     if found == {"="} and syntax.front[-1].kind == "name":
-        name, words = syntax.front[-1], STATEMENTS
-    near = difflib.get_close_matches(name.text.lower(), words, 1, 0.75) if name.kind == "name" else []
-    return f"`{name.text}` is no word of the language: `{near[0]}` is" if near else None
+        name, words = syntax.front[-1], STATEMENTS + ("else",) * (syntax.front[-2].text == "}")
+    near = nearest(name.text.lower(), words, 0.75) if name.kind == "name" else None
+    return f"`{name.text}` is no word of the language: `{near}` is" if near else None
 
 
 def declared(syntax, found):
@@ -212,6 +215,8 @@ def chained(syntax, found):
 
 
 def no_interrupts(syntax, found):
+    if found == {"interrupts"} and any(token.text == "interrupts" for token in syntax.rest):
+        return ORDER
     if found == {"interrupts"}:
         return "each application declares its interrupts, `interrupts {}` where it has none"
     return None
@@ -224,7 +229,7 @@ def repaired(syntax, found, program):
     put = [sign for sign in PUT if sign in found]
     texts = [f"{front}{sign} {rest}" for sign in put]
     if syntax.token.kind != "end":
-        texts.append(front + syntax.text[syntax.token.end :])
+        texts.append(f"{front} {syntax.text[syntax.token.end :]}")
     told_ways = [f"with `{sign}` put before it" for sign in put] + [f"with `{syntax.token.text}` taken out"]
     answers = program.formats(texts)
     for told_way, (status, _) in zip(told_ways, answers):

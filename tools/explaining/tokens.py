@@ -1,4 +1,5 @@
 """The tokens of an application's text, by docs/LANGUAGE.md. A text is a str of one character a byte (latin-1)."""
+import difflib
 import re
 from dataclasses import dataclass
 
@@ -71,3 +72,9 @@ def between(tokens):
         if depth == 0:
             return tokens[1:number], tokens[number + 1 :]
     return tokens[1:], []
+
+
+def nearest(name, names, ratio):
+    """The one of some names that has the same letters in another order, or few others; or None."""
+    same = next((one for one in names if sorted(one) == sorted(name)), None)
+    return same or next(iter(difflib.get_close_matches(name, names, 1, ratio)), None)
