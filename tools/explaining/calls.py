@@ -57,6 +57,15 @@ def without_task(syntax, found):
     return f"{asks}`{form} t({handle});`" + (f", t one of {several}" if several else "")
 
 
+def without_handle(syntax, found):
+    """A cancel or a move of a task without the handle."""
+    word = re.search(r"\b(cancel|reschedule_after) (?:\( [^;{}]* \) )?(\w+)$", syntax.before)
+    if not word or syntax.token.text != ";" or word[2] not in syntax.named.tasks:
+        return None
+    form = "cancel" if word[1] == "cancel" else "reschedule_after(..)"
+    return f"a `{word[1]}` has the handle of the message in parentheses: `{form} {word[2]}(h);`"
+
+
 def called(syntax, found):
     """A task that is called as a function, or named alone."""
     if not syntax.front or syntax.front[-1].text not in syntax.named.tasks or syntax.token.text not in ("(", ";"):

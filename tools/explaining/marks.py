@@ -8,6 +8,7 @@ LISTS = ("shared", "local", "dispatchers")
 AFTER_LIST = ("binds", "priority", "capacity", "shared", "local", "bits", "fpu", "with")
 GROUPED = re.compile(r"\d{1,3}(?:(,| )\d{3})(?:\1\d{3})*(?!\d)")
 CLOSED = {"{": "}", "(": ")", "[": "]"}
+ENDS = (";", "{", "}", ",", "[", "(")
 DIGITS = str.maketrans("lIOo", "1100")
 OPERATORS = ("|", "^", "&", "<<", ">>", "+", "-", "*", "/", "%", "==", "!=", "<", "<=", ">", ">=")
 
@@ -39,9 +40,9 @@ def stroke(syntax, found):
     """A comment that begins with one stroke or with two dashes, where something else than an operand comes before."""
     before = syntax.front[-1].text if syntax.front else ";"
     starts_line = not syntax.text[syntax.text.rfind("\n", 0, syntax.at) + 1 : syntax.at].strip()
-    doubled = syntax.text[syntax.at : syntax.at + 2] in ("--", "/*")
-    if syntax.token.text == "/" or syntax.token.text == "-" and doubled:
-        if before in (";", "{", "}", ",", "[", "(") or starts_line and before == ")":
+    doubled = syntax.text.startswith(("--", "/*", "<!--"), syntax.at)
+    if syntax.token.text == "/" or doubled:
+        if before in ENDS or starts_line and before == ")":
             return COMMENT
     return None
 
@@ -72,30 +73,76 @@ def other_end(syntax, found):
             opened.append(token)
         elif token.text in CLOSED.values() and opened:
             opened.pop()
-    if syntax.token.text not in CLOSED.values() or not opened or CLOSED[opened[-1].text] == syntax.token.text:
+    if syntax.token.text not in CLOSED.values() or not opened or CLOSED[opened[-1].text] not in found:
         return None
     line = place_of(syntax.text, opened[-1].at)[0]
     due = CLOSED[opened[-1].text]
     return f"the `{opened[-1].text}` of line {line} is closed by `{due}`, and this is `{syntax.token.text}`"
 
 
+def no_operand(syntax, found):
+    """An operator where an expression begins."""
+    before = syntax.front[-1].text if syntax.front else ""
+    if syntax.token.text in OPERATORS and before in ("emit", "=", "(", ",", "if") and "a number" in found:
+        return left_out(syntax, found)
+    return None
+
+
 def left_out(syntax, found):
     """A value or a name that is missing between two signs or words."""
-    if not syntax.front or syntax.token.kind not in ("sign", "end"):
+    if not syntax.front:
         return None
     before = syntax.front[-1].text
+    if found == {"a number"} and syntax.token.kind == "name":
+        return f"a number is due here, and `{syntax.token.text}` is a name"
+    if syntax.token.kind not in ("sign", "end"):
+        return None
+    if syntax.token.text == "=" and "let" in found:
+        return "a name is missing before `=`"
     if {"a name", "a number", "("} <= found and "let" not in found:
         return f"a value is missing between `{before}` and `{syntax.token.text}`" if syntax.token.text else None
+    if found == {"a number"}:
+        return f"a number is missing after `{before}`"
     return f"a name is missing after `{before}`" if found == {"a name"} and syntax.token.text == "=" else None
 
 
 def no_statement(syntax, found):
-    """A name at the beginning of a statement that assigns nothing."""
-    if found != {"="} or not syntax.depth or not syntax.front or syntax.front[-1].kind != "name":
+    """A name at the beginning of a statement that assigns nothing; elsewhere another sign for `=`."""
+    if found != {"="} or not syntax.front:
         return None
-    name = syntax.front[-1].text
+    name, first = syntax.front[-1].text, syntax.front[-2].text if len(syntax.front) > 1 else ""
+    if not syntax.in_body or first not in (";", "{", "}"):
+        return "write `=` here" if syntax.token.kind in ("sign", "foreign") else None
     told = "no body has a value: " if syntax.token.text in OPERATORS else ""
     return f"{told}a statement is `{name} = ..;`, or begins with `let`, `if`, `for`, `lock`, `emit`, `pend` or a spawn"
+
+
+def ended_early(syntax, found):
+    """A statement where the body has ended, because a brace too many closes it."""
+    if syntax.depth or "task" not in found or not syntax.front or syntax.front[-1].text != "}":
+        return None
+    behind = syntax.rest[1].text if len(syntax.rest) > 1 else ""
+    if syntax.token.text in ("let", "if", "for", "lock", "emit", "pend", "spawn") or behind == "=":
+        line = place_of(syntax.text, syntax.front[-1].at)[0]
+        return f"the body ends with the `}}` of line {line}: a `}}` before it is one too many"
+    return None
+
+
+def glued(syntax, found):
+    """Letters directly after a number."""
+    last = syntax.front[-1] if syntax.front else None
+    if last is None or last.kind != "number" or syntax.token.kind != "name" or last.end != syntax.at:
+        return None
+    return f"`{last.text}{syntax.token.text}` is no number: a number has digits alone"
+
+
+def no_operator(syntax, found):
+    """Two values with nothing between them."""
+    last = syntax.front[-1] if syntax.front else None
+    if "+" not in found or syntax.token.kind not in ("name", "number") or "\n" in syntax.text[last.end : syntax.at]:
+        return None
+    return (f"an operator or a sign is missing between `{last.text}` and `{syntax.token.text}`, "
+            "or one of them is too much")
 
 
 def unopened(syntax, found):

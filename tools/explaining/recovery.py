@@ -74,7 +74,7 @@ class Recovery:
         return self.pieces[place - 1 : place + 1] if piece.start == self.at and place else [piece]
 
     def chain(self, piece, left=MOST_IN_A_PIECE):
-        """The text with a statement mended or left out, where the piece has more refusals, each in another statement."""
+        """The text with a statement mended or left out, where the piece has more refusals, in other statements."""
         if not left or not piece.is_balanced:
             return None
         stop = next((token.at for token in piece.tokens if token.at >= self.at and token.text in ENDS), piece.stop)

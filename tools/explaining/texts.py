@@ -3,9 +3,10 @@ import functools
 import re
 import unicodedata
 
-from .calls import Named, called, nearly, without_task
+from .calls import Named, called, nearly, without_handle, without_task
 from .habits import FOREIGN, NO_TEXTS, SYNTAX, looked_up
-from .marks import grouped, left_out, lettered, no_statement, other_end, stroke, unclosed_list, unopened
+from .marks import ended_early, glued, grouped, left_out, lettered, no_operand, no_operator, no_statement, other_end
+from .marks import stroke, unclosed_list, unopened
 from .pieces import pieces_of
 from .table import Phrase
 from .tokens import WORDS, Token, nearest, offset_of, place_of, skipped_bytes, tokens_of
@@ -50,6 +51,12 @@ class Syntax:
         near = text[at : at + AROUND]
         self.behind = " ".join(token.text for token in list(tokens_of(near))[:NEAR])
         self.depth = sum({"{": 1, "}": -1}.get(token.text, 0) for token in self.front)
+
+    @functools.cached_property
+    def in_body(self):
+        """Whether the place is in a body."""
+        piece = next((one for one in reversed(pieces_of(self.text)) if one.start <= self.at), None)
+        return bool(piece and piece.has_body and self.depth)
 
     @functools.cached_property
     def rest(self):
@@ -106,10 +113,12 @@ def foreign_help(sign, syntax, table):
 def syntax_help(syntax, found, program, table):
     """How to mend a fault of syntax: a habit, a sign that is missing, or a change that makes `fmt` take the text."""
     help_ = None
-    for one in (without_task, called, nearly, unclosed_list, stroke, grouped, unopened, lettered):
+    for one in (without_task, without_handle, called, nearly, unclosed_list, stroke, grouped, unopened, lettered):
         help_ = help_ or one(syntax, found)
     help_ = help_ or looked_up(SYNTAX, syntax.before, syntax.behind)
     for one in (returns, unclosed, misspelt, declared, twice, missing, no_name, chained, no_interrupts):
+        help_ = help_ or one(syntax, found)
+    for one in (glued, no_operand, no_operator, ended_early):
         help_ = help_ or one(syntax, found)
     if not help_ and found:
         help_ = repaired(syntax, found, program)
@@ -141,8 +150,11 @@ def misspelt(syntax, found):
     """A word of the language that is nearly written, here or before a statement's place."""
     name, words = syntax.token, [word for word in found if word in WORDS]
     if found == {"="} and syntax.front[-1].kind == "name":
-        name, words = syntax.front[-1], STATEMENTS + ("else",) * (syntax.front[-2].text == "}")
-    near = nearest(name.text.lower(), words, 0.75) if name.kind == "name" else None
+        first = syntax.front[-2].text
+        name, words = syntax.front[-1], STATEMENTS + ("else",) * (first == "}")
+        if not syntax.in_body or first not in (";", "{", "}"):
+            words = ("lock_free",) if not syntax.in_body else ()
+    near = nearest(name.text.lower(), words, 0.75 if len(found) > 1 else 0.6) if name.kind == "name" else None
     return f"`{name.text}` is no word of the language: `{near}` is" if near else None
 
 
@@ -216,7 +228,7 @@ def chained(syntax, found):
 
 def no_interrupts(syntax, found):
     if found == {"interrupts"} and any(token.text == "interrupts" for token in syntax.rest):
-        return ORDER
+        return ORDER if syntax.token.text in DECLARED else None
     if found == {"interrupts"}:
         return "each application declares its interrupts, `interrupts {}` where it has none"
     return None
