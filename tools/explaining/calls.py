@@ -5,7 +5,8 @@ from .tokens import between, nearest
 
 CALL_WORDS = ("spawn", "spawn_after", "cancel", "reschedule_after", "emit", "pend", "lock")
 NO_WORDS = ("spawn_at", "reschedule_at", "unlock", "unpend", "clock")
-NEARLY = 0.75
+WITHDRAWS = ("unpend", "clear", "unset")
+NEARLY, SURELY = 0.75, 0.85
 FEW = 4
 
 
@@ -13,7 +14,7 @@ class Named:
     """The tasks of a text that need not be in the grammar, each with the interrupt that it binds, or None."""
 
     def __init__(self, tokens):
-        self.tasks, self.armed = {}, []
+        self.tasks, self.armed, self.interrupts = {}, [], declared(tokens)
         for number, token in enumerate(tokens[:-1]):
             behind = tokens[number + 1]
             if token.text == "task" and behind.kind == "name":
@@ -26,6 +27,13 @@ class Named:
     @property
     def software(self):
         return [name for name, interrupt in self.tasks.items() if interrupt is None]
+
+
+def declared(tokens):
+    """The names of the interrupts that are declared."""
+    start = next((number for number, token in enumerate(tokens) if token.text == "interrupts"), len(tokens))
+    stop = next((number for number, token in enumerate(tokens) if number > start and token.text == "}"), start)
+    return [token.text for token in tokens[start:stop] if token.kind == "name"]
 
 
 def bound(tokens):
@@ -81,6 +89,20 @@ def called(syntax, found):
         return f"`{name}` is a task: `spawn {name}({values});` sends it a message"
     answer = first[1] if first[:1] == ["let"] and first[2:] == ["="] else "sent"
     return f"`{name}` is a task: `let {answer} = spawn {name}({values});` sends it a message"
+
+
+def unknown_word(syntax, found):
+    """An unknown word at the beginning of a statement, before the name of a task or an interrupt."""
+    if found != {"="} or not syntax.in_body or syntax.token.kind != "name":
+        return None
+    word, name = syntax.front[-1].text.lower(), syntax.token.text
+    behind = syntax.rest[1].text if len(syntax.rest) > 1 else ""
+    if name in syntax.named.software and behind == "(" and not nearest(word, ("spawn", "cancel"), SURELY):
+        return f"`{name}` is a task: `spawn {name}(..);` sends it a message"
+    if name in syntax.named.interrupts and behind in (";", "}") and word not in WITHDRAWS and not nearest(
+            word, ("pend",), SURELY):
+        return f"`{name}` is an interrupt: `pend {name};` requests it"
+    return None
 
 
 def nearly(syntax, found):

@@ -106,7 +106,7 @@ class Rules:
         self.row(table, f"E05 {wanted}", N=name)
         if name in ("true", "false"):
             self.helps = ["`true` is 1 and `false` is 0"]
-        elif name.lower() in OF_NUMBERS and name != name.capitalize():
+        elif name.lower() in OF_NUMBERS:
             self.helps = [f"there is no `{name}`: write {OF_NUMBERS[name.lower()]}"]
         elif name in LIKE_DIGITS:
             self.help(f"if a digit is meant, it is `{LIKE_DIGITS[name]}`")

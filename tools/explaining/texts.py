@@ -3,7 +3,7 @@ import functools
 import re
 import unicodedata
 
-from .calls import Named, called, nearly, without_handle, without_task
+from .calls import Named, called, nearly, unknown_word, without_handle, without_task
 from .habits import FOREIGN, NO_TEXTS, SYNTAX, looked_up
 from .marks import ended_early, glued, grouped, left_out, lettered, no_operand, no_operator, no_statement, other_end
 from .marks import stroke, unclosed_list, unopened
@@ -14,6 +14,8 @@ from .tokens import WORDS, Token, nearest, offset_of, place_of, skipped_bytes, t
 AROUND = 400
 DIGITS = 30
 NEAR = 32
+# how alike a name is to a word that is the only one due, of names that are not too short, and to one of several
+OF_ONE, OF_MANY, SHORT = 0.6, 0.75, 3
 ONE_TOO_MANY = {
     "tasks": 65, "shared": 65, "locals": 65, "interrupts": 241, "arguments": 5, "nesting": 17, "parentheses": 65,
     "statements": 1_001,
@@ -113,10 +115,12 @@ def foreign_help(sign, syntax, table):
 def syntax_help(syntax, found, program, table):
     """How to mend a fault of syntax: a habit, a sign that is missing, or a change that makes `fmt` take the text."""
     help_ = None
-    for one in (without_task, without_handle, called, nearly, unclosed_list, stroke, grouped, unopened, lettered):
+    for one in (without_task, without_handle, called, unknown_word, nearly):
+        help_ = help_ or one(syntax, found)
+    for one in (unclosed_list, stroke, grouped, unopened, lettered):
         help_ = help_ or one(syntax, found)
     help_ = help_ or looked_up(SYNTAX, syntax.before, syntax.behind)
-    for one in (returns, unclosed, misspelt, declared, twice, missing, no_name, chained, no_interrupts):
+    for one in (returns, again, unclosed, misspelt, declared, twice, missing, no_name, chained, no_interrupts):
         help_ = help_ or one(syntax, found)
     for one in (glued, no_operand, no_operator, ended_early):
         help_ = help_ or one(syntax, found)
@@ -154,7 +158,10 @@ def misspelt(syntax, found):
         name, words = syntax.front[-1], STATEMENTS + ("else",) * (first == "}")
         if not syntax.in_body or first not in (";", "{", "}"):
             words = ("lock_free",) if not syntax.in_body else ()
-    near = nearest(name.text.lower(), words, 0.75 if len(found) > 1 else 0.6) if name.kind == "name" else None
+    if name.kind != "name":
+        return None
+    ratio = OF_ONE if len(found) == 1 and len(name.text) >= SHORT else OF_MANY
+    near = nearest(name.text.lower(), words, ratio)
     return f"`{name.text}` is no word of the language: `{near}` is" if near else None
 
 
@@ -208,6 +215,13 @@ def missing(syntax, found):
         comment = between.split("\n", 1)[0].strip().startswith("//") and ";" in between
         hidden = "; what follows `//` is a comment" * comment
         return f"a `;` is missing after `{last.text}` in line {line}{hidden}"
+    return None
+
+
+def again(syntax, found):
+    """A word that comes twice."""
+    if syntax.token.kind == "word" and syntax.front and syntax.front[-1].text == syntax.token.text:
+        return f"`{syntax.token.text}` comes twice"
     return None
 
 
