@@ -8,6 +8,7 @@ LISTS = ("shared", "local", "dispatchers")
 AFTER_LIST = ("binds", "priority", "capacity", "shared", "local", "bits", "fpu", "with")
 GROUPED = re.compile(r"\d{1,3}(?:(,| )\d{3})(?:\1\d{3})*(?!\d)")
 CLOSED = {"{": "}", "(": ")", "[": "]"}
+STATEMENTS = "`let`, `if`, `for`, `lock`, `emit`, `pend` or a spawn"
 ENDS = (";", "{", "}", ",", "[", "(")
 DIGITS = str.maketrans("lIOo", "1100")
 OPERATORS = ("|", "^", "&", "<<", ">>", "+", "-", "*", "/", "%", "==", "!=", "<", "<=", ">", ">=")
@@ -113,8 +114,10 @@ def no_statement(syntax, found):
     name, first = syntax.front[-1].text, syntax.front[-2].text if len(syntax.front) > 1 else ""
     if not syntax.in_body or first not in (";", "{", "}"):
         return "write `=` here" if syntax.token.kind in ("sign", "foreign") else None
+    if syntax.begins_unknown and syntax.token.text not in OPERATORS:
+        return f"no statement begins with `{name}`: one begins with {STATEMENTS}, or assigns"
     told = "no body has a value: " if syntax.token.text in OPERATORS else ""
-    return f"{told}a statement is `{name} = ..;`, or begins with `let`, `if`, `for`, `lock`, `emit`, `pend` or a spawn"
+    return f"{told}a statement is `{name} = ..;`, or begins with {STATEMENTS}"
 
 
 def ended_early(syntax, found):

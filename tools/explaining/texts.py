@@ -61,6 +61,13 @@ class Syntax:
         return bool(piece and piece.has_body and self.depth)
 
     @functools.cached_property
+    def begins_unknown(self):
+        """Whether a statement of a body begins with a name that is no other's, directly before the place."""
+        if not self.in_body or self.front[-1].kind != "name" or self.front[-2].text not in (";", "{", "}"):
+            return False
+        return sum(1 for token in self.front + self.rest if token.text == self.front[-1].text) == 1
+
+    @functools.cached_property
     def rest(self):
         """The tokens from the place on."""
         return list(tokens_of(self.text, self.at))
@@ -241,6 +248,8 @@ def chained(syntax, found):
 
 
 def no_interrupts(syntax, found):
+    if found == {"app"} and syntax.token.kind == "name":
+        return "the first declaration is `app a(bits = 4);`, with the name of the application"
     if found == {"interrupts"} and any(token.text == "interrupts" for token in syntax.rest):
         return ORDER if syntax.token.text in DECLARED else None
     if found == {"interrupts"}:
@@ -252,7 +261,7 @@ def repaired(syntax, found, program):
     """One sign put in or the token taken out, where the whole text is then one of the grammar; or where the declaration
     or the task is read then, and the next refusal is in another one."""
     front, rest = syntax.text[: syntax.at], syntax.text[syntax.at :]
-    put = [sign for sign in PUT if sign in found]
+    put = [sign for sign in PUT if sign in found and (sign != "=" or not syntax.begins_unknown)]
     texts = [f"{front}{sign} {rest}" for sign in put]
     if syntax.token.kind != "end":
         texts.append(f"{front} {syntax.text[syntax.token.end :]}")
