@@ -7,13 +7,18 @@ from .tokens import SIGNS, WORDS, tokens_of
 
 ROOM = 262_144 - 40
 NAME, NUMBER, END = "a name", "a number", "the end of the text"
-CANDIDATES = sorted(WORDS) + SIGNS + ["fpu", "on"]
 EXPRESSION = {NAME, NUMBER, "("}
 SPAWNS = {"spawn", "spawn_after", "cancel", "reschedule_after"}
 VALUE = SPAWNS | {"now"}
 STATEMENT = SPAWNS | {"let", "if", "for", "lock", "emit", "pend", NAME}
 COMPARISONS = {"==", "!=", "<", "<=", ">", ">="}
 OPERATORS = {"|", "^", "&", "<<", ">>", "+", "-", "*", "/", "%"}
+# tokens that the grammar has in the same places, with the one that is asked for all of them; `&` also lists a resource
+ALIKE = {
+    "+": OPERATORS - {"&"}, "==": COMPARISONS, "spawn": SPAWNS, "let": STATEMENT - SPAWNS - {NAME},
+}
+ASKED = [text for text in sorted(WORDS) + SIGNS + ["fpu", "on"]
+         if not any(text in alike and text != asked for asked, alike in ALIKE.items())]
 ORDER = (
     "app bits dispatchers fpu on interrupts monotonic binds priority capacity shared local init idle task else "
     "lock_free ( with , & = ; { in .. ["
@@ -30,13 +35,14 @@ def may_stand(program, front):
     """The tokens that may come after the good front, and the end of the text where it may; None if it is too long."""
     if len(front) > ROOM:
         front = " ".join(token.text for token in tokens_of(front))
-    texts = {NAME: "x", NUMBER: "1", **{text: text for text in CANDIDATES}}
+    texts = {NAME: "x", NUMBER: "1", **{text: text for text in ASKED}}
     base = front + "\n"
     place = f"{base.count(chr(10)) + 1}:1 E03 "
     answers = program.formats([base + text for text in texts.values()] + [front])
     if any(" E01 " in answer for _, answer in answers):
         return None
     found = {kind for kind, (_, answer) in zip(texts, answers) if not answer.startswith(place)}
+    found = found.union(*(alike for asked, alike in ALIKE.items() if asked in found))
     if NAME in found:
         found -= {"fpu", "on"}
     return found | ({END} if answers[-1][0] == 0 else set())

@@ -11,6 +11,7 @@ from .lines import LINE_REFUSAL, refused_lines
 from .refusals import NOT_ASKED, REFUSAL, Refusal, Telling
 from .report import Report, shown
 from .rules import counted
+from .responses import Responses
 from .table import Table
 from .tokens import offset_of, place_of
 from .tree import tree_of
@@ -61,6 +62,8 @@ class Explained:
         """Says more on an answer."""
         if status == DONE and self.words[0] == "check":
             self.warn()
+        elif status == DONE and self.words[0] == "times":
+            self.responses(front.decode("latin-1"))
         elif status == REFUSED and (found := REFUSAL.match(front)):
             self.refused(Refusal(self.text(1 if found[1] else 0), found))
         elif status == USAGE:
@@ -119,6 +122,22 @@ class Explained:
                 report.note(note[0], self.names[0], text, note[1].at, len(note[1].text))
         if len(rows) > WARNINGS:
             report.line(f"{self.names[0]}: {len(rows) - WARNINGS} more warnings are not shown")
+
+    def responses(self, output):
+        """What is seldom meant in limits, of `times`."""
+        app, lines = tree_of(self.text(0)), self.text(1).split("\n")
+        said = Responses(app, lines, output)
+        for token, sentence in said.unlimited()[:WARNINGS]:
+            line, column = place_of(self.text(0), token.at)
+            self.report.head(self.names[0], line, column, f"warning: {sentence}")
+            self.report.picture(self.text(0), token.at, len(token.text))
+        for line, name, sentence in itertools.islice(said.merged(), WARNINGS):
+            start = lines[line - 1].find(name)
+            self.report.head(self.names[1], line, start + 1, f"warning: {sentence}")
+            self.report.rows([(line, lines[line - 1])], start, len(name), "")
+        if overloaded := said.overloaded():
+            level, sentence = overloaded
+            self.report.line(f"time {level} -: {sentence}")
 
     # Statuses 3 and 4.
 
