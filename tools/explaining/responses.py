@@ -1,4 +1,4 @@
-"""Warnings on response times: tasks that count for nothing, and requests that may come before the one before is served."""
+"""Warnings on response times: tasks that count for nothing, and requests that may be served as one."""
 import re
 
 from .costs import Costs
@@ -40,8 +40,8 @@ class Responses:
             time = self.times.get(task.level, "-")
             if line and time != "-" and int(time) > distance:
                 yield line, task.binds.text, (
-                    f"a request of `{task.binds.text}` is served within {int(time):,} core steps, and the next may come "
-                    f"after {distance:,}: where two come before the handler is entered, they are served as one")
+                    f"a request of `{task.binds.text}` is served within {int(time):,} core steps, and the next may "
+                    f"come after {distance:,}: where two come before the handler is entered, they are served as one")
 
     def overloaded(self):
         """The first priority from above that has no number, with what the requests of it and above ask for; or None."""

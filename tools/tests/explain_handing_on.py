@@ -71,6 +71,7 @@ def program_rows(folder):
         due = ran([program] + call)[:2]
         yield f"the words {name!r}", due == ran([EXPLAIN] + call)[:2]
         yield f"the words {name!r} with --all", due == ran([EXPLAIN, "--all"] + call)[:2]
+    yield "--all after the command", ran([program, "check", wrong])[:2] == ran([EXPLAIN, "check", "--all", wrong])[:2]
     text = wrong.read_bytes()
     status, output, said = ran([EXPLAIN, "check", "/dev/stdin"], input=text)
     yield "a pipe", (status, output) == (1, b"3:15 E03 syntax\n") and b"/dev/stdin:3:15: E03 syntax" in said
