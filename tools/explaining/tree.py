@@ -4,8 +4,15 @@ from dataclasses import dataclass, field
 from .tokens import Token, tokens_of
 
 LEVELS = [["|"], ["^"], ["&"], ["<<", ">>"], ["+", "-"], ["*", "/", "%"]]
+RANKS = {sign: rank for rank, level in enumerate(LEVELS) for sign in level}
+# the signs of a rank and of all that bind more tightly
+SIGNS_FROM = [[sign for level in LEVELS[rank:] for sign in level] for rank in range(len(LEVELS) + 1)]
 COMPARISONS = ["==", "!=", "<", "<=", ">", ">="]
 CALLS = ("spawn", "spawn_after", "cancel", "reschedule_after")
+DECLARED = ("monotonic", "shared", "local", "init", "idle", "task")
+OPTIONS = {
+    "init": ("local",), "idle": ("shared", "local"), "task": ("binds", "priority", "capacity", "shared", "local"),
+}
 
 
 @dataclass
@@ -28,6 +35,12 @@ class Call:
     arguments: list = field(default_factory=list)
 
 
+class Block(list):
+    """The statements between two braces: it reaches from the first brace, at `at`, to the end of the second."""
+
+    at, end = 0, 0
+
+
 @dataclass
 class Stmt:
     """A statement: its kind is let, assign, if, for, lock, emit, pend or call. It reaches from `at` to `end`."""
@@ -37,8 +50,8 @@ class Stmt:
     name: Token = None
     value: object = None
     turns: tuple = (0, 0)
-    block: list = field(default_factory=list)
-    other: list = field(default_factory=list)
+    block: Block = field(default_factory=Block)
+    other: Block = field(default_factory=Block)
     end: int = 0
 
 
@@ -53,17 +66,18 @@ class Listing:
 
 @dataclass
 class Body:
-    """init, idle or a task: `name` is its word or its name."""
+    """init, idle or a task: `name` is its word or its name. It begins at `at`, and ends with its block."""
 
     kind: str
     name: Token
+    at: int = 0
     binds: Token = None
     priority: Token = None
     capacity: Token = None
     shared: list = field(default_factory=list)
     local: list = field(default_factory=list)
     arguments: list = field(default_factory=list)
-    block: list = field(default_factory=list)
+    block: Block = field(default_factory=Block)
 
     @property
     def level(self):
@@ -121,7 +135,11 @@ class App:
 
 
 class Parser:
-    """Reads an application from its tokens, which are known to be in the grammar."""
+    """Reads an application from its tokens, which are known to be in the grammar.
+
+    What is due is asked for by `skip`, `name`, `number` and `operand`, what may come by `has` and `word`: a reader of
+    other texts answers these in its own way.
+    """
 
     def __init__(self, text):
         self.tokens = list(tokens_of(text)) + [Token("end", "", len(text))]
@@ -130,6 +148,11 @@ class Parser:
     @property
     def front(self):
         return self.tokens[self.next]
+
+    @property
+    def last(self):
+        """The token that was taken last."""
+        return self.tokens[max(self.next - 1, 0)]
 
     def take(self):
         self.next += 1
@@ -148,6 +171,21 @@ class Parser:
         self.next += 1
         return True
 
+    def word(self, *texts):
+        """Takes one of these tokens where one is there: the token, or None."""
+        return self.take() if self.front.text in texts else None
+
+    def name(self, role):
+        """Takes a name. Its role is what it names there: the kind of what it declares has `new` before it."""
+        return self.take()
+
+    def number(self):
+        return self.take()
+
+    def operand(self, role):
+        """Takes a name or a number of an expression: its value is one to read, or a handle."""
+        return self.take()
+
     def rows(self, close, row):
         """The rows of a list up to its closing sign."""
         found = []
@@ -159,135 +197,152 @@ class Parser:
     def app(self):
         app = App()
         self.skip("app")
-        app.name = self.take()
+        app.name = self.name("new application")
         self.skip("(", "bits", "=")
-        app.bits = self.take().value
-        while self.has(","):
-            if self.has("dispatchers"):
-                self.skip("=", "[")
-                app.dispatchers = self.rows("]", self.take)
-            else:
-                self.skip("fpu", "=", "on")
-                app.fpu = True
+        app.bits = self.number().value
+        has_more = self.has(",")
+        if has_more and self.has("dispatchers"):
+            self.skip("=", "[")
+            app.dispatchers = self.rows("]", lambda: self.name("dispatcher"))
+            has_more = self.has(",")
+        if has_more:
+            self.skip("fpu", "=", "on")
+            app.fpu = True
         self.skip(")", ";", "interrupts", "{")
-        app.interrupts = self.rows("}", self.declared)
+        app.interrupts = self.rows("}", lambda: self.declared("interrupt"))
         self.declarations(app)
         return app
 
     def declarations(self, app):
         """All that comes after the interrupts."""
         while self.front.kind != "end":
-            word = self.take()
-            if word.text == "monotonic":
-                self.skip("(", "binds", "=")
-                binds = self.take()
-                self.skip(",", "priority", "=")
-                app.monotonic = (word, binds, self.take())
-                self.skip(")", ";")
-            elif word.text == "shared":
-                self.skip("{")
-                app.shared = self.rows("}", self.declared)
-            elif word.text == "local":
-                self.skip("{")
-                app.local = self.rows("}", self.declared)
-            else:
-                app.bodies.append(self.body(word))
+            self.declaration(app, self.word(*DECLARED))
 
-    def declared(self):
+    def declaration(self, app, word):
+        """What comes after the first word of a declaration."""
+        if word.text == "monotonic":
+            self.skip("(", "binds", "=")
+            binds = self.name("monotonic")
+            self.skip(",", "priority", "=")
+            app.monotonic = (word, binds, self.number())
+            self.skip(")", ";")
+        elif word.text == "shared":
+            self.skip("{")
+            app.shared = self.rows("}", lambda: self.declared("shared"))
+        elif word.text == "local":
+            self.skip("{")
+            app.local = self.rows("}", lambda: self.declared("local"))
+        else:
+            app.bodies.append(self.body(word))
+
+    def declared(self, kind):
         """A name with its number, and whether it is lock_free."""
-        free = self.has("lock_free")
-        name = self.take()
+        free = kind == "shared" and self.has("lock_free")
+        name = self.name(f"new {kind}")
         self.skip("=")
-        return name, self.take(), free
+        return name, self.number(), free
 
     def body(self, word):
-        body = Body(word.text, self.take() if word.text == "task" else word)
+        body = Body(word.text, self.name("new task") if word.text == "task" else word, word.at)
         if self.has("("):
-            self.rows(")", lambda: self.option(body))
-        if self.has("with"):
-            body.arguments.append(self.take())
+            given = []
+            self.rows(")", lambda: self.option(body, given))
+        if word.text == "task" and self.has("with"):
+            body.arguments.append(self.name("new argument"))
             while self.has(","):
-                body.arguments.append(self.take())
-        self.skip("{")
+                body.arguments.append(self.name("new argument"))
         body.block = self.block()
         return body
 
-    def option(self, body):
-        word = self.take().text
+    def option(self, body, given):
+        """An option of a body, which is none of the given ones."""
+        word = self.word(*(text for text in OPTIONS[body.kind] if text not in given))
+        given.append(word.text)
+        self.option_value(body, word.text)
+
+    def option_value(self, body, word):
+        """What comes after the word of an option."""
         self.skip("=")
-        if word in ("shared", "local"):
+        if word == "shared":
             self.skip("[")
-            setattr(body, word, self.rows("]", self.listing if word == "shared" else self.take))
+            body.shared = self.rows("]", self.listing)
+        elif word == "local":
+            self.skip("[")
+            body.local = self.rows("]", lambda: self.name("listed local"))
+        elif word == "binds":
+            body.binds = self.name("bound")
         else:
-            setattr(body, word, self.take())
+            setattr(body, word, self.number())
 
     def listing(self):
         at = self.front.at
         by_ref = self.has("&")
-        return Listing(self.take(), by_ref, at)
+        return Listing(self.name("listed by &" if by_ref else "listed shared"), by_ref, at)
 
     def block(self):
-        """The statements up to the closing brace, which is taken."""
-        found = []
+        """The statements between two braces."""
+        self.skip("{")
+        found = Block()
+        found.at = self.last.at
         while not self.has("}"):
             found.append(self.statement())
-            found[-1].end = self.tokens[self.next - 1].end
+            found[-1].end = self.last.end
+        found.end = self.last.end
         return found
 
     def statement(self):
-        word = self.take()
-        if word.text in CALLS:
+        word = self.word("let", "if", "for", "lock", "emit", "pend", *CALLS)
+        if word is None:
+            name = self.name("assign")
+            self.skip("=")
+            found = Stmt("assign", name.at, name, self.expr())
+        elif word.text in CALLS:
             found = Stmt("call", word.at, value=self.call(word))
         elif word.text == "let":
-            found = Stmt("let", word.at, self.take())
+            found = Stmt("let", word.at, self.name("new variable"))
             self.skip("=")
             found.value = self.value()
         elif word.text == "emit":
             found = Stmt("emit", word.at, value=self.expr())
         elif word.text == "pend":
-            found = Stmt("pend", word.at, self.take())
-        elif word.text in ("if", "for", "lock"):
-            return getattr(self, word.text + "_")(word)
+            found = Stmt("pend", word.at, self.name("pend"))
         else:
-            self.skip("=")
-            found = Stmt("assign", word.at, word, self.expr())
+            return getattr(self, word.text + "_")(word)
         self.skip(";")
         return found
 
     def if_(self, word):
-        found = Stmt("if", word.at, value=self.expr())
-        self.skip("{")
-        found.block = self.block()
+        found = Stmt("if", word.at, value=self.expr(), block=self.block())
         if self.has("else"):
-            self.skip("{")
             found.other = self.block()
         return found
 
     def for_(self, word):
-        found = Stmt("for", word.at, self.take())
+        found = Stmt("for", word.at, self.name("new variable"))
         self.skip("in")
-        first = self.take().value
+        first = self.number().value
         self.skip("..")
-        found.turns = (first, self.take().value)
-        self.skip("{")
+        found.turns = (first, self.number().value)
         found.block = self.block()
         return found
 
     def lock_(self, word):
-        found = Stmt("lock", word.at, self.take())
+        found = Stmt("lock", word.at, self.name("lock"))
         if self.has(","):
-            found.block = [self.lock_(self.front)]
-            found.block[0].end = self.tokens[self.next - 1].end
+            inner = self.lock_(self.front)
+            inner.end = self.last.end
+            found.block = Block([inner])
+            found.block.at, found.block.end = inner.block.at, inner.block.end
         else:
-            self.skip("{")
             found.block = self.block()
         return found
 
     def value(self):
         """What comes after `let x =`: an expression, the token `now`, or a call."""
-        if self.front.text == "now":
-            return self.take()
-        return self.call(self.take()) if self.front.text in CALLS else self.expr()
+        word = self.word("now", *CALLS)
+        if word is None:
+            return self.expr()
+        return word if word.text == "now" else self.call(word)
 
     def call(self, word):
         delay = None
@@ -295,29 +350,30 @@ class Parser:
             self.skip("(")
             delay = self.expr()
             self.skip(")")
-        task = self.take()
+        task = self.name(word.text)
         self.skip("(")
-        return Call(word, task, delay, self.rows(")", self.expr))
+        if word.text.startswith("spawn"):
+            return Call(word, task, delay, self.rows(")", self.expr))
+        handle = self.expr("handle")
+        self.skip(")")
+        return Call(word, task, delay, [handle])
 
-    def expr(self):
-        left = self.level(0)
-        if self.front.text in COMPARISONS:
-            left = Expr(sign=self.take().text, left=left, right=self.level(0))
+    def expr(self, role="read"):
+        left = self.level(0, role)
+        sign = self.word(*COMPARISONS)
+        return Expr(sign=sign.text, left=left, right=self.level(0, role)) if sign else left
+
+    def level(self, rank, role):
+        """An operand, and the operations with it whose signs are of this rank or bind more tightly."""
+        left = self.atom(role)
+        while sign := self.word(*SIGNS_FROM[rank]):
+            left = Expr(sign=sign.text, left=left, right=self.level(RANKS[sign.text] + 1, role))
         return left
 
-    def level(self, rank):
-        if rank == len(LEVELS):
-            return self.atom()
-        left = self.level(rank + 1)
-        while self.front.text in LEVELS[rank]:
-            left = Expr(sign=self.take().text, left=left, right=self.level(rank + 1))
-        return left
-
-    def atom(self):
-        token = self.take()
-        if token.text != "(":
-            return Expr(token)
-        inner = self.expr()
+    def atom(self, role):
+        if not self.has("("):
+            return Expr(self.operand(role))
+        inner = self.expr(role)
         self.skip(")")
         return inner
 
