@@ -74,17 +74,26 @@ class Program:
     def answers(self):
         """Whether there is a program that answers at once."""
         if not hasattr(self, "asked"):
-            self.asked = asked_program()
+            self.look()
         return self.asked is not None
 
+    def look(self):
+        """Looks for a program that answers at once."""
+        self.asked = asked_program()
+
     def ask(self, command, *files):
+        """The status of the program on these files, and a beginning of its output."""
+        status, output = self.whole(command, *files)
+        return status, output[:KEPT]
+
+    def whole(self, command, *files):
         """The status and the output of the program on these files."""
         self.asks += 1
         done = subprocess.run(
             [self.asked, command, *files], stdin=subprocess.DEVNULL, stdout=subprocess.PIPE, stderr=subprocess.DEVNULL,
             timeout=60 + 4 * self.took, check=False,
         )
-        return done.returncode, done.stdout[:KEPT].decode("latin-1")
+        return done.returncode, done.stdout.decode("latin-1")
 
     def file(self, name, text):
         """The path of a file of the folder with this text."""
