@@ -1,4 +1,5 @@
 """The session of `tools/lsp`: one thread reads messages, so that what is cancelled is known before its turn comes."""
+import gc
 import queue
 import sys
 import threading
@@ -7,6 +8,8 @@ from .framing import Broken, Sink, messages
 from .server import INVALID_REQUEST, PARSE_ERROR, Server
 
 ENDED_WELL, ENDED_EARLY = 0, 1
+# between two looks for what can be freed: a text is read into tens of thousands of objects, all of which are kept
+ALLOCATIONS = 100_000
 
 
 class Inbox:
@@ -63,6 +66,7 @@ def answer(server, inbox, message):
 
 def session(source, stream):
     """Answers messages until `exit` comes or the input ends: the status is 0 where `shutdown` came before `exit`."""
+    gc.set_threshold(ALLOCATIONS)
     server, inbox = Server(Sink(stream)), Inbox()
     threading.Thread(target=inbox.fill, args=(source,), daemon=True).start()
     try:

@@ -1,7 +1,7 @@
 #!/usr/bin/env python3
 """Tries the files of editors/: that each grammar has every word of the language, the colours of TextMate's on all
-tokens of the examples, the parser of tree-sitter on all texts of the tables of cases, the extension for VS Code by node with a
-stand-in for the editor, and Vim's files by Vim. What is not on the machine is skipped, and said."""
+tokens of the examples, the parser of tree-sitter on all texts of the tables of cases, the extension for VS Code by node
+with a stand-in for the editor, and Vim's files by Vim. What is not on the machine is skipped, and said."""
 import concurrent.futures
 import ctypes
 import ctypes.util

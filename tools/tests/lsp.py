@@ -8,7 +8,6 @@ written by hand. `lsp.py times` prints how long each request takes on a text of 
 """
 import pathlib
 import random
-import statistics
 import sys
 
 HERE = pathlib.Path(__file__).resolve().parent
@@ -23,8 +22,9 @@ from explaining.program import asked_program
 from reading import Asking, texts
 
 SEED = 57
-AMONG = 15
-MOST_MILLISECONDS = 100
+AMONG, SHORT = 15, 200
+# also on a busy machine, where processor time counts for more
+MOST_MILLISECONDS, QUESTIONS = 250, 200
 
 
 class Told:
@@ -42,10 +42,10 @@ class Told:
 def try_places(client, asking, told):
     """Renames, hovers and completions at places of accepted texts that are chosen by a seed."""
     chosen = random.Random(SEED)
-    found = [text for text in texts() if len(text) > 200]
+    found = chosen.sample([text for text in texts() if len(text) > SHORT], 2 * AMONG)
     accepted = [text for text, (status, _) in zip(found, asking.all("check", found)) if status == 0]
-    accepted = chosen.sample(accepted, min(AMONG, len(accepted)))
-    for number, text in enumerate(accepted):
+    told.expect("places", f"only {len(accepted)} texts are accepted", len(accepted) >= AMONG)
+    for number, text in enumerate(accepted[:AMONG]):
         uri = f"file:///{number}.rtic"
         client.open(uri, text)
         for part in (places.rename_places, places.hover_places, places.completion_places):
@@ -55,15 +55,14 @@ def try_places(client, asking, told):
 
 
 def try_times(told):
-    """Each request on a text of 1,000 lines is answered within the time, at the median."""
-    for method, times in sorted(protocol.times(Client()).items()):
-        median = statistics.median(times) * 1000
-        told.expect("times", f"{method}: {median:.0f} ms at the median", median < MOST_MILLISECONDS)
+    """Each request on a text of 1,000 lines, right after a change of it, takes less processor time than is allowed."""
+    for method, seconds in protocol.costs(Client()).items():
+        told.expect("times", f"{method} takes {seconds * 1000:.0f} ms", seconds * 1000 < MOST_MILLISECONDS)
 
 
 def print_times():
     """The quantiles of each request's time, in milliseconds."""
-    for method, times in sorted(protocol.times(Client(), 200).items()):
+    for method, times in sorted(protocol.times(Client(), QUESTIONS).items()):
         row = sorted(time * 1000 for time in times)
         print(f"{method:32} p50 {row[len(row) // 2]:6.1f}  p99 {row[len(row) * 99 // 100]:6.1f}  worst {row[-1]:6.1f}")
 

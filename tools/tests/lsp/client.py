@@ -9,7 +9,7 @@ import threading
 import time
 
 SERVER = pathlib.Path(__file__).resolve().parents[2] / "lsp"
-LONGEST = 20
+LONGEST = 60
 
 
 class Client:

@@ -1,5 +1,6 @@
 """The protocol itself: frames, errors, encodings, changes, diagnostics, the end of a session, and how long it takes."""
 import json
+import os
 import random
 import signal
 import subprocess
@@ -13,11 +14,13 @@ ERROR, WARNING = 1, 2
 URI, OTHER = "file:///a.rtic", "file:///b%20c.rtic"
 SEED, EDITS = 58, 60
 GOOD = "app a(bits = 3);\ninterrupts {}\nidle { let x = 1; emit x; }\n"
-SEVERAL = "app a(bits = 3);\ninterrupts { A = 1, A = 2 }\nidle { emit 1 }\ntask t(binds = B) { let x = 1; let x = 2; }\n"
+SEVERAL = "app a(bits = 3);\ninterrupts { A = 1, A = 2 }\nidle { emit 1 }\n" \
+    "task t(binds = B) { let x = 1; let x = 2; }\n"
 FOREIGN = "app é𝄞 a(bits = 3);\ninterrupts {}\n"
 WIDE = {"utf-8": 6, "utf-16": 3, "utf-32": 2}
 LINES = 1_000
-PLACED = ("hover", "definition", "references", "documentHighlight", "prepareRename", "completion")
+METHODS = ("hover", "definition", "references", "documentHighlight", "prepareRename", "rename", "completion",
+           "documentSymbol", "formatting")
 
 
 def code_of(message):
@@ -97,8 +100,7 @@ def try_cancel(told):
 
 def try_encodings(told):
     """A place behind signs that are not ASCII, in each encoding of the protocol that can be agreed on."""
-    for offered, due in ((("utf-8", "utf-16"), "utf-8"), (("utf-16",), "utf-16"), ((), "utf-16"),
-                         (("utf-32",), "utf-32"), (("utf-16", "utf-8"), "utf-8")):
+    for offered, due in ((("utf-16", "utf-8"), "utf-8"), ((), "utf-16"), (("utf-32",), "utf-32")):
         client = Client(encodings=offered)
         told.expect("encodings", f"{offered}", client.capabilities["positionEncoding"] == due)
         client.open(URI, FOREIGN)
@@ -227,7 +229,32 @@ def task():
     return "\n".join(lines + ["    cancel work(h);", "}", ""])
 
 
-def times(client, count=12):
+def processor_seconds(number):
+    """The processor time that a process has taken, without that of the programs that it ran."""
+    with open(f"/proc/{number}/stat", encoding="ascii") as file:
+        row = file.read().rpartition(")")[2].split()
+    return sum(map(int, row[11:13])) / os.sysconf("SC_CLK_TCK")
+
+
+def costs(client, turns=2):
+    """The server's processor seconds of each request on a text of 1,000 lines, with the reading of a change."""
+    text, version, found = large(), 1, {}
+    client.open(URI, text)
+    line, character = place_in(text, text.index("r7 = r7") + 1)
+    blank = {"line": LINES // 2, "character": 0}
+    client.diagnostics(URI, 1)
+    for method in METHODS:
+        begun = processor_seconds(client.child.pid)
+        for _ in range(turns):
+            version += 1
+            client.change(URI, version, {"range": {"start": blank, "end": blank}, "text": " "})
+            client.at(method, URI, line, character, newName="fresh", context={"includeDeclaration": True}, options={})
+        found[method] = (processor_seconds(client.child.pid) - begun) / turns
+    client.end()
+    return found
+
+
+def times(client, count):
     """How long each request takes on a text of 1,000 lines, in seconds: half of them right after a change of it."""
     chosen, text = random.Random(SEED), large()
     names = [at for at in range(len(text)) if text[at] in "rnhxy" and text[at - 1] == " "]
@@ -239,13 +266,8 @@ def times(client, count=12):
             blank = {"line": LINES // 2, "character": 0}
             client.change(URI, version, {"range": {"start": blank, "end": blank}, "text": " "})
             character += line == LINES // 2
-        methods = list(PLACED)
-        chosen.shuffle(methods)
-        for method in methods:
-            client.at(method, URI, line, character)
-        client.at("rename", URI, line, character, newName="fresh")
-        client.ask("textDocument/documentSymbol", {"textDocument": {"uri": URI}})
-        client.ask("textDocument/formatting", {"textDocument": {"uri": URI}, "options": {}})
+        for method in chosen.sample(METHODS, len(METHODS)):
+            client.at(method, URI, line, character, newName="fresh", context={"includeDeclaration": True}, options={})
     found = {}
     for method, seconds in client.times:
         found.setdefault(method.rpartition("/")[2], []).append(seconds)
