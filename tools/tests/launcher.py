@@ -1,0 +1,195 @@
+#!/usr/bin/env python3
+"""Tries the launcher on stand-ins for the program and the toolchain: which of the two it runs and with which words, its
+help and its version, and standard input as a file. No program need be built."""
+import os
+import pathlib
+import shutil
+import subprocess
+import sys
+import tempfile
+import time
+
+TOOLS = pathlib.Path(__file__).resolve().parents[1]
+ROOT = TOOLS.parent
+sys.dont_write_bytecode = True
+sys.path.insert(0, str(TOOLS))
+
+from documenting.usage import files_in, help_text, of_usage, usage_line
+
+# It writes its words, a line each, and then what is in the files that they name.
+PROGRAM = """#!/bin/sh
+printf '%s\\n' "$@"
+for word; do [ ! -f "$word" ] || cat <"$word"; done
+exit "${STATUS:-0}"
+"""
+# It writes its words, with the names of copies alone, and says that the run ended with status 0.
+TOOLCHAIN = """#!/bin/sh
+for word; do printf '%s ' "${word%%=*}"; done
+echo 'run=ended status=0 time=0' >&2
+"""
+COPIES = ("app", "second", "third")
+TEXT = b"// \xff\0 a text\r\nwithout an end"
+LARGE = bytes(range(256)) * 20_000
+BEHIND, PROVED = "is newer than the proved program", "the proved program is built, and no source is newer"
+NEW, OLD = 2_000_000_000, 1_000_000_000
+NEWER = ("crates/low/src/deep/in.rt", "crates/low/specs/Inside/Of.antt", "crates/low/proofs/Of.antt")
+NOT_NEWER = ("crates/low/out/made.rt", "crates/low/data/cases", "crates/low/stdout")
+
+
+def written(path, text, at=OLD):
+    """Writes a file, with the folders that it is in, as if at a time of the past."""
+    path.parent.mkdir(parents=True, exist_ok=True)
+    path.write_text(text, encoding="utf-8")
+    os.utime(path, (at, at))
+    return path
+
+
+class Place:
+    """A folder with the launcher, the source of the usage line, and the two stand-ins; and where it was called."""
+
+    def __init__(self, folder):
+        self.root, self.here, self.temporary = folder / "the root", folder / "here", folder / "temporary"
+        for name in ("rtic", "CHANGELOG.md", "crates/rt_top/src/top.rt"):
+            path = self.root / name
+            path.parent.mkdir(parents=True, exist_ok=True)
+            shutil.copy(ROOT / name, path)
+            os.utime(path, (OLD, OLD))
+        (self.root / "crates" / "rtic").mkdir()
+        self.program = self.root / "crates" / "rtic" / "out" / "rtic"
+        written(folder / "bin" / "rt", TOOLCHAIN).chmod(0o755)
+        self.path = f"{folder}/bin:{os.environ['PATH']}"
+        self.here.mkdir()
+        self.temporary.mkdir()
+        self.wrong, self.count = [], 0
+
+    def build(self):
+        """Makes the program, later than all sources."""
+        written(self.program, PROGRAM, OLD + 1).chmod(0o755)
+
+    def ended(self, words, text=b"", **more):
+        """The status, the output and the errors of the launcher."""
+        environment = {**os.environ, "PATH": self.path, "TMPDIR": str(self.temporary), **more.pop("environment", {})}
+        more = {"input": text, "stdout": subprocess.PIPE, **more}
+        done = subprocess.run([self.root / "rtic", *words], cwd=self.here, env=environment, stderr=subprocess.PIPE,
+                              check=False, **more)
+        return done.returncode, done.stdout, done.stderr
+
+    def expect(self, told, is_right):
+        """Counts a case, and notes it where it is wrong or leaves a file."""
+        self.count += 1
+        if not is_right:
+            self.wrong.append(told)
+        if any(self.temporary.iterdir()):
+            self.wrong.append(f"{told}: a file is left")
+
+
+def lines(*words):
+    """Words as the stand-in writes them."""
+    return "".join(f"{word}\n" for word in words).encode()
+
+
+def try_toolchain(place):
+    """Without a program: each command reaches the toolchain with its files, and other words get the usage line."""
+    written(place.here / "file", "text")
+    for command, operands in of_usage().items():
+        count = files_in(operands)
+        words = ["file"] * count + ["7"] * (len(operands) - count)
+        data = [part for copy in COPIES[:count] for part in ("--data", copy)]
+        due = " ".join(["try", *data, "--", command, *COPIES[:count], *words[count:], ""]).encode()
+        place.expect(f"{command} to the toolchain", place.ended([command, *words])[:2] == (0, due))
+        if count:
+            found = place.ended([command, "-", *words[1:]], TEXT)[:2]
+            place.expect(f"{command} - to the toolchain", found == (0, due))
+        for other in (words[1:], words + ["file"]):
+            found = place.ended([command, *other])[:2]
+            place.expect(f"{command} with {len(other)} words", found == (2, lines(usage_line())))
+    for words in ([], ["compile", "file"], ["--help", "file"], ["-"], ["run|check", "file"]):
+        place.expect(f"{words}", place.ended(words)[:2] == (2, lines(usage_line())))
+    place.expect("no such file", place.ended(["check", "none"]) == (5, b"", b""))
+
+
+def try_sources(place):
+    """Which sources are newer than the program."""
+    place.build()
+    for name in NEWER + NOT_NEWER:
+        path = written(place.root / name, "", NEW)
+        output = place.ended(["check", "file"])[1]
+        place.expect(f"{name} is newer", output.startswith(b"try " if name in NEWER else b"check\n"))
+        output = place.ended(["--version"])[1]
+        due = lines(f"{name} {BEHIND}" if name in NEWER else PROVED)
+        place.expect(f"the version where {name} is newer", output.endswith(due))
+        path.unlink()
+
+
+def try_own_words(place):
+    """The help and the version."""
+    for words in (["--help"], ["-h"]):
+        due = help_text().replace("$root", str(place.root)).encode()
+        place.expect(f"{words}", place.ended(words) == (0, due, b""))
+    newest = next(line for line in (ROOT / "CHANGELOG.md").read_text().splitlines() if line.startswith("## "))
+    due = lines(f"rtic {newest.removeprefix('## ')}", PROVED)
+    place.expect("--version", place.ended(["--version"]) == (0, due, b""))
+    for words in (["--help"], ["--version"]):
+        with open("/dev/full", "wb") as full:
+            place.expect(f"{words} on a full device", place.ended(words, stdout=full)[0] == 6)
+    place.program.unlink()
+    place.expect("--version without a program", b"not built (./build makes it" in place.ended(["--version"])[1])
+    place.build()
+
+
+def try_input(place):
+    """`-` in the place of each file of each command, and where it is none."""
+    for command, operands in of_usage().items():
+        for position, operand in enumerate(operands):
+            words = [f"w{number}" for number in range(len(operands))]
+            words[position] = "-"
+            is_file = files_in([operand]) == 1
+            due = [*words[:position], "/dev/stdin", *words[position + 1:]] if is_file else words
+            output = lines(command, *due) + TEXT * is_file
+            found = place.ended([command, *words], TEXT, environment={"STATUS": "4"})
+            place.expect(f"{command} {words}", found == (4, output, b""))
+    written(place.here / "-", "a file of this name")
+    for words, due in (
+        (["check", "-"], b"check\n/dev/stdin\n" + TEXT), (["check", "./-"], b"check\n./-\na file of this name"),
+        (["-", "-"], b"-\n-\n" + b"a file of this name" * 2), (["check", "-", "-"], b"check\n-\n-\n"),
+        (["check", "a - b"], b"check\na - b\n"),
+    ):
+        place.expect(f"{words} beside a file of this name", place.ended(words, TEXT)[1].startswith(due))
+    place.expect("a large text", place.ended(["check", "-"], LARGE) == (0, b"check\n/dev/stdin\n" + LARGE, b""))
+    for words in (["run", "-", "-"], ["pair", "-", "file", "-"]):
+        said = b"rtic: standard input can be one file, and here it is two\n"
+        place.expect(f"{words}", place.ended(words, TEXT) == (2, b"", said))
+
+
+def try_odd_input(place):
+    """Standard input that is no pipe, that is read already in part, and that cannot be read."""
+    path = place.here / "file"
+    path.write_bytes(TEXT)
+    with open(path, "rb") as file:
+        file.seek(3)
+        found = place.ended(["check", "-"], None, stdin=file)
+    place.expect("a file that is read in part", found == (0, b"check\n/dev/stdin\n" + TEXT[3:], b""))
+    folder = os.open(place.here, os.O_RDONLY)
+    place.expect("a folder", place.ended(["check", "-"], None, stdin=folder)[:2] == (5, b""))
+    os.close(folder)
+    no_folder = {"TMPDIR": str(place.here / "none")}
+    found = subprocess.run(["sh", "-c", '"$0" check - <&-', place.root / "rtic"], capture_output=True, check=False)
+    place.expect("no input", (found.returncode, found.stdout) == (5, b""))
+    place.expect("no folder for it", place.ended(["check", "-"], TEXT, environment=no_folder)[:2] == (70, b""))
+
+
+def main():
+    """Ends with 1 where a case is wrong."""
+    begun = time.monotonic()
+    with tempfile.TemporaryDirectory() as name:
+        place = Place(pathlib.Path(name))
+        for part in (try_toolchain, try_sources, try_own_words, try_input, try_odd_input):
+            part(place)
+    for told in place.wrong:
+        print(f"launcher: {told}: not as it is to be")
+    print(f"launcher: {place.count} calls, {len(place.wrong)} wrong, in {time.monotonic() - begun:.1f} s")
+    return 1 if place.wrong else 0
+
+
+if __name__ == "__main__":
+    sys.exit(main())
