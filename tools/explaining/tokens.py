@@ -3,6 +3,8 @@ import difflib
 import re
 from dataclasses import dataclass
 
+# of the longest text that the program takes
+MOST_BYTES = 262_144
 WORDS = frozenset(
     "app bits dispatchers interrupts monotonic binds priority capacity shared local lock_free init idle task with let "
     "if else for in lock emit pend spawn spawn_after now cancel reschedule_after".split()
@@ -10,7 +12,7 @@ WORDS = frozenset(
 SIGNS = "( ) { } [ ] = , ; & | ^ + - * / % << >> == != < <= > >= ..".split()
 NAME = re.compile(r"[A-Za-z_][A-Za-z0-9_]*")
 TOKEN = re.compile(
-    r"(?P<skip>[ \t\r\n]+|//[^\n]*)|(?P<name>[A-Za-z_][A-Za-z0-9_]*)|(?P<number>0x[0-9a-fA-F]+|[0-9]+)"
+    r"(?P<blank>[ \t\r\n]+)|(?P<comment>//[^\n]*)|(?P<name>[A-Za-z_][A-Za-z0-9_]*)|(?P<number>0x[0-9a-fA-F]+|[0-9]+)"
     r"|(?P<sign><<|>>|==|!=|<=|>=|\.\.|[(){}\[\]=,;&|^+\-*/%<>])|(?P<foreign>.)",
     re.DOTALL,
 )
@@ -18,7 +20,8 @@ TOKEN = re.compile(
 
 @dataclass(frozen=True)
 class Token:
-    """One token: its kind is name, word, number, sign, foreign or end; it begins at an offset of the text."""
+    """One token: its kind is name, word, number, sign, foreign or end; it begins at an offset of the text. A comment
+    is one of that kind, from its `//` to the end of its line."""
 
     kind: str
     text: str
@@ -34,15 +37,20 @@ class Token:
         return int(self.text, 16) if self.text.startswith("0x") else int(self.text.lstrip("0") or "0")
 
 
-def tokens_of(text, start=0, stop=None):
-    """The tokens from one offset on, as far as another."""
+def pieces_of(text, start=0, stop=None):
+    """The tokens and the comments from one offset on, as far as another."""
     stop = len(text) if stop is None else stop
     for found in TOKEN.finditer(text, start, stop):
         kind = found.lastgroup
         if kind == "name" and found.group() in WORDS:
             kind = "word"
-        if kind != "skip":
+        if kind != "blank":
             yield Token(kind, found.group(), found.start())
+
+
+def tokens_of(text, start=0, stop=None):
+    """The tokens alone."""
+    return (piece for piece in pieces_of(text, start, stop) if piece.kind != "comment")
 
 
 def skipped_bytes(text):
