@@ -1,5 +1,5 @@
 """What is said of the commands: by the program's usage line, which all other places are held against, by the help of
-the launcher, and by README."""
+the launcher, by README, by the man page and by the completions."""
 import re
 
 from documenting.tree import text_of
@@ -53,3 +53,25 @@ def of_readme():
 def statuses_of_readme():
     """The statuses in README's table, with what each means."""
     return re.findall(r"^\| (\d) \| ([^|]*?) \|", text_of("README.md"), re.M)
+
+
+def section_of_man_page(head):
+    """The text of a section of the man page."""
+    return re.search(rf"^\.SH {head}\n(.*?)(?=^\.SH |\Z)", text_of("man/rtic.1"), re.M | re.S)[1]
+
+
+def of_man_page():
+    """The words of each command in the man page, with what is said of them first."""
+    rows = re.findall(r'^\.TP\n\.BI (\w+) "( .*)"\n(.*)$', section_of_man_page("COMMANDS"), re.M)
+    return [(command + operands, said) for command, operands, said in rows]
+
+
+def statuses_of_man_page():
+    """The statuses in the man page, with what each means."""
+    return re.findall(r"^\.TP\n\.B (\d+)\n(.*)$", section_of_man_page('"EXIT STATUS"'), re.M)
+
+
+def of_completion(name):
+    """The commands in a completion, with what is said of each."""
+    rows = re.findall(r"^ +'(\w+):(.*)'(?: \\)?$", text_of(f"completion/{name}"), re.M)
+    return [(command, re.sub(r"'\\''|\\'", "'", said)) for command, said in rows]

@@ -1,0 +1,58 @@
+# Completion of rtic for fish: the commands, and then in each place files of its kind (README.md beside this file).
+
+# Whether the word that is completed is a file with this usual ending.
+function __rtic_wants --argument-names ending
+    set -l words (commandline -opc)
+    set -l endings
+    switch "$words[2]"
+        case check fmt build soak deepest
+            set endings rtic
+        case run live
+            set endings rtic script
+        case audit
+            set endings rtic trace
+        case times
+            set endings rtic limits
+        case verify
+            set endings listing
+        case pair
+            set endings rtic rtic script
+    end
+    set -l place (math (count $words) - 1)
+    test $place -ge 1; and test $place -le (count $endings); and test $endings[$place] = $ending
+end
+
+# The files that begin with the word. Those with the ending and folders come first. Where the ending is that of
+# applications others come only if there are none of these.
+function __rtic_files --argument-names ending
+    set -l files (complete -C "__rtic_without_completions "(commandline -ct))
+    set -l first (string match -r -- ".*\.$ending\$" $files) (string match -r -- '.*/$' $files)
+    if test $ending != rtic; or not set -q first[1]
+        set first $first $files
+    end
+    printf '%s\n' $first
+end
+
+complete -c rtic -f
+complete -c rtic -n __fish_is_first_token -s h -l help -d 'write this help'
+complete -c rtic -n __fish_is_first_token -l version \
+    -d 'write the version, and whether the program at hand is the proved one'
+for row in \
+        'run:write an image of an application, and its trace under a script' \
+        'check:write ceilings, frames, costs, waiting bounds and the stack bound' \
+        'fmt:write the canonical text, without comments' \
+        'build:write the listing of an image' \
+        'audit:judge whether a trace is a run of Baker\'s machine' \
+        'live:run with the devices of the script in threads of their own' \
+        'soak:count what happens in many generated runs of one image' \
+        'demo:write an application of N hardware tasks' \
+        'deepest:write a script on which the stack reaches its bound' \
+        'verify:judge whether an image keeps the rules by which it is safe' \
+        'times:write the response time of each priority' \
+        'pair:run two cores that pend each other\'s interrupts'
+    set -l parts (string split -m 1 : $row)
+    complete -c rtic -n __fish_is_first_token -a $parts[1] -d $parts[2]
+end
+for ending in rtic script trace limits listing
+    complete -c rtic -n "__rtic_wants $ending" -k -a "(__rtic_files $ending)"
+end
