@@ -13,14 +13,14 @@ from .report import Report, shown
 from .rules import counted
 from .responses import Responses
 from .table import Table
-from .tokens import offset_of, place_of
+from .tokens import MOST_BYTES, offset_of, place_of
 from .tree import tree_of
 from .warnings import warnings_of
 
 WARNINGS = 20
 PLACES = 3
 FRONT = 4_096
-APPLICATION, SECOND = 262_144, 268_435_456
+APPLICATION, SECOND = MOST_BYTES, 268_435_456
 DONE, REFUSED, USAGE, BAD_LINE, NO, UNREAD = range(6)
 
 
@@ -37,14 +37,16 @@ class Explained:
         self.table = Table()
 
     def kept(self, number, name):
-        """The path of a file; of what is no file, as a pipe, a copy that can be read again."""
+        """The path of a file; of standard input or what is no file, as a pipe, a copy that can be read again."""
+        is_input = wording.inputs_of(self.words) == [number + 1]
         try:
-            mode = os.stat(name).st_mode
+            mode = 0 if is_input else os.stat(name).st_mode
             if stat.S_ISREG(mode) or stat.S_ISDIR(mode):
                 return name
             path = os.path.join(self.program.folder.name, f"input{number}")
             left = (APPLICATION if number == 0 and self.words[0] != "verify" else SECOND) + 1
-            with open(name, "rb") as source, open(path, "wb") as copy:
+            source = open(0 if is_input else name, "rb", closefd=not is_input)
+            with source, open(path, "wb") as copy:
                 while piece := source.read(min(1 << 16, left)):
                     left -= copy.write(piece)
             return path

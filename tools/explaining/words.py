@@ -10,6 +10,8 @@ COMMANDS = {
 }
 RANGES = {"NUMBER": (0, (1 << 64) - 1), "COUNT": (1, 10_000), "WORKERS": (1, 64), "N": (1, 48)}
 ALL = "--all"
+OPTIONS = "the options are `--help`, `-h` and `--version`, and each comes alone"
+INPUT, ONE_INPUT = "-", "standard input can be one file, and here it is two"
 DIGITS = re.compile(r"[0-9]{1,20}")
 FORMS = {
     "deepest": "`deepest` is for hardware tasks alone, without a monotonic, and an `init` that has no `pend` and costs "
@@ -23,6 +25,13 @@ BUILT = f"the commands are {', '.join(LISTED[:-1])} and {LISTED[-1]}"
 def files_of(words):
     """Those of the words after a command that name its files."""
     return [word for word, kind in zip(words[1:], COMMANDS.get(words[0] if words else "", ())) if kind not in RANGES]
+
+
+def inputs_of(words):
+    """The positions of the files that are standard input, where the words are as many as their command takes."""
+    if not words or len(words) != 1 + len(COMMANDS.get(words[0], ())):
+        return []
+    return [place for place, name in enumerate(files_of(words), 1) if name == INPUT]
 
 
 def is_in_range(word, kind):
@@ -52,6 +61,8 @@ def wrong_word(words):
     """The position of the word that is wrong, or after the last where one is missing."""
     if not words or words[0] not in COMMANDS:
         return 0
+    if len(inputs := inputs_of(words)) > 1:
+        return inputs[1]
     wanted = COMMANDS[words[0]]
     if len(words) - 1 == len(wanted):
         for place, (word, kind) in enumerate(zip(words[1:], wanted)):
@@ -63,6 +74,8 @@ def wrong_word(words):
 def of_command(words):
     """The sentence on words that begin with a command."""
     wanted, given = COMMANDS[words[0]], len(words) - 1
+    if len(inputs_of(words)) > 1:
+        return ONE_INPUT
     if given == len(wanted):
         place = wrong_word(words)
         least, most = RANGES[wanted[place - 1]]
@@ -81,7 +94,7 @@ def of_words(words):
     if name in COMMANDS:
         return [("cause", of_command(words))]
     if name.startswith("-"):
-        return [("cause", "there are no options"), ("help", BUILT)]
+        return [("cause", OPTIONS), ("help", BUILT)]
     near = difflib.get_close_matches(name, COMMANDS, 1, 0.6)
     told = f"a command of a similar name is `{near[0]}`" if near else BUILT
     return [("cause", f"there is no command `{name}`"), ("help", told)]

@@ -75,6 +75,10 @@ def program_rows(folder):
     text = wrong.read_bytes()
     status, output, said = ran([EXPLAIN, "check", "/dev/stdin"], input=text)
     yield "a pipe", (status, output) == (1, b"3:15 E03 syntax\n") and b"/dev/stdin:3:15: E03 syntax" in said
+    status, output, said = ran([EXPLAIN, "check", "-"], input=text)
+    yield "standard input", (status, output) == (1, b"3:15 E03 syntax\n") and b"\n-:3:15: E03 syntax" in b"\n" + said
+    status, output, said = ran([EXPLAIN, "run", "-", "-"], input=text)
+    yield "standard input twice", (status, output) == (2, b"") and b"rtic run - -\n" + b" " * 11 + b"^\n" in said
 
 
 def on_terminal(words, **more):
