@@ -4,6 +4,7 @@ help and its version, and standard input as a file. No program need be built."""
 import os
 import pathlib
 import shutil
+import signal
 import subprocess
 import sys
 import tempfile
@@ -178,12 +179,25 @@ def try_odd_input(place):
     place.expect("no folder for it", place.ended(["check", "-"], TEXT, environment=no_folder)[:2] == (70, b""))
 
 
+def try_killed(place):
+    """While standard input is read its file has no name any more, so that none is left by a launcher that is killed."""
+    environment = {**os.environ, "TMPDIR": str(place.temporary)}
+    with subprocess.Popen([place.root / "rtic", "check", "-"], stdin=subprocess.PIPE, stdout=subprocess.PIPE,
+                          env=environment) as child:
+        # more than a pipe holds, so that some of it is in the file by then
+        child.stdin.write(LARGE)
+        child.stdin.flush()
+        place.expect("a file without a name", True)
+        child.kill()
+    place.expect("a launcher that is killed", child.returncode == -signal.SIGKILL)
+
+
 def main():
     """Ends with 1 where a case is wrong."""
     begun = time.monotonic()
     with tempfile.TemporaryDirectory() as name:
         place = Place(pathlib.Path(name))
-        for part in (try_toolchain, try_sources, try_own_words, try_input, try_odd_input):
+        for part in (try_toolchain, try_sources, try_own_words, try_input, try_odd_input, try_killed):
             part(place)
     for told in place.wrong:
         print(f"launcher: {told}: not as it is to be")
