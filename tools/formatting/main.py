@@ -1,5 +1,6 @@
 """The command line of `tools/fmt`: which files it takes, what it writes where, and the status with which it ends."""
 import contextlib
+import functools
 import os
 import re
 import stat
@@ -37,13 +38,28 @@ def read(name):
         raise Told(NOT_READ, f": {fault.strerror}") from None
 
 
+@functools.cache
+def program():
+    """The program that answers at once, or else the launcher."""
+    return asked_program() or LAUNCHER
+
+
+def answer_to(text):
+    """How the program ends on a text, and what it writes."""
+    environment = dict(os.environ, RTIC_EXPLAINED="1")
+    try:
+        with tempfile.NamedTemporaryFile(prefix="rtic-fmt-") as file:
+            file.write(text)
+            file.flush()
+            return subprocess.run([program(), "fmt", file.name], stdin=subprocess.DEVNULL, stdout=subprocess.PIPE,
+                                  env=environment, check=False)
+    except OSError as fault:
+        raise Told(NO_ANSWER, f": the program cannot be asked: {fault}") from None
+
+
 def canonical_of(text):
-    """The canonical text of a text, by the program that answers at once, or else by the launcher."""
-    with tempfile.NamedTemporaryFile(prefix="rtic-fmt-") as file:
-        file.write(text)
-        file.flush()
-        done = subprocess.run([asked_program() or LAUNCHER, "fmt", file.name], stdout=subprocess.PIPE,
-                              stdin=subprocess.DEVNULL, env=dict(os.environ, RTIC_EXPLAINED="1"), check=False)
+    """The canonical text of a text, as the program writes it."""
+    done = answer_to(text)
     if done.returncode == REFUSED and (found := REFUSAL.fullmatch(done.stdout)):
         raise Told(REFUSED, f":{found[1].decode()}: {found[2].decode()}", done.stdout)
     if done.returncode != DONE:
@@ -74,9 +90,9 @@ def replace(name, data):
             file.write(data)
             file.flush()
             os.fsync(descriptor)
-        os.chmod(new, stat.S_IMODE(state.st_mode))
         with contextlib.suppress(PermissionError):
             os.chown(new, state.st_uid, state.st_gid)
+        os.chmod(new, stat.S_IMODE(state.st_mode))
         os.replace(new, path)
     except BaseException:
         os.unlink(new)

@@ -142,7 +142,8 @@ class Calls:
     def __init__(self, trial):
         self.trial, self.folder = trial, trial.folder / "calls"
         self.folder.mkdir()
-        self.file("stand-in", STAND_IN).chmod(0o755)
+        self.program = self.file("stand-in", STAND_IN)
+        self.program.chmod(0o755)
         self.file("canonical", CANONICAL)
 
     def file(self, name, text):
@@ -154,7 +155,7 @@ class Calls:
 
     def ended(self, *words, status=0, text=None, **more):
         """The status, the output and the errors of a call."""
-        environment = dict(os.environ, RTIC=str(self.folder / "stand-in"), STATUS=str(status),
+        environment = dict(os.environ, RTIC=str(self.program), STATUS=str(status),
                            CANONICAL=str(self.folder / "canonical"))
         done = subprocess.run([sys.executable, "-S", TOOLS / "fmt", *words], cwd=self.folder, input=text, text=True,
                               env=environment, check=False, **{"stdout": subprocess.PIPE, **more},
@@ -220,6 +221,8 @@ def try_refusals(calls):
     calls.file("loose.rtic", long)
     calls.expect("a text that becomes too long", calls.ended("-w", "loose.rtic")[:2], (1, ""))
     calls.expect("the long text", calls.text("loose.rtic"), long)
+    calls.program = calls.folder / "none"
+    calls.expect("no program", calls.ended("loose.rtic")[:2], (70, ""))
 
 
 def main():
