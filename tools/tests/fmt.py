@@ -27,7 +27,7 @@ from formatting.comments import Amiss, with_comments
 from formatting.main import asked
 
 SEED, TIMES = 57, 2
-LONGEST = 4_000
+LONGEST = 2_000
 # as many statements as make a text too long when each has a line of its own
 MANY = 25_000
 TOKEN = re.compile(r"\s+|//[^\n]*|([A-Za-z_0-9]+|<<|>>|==|!=|<=|>=|\.\.|.)", re.S)
@@ -131,7 +131,6 @@ def try_chance(trial):
             right = bare(found) == canonical and comments(found) == put and "\n\n\n" not in found
             trial.expect(f"by chance: {changed!r}", right and with_comments(found, canonical) == found)
         if trial.program:
-            trial.expect(f"the program on {changed!r}", trial.asked(changed) == (0, canonical))
             trial.expect(f"the program on {found!r}", trial.asked(found) == (0, canonical))
     return len(known)
 
