@@ -13,8 +13,9 @@ DATA = os.path.join(TOOLS, "tests", "view")
 RUNS = ("two", "pump", "four", "serial", "burst", "station", "names")
 UNITS = {"1 ns": 10 ** 3, "1 ps": 10 ** 6, "1 fs": 10 ** 9}
 sys.dont_write_bytecode = True
-sys.path.insert(0, TOOLS)
+sys.path[:0] = [TOOLS, DATA]
 
+from traces import merged_in, runner_at, spans_of_jobs, task_at, trace
 from viewing.command import main
 
 faults = []
@@ -42,46 +43,6 @@ def written(*words):
         return main(words), sys.stdout.getvalue()
     finally:
         sys.stdout = kept
-
-
-def trace(path):
-    """The items of an output as step and words, and the total."""
-    with open(path, encoding="ascii") as file:
-        lines = file.read().rstrip("\n").split("\n")
-    lines = lines[lines.index("trace") + 1:] if lines[0].startswith("image ") else lines
-    items = [line.split(" ", 1) for line in lines if not line.startswith("total ")]
-    total = [int(line.split()[1]) for line in lines if line.startswith("total ")]
-    return [(int(step), what) for step, what in items], total[0] if total else None
-
-
-def spans_of_jobs(items):
-    """The jobs of a trace by their takes and returns: interrupt, begin, end."""
-    stack, jobs = [], []
-    for step, what in items:
-        words = what.split()
-        if words[0] == "take":
-            stack.append((words[1], step))
-        elif words[0] == "ret":
-            jobs.append((*stack.pop(), step + 1))
-    return jobs
-
-
-def runner_at(items, total):
-    """Who runs in each step: an interrupt, or the thread."""
-    stack, runners = ["the thread"], []
-    steps = {}
-    for step, what in items:
-        words = what.split()
-        if words[0] in ("take", "ret"):
-            steps[step] = words
-    for step in range(total):
-        words = steps.get(step, ("", ""))
-        if words[0] == "take":
-            stack.append(words[1])
-        runners.append(stack[-1])
-        if words[0] == "ret":
-            stack.pop()
-    return runners
 
 
 def read_waveform(text):
@@ -163,8 +124,8 @@ def compare_events(name, run, check):
     expect(f"{name}: steps", all(0 <= each.get("ts", 0) <= total for each in events))
 
 
-def read_picture(text):
-    """A text picture read back: for each row the marks by steps; a column is a step."""
+def read_picture(text, steps=1):
+    """A text picture read back: for each row the marks by the first steps of their columns."""
     rows = {}
     for piece in text.split("\n\n"):
         lines = [line for line in piece.split("\n") if line and not line.startswith("(")]
@@ -174,7 +135,7 @@ def read_picture(text):
         width = len(lines[0]) - len(lines[0].lstrip())
         for line in lines[1:]:
             marks = rows.setdefault(line[:width].rstrip(), {})
-            marks.update({begin + at: mark for at, mark in enumerate(line[width:])})
+            marks.update({begin + at * steps: mark for at, mark in enumerate(line[width:])})
     return rows
 
 
@@ -188,6 +149,9 @@ def compare_text(name, run, check):
     expect(f"{name}: one row a task", all(label.count("(") <= 1 for label in rows))
     for step, runner in enumerate(runner_at(items, total)):
         runs = [label for label, marks in rows.items() if marks.get(step, " ") in "=[]"]
+        if not runs:
+            # A request that is merged just there hides who runs.
+            runs = [label for label, marks in rows.items() if marks.get(step) == "!" and runner in label]
         if not any(step in marks for marks in rows.values()):
             expect(f"{name}: step {step} is left out", runner == "the thread")
         elif runner == "the thread":
@@ -198,6 +162,40 @@ def compare_text(name, run, check):
         got = sorted(step for marks in rows.values() for step, mark in marks.items() if mark == sign)
         shown = {step for marks in rows.values() for step in marks}
         expect(f"{name}: {word}", got == [step for step, what in items if what.startswith(word) and step in shown])
+
+
+def compare_shades(name, run, check, steps=8):
+    """Where a column is more steps: for each task the tenths of each column that it runs, and the merged requests."""
+    os.environ["COLUMNS"] = "90"
+    items, total = trace(run)
+    rows = {label: marks for label, marks in read_picture(written(run, check, "--text", str(steps))[1], steps).items()}
+    names = labels_of(rows, items)
+    at = [names.get(task, task) for task in task_at(items, total)]
+    boot = next(step for step, what in items if what == "end init") + 1
+    at = ["init" if step < boot and "init" in rows and label == names["the thread"] else label
+          for step, label in enumerate(at)]
+    shown = {begin for marks in rows.values() for begin in marks}
+    for begin in shown:
+        column = at[begin:begin + steps]
+        for label, marks in rows.items():
+            ran = column.count(label)
+            tenths = str(min(int(ran * 10 / len(column) + 0.5), 9))
+            want = {0: " .-!", len(column): "=!"}.get(ran, tenths + "!")
+            expect(f"{name}: {label} at {begin}, {ran} of {len(column)}", marks.get(begin, " ") in want)
+    got = {(label, begin) for label, marks in rows.items() for begin, mark in marks.items() if mark == "!"}
+    lost = {(names[each], min(step, total - 1) // steps * steps) for step, word, each in merged_in(items)
+            if each in names and not (word == "post" and names[each].startswith("dispatcher"))}
+    expect(f"{name}: merged {got}, not {lost}", got == lost)
+
+
+def labels_of(rows, items):
+    """The label of each task that takes messages, as `start TASK`, and of each interrupt that serves another."""
+    software = {what.split()[1] for _, what in items if what.startswith("start ")}
+    found = {"the thread": next(label for label in rows if label in ("idle", "the thread"))}
+    for label in rows:
+        name, _, interrupt = label.partition(" (")
+        found["start " + name if name in software else interrupt.rstrip(")") or name] = label
+    return found
 
 
 def many(activations):
@@ -231,6 +229,7 @@ for each in RUNS:
     compare_waveform(each, *files)
     compare_events(each, *files)
     compare_text(each, *files)
+    compare_shades(each, *files)
 compare_speed()
 for fault in faults[:20]:
     print("view_forms: wrong:", fault)

@@ -21,8 +21,9 @@ VIEWS = [("station", 520, False), ("burst", 520, True), ("burst", 1024, False), 
          ("station", 1920, False), ("burst", 1920, True)]
 PAPER = {False: "rgb(255, 255, 255)", True: "rgb(20, 23, 27)"}
 sys.dont_write_bytecode = True
-sys.path.insert(0, TOOLS)
+sys.path[:0] = [TOOLS, DATA]
 
+from traces import merged_in, sections_of, spans_of_jobs, task_at
 from viewing.command import main
 
 faults = []
@@ -41,32 +42,6 @@ def items_of(name):
     first = lines.index("trace") + 1
     last = next(at for at in range(first, len(lines)) if lines[at].startswith("total "))
     return [(int(line.split(" ")[0]), line.split(" ")[1:]) for line in lines[first:last]], lines
-
-
-def jobs_of(items):
-    """The jobs by their takes and returns: interrupt, begin, end."""
-    stack, jobs = [], []
-    for step, words in items:
-        if words[0] == "take":
-            stack.append((words[1], step))
-        elif words[0] == "ret":
-            jobs.append((*stack.pop(), step + 1))
-    return jobs
-
-
-def sections_of(items):
-    """The sections by their enters and leaves: name, begin, end; those that are left."""
-    stack, found = [[]], set()
-    for step, words in items:
-        if words[0] == "take":
-            stack.append([])
-        elif words[0] == "ret":
-            stack.pop()
-        elif words[0] == "enter":
-            stack[-1].append((words[1], step))
-        elif words[0] == "leave":
-            found.add((*stack[-1].pop(), step + 1))
-    return found
 
 
 def compare_depths(view, items, depths):
@@ -101,7 +76,8 @@ def compare(name, width, is_dark, found, console):
         expect(f"{view}: no figures", False)
         return
     items, lines = items_of(name)
-    jobs = jobs_of(items)
+    text = [(step, " ".join(words)) for step, words in items]
+    jobs = spans_of_jobs(text)
     expect(f"{view}: faults {found['faults']}", found["faults"] == [])
     expect(f"{view}: as wide as it is, {found['width']}", found["fits"] and found["width"] == width)
     expect(f"{view}: paper {found['paper']}", found["paper"] == PAPER[is_dark])
@@ -112,14 +88,31 @@ def compare(name, width, is_dark, found, console):
     ten = {(job["interrupt"], job["begin"], job["end"]) for job in found["ten"]}
     expect(f"{view}: ten jobs {ten}", ten <= set(jobs) and len(ten) == min(10, len(jobs)))
     drawn = {(each["name"], each["begin"], each["end"]) for each in found["sections"]}
-    expect(f"{view}: ten sections {drawn}", drawn <= sections_of(items) and len(drawn) == 10)
+    expect(f"{view}: ten sections {drawn}", drawn <= sections_of(text) and len(drawn) == 10)
     compare_depths(view, items, found["depths"])
     marks = sum(words[0] in ("pend", "emit", "full", "cancel", "move") for _, words in items)
     expect(f"{view}: {marks} marks, not {found['counts']['marks']}", found["counts"]["marks"] == marks)
     starts = sum(words[0] in ("start", "fire") for _, words in items)
     expect(f"{view}: arrows {found['counts']['arrows']}", found["counts"]["arrows"] == starts)
     expect(f"{view}: what has no effect: {found['hands']}", len(found["hands"]) == 13 and all(found["hands"].values()))
+    compare_signs(view, found, text, lines)
     compare_lines(view, found, items, lines)
+
+
+def compare_signs(view, found, text, lines):
+    """A merged request has its own sign, the legend names what the run has, and the load stands beside the names."""
+    merged = [step for step, word, _ in merged_in(text) if word == "pend"]
+    signs = found["signs"]
+    pends = sum(what.startswith("pend ") for _, what in text)
+    expect(f"{view}: {signs}", (signs["arrived"], signs["merged"]) == (pends - len(merged), len(merged)))
+    expect(f"{view}: {signs} red", signs["red"] == signs["looked"] and signs["redArrived"] == 0)
+    for words, is_there in (("full: no place for a message", any(what.startswith("full ") for _, what in text)),
+                            ("request that is merged", bool(merged)), ("pending", True), ("emit", True)):
+        said = any(entry.endswith(words) for entry in found["legend"])
+        expect(f"{view}: the legend says {words}: {found['legend']}", said == is_there)
+    total = int(next(line for line in reversed(lines) if line.startswith("total ")).split()[1])
+    busy = sum(runner == "UART0" for runner in task_at(text, total))
+    expect(f"{view}: the load of UART0", f"{100 * busy / total:.1f} %" in found["names"])
 
 
 def compare_lines(view, found, items, lines):

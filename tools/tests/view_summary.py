@@ -82,14 +82,22 @@ def bounds(name):
         return dict(line.rstrip("\n").rsplit(" ", 1) for line in file)
 
 
-def compare_tasks(name, rows, want, check):
-    """The table of tasks: the judge's numbers, and the costs and waiting bounds of `check` beside them."""
-    expect(f"{name}: the tasks are {sorted(want)}", sorted(row[0] for row in rows) == sorted(want))
-    for task, _, priority, runs, run, cost, wait, bound, response in rows:
-        expect(f"{name}: {task} {want.get(task)}", want.get(task) == [runs, run, wait, response])
+def compare_tasks(name, tasks, steps, want, check):
+    """The tables of tasks: the judge's numbers, and the costs and waiting bounds of `check` beside them.
+
+    An interrupt that serves nothing has a row where it is requested, and no priority; the judge has none.
+    """
+    priorities = {row[0]: row[2] for row in tasks}
+    runs = {row[0]: row[6] for row in tasks}
+    unserved = [task for task, priority in priorities.items() if priority == "-"]
+    expect(f"{name}: the tasks are {sorted(want)}", sorted(priorities) == sorted([*want, *unserved]))
+    expect(f"{name}: two tables", [row[0] for row in steps] == [row[0] for row in tasks])
+    for task, run, cost, wait, bound, response, _ in steps:
+        numbers = want.get(task, ["0", "-", "-", response])
+        expect(f"{name}: {task} {numbers}", numbers == [runs[task], run, wait, response])
         expect(f"{name}: cost {task}", cost == check.get("cost " + task, "-"))
-        is_thread = task in ("init", "idle")
-        expect(f"{name}: wait {task}", bound == ("-" if is_thread else check["wait " + priority]))
+        is_free = task in ("init", "idle", *unserved)
+        expect(f"{name}: wait {task}", bound == ("-" if is_free else check["wait " + priorities[task]]))
 
 
 def compare_run(name):
@@ -103,7 +111,7 @@ def compare_run(name):
     depth = f"deepest stack: {heads['deepest'][0]} of {heads['deepest'][2]} bytes"
     expect(f"{name}: {depth}", text.split("\n")[1] == depth)
     found = {head[0]: rows for head, rows in tables(text)}
-    compare_tasks(name, found["task"], tasks, check)
+    compare_tasks(name, found["task"], found["steps of"], tasks, check)
     got = {row[0]: row[1:] for row in found.get("messages of", [])}
     expect(f"{name}: messages {messages}, not {got}", got == messages)
     got = {row[0]: row[2:] for row in found.get("section of", [])}

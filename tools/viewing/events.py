@@ -2,7 +2,7 @@
 import json
 
 PROCESS = 1
-KINDS = ("emit", "full", "trap", "request", "cancel", "move")
+KINDS = ("emit", "full", "trap", "request", "cancel", "move", "merged")
 
 
 def event(kind, name, row, step, **more):

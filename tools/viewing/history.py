@@ -4,7 +4,7 @@ from array import array
 from .application import DISPATCHER, HARDWARE, SOFTWARE, THREAD, TIMER, WORD, Task
 from .messages import Messages
 from .reading import STEPS, bad_line, words_of
-from .rows import ARRIVAL, EMIT, TRAP, Job, Lock, Row
+from .rows import ARRIVAL, EMIT, MERGED, TRAP, Job, Lock, Row
 from .told import NOT_A_RUN, Told
 
 
@@ -169,12 +169,21 @@ class History(Messages):
         return sum(self.spent[:row.rank])
 
     def ask(self, row, step):
-        """The interrupt of a row becomes pending at a step, where it is not."""
-        if row.asked is None:
-            self.settle(self.jobs[-1], step)
-            row.asked, row.lower = step, self.lower(row)
-            return True
-        return False
+        """A request of a row's interrupt at a step: it becomes pending, or the request is merged with the one before.
+
+        The answer says whether it became pending.
+        """
+        row.requests += 1
+        if self.is_init:
+            row.last = step
+        else:
+            row.requested(step)
+        if row.asked is not None:
+            row.merged += 1
+            return False
+        self.settle(self.jobs[-1], step)
+        row.asked, row.lower = step, self.lower(row)
+        return True
 
     def item_row(self, job):
         """The row of an item of a job; of a dispatcher's it is known where a message starts."""
@@ -195,9 +204,8 @@ class History(Messages):
     def see_pend(self, step, row, line):
         """A request arrives."""
         self.done = step
-        self.ask(row, step)
-        row.requests += 1
-        self.marks += (step, row.number, ARRIVAL, line)
+        row.arrived += 1
+        self.marks += (step, row.number, ARRIVAL if self.ask(row, step) else MERGED, line)
         return row.number
 
     def see_post(self, step, row, line):
@@ -205,8 +213,12 @@ class History(Messages):
         self.done = step + 1
         job = self.jobs[-1]
         number = self.item_row(job)
-        if self.ask(row, step + 1) and row.task.kind == HARDWARE and self.application.listed:
-            row.poster = (number, step, line)
+        became_pending = self.ask(row, step + 1)
+        if row.task.kind == HARDWARE and self.application.listed:
+            if became_pending:
+                row.poster = (number, step, line)
+            else:
+                self.marks += (step, row.number, MERGED, line)
         return number
 
     def see_take(self, step, subject, line):
@@ -346,6 +358,8 @@ class History(Messages):
         for row in self.rows:
             if row.asked is not None:
                 row.lower = self.lower(row)
+            if row.last is not None:
+                row.last = step
 
     def close(self):
         """What is open at the end of the trace ends there."""
@@ -357,6 +371,8 @@ class History(Messages):
             job = self.jobs[-1]
             self.hold_open(job, end)
             self.leave_job(job, end)
+            if job.asked is not None:
+                (job.body or job.row).left_open(end - job.asked)
             if job.row.task.kind != DISPATCHER:
                 job.row.runs += 1
                 job.row.waited(job.waited)
@@ -370,6 +386,8 @@ class History(Messages):
                 row.pending += (row.asked, end)
             if row.ready and end > row.ready_since:
                 row.pending += (row.ready_since, end)
+            if row.still_pending():
+                row.left_open(end - row.pending_since())
 
     def hold_open(self, job, end):
         """Sections that are open at the end are drawn up to it."""

@@ -51,6 +51,7 @@ class Messages:
         if row.queue is None:
             row.queue = deque()
         row.queue.append(message)
+        row.requests += 1
         row.ready += 1
         if row.ready == 1:
             row.ready_since = step + 1
@@ -106,6 +107,7 @@ class Messages:
         job.parts = row.serving
         row.ran(job.used - job.begun)
         row.responded(step - job.asked)
+        job.asked = None
         if job.depth != job.base:
             job.depth = job.base
             self.set_depth(step, job.depth)

@@ -6,7 +6,7 @@ import os
 import sys
 from array import array
 
-from .summary import ABSENT, head, tables
+from .summary import ABSENT, head, load, tables
 
 FOLDER = os.path.join(os.path.dirname(os.path.abspath(__file__)), "web")
 SCRIPTS = ("data.js", "sight.js", "lanes.js", "rows.js", "chart.js", "panel.js", "check.js", "start.js")
@@ -35,7 +35,7 @@ def row_data(history, row):
     return {
         "name": task.name, "interrupt": task.interrupt, "priority": task.priority, "kind": task.kind,
         "cost": task.cost, "wait": history.application.wait(task) if task.kind != "thread" else None,
-        "capacity": task.capacity, "running": numbers(row.running),
+        "capacity": task.capacity, "load": load(history, row), "running": numbers(row.running),
         "serving": numbers(row.serving), "preempted": numbers(row.preempted), "pending": numbers(row.pending),
         "jobs": numbers(row.jobs), "sections": layers(row.sections),
     }

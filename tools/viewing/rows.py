@@ -1,8 +1,8 @@
 """The rows of a picture: what each task did, as spans of core steps, and what was measured of it."""
-from .application import DISPATCHER, UNSERVED
+from .application import DISPATCHER, SOFTWARE, UNSERVED
 
-# Marks on a row.
-EMIT, FULL, TRAP, ARRIVAL, CANCEL, MOVE = range(6)
+# Marks on a row; a request that finds the interrupt pending is merged with the one before it.
+EMIT, FULL, TRAP, ARRIVAL, CANCEL, MOVE, MERGED = range(7)
 
 
 class Row:
@@ -12,7 +12,9 @@ class Row:
     dispatcher that works for it, `preempted` a job that others interrupted, `pending` what waits to be served: the
     interrupt, or messages that are ready. `sections` has four numbers each: begin, end, the section's number, how many
     sections are outside it. `jobs` has three: begin, end, and the line of the item that begins it. The longest run,
-    wait and response are in core steps, None where none was measured.
+    wait and response are in core steps, None where none was measured; `unanswered` is how long the longest of those
+    that were open at the end had taken by then. `requests` asked for a run: requests of the interrupt, `merged` of
+    which found it pending, and `arrived` of which came from outside; or messages that became ready.
     """
 
     def __init__(self, task, number, rank):
@@ -21,8 +23,11 @@ class Row:
         self.rank = rank
         self.running, self.serving, self.preempted, self.pending = [], [], [], []
         self.sections, self.jobs = [], []
-        self.runs = self.requests = self.sent = self.started = self.refused = self.out = self.most_out = 0
-        self.longest_run = self.longest_wait = self.longest_response = None
+        self.runs = self.sent = self.started = self.refused = self.out = self.most_out = 0
+        self.requests = self.merged = self.arrived = 0
+        self.longest_run = self.longest_wait = self.longest_response = self.unanswered = None
+        # The step of the last request, and the fewest steps between two; those during `init` count as one at its end.
+        self.last = self.least_distance = None
         # Since when the interrupt is pending, the lower steps until then, and who requested it.
         self.asked = self.lower = self.poster = None
         # How many messages are ready, since when there are any, and which.
@@ -31,13 +36,32 @@ class Row:
 
     def is_shown(self):
         """Whether the row is a task's, or has what no other row shows."""
-        return self.task.kind not in (DISPATCHER, UNSERVED) or bool(self.jobs or self.requests)
+        return self.task.kind not in (DISPATCHER, UNSERVED) or bool(self.jobs or self.arrived)
 
     def label(self):
         """The name, and the interrupt that serves the task where it has another name."""
         task = self.task
         named = task.interrupt is not None and task.interrupt != task.name
         return f"{task.name} ({task.interrupt})" if named else task.name
+
+    def busy(self):
+        """The core steps that the task took itself, with those that its dispatcher took for it."""
+        spans = self.running + self.serving
+        return sum(spans[1::2]) - sum(spans[::2])
+
+    def still_pending(self):
+        """How many of the requests were not answered when the run ended."""
+        return self.ready if self.task.kind == SOFTWARE else int(self.asked is not None)
+
+    def pending_since(self):
+        """The step from which the oldest request that is still pending waits, or none."""
+        return self.queue[0].ready if self.ready else self.asked
+
+    def requested(self, step):
+        """A request at a step, as far as the distances between requests go."""
+        if self.last is not None and (self.least_distance is None or step - self.last < self.least_distance):
+            self.least_distance = step - self.last
+        self.last = step
 
     def ran(self, steps):
         """A run of so many own steps."""
@@ -53,6 +77,11 @@ class Row:
         """So many steps from the request, or from where the message was ready, to the end of the run."""
         if self.longest_response is None or steps > self.longest_response:
             self.longest_response = steps
+
+    def left_open(self, steps):
+        """So many steps from a request to the end of the trace, at which the run that it asked for had not ended."""
+        if self.unanswered is None or steps > self.unanswered:
+            self.unanswered = steps
 
 
 class Job:

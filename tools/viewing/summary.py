@@ -4,9 +4,13 @@ from .application import DISPATCHER, SOFTWARE, THREAD, UNSERVED, WAITING
 ABSENT = "-"
 
 
+class Figure(str):
+    """A number with a sign or a unit: in a table it stands to the right, as numbers do."""
+
+
 def tables(history):
     """The summary as a list of tables: a heading for each column, and the rows."""
-    found = [tasks(history)]
+    found = [tasks(history), steps(history)]
     if any(row.task.kind == SOFTWARE for row in history.rows):
         found.append(messages(history))
     if history.locks:
@@ -15,24 +19,47 @@ def tables(history):
 
 
 def measured(history):
-    """The rows that the table of tasks has: each task, and what else ran."""
+    """The rows that the table of tasks has: each task, what else ran, and what is requested and serves nothing."""
     for row in history.rows:
-        if row.task.kind == UNSERVED or row.task.kind == DISPATCHER and not row.runs:
+        if row.task.kind == UNSERVED and not row.requests or row.task.kind == DISPATCHER and not row.runs:
             continue
         if row.task.kind != THREAD or row.task.name != WAITING:
             yield row
 
 
+def load(history, row):
+    """The share of all core steps that a row took itself."""
+    return Figure(f"{100 * row.busy() / history.end:.1f} %") if history.end else None
+
+
 def tasks(history):
-    """A row for each task."""
-    heads = ("task", "interrupt", "priority", "runs", "longest run", "cost", "longest wait", "wait", "longest response")
+    """A row for each task: what asked for it, and what came of that. Messages do not merge."""
+    heads = ("task", "interrupt", "priority", "requests", "merged", "still pending", "runs", "load")
     rows = []
     for row in measured(history):
         task = row.task
-        waits = task.kind != THREAD
+        asked = (row.requests, row.merged if task.kind != SOFTWARE else None, row.still_pending())
+        rows.append((task.name, task.interrupt, task.priority, *(asked if task.kind != THREAD else (None,) * 3),
+                     row.runs, load(history, row)))
+    return heads, rows
+
+
+def response(row):
+    """The longest response; where one was open at the end and had taken longer by then, it is over that."""
+    if row.unanswered is None or row.longest_response is not None and row.longest_response > row.unanswered:
+        return row.longest_response
+    return Figure(f"> {row.unanswered}")
+
+
+def steps(history):
+    """A row for each task: what was measured in core steps, beside the bounds."""
+    heads = ("steps of", "longest run", "cost", "longest wait", "wait", "longest response", "least distance")
+    rows = []
+    for row in measured(history):
+        task = row.task
         cost = task.cost if task.kind != SOFTWARE or task.call is not None else None
-        rows.append((task.name, task.interrupt, task.priority, row.runs, row.longest_run, cost, row.longest_wait,
-                     history.application.wait(task) if waits else None, row.longest_response))
+        wait = history.application.wait(task) if task.kind != THREAD else None
+        rows.append((task.name, row.longest_run, cost, row.longest_wait, wait, response(row), row.least_distance))
     return heads, rows
 
 
@@ -74,7 +101,7 @@ def head(history):
         lines.append(f"the core trapped at step {history.trapped}, and took no step after it")
     if history.output.steps is None:
         lines.append("the trace has no total: it ends with its last item, or was cut off")
-    return lines + over(history)
+    return lines + over(history) + starved(history)
 
 
 def over(history):
@@ -83,7 +110,7 @@ def over(history):
     report = history.application.report
     if report is not None and history.deepest > report.stack:
         found.append("the stack is over its bound")
-    for name, _, _, _, run, cost, wait, bound, _ in tasks(history)[1]:
+    for name, run, cost, wait, bound, _, _ in steps(history)[1]:
         if run is not None and cost is not None and run > cost:
             found.append(f"{name} ran {run} steps, over its cost {cost}")
         if wait is not None and bound is not None and wait > bound:
@@ -91,12 +118,33 @@ def over(history):
     return found
 
 
+def starved(history):
+    """A line for each row that never ran though it was requested, or waits longer than any response before."""
+    found = []
+    for row in measured(history):
+        if not row.still_pending():
+            continue
+        waited = history.end - row.pending_since()
+        since = f"pending from step {row.pending_since()} to the end, {counted(waited, 'step')}"
+        if row.runs == 0:
+            why = " and serves nothing" if row.task.kind == UNSERVED else ", and never ran"
+            found.append(f"{row.task.name} was requested {times(row.requests)}{why}: {since}")
+        elif row.longest_response is None or waited > row.longest_response:
+            found.append(f"{row.task.name} is {since}, longer than any response before")
+    return found
+
+
+def times(number):
+    """How often, as people say it."""
+    return {1: "once", 2: "twice"}.get(number, f"{number} times")
+
+
 def column(heads, rows, number):
     """The texts of a column, of one width: words to the left, numbers to the right."""
     cells = [row[number] for row in rows]
     texts = [heads[number]] + [ABSENT if cell is None else str(cell) for cell in cells]
     width = max(len(text) for text in texts)
-    left = any(isinstance(cell, str) for cell in cells)
+    left = any(isinstance(cell, str) and not isinstance(cell, Figure) for cell in cells)
     return [text.ljust(width) if left else text.rjust(width) for text in texts]
 
 

@@ -1,19 +1,28 @@
 """Draws who runs when as text: a row for each task, folded to the width of the terminal."""
-from .application import THREAD
-from .rows import ARRIVAL
+from bisect import bisect_left
 
-SILENT, PENDING, PREEMPTED, RUNS, ENTERS, LEAVES = " -.=[]"
+from .application import THREAD
+from .rows import ARRIVAL, MERGED
+
+SILENT, PENDING, PREEMPTED, RUNS, ENTERS, LEAVES, LOST = " -.=[]!"
+TENTHS = 10
 LEAST_COLUMNS = 20
 
 
 class Strip:
-    """The marks of a row, a column for so many steps; `at` has for each kind how far its spans have been drawn."""
+    """The marks of a row, a column for so many steps; `at` has for each kind how far its spans have been drawn.
 
-    def __init__(self, history, row, steps):
+    `lost` has the steps of requests that were merged; one that came after the last step counts there.
+    """
+
+    def __init__(self, history, row, steps, lost):
         self.row = row
         self.steps = steps
-        self.layers = [(PENDING, row.pending), (PREEMPTED, row.preempted), (RUNS, merged(row.serving, row.running))]
-        self.at = [0] * len(self.layers)
+        self.end = history.end
+        self.busy = merged(row.serving, row.running)
+        self.layers = [(PENDING, row.pending), (PREEMPTED, row.preempted)]
+        self.at = [0] * (len(self.layers) + 1)
+        self.lost = [min(step, history.end - 1) for step in lost]
         spans = list(zip(row.sections[::4], row.sections[1::4]))
         left = [span for span in spans if span not in history.never_left]
         self.signs = sorted([(begin, ENTERS) for begin, _ in spans] + [(end - 1, LEAVES) for _, end in left])
@@ -24,9 +33,31 @@ class Strip:
         marks = [SILENT] * count
         for number, (mark, spans) in enumerate(self.layers):
             self.at[number] = self.cover(marks, mark, spans, self.at[number], begin)
+        self.at[-1] = self.shade(marks, self.at[-1], begin)
         if self.steps == 1:
             self.put_signs(marks, begin)
+        for step in self.lost[bisect_left(self.lost, begin):bisect_left(self.lost, begin + count * self.steps)]:
+            marks[(step - begin) // self.steps] = LOST
         return "".join(marks)
+
+    def shade(self, marks, at, begin):
+        """Puts how much of each column the row runs; the place of the first span that reaches further."""
+        end = begin + len(marks) * self.steps
+        ran = {}
+        spans = self.busy
+        while at < len(spans) and spans[at] < end:
+            first, last = max(spans[at], begin), min(spans[at + 1], end)
+            for column in range((first - begin) // self.steps, -(-(last - begin) // self.steps)):
+                left = begin + column * self.steps
+                ran[column] = ran.get(column, 0) + min(last, left + self.steps) - max(first, left)
+            if spans[at + 1] > end:
+                break
+            at += 2
+        for column, steps in ran.items():
+            whole = min(self.steps, self.end - begin - column * self.steps)
+            tenths = (2 * TENTHS * steps + whole) // (2 * whole)
+            marks[column] = RUNS if steps == whole else str(min(tenths, TENTHS - 1))
+        return at
 
     def cover(self, marks, mark, spans, at, begin):
         """Puts a mark where spans are; the place of the first span that reaches further."""
@@ -66,8 +97,18 @@ def blocks(history, steps):
             for begin, end in zip(spans[::2], spans[1::2]):
                 found.update(range(begin // steps, (end - 1) // steps + 1))
     marks = history.marks
-    found.update(step // steps for step, kind in zip(marks[::4], marks[2::4]) if kind == ARRIVAL)
+    found.update(step // steps for step, kind in zip(marks[::4], marks[2::4]) if kind in (ARRIVAL, MERGED))
     return sorted(block for block in found if block * steps < history.end)
+
+
+def lost_requests(history):
+    """For each row the steps at which a request was merged."""
+    found = [[] for _ in history.rows]
+    marks = history.marks
+    for step, row, kind in zip(marks[::4], marks[1::4], marks[2::4]):
+        if kind == MERGED:
+            found[row].append(step)
+    return found
 
 
 def ruler(begin, count, steps, width):
@@ -95,7 +136,8 @@ def draw(history, steps, columns):
     names = labels(shown, columns)
     width = max(map(len, names)) + 1
     count = max(columns - width, LEAST_COLUMNS) // 10 * 10
-    strips = [Strip(history, row, steps) for row in shown]
+    lost = lost_requests(history)
+    strips = [Strip(history, row, steps, lost[row.number]) for row in shown]
     before = 0
     for block in blocks(history, count * steps):
         begin = block * count * steps

@@ -108,6 +108,34 @@ function tenClicks() {
   });
 }
 
+/** Whether the upper edge of the sign of a request at a step is drawn in red, as that of a merged one is. */
+function isRedAt(row, step) {
+  look(step - 10, 20);
+  draw();
+  const height = (places.get(row).top + MARKS - 7) * sight.ratio;
+  const place = placeOf(step) * sight.ratio;
+  const [red, green] = element("rows").getContext("2d").getImageData(Math.floor(place), Math.floor(height), 1, 1).data;
+  return red - green > 40;
+}
+
+/** The requests by their kind: how many there are, and of up to ten the colours, for steps that have one kind alone. */
+function requestSigns() {
+  const found = { arrived: 0, merged: 0, red: 0, looked: 0, redArrived: 0 };
+  areArrowsShown = false;
+  for (const row of shownRows) {
+    const all = Array.from({ length: row.marks.length / 3 }, (_, at) => [row.marks[at * 3], row.marks[at * 3 + 1]]);
+    const merged = all.filter(([, kind]) => kind === MERGED).map(([step]) => step);
+    const arrived = all.filter(([step, kind]) => kind === 3 && !merged.includes(step)).map(([step]) => step);
+    found.arrived += all.filter(([, kind]) => kind === 3).length;
+    found.merged += merged.length;
+    found.looked += tenOf(merged).length;
+    found.red += tenOf(merged).filter((step) => isRedAt(row, step)).length;
+    found.redArrived += tenOf(arrived).filter((step) => isRedAt(row, step)).length;
+  }
+  areArrowsShown = true;
+  return found;
+}
+
 /** Finds the words of the last item. */
 function findLast() {
   const words = itemText(data.items - 1).split(" ").slice(1).join(" ");
@@ -192,6 +220,9 @@ function check() {
   figures.ten = tenJobs();
   figures.sections = tenSections();
   figures.depths = tenDepths();
+  figures.signs = requestSigns();
+  figures.legend = Array.from(element("legend").children, (entry) => entry.textContent);
+  figures.names = element("names").textContent;
   figures.clicks = tenClicks();
   figures.last = findLast();
   figures.hands = tryHands();

@@ -71,36 +71,40 @@ function writeNames() {
   for (const row of shownRows) {
     const { bar } = places.get(row);
     const served = row.interrupt !== null && row.interrupt !== row.name ? row.interrupt : "";
-    const more = [served, row.kind !== "thread" && row.priority !== null ? "priority " + row.priority : ""];
+    const more = [served, row.kind !== "thread" && row.priority !== null ? "priority " + row.priority : "",
+      row.load !== null ? "load " + row.load : ""];
     label(above + bar - 9, BAR + 18, row.name, more.filter(Boolean).join(", "));
   }
   const bound = data.bound !== null ? " of " + data.bound : "";
   label(above + layout.height, STACK, "stack", data.deepest + bound + " bytes");
 }
 
-/** What the colours and signs mean. */
+/** An entry of the legend: a patch of a colour, or a sign in it, and what it means. */
+function legendEntry(colour, words, sign) {
+  const entry = piece("li", words);
+  const swatch = piece("i", sign || "", sign ? "sign" : "swatch");
+  swatch.style[sign ? "color" : "background"] = `var(--${colour})`;
+  entry.prepend(swatch);
+  element("legend").append(entry);
+}
+
+/** What the colours and signs of this run mean. */
 function writeLegend() {
-  const meanings = [["running", "runs"], ["serving", "its dispatcher"], ["preempted", "preempted"],
-    ["pending", "pending"], ["queue", "section of a queue"], ["arrow", "message"], ["armed", "armed message"],
-    ["arrival", "request"], ["emit", "emit"], ["alarm", "alarm"], ["bad", "stack bound"]];
-  const absent = new Set(alarms.length > 0 ? [] : ["armed", "alarm"]);
+  const bars = [["running", "runs"], ["serving", "its dispatcher"], ["preempted", "preempted"],
+    ["pending", "pending"], ["queue", "section of a queue"], ["arrow", "message"], ["armed", "armed message"]];
+  const absent = new Set(alarms.length > 0 ? [] : ["armed"]);
   if (arrows.length === 0) absent.add("arrow");
   if (!rows.some((row) => row.serving.length > 0)) absent.add("serving");
   if (!data.locks.some((lock) => lock.name.includes("."))) absent.add("queue");
-  const legend = element("legend");
-  for (const [name, words] of meanings.filter(([each]) => !absent.has(each))) {
-    const entry = piece("li", words);
-    const swatch = piece("i", "", "swatch");
-    swatch.style.background = `var(--${name})`;
-    entry.prepend(swatch);
-    legend.append(entry);
-  }
+  for (const [colour, words] of bars.filter(([each]) => !absent.has(each))) legendEntry(colour, words);
+  const kinds = new Set(rows.flatMap((row) => Array.from(row.marks.filter((_, at) => at % 3 === 1))));
+  LEGEND_MARKS.filter(([kind]) => kinds.has(kind)).forEach(([kind, words, sign]) => {
+    legendEntry(MARK_COLOURS[kind], words, sign);
+  });
+  if (alarms.length > 0) legendEntry("alarm", "alarm", "\u25c6");
+  if (data.bound !== null) legendEntry("bad", "stack bound", "\u2508");
   data.locks.filter((lock) => !lock.name.includes(".")).forEach((lock, number) => {
-    const entry = piece("li", "lock " + lock.name);
-    const swatch = piece("i", "", "swatch");
-    swatch.style.background = `var(--lock${number % 8})`;
-    entry.prepend(swatch);
-    legend.append(entry);
+    legendEntry(`lock${number % 8}`, "lock " + lock.name);
   });
 }
 

@@ -7,6 +7,7 @@ const DEPTH = 11;
 const GAP = 7;
 const MANY_MARKS = 300;
 const MANY_JOBS = 400;
+const MERGED = 6;
 const drawn = { jobs: 0, marks: 0, arrows: 0, sections: 0 };
 const places = new Map();
 
@@ -119,12 +120,15 @@ function drawSign(context, kind, place, top) {
     context.fillStyle = colours.emit.text;
     context.arc(place, middle, 2.5, 0, 7);
     context.fill();
-  } else if (kind === 3) {
-    context.fillStyle = colours.arrival.text;
+  } else if (kind === 3 || kind === MERGED) {
+    context.fillStyle = context.strokeStyle = colours[MARK_COLOURS[kind]].text;
+    context.lineWidth = 1.4;
     context.moveTo(place - 3, middle - 3);
     context.lineTo(place + 3, middle - 3);
     context.lineTo(place, middle + 4);
-    context.fill();
+    context.closePath();
+    if (kind === 3) context.fill();
+    else context.stroke();
   } else {
     context.strokeStyle = colours[kind < 3 ? "bad" : "armed"].text;
     context.lineWidth = 1.6;
@@ -136,8 +140,11 @@ function drawSign(context, kind, place, top) {
   }
 }
 
-const MARK_COLOURS = ["emit", "bad", "bad", "arrival", "armed", "armed"];
-const SAID = ["", "full", "trap", "", "cancel", "move"];
+const MARK_COLOURS = ["emit", "bad", "bad", "arrival", "armed", "armed", "bad"];
+const SAID = ["", "full", "trap", "", "cancel", "move", "merged"];
+const LEGEND_MARKS = [[3, "request", "\u25bc"], [MERGED, "request that is merged", "\u25bd"], [0, "emit", "\u25cf"],
+  [1, "full: no place for a message", "\u2715"], [2, "trap", "\u2715"], [4, "cancel", "\u2715"],
+  [5, "move", "\u2572"]];
 
 /** The words beside a mark: an emitted value, or what happened. */
 function markWords(kind, line) {
@@ -171,10 +178,12 @@ function drawMarks(context, row) {
   const { top } = places.get(row);
   context.font = "10px " + sight.font;
   let next = sight.width + 40;
+  const merged = [];
   for (let at = last - 1; at >= first; at -= 1) {
     const kind = row.marks[at * 3 + 1];
-    const place = placeOf(row.marks[at * 3] + (kind === 3 ? 0 : 0.5));
-    drawSign(context, kind, place, top);
+    const place = placeOf(row.marks[at * 3] + (kind === 3 || kind === MERGED ? 0 : 0.5));
+    if (kind === MERGED) merged.push(place);
+    else drawSign(context, kind, place, top);
     const words = markWords(kind, row.marks[at * 3 + 2]);
     if (words && next - place > 9 + context.measureText(words).width) {
       context.fillStyle = colours.ink.text;
@@ -183,4 +192,6 @@ function drawMarks(context, row) {
     next = place - 4;
     drawn.marks += 1;
   }
+  // They may stand at the step of the request before, and are to be seen there.
+  for (const place of merged) drawSign(context, MERGED, place, top);
 }
