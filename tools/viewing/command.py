@@ -12,10 +12,12 @@ from .report import read_report
 from .summary import summary
 from .told import DONE, NOT_READ, NOT_WRITTEN, USAGE, Told
 
-USAGE_LINE = ("usage: view RUN [CHECK] [--html FILE | --vcd FILE | --trace-events FILE | --text [STEPS]]\n"
+USAGE_LINE = ("usage: view RUN [CHECK] [--html FILE | --vcd FILE | --wires FILE | --trace-events FILE |\n"
+              "                         --text [STEPS]]\n"
               "RUN is an output of `rtic run` or `rtic live`, or a trace; CHECK one of `rtic check` on the same\n"
               "application. Without a form the summary is written. `-` is standard input, or as FILE the output.\n")
-FILES = {"--html": lambda history: [page.page(history)], "--vcd": vcd.dump, "--trace-events": events.trace_events}
+FILES = {"--html": lambda history: [page.page(history)], "--vcd": vcd.dump, "--wires": vcd.wires,
+         "--trace-events": events.trace_events}
 
 
 class Wanted:

@@ -1,15 +1,23 @@
-"""Writes a run as a waveform: a value change dump (IEEE 1364), with a string variable for the items.
+"""Writes a run as a waveform: a value change dump (IEEE 1364), with a string variable for the items, or of wires alone.
 
 A core step is 1 us. Items of one step number (requests, ticks, and at most one item of the step itself) follow each
 other within it, one unit of the time scale apart, so that each has a time of its own and none is lost. Programs that
 know no string variables pass over that one: what they read in its place begins like no change of another.
+
+Some programs stop at a number of more than one bit. For these there are wires alone, and a core step is the unit: such
+a program keeps a sample for each unit.
 """
 import heapq
 
 from .application import DISPATCHER, HARDWARE, SOFTWARE, THREAD, TIMER, UNSERVED
+from .rows import EMIT, FULL, MERGED
 
 # The time scale, and how many of its units a core step has.
 SCALES = (("1 ns", 10 ** 3), ("1 ps", 10 ** 6), ("1 fs", 10 ** 9))
+STEPS_ALONE = "1 us"
+
+# The wires that are 1 in a step at which something happens, and the marks that these are.
+HAPPENS = (("emit", EMIT), ("full", FULL), ("merged", MERGED))
 
 
 class Signals:
@@ -76,7 +84,7 @@ def times(history):
     return scale, unit, [step * unit + place for step, place in zip(steps, places)]
 
 
-def add_rows(signals, history, unit):
+def add_rows(signals, history, unit, add_row):
     """The rows: tasks in one scope, what else runs in another."""
     for scope, kinds in (("tasks", (HARDWARE, SOFTWARE)), ("others", (THREAD, DISPATCHER, TIMER, UNSERVED))):
         signals.scope(scope)
@@ -86,15 +94,25 @@ def add_rows(signals, history, unit):
         signals.close()
 
 
-def add_row(signals, row, unit):
-    """A row: it runs, is preempted, is pending; `runs` counts the runs that began."""
-    name = row.task.name.replace(" ", "_")
+def name_of(row):
+    """A row's name in the names of its variables."""
     if row.task.kind in (DISPATCHER, UNSERVED):
-        name = f"{row.task.kind}_{row.task.interrupt}"
+        return f"{row.task.kind}_{row.task.interrupt}"
+    return row.task.name.replace(" ", "_")
+
+
+def add_wires(signals, row, unit):
+    """A row: it runs, is preempted, is pending."""
+    name = name_of(row)
     signals.wire(name + "_running", joined(row.running + row.serving), unit)
     signals.wire(name + "_preempted", joined(row.preempted), unit)
     signals.wire(name + "_pending", joined(row.pending), unit)
-    short = signals.add("integer", 32, name + "_runs", "b0 ")
+
+
+def add_wires_and_runs(signals, row, unit):
+    """A row, and a number that counts the runs that began."""
+    add_wires(signals, row, unit)
+    short = signals.add("integer", 32, name_of(row) + "_runs", "b0 ")
     signals.streams.append((begin * unit, f"b{number:b} {short}") for number, begin in enumerate(row.jobs[::3], 1))
 
 
@@ -134,18 +152,37 @@ def changes_of_items(history, moments, emit, time, item):
             yield moment, f"b{ticks:b} {time}"
 
 
+def wires(history):
+    """The waveform of wires alone, in pieces."""
+    signals = Signals()
+    signals.scope("rtic")
+    add_rows(signals, history, 1, add_wires)
+    add_sections(signals, history, 1)
+    marks = history.marks
+    for name, kind in HAPPENS:
+        steps = sorted({min(step, history.end - 1) for step, each in zip(marks[::4], marks[2::4]) if each == kind})
+        signals.wire(name, joined([step for first in steps for step in (first, first + 1)]), 1)
+    signals.close()
+    yield from written(signals, STEPS_ALONE, history.end)
+
+
 def dump(history):
     """The whole waveform, in pieces."""
     scale, unit, moments = times(history)
     signals = Signals()
     signals.scope("rtic")
-    add_rows(signals, history, unit)
+    add_rows(signals, history, unit, add_wires_and_runs)
     add_sections(signals, history, unit)
     stack = signals.add("integer", 32, "stack", f"b{history.stack[1]:b} ")
     depths = zip(history.stack[2::2], history.stack[3::2])
     signals.streams.append((step * unit, f"b{depth:b} {stack}") for step, depth in depths)
     add_items(signals, history, moments)
     signals.close()
+    yield from written(signals, scale, history.end * unit)
+
+
+def written(signals, scale, end):
+    """What stands in the file, up to its last time, in pieces."""
     yield f"$version tools/view of rtic $end\n$comment a core step is 1 us $end\n$timescale {scale} $end\n"
     yield "\n".join(signals.heads) + "\n$enddefinitions $end\n"
     yield "#0\n$dumpvars\n" + "\n".join(signals.first) + "\n$end\n"
@@ -153,5 +190,5 @@ def dump(history):
     for moment, words in heapq.merge(*signals.streams, key=lambda change: change[0]):
         yield words + "\n" if moment == before else f"#{moment}\n{words}\n"
         before = moment
-    if history.end * unit > before:
-        yield f"#{history.end * unit}\n"
+    if end > before:
+        yield f"#{end}\n"
