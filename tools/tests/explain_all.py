@@ -200,6 +200,8 @@ def faults_of(program, whole, found):
 def tried(seed):
     """One text with mistakes: how many there are, and what is wrong."""
     chance, program = random.Random(seed), Program()
+    if not program.answers:
+        return 0, "", 0
     try:
         paths = [path for path in sorted(EXAMPLES.glob("*.rtic")) if path.stem not in SKIPPED]
         path = chance.choice(paths)
