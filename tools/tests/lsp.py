@@ -24,7 +24,7 @@ from reading import Asking, texts
 SEED = 57
 AMONG, SHORT = 15, 200
 # also on a busy machine, where processor time counts for more
-MOST_MILLISECONDS, QUESTIONS = 250, 200
+MOST_MILLISECONDS, QUESTIONS = 500, 200
 
 
 class Told:

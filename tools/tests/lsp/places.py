@@ -202,7 +202,9 @@ def fitting(asking, text, number, candidates):
         elif where == at or rule in PAIRED or where == at - 1:
             yield False
         else:
-            yield None if where < at else True
+            # behind a use of what is no longer listed there may be a second listing that does not agree
+            is_listed = text.rfind("[", 0, at) > text.rfind("]", 0, at)
+            yield None if where < at or is_listed else True
 
 
 def word_places(client, told, chosen, accepted):
