@@ -62,7 +62,8 @@ FUNCTIONS = [
 ]
 ENDED = "a statement ends with `;`"
 BEGINS = r"(?:let|if|for|lock|emit|pend|spawn|spawn_after|cancel|reschedule_after|\}|\w+ =(?!=))"
-WORD_SIGNS = {"mod": "%", "div": "/", "xor": "^", "shl": "<<", "shr": ">>", "rem": "%", "eq": "==", "ne": "!="}
+WORD_SIGNS = {"mod": "%", "div": "/", "xor": "^", "shl": "<<", "shr": ">>", "rem": "%", "eq": "==", "ne": "!=", "is": "==",
+              "equals": "==", "isnt": "!=", "gt": ">", "lt": "<"}
 
 FOREIGN = [
     (r"", r"# \[ (?:rtic : : )?app\b",
@@ -86,7 +87,10 @@ FOREIGN = [
     (r"\b(?:shared|local) \{ (?:[^}]*, )?(?P<x>\w+)$", r": [A-Za-z]",
      "a resource is declared with its first value, and has no type: `<x> = 0`"),
     (r"\b(?:spawn|cancel) \w+ \( (?:[^;]*, )?\w+$", r": \w", BY_NAME),
-    (r"\b(?:if|else|for|while)\b[^;{}]*$", r":(?! :)", BLOCKS),
+    (r"@ (?P<w>emit|pend|spawn|lock|if|for|let)$", r":(?! :)", "no `:` comes after `<w>`"),
+    (r"\bfor \w+ in \w+$", r": \w", "a loop is `for i in 0..8 { .. }`, with two dots"),
+    (r"\b(?:if|else|while)\b[^;{}]*$", r":(?! :)", BLOCKS),
+    (r"\bfor\b[^;{}]*\.\.[^;{}]*$", r":(?! :)", "a loop has its block in braces: `for i in 0..8 { .. }`"),
     (r"\block (?P<x>\w+)(?: , \w+)*$", r":(?! :)", "a lock holds for its block: `lock <x> { .. }`"),
     (r"\btask \w+ \([^{}]*\)$|\b(?:init|idle)(?: \([^{}]*\))?$", r":(?! :)", "a body goes in braces: `{ .. }`"),
     (r"\b(?:spawn|cancel|\))(?: \w+)$", r"\. (?P<x>[A-Za-z_]\w*) \(", "there are no paths: write `<x>` alone"),
@@ -129,7 +133,10 @@ FOREIGN = [
      "there are no methods, and sums, differences and products wrap: write `<x> + ..`"),
     (r"(?P<x>\b\w+)$", r"\. (?:wrapping|saturating|checked|overflowing)_\w+",
      "there are no methods, and sums, differences and products wrap: write `<x> - ..` or `<x> * ..`"),
-    (r"(?:\bemit|\bpend|=) [^;{}]*[\w)]$", rf"[:.] {BEGINS}(?: |$)", ENDED),
+    (r"(?P<x>\w+)$", r"\. (?:pend|set_pending|trigger|request)\b", "`pend <x>;` requests an interrupt"),
+    (r"(?P<t>\w+)$", r"\. spawn_after \(", "`<t>.spawn_after(d, ..)` is `spawn_after(d) <t>(..);` here"),
+    (r"(?:\bemit|\bpend|=) [^;{}]*[\w)]$", rf": {BEGINS}(?: |$)", ENDED),
+    (r"(?:\bemit|\bpend|=) [^;{}]*[\w)]$", r"\. (?:(?:let|if|for|lock|emit|pend|spawn) \w|\})", ENDED),
     (r"", r"\. (?:set_high|set_low|toggle|is_high|is_low|set_output|write|read|modify)\b", NO_PINS),
     (r"(?P<x>\b\w+)$", r"\. (?:is_some|is_none|is_ok|is_err|unwrap|is_empty)\b",
      "each value is a number: compare it, as `<x> != 0`"),
@@ -160,6 +167,9 @@ SYNTAX = [
      "Rust is not read here: an application begins with `app name(bits = 4);`"),
     (r"<$", r">", NOT_EQUAL),
     (r"!=$", r"=(?: |$)", NOT_EQUAL),
+    (r"(?:^| )(?P<s>[<>])$", r"=(?: |$)", "`<s>=` is one sign, without a blank in it"),
+    (r"\bemit$", r"\[", "an `emit` has no brackets: `emit a;`"),
+    (r"\b(?:shared|local) =$", r"& (?P<x>\w+)", "a list goes in brackets: `[&<x>]`"),
     (r"\bif [^;{}]*$", r"/ =(?: |$)", NOT_EQUAL),
     (r"\b(?:if|emit) [^;{}]*$", r"= >", "greater or equal is `>=`"),
     (r"\b(?:if|emit) [^;{}]*$", r"= <", "less or equal is `<=`"),
@@ -296,6 +306,8 @@ SYNTAX = [
     (rf"@ (?P<f>{OTHER_NAME})$", r"\(",
      "there are no functions: write out here what `<f>` does, or make it a software task, `spawn <f>(..);`"),
     (r"[(,]$", rf"(?:mut )?{CONTEXT} [:,)]", NO_CONTEXT),
+    (r"\b(?:idle|init) \((?: \w+ ,)*$", r"(?P<x>[A-Za-z_]\w*) [,)]",
+     "resources are listed: `shared = [<x>]`, or `local = [<x>]`"),
     (r"\btask (?P<t>\w+) \($", r"[A-Za-z_]\w*(?: [,):]|$)",
      "the values of a message come after `with`: `task <t> with x { .. }`"),
     (r"\bwith$", r"\(", "no parentheses come after `with`: `with x, y`"),

@@ -50,7 +50,7 @@ def stroke(syntax, found):
 
 def grouped(syntax, found):
     """A number with a comma or a blank before each three digits."""
-    if not syntax.front or syntax.front[-1].kind != "number" or not {";", ")"} & found:
+    if not syntax.front or syntax.front[-1].kind != "number" or not {";", ")", "{"} & found:
         return None
     whole = GROUPED.match(syntax.text, syntax.front[-1].at)
     if not whole:
