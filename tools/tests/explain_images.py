@@ -1,6 +1,7 @@
 #!/usr/bin/env python3
 """Tries the walk of tools/explain through images on listings that are broken in many ways: its verdict is the program's
-`no K`, and where the named instruction alone is mended, the verdict or the named place is another.
+`no K`, and where the named instruction alone is mended, of the first rule one of the two from which the ways come, the
+verdict or the named place is another.
 
 The listings are those of `build` of some examples and examples/guarded.listing, each with one change or two: a line of
 code, an operand, a note, a row or the first line. A number as the first word is how many are tried.
@@ -24,6 +25,7 @@ from explaining.seven import least_broken
 
 APPLICATIONS = ("tank", "four", "pump", "back")
 COUNT = 400
+NESTING = 1
 SEED = 26
 WORDS = (
     "mark", "ret", "serve", "wait", "noalarm", "set 0 0", "raise 0 224", "mask 0", "restore 0", "unmask 0", "clock 1",
@@ -94,26 +96,31 @@ def verdict(program, name, text):
     return {0: 0, 4: int(output[3:] or 0) if status == 4 else 0}.get(status)
 
 
-def mended(text, breach):
-    """The listing with the named line mended, in several ways."""
+def mended(text, place):
+    """The listing with one line mended, in several ways."""
     lines = text.split("\n")
-    words, note = parts(lines[breach.line - 1])
+    words, note = parts(lines[place - 1])
     for form in MENDED if words[0] == "code" else ():
         kept = note if form.startswith("{note}") else ""
-        yield "\n".join(lines[: breach.line - 1] + [line_of(words[:2] + [form.replace("{note}", "")], kept)]
-                        + lines[breach.line :])
+        yield with_line(lines, place, line_of(words[:2] + [form.replace("{note}", "")], kept))
     if words[0] == "irq":
-        yield "\n".join(lines[: breach.line - 1] + [" ".join(words[:3]) + " -"] + lines[breach.line :])
+        yield with_line(lines, place, " ".join(words[:3]) + " -")
         free = next(str(number) for number in range(496) if f" {number} " not in text)
-        yield "\n".join(lines[: breach.line - 1] + [" ".join(words[:2] + [free] + words[3:])] + lines[breach.line :])
+        yield with_line(lines, place, " ".join(words[:2] + [free] + words[3:]))
     if words[0] == "image":
         for size in range(0, 4096, 8):
-            yield "\n".join([" ".join(words[:3] + [str(size)] + words[4:])] + lines[1:])
+            yield with_line(lines, place, " ".join(words[:3] + [str(size)] + words[4:]))
+
+
+def with_line(lines, place, line):
+    """The text of some lines with another one at a place."""
+    return "\n".join(lines[: place - 1] + [line] + lines[place:])
 
 
 def is_mended(program, name, text, number, breach):
-    """Whether some mending of the named line alone makes the program's verdict or the named place another one."""
-    for other in mended(text, breach):
+    """Whether some mending of a named line alone makes the program's verdict or the named place another one."""
+    places = [breach.line] + [line for _, line in breach.notes if number == NESTING]
+    for other in (one for place in places for one in mended(text, place)):
         found = verdict(program, name, other)
         if found is None:
             continue
