@@ -23,7 +23,7 @@ from explaining.pieces import pieces_of
 from explaining.program import Program
 from explaining.refusals import refusal_of
 
-COUNT, SEED, MOST, TRIES = 32, 57, 6, 8
+COUNT, SEED, MOST, TRIES = 8, 57, 6, 8
 SKIPPED = ("from_rtic",)
 
 
