@@ -18,7 +18,7 @@ LEFT_UNSAID = {
     "rt_ids push_bytes", "rt_ids push_number", "rt_outside LineSink::take", "rt_gen_queue fill",
     "rt_baker_work begin_body", "rt_baker_work answer", "rt_baker_work Store::effect", "rt_baker_work settle",
     "rt_baker_work Work::begin", "rt_listing push_first_line", "rt_listing push_cell", "rt_listing push_irq",
-    "rt_listing push_body", "rt_listing push_line",
+    "rt_listing push_body",
 }
 # Arguments of which no clause says what is left: the sink of a text has had lines of it, a buffer may have had bytes,
 # and a judge is done with.

@@ -9,3 +9,6 @@ pub mod Spelled
 pub mod Told
 pub mod Words
 pub mod Unbroken
+pub mod Free
+pub mod Apart
+pub mod More

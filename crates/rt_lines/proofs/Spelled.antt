@@ -75,7 +75,7 @@ module _ (names : Names) (w : List ℕ) where
       (refl, (bytes_eq-Decides w row.0).0 (found_passes by_name names.irqs row is)))))
 
   -- an interrupt that has a name is declared
-  has_name : (irq : ℕ) → is_identifier (irq_name names irq) ≡ true → IsDeclared names irq
+  pub has_name : (irq : ℕ) → is_identifier (irq_name names irq) ≡ true → IsDeclared names irq
   has_name irq named = by (irq_named names irq) named
     where
       by : (row : Option (List ℕ × ℕ)) → is_identifier (unwrap_or (option_map (λ r. r.0) row) []) ≡ true → IsSome row
@@ -143,7 +143,7 @@ module _ (names : Names) (are : AreNames names) where
   irq_read : (irq : ℕ) → IsDeclared names irq → irq_at names (irq_name names irq) ≡ Ok irq
   irq_read irq h = let known = irq_known names irq are h in rw (known.0, known.1) refl
 
-  first_irq_read : (irq : ℕ) → IsDeclared names irq → first_irq_at names (irq_name names irq) ≡ Ok irq
+  pub first_irq_read : (irq : ℕ) → IsDeclared names irq → first_irq_at names (irq_name names irq) ≡ Ok irq
   first_irq_read irq h = let name = irq_name names irq in
       rw (irq_read irq h, (bytes_eq-Decides name name).1 refl) refl
 

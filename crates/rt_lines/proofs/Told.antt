@@ -200,7 +200,7 @@ module _ (names : Names) (own : Bool) (differ : own ≡ true → AreDifferent (m
       ))
 
 -- what is said by a shape is what the shape says
-said_each : {T : Type 0} (P : T → List Operand → Type 0) (shape : Shape T) → EachSaid P shape → (x : T)
+pub said_each : {T : Type 0} (P : T → List Operand → Type 0) (shape : Shape T) → EachSaid P shape → (x : T)
     (os : List Operand)
     → IsSaid shape x os → P x os
 said_each P (Alone y) each x os said = rw (said.0, said.1) each
@@ -225,23 +225,28 @@ module _ {T : Type 0} (first : List ℕ) (shape : Shape T) where
       by true e rest = ap (λ (s : Shape T). shape_at s names words) (same_Some row.shape shape e)
       by false e rest = rest e
 
-  shape_plain : (own : Bool) (table : List (Row T)) → list_all (λ row. is_plain_shape own row.shape) table ≡ true
-      → shape_of table first ≡ Some shape → is_plain_shape own shape ≡ true
-  shape_plain own [] plain is = absurd (cc)
-  shape_plain own (row ∷ rows) plain is =
-      by (bytes_eq first row.first) is (shape_plain own rows (and_right _ _ plain))
+  pub shape_has : (Q : Shape T → Type 0) (table : List (Row T)) → AllByRecursion (λ row. Q row.shape) table
+      → shape_of table first ≡ Some shape → Q shape
+  shape_has Q [] all is = absurd (cc)
+  shape_has Q (row ∷ rows) all is = by (bytes_eq first row.first) is (shape_has Q rows all.1)
     where
       by : (here : Bool) → (if here then Some row.shape else shape_of rows first) ≡ Some shape
-          → (shape_of rows first ≡ Some shape → is_plain_shape own shape ≡ true) → is_plain_shape own shape ≡ true
-      by true e rest =
-          subst (λ (s : Shape T). is_plain_shape own s ≡ true) (same_Some row.shape shape e) (and_left _ _ plain)
+          → (shape_of rows first ≡ Some shape → Q shape) → Q shape
+      by true e rest = subst Q (same_Some row.shape shape e) all.0
       by false e rest = rest e
+
+-- a test of all rows holds of each
+pub rows_pass : {T : Type 0} (test : Shape T → Bool) (table : List (Row T))
+    → list_all (λ row. test row.shape) table ≡ true → AllByRecursion (λ row. test row.shape ≡ true) table
+rows_pass test [] all = tt
+rows_pass test (row ∷ rows) all = (and_left _ _ all, rows_pass test rows (and_right _ _ all))
 
 module _ {T : Type 0} (own : Bool) (table : List (Row T)) (first : T → List ℕ) (operands : T → List Operand)
     (CanBeSaid : T → Type 0) (agree : Agree own table first operands CanBeSaid) where
   pub operands_plain : (x : T) → CanBeSaid x → AllByRecursion (IsPlain own) (operands x)
   operands_plain x can = let each = agree.each x can in
-      said_plain own each.0 x (operands x) (shape_plain (first x) each.0 own table agree.plain each.1) each.2
+      said_plain own each.0 x (operands x) (shape_has (first x) each.0 (λ shape. is_plain_shape own shape ≡ true) table
+      (rows_pass (is_plain_shape own) table agree.plain) each.1) each.2
 
   pub written_is_read : (names : Names) → AreNames names → (x : T) → CanBeSaid x
       → AllByRecursion (IsWritten names) (operands x)

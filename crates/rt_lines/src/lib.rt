@@ -8,7 +8,7 @@ pub mod part;
 pub mod word;
 
 pub use number::{all_digits, number_below, short_number};
-pub use operand::{Operand, Wrong, read_byte, read_lock, read_number, read_queue};
+pub use operand::{Operand, Wrong, read_byte, read_first_irq, read_lock, read_number, read_queue};
 pub use operands::{both, none, one, three, two};
 pub use part::{cut, first_line, next_word};
 pub use word::next_spaced_word;

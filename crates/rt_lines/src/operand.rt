@@ -125,6 +125,18 @@ pub fn read_byte(word: &[u8]) -> Result<u8, Wrong>
     }
 }
 
+/// The interrupt whose number is written by a name: the first one of its number.
+pub fn read_first_irq(names: &Names, word: &[u8]) -> Result<Irq, Wrong>
+    ensures { result ≡ spec.first_irq_at names.now word.now }
+{
+    let irq = Irq::read(names, word)?;
+    if names.irq_name(irq).unwrap_or(b"") == word {
+        Ok(irq)
+    } else {
+        Err(Wrong::Form)
+    }
+}
+
 /// The section of the shared resource of a name.
 pub fn read_lock(names: &Names, word: &[u8]) -> Result<Section, Wrong>
     ensures { result ≡ spec.lock_at names.now word.now }

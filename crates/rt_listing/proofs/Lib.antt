@@ -1,7 +1,6 @@
-pub mod Reading
+pub mod Told
 pub mod Named
-pub mod Coded
-pub mod Lined
+pub mod Lines
 pub mod Apart
 pub mod Rows
 pub mod Short

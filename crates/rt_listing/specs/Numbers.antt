@@ -1,15 +1,17 @@
 -- Which images have only numbers that their text tells apart. Those of an image that a program holds are of 32 bits or
 -- fewer; a list of digits, as the standard library defines it, has at most 64.
-use Rattle.std.specs.Prelude.{ℕ, ◌<◌, ◌^◌, List, [], ◌∷◌, Option, Some, None}
+use Rattle.std.specs.Prelude.{ℕ, ◌<◌, ◌^◌, List, [], ◌∷◌, flat_map, Option, Some, None}
 use Rattle.std.specs.List.{AllByRecursion}
 use Rattle.rt_ids.specs.declared.ids.Section.{Section}
 use Rattle.rt_ids.specs.declared.ids.Section.TheVariants as section
 use Rattle.rt_code.specs.Image.{Image}
 use Rattle.rt_code.specs.declared.image.Handler.{Handler}
 use Rattle.rt_code.specs.declared.instr.Instr.{Instr}
-use Rattle.rt_code.specs.declared.instr.Instr.TheVariants as instr
 use Rattle.rt_code.specs.declared.instr.Note.{Note}
 use Rattle.rt_code.specs.declared.instr.Note.TheVariants as note
+use Rattle.rt_lines.specs.Operand.{Kind, Number, SectionName, Value}
+use Rattle.rt_lines.specs.Table.{Operand}
+use Rattle.rt_listing.specs.Words.{instr_operands, note_operands}
 
 -- a number of 64 bits
 abbrev pub IsShort : ℕ → Type 0
@@ -32,41 +34,29 @@ abbrev pub handler_numbers : Option Handler → List ℕ
 handler_numbers None = []
 handler_numbers (Some h) = h.value ∷ h.entry ∷ h.frame ∷ []
 
--- the operands that are written as numbers
-abbrev pub instr_numbers : Instr → List ℕ
-instr_numbers (instr.Set d v) = d ∷ v ∷ []
-instr_numbers (instr.Copy d s) = d ∷ s ∷ []
-instr_numbers (instr.Calc o d a b) = d ∷ a ∷ b ∷ []
-instr_numbers (instr.Load d c) = d ∷ c ∷ []
-instr_numbers (instr.Store c s) = c ∷ s ∷ []
-instr_numbers (instr.LoadAt d c s) = d ∷ c ∷ s ∷ []
-instr_numbers (instr.StoreAt c s a) = c ∷ s ∷ a ∷ []
-instr_numbers (instr.Jump l) = l ∷ []
-instr_numbers (instr.JumpZ s l) = s ∷ l ∷ []
-instr_numbers (instr.Emit s) = s ∷ []
-instr_numbers (instr.Clock d) = d ∷ []
-instr_numbers (instr.Alarm s irq) = s ∷ []
-instr_numbers (instr.Raise d v) = d ∷ v ∷ []
-instr_numbers (instr.Restore s) = s ∷ []
-instr_numbers (instr.Mask d) = d ∷ []
-instr_numbers (instr.Unmask s) = s ∷ []
-instr_numbers (instr.Call row s) = row ∷ s ∷ []
-instr_numbers i = []
-
 -- the number in the name of a section, where there is one: the level of a ready queue
 abbrev pub section_numbers : Section → List ℕ
 section_numbers (section.Ready p) = p ∷ []
 section_numbers s = []
 
+-- the numbers in the word of an operand
+abbrev pub numbers_in : (k : Kind) → Value k → List ℕ
+numbers_in (Number bound) n = n ∷ []
+numbers_in SectionName s = section_numbers s
+numbers_in k v = []
+
+-- those in the words of operands
+abbrev pub operand_numbers : List Operand → List ℕ
+operand_numbers operands = flat_map (λ operand. numbers_in operand.0 operand.1) operands
+
+-- the numbers of an instruction
+abbrev pub instr_numbers : Instr → List ℕ
+instr_numbers i = operand_numbers (instr_operands i)
+
 -- the numbers in a note: the level in the name of its section, or its slots
 abbrev pub note_numbers : Option Note → List ℕ
-note_numbers (Some (note.Enter s)) = section_numbers s
-note_numbers (Some (note.Leave s)) = section_numbers s
-note_numbers (Some (note.Start t s)) = s ∷ []
-note_numbers (Some (note.Arm t s)) = s ∷ []
-note_numbers (Some (note.Cancel t s)) = s ∷ []
-note_numbers (Some (note.Move t s a)) = s ∷ a ∷ []
-note_numbers n = []
+note_numbers None = []
+note_numbers (Some n) = operand_numbers (note_operands n)
 
 -- the level in the name of a section, where there is one, is of 8 bits
 abbrev pub HasLevel : Section → Type 0

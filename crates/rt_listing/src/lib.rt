@@ -8,4 +8,4 @@ pub mod text;
 
 pub use law::listings_tell_images_apart;
 pub use line::op_word;
-pub use text::{listing, push_body, push_cell, push_first_line, push_irq, push_line};
+pub use text::{listing, push_body, push_cell, push_first_line, push_irq};

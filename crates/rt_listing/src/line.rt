@@ -1,7 +1,8 @@
 ghost use Rattle.std.specs.Prelude.{◌≡◌, ◌∷◌, ◌++◌, flat_map, OnOk, Some};
 ghost use Rattle.rt_ids.specs.Naming.{section_name};
 ghost use Rattle.rt_ids.specs.Naming as name;
-ghost use Rattle.rt_listing.specs.Words.{spaced_number, instr_text, note_words, note_text};
+ghost use Rattle.rt_lines.specs.Table.{spaced_text};
+ghost use Rattle.rt_listing.specs.Words.{spaced_number, instr_words, note_words, noted_words};
 ghost use Rattle.rt_listing.specs.Words as word;
 ghost use Rattle.rt_listing.specs.Numbers.{IsShort, AreShort, IsWord, AreWords, HasLevel, NamesLevel};
 ghost use Rattle.rt_listing.specs.Numbers.{instr_numbers, section_numbers, note_numbers};
@@ -54,12 +55,13 @@ pub fn op_word(op: Op) -> &'static [u8]
     }
 }
 
-/// Appends a word and its operands.
+/// Appends a space, a word and its operands.
 fn push_operands(out: &mut Vec<u8>, word: &[u8], operands: &[u32]) -> Result<(), NoMemory>
-    ensures text { OnOk result (out.new.items ≡ out.old.items ++ word.now ++ flat_map spaced_number operands.now) }
+    ensures text { OnOk result (out.new.items ≡ out.old.items ++ 32 ∷ word.now ++ flat_map spaced_number operands.now) }
     ensures short { AreShort operands.now }
     ensures words { AreWords operands.now }
 {
+    push_bytes(out, b" ")?;
     push_bytes(out, word)?;
     for operand in operands {
         push_spaced(out, *operand)?;
@@ -69,7 +71,7 @@ fn push_operands(out: &mut Vec<u8>, word: &[u8], operands: &[u32]) -> Result<(),
 
 /// Appends an instruction.
 pub(crate) fn push_instr(out: &mut Vec<u8>, instr: Instr, names: &Names) -> Result<(), NoMemory>
-    ensures text { OnOk result (out.new.items ≡ out.old.items ++ instr_text names.now instr) }
+    ensures text { OnOk result (out.new.items ≡ out.old.items ++ spaced_text (instr_words names.now instr)) }
     ensures short { AreShort (instr_numbers instr) }
     ensures words { AreWords (instr_numbers instr) }
 {
@@ -87,21 +89,21 @@ pub(crate) fn push_instr(out: &mut Vec<u8>, instr: Instr, names: &Names) -> Resu
         Instr::Post(irq) => push_with_irq(out, b"post", &[], irq, names),
         Instr::Clock(to) => push_operands(out, b"clock", &[to]),
         Instr::Alarm(instant, irq) => push_with_irq(out, b"alarm", &[instant], irq, names),
-        Instr::NoAlarm => push_bytes(out, b"noalarm"),
+        Instr::NoAlarm => push_bytes(out, b" noalarm"),
         Instr::Raise(to, value) => push_operands(out, b"raise", &[to, value]),
         Instr::Restore(slot) => push_operands(out, b"restore", &[slot]),
         Instr::Mask(to) => push_operands(out, b"mask", &[to]),
         Instr::Unmask(slot) => push_operands(out, b"unmask", &[slot]),
-        Instr::Mark => push_bytes(out, b"mark"),
-        Instr::Serve => push_bytes(out, b"serve"),
-        Instr::Wait => push_bytes(out, b"wait"),
+        Instr::Mark => push_bytes(out, b" mark"),
+        Instr::Serve => push_bytes(out, b" serve"),
+        Instr::Wait => push_bytes(out, b" wait"),
         Instr::Call(row, slot) => push_operands(out, b"call", &[row, slot]),
-        Instr::Back => push_bytes(out, b"back"),
-        Instr::Ret => push_bytes(out, b"ret"),
+        Instr::Back => push_bytes(out, b" back"),
+        Instr::Ret => push_bytes(out, b" ret"),
     }
 }
 
-/// Appends a word, its operands, and an interrupt.
+/// Appends a space, a word, its operands, and an interrupt.
 fn push_with_irq(
     out: &mut Vec<u8>,
     word: &[u8],
@@ -110,7 +112,7 @@ fn push_with_irq(
     names: &Names,
 ) -> Result<(), NoMemory>
     ensures text { OnOk result (out.new.items
-        ≡ out.old.items ++ word.now ++ flat_map spaced_number operands.now ++ 32 ∷ name.irq_name names.now irq) }
+        ≡ out.old.items ++ 32 ∷ word.now ++ flat_map spaced_number operands.now ++ 32 ∷ name.irq_name names.now irq) }
     ensures short { AreShort operands.now }
     ensures words { AreWords operands.now }
 {
@@ -136,7 +138,7 @@ fn push_section(out: &mut Vec<u8>, section: Section, names: &Names) -> Result<()
     }
 }
 
-/// Appends a word and the name of a task.
+/// Appends bytes and the name of a task.
 fn push_task(out: &mut Vec<u8>, word: &[u8], task: TaskId, names: &Names) -> Result<(), NoMemory>
     ensures { OnOk result (out.new.items ≡ out.old.items ++ word.now ++ name.task_name names.now task) }
 {
@@ -144,7 +146,7 @@ fn push_task(out: &mut Vec<u8>, word: &[u8], task: TaskId, names: &Names) -> Res
     push_bytes(out, task_name(names, task))
 }
 
-/// Appends a word, the name of a task and a slot.
+/// Appends bytes, the name of a task and a slot.
 fn push_slot(
     out: &mut Vec<u8>,
     word: &[u8],
@@ -162,33 +164,33 @@ fn push_slot(
 
 /// Appends the words of a note.
 fn push_note_words(out: &mut Vec<u8>, note: Note, names: &Names) -> Result<(), NoMemory>
-    ensures text { OnOk result (out.new.items ≡ out.old.items ++ note_words names.now note) }
+    ensures text { OnOk result (out.new.items ≡ out.old.items ++ spaced_text (note_words names.now note)) }
     ensures short { AreShort (note_numbers (Some note)) }
     ensures level { NamesLevel (Some note) }
 {
     match note {
         Note::Enter(section) => {
-            push_bytes(out, b"enter ")?;
+            push_bytes(out, b" enter ")?;
             push_section(out, section, names)
         }
         Note::Leave(section) => {
-            push_bytes(out, b"leave ")?;
+            push_bytes(out, b" leave ")?;
             push_section(out, section, names)
         }
-        Note::Placed(task) => push_task(out, b"ok ", task, names),
-        Note::Full(task) => push_task(out, b"full ", task, names),
-        Note::Ready(task) => push_task(out, b"ready ", task, names),
-        Note::Start(task, slot) => push_slot(out, b"start ", task, slot, names),
-        Note::Free(task) => push_task(out, b"free ", task, names),
-        Note::Arm(task, slot) => push_slot(out, b"arm ", task, slot, names),
-        Note::Fire(task) => push_task(out, b"fire ", task, names),
-        Note::Cancel(task, slot) => push_slot(out, b"cancel ", task, slot, names),
+        Note::Placed(task) => push_task(out, b" ok ", task, names),
+        Note::Full(task) => push_task(out, b" full ", task, names),
+        Note::Ready(task) => push_task(out, b" ready ", task, names),
+        Note::Start(task, slot) => push_slot(out, b" start ", task, slot, names),
+        Note::Free(task) => push_task(out, b" free ", task, names),
+        Note::Arm(task, slot) => push_slot(out, b" arm ", task, slot, names),
+        Note::Fire(task) => push_task(out, b" fire ", task, names),
+        Note::Cancel(task, slot) => push_slot(out, b" cancel ", task, slot, names),
         Note::Move(task, slot, from) => {
-            push_slot(out, b"move ", task, slot, names)?;
+            push_slot(out, b" move ", task, slot, names)?;
             push_spaced(out, from)
         }
         Note::End(body) => {
-            push_bytes(out, b"end ")?;
+            push_bytes(out, b" end ")?;
             push_bytes(out, body_name(names, body))
         }
     }
@@ -200,13 +202,13 @@ pub(crate) fn push_note(
     note: Option<Note>,
     names: &Names,
 ) -> Result<(), NoMemory>
-    ensures text { OnOk result (out.new.items ≡ out.old.items ++ note_text names.now note) }
+    ensures text { OnOk result (out.new.items ≡ out.old.items ++ spaced_text (noted_words names.now note)) }
     ensures short { AreShort (note_numbers note) }
     ensures level { NamesLevel note }
 {
     match note {
         Some(note) => {
-            push_bytes(out, b" ; ")?;
+            push_bytes(out, b" ;")?;
             push_note_words(out, note, names)
         }
         None => Ok(()),

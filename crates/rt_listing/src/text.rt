@@ -1,5 +1,5 @@
-ghost use Rattle.std.specs.Prelude.{◌≡◌, [], ◌∷◌, ◌++◌, flat_map, All, IfOk, OnOk};
-ghost use Rattle.rt_listing.specs.Listing.{form_text, first_line, sizes_line, lines_with_numbers, cell_line, irq_line};
+ghost use Rattle.std.specs.Prelude.{◌≡◌, [], ◌∷◌, ◌++◌, codes, flat_map, All, IfOk, OnOk};
+ghost use Rattle.rt_listing.specs.Listing.{form_word, first_line, sizes_line, lines_with_numbers, cell_line, irq_line};
 ghost use Rattle.rt_listing.specs.Listing.{body_line};
 ghost use Rattle.rt_listing.specs.Listing.{code_line};
 ghost use Rattle.rt_listing.specs.Listing as spec;
@@ -29,7 +29,7 @@ pub fn listing(alloc: Global, image: &Image) -> Result<Vec<u8>, NoMemory>
 
 /// The form of a listing, which says whether the core has the floating-point extension.
 fn form(fpu: bool) -> &'static [u8]
-    ensures { result.now ≡ form_text fpu }
+    ensures { result.now ≡ codes "image" ++ 32 ∷ form_word fpu }
 {
     if fpu { b"image 2" } else { b"image 1" }
 }
@@ -156,12 +156,7 @@ fn push_code(out: &mut Vec<u8>, code: &[Line], names: &Names) -> Result<(), NoMe
 }
 
 /// Appends the line of the instruction at an address, with its note.
-pub fn push_line(
-    out: &mut Vec<u8>,
-    address: usize,
-    line: Line,
-    names: &Names,
-) -> Result<(), NoMemory>
+fn push_line(out: &mut Vec<u8>, address: usize, line: Line, names: &Names) -> Result<(), NoMemory>
     ensures text { OnOk result (out.new.items ≡ out.old.items ++ code_line names.now address line) }
     ensures instr_short { HasShortInstr line }
     ensures note_short { HasShortNote line }
@@ -170,7 +165,6 @@ pub fn push_line(
 {
     push_bytes(out, b"code")?;
     push_count(out, address)?;
-    push_bytes(out, b" ")?;
     push_instr(out, line.0, names)?;
     push_note(out, line.1, names)?;
     push_bytes(out, b"\n")

@@ -4,6 +4,7 @@ use Rattle.std.proofs.Common.{length, map, decimal, codes, bytes_eq, Option, Res
 use Rattle.std.proofs.Common.{sym, ◌∙◌, arith, append_assoc, append-nil, length-append}
 use Rattle.std.specs.List.{AllByRecursion}
 use Rattle.std.proofs.lemmas.Bool.{lt-ltb, le-leb}
+use Rattle.std.proofs.lemmas.List.{map-append}
 use Rattle.rt_lemmas.proofs.Bools.{and_both}
 use Rattle.rt_lemmas.proofs.Membership.{all_weaker}
 use Rattle.rt_ids.specs.declared.limits.TheConstants.{CODE_SIZE, LEAST_BITS, MOST_BITS}
@@ -13,10 +14,12 @@ use Rattle.rt_code.specs.declared.image.IrqRow.{IrqRow}
 use Rattle.rt_code.specs.declared.instr.Instr.{Instr}
 use Rattle.rt_code.specs.declared.instr.Note.{Note}
 use Rattle.rt_lines.specs.Answers.{and_then, and_make}
-use Rattle.rt_listing.specs.Listing.{first_line, code_line}
+use Rattle.rt_listing.specs.Listing.{form_word, first_words, first_line}
+use Rattle.rt_listing.proofs.Lines.{Row, row_text, first_row, cell_row, irq_row, body_row, code_row, numbered}
+use Rattle.rt_listing.proofs.Lines.{code_rows, body_rows, irq_rows, cell_rows, listing_rows}
 use Rattle.rt_lines.proofs.Numerals.{number_spelled}
 use Rattle.rt_load.specs.Loadable.{IsLoadable, IsLineWithin, Is32Bits}
-use Rattle.rt_load.specs.Inside.Operand.{number_at, word_at}
+use Rattle.rt_load.specs.Inside.Operand.{number_at, word_at, of_line}
 use Rattle.rt_load.specs.Inside.Noting.{line_at}
 use Rattle.rt_load.specs.Inside.Rows.{three_at}
 use Rattle.rt_load.specs.Inside.Taking.{if_line, front_of, first_at, is_within, take_first, may_add_line, has_cells}
@@ -24,14 +27,18 @@ use Rattle.rt_load.specs.Inside.Taking.{and_line, take_words, take_line, take_li
 use Rattle.rt_load.specs.declared.front.Front.{Front}
 use Rattle.rt_load.specs.declared.operand.Wrong.{Wrong}
 use Rattle.rt_load.specs.declared.operand.Wrong.TheVariants as wrong
-use Rattle.rt_load.proofs.Again.{line_same}
-use Rattle.rt_load.proofs.Clean.{words_of_spelled}
-use Rattle.rt_load.proofs.Coded.{number_back}
-use Rattle.rt_load.proofs.Lines.{first_text, cell_text, irq_text, body_text, code_text, first_words, form_word}
-use Rattle.rt_load.proofs.Lines.{first_spelled, known_names, code_words, code_spelled}
+use Rattle.rt_load.proofs.Lines.{first_text, code_text, words_of_spelled}
+use Rattle.rt_load.proofs.Lines.{first_spelled, known_names, code_spelled}
+use Rattle.rt_load.proofs.Read.{number_back}
+use Rattle.rt_load.proofs.Written.{line_same}
 use Rattle.rt_load.proofs.ForwardParts.{passes, chooses, taken_append, same_itself}
-use Rattle.rt_load.proofs.ForwardCells.{cells_front, texts_from, told_shared, cells_taken}
+use Rattle.rt_load.proofs.ForwardCells.{cells_front, told_shared, cells_taken}
 use Rattle.rt_load.proofs.ForwardRows.{told_irqs, irqs_front, irqs_taken, told_tasks, bodies_front, bodies_taken}
+
+rows_taken : (front next : Front) (xs ys : List Row) → take_lines front (map row_text xs) ≡ Ok next
+    → take_lines front (map row_text (xs ++ ys)) ≡ take_lines next (map row_text ys)
+rows_taken front next xs ys e = ap (take_lines front) (map-append row_text xs ys)
+    ∙ taken_append front next (map row_text xs) (map row_text ys) e
 
 abbrev Ok_front : Front → Result Front Wrong
 Ok_front front = Ok front
@@ -55,31 +62,29 @@ module _ (img : Image) (l : IsLoadable img) where
   unfolding take_line
   code_step done left line is within has_instr has_note =
       let front = code_front done in
-      let text = code_text img.names (length done) line in
       let known = known_names img.names l.fits.names in
       let few_lines = l.fits.few_lines in
       let few : Is32Bits (length done) = omega (arith, ap length is, length-append done (line ∷ left), few_lines) in
-      let read = line_same img.names (length done) line l.fits.names known has_instr has_note few within in
-      ap (take_words front text) (words_of_spelled text (codes "code") (code_words img.names (length done) line)
-      (code_spelled img.names (length done) line known has_instr has_note))
+      let row = code_row img.names (length done) line in
+      let read = line_same img.names (length done) line l.fits.names known few
+      (record { within = within; instr = has_instr; note = has_note }) in
+      ap (take_words front (row_text row)) (words_of_spelled row (code_spelled img.names (length done) line known))
       ∙ ap (λ (r : Result (Instr × Option Note) Wrong). and_make r (and_line front))
-      (chooses (may_add_line front) (and_then (line_at img.names (length done)
-      (code_words img.names (length done) line)) (λ code. if_line (code_line img.names (length done) code) text
-      code)) (line_may done left line is)
-      ∙ ap (λ (r : Result (Instr × Option Note) Wrong). and_then r
-      (λ code. if_line (code_line img.names (length done) code) text code)) read
-      ∙ passes (code_line img.names (length done) line) text line refl)
+      (chooses (may_add_line front) (of_line (line_at img.names (length done) row.1)) (line_may done left line is)
+      ∙ ap of_line read)
 
   code_taken : (done left : List (Instr × Option Note)) → img.code ≡ done ++ left → AllByRecursion IsLineWithin left
       → AllByRecursion (λ line. HasInstr img.names line.0) left → AllByRecursion (λ line. HasNote img.names line.1) left
-      → take_lines (code_front done) (texts_from (code_text img.names) (length done) left) ≡ Ok (code_front img.code)
+      → take_lines (code_front done) (map row_text (numbered (code_row img.names) (length done) left)) ≡ Ok
+      (code_front img.code)
   code_taken done [] is within instrs notes = ap (λ lines. Ok (code_front lines)) (sym (is ∙ append-nil done))
   code_taken done (line ∷ left) is within instrs notes =
       let number : suc (length done) ≡ length (done ++ line ∷ []) = omega (arith, length-append done (line ∷ [])) in
       ap (λ (r : Result Front Wrong). and_then r (λ next. take_lines next
-      (texts_from (code_text img.names) (suc (length done)) left)))
+      (map row_text (numbered (code_row img.names) (suc (length done)) left))))
       (code_step done left line is within.0 instrs.0 notes.0)
-      ∙ ap (λ k. take_lines (code_front (done ++ line ∷ [])) (texts_from (code_text img.names) k left)) number
+      ∙ ap (λ k. take_lines (code_front (done ++ line ∷ [])) (map row_text (numbered
+      (code_row img.names) k left))) number
       ∙ code_taken (done ++ line ∷ []) left (is ∙ sym (append_assoc done (line ∷ []) left)) within.1 instrs.1 notes.1
 
   -- the first line
@@ -125,7 +130,7 @@ module _ (img : Image) (l : IsLoadable img) where
       ap (λ (ws : List (List ℕ)). and_then (first_at ws)
       (λ front. if is_within front then if_line (first_line front.image front.code front.cells) line front else Err
       wrong.Form))
-      (words_of_spelled line (codes "image") (first_words img code cells) (first_spelled img code cells))
+      (words_of_spelled (first_row img code cells) (first_spelled img code cells))
       ∙ ap (λ (r : Result Front Wrong). and_then r (λ front. if is_within front then if_line
       (first_line front.image front.code front.cells) line front else Err wrong.Form)) read
       ∙ chooses (is_within (cells_front img [])) (if_line (first_line img code cells) line (cells_front img [])) within
@@ -133,10 +138,7 @@ module _ (img : Image) (l : IsLoadable img) where
 
   -- all lines
   abbrev pub listing_lines : List (List ℕ)
-  listing_lines =
-      first_text img (length img.code) (length img.cells)
-      ∷ (((texts_from cell_text 0 img.cells ++ map irq_text img.irqs) ++ map (body_text img.names) img.bodies)
-      ++ texts_from (code_text img.names) 0 img.code)
+  listing_lines = map row_text (listing_rows img)
 
   abbrev pub whole : Front
   whole = record { image = img; code = length img.code; cells = length img.cells }
@@ -145,10 +147,10 @@ module _ (img : Image) (l : IsLoadable img) where
   listing_taken =
       let lim = l.fits in
       let li = l.listable in
-      let a = texts_from cell_text 0 img.cells in
-      let b = map irq_text img.irqs in
-      let c = map (body_text img.names) img.bodies in
-      let d = texts_from (code_text img.names) 0 img.code in
+      let names = img.names in
+      let a = numbered cell_row 0 img.cells in
+      let b = numbered (λ n. irq_row) 0 img.irqs in
+      let c = numbered (λ n. body_row names) 0 img.bodies in
       let words : AllByRecursion (λ row. IsWord row.name) img.irqs =
       all_weaker (λ (row : IrqRow). IsPlain row.name) (λ (row : IrqRow). IsWord row.name) (λ row is. is.word)
       img.irqs li.irqs in
@@ -189,11 +191,12 @@ module _ (img : Image) (l : IsLoadable img) where
         code = length img.code;
         cells = length img.cells;
       }) (told_tasks img l) in
-      ap (λ (r : Result Front Wrong). and_then r (λ front. take_lines front (((a ++ b) ++ c) ++ d))) first_line_taken
-      ∙ taken_append (cells_front img []) (code_front []) ((a ++ b) ++ c) d
-      (taken_append (cells_front img []) (bodies_front img l []) (a ++ b) c
-      (taken_append (cells_front img []) (irqs_front img l []) a b
+      ap (λ (r : Result Front Wrong). and_then r (λ front. take_lines front (map row_text (cell_rows names img))))
+      first_line_taken
+      ∙ rows_taken (cells_front img []) (irqs_front img l []) a (irq_rows names img)
       (cells_taken img l [] img.cells refl li.cells lim.cells ∙ ap Ok_front to_irqs)
-      ∙ irqs_taken img l [] img.irqs refl lim.irqs words ∙ ap Ok_front to_bodies)
-      ∙ bodies_taken img l [] img.bodies refl lim.bodies li.bodies ∙ ap Ok_front to_code)
+      ∙ rows_taken (irqs_front img l []) (bodies_front img l []) b (body_rows names img)
+      (irqs_taken img l 0 [] img.irqs refl lim.irqs words ∙ ap Ok_front to_bodies)
+      ∙ rows_taken (bodies_front img l []) (code_front []) c (code_rows names img)
+      (bodies_taken img l 0 [] img.bodies refl lim.bodies li.bodies ∙ ap Ok_front to_code)
       ∙ code_taken [] img.code refl lim.code li.instrs li.notes

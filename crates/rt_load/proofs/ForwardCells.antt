@@ -1,6 +1,6 @@
 -- The lines of the cells of a loadable image are taken, one after another.
 use Rattle.std.proofs.Common.{◌≡◌, ◌<◌, ℕ, suc, Bool, true, false, not, nat_lt, List, [], ◌∷◌, ◌++◌, length, map}
-use Rattle.std.proofs.Common.{filter, take, decimal, codes, Result, Ok, Err, if◌then◌else◌, refl, ap, sym, ◌∙◌, arith}
+use Rattle.std.proofs.Common.{filter, take, decimal, Result, Ok, Err, if◌then◌else◌, refl, ap, sym, ◌∙◌, arith}
 use Rattle.std.proofs.Common.{append_assoc, append-nil, length-append, slice_get}
 use Rattle.std.specs.List.{AllByRecursion}
 use Rattle.std.proofs.lemmas.Bool.{lt-ltb}
@@ -15,6 +15,7 @@ use Rattle.rt_code.specs.Image.{Image}
 use Rattle.rt_code.specs.Listable.{IsWord}
 use Rattle.rt_lines.specs.Answers.{and_then, and_make}
 use Rattle.rt_listing.specs.Listing.{cell_line}
+use Rattle.rt_listing.proofs.Lines.{row_text, cell_row, numbered}
 use Rattle.rt_load.specs.Loadable.{IsLoadable, Is32Bits, has_dot}
 use Rattle.rt_load.specs.Inside.Rows.{cell_at}
 use Rattle.rt_load.specs.Inside.Taking.{if_line, has_blank, is_new_resource, may_name_cell, is_in_cells, may_add_cell}
@@ -22,9 +23,8 @@ use Rattle.rt_load.specs.Inside.Taking.{with_name_of, and_cell, next_cell, take_
 use Rattle.rt_load.specs.declared.front.Front.{Front}
 use Rattle.rt_load.specs.declared.operand.Wrong.{Wrong}
 use Rattle.rt_load.specs.declared.operand.Wrong.TheVariants as wrong
-use Rattle.rt_load.proofs.Clean.{words_of_spelled}
-use Rattle.rt_load.proofs.Coded.{number_back}
-use Rattle.rt_load.proofs.Lines.{cell_text, cell_spelled}
+use Rattle.rt_load.proofs.Lines.{cell_text, cell_spelled, words_of_spelled}
+use Rattle.rt_load.proofs.Read.{number_back}
 use Rattle.rt_load.proofs.ForwardParts.{passes, chooses, front_taken, first_behind, new_from_parts, named_here}
 use Rattle.rt_load.proofs.ForwardParts.{below_all, no_blank}
 
@@ -54,10 +54,6 @@ cells_front img done = record {
   code = length img.code;
   cells = length img.cells;
 }
-
-abbrev pub texts_from : {A : Type 0} → (ℕ → A → List ℕ) → ℕ → List A → List (List ℕ)
-texts_from text n [] = []
-texts_from text n (x ∷ xs) = text n x ∷ texts_from text (suc n) xs
 
 names_next : (done : List CellRow) (cell : CellRow) → with_name_of
     (record { irqs = []; tasks = []; shared = shared_of done }) cell.name
@@ -137,7 +133,7 @@ module _ (img : Image) (l : IsLoadable img) where
       ∙ chooses (may_add_cell front cell.name) (if_line (cell_line (length done) cell) line cell)
       (cell_may done left cell is word)
       ∙ passes (cell_line (length done) cell) line cell refl in
-      ap (take_words front line) (words_of_spelled line (codes "cell") ws (cell_spelled (length done) cell word))
+      ap (take_words front line) (words_of_spelled (cell_row (length done) cell) (cell_spelled (length done) cell word))
       ∙ ap (λ (r : Result CellRow Wrong). and_make r (and_cell front)) next
       ∙ ap
       (λ (n : Names). Ok
@@ -150,11 +146,12 @@ module _ (img : Image) (l : IsLoadable img) where
 
   pub cells_taken : (done left : List CellRow) → img.cells ≡ done ++ left
       → AllByRecursion (λ cell. IsWord cell.name) left → AllByRecursion (λ cell. Is32Bits cell.first) left
-      → take_lines (cells_front img done) (texts_from cell_text (length done) left) ≡ Ok (cells_front img img.cells)
+      → take_lines (cells_front img done) (map row_text (numbered cell_row (length done) left)) ≡ Ok
+      (cells_front img img.cells)
   cells_taken done [] is words firsts = ap (λ cells. Ok (cells_front img cells)) (sym (is ∙ append-nil done))
   cells_taken done (cell ∷ left) is words firsts =
       let number : suc (length done) ≡ length (done ++ cell ∷ []) = omega (arith, length-append done (cell ∷ [])) in
       ap (λ (r : Result Front Wrong). and_then r (λ next. take_lines next
-      (texts_from cell_text (suc (length done)) left))) (cell_step done left cell is words.0 firsts.0)
-      ∙ ap (λ k. take_lines (cells_front img (done ++ cell ∷ [])) (texts_from cell_text k left)) number
+      (map row_text (numbered cell_row (suc (length done)) left)))) (cell_step done left cell is words.0 firsts.0)
+      ∙ ap (λ k. take_lines (cells_front img (done ++ cell ∷ [])) (map row_text (numbered cell_row k left))) number
       ∙ cells_taken (done ++ cell ∷ []) left (is ∙ sym (append_assoc done (cell ∷ []) left)) words.1 firsts.1

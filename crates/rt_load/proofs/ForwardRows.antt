@@ -1,5 +1,5 @@
 -- The lines of the interrupts and of the bodies of a loadable image are taken, one after another.
-use Rattle.std.proofs.Common.{◌≡◌, ◌<◌, ◌^◌, ℕ, true, ◌&&◌, List, [], ◌∷◌, ◌++◌, length, map, take, decimal, codes}
+use Rattle.std.proofs.Common.{◌≡◌, ◌<◌, ◌^◌, ℕ, suc, true, ◌&&◌, List, [], ◌∷◌, ◌++◌, length, map, take, decimal, codes}
 use Rattle.std.proofs.Common.{Option, Some, None, Result, Ok, Err, if◌then◌else◌, refl, ap, sym, ◌∙◌, subst, arith}
 use Rattle.std.proofs.Common.{append_assoc, append-nil, slice_get}
 use Rattle.std.specs.List.{AllByRecursion}
@@ -18,7 +18,9 @@ use Rattle.rt_code.specs.declared.image.IrqRow.{IrqRow}
 use Rattle.rt_code.specs.declared.image.Handler.{Handler}
 use Rattle.rt_code.specs.declared.image.BodyRow.{BodyRow}
 use Rattle.rt_lines.specs.Answers.{and_then, and_make}
-use Rattle.rt_listing.specs.Listing.{irq_line, body_line}
+use Rattle.rt_listing.specs.Listing.{irq_line, body_line, handler_words}
+use Rattle.rt_listing.proofs.Lines.{row_text, irq_row, body_row, numbered}
+use Rattle.rt_lines.specs.Table.{spaced_text}
 use Rattle.rt_lines.proofs.Numerals.{number_spelled}
 use Rattle.rt_load.specs.Loadable.{IsLoadable, IsIrqWithin, IsHandlerWithin, IsBodyWithin}
 use Rattle.rt_load.specs.Reading.{line_with_feed}
@@ -29,9 +31,8 @@ use Rattle.rt_load.specs.Inside.Taking.{and_body, take_words, take_line, take_li
 use Rattle.rt_load.specs.declared.front.Front.{Front}
 use Rattle.rt_load.specs.declared.operand.Wrong.{Wrong}
 use Rattle.rt_load.specs.declared.operand.Wrong.TheVariants as wrong
-use Rattle.rt_load.proofs.Clean.{words_of_spelled}
-use Rattle.rt_load.proofs.Coded.{number_back}
-use Rattle.rt_load.proofs.Lines.{irq_text, body_text, irq_spelled, body_spelled, handler_words, known_names}
+use Rattle.rt_load.proofs.Lines.{irq_text, body_text, irq_spelled, body_spelled, known_names, words_of_spelled}
+use Rattle.rt_load.proofs.Read.{number_back}
 use Rattle.rt_load.proofs.ForwardParts.{passes, chooses, front_taken, first_behind, new_from_parts, named_here}
 use Rattle.rt_load.proofs.ForwardParts.{below_all, same_itself}
 
@@ -108,7 +109,7 @@ module _ (img : Image) (l : IsLoadable img) where
       ∙ ap (λ (r : Result (Option Handler) Wrong). and_make r
       (λ h. record { name = row.name; number = row.number; handler = h }))
       (handler_reads row.handler within.handler) in
-      ap (take_words front line) (words_of_spelled line (codes "irq") ws (irq_spelled row word))
+      ap (take_words front line) (words_of_spelled (irq_row row) (irq_spelled row word))
       ∙ ap (λ (r : Result IrqRow Wrong). and_make
       (and_then r (λ row. if may_add_irq front row.name then if_line (irq_line row) line row else Err wrong.Form))
       (and_irq front)) read
@@ -127,14 +128,15 @@ module _ (img : Image) (l : IsLoadable img) where
         cells = length img.cells;
       })) (sym (map_push irq_pair done row))
 
-  pub irqs_taken : (done left : List IrqRow) → img.irqs ≡ done ++ left → AllByRecursion IsIrqWithin left
+  pub irqs_taken : (n : ℕ) (done left : List IrqRow) → img.irqs ≡ done ++ left → AllByRecursion IsIrqWithin left
       → AllByRecursion (λ row. IsWord row.name) left
-      → take_lines (irqs_front done) (map irq_text left) ≡ Ok (irqs_front img.irqs)
-  irqs_taken done [] is within words = ap (λ rows. Ok (irqs_front rows)) (sym (is ∙ append-nil done))
-  irqs_taken done (row ∷ left) is within words =
-      ap (λ (r : Result Front Wrong). and_then r (λ next. take_lines next (map irq_text left)))
+      → take_lines (irqs_front done) (map row_text (numbered (λ k. irq_row) n left)) ≡ Ok (irqs_front img.irqs)
+  irqs_taken n done [] is within words = ap (λ rows. Ok (irqs_front rows)) (sym (is ∙ append-nil done))
+  irqs_taken n done (row ∷ left) is within words =
+      ap (λ (r : Result Front Wrong). and_then r
+      (λ next. take_lines next (map row_text (numbered (λ k. irq_row) (suc n) left))))
       (irq_step done left row is within.0 words.0)
-      ∙ irqs_taken (done ++ row ∷ []) left (is ∙ sym (append_assoc done (row ∷ []) left)) within.1 words.1
+      ∙ irqs_taken (suc n) (done ++ row ∷ []) left (is ∙ sym (append_assoc done (row ∷ []) left)) within.1 words.1
 
   -- bodies
   abbrev tasks_of : List BodyRow → List (List ℕ)
@@ -221,10 +223,10 @@ module _ (img : Image) (l : IsLoadable img) where
       let own : task_name (with_task (bodies_names done) name) row.task ≡ name =
       get_or_push (tasks_of done) name [] row.task (sym here) in
       let text : body_line (with_task (bodies_names done) name) row ≡ line_with_feed line =
-      ap (λ (n : List ℕ). line_with_feed (((codes "body " ++ n) ++ (32 ∷ decimal row.entry)) ++ (32 ∷ decimal row.frame)
-      ++ (32 ∷ decimal row.args))) own in
-      ap (take_words front line) (words_of_spelled line (codes "body") ws
-      (body_spelled img.names row (known_names img.names l.fits.names) has))
+      ap (λ (n : List ℕ). line_with_feed (codes "body"
+      ++ spaced_text (n ∷ decimal row.entry ∷ decimal row.frame ∷ decimal row.args ∷ []))) own in
+      ap (take_words front line) (words_of_spelled (body_row img.names row)
+      (body_spelled img.names row (known_names img.names l.fits.names)))
       ∙ ap (λ (r : Result (List ℕ × BodyRow) Wrong). and_make (and_then r (λ body. if may_add_body front body.0
       then if_line (body_line (with_task front.image.names body.0) body.1) line body else Err wrong.Form))
       (λ body. and_body front body.0 body.1)) read
@@ -243,11 +245,13 @@ module _ (img : Image) (l : IsLoadable img) where
         cells = length img.cells;
       })) (sym (map_push (λ (row : BodyRow). task_name img.names row.task) done row))
 
-  pub bodies_taken : (done left : List BodyRow) → img.bodies ≡ done ++ left → AllByRecursion IsBodyWithin left
+  pub bodies_taken : (n : ℕ) (done left : List BodyRow) → img.bodies ≡ done ++ left → AllByRecursion IsBodyWithin left
       → AllByRecursion (λ row. row.task < length img.names.tasks) left
-      → take_lines (bodies_front done) (map (body_text img.names) left) ≡ Ok (bodies_front img.bodies)
-  bodies_taken done [] is within has = ap (λ rows. Ok (bodies_front rows)) (sym (is ∙ append-nil done))
-  bodies_taken done (row ∷ left) is within has =
-      ap (λ (r : Result Front Wrong). and_then r (λ next. take_lines next (map (body_text img.names) left)))
+      → take_lines (bodies_front done) (map row_text (numbered (λ k. body_row img.names) n left)) ≡ Ok
+      (bodies_front img.bodies)
+  bodies_taken n done [] is within has = ap (λ rows. Ok (bodies_front rows)) (sym (is ∙ append-nil done))
+  bodies_taken n done (row ∷ left) is within has =
+      ap (λ (r : Result Front Wrong). and_then r
+      (λ next. take_lines next (map row_text (numbered (λ k. body_row img.names) (suc n) left))))
       (body_step done left row is within.0 has.0)
-      ∙ bodies_taken (done ++ row ∷ []) left (is ∙ sym (append_assoc done (row ∷ []) left)) within.1 has.1
+      ∙ bodies_taken (suc n) (done ++ row ∷ []) left (is ∙ sym (append_assoc done (row ∷ []) left)) within.1 has.1

@@ -1,18 +1,15 @@
 -- How long a listing gets.
-use Rattle.std.proofs.Common.{◌≡◌, ℕ, zero, suc, ◌+◌, ◌*◌, ◌≤◌, ◌/◌, ◌%◌, Bool, true, false, cond, eqb, List, []}
-use Rattle.std.proofs.Common.{◌∷◌}
+use Rattle.std.proofs.Common.{◌≡◌, ℕ, zero, suc, ◌+◌, ◌*◌, ◌≤◌, ◌/◌, ◌%◌, Bool, true, false, cond, eqb, List, [], ◌∷◌}
 use Rattle.std.proofs.Common.{◌++◌, length, map, flat_map, codes, decimal, Option, Some, None, Contains, refl, ap}
 use Rattle.std.proofs.Common.{arith, length-append}
 use Rattle.std.specs.Fmt.{digits, digits_onto, digit_glyph}
 use Rattle.std.specs.List.{AllByRecursion}
-use Rattle.std.proofs.lemmas.List.{length-map}
-use Rattle.rt_lemmas.proofs.Lists.{all_append}
+use Rattle.std.proofs.lemmas.List.Concat.{flat_map-append}
 use Rattle.rt_lemmas.proofs.Membership.{all_has}
 use Rattle.rt_ids.specs.Names.{Names, AreNames}
-use Rattle.rt_ids.specs.Naming.{irq_name, task_name, section_name, body_name}
+use Rattle.rt_ids.specs.Naming.{section_name, task_name}
 use Rattle.rt_ids.specs.Word.{IsName}
 use Rattle.rt_ids.specs.declared.cell.CellRow.{CellRow}
-use Rattle.rt_ids.specs.declared.ids.BodyId.{BodyId}
 use Rattle.rt_ids.specs.declared.ids.BodyId.TheVariants as body
 use Rattle.rt_ids.specs.declared.ids.Section.{Section}
 use Rattle.rt_ids.specs.declared.ids.Section.TheVariants as section
@@ -27,13 +24,16 @@ use Rattle.rt_code.specs.declared.instr.Instr.{Instr}
 use Rattle.rt_code.specs.declared.instr.Instr.TheVariants as instr
 use Rattle.rt_code.specs.declared.instr.Note.{Note}
 use Rattle.rt_code.specs.declared.instr.Note.TheVariants as note
-use Rattle.rt_listing.specs.Listing.{form_text, handler_text, listing}
-use Rattle.rt_listing.specs.Words.{spaced_number, op_word, instr_text, note_words, note_text}
+use Rattle.rt_lines.specs.Operand.{Kind, Number, IrqName, FirstIrqName, TaskName, BodyName, LockName, QueueName}
+use Rattle.rt_lines.specs.Operand.{SectionName, Value, word}
+use Rattle.rt_lines.specs.Table.{Operand, operand_word, spaced_text}
+use Rattle.rt_lines.proofs.Unbroken.{fed}
 use Rattle.rt_lines.proofs.Short.{irq_name_short, task_name_short, resource_name_short}
-use Rattle.rt_load.specs.Reading.{line_with_feed}
-use Rattle.rt_load.proofs.ForwardCells.{texts_from}
-use Rattle.rt_load.proofs.Lines.{cell_text, irq_text, body_text, code_text}
-use Rattle.rt_load.proofs.Split.{listing_rows, listing_fed}
+use Rattle.rt_listing.specs.Listing.{form_word, listing}
+use Rattle.rt_listing.specs.Words.{op_word, instr_first, instr_operands, instr_words, note_first, note_operands}
+use Rattle.rt_listing.specs.Words.{noted_words}
+use Rattle.rt_listing.proofs.Lines.{Row, row_text, first_row, cell_row, irq_row, body_row, code_row, listing_rows}
+use Rattle.rt_listing.proofs.Lines.{rows_text, listing_text, rows_all, rows_long}
 
 -- a number has at most 64 digits
 digits_few : (k n : ℕ) (more : List ℕ) → length (digits_onto k 10 false n more) ≤ k + length more
@@ -50,64 +50,61 @@ pub decimal_few : (n : ℕ) → length (decimal n) ≤ 64
 unfolding digits
 decimal_few n = digits_few 64 n []
 
-joined : (u v : List ℕ) (n m k : ℕ) → length u ≤ n → length v ≤ m → n + m ≤ k → length (u ++ v) ≤ k
-joined u v n m k first second fits = omega (arith, first, second, fits, length-append u v)
+-- words have no more than so many bytes, each
+abbrev AreFew : List (List ℕ) → List ℕ → Type 0
+AreFew [] [] = Unit {0}
+AreFew (w ∷ ws) (n ∷ ns) = (length w ≤ n) × AreFew ws ns
+AreFew ws ns = ⊥
 
-number_few : (n : ℕ) → length (spaced_number n) ≤ 65
-number_few n = omega (arith, decimal_few n)
+-- so many bytes with a space in front of each word
+abbrev spaced : List ℕ → ℕ
+spaced [] = 0
+spaced (n ∷ ns) = suc (n + spaced ns)
 
--- words and one, two or three numbers behind them
-one_number : (word : List ℕ) (a k : ℕ) → length word ≤ k → length (word ++ spaced_number a) ≤ k + 65
-one_number word a k short = joined word (spaced_number a) k 65 (k + 65) short (number_few a) (omega arith)
+spaced_few : (ws : List (List ℕ)) (ns : List ℕ) → AreFew ws ns → length (spaced_text ws) ≤ spaced ns
+spaced_few [] [] few = omega arith
+spaced_few [] (n ∷ ns) few = absurd few
+spaced_few (w ∷ ws) [] few = absurd few
+spaced_few (w ∷ ws) (n ∷ ns) few =
+    omega (arith, few.0, spaced_few ws ns few.1, length-append w (spaced_text ws))
 
-two_numbers : (word : List ℕ) (a b k : ℕ) → length word ≤ k
-    → length (word ++ spaced_number a ++ spaced_number b) ≤ k + 130
-two_numbers word a b k short =
-    joined (word ++ spaced_number a) (spaced_number b) (k + 65) 65 (k + 130) (one_number word a k short) (number_few b)
-    (omega arith)
+-- a line of at most 499 bytes
+abbrev IsShort : Row → Type 0
+IsShort row = length (row_text row) ≤ 499
 
-three_numbers : (word : List ℕ) (a b c k : ℕ) → length word ≤ k
-    → length (word ++ spaced_number a ++ spaced_number b ++ spaced_number c) ≤ k + 195
-three_numbers word a b c k short =
-    joined (word ++ spaced_number a ++ spaced_number b) (spaced_number c) (k + 130) 65 (k + 195)
-    (two_numbers word a b k short) (number_few c) (omega arith)
+-- words behind a first one of four or five bytes
+row_short : (row : Row) → length row.0 ≤ 5 → length (spaced_text row.1) ≤ 494 → IsShort row
+row_short row first rest = omega (arith, first, rest, length-append row.0 (spaced_text row.1))
 
--- and within a greater room
-one_in : (word : List ℕ) (a k m : ℕ) → length word ≤ k → k + 65 ≤ m → length (word ++ spaced_number a) ≤ m
-one_in word a k m short fits = omega (arith, fits, one_number word a k short)
+row_few : (row : Row) (ns : List ℕ) → length row.0 ≤ 5 → AreFew row.1 ns → spaced ns ≤ 494 → IsShort row
+row_few row ns first few fits = row_short row first (omega (arith, fits, spaced_few row.1 ns few))
 
-two_in : (word : List ℕ) (a b k m : ℕ) → length word ≤ k → k + 130 ≤ m
-    → length (word ++ spaced_number a ++ spaced_number b) ≤ m
-two_in word a b k m short fits = omega (arith, fits, two_numbers word a b k short)
+-- the most bytes of a word of a kind
+abbrev width : Kind → ℕ
+width (Number bound) = 64
+width LockName = 70
+width QueueName = 70
+width SectionName = 70
+width name = 32
 
-three_in : (word : List ℕ) (a b c k m : ℕ) → length word ≤ k → k + 195 ≤ m
-    → length (word ++ spaced_number a ++ spaced_number b ++ spaced_number c) ≤ m
-three_in word a b c k m short fits = omega (arith, fits, three_numbers word a b c k short)
+abbrev widths : List Operand → List ℕ
+widths os = map (λ o. width o.0) os
 
 op_few : (o : Op) → length (op_word o) ≤ 3
 op_few op.Add = omega arith
-op_few op.Sub = omega arith
-op_few op.Mul = omega arith
-op_few op.Div = omega arith
-op_few op.Rem = omega arith
-op_few op.And = omega arith
-op_few op.Or = omega arith
-op_few op.Xor = omega arith
-op_few op.Shl = omega arith
-op_few op.Shr = omega arith
-op_few op.Eq = omega arith
-op_few op.Ne = omega arith
-op_few op.Lt = omega arith
-op_few op.Le = omega arith
-op_few op.Gt = omega arith
-op_few op.Ge = omega arith
+op_few o = omega arith
+
+instr_width : (i : Instr) → length (instr_first i) + spaced (widths (instr_operands i)) ≤ 202
+instr_width (instr.Calc o d a b) = omega (arith, op_few o)
+instr_width i = omega arith
+
+note_width : (n : Note) → length (note_first n) + spaced (widths (note_operands n)) ≤ 169
+note_width (note.Enter x) = omega arith
+note_width n = omega arith
 
 module _ (names : Names) (are : AreNames names) where
-  irq_few : (n : ℕ) → length (irq_name names n) ≤ 32
-  irq_few n = irq_name_short names n are
-
-  task_few : (n : ℕ) → length (task_name names n) ≤ 32
-  task_few n = task_name_short names n are
+  task_few : (t : ℕ) → length (task_name names t) ≤ 32
+  task_few t = task_name_short names t are
 
   section_few : (x : Section) → length (section_name names x) ≤ 70
   section_few (section.Res r) = let few = resource_name_short names r are in omega (arith, few)
@@ -115,179 +112,117 @@ module _ (names : Names) (are : AreNames names) where
   section_few (section.Ready p) = omega (arith, decimal_few p, length-append (codes "ready.") (decimal p))
   section_few section.Timer = omega arith
 
-  body_few : (b : BodyId) → length (body_name names b) ≤ 32
-  body_few body.Init = omega arith
-  body_few body.Idle = omega arith
-  body_few (body.Task t) = task_few t
+  value_few : (k : Kind) (v : Value k) → length (word names k v) ≤ width k
+  value_few (Number bound) n = decimal_few n
+  value_few IrqName irq = irq_name_short names irq are
+  value_few FirstIrqName irq = irq_name_short names irq are
+  value_few TaskName t = task_few t
+  value_few BodyName body.Init = omega arith
+  value_few BodyName body.Idle = omega arith
+  value_few BodyName (body.Task t) = task_few t
+  value_few LockName x = section_few x
+  value_few QueueName x = section_few x
+  value_few SectionName x = section_few x
 
-  -- an instruction
-  instr_few : (i : Instr) → length (instr_text names i) ≤ 202
-  instr_few (instr.Set d v) = two_in (codes "set") d v 3 202 (omega arith) (omega arith)
-  instr_few (instr.Copy d s) = two_in (codes "copy") d s 4 202 (omega arith) (omega arith)
-  instr_few (instr.Calc o d a b) = three_in (op_word o) d a b 3 202 (op_few o) (omega arith)
-  instr_few (instr.Load d c) = two_in (codes "load") d c 4 202 (omega arith) (omega arith)
-  instr_few (instr.Store c s) = two_in (codes "store") c s 5 202 (omega arith) (omega arith)
-  instr_few (instr.LoadAt d c s) =
-      three_in (codes "loadat") d c s 6 202 (omega arith) (omega arith)
-  instr_few (instr.StoreAt c s a) =
-      three_in (codes "storeat") c s a 7 202 (omega arith) (omega arith)
-  instr_few (instr.Jump l) = one_in (codes "jump") l 4 202 (omega arith) (omega arith)
-  instr_few (instr.JumpZ s l) = two_in (codes "jumpz") s l 5 202 (omega arith) (omega arith)
-  instr_few (instr.Emit s) = one_in (codes "emit") s 4 202 (omega arith) (omega arith)
-  instr_few (instr.Post irq) =
-      joined (codes "post ") (irq_name names irq) 5 32 202 (omega arith) (irq_few irq) (omega arith)
-  instr_few (instr.Clock d) = one_in (codes "clock") d 5 202 (omega arith) (omega arith)
-  instr_few (instr.Alarm s irq) =
-      joined (codes "alarm" ++ spaced_number s) (32 ∷ irq_name names irq) 70 33 202
-      (one_number (codes "alarm") s 5 (omega arith)) (let few = irq_few irq in omega (arith, few)) (omega arith)
-  instr_few instr.NoAlarm = omega arith
-  instr_few (instr.Raise d v) = two_in (codes "raise") d v 5 202 (omega arith) (omega arith)
-  instr_few (instr.Restore s) = one_in (codes "restore") s 7 202 (omega arith) (omega arith)
-  instr_few (instr.Mask d) = one_in (codes "mask") d 4 202 (omega arith) (omega arith)
-  instr_few (instr.Unmask s) = one_in (codes "unmask") s 6 202 (omega arith) (omega arith)
-  instr_few instr.Mark = omega arith
-  instr_few instr.Serve = omega arith
-  instr_few instr.Wait = omega arith
-  instr_few (instr.Call row s) = two_in (codes "call") row s 4 202 (omega arith) (omega arith)
-  instr_few instr.Back = omega arith
-  instr_few instr.Ret = omega arith
+  operands_few : (os : List Operand) → AreFew (map (operand_word names) os) (widths os)
+  operands_few [] = tt
+  operands_few (o ∷ os) = (value_few o.0 o.1, operands_few os)
 
-  named_task : (word : List ℕ) (t : ℕ) → length word ≤ 7 → length (word ++ task_name names t) ≤ 39
-  named_task word t short = joined word (task_name names t) 7 32 39 short (task_few t) (omega arith)
+  instr_few : (i : Instr) → length (spaced_text (instr_words names i)) ≤ 203
+  instr_few i =
+      omega (
+        arith,
+        instr_width i,
+        spaced_few (instr_words names i) (length (instr_first i) ∷ widths (instr_operands i))
+            (omega arith, operands_few (instr_operands i)),
+      )
 
-  named_in : (word : List ℕ) (t m : ℕ) → length word ≤ 7 → 39 ≤ m → length (word ++ task_name names t) ≤ m
-  named_in word t m short fits = omega (arith, fits, named_task word t short)
-
-  note_few : (n : Note) → length (note_words names n) ≤ 169
-  note_few (note.Enter s) = joined (codes "enter ") (section_name names s) 6 70 169 (omega arith) (section_few s)
-      (omega arith)
-  note_few (note.Leave s) = joined (codes "leave ") (section_name names s) 6 70 169 (omega arith) (section_few s)
-      (omega arith)
-  note_few (note.Placed t) = named_in (codes "ok ") t 169 (omega arith) (omega arith)
-  note_few (note.Full t) = named_in (codes "full ") t 169 (omega arith) (omega arith)
-  note_few (note.Ready t) = named_in (codes "ready ") t 169 (omega arith) (omega arith)
-  note_few (note.Start t s) =
-      one_in (codes "start " ++ task_name names t) s 39 169 (named_task (codes "start ") t (omega arith)) (omega arith)
-  note_few (note.Free t) = named_in (codes "free ") t 169 (omega arith) (omega arith)
-  note_few (note.Arm t s) =
-      one_in (codes "arm " ++ task_name names t) s 39 169 (named_task (codes "arm ") t (omega arith)) (omega arith)
-  note_few (note.Fire t) = named_in (codes "fire ") t 169 (omega arith) (omega arith)
-  note_few (note.Cancel t s) =
-      one_in (codes "cancel " ++ task_name names t) s 39 169 (named_task (codes "cancel ") t (omega arith))
-      (omega arith)
-  note_few (note.Move t s a) =
-      two_in (codes "move " ++ task_name names t) s a 39 169 (named_task (codes "move ") t (omega arith))
-      (omega arith)
-  note_few (note.End b) = joined (codes "end ") (body_name names b) 4 32 169 (omega arith) (body_few b) (omega arith)
-
-  noted_few : (n : Option Note) → length (note_text names n) ≤ 172
+  noted_few : (n : Option Note) → length (spaced_text (noted_words names n)) ≤ 172
   noted_few None = omega arith
-  noted_few (Some n) = joined (codes " ; ") (note_words names n) 3 169 172 (omega arith) (note_few n) (omega arith)
+  noted_few (Some n) =
+      omega (
+        arith,
+        note_width n,
+        spaced_few (noted_words names (Some n))
+            (1 ∷ length (note_first n) ∷ widths (note_operands n))
+            (omega arith, (omega arith, operands_few (note_operands n))),
+      )
 
-  abbrev IsFew : List ℕ → Type 0
-  IsFew row = length row ≤ 499
+  code_few : (n : ℕ) (code : Instr × Option Note) → IsShort (code_row names n code)
+  code_few n code =
+      let instr = instr_words names code.0 in
+      let noted = noted_words names code.1 in
+      let rest : length (spaced_text (instr ++ noted)) ≤ 375 =
+      omega (
+        arith,
+        instr_few code.0,
+        noted_few code.1,
+        ap length (flat_map-append (λ word. 32 ∷ word) instr noted),
+        length-append (spaced_text instr) (spaced_text noted),
+      ) in
+      row_short (code_row names n code) (omega arith)
+      (omega (arith, rest, decimal_few n, length-append (decimal n) (spaced_text (instr ++ noted))))
 
-  code_few : (n : ℕ) (lines : List (Instr × Option Note)) → AllByRecursion IsFew (texts_from (code_text names) n lines)
-  code_few n [] = tt
-  code_few n (line ∷ lines) = (
-    joined (codes "code" ++ spaced_number n ++ 32 ∷ instr_text names line.0) (note_text names line.1) 272 172 499
-        (joined (codes "code" ++ spaced_number n) (32 ∷ instr_text names line.0) 69 203 272
-        (one_number (codes "code") n 4 (omega arith)) (let few = instr_few line.0 in omega (arith, few)) (omega arith))
-        (noted_few line.1) (omega arith),
-    code_few (suc n) lines,
-  )
+  body_row_few : (row : BodyRow) → IsShort (body_row names row)
+  body_row_few row =
+      row_few (body_row names row) (32 ∷ 64 ∷ 64 ∷ 64 ∷ []) (omega arith)
+      (task_few row.task, (decimal_few row.entry, (decimal_few row.frame, (decimal_few row.args, tt)))) (omega arith)
 
-  bodies_few : (rows : List BodyRow) → AllByRecursion IsFew (map (body_text names) rows)
-  bodies_few [] = tt
-  bodies_few (row ∷ rows) = (
-    three_in (codes "body " ++ task_name names row.task) row.entry row.frame row.args 39 499
-        (named_task (codes "body ") row.task (omega arith)) (omega arith),
-    bodies_few rows,
-  )
+irq_row_few : (row : IrqRow) → length row.name ≤ 32 → (h : Option Handler)
+    → IsShort (irq_row (record row { handler = h }))
+irq_row_few row short None =
+    row_few (irq_row (record row { handler = None })) (32 ∷ 64 ∷ 1 ∷ []) (omega arith)
+    (short, (decimal_few row.number, (omega arith, tt))) (omega arith)
+irq_row_few row short (Some h) =
+    row_few (irq_row (record row { handler = Some h })) (32 ∷ 64 ∷ 64 ∷ 64 ∷ 64 ∷ []) (omega arith)
+    (short, (decimal_few row.number, (decimal_few h.value, (decimal_few h.entry, (decimal_few h.frame, tt)))))
+    (omega arith)
 
-handler_few : (h : Option Handler) → length (handler_text h) ≤ 195
-handler_few None = omega arith
-handler_few (Some h) = two_numbers (spaced_number h.value) h.entry h.frame 65 (number_few h.value)
+cell_row_few : (n : ℕ) (cell : CellRow) → length cell.name ≤ 168 → IsShort (cell_row n cell)
+cell_row_few n cell short =
+    row_few (cell_row n cell) (64 ∷ 64 ∷ 168 ∷ []) (omega arith) (decimal_few n, (decimal_few cell.first, (short, tt)))
+    (omega arith)
 
-irqs_few : (irqs : List (List ℕ × ℕ)) (rows : List IrqRow) → AllByRecursion (λ irq. IsName irq.0) irqs
-    → AllByRecursion (λ row. Contains irqs (row.name, row.number)) rows
-    → AllByRecursion (λ row. length row ≤ 499) (map irq_text rows)
-irqs_few irqs [] named all = tt
-irqs_few irqs (row ∷ rows) named all =
-    let name : IsName row.name = all_has (λ irq. IsName irq.0) irqs (row.name, row.number) named all.0 in
-    let short = name.short in (
-      joined (codes "irq " ++ row.name ++ spaced_number row.number) (handler_text row.handler) 101 195 499
-          (one_number (codes "irq " ++ row.name) row.number 36
-          (joined (codes "irq ") row.name 4 32 36 (omega arith) (omega (arith, short)) (omega arith)))
-          (handler_few row.handler) (omega arith),
-      irqs_few irqs rows named all.1,
-    )
-
-cells_few : (n : ℕ) (cells : List CellRow) → AllByRecursion (λ cell. length cell.name ≤ 168) cells
-    → AllByRecursion (λ row. length row ≤ 499) (texts_from cell_text n cells)
-cells_few n [] all = tt
-cells_few n (cell ∷ cells) all =
-    let short : length cell.name ≤ 168 = all.0 in (
-      joined (codes "cell" ++ spaced_number n ++ spaced_number cell.first) (32 ∷ cell.name) 134 169 499
-          (two_numbers (codes "cell") n cell.first 4 (omega arith)) (omega (arith, short)) (omega arith),
-      cells_few (suc n) cells all.1,
-    )
-
-first_few : (fpu : Bool) (b s t c n : ℕ)
-    → length (form_text fpu ++ spaced_number b ++ spaced_number s ++ spaced_number t
-    ++ spaced_number c ++ spaced_number n) ≤ 499
-first_few fpu b s t c n =
-    two_in (form_text fpu ++ spaced_number b ++ spaced_number s ++ spaced_number t) c n 202 499
-    (three_numbers (form_text fpu) b s t 7 (form fpu)) (omega arith)
+first_few : (img : Image) (code cells : ℕ) → IsShort (first_row img code cells)
+first_few img code cells =
+    row_few (first_row img code cells) (1 ∷ 64 ∷ 64 ∷ 64 ∷ 64 ∷ 64 ∷ []) (omega arith) (
+      form img.fpu,
+      (
+        decimal_few img.bits,
+        (
+          decimal_few img.stack_bytes,
+          (decimal_few img.thread_words, (decimal_few code, (decimal_few cells, tt))),
+        ),
+      ),
+    ) (omega arith)
   where
-    form : (fpu : Bool) → length (form_text fpu) ≤ 7
+    form : (fpu : Bool) → length (form_word fpu) ≤ 1
     form true = omega arith
     form false = omega arith
 
-fed_few : (rows : List (List ℕ)) → AllByRecursion (λ row. length row ≤ 499) rows
-    → length (flat_map line_with_feed rows) ≤ 500 * length rows
+fed_few : (rows : List Row) → AllByRecursion IsShort rows → length (rows_text rows) ≤ 500 * length rows
 fed_few [] all = omega arith
 fed_few (row ∷ rows) all =
-    let here : length row ≤ 499 = all.0 in
+    let here : length (row_text row) ≤ 499 = all.0 in
     omega (
       arith,
       here,
       fed_few rows all.1,
-      length-append row (10 ∷ []),
-      length-append (line_with_feed row) (flat_map line_with_feed rows),
+      length-append (row_text row) (10 ∷ []),
+      length-append (fed (row_text row)) (rows_text rows),
     )
-
-texts_long : {A : Type 0} (text : ℕ → A → List ℕ) (n : ℕ) (xs : List A) → length (texts_from text n xs) ≡ length xs
-texts_long text n [] = refl
-texts_long text n (x ∷ xs) = omega (arith, texts_long text (suc n) xs)
 
 -- no line of a listing is longer than 500 bytes
 pub listing_few : (img : Image) → HasLines img → AllByRecursion (λ cell. length cell.name ≤ 168) img.cells
     → length (listing img)
     ≤ 500 * (1 + length img.cells + length img.irqs + length img.bodies + length img.code)
 listing_few img lines cells =
-    let a = texts_from cell_text 0 img.cells in
-    let b = map irq_text img.irqs in
-    let c = map (body_text img.names) img.bodies in
-    let d = texts_from (code_text img.names) 0 img.code in
-    let all : AllByRecursion (λ row. length row ≤ 499) (listing_rows img) = (
-      first_few img.fpu img.bits img.stack_bytes img.thread_words (length img.code) (length img.cells),
-      all_append (λ row. length row ≤ 499) ((a ++ b) ++ c) d
-          (all_append (λ row. length row ≤ 499) (a ++ b) c
-          (all_append (λ row. length row ≤ 499) a b (cells_few 0 img.cells cells)
-          (irqs_few img.names.irqs img.irqs lines.names.irqs lines.irqs))
-          (bodies_few img.names lines.names img.bodies))
-          (code_few img.names lines.names 0 img.code),
-    ) in
-    omega (
-      arith,
-      ap length (listing_fed img),
-      fed_few (listing_rows img) all,
-      length-append ((a ++ b) ++ c) d,
-      length-append (a ++ b) c,
-      length-append a b,
-      texts_long cell_text 0 img.cells,
-      length-map img.irqs irq_text,
-      length-map img.bodies (body_text img.names),
-      texts_long (code_text img.names) 0 img.code,
-    )
+    let names = img.names in
+    let are = lines.names in
+    let irq = λ (row : IrqRow) (has : Contains names.irqs (row.name, row.number)).
+    let name : IsName row.name = all_has (λ irq. IsName irq.0) names.irqs (row.name, row.number) are.irqs has in
+    irq_row_few row name.short row.handler in
+    let all = rows_all IsShort (λ cell. length cell.name ≤ 168) (λ row. Contains names.irqs (row.name, row.number)) img
+    (first_few img (length img.code) (length img.cells)) cell_row_few irq (body_row_few names are) (code_few names are)
+    cells lines.irqs in
+    omega (arith, ap length (listing_text img), fed_few (listing_rows img) all, rows_long img)

@@ -1,41 +1,39 @@
 -- A line that is taken leaves what stands, with the line behind the text so far.
-use Rattle.std.proofs.Common.{◌≡◌, inr, ◌^◌, ℕ, Bool, true, ◌&&◌, ◌==◌, nat_le, List, [], ◌∷◌, ◌++◌, length, Option}
-use Rattle.std.proofs.Common.{Some, None, Result, Ok, Err, if◌then◌else◌, refl, ap, sym, ◌∙◌, subst, arith, append-nil}
+use Rattle.std.proofs.Common.{◌≡◌, inr, ◌^◌, ℕ, Bool, true, ◌&&◌, nat_le, List, [], ◌∷◌, ◌++◌, length, Option}
+use Rattle.std.proofs.Common.{Some, None, Ok, Err, if◌then◌else◌, refl, ap, sym, ◌∙◌, subst, arith, append-nil}
 use Rattle.std.proofs.Common.{codes, bytes_eq}
 use Rattle.std.proofs.lemmas.Bool.{leb-true}
 use Rattle.std.proofs.lemmas.Option.{none-some}
+use Rattle.std.proofs.lemmas.Slice.Eq.{bytes_eq-Decides}
 use Rattle.rt_lemmas.proofs.Bools.{and_parts}
-use Rattle.rt_ids.specs.Names.{Names, AreNames, no_names, with_task}
+use Rattle.rt_ids.specs.Names.{AreNames, no_names, with_task}
 use Rattle.rt_ids.specs.declared.cell.CellRow.{CellRow}
 use Rattle.rt_ids.specs.declared.limits.TheConstants.{IRQ_NUMBERS, CODE_SIZE, LEAST_BITS, MOST_BITS}
-use Rattle.rt_code.specs.Listable.{HasNote}
 use Rattle.rt_code.proofs.Writable.{names_writable}
 use Rattle.rt_code.specs.declared.image.IrqRow.{IrqRow}
 use Rattle.rt_code.specs.declared.image.BodyRow.{BodyRow}
 use Rattle.rt_code.specs.declared.image.Handler.{Handler}
-use Rattle.rt_code.specs.declared.instr.Instr.{Instr}
-use Rattle.rt_code.specs.declared.instr.Note.{Note}
 use Rattle.rt_lines.specs.Answers.{and_then, and_make}
 use Rattle.rt_lines.specs.Parts.{words}
-use Rattle.rt_listing.specs.Listing.{first_line, cell_line, irq_line, body_line, code_line}
-use Rattle.rt_load.specs.Loadable.{IsNoteWithin, IsIrqWithin, IsHandlerWithin, IsBodyWithin, Is32Bits}
+use Rattle.rt_lines.proofs.Words.{spaced_words_of}
+use Rattle.rt_listing.specs.Listing.{first_line, cell_line, irq_line, body_line, code_line, code_words}
+use Rattle.rt_load.specs.Loadable.{IsIrqWithin, IsHandlerWithin, IsBodyWithin, Is32Bits}
 use Rattle.rt_load.specs.Reading.{line_with_feed}
-use Rattle.rt_load.specs.Inside.Operand.{number_at, word_at, in_front, behind}
-use Rattle.rt_load.specs.Inside.Coding.{instr_at}
-use Rattle.rt_load.specs.Inside.Noting.{note_at, note_after, line_or_wrong, line_at}
+use Rattle.rt_load.specs.Inside.Operand.{number_at, word_at, of_line}
+use Rattle.rt_load.specs.Inside.Noting.{line_at}
 use Rattle.rt_load.specs.Inside.Rows.{only, three, three_at, cell_at, service_at, handler_at, irq_row_at, body_row_at}
 use Rattle.rt_load.specs.Inside.Taking.{if_line, front_of, first_at, is_within, take_first, may_add_cell, may_add_irq}
 use Rattle.rt_load.specs.Inside.Taking.{may_add_body, may_add_line, and_cell, and_irq, and_body, and_line, next_cell}
 use Rattle.rt_load.specs.Inside.Taking.{next_irq, next_body, next_line, take_cell, take_irq, take_body, take_code}
 use Rattle.rt_load.specs.Inside.Taking.{take_words, take_line}
 use Rattle.rt_load.specs.declared.front.Front.{Front}
-use Rattle.rt_load.specs.declared.operand.Wrong.{Wrong}
 use Rattle.rt_load.specs.declared.operand.Wrong.TheVariants as wrong
-use Rattle.rt_load.proofs.Read.{then_ok, make_ok, if_ok, line_ok, same_ok, number_from}
-use Rattle.rt_load.proofs.Tables.{chosen}
-use Rattle.rt_load.proofs.CodedBack.{number32_from, instr_from, note_from}
+use Rattle.rt_load.proofs.Lines.{code_text}
+use Rattle.rt_load.proofs.Read.{then_ok, make_ok, if_ok, line_ok, same_ok, number_from, number32_from}
+use Rattle.rt_load.proofs.Read.{chosen, of_line_ok}
 use Rattle.rt_load.proofs.Fronts.{front_text, Stands}
-use Rattle.rt_load.proofs.Taken.{Goes, IsRight, cell_goes, irq_goes, body_goes, line_goes}
+use Rattle.rt_load.proofs.Taken.{Goes, cell_goes, irq_goes, body_goes, line_goes}
+use Rattle.rt_load.proofs.Written.{line_from}
 
 goes_as : (front next other : Front) (line text : List ℕ) → Goes front next line → line ≡ text → next ≡ other
     → Goes front other text
@@ -144,89 +142,47 @@ body_taken front next line ws stands e =
     (ap (λ (b : List ℕ × BodyRow). and_body front b.0 b.1) printed.1 ∙ made.2)
 
 -- code
-note_behind_from : (names : Names) (words : Option (List (List ℕ))) (n : Option Note) → note_after names words ≡ Ok n
-    → HasNote names n
-note_behind_from names None n e = subst (HasNote names) (same_ok (Ok None) None n refl e) tt
-note_behind_from names (Some ws) n e =
-    let made = make_ok (note_at names ws) Some n e in
-    let is = note_from names ws made.0 made.1 in
-    subst (HasNote names) made.2 is.has
-
-noted_ok : (i : Result Instr Wrong) (n : Result (Option Note) Wrong) (line : Instr × Option Note) → line_or_wrong i n
-    ≡ Ok line → (i ≡ Ok line.0) × (n ≡ Ok line.1)
-noted_ok (Ok i) (Ok n) line e = let same : (i, n) ≡ line = same_ok (Ok (i, n)) (i, n) line refl e in
-    (ap (λ (l : Instr × Option Note). Ok l.0) same, ap (λ (l : Instr × Option Note). Ok l.1) same)
-noted_ok (Ok i) (Err w) line e = absurd (cc)
-noted_ok (Err w) (Ok n) line e = absurd (cc)
-noted_ok (Err wrong.Form) (Err v) line e = absurd (cc)
-noted_ok (Err wrong.Name) (Err v) line e = absurd (cc)
-noted_ok (Err wrong.NoMemory) (Err v) line e = absurd (cc)
-
-pub line_right : (names : Names) (address : ℕ) (ws : List (List ℕ)) (line : Instr × Option Note)
-    → line_at names address ws ≡ Ok line → IsRight names line
-line_right names address [] line e = absurd (cc)
-line_right names address (number ∷ ws) line e =
-    let parts = then_ok (word_at number) (λ n. if n == address
-    then line_or_wrong (instr_at names (in_front ws)) (note_after names (behind ws)) else Err wrong.Form) line e in
-    let here = if_ok (parts.0 == address) (line_or_wrong (instr_at names (in_front ws)) (note_after names (behind ws)))
-    wrong.Form line parts.2 in
-    let both = noted_ok (instr_at names (in_front ws)) (note_after names (behind ws)) line here.1 in
-    let i = instr_from names (in_front ws) line.0 both.0 in
-    record {
-      within = record { operands = i.within; note = note_within (behind ws) line.1 both.1 };
-      instr = i.has;
-      note = note_behind_from names (behind ws) line.1 both.1;
-    }
-  where
-    note_within : (words : Option (List (List ℕ))) (n : Option Note) → note_after names words ≡ Ok n → IsNoteWithin n
-    note_within None n e = subst IsNoteWithin (same_ok (Ok None) None n refl e) tt
-    note_within (Some ws) n e =
-        let made = make_ok (note_at names ws) Some n e in
-        let is = note_from names ws made.0 made.1 in
-        subst IsNoteWithin made.2 is.within
-
-code_taken : (front next : Front) (line : List ℕ) (ws : List (List ℕ)) → Stands front → take_code front line ws
-    ≡ Ok next → Goes front next (line_with_feed line)
-code_taken front next line ws stands e =
+code_taken : (front next : Front) (line : List ℕ) (ws : List (List ℕ)) → Stands front → words line ≡ codes "code" ∷ ws
+    → take_code front ws ≡ Ok next → Goes front next (line_with_feed line)
+code_taken front next line ws stands is e =
     let names = front.image.names in
     let address = length front.image.code in
-    let made = make_ok (next_line front line ws) (and_line front) next e in
-    let may = if_ok (may_add_line front) (and_then (line_at names address ws)
-    (λ code. if_line (code_line names address code) line code)) wrong.Form made.0 made.1 in
-    let parts = then_ok (line_at names address ws) (λ code. if_line (code_line names address code) line code) made.0
-    may.1 in
-    let code = parts.0 in
-    let printed = line_ok (code_line names address code) line code made.0 parts.2 in
-    goes_as front (and_line front code) next (code_line names address code) (line_with_feed line)
-    (line_goes front code stands may.0 (line_right names address ws code parts.1)) printed.0
-    (ap (and_line front) printed.1 ∙ made.2)
+    let made = make_ok (next_line front ws) (and_line front) next e in
+    let may = if_ok (may_add_line front) (of_line (line_at names address ws)) wrong.Form made.0 made.1 in
+    let says = line_from names address ws made.0 (of_line_ok (line_at names address ws) made.0 may.1) in
+    let text : line ≡ code_text names address made.0 = spaced_words_of line (codes "code")
+    (code_words names address made.0) (is ∙ ap (λ (vs : List (List ℕ)). codes "code" ∷ vs) says.words_are) in
+    goes_as front (and_line front made.0) next (code_line names address made.0) (line_with_feed line)
+    (line_goes front made.0 stands may.0 says.right) (ap line_with_feed (sym text)) made.2
 
-words_taken : (front next : Front) (line : List ℕ) (ws : List (List ℕ)) → Stands front → take_words front line ws
-    ≡ Ok next → Goes front next (line_with_feed line)
-words_taken front next line [] stands e = absurd (cc)
-words_taken front next line (kind ∷ ws) stands e =
+words_taken : (front next : Front) (line : List ℕ) (all : List (List ℕ)) → Stands front → words line ≡ all
+    → take_words front line all ≡ Ok next → Goes front next (line_with_feed line)
+words_taken front next line [] stands is_all e = absurd (cc)
+words_taken front next line (kind ∷ ws) stands is_all e =
     let P = Goes front next (line_with_feed line) in
     chosen (bytes_eq kind (codes "cell")) (take_cell front line ws)
     (if bytes_eq kind (codes "irq") then take_irq front line ws else if bytes_eq kind (codes "body") then take_body
     front line ws
-    else if bytes_eq kind (codes "code") then take_code front line ws else Err wrong.Form) (Ok next) P e
+    else if bytes_eq kind (codes "code") then take_code front ws else Err wrong.Form) (Ok next) P e
     (λ _ is. cell_taken front next line ws stands is)
     (λ _ rest.
     chosen (bytes_eq kind (codes "irq")) (take_irq front line ws)
     (if bytes_eq kind (codes "body") then take_body front line ws
-    else if bytes_eq kind (codes "code") then take_code front line ws else Err wrong.Form) (Ok next) P rest
+    else if bytes_eq kind (codes "code") then take_code front ws else Err wrong.Form) (Ok next) P rest
     (λ _ is. irq_taken front next line ws stands is)
     (λ _ last.
     chosen (bytes_eq kind (codes "body")) (take_body front line ws)
-    (if bytes_eq kind (codes "code") then take_code front line ws else Err wrong.Form) (Ok next) P last
+    (if bytes_eq kind (codes "code") then take_code front ws else Err wrong.Form) (Ok next) P last
     (λ _ is. body_taken front next line ws stands is)
-    (λ _ end. code_taken front next line ws stands (if_ok (bytes_eq kind (codes "code")) (take_code front line ws)
-    wrong.Form next end).1)))
+    (λ _ end.
+    let is = if_ok (bytes_eq kind (codes "code")) (take_code front ws) wrong.Form next end in
+    code_taken front next line ws stands
+    (is_all ∙ ap (λ (w : List ℕ). w ∷ ws) ((bytes_eq-Decides kind (codes "code")).0 is.0)) is.1)))
 
 pub line_taken : (front next : Front) (line : List ℕ) → Stands front → take_line front line ≡ Ok next
     → Goes front next (line_with_feed line)
 unfolding take_line
-line_taken front next line stands e = words_taken front next line (words line) stands e
+line_taken front next line stands e = words_taken front next line (words line) stands refl e
 
 -- the first line
 no_names_are : AreNames no_names

@@ -1,24 +1,16 @@
 -- A text is cut into lines in one way.
-use Rattle.std.proofs.Common.{◌≡◌, ℕ, suc, ◌<◌, Option, List, [], ◌∷◌, ◌++◌, length, flat_map, map, drop, get_or, refl}
-use Rattle.std.proofs.Common.{ap, ap₂, sym, ◌∙◌, subst, arith, append_assoc, length-append}
+use Rattle.std.proofs.Common.{◌≡◌, ℕ, List, [], ◌∷◌, ◌++◌, length, flat_map, map, drop, get_or, refl, ap, ap₂, sym}
+use Rattle.std.proofs.Common.{◌∙◌, subst, arith, append_assoc, length-append}
 use Rattle.std.specs.List.{AllByRecursion}
-use Rattle.std.proofs.lemmas.List.Concat.{flat_map-append}
-use Rattle.rt_lemmas.proofs.Lists.{all_append}
+use Rattle.rt_lemmas.proofs.Lists.{all_map, flat_map-map}
 use Rattle.rt_code.specs.Image.{Image}
-use Rattle.rt_code.specs.Listable.{IsWord, IsPlain, HasInstr, HasNote, IsListable}
-use Rattle.rt_code.specs.declared.image.IrqRow.{IrqRow}
-use Rattle.rt_code.specs.declared.image.BodyRow.{BodyRow}
-use Rattle.rt_code.specs.declared.instr.Instr.{Instr}
-use Rattle.rt_code.specs.declared.instr.Note.{Note}
-use Rattle.rt_ids.specs.Names.{Names}
-use Rattle.rt_ids.specs.declared.cell.CellRow.{CellRow}
-use Rattle.rt_listing.specs.Listing.{first_line, lines_with_numbers, cell_line, irq_line, body_line, code_line, listing}
+use Rattle.rt_code.specs.Listable.{IsListable}
+use Rattle.rt_listing.specs.Listing.{listing}
+use Rattle.rt_listing.proofs.Apart.{free_of}
+use Rattle.rt_listing.proofs.Lines.{row_text, listing_rows, listing_text, IsFreeRow, rows_free}
 use Rattle.rt_load.specs.Loadable.{IsLoadable}
 use Rattle.rt_load.specs.Reading.{line_with_feed, IsLine}
-use Rattle.rt_load.proofs.Clean.{line_of_spelled}
-use Rattle.rt_load.proofs.Lines.{AreKnown, first_text, cell_text, irq_text, body_text, code_text, first_spelled}
-use Rattle.rt_load.proofs.Lines.{cell_spelled, irq_spelled, body_spelled, code_spelled, known_names}
-use Rattle.rt_load.proofs.{ForwardCells.texts_from, Forward.listing_lines}
+use Rattle.rt_load.proofs.{Lines.line_of_free, Forward.listing_lines}
 
 pub cut_same : (u v x y : List ℕ) → IsLine u → IsLine v → u ++ 10 ∷ x ≡ v ++ 10 ∷ y → (u ≡ v) × (x ≡ y)
 cut_same [] [] x y p q e = (refl, ap (drop 1) e)
@@ -76,106 +68,14 @@ lines_end (l ∷ ls) line (m ∷ ms) all own others e =
     (rec.0, ap₂ (λ (x : List ℕ) (xs : List (List ℕ)). x ∷ xs) same.0 rec.1)
 
 -- the lines of a listing
-numbered_lines : {A : Type 0} (line text : ℕ → A → List ℕ) → ((n : ℕ) (x : A) → line n x ≡ line_with_feed (text n x))
-    → (n : ℕ) (xs : List A)
-    → lines_with_numbers line n xs ≡ flat_map line_with_feed (texts_from text n xs)
-numbered_lines line text same n [] = refl
-numbered_lines line text same n (x ∷ xs) = ap₂ (λ (u v : List ℕ). u ++ v) (same n x)
-    (numbered_lines line text same (suc n) xs)
-
-flat_lines : {A : Type 0} (line text : A → List ℕ) → ((x : A) → line x ≡ line_with_feed (text x)) → (xs : List A)
-    → flat_map line xs ≡ flat_map line_with_feed (map text xs)
-flat_lines line text same [] = refl
-flat_lines line text same (x ∷ xs) = ap₂ (λ (u v : List ℕ). u ++ v) (same x) (flat_lines line text same xs)
-
-five : (s a b c d : List ℕ) → (((s ++ a) ++ b) ++ c) ++ d ≡ s ++ (((a ++ b) ++ c) ++ d)
-five s a b c d = simp append_assoc
-
-flat_four : (a b c d : List (List ℕ)) → flat_map line_with_feed (((a ++ b) ++ c) ++ d)
-    ≡ ((flat_map line_with_feed a ++ flat_map line_with_feed b) ++ flat_map line_with_feed c)
-    ++ flat_map line_with_feed d
-flat_four a b c d =
-    flat_map-append line_with_feed ((a ++ b) ++ c) d
-    ∙ ap (λ t. t ++ flat_map line_with_feed d) (flat_map-append line_with_feed (a ++ b) c
-    ∙ ap (λ t. t ++ flat_map line_with_feed c) (flat_map-append line_with_feed a b))
-
-abbrev pub listing_rows : Image → List (List ℕ)
-listing_rows img =
-    first_text img (length img.code) (length img.cells)
-    ∷ (((texts_from cell_text 0 img.cells ++ map irq_text img.irqs) ++ map (body_text img.names) img.bodies)
-    ++ texts_from (code_text img.names) 0 img.code)
-
-pub listing_fed : (img : Image) → listing img ≡ flat_map line_with_feed (listing_rows img)
-listing_fed img =
-    let a = texts_from cell_text 0 img.cells in
-    let b = map irq_text img.irqs in
-    let c = map (body_text img.names) img.bodies in
-    let d = texts_from (code_text img.names) 0 img.code in
-    let s = first_line img (length img.code) (length img.cells) in
-    ap (λ t. (((s ++ t) ++ flat_map irq_line img.irqs) ++ flat_map (body_line img.names) img.bodies)
-    ++ lines_with_numbers (code_line img.names) 0 img.code)
-    (numbered_lines cell_line cell_text (λ n x. refl) 0 img.cells)
-    ∙ ap (λ t. (((s ++ flat_map line_with_feed a) ++ t) ++ flat_map (body_line img.names) img.bodies)
-    ++ lines_with_numbers (code_line img.names) 0 img.code)
-    (flat_lines irq_line irq_text (λ x. refl) img.irqs)
-    ∙ ap (λ t. (((s ++ flat_map line_with_feed a) ++ flat_map line_with_feed b) ++ t)
-    ++ lines_with_numbers (code_line img.names) 0 img.code)
-    (flat_lines (body_line img.names) (body_text img.names) (λ x. refl) img.bodies)
-    ∙ ap (λ t. (((s ++ flat_map line_with_feed a) ++ flat_map line_with_feed b) ++ flat_map line_with_feed c) ++ t)
-    (numbered_lines (code_line img.names) (code_text img.names) (λ n x. refl) 0 img.code)
-    ∙ five s (flat_map line_with_feed a) (flat_map line_with_feed b) (flat_map line_with_feed c)
-    (flat_map line_with_feed d)
-    ∙ ap (λ t. s ++ t) (sym (flat_four a b c d))
+pub listing_fed : (img : Image) → listing img ≡ flat_map line_with_feed (map row_text (listing_rows img))
+listing_fed img = listing_text img ∙ sym (flat_map-map line_with_feed row_text (listing_rows img))
 
 pub listing_is : (img : Image) (l : IsLoadable img) → listing img ≡ flat_map line_with_feed (listing_lines img l)
 listing_is img l = listing_fed img
 
-cells_are_lines : (n : ℕ) (cells : List CellRow) → AllByRecursion (λ cell. IsWord cell.name) cells
-    → AllByRecursion IsLine (texts_from cell_text n cells)
-cells_are_lines n [] all = tt
-cells_are_lines n (cell ∷ cells) all = (
-  line_of_spelled (cell_text n cell) _ _ (cell_spelled n cell all.0),
-  cells_are_lines (suc n) cells all.1,
-)
-
-irqs_are_lines : (rows : List IrqRow) → AllByRecursion (λ row. IsPlain row.name) rows
-    → AllByRecursion IsLine (map irq_text rows)
-irqs_are_lines [] all = tt
-irqs_are_lines (row ∷ rows) all = let plain = all.0 in (
-  line_of_spelled (irq_text row) _ _ (irq_spelled row plain.word),
-  irqs_are_lines rows all.1,
-)
-
-bodies_are_lines : (names : Names) (rows : List BodyRow) → AreKnown names
-    → AllByRecursion (λ row. row.task < length names.tasks) rows → AllByRecursion IsLine (map (body_text names) rows)
-bodies_are_lines names [] known all = tt
-bodies_are_lines names (row ∷ rows) known all = (
-  line_of_spelled (body_text names row) _ _ (body_spelled names row known all.0),
-  bodies_are_lines names rows known all.1,
-)
-
-code_are_lines : (names : Names) (n : ℕ) (lines : List (Instr × Option Note)) → AreKnown names
-    → AllByRecursion (λ line. HasInstr names line.0) lines
-    → AllByRecursion (λ line. HasNote names line.1) lines → AllByRecursion IsLine (texts_from (code_text names) n lines)
-code_are_lines names n [] known instrs notes = tt
-code_are_lines names n (line ∷ lines) known instrs notes = (
-  line_of_spelled (code_text names n line) _ _ (code_spelled names n line known instrs.0 notes.0),
-  code_are_lines names (suc n) lines known instrs.1 notes.1,
-)
-
-pub rows_are_lines : (img : Image) → IsListable img → AreKnown img.names → AllByRecursion IsLine (listing_rows img)
-rows_are_lines img li known =
-    let a = texts_from cell_text 0 img.cells in
-    let b = map irq_text img.irqs in
-    let c = map (body_text img.names) img.bodies in
-    let d = texts_from (code_text img.names) 0 img.code in (
-      line_of_spelled (first_text img (length img.code) (length img.cells)) _ _
-          (first_spelled img (length img.code) (length img.cells)),
-      all_append IsLine ((a ++ b) ++ c) d (all_append IsLine (a ++ b) c
-          (all_append IsLine a b (cells_are_lines 0 img.cells li.cells) (irqs_are_lines img.irqs li.irqs))
-          (bodies_are_lines img.names img.bodies known li.bodies))
-          (code_are_lines img.names 0 img.code known li.instrs li.notes),
-    )
+pub rows_unbroken : (img : Image) → IsListable img → AllByRecursion (IsFreeRow 10) (listing_rows img)
+rows_unbroken img is = rows_free 10 refl (refl, tt) (refl, tt) img (free_of 10 (1, omega arith, refl) img is)
 
 pub are_lines : (img : Image) (l : IsLoadable img) → AllByRecursion IsLine (listing_lines img l)
-are_lines img l = rows_are_lines img l.listable (known_names img.names l.fits.names)
+are_lines img l = all_map row_text (IsFreeRow 10) IsLine line_of_free (listing_rows img) (rows_unbroken img l.listable)

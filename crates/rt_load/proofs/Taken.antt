@@ -34,6 +34,7 @@ use Rattle.rt_load.specs.declared.front.Front.{Front}
 use Rattle.rt_load.proofs.Declared.{IsNew, new_from}
 use Rattle.rt_load.proofs.Fronts.{front_text, IsInCells, Stands, numbered_next, flat_push, empty_from, CellNamed}
 use Rattle.rt_load.proofs.Fronts.{Dotted, Resource, cell_named}
+use Rattle.rt_load.proofs.Written.{IsRight}
 
 -- a front that stands, and its text with a line more
 pub record Goes (front next : Front) (line : List ℕ) : Type 0 where
@@ -385,12 +386,6 @@ body_goes front name row stands may within task =
           ∙ ap (λ t. t ++ body_line names row)
           (sym (text_of_bodies front.image.names front.image.bodies front.image.code no_code));
     }
-
--- a line of code over tables that have its names
-pub record IsRight (names : Names) (line : Instr × Option Note) : Type 0 where
-  pub within : IsLineWithin line
-  pub instr : HasInstr names line.0
-  pub note : HasNote names line.1
 
 pub line_goes : (front : Front) (line : Instr × Option Note) → Stands front → may_add_line front ≡ true
     → IsRight front.image.names line

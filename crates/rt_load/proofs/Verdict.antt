@@ -20,8 +20,8 @@ use Rattle.rt_load.specs.declared.operand.Wrong.{Wrong}
 use Rattle.rt_load.specs.declared.operand.Wrong.TheVariants as wrong
 use Rattle.rt_load.specs.declared.refusal.TheConstants.{IMAGE_BYTES}
 use Rattle.rt_load.proofs.Read.{then_ok, same_ok}
-use Rattle.rt_load.proofs.Clean.{line_of_spelled}
-use Rattle.rt_load.proofs.Lines.{first_text, code_text, code_spelled, known_names}
+use Rattle.rt_listing.proofs.Lines.{code_row}
+use Rattle.rt_load.proofs.Lines.{first_text, code_text, code_spelled, known_names, line_of_spelled}
 use Rattle.rt_load.proofs.Fronts.{front_text, Stands}
 use Rattle.rt_load.proofs.Progress.{first_stands}
 use Rattle.rt_load.proofs.Forward.{listing_lines, whole, listing_taken}
@@ -89,8 +89,8 @@ first_is_no_code : (line : List ℕ) → ¬ IsOfUnknownName [] line
 first_is_no_code line u =
     let names = u.image.names in
     let mark = code_text names u.address (instr.Mark, None) in
-    let own : IsLine mark = line_of_spelled mark _ _ (code_spelled names u.address (instr.Mark, None)
-    (known_names names u.loadable.fits.names) tt tt) in
+    let own : IsLine mark = line_of_spelled (code_row names u.address (instr.Mark, None))
+    (code_spelled names u.address (instr.Mark, None) (known_names names u.loadable.fits.names)) in
     let more = lines_behind [] mark u.behind u.image u.loadable tt own u.goes_on in
     let same : first_text u.image (length u.image.code) (length u.image.cells) ≡ mark =
     ap (λ (ls : List (List ℕ)). get_or ls 0 []) more.1 in

@@ -4,8 +4,9 @@ ghost use Rattle.rt_lines.specs.Parts.{words_of};
 ghost use Rattle.rt_load.specs.Inside.Taking as spec;
 
 use crate::declaring::{has_dot, is_new_irq, is_new_task, may_name_cell};
+use crate::noting::read_line;
 use crate::operand::{Wrong, read_byte, read_number};
-use crate::printed::{is_body_line, is_cell_line, is_first_line, is_irq_line, printed_line};
+use crate::printed::{is_body_line, is_cell_line, is_first_line, is_irq_line};
 use crate::rows::{read_body_row, read_cell, read_irq_row, read_three};
 use rt_code::{BodyRow, Image, IrqRow, Line};
 use rt_ids::limits::{CODE_SIZE, LEAST_BITS, MOST_BITS};
@@ -109,7 +110,7 @@ impl Front {
         } else if kind == b"body".as_slice() {
             self.take_body(alloc, line, words)
         } else if kind == b"code".as_slice() {
-            self.take_code(alloc, line, words)
+            self.take_code(words)
         } else {
             Err(Wrong::Form)
         }
@@ -241,26 +242,25 @@ impl Front {
         }
     }
 
-    /// The instruction of a line, with its note.
-    fn next_line(&self, alloc: Global, line: &[u8], words: Option<&[u8]>) -> Result<Line, Wrong>
-        ensures read { IfOk result (λ x. spec.next_line self.now line.now (words_of words.entry) ≡ Ok x) }
-        ensures refused { IfErr result (λ w. w ≢ Wrong.NoMemory
-            → spec.next_line self.now line.now (words_of words.entry) ≡ Err w) }
+    /// The instruction of the words of a line, with its note.
+    fn next_line(&self, words: Option<&[u8]>) -> Result<Line, Wrong>
+        ensures { result ≡ spec.next_line self.now (words_of words.entry) }
     {
         if self.may_add_line() {
-            printed_line(alloc, &self.image.names, self.image.code.len(), line, words)
+            let line = read_line(&self.image.names, self.image.code.len(), words)?;
+            Ok(line)
         } else {
             Err(Wrong::Form)
         }
     }
 
     /// Takes the line of an instruction.
-    fn take_code(&mut self, alloc: Global, line: &[u8], words: Option<&[u8]>) -> Result<(), Wrong>
-        ensures taken { OnOk result (spec.take_code self.old line.now (words_of words.entry) ≡ Ok self.new) }
+    fn take_code(&mut self, words: Option<&[u8]>) -> Result<(), Wrong>
+        ensures taken { OnOk result (spec.take_code self.old (words_of words.entry) ≡ Ok self.new) }
         ensures refused { IfErr result (λ w. w ≢ Wrong.NoMemory
-            → spec.take_code self.old line.now (words_of words.entry) ≡ Err w) }
+            → spec.take_code self.old (words_of words.entry) ≡ Err w) }
     {
-        match self.next_line(alloc, line, words) {
+        match self.next_line(words) {
             Ok(code) => Ok(add_line(&mut self.image.code, code)?),
             Err(wrong) => Err(wrong),
         }

@@ -1,14 +1,10 @@
-ghost use Rattle.std.specs.Prelude.{◌≡◌, ◌≢◌, Ok, Err, IfOk, IfErr, bytes_eq};
-ghost use Rattle.rt_lines.specs.Parts.{words_of};
+ghost use Rattle.std.specs.Prelude.{◌≡◌, IfOk, bytes_eq};
 ghost use Rattle.rt_listing.specs.Listing as text;
 ghost use Rattle.rt_load.specs.Reading.{line_with_feed};
-ghost use Rattle.rt_load.specs.Inside.Taking.{printed_line};
 
-use crate::noting::read_line;
-use crate::operand::Wrong;
-use rt_code::{BodyRow, Image, IrqRow, Line};
+use rt_code::{BodyRow, Image, IrqRow};
 use rt_ids::{CellRow, Names, NoMemory};
-use rt_listing::{push_body, push_cell, push_first_line, push_irq, push_line};
+use rt_listing::{push_body, push_cell, push_first_line, push_irq};
 use std::alloc::Global;
 
 /// Whether printed bytes are a line with its line feed.
@@ -71,39 +67,4 @@ pub fn is_body_line(
     let mut printed = Vec::new(alloc);
     push_body(&mut printed, *row, names)?;
     Ok(is_line(&printed, line))
-}
-
-/// Whether it is the line of the instruction at an address.
-fn is_code_line(
-    alloc: Global,
-    names: &Names,
-    address: usize,
-    code: &Line,
-    line: &[u8],
-) -> Result<bool, NoMemory>
-    ensures { IfOk result (λ is. is ≡ bytes_eq (text.code_line names.now address code.now) (line_with_feed line.now)) }
-{
-    let mut printed = Vec::new(alloc);
-    push_line(&mut printed, address, *code, names)?;
-    Ok(is_line(&printed, line))
-}
-
-/// The instruction of a line, with its note, where it is the line of an address. The words are those behind the first.
-pub fn printed_line(
-    alloc: Global,
-    names: &Names,
-    address: usize,
-    line: &[u8],
-    words: Option<&[u8]>,
-) -> Result<Line, Wrong>
-    ensures read { IfOk result (λ x. printed_line names.now address line.now (words_of words.entry) ≡ Ok x) }
-    ensures refused { IfErr result (λ w. w ≢ Wrong.NoMemory
-        → printed_line names.now address line.now (words_of words.entry) ≡ Err w) }
-{
-    let code = read_line(names, address, words)?;
-    if is_code_line(alloc, names, address, &code, line)? {
-        Ok(code)
-    } else {
-        Err(Wrong::Form)
-    }
 }

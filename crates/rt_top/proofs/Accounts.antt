@@ -1,25 +1,22 @@
 -- The lines of an account: a reader of traces passes over them, and they are few and short.
 use Rattle.std.proofs.Common.{◌≡◌, ℕ, ◌*◌, ◌≤◌, ◌==◌, true, false, List, [], ◌∷◌, ◌++◌, length}
 use Rattle.std.proofs.Common.{map}
-use Rattle.std.proofs.Common.{flat_map, codes, decimal, Option, Some, None, option_map, unwrap_or, eqb, refl, sym}
+use Rattle.std.proofs.Common.{flat_map, codes, decimal, Option, Some, None, option_map, unwrap_or, refl, sym}
 use Rattle.std.proofs.Common.{arith, length-append}
 use Rattle.std.specs.List.{AllByRecursion}
 use Rattle.std.proofs.lemmas.List.{length-map}
-use Rattle.rt_lemmas.proofs.Bools.{left_of_none, right_of_none}
 use Rattle.rt_lemmas.proofs.Lists.{find_has, flat_map-map}
-use Rattle.rt_lemmas.proofs.Membership.{all_weaker}
 use Rattle.rt_ids.specs.Names.{Names, AreNames}
 use Rattle.rt_ids.specs.Naming.{irq_named, irq_name}
 use Rattle.rt_ids.specs.Word.{IsName}
-use Rattle.rt_listing.proofs.Reading.{is_blank}
 use Rattle.rt_live.specs.Account.{account_text, counts_of, declared_irqs}
 use Rattle.rt_live.specs.declared.account.AccountRow.{AccountRow}
-use Rattle.rt_load.proofs.Clean.{IsClean, is_mark, decimal_clean}
 use Rattle.rt_load.proofs.Lengths.{decimal_few}
 use Rattle.rt_trace.specs.Reading.{is_account}
 use Rattle.rt_lines.specs.Table.{spaced_text}
 use Rattle.rt_lines.proofs.Short.{irq_name_short}
 use Rattle.rt_lines.proofs.Unbroken.{IsUnbroken, fed, name_unbroken, spaced_unbroken, unbroken_append}
+use Rattle.rt_lines.proofs.Words.{word_free, decimal_bytes}
 
 -- the line of a row, without its line feed
 abbrev account_line : Names → AccountRow → List ℕ
@@ -37,14 +34,9 @@ pub account_told : (names : Names) (rows : List AccountRow)
 account_told names [] = tt
 account_told names (row ∷ rows) = (refl, account_told names rows)
 
-clean_unbroken : (w : List ℕ) → IsClean w → IsUnbroken w
-clean_unbroken w clean =
-    all_weaker (λ b. is_mark b ≡ false) (λ b. (b == 10) ≡ false)
-    (λ b no. right_of_none (eqb b 32) (eqb b 10) (left_of_none (is_blank b) (eqb b 59) no)) w clean
-
 decimals_unbroken : (ns : List ℕ) → AllByRecursion IsUnbroken (map decimal ns)
 decimals_unbroken [] = tt
-decimals_unbroken (n ∷ ns) = (clean_unbroken (decimal n) (decimal_clean n), decimals_unbroken ns)
+decimals_unbroken (n ∷ ns) = (word_free 10 (decimal n) refl (decimal_bytes n), decimals_unbroken ns)
 
 found_unbroken : (found : Option (List ℕ × ℕ)) → ((irq : List ℕ × ℕ) → found ≡ Some irq → IsName irq.0)
     → IsUnbroken (unwrap_or (option_map (λ irq. irq.0) found) [])

@@ -14,11 +14,11 @@ use Rattle.rt_code.specs.declared.instr.Instr.{Instr}
 use Rattle.rt_code.specs.declared.instr.Note.{Note}
 use Rattle.rt_lines.specs.Answers.{and_then, and_make}
 use Rattle.rt_lines.specs.Parts.{words}
-use Rattle.rt_listing.specs.Listing.{first_line, cell_line, irq_line, body_line, code_line}
+use Rattle.rt_listing.specs.Listing.{first_line, cell_line, irq_line, body_line}
 use Rattle.rt_load.specs.Loadable.{has_dot}
 use Rattle.rt_load.specs.Reading.{line_with_feed}
 use Rattle.rt_load.specs.Inside.Noting.{line_at}
-use Rattle.rt_load.specs.Inside.Operand.{number_at, word_at}
+use Rattle.rt_load.specs.Inside.Operand.{number_at, word_at, of_line}
 use Rattle.rt_load.specs.Inside.Rows.{three_at, cell_at, irq_row_at, body_row_at}
 use Rattle.rt_load.specs.declared.front.Front.{Front}
 use Rattle.rt_load.specs.declared.operand.Wrong.{Wrong}
@@ -181,19 +181,14 @@ next_body front line ws =
 abbrev pub take_body : Front → List ℕ → List (List ℕ) → Result Front Wrong
 take_body front line ws = and_make (next_body front line ws) (λ body. and_body front body.0 body.1)
 
--- the instruction of a line, with its note, at an address
-abbrev pub printed_line : Names → ℕ → List ℕ → List (List ℕ) → Result (Instr × Option Note) Wrong
-printed_line names address line ws =
-    and_then (line_at names address ws) (λ code. if_line (code_line names address code) line code)
-
--- the instruction of a line, with its note, where one may come next
-abbrev pub next_line : Front → List ℕ → List (List ℕ) → Result (Instr × Option Note) Wrong
-next_line front line ws =
-    if may_add_line front then printed_line front.image.names (length front.image.code) line ws else Err wrong.Form
+-- the instruction of the words of a line behind its first, with its note, where one may come next
+abbrev pub next_line : Front → List (List ℕ) → Result (Instr × Option Note) Wrong
+next_line front ws =
+    if may_add_line front then of_line (line_at front.image.names (length front.image.code) ws) else Err wrong.Form
 
 -- the front behind the line of an instruction
-abbrev pub take_code : Front → List ℕ → List (List ℕ) → Result Front Wrong
-take_code front line ws = and_make (next_line front line ws) (and_line front)
+abbrev pub take_code : Front → List (List ℕ) → Result Front Wrong
+take_code front ws = and_make (next_line front ws) (and_line front)
 
 -- the front behind a line of these words
 abbrev pub take_words : Front → List ℕ → List (List ℕ) → Result Front Wrong
@@ -202,7 +197,7 @@ take_words front line (kind ∷ ws) =
     if bytes_eq kind (codes "cell") then take_cell front line ws
     else if bytes_eq kind (codes "irq") then take_irq front line ws
     else if bytes_eq kind (codes "body") then take_body front line ws
-    else if bytes_eq kind (codes "code") then take_code front line ws else Err wrong.Form
+    else if bytes_eq kind (codes "code") then take_code front ws else Err wrong.Form
 
 -- a line behind the first
 unfoldable pub take_line : Front → List ℕ → Result Front Wrong

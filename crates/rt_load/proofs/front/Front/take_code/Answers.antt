@@ -18,5 +18,5 @@ returns-in_ok-add_line-in-Ok-clause-taken c =
     let lines = c.add_line.new.code.items in
     let added : lines ≡ front.image.code ++ line ∷ [] =
     c.in_ok-add_line-in-Ok.ensures ∙ ap (λ (f : Front). f.image.code ++ line ∷ []) c.self.view_is in
-    ap (λ (r : Result (Instr × Option Note) Wrong). and_make r (and_line front)) c.in-Ok.ensures.read
+    ap (λ (r : Result (Instr × Option Note) Wrong). and_make r (and_line front)) (sym c.next_line.ensures ∙ c.in-Ok.is)
     ∙ ap (with_lines front) (sym added) ∙ ap (λ (f : Front). with_lines f lines) (sym c.self.view_is)
