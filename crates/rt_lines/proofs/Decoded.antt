@@ -32,3 +32,12 @@ module _ {A B E : Type 0} (Q : B → Type 0) where
       → IfOk (and_make r f) Q
   if_ok_make (Ok x) f P h each = each x h
   if_ok_make (Err w) f P h each = tt
+
+  -- where it holds of what comes of every value
+  pub if_ok_then_any : (r : Result A E) (f : A → Result B E) → ((x : A) → IfOk (f x) Q) → IfOk (and_then r f) Q
+  if_ok_then_any (Ok x) f each = each x
+  if_ok_then_any (Err w) f each = tt
+
+  pub if_ok_make_any : (r : Result A E) (f : A → B) → ((x : A) → Q (f x)) → IfOk (and_make r f) Q
+  if_ok_make_any (Ok x) f each = each x
+  if_ok_make_any (Err w) f each = tt

@@ -27,7 +27,7 @@ use Rattle.rt_lines.specs.Operand.{Kind, Number, IrqName, FirstIrqName, TaskName
 use Rattle.rt_lines.specs.Operand.{SectionName, Value, HasWord, IsDeclared, IsQueue, IsSection, word, read_at}
 use Rattle.rt_lines.specs.Operand.{number_at}
 use Rattle.rt_lines.specs.Operand.{index_or_wrong, section_at}
-use Rattle.rt_lines.specs.Operand.{irq_at, first_irq_at, task_at, lock_at, ready_at, queue_at}
+use Rattle.rt_lines.specs.Operand.{irq_at, first_irq_at, task_at, lock_at, queue_at}
 use Rattle.rt_lines.specs.Table.{Shape, Alone, One, Two, Three, OneOrTwo, AndNumbers, Row, Operand, Number32, both}
 use Rattle.rt_lines.specs.Table.{one_at}
 use Rattle.rt_lines.specs.Table.{two_at, numbers_at, shape_at, said_at, operand_word, EachSaid, Agree, IsWritten}

@@ -1,8 +1,8 @@
 -- A text is read in one way: lines lead from a state to one state alone, and each line leads on or is wrong.
-use Rattle.std.proofs.Common.{◌≡◌, ◌⊎◌, ◌≤◌, ◌<◌, inl, inr, ℕ, suc, ◌+◌, List, [], ◌∷◌, ◌++◌, length, Option, Some}
-use Rattle.std.proofs.Common.{None}
-use Rattle.std.proofs.Common.{Result, Ok, Err, refl, ap, sym, ◌∙◌, subst, arith, append_assoc, append-nil}
-use Rattle.std.proofs.Common.{length-append}
+use Rattle.std.proofs.Common.{◌≡◌, ◌⊎◌, ◌≤◌, ◌<◌, inl, inr, ℕ, suc, ◌+◌, List, [], ◌∷◌, ◌++◌, length, length-append}
+use Rattle.std.proofs.Common.{Option, Some, None, Result, Ok, Err, IfOk, refl, ap, sym, ◌∙◌, subst, arith}
+use Rattle.std.proofs.Common.{append_assoc, append-nil}
+use Rattle.std.proofs.lemmas.Result.{IfOk-at_ok}
 use Rattle.rt_lines.specs.Reading.{Reader, Lead, IsRead, IsWrongNext, IsFirstWrong, IsReadOneWay}
 use Rattle.rt_lines.specs.Inside.Progress.{Progress}
 
@@ -17,6 +17,13 @@ module _ {S W : Type 0} (reader : Reader S W) where
   pub lead_more : (s t u : S) (ls : List (List ℕ)) (line : List ℕ) → Lead reader s ls t → reader.step t line ≡ Ok u
       → Lead reader s (ls ++ line ∷ []) u
   lead_more s t u ls line lead e = lead_append s t u ls (line ∷ []) lead (u, e, refl)
+
+  -- what each step keeps holds behind all lines
+  pub kept : (P : S → Type 0) → ((s : S) (line : List ℕ) → P s → IfOk (reader.step s line) P)
+      → (s t : S) (ls : List (List ℕ)) → Lead reader s ls t → P s → P t
+  kept P keeps s t [] lead p = subst P lead p
+  kept P keeps s t (line ∷ ls) lead p =
+      kept P keeps lead.0 t ls lead.2 (IfOk-at_ok P lead.1 (keeps s line p))
 
   -- What lines say from a state on: the state behind them, or the number of lines in front of the first wrong one and
   -- its fault.

@@ -1,7 +1,6 @@
 -- The words behind the first word of a line, by their kinds: numbers, and names of interrupts, tasks, sections and
 -- bodies. Of each kind it is said which values have a word, how that is written, and what a word is read as. A word
--- that
--- is of no form is told from a name that stands in no table.
+-- that is of no form is told from a name that stands in no table.
 use Rattle.std.specs.Prelude.{ℕ, ◌<◌, ◌^◌, nat_eq, if◌then◌else◌, bytes_eq, codes, decimal, List, length, drop, Option}
 use Rattle.std.specs.Prelude.{IsSome, Result, Ok, Err}
 use Rattle.std.specs.List.{starts_with}

@@ -1,8 +1,7 @@
 -- A table of words: for each first word the kinds of the words behind it, and what all of them say together. What is
 -- said is read off such a table; and what is to be said is a first word with operands, which its row tells again.
-use Rattle.std.specs.Prelude.{◌≡◌, ◌⊎◌, ℕ, zero, suc, ◌^◌, ◌≤◌, ◌&&◌, nat_le, Bool, true, if◌then◌else◌, bytes_eq, List}
-use Rattle.std.specs.Prelude.{[]}
-use Rattle.std.specs.Prelude.{◌∷◌, length, map, flat_map, Option, Some, None, Result, Ok, Err}
+use Rattle.std.specs.Prelude.{◌≡◌, ◌⊎◌, ℕ, zero, suc, ◌^◌, ◌≤◌, ◌&&◌, nat_le, Bool, true, if◌then◌else◌, bytes_eq}
+use Rattle.std.specs.Prelude.{List, [], ◌∷◌, length, map, flat_map, Option, Some, None, Result, Ok, Err}
 use Rattle.std.specs.List.{AllByRecursion, list_all}
 use Rattle.rt_ids.specs.Names.{Names}
 use Rattle.rt_lines.specs.Answers.{and_then, and_make}

@@ -6,14 +6,14 @@ use Rattle.std.specs.Prelude.{is_some}
 use Rattle.std.specs.List.{list_any}
 use Rattle.std.proofs.lemmas.Bool.{cond_both, leb-true}
 use Rattle.std.proofs.lemmas.List.{map-append}
-use Rattle.std.proofs.lemmas.Result.{IfOk-weaker}
 use Rattle.rt_lemmas.proofs.Bools.{true_and_false}
 use Rattle.rt_lemmas.proofs.Membership.{all_append, any_contained, contains_cases, contains_none}
 use Rattle.rt_ids.specs.Lists.{AreDifferent, then_from}
 use Rattle.rt_lines.specs.Numbers.{short_number}
 use Rattle.rt_lines.specs.Parts.{spaced_words}
 use Rattle.rt_lines.specs.Reading.{Lead}
-use Rattle.rt_script.proofs.Keeping.{made, follows, either, kept}
+use Rattle.rt_lines.proofs.Decoded.{if_ok_chosen, if_ok_then, if_ok_make}
+use Rattle.rt_lines.proofs.Reading.{kept}
 use Rattle.rt_app.specs.Tree.{App}
 use Rattle.rt_app.proofs.Different.{different_append, different_cons, different_none}
 use Rattle.rt_rta.specs.declared.limits.Limit.{Limit}
@@ -49,22 +49,21 @@ module _ (app : App) (limits : List Limit) where
 
   limit_new : (name count : List ℕ) → IfOk (limit_of app limits name count) IsNew
   limit_new name count =
-      follows IsNew (λ every. limit_for limits every (bound_irq app name)) (distance_of (short_number count))
-      (IfOk-weaker _ _ _ (λ every. for_new every (bound_irq app name) (irq_bound (irq_of app.irqs name)))
-      (distance_some (short_number count)))
+      if_ok_then IsNew (distance_of (short_number count)) (λ every. limit_for limits every (bound_irq app name)) _
+      (distance_some (short_number count)) (λ every. for_new every (bound_irq app name) (irq_bound (irq_of app.irqs name)))
 
   words_new : (words : List (List ℕ)) → IfOk (words_tell app limits words) IsNew
   words_new [] = tt
   words_new (verb ∷ []) = tt
   words_new (verb ∷ name ∷ []) = tt
-  words_new (verb ∷ name ∷ count ∷ []) = let limit = limit_new name count in search (either, limit)
+  words_new (verb ∷ name ∷ count ∷ []) = let limit = limit_new name count in search (if_ok_chosen, limit)
   words_new (verb ∷ name ∷ count ∷ more ∷ words) = tt
 
   line_new : (line : List ℕ) → IfOk (line_of app limits line) (λ told. IfSome told IsNew)
   line_new line =
-      let tells = made (λ told. IfSome told IsNew) Some (words_tell app limits (spaced_words line))
-      (words_new (spaced_words line)) in
-      search (either, tells)
+      let tells = if_ok_make (λ told. IfSome told IsNew) (words_tell app limits (spaced_words line)) Some _
+      (words_new (spaced_words line)) (λ told is. is) in
+      search (if_ok_chosen, tells)
 
 -- an interrupt that stands among the limits has one
 has_limit : (limits : List Limit) (irq : ℕ)
@@ -103,6 +102,6 @@ pub lead_fine : (app : App) (ls : List (List ℕ)) (limits : List Limit) → Lea
     → AreLimits app limits
 lead_fine app ls limits lead =
     kept (limits_reader app) (AreLimits app)
-    (λ limits line fine. made (AreLimits app) (λ told. limits ++ option_to_list told) (line_of app limits line)
-    (IfOk-weaker _ _ _ (λ told. joined app limits told fine) (line_new app limits line)))
+    (λ limits line fine. if_ok_make (AreLimits app) (line_of app limits line) (λ told. limits ++ option_to_list told) _
+    (line_new app limits line) (λ told. joined app limits told fine))
     [] limits ls lead (record { bound = tt; once = different_none; positive = tt })

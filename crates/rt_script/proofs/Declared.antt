@@ -6,13 +6,12 @@ use Rattle.std.specs.Option.{ok_or}
 use Rattle.std.specs.Prelude.{is_some}
 use Rattle.std.proofs.lemmas.Bool.{cond_both, eq-eqb, ltb-true, leb-true}
 use Rattle.std.proofs.lemmas.List.Sums.{sum_by_push}
-use Rattle.std.proofs.lemmas.Result.{IfOk-weaker}
 use Rattle.rt_lemmas.proofs.Lists.{find_has, found}
 use Rattle.rt_lemmas.proofs.Membership.{all_append, all_from_members, contains_at}
 use Rattle.rt_ids.specs.Names.{Names}
 use Rattle.rt_ids.specs.Naming.{irq_named}
 use Rattle.rt_ids.specs.declared.limits.TheConstants.{DEVICES, SCRIPT_EVENTS}
-use Rattle.rt_lines.specs.Answers.{and_make, and_then}
+use Rattle.rt_lines.specs.Answers.{and_make}
 use Rattle.rt_lines.specs.Numbers.{short_number}
 use Rattle.rt_lines.specs.Parts.{spaced_words}
 use Rattle.rt_lines.specs.Reading.{Lead}
@@ -23,7 +22,8 @@ use Rattle.rt_script.specs.declared.line.Line.{Line}
 use Rattle.rt_script.specs.declared.line.Line.TheVariants.{Steps, Ticks, Pends, Device}
 use Rattle.rt_script.specs.declared.words.Wrong.{Wrong}
 use Rattle.rt_script.specs.declared.words.Wrong.TheVariants as wrong
-use Rattle.rt_script.proofs.Keeping.{anyway, made, follows, either, kept}
+use Rattle.rt_lines.proofs.Decoded.{if_ok_chosen, if_ok_then, if_ok_make, if_ok_then_any, if_ok_make_any}
+use Rattle.rt_lines.proofs.Reading.{kept}
 
 module _ (names : Names) where
   abbrev IsDeclared : ℕ → Type 0
@@ -45,12 +45,13 @@ module _ (names : Names) where
   irq_declared : (word : List ℕ) → IfOk (irq_at names word) IsDeclared
   irq_declared word =
       let named = by_name word (find (λ irq. bytes_eq word irq.0) names.irqs) refl in
-      search (either, named)
+      search (if_ok_chosen, named)
 
   pends_declared : (words : List (List ℕ)) → IfOk (pends_of names words) (λ pends. IsDeclared pends.0)
   pends_declared [] = tt
   pends_declared (i ∷ more) =
-      follows _ _ (count_or_one more) (anyway _ _ (λ n. made _ _ (irq_at names i) (irq_declared i)))
+      if_ok_then_any (λ pends. IsDeclared pends.0) (count_or_one more) _
+      (λ n. if_ok_make (λ pends. IsDeclared pends.0) (irq_at names i) _ IsDeclared (irq_declared i) (λ irq is. is))
 
   -- what is asked for has a name, and a device that there is
   abbrev IsRight : Line → Type 0
@@ -68,31 +69,30 @@ module _ (names : Names) where
   device_right [] = tt
   device_right (d ∷ []) = tt
   device_right (d ∷ verb ∷ words) =
-      let asks = follows IsRight (λ device. and_then (pends_of names words) (in_range device))
-      (ok_or (short_number d) wrong.Form)
-      (anyway _ _ (λ device. follows _ _ (pends_of names words)
-      (IfOk-weaker _ _ _ (in_range_right device) (pends_declared words)))) in
-      search (either, asks)
+      let asks = if_ok_then_any IsRight (ok_or (short_number d) wrong.Form) _
+      (λ device. if_ok_then IsRight (pends_of names words) (in_range device) _ (pends_declared words)
+      (in_range_right device)) in
+      search (if_ok_chosen, asks)
 
   counted : (f : ℕ → Line) → ((n : ℕ) → IsRight (f n)) → (words : List (List ℕ))
       → AllRight (and_make (only_count words) f)
-  counted f is words = made IsRight f (only_count words) (anyway _ _ is)
+  counted f is words = if_ok_make_any IsRight (only_count words) f is
 
   words_right : (words : List (List ℕ)) → AllRight (words_ask names words)
   words_right [] = tt
   words_right (verb ∷ words) =
       let steps = counted Steps (λ n. (tt, tt)) words in
       let ticks = counted Ticks (λ n. (tt, tt)) words in
-      let pends = made IsRight (λ p. Pends p.0 p.1) (pends_of names words)
-      (IfOk-weaker _ (λ p. IsDeclared p.0) (λ p. IsRight (Pends p.0 p.1)) (λ p is. (is, tt)) (pends_declared words)) in
+      let pends = if_ok_make IsRight (pends_of names words) (λ p. Pends p.0 p.1) _ (pends_declared words)
+      (λ p is. (is, tt)) in
       let device = device_right words in
-      search (either, steps, ticks, pends, device)
+      search (if_ok_chosen, steps, ticks, pends, device)
 
   pub line_right : (line : List ℕ) → IfOk (line_of names line) (λ asked. IfSome asked IsRight)
   line_right line =
-      let asks = made (λ asked. IfSome asked IsRight) Some (words_ask names (spaced_words line))
-      (words_right (spaced_words line)) in
-      search (either, asks)
+      let asks = if_ok_make (λ asked. IfSome asked IsRight) (words_ask names (spaced_words line)) Some _
+      (words_right (spaced_words line)) (λ asked is. is) in
+      search (if_ok_chosen, asks)
 
   -- lines that request declared interrupts, and are a script
   pub record AreRight (lines : List Line) : Type 0 where
@@ -119,6 +119,6 @@ module _ (names : Names) where
   pub lead_right : (ls : List (List ℕ)) (script : List Line) → Lead (script_reader names) [] ls script → AreRight script
   lead_right ls script lead =
       kept (script_reader names) AreRight
-      (λ s line are. follows _ _ (line_of names line) (IfOk-weaker _ _ _ (λ asked. asked_right s asked are)
-      (line_right line)))
+      (λ s line are. if_ok_then AreRight (line_of names line) (with_asked s) _ (line_right line)
+      (λ asked. asked_right s asked are))
       [] script ls lead (record { named = tt; script = record { devices = tt; few = omega arith } })

@@ -1,4 +1,3 @@
 pub mod Lines
-pub mod Keeping
 pub mod Drawing
 pub mod Declared
