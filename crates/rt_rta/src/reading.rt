@@ -41,8 +41,9 @@ pub fn read_limits(alloc: Global, bytes: &[u8], app: &App) -> Result<Limits, Lim
 
 /// Adds what a line tells, or says what is wrong with the line.
 fn take_line(limits: &mut Limits, app: &App, line: &[u8]) -> Result<Result<(), Wrong>, NoMemory>
-    ensures { IfOk result (λ taken.
+    ensures taken { IfOk result (λ taken.
         (spec.limits_reader (app_of app.now)).step limits.old line.now ≡ and_make taken (λ _. limits.new)) }
+    ensures unchanged { IfOk result (λ taken. IfErr taken (λ _. limits.new ≡ limits.old)) }
 {
     match read_line(app, limits, line) {
         Ok(None) => Ok(Ok(())),

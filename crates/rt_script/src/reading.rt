@@ -63,8 +63,9 @@ fn without_return(line: &[u8]) -> &[u8]
 
 /// Adds what a line asks for, or says what is wrong with the line.
 fn take_line(script: &mut Script, names: &Names, line: &[u8]) -> Result<Result<(), Wrong>, NoMemory>
-    ensures { IfOk result (λ taken.
+    ensures taken { IfOk result (λ taken.
         (spec.script_reader names.now).step script.old line.now ≡ and_make taken (λ _. script.new)) }
+    ensures unchanged { IfOk result (λ taken. IfErr taken (λ _. script.new ≡ script.old)) }
 {
     match read_line(names, line) {
         Ok(None) => Ok(Ok(())),

@@ -12,7 +12,7 @@ pub loop-rest-preserved : goal.loop-rest-preserved
 loop-rest-preserved c =
     line_more (limits_reader (app_of c.args.app.now)) c.args.bytes.now c.loop-rest.rest.now c.first_line.result.1.now
     c.first_line.result.0.now c.loop-rest.number c.loop-rest.limits c.take_line.new.limits c.loop-rest.invariant
-    c.first_line.ensures.lines c.first_line.ensures.shorter (rw c.in-Ok-Ok.field-0-is at c.in-Ok-Ok.ensures)
+    c.first_line.ensures.lines c.first_line.ensures.shorter (rw c.in-Ok-Ok.field-0-is at c.in-Ok-Ok.ensures.taken)
 
 pub returns-in-Ok-Err-clause-refused : goal.returns-in-Ok-Err-clause-refused
 returns-in-Ok-Err-clause-refused c =
@@ -21,7 +21,7 @@ returns-in-Ok-Err-clause-refused c =
     (wrong_line (limits_reader (app_of c.args.app.now)) c.args.bytes.now c.loop-rest.rest.now
     c.first_line.result.1.now c.first_line.result.0.now c.loop-rest.number c.loop-rest.limits c.in-Ok-Err.wrong
     c.loop-rest.invariant c.first_line.ensures.lines (omega arith)
-    (rw c.in-Ok-Err.field-0-is at c.in-Ok-Err.ensures)))
+    (rw c.in-Ok-Err.field-0-is at c.in-Ok-Err.ensures.taken)))
 
 pub returns-in-Err-clause-refused : goal.returns-in-Err-clause-refused
 returns-in-Err-clause-refused c = no_memory

@@ -11,7 +11,7 @@ pub loop-rest-preserved : goal.loop-rest-preserved
 loop-rest-preserved c =
     line_more (script_reader c.args.names.now) c.args.bytes.now c.loop-rest.rest.now c.first_line.result.1.now
     c.first_line.result.0.now c.loop-rest.number c.loop-rest.script c.take_line.new.script c.loop-rest.invariant
-    c.first_line.ensures.lines c.first_line.ensures.shorter (rw c.in-Ok-Ok.field-0-is at c.in-Ok-Ok.ensures)
+    c.first_line.ensures.lines c.first_line.ensures.shorter (rw c.in-Ok-Ok.field-0-is at c.in-Ok-Ok.ensures.taken)
 
 pub returns-in-Ok-Err-clause-refused : goal.returns-in-Ok-Err-clause-refused
 returns-in-Ok-Err-clause-refused c =
@@ -19,7 +19,7 @@ returns-in-Ok-Err-clause-refused c =
     (first_wrong (c.loop-rest.number + 1) c.in-Ok-Err.wrong
     (wrong_line (script_reader c.args.names.now) c.args.bytes.now c.loop-rest.rest.now c.first_line.result.1.now
     c.first_line.result.0.now c.loop-rest.number c.loop-rest.script c.in-Ok-Err.wrong c.loop-rest.invariant
-    c.first_line.ensures.lines (omega arith) (rw c.in-Ok-Err.field-0-is at c.in-Ok-Err.ensures)))
+    c.first_line.ensures.lines (omega arith) (rw c.in-Ok-Err.field-0-is at c.in-Ok-Err.ensures.taken)))
 
 pub returns-in-Err-clause-refused : goal.returns-in-Err-clause-refused
 returns-in-Err-clause-refused c = no_memory
