@@ -2,6 +2,7 @@
 """Tries ./test, tools/test and .ci/run with a stand-in for the toolchain and tests of their own: what they count."""
 import os
 import pathlib
+import re
 import shutil
 import subprocess
 import sys
@@ -9,7 +10,7 @@ import tempfile
 import time
 
 ROOT = pathlib.Path(__file__).resolve().parents[2]
-SCRIPTS = ("test", "tools/test", ".ci/run")
+SCRIPTS = ("test", "tools/test", "tools/testing/main.py", ".ci/run")
 # It notes its words and its folder, writes a line, waits for a file where one is named, and writes the rest.
 STAND_IN = """#!/bin/sh
 echo "$PWD $*" >>"$CASE/calls"
@@ -20,7 +21,22 @@ exit "$(cat "$CASE/status")"
 """
 WELL, WRONG, PARTLY, LEFT_OUT = "print('well')", "print('no'); exit(3)", "print('{}: skipped in part: no x')", \
     "print('{}: skipped: no y')"
+KILLED = "import os; os.kill(os.getpid(), 9)"
+# It writes a line, says that it is there, waits for another one where one is named, and writes the rest.
+MEETS = """import os, pathlib, time
+print('{} first', flush=True)
+at = pathlib.Path(os.environ['CASE'])
+(at / '{} is there').touch()
+until = time.monotonic() + %s
+while not (at / '@ is there').exists() and time.monotonic() < until:
+    time.sleep(0.01)
+print('{} last', (at / '@ is there').exists())
+time.sleep(%s)
+exit(%s)
+"""
 NEEDED = ("sh", "readlink", "dirname", "basename", "mktemp", "rm", "tee", "cat", "tail", "sed", "grep", "date", "sleep")
+# for what takes less than one, also on a busy machine
+SECONDS = 100
 faults, count = [], 0
 
 
@@ -37,12 +53,12 @@ class Case:
 
     def __init__(self, folder, tests, says="10 passed, 0 failed", status=0):
         self.folder, self.root = folder, folder / "some root"
-        (self.root / "tools" / "tests").mkdir(parents=True)
-        (self.root / ".ci").mkdir()
+        for part in ("tools/tests", "tools/testing", ".ci"):
+            (self.root / part).mkdir(parents=True)
         for script in SCRIPTS:
             shutil.copy(ROOT / script, self.root / script)
         for name, text in zip("abcdef", tests):
-            (self.root / "tools" / "tests" / f"{name}.py").write_text(text.format(name))
+            (self.root / "tools" / "tests" / f"{name}.py").write_text(text.replace("{}", name))
         (folder / "says").write_text(f"{says}\n")
         (folder / "status").write_text(str(status))
         (folder / "bin").mkdir()
@@ -63,7 +79,7 @@ class Case:
     def run(self, *given, **more):
         """The status of a script, the last line, all lines, and what it complained of."""
         process = self.start(*given, **more)
-        said, complained = process.communicate(timeout=30)
+        said, complained = process.communicate(timeout=SECONDS)
         return process.returncode, (said.splitlines() or [""])[-1], said, complained
 
 
@@ -109,19 +125,39 @@ def try_missing(new):
     expect(f"no rt: {status} {said} {complained}", (status, said, complained.count("\n")) == (69, "", 1))
 
 
+def meeting(other, seconds, status):
+    """A test that goes on when another one is there too, and takes some seconds more."""
+    return MEETS.replace("@", other) % (SECONDS // 2, seconds, status)
+
+
+def try_side_by_side(new):
+    """Two tests at least run at the same time; what each writes is whole, and which ends first changes nothing."""
+    for first, second in ((0, 0.5), (0.5, 0)):
+        tests = [meeting("b", first, 4), meeting("a", second, 3), LEFT_OUT, WELL]
+        status, last, said, _ = new(tests).run("tools/test")
+        lines = [re.sub(r", \d+ s$", "", line) for line in said.splitlines()]
+        due = ["a first", "a last True", "tools/tests/a.py: status 4", "b first", "b last True",
+               "tools/tests/b.py: status 3", "c: skipped: no y", "tools/tests/c.py: status 0", "well",
+               "tools/tests/d.py: status 0"]
+        expect(f"side by side, {first}: {said}", lines[:-1] == due)
+        expect(f"both are counted: {status} {last}", (status, last) == (4, "1 passed, 2 failed, 1 skipped (c: no y)"))
+    status, last, _, _ = new([WELL, KILLED, WRONG]).run("tools/test")
+    expect(f"a test is killed: {status} {last}", (status, last) == (137, "1 passed, 2 failed, 0 skipped"))
+
+
 def try_stream(new):
     """What the gate's command writes is shown as it comes."""
     case = new([WELL])
     process, begun = case.start(WAITS="1"), time.monotonic()
     line = process.stdout.readline()
     (case.folder / "goes on").write_text("")
-    process.communicate(timeout=30)
-    expect(f"a line before the end: {line}", line == "rt: low proved\n" and time.monotonic() - begun < 20)
+    process.communicate(timeout=SECONDS)
+    expect(f"a line before the end: {line}", line == "rt: low proved\n" and time.monotonic() - begun < SECONDS // 2)
 
 
 def main():
     with tempfile.TemporaryDirectory() as name:
-        for number, each in enumerate((try_sums, try_failures, try_missing, try_stream)):
+        for number, each in enumerate((try_sums, try_failures, try_missing, try_side_by_side, try_stream)):
             made = iter(range(100))
             each(lambda *given, at=number: Case(pathlib.Path(name) / f"{at}.{next(made)}", *given))
     for fault in faults:

@@ -1,0 +1,1 @@
+"""What `tools/test` does: it runs the tests of the tools side by side, and counts them."""
