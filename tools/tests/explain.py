@@ -23,7 +23,7 @@ sys.path.insert(0, str(HERE.parent))
 sys.dont_write_bytecode = True
 
 from explaining.main import explained_call
-from explaining.program import Program
+from explaining.program import Program, asked_program
 
 PAGE = HERE.parents[1] / "docs" / "EXPLAIN.md"
 FILES = ("app.rtic", "second")
@@ -170,9 +170,12 @@ def pictures_amiss(said):
 
 def main():
     word = sys.argv[1] if len(sys.argv) > 1 else ""
-    if not Program().answers:
+    program = asked_program()
+    if program is None:
         print("explain: skipped: the proved program is not built (./build makes it), and RTIC names no other")
         return 0
+    # looked for here, because a look goes through all sources, and each row would take one
+    os.environ["RTIC"] = os.path.abspath(program)
     rows = [row for path in sorted(HERE.glob("explain/*.rows")) for row in rows_of(path) if word in row[1]]
     begun, wrong, asks, longest, left_out, pictures = time.monotonic(), 0, 0, 0.0, 0, []
     with concurrent.futures.ProcessPoolExecutor(os.cpu_count()) as pool:

@@ -20,7 +20,7 @@ sys.dont_write_bytecode = True
 from explaining.every import Every
 from explaining.patched import Patched
 from explaining.pieces import pieces_of
-from explaining.program import Program
+from explaining.program import Program, asked_program
 from explaining.refusals import refusal_of
 
 COUNT, SEED, MOST, TRIES = 8, 57, 6, 8
@@ -217,9 +217,12 @@ def tried(seed):
 
 
 def main():
-    if not Program().answers:
+    program = asked_program()
+    if program is None:
         print("explain_all: skipped: the proved program is not built (./build makes it), and RTIC names no other")
         return 0
+    # looked for here, because a look goes through all sources, and each text would take one
+    os.environ["RTIC"] = os.path.abspath(program)
     count = int(sys.argv[1]) if len(sys.argv) > 1 else COUNT
     first = int(sys.argv[2]) if len(sys.argv) > 2 else SEED
     begun = time.monotonic()

@@ -20,7 +20,7 @@ sys.path.insert(0, str(HERE.parent))
 sys.dont_write_bytecode = True
 
 from explaining.listing import image_of
-from explaining.program import Program
+from explaining.program import Program, asked_program
 from explaining.seven import least_broken
 
 APPLICATIONS = ("tank", "four", "pump", "back")
@@ -164,9 +164,12 @@ def listings():
 
 
 def main():
-    if not Program().answers:
+    program = asked_program()
+    if program is None:
         print("explain_images: skipped: the proved program is not built (./build makes it), and RTIC names no other")
         return 0
+    # looked for here, because a look goes through all sources, and each listing would take one
+    os.environ["RTIC"] = os.path.abspath(program)
     count = int(sys.argv[1]) if len(sys.argv) > 1 else COUNT
     begun, chance, whole = time.monotonic(), random.Random(SEED), listings()
     texts = [broken(chance, chance.choice(whole)) for _ in range(count)]
