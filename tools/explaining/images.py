@@ -1,6 +1,7 @@
 """Refused listings, and images that break a rule: what is wrong, and what is due."""
 import re
 
+from . import rows
 from .listing import image_of
 from .points import TooMany
 from .scripts import Line
@@ -12,8 +13,10 @@ TRACE = re.compile(r"\d+ [a-z]+\b")
 SCRIPT = re.compile(r"(?:#[^\n]*\n|\s)*(?:step|tick|pend|device) ")
 
 
-def image_line(number, source, front, size, table):
-    """What is wrong with the first line of a listing with which the lines begin none; its text has this beginning."""
+def image_line(number, lines, line, front, ended, size, table):
+    """What is wrong with the first line of a listing with which the lines begin none; its text has this beginning, and
+    its last line has its line feed or not."""
+    source = lines[line - 1] if line <= len(lines) else ""
     said = Line(source)
     key = f"image {number}"
     said.cause = table.cause(key, A=Phrase(f"{size:,}"))
@@ -24,6 +27,8 @@ def image_line(number, source, front, size, table):
         said.cause = "the line ends with a carriage return, and a line feed alone is due"
     elif number == 2 and source != " ".join(source.split()):
         said.cause = "words are separated by one space, with none before the first or after the last"
+    elif number == 2 and (cause := rows.cause_of(lines, line, ended)):
+        said.cause, said.helps = cause[0], list(cause[1:])
     return said
 
 
@@ -36,6 +41,12 @@ def other_text(said, front):
         said.cause = "this looks like a script, and `verify` takes the listing of an image"
     elif TRACE.match(front):
         said.cause = "this looks like a trace, and `verify` takes the listing of an image"
+    elif front.startswith(("#", "//", ";", "--")):
+        said.cause = "a listing has no comments, and its first line is `image ..`"
+        said.helps = []
+    else:
+        said.cause = "the first line is `image 1 BITS STACK THREAD CODE CELLS`, or `image 2 ..` with the extended frame"
+        said.helps = []
 
 
 def broken(text, number):

@@ -162,7 +162,8 @@ class Explained:
         lines, size = self.first_lines(place, line), os.path.getsize(self.paths[place])
         source = lines[line - 1] if line <= len(lines) else ""
         if which == "image":
-            said = images.image_line(number, source, self.text(0)[:FRONT], size, self.table)
+            text = self.text(0)
+            said = images.image_line(number, lines, line, text[:FRONT], text.endswith("\n"), size, self.table)
         elif which == "script":
             said = scripts.script_line(tree_of(self.text(0)), number, source, lines, size, self.table)
         elif which == "limits":
