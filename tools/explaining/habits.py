@@ -62,8 +62,10 @@ FUNCTIONS = [
 ]
 ENDED = "a statement ends with `;`"
 BEGINS = r"(?:let|if|for|lock|emit|pend|spawn|spawn_after|cancel|reschedule_after|\}|\w+ =(?!=))"
-WORD_SIGNS = {"mod": "%", "div": "/", "xor": "^", "shl": "<<", "shr": ">>", "rem": "%", "eq": "==", "ne": "!=", "is": "==",
-              "equals": "==", "isnt": "!=", "gt": ">", "lt": "<"}
+WORD_SIGNS = {
+    "mod": "%", "div": "/", "xor": "^", "shl": "<<", "shr": ">>", "rem": "%", "eq": "==", "ne": "!=", "is": "==",
+    "equals": "==", "isnt": "!=", "gt": ">", "lt": "<",
+}
 
 FOREIGN = [
     (r"", r"# \[ (?:rtic : : )?app\b",
@@ -263,13 +265,15 @@ SYNTAX = [
     (r"\}$", r"else\b", "an `else` comes once, directly after the block of its `if`"),
     (r"\btask (?P<t>\w+) \{$", r"(?P<w>binds|priority|capacity|shared|local) =",
      "options go in parentheses: `task <t>(<w> = ..) { .. }`"),
+    (r"\bfor (?P<x>\w+) in$", r"\( (?P<n>\d+) \.\. (?P<m>\d+) \)",
+     "the bounds of a `for` have no parentheses: `<n>..<m>`"),
     (r"\bfor \w+ in(?: \w+ \.\.)?$", r"[A-Za-z_(]",
      "the bounds of a `for` are numbers; inside it an `if` can pass over what is too many"),
     (r"\bfor (?P<x>\w+) in (?P<n>\w+)$", r"\{", "a loop has two bounds: `for <x> in 0..<n> { .. }`"),
     (r"&$", r"&", COMPARED.replace("<w>", "&&").replace("<o>", "&")),
     (r"\|$", r"\|", COMPARED.replace("<w>", "||").replace("<o>", "|")),
-    (r"\w\)?$", r"(?P<w>and)\b", COMPARED.replace("<o>", "&")),
-    (r"\w\)?$", r"(?P<w>or)\b", COMPARED.replace("<o>", "|")),
+    (r"(?:\w|\))$", r"(?P<w>and)\b", COMPARED.replace("<o>", "&")),
+    (r"(?:\w|\))$", r"(?P<w>or)\b", COMPARED.replace("<o>", "|")),
     *[(r"\bnot$", rf"(?P<a>[A-Za-z_]\w*) {sign} (?P<b>\w+)",
        f"there is no `not`: for `not <a> {sign} <b>` write `<a> {other} <b>`") for sign, other in OPPOSITE.items()],
     (r"\bnot$", r"(?P<x>[A-Za-z_]\w*)", "there is no `not`: write `<x> == 0`"),
@@ -289,6 +293,8 @@ SYNTAX = [
     (r"\bif [^;{}]*$", r"=(?: |$)", "to compare is `==`"),
     (r"@ \w+$", r"==", "to assign is `=`"),
     (r"@ \w+ = [^;{}]*$", r"=(?: |$)", "an assignment has no value: write two of them"),
+    (r"\blet (?P<x>\w+) =$", r"lock\b(?: (?P<r>[A-Za-z_]\w*))?",
+     "a lock has no value: assign the variable inside, `let <x> = 0; lock <r> { <x> = <r>; }`"),
     (r"\blet (?P<x>\w+)$", r";", "a variable begins with a value: `let <x> = 0;`"),
     (r"\blet$", r"\(", "a `let` declares one variable"),
     (r"@ (?:const |volatile |static )?(?:unsigned |signed |long )?"
@@ -327,6 +333,7 @@ SYNTAX = [
      "there is no sign before a number: write `0 - <n>`, which wraps"),
     (r"\block$", r"\| (?P<x>\w+)", "there are no closures: `lock <x> { .. }`"),
     (r"\block (?:\w+ , )*(?P<x>\w+)$", r";", "a lock holds for its block: `lock <x> { .. }`"),
+    (r"\bbinds =$", r"\[", "`binds` names one interrupt: give each interrupt a task of its own"),
     (r"\bpend$", r"(?P<n>\d+)", "an interrupt is named, not numbered: `pend I;`"),
     (r"\bspawn (?P<t>\w+)$", r"[;}]",
      "a spawn has parentheses, with the values in them if there are any: `spawn <t>();`"),
@@ -334,6 +341,8 @@ SYNTAX = [
      "a `cancel` names the task, and has the handle in parentheses: `cancel foo(<h>);`"),
     (r"\b(?P<w>spawn_after|reschedule_after)$", r"(?P<n>\w+) (?P<t>[A-Za-z_]\w*)",
      "the delay goes in parentheses: `<w>(<n>) <t>();`"),
+    (r"\blet (?P<x>\w+) = now$", r"[-+*/%&|^<>]|[=!]=",
+     "`now` is only the whole value of a `let`: write `let time = now;` before this"),
     (r"", r"now\b", "`now` is only the whole value of a `let`: `let x = now;`"),
     (r"(?:[=(,+*/%&|^<>-]|emit|if)$", r"(?P<w>spawn|spawn_after|cancel|reschedule_after)\b",
      "`<w>` is a statement, or the whole value of a `let`: `let x = <w> ..;`"),
@@ -356,6 +365,7 @@ SYNTAX = [
      "`bits` comes first, then `dispatchers`, then `fpu`"),
     (r"\bfpu =$", r"\w", "leave `fpu` out where the core has no floating-point extension"),
     (r"", r"(?:true|false)\b", "`true` is 1 and `false` is 0"),
+    (r"\bfor$", r"\w+ \.\.", "a loop has a variable of its own: `for i in 0..8 { .. }`"),
     (r"\b(?:app|task|let|lock|pend|with|for)$", r"\d", "a name begins with a letter or `_`"),
     (r"\b(?:app|task) (?P<x>\w+)$", r"- (?P<y>\w+)", "names have letters, digits and `_`: write `<x>_<y>`"),
     (r"\binterrupts \{ (?:[^}]*, )?(?P<x>[A-Za-z_]\w*)$", r"[,}]",
@@ -366,6 +376,7 @@ SYNTAX = [
      "a first value is a number; what is computed is set in `init`"),
     (r"\b(?:shared|local|interrupts) \{ [^}]*= \w+$", r";", "commas separate what is in a list"),
     (r"\}$", r";", BRACES),
+    (r"@ if [^;{}]*(?:\w|\))$", r"then\b", "there is no `then`: the block comes after the value, `if a { .. }`"),
     (r"@ if [^;{}]*(?:\w|\w \))$", r"[A-Za-z_]", BLOCKS),
     (rf"(?:^|(?<!\w))(?P<f>{OTHER_NAME})$", r"\(", "there are no functions: write here what `<f>` is to calculate"),
     (r"\belse$", r"\w", "what depends on an `else` goes in braces: `else { .. }`"),

@@ -6,6 +6,7 @@ from .tokens import place_of
 COMMENT = "a comment begins with `//` and ends with its line"
 LISTS = ("shared", "local", "dispatchers")
 AFTER_LIST = ("binds", "priority", "capacity", "shared", "local", "bits", "fpu", "with")
+OPTIONS = ("binds", "priority", "capacity", "shared", "local", "dispatchers", "fpu")
 GROUPED = re.compile(r"\d{1,3}(?:(,| )\d{3})(?:\1\d{3})*(?!\d)")
 CLOSED = {"{": "}", "(": ")", "[": "]"}
 STATEMENTS = "`let`, `if`, `for`, `lock`, `emit`, `pend` or a spawn"
@@ -63,6 +64,31 @@ def lettered(syntax, found):
     text = syntax.token.text
     if found == {"a number"} and re.fullmatch(r"[lIOo0-9]+", text):
         return f"`{text}` is a name: with digits it is `{text.translate(DIGITS)}`"
+    return None
+
+
+def unnamed_option(syntax, found):
+    """An interrupt or a number in the place of a task's option."""
+    if {"binds", ")"} <= found and syntax.token.text in syntax.named.interrupts:
+        return f"options have names: `binds = {syntax.token.text}`"
+    if {"priority", ")"} <= found and syntax.token.kind == "number":
+        return f"options have names: `priority = {syntax.token.text}`"
+    return None
+
+
+def no_comma(syntax, found):
+    """An option directly after another one."""
+    if {",", ")"} <= found and syntax.token.text in OPTIONS and syntax.front[-1].text != ",":
+        return f"a `,` comes between two options: write one after `{syntax.front[-1].text}`"
+    return None
+
+
+def typed(syntax, found):
+    """A type, or another word, before the name of a row."""
+    behind = syntax.rest[1].text if len(syntax.rest) > 1 else ""
+    if found == {"="} and syntax.token.kind == "name" and behind == "=" and syntax.front[-2].text in ("{", ","):
+        if not syntax.in_body:
+            return f"a row is `{syntax.token.text} = ..`, with one name: leave `{syntax.front[-1].text}` out"
     return None
 
 

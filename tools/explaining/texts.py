@@ -6,7 +6,8 @@ import unicodedata
 from .calls import Named, called, nearly, unknown_word, without_handle, without_task
 from .habits import FOREIGN, NO_TEXTS, SYNTAX, looked_up
 from .marks import ended_early, glued, grouped, left_out, lettered, no_operand, no_operator, no_statement, other_end
-from .marks import stroke, unclosed_list, unopened
+from .marks import no_comma, stroke, typed, unclosed_list, unnamed_option, unopened
+from .braces import unclosed
 from .pieces import pieces_of
 from .table import Phrase
 from .tokens import WORDS, Token, nearest, offset_of, place_of, skipped_bytes, tokens_of
@@ -124,12 +125,13 @@ def syntax_help(syntax, found, program, table):
     help_ = None
     for one in (without_task, without_handle, called, unknown_word, nearly):
         help_ = help_ or one(syntax, found)
-    for one in (unclosed_list, stroke, grouped, unopened, lettered):
+    for one in (unclosed_list, stroke, grouped, unopened, lettered, unnamed_option):
         help_ = help_ or one(syntax, found)
     help_ = help_ or looked_up(SYNTAX, syntax.before, syntax.behind)
-    for one in (returns, again, unclosed, misspelt, declared, twice, missing, no_name, chained, no_interrupts):
+    for one in (returns, again, unclosed, misspelt, declared, twice, no_comma, missing, no_name, chained,
+                no_interrupts):
         help_ = help_ or one(syntax, found)
-    for one in (glued, no_operand, no_operator, ended_early):
+    for one in (glued, typed, no_operand, no_operator, ended_early):
         help_ = help_ or one(syntax, found)
     if not help_ and found:
         help_ = repaired(syntax, found, program)
@@ -192,23 +194,6 @@ def twice(syntax, found):
     if syntax.token.text in options and ")" in found and f" {syntax.token.text} =" in syntax.before[opened:]:
         return f"`{syntax.token.text}` comes here a second time, and an option comes once"
     return None
-
-
-def unclosed(syntax, found):
-    """A brace that is open at the end of the text, or where a task or a declaration begins."""
-    if syntax.token.kind != "end" and not (syntax.token.text in DECLARED and "}" in found):
-        return None
-    opened, last = [], None
-    for token in syntax.front:
-        if token.text in ("{", "(", "["):
-            opened.append(token)
-            last = token
-        elif token.text in ("}", ")", "]") and opened:
-            opened.pop()
-    if not opened:
-        return None
-    line = place_of(syntax.text, opened[-1].at)[0]
-    return f"the `{opened[-1].text}` of line {line} is not closed" + (", or one after it" * (last is not opened[-1]))
 
 
 def missing(syntax, found):
