@@ -3,8 +3,8 @@ import re
 
 from .costs import MOST_CODE, MOST_STEPS, Costs, armed_tasks, sizes_before
 from .table import Phrase
-from .tokens import nearest
-from .tree import CALLS
+from .tokens import Token, nearest
+from .tree import CALLS, Call
 from .walk import statements_of, uses_of
 
 KINDS = {
@@ -140,7 +140,8 @@ class Rules:
         """Whether the name is a variable, here or elsewhere; then it is said."""
         scoped = use.around.variable(name)
         if scoped and wanted == "shared":
-            self.row(table, "E05 kind", N=name, K=Phrase(KINDS["variable"]), W=Phrase(KINDS[wanted]))
+            self.row(table, "E05 resource", N=name, K=Phrase(KINDS["variable"]), W=Phrase(KINDS[wanted]))
+            self.help("a variable is of one body alone, and needs no lock")
             self.note(f"`{name}` is declared here", scoped[0])
             return True
         if self.declared(name):
@@ -152,6 +153,8 @@ class Rules:
             return False
         before = [found for found in own if found.token.at < self.at and self.closed(body, found)]
         key = "E05 ended" if before else "E05 later" if own else "E05 elsewhere"
+        if before and before[-1].role == "loop":
+            key = "E05 ended loop"
         self.row(table, key, N=name)
         found = before[-1] if before else own[0] if own else rows[0][1]
         self.note(f"`{name}` is declared here", found.token)
@@ -167,6 +170,8 @@ class Rules:
 
     def other_kind(self, table, name, wanted, kind, token):
         key = "E05 kind" if wanted != "value" else "E05 value kind"
+        if {wanted, kind} == {"shared", "local"}:
+            key = "E05 resource"
         self.row(table, key, N=name, K=Phrase(KINDS[kind]), W=Phrase(KINDS[wanted]))
         self.note(f"`{name}` is declared here", token)
         task = self.app.task(name)
@@ -176,6 +181,9 @@ class Rules:
             self.help(f"`{name}` is a software task: `spawn {name}(..);` sends it a message")
         elif wanted == "task" and kind == "interrupt":
             self.help(f"`pend {name};` makes its task run")
+        elif wanted == "value" and kind == "interrupt":
+            number = next(row[1].value for row in self.app.interrupts if row[0].text == name)
+            self.help(f"an interrupt is no value: the number of `{name}` is {number}")
         elif wanted == "shared" and kind == "local":
             self.help("a local resource is of one body, and is used without a lock")
         elif wanted == "local" and kind == "shared":
@@ -220,6 +228,9 @@ class Rules:
         taken = [(kind, token) for kind, token in self.declared(name) if kind in ("shared", "local")]
         if taken:
             self.row(table, "E06 local" if taken[0][0] == "local" else "E06 named", N=name)
+        elif use.role == "bind" and isinstance(use.node.value, (Call, Token)):
+            word = use.node.value.word if isinstance(use.node.value, Call) else use.node.value
+            self.row(table, "E06 answer", N=name, C=word.text)
         else:
             self.row(table, "E06 variable", N=name)
         first = taken[0][1] if taken else use.around.variable(name)[0]
@@ -230,9 +241,10 @@ class Rules:
         app = self.app
         tokens = [task.priority for task in app.tasks if task.priority] + ([app.monotonic[2]] if app.monotonic else [])
         value = next(token.value for token in tokens if token.at == self.at)
-        needed = max((value - 1).bit_length(), 3)
+        greatest = max(token.value for token in tokens)
+        needed = max((greatest - 1).bit_length(), 3)
         key = "E07 zero" if value == 0 else "E07" if needed <= 7 and value % 8 else "E07 value"
-        if key == "E07 value" and needed <= 7 and value <= 2 * 2**app.bits:
+        if key == "E07 value" and needed <= 7 and greatest <= 2 * 2**app.bits:
             key = "E07"
         self.row(table, key, A=Phrase(f"{2 ** app.bits:,}"), M=str(app.bits), N=str(needed))
 
@@ -260,14 +272,20 @@ class Rules:
             tasks = [task.name for task in app.tasks if task.is_software and task.level == level]
             told = ", ".join(f"`{token.text}`" for token in tasks)
             self.note(f"the priority {level} has the software task{'s' * (len(tasks) > 1)} {told}", tasks[0])
-        used = {token.text for token in app.dispatchers} | {task.binds.text for task in app.tasks if task.binds}
-        used |= {app.monotonic[1].text} if app.monotonic else set()
-        free = [f"`{row[0].text}`" for row in app.interrupts if row[0].text not in used]
         spawned = {use.token.text for body in app.bodies for use in uses_of(body) if use.role in CALLS}
         for task in app.tasks:
             if task.is_software and task.name.text not in spawned:
                 self.help(f"nobody spawns `{task.name.text}`: if it is to serve an interrupt, write `binds = ..` into "
                           "its options")
+        self.unused()
+
+    def unused(self):
+        """Interrupts that could serve what is asked for, because they serve nothing."""
+        app = self.app
+        used = {token.text for token in app.dispatchers} | {task.binds.text for task in app.tasks if task.binds}
+        used |= {app.monotonic[1].text} if app.monotonic else set()
+        used |= {use.token.text for body in app.bodies for use in uses_of(body) if use.role == "pend"}
+        free = [f"`{row[0].text}`" for row in app.interrupts if row[0].text not in used]
         if free:
             verb = "is" if len(free) == 1 else "are"
             self.help(f"{' and '.join(free[:2])} {verb} declared and used by nothing")
@@ -275,7 +293,7 @@ class Rules:
     def e10(self, table):
         _, _, name = self.listing()
         first, token = next((body, row) for body in self.app.bodies for row in body.local if row.text == name.text)
-        self.row(table, "E10", N=name.text, B=first.name.text)
+        self.row(table, "E10 init" if first.kind == "init" else "E10", N=name.text, B=first.name.text)
         self.note("it is listed first here", token)
 
     def e11(self, table):
@@ -311,10 +329,12 @@ class Rules:
             self.help(f"{who}: declared in `local {{ {name} = .. }}` and listed in `local = [{name}]` it needs no lock")
 
     def e12(self, table):
-        _, use = self.use()
-        name = use.token.text
-        self.row(table, "E12", N=name)
-        self.note("the lock round it is here", next(lock for lock in use.around.locks if lock.text == name))
+        body, use = self.use()
+        name, node = use.token.text, use.node
+        first = next(lock for lock in use.around.locks if lock.text == name)
+        locks = [one for one in statements_of(body.block) if one.kind == "lock" and one.block.at == node.block.at]
+        self.row(table, "E12 names" if len(locks) > 1 else "E12", N=name)
+        self.note("the lock round it is here", first)
 
     def e13(self, table):
         body, _, row = self.listing()
@@ -331,7 +351,8 @@ class Rules:
     def e14(self, table):
         body, _, row = self.listing()
         first, listed = self.listings_of(row.name.text)[0]
-        self.row(table, "E14", B=body.name.text, A=Phrase(str(body.level)), T=first.name.text,
+        idle = "idle" in (body.kind, first.kind)
+        self.row(table, "E14 idle" if idle else "E14", B=body.name.text, A=Phrase(str(body.level)), T=first.name.text,
                  M=Phrase(str(first.level)), N=row.name.text)
         self.note("it is listed first here", listed.name)
 
@@ -356,6 +377,7 @@ class Rules:
     def e16(self, table):
         body, use = self.use()
         self.row(table, "E16", N=use.role)
+        self.unused()
 
     def e17(self, table):
         app, body = self.app, self.body()
