@@ -37,8 +37,11 @@ def bad_line(said, words, lines, table):
         said.at(words[-1] if len(words) < 3 else words[3], "the form is `every I N`")
     elif not NAME.fullmatch(words[1]):
         said.at(words[1], f"`every` wants the name of an interrupt, and `{words[1]}` is none")
+        if NAME.fullmatch(words[2]) and NUMERAL.fullmatch(words[1]):
+            said.helps = [f"the interrupt comes first: `every {words[2]} {words[1]}`"]
     elif not NUMERAL.fullmatch(words[2]) or len(words[2]) > 9:
         said.at(words[2], f"`{words[2]}` is no number of one to nine digits")
+        said.helps = ["it is a number of core steps, and has no unit"]
     elif int(words[2]) == 0:
         said.at(words[2], "requests lie at least 1 core step apart")
     else:

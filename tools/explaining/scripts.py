@@ -15,6 +15,9 @@ HASH = "a comment begins with `#`, and has a line of its own"
 EVENTS, SCRIPT_BYTES, LARGEST = 1_000_000, 1_048_576, 4_294_967_295
 NUMERAL = re.compile(r"[0-9]+")
 SECTION = re.compile(r"(free|ready|timer)\.")
+WORDS = ("step", "tick", "pend", "device")
+NUMBERS = ("V", "H", "DEPTH", "K")
+ROWS = ("image", "cell", "irq", "body", "code")
 
 
 class Line:
@@ -77,14 +80,20 @@ def bad_line(app, said, words, table):
     if source != source.strip(" \t") or source.endswith("\r"):
         said.at(source.strip(" \t"), "a blank comes before the first word, or after the last")
         return said
-    if words[0] not in ("step", "tick", "pend", "device"):
+    if words[0] not in WORDS:
         said.at(words[0], f"no line of a script begins with `{words[0]}`")
         if words[0].startswith(("//", "--", ";", "/*")):
             said.helps = [HASH]
         elif words[0] == "app":
             said.helps = ["this looks like an application; the application comes first, then the script"]
-        elif words[0].lower() in ("step", "tick", "pend", "device"):
+        elif words[0].lower() in WORDS:
             said.helps = [f"write `{words[0].lower()}`"]
+        elif words[0] in ("repeat", "loop", "for", "while", "times", "end", "done"):
+            said.helps = ["a script has no loops: `pend I N` requests N times, and `step N` takes N steps"]
+        elif NUMERAL.fullmatch(words[0]) and words[1:] and words[1] in WORDS:
+            said.helps = ["a line has no time in front: `step N` before it lets N core steps pass"]
+        elif words[0].startswith(("spawn", "cancel", "reschedule", "emit")):
+            said.helps = ["a script requests interrupts alone: `pend I`, and the task that binds I sends the message"]
         else:
             said.helps = [forms]
         return said
@@ -111,10 +120,20 @@ def short_words(app, said, words):
                 f"`pend` wants the name of an interrupt, and `{words[1] if len(words) > 1 else ''}` is none")
         rows = [row[0].text for row in app.interrupts if len(words) > 1 and words[1] == str(row[1].value)]
         said.helps = [f"the interrupt of number {words[1]} is `{rows[0]}`"] if rows else []
-        return said
+        return ended_with_sign(said, words[1] if len(words) > 1 else "", words[2:])
     if len(words) > 3:
         return said.at(words[3], "at most one number comes after `pend I`")
     return said.at(words[2], f"`{words[2]}` is no number of one to nine digits")
+
+
+def ended_with_sign(said, word, behind):
+    """A sign that other languages have after a word: a line has none, and one interrupt."""
+    name = word.rstrip(",;:")
+    if name != word and re.fullmatch(r"[A-Za-z_]\w*", name):
+        said.helps = [f"write `{name}`, with no sign after it"]
+        if behind and not NUMERAL.fullmatch(behind[0]):
+            said.helps = ["a line requests one interrupt: write a line for each"]
+    return said
 
 
 def unknown_interrupt(app, said, name, table):
@@ -167,7 +186,12 @@ def bad_item(app, said, lines, line, table):
         said.helps = ["leave it out, or the listing in front in"]
     elif not re.fullmatch(r"[0-9]+", words[0]):
         said.at(words[0], f"a line begins with a number, that of the core steps before it, and `{words[0]}` is none")
-        if words[0] in ("step", "pend", "tick", "device", "#", "app"):
+        if words[0] in ROWS:
+            said.helps = ["this is a line of a listing, and the listing's first line, `image ..`, is not in front: "
+                          "leave out all lines down to the line `trace`"]
+        elif re.match(r"\d+[,;:\t]", words[0]):
+            said.helps = ["one space comes between two words, and no other sign"]
+        elif words[0] in ("step", "pend", "tick", "device", "#", "app"):
             looks = "an application" if words[0] == "app" else "a script"
             said.helps = [f"this looks like {looks}; `audit` takes an application and then a trace"]
     else:
@@ -200,6 +224,16 @@ def bad_words(app, said, words):
         said.cause = "the form is `leave X`: only a resource's section has a value after it"
     else:
         said.cause = f"the form is `{f'{words[1]} {FORMS[words[1]]}'.strip()}`{MEANING.get(words[1], '')}"
+        wrong_number(said, words[2:], FORMS[words[1]].split(" "))
+
+
+def wrong_number(said, words, letters):
+    """A word in the place of a number, where there are as many words as the form has."""
+    if len(words) == len(letters) and not letters[0] == "X":
+        for word, letter in zip(words, letters):
+            if letter in NUMBERS and not NUMERAL.fullmatch(word):
+                said.at(word, f"`{word}` is no number: numbers are decimal, with no sign and no unit")
+                return
 
 
 def unknown_in_trace(app, said, words, table):
