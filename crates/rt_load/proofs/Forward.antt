@@ -1,10 +1,9 @@
 -- The lines of the listing of a loadable image are taken, one after another, and tell the image.
 use Rattle.std.proofs.Common.{◌≡◌, ◌<◌, ◌^◌, ℕ, suc, Bool, true, false, ◌&&◌, nat_lt, nat_le, List, [], ◌∷◌, ◌++◌}
-use Rattle.std.proofs.Common.{length, map, decimal, codes, bytes_eq, Option, Result, Ok, Err, if◌then◌else◌, refl, ap}
-use Rattle.std.proofs.Common.{sym, ◌∙◌, arith, append_assoc, append-nil, length-append}
+use Rattle.std.proofs.Common.{length, map, decimal, codes, bytes_eq, Option, Some, None, Result, Ok, Err, if◌then◌else◌}
+use Rattle.std.proofs.Common.{refl, ap, sym, ◌∙◌, subst, arith, append_assoc, append-nil, length-append}
 use Rattle.std.specs.List.{AllByRecursion}
 use Rattle.std.proofs.lemmas.Bool.{lt-ltb, le-leb}
-use Rattle.std.proofs.lemmas.List.{map-append}
 use Rattle.rt_lemmas.proofs.Bools.{and_both}
 use Rattle.rt_lemmas.proofs.Membership.{all_weaker}
 use Rattle.rt_ids.specs.declared.limits.TheConstants.{CODE_SIZE, LEAST_BITS, MOST_BITS}
@@ -14,34 +13,30 @@ use Rattle.rt_code.specs.declared.image.IrqRow.{IrqRow}
 use Rattle.rt_code.specs.declared.instr.Instr.{Instr}
 use Rattle.rt_code.specs.declared.instr.Note.{Note}
 use Rattle.rt_lines.specs.Answers.{and_then, and_make}
+use Rattle.rt_lines.specs.Reading.{Lead}
 use Rattle.rt_listing.specs.Listing.{form_word, first_words, first_line}
-use Rattle.rt_listing.proofs.Lines.{Row, row_text, first_row, cell_row, irq_row, body_row, code_row, numbered}
-use Rattle.rt_listing.proofs.Lines.{code_rows, body_rows, irq_rows, cell_rows, listing_rows}
+use Rattle.rt_listing.proofs.Lines.{row_text, first_row, cell_row, irq_row, body_row, code_row, numbered}
+use Rattle.rt_listing.proofs.Lines.{code_rows, body_rows, irq_rows, listing_rows}
 use Rattle.rt_lines.proofs.Numerals.{number_spelled}
 use Rattle.rt_load.specs.Loadable.{IsLoadable, IsLineWithin, Is32Bits}
+use Rattle.rt_load.specs.Reading.{line_with_feed}
 use Rattle.rt_load.specs.Inside.Operand.{number_at, word_at, of_line}
 use Rattle.rt_load.specs.Inside.Noting.{line_at}
 use Rattle.rt_load.specs.Inside.Rows.{three_at}
 use Rattle.rt_load.specs.Inside.Taking.{if_line, front_of, first_at, is_within, take_first, may_add_line, has_cells}
-use Rattle.rt_load.specs.Inside.Taking.{and_line, take_words, take_line, take_lines, take_all}
+use Rattle.rt_load.specs.Inside.Taking.{and_line, take_words, take_line}
+use Rattle.rt_load.specs.Inside.Reader.{told, listing_reader}
 use Rattle.rt_load.specs.declared.front.Front.{Front}
 use Rattle.rt_load.specs.declared.operand.Wrong.{Wrong}
 use Rattle.rt_load.specs.declared.operand.Wrong.TheVariants as wrong
-use Rattle.rt_load.proofs.Lines.{first_text, code_text, words_of_spelled}
+use Rattle.rt_load.proofs.Lines.{first_text, code_text, words_of_spelled, line_of_spelled}
 use Rattle.rt_load.proofs.Lines.{first_spelled, known_names, code_spelled}
+use Rattle.rt_load.proofs.Fed.{step_fed}
 use Rattle.rt_load.proofs.Read.{number_back}
 use Rattle.rt_load.proofs.Written.{line_same}
-use Rattle.rt_load.proofs.ForwardParts.{passes, chooses, taken_append, same_itself}
-use Rattle.rt_load.proofs.ForwardCells.{cells_front, told_shared, cells_taken}
-use Rattle.rt_load.proofs.ForwardRows.{told_irqs, irqs_front, irqs_taken, told_tasks, bodies_front, bodies_taken}
-
-rows_taken : (front next : Front) (xs ys : List Row) → take_lines front (map row_text xs) ≡ Ok next
-    → take_lines front (map row_text (xs ++ ys)) ≡ take_lines next (map row_text ys)
-rows_taken front next xs ys e = ap (take_lines front) (map-append row_text xs ys)
-    ∙ taken_append front next (map row_text xs) (map row_text ys) e
-
-abbrev Ok_front : Front → Result Front Wrong
-Ok_front front = Ok front
+use Rattle.rt_load.proofs.ForwardParts.{passes, chooses, same_itself, RowsLead, row_leads, rows_append}
+use Rattle.rt_load.proofs.ForwardCells.{cells_front, told_shared, cells_lead}
+use Rattle.rt_load.proofs.ForwardRows.{told_irqs, irqs_front, irqs_lead, told_tasks, bodies_front, bodies_lead}
 
 module _ (img : Image) (l : IsLoadable img) where
   -- code
@@ -73,19 +68,19 @@ module _ (img : Image) (l : IsLoadable img) where
       (chooses (may_add_line front) (of_line (line_at img.names (length done) row.1)) (line_may done left line is)
       ∙ ap of_line read)
 
-  code_taken : (done left : List (Instr × Option Note)) → img.code ≡ done ++ left → AllByRecursion IsLineWithin left
+  code_leads : (done left : List (Instr × Option Note)) → img.code ≡ done ++ left → AllByRecursion IsLineWithin left
       → AllByRecursion (λ line. HasInstr img.names line.0) left → AllByRecursion (λ line. HasNote img.names line.1) left
-      → take_lines (code_front done) (map row_text (numbered (code_row img.names) (length done) left)) ≡ Ok
-      (code_front img.code)
-  code_taken done [] is within instrs notes = ap (λ lines. Ok (code_front lines)) (sym (is ∙ append-nil done))
-  code_taken done (line ∷ left) is within instrs notes =
-      let number : suc (length done) ≡ length (done ++ line ∷ []) = omega (arith, length-append done (line ∷ [])) in
-      ap (λ (r : Result Front Wrong). and_then r (λ next. take_lines next
-      (map row_text (numbered (code_row img.names) (suc (length done)) left))))
+      → RowsLead (code_front done) (numbered (code_row img.names) (length done) left) (code_front img.code)
+  code_leads done [] is within instrs notes = ap (λ lines. Some (code_front lines)) (sym (is ∙ append-nil done))
+  code_leads done (line ∷ left) is within instrs notes =
+      let next = done ++ line ∷ [] in
+      let number : length next ≡ suc (length done) = omega (arith, length-append done (line ∷ [])) in
+      row_leads (code_front done) (code_front next) (code_front img.code) (code_row img.names (length done) line)
+      (numbered (code_row img.names) (suc (length done)) left)
+      (code_spelled img.names (length done) line (known_names img.names l.fits.names))
       (code_step done left line is within.0 instrs.0 notes.0)
-      ∙ ap (λ k. take_lines (code_front (done ++ line ∷ [])) (map row_text (numbered
-      (code_row img.names) k left))) number
-      ∙ code_taken (done ++ line ∷ []) left (is ∙ sym (append_assoc done (line ∷ []) left)) within.1 instrs.1 notes.1
+      (subst (λ k. RowsLead (code_front next) (numbered (code_row img.names) k left) (code_front img.code)) number
+      (code_leads next left (is ∙ sym (append_assoc done (line ∷ []) left)) within.1 instrs.1 notes.1))
 
   -- the first line
   form_reads : (fpu : Bool) → bytes_eq (form_word fpu) (codes "2") ≡ fpu
@@ -143,8 +138,8 @@ module _ (img : Image) (l : IsLoadable img) where
   abbrev pub whole : Front
   whole = record { image = img; code = length img.code; cells = length img.cells }
 
-  pub listing_taken : take_all listing_lines ≡ Ok whole
-  listing_taken =
+  pub listing_led : Lead listing_reader None (map line_with_feed listing_lines) (Some whole)
+  listing_led =
       let lim = l.fits in
       let li = l.listable in
       let names = img.names in
@@ -191,12 +186,17 @@ module _ (img : Image) (l : IsLoadable img) where
         code = length img.code;
         cells = length img.cells;
       }) (told_tasks img l) in
-      ap (λ (r : Result Front Wrong). and_then r (λ front. take_lines front (map row_text (cell_rows names img))))
-      first_line_taken
-      ∙ rows_taken (cells_front img []) (irqs_front img l []) a (irq_rows names img)
-      (cells_taken img l [] img.cells refl li.cells lim.cells ∙ ap Ok_front to_irqs)
-      ∙ rows_taken (irqs_front img l []) (bodies_front img l []) b (body_rows names img)
-      (irqs_taken img l 0 [] img.irqs refl lim.irqs words ∙ ap Ok_front to_bodies)
-      ∙ rows_taken (bodies_front img l []) (code_front []) c (code_rows names img)
-      (bodies_taken img l 0 [] img.bodies refl lim.bodies li.bodies ∙ ap Ok_front to_code)
-      ∙ code_taken [] img.code refl lim.code li.instrs li.notes
+      let code = code_leads [] img.code refl lim.code li.instrs li.notes in
+      let bodies = rows_append (bodies_front img l []) (code_front []) whole c (code_rows names img)
+      (subst (RowsLead (bodies_front img l []) c) to_code
+      (bodies_lead img l 0 [] img.bodies refl lim.bodies li.bodies)) code in
+      let irqs = rows_append (irqs_front img l []) (bodies_front img l []) whole b (body_rows names img)
+      (subst (RowsLead (irqs_front img l []) b) to_bodies (irqs_lead img l 0 [] img.irqs refl lim.irqs words)) bodies in
+      let cells = rows_append (cells_front img []) (irqs_front img l []) whole a (irq_rows names img)
+      (subst (RowsLead (cells_front img []) a) to_irqs (cells_lead img l [] img.cells refl li.cells lim.cells)) irqs in
+      let first = first_row img (length img.code) (length img.cells) in
+      let spelled = first_spelled img (length img.code) (length img.cells) in (
+        Some (cells_front img []),
+        step_fed None (row_text first) (line_of_spelled first spelled) ∙ ap told first_line_taken,
+        cells,
+      )

@@ -1,7 +1,7 @@
 -- The lines of the cells of a loadable image are taken, one after another.
 use Rattle.std.proofs.Common.{◌≡◌, ◌<◌, ℕ, suc, Bool, true, false, not, nat_lt, List, [], ◌∷◌, ◌++◌, length, map}
-use Rattle.std.proofs.Common.{filter, take, decimal, Result, Ok, Err, if◌then◌else◌, refl, ap, sym, ◌∙◌, arith}
-use Rattle.std.proofs.Common.{append_assoc, append-nil, length-append, slice_get}
+use Rattle.std.proofs.Common.{filter, take, decimal, Some, Result, Ok, Err, if◌then◌else◌, refl, ap, sym, ◌∙◌, subst}
+use Rattle.std.proofs.Common.{arith, append_assoc, append-nil, length-append, slice_get}
 use Rattle.std.specs.List.{AllByRecursion}
 use Rattle.std.proofs.lemmas.Bool.{lt-ltb}
 use Rattle.std.proofs.lemmas.List.{map_push}
@@ -15,18 +15,18 @@ use Rattle.rt_code.specs.Image.{Image}
 use Rattle.rt_code.specs.Listable.{IsWord}
 use Rattle.rt_lines.specs.Answers.{and_then, and_make}
 use Rattle.rt_listing.specs.Listing.{cell_line}
-use Rattle.rt_listing.proofs.Lines.{row_text, cell_row, numbered}
+use Rattle.rt_listing.proofs.Lines.{cell_row, numbered}
 use Rattle.rt_load.specs.Loadable.{IsLoadable, Is32Bits, has_dot}
 use Rattle.rt_load.specs.Inside.Rows.{cell_at}
 use Rattle.rt_load.specs.Inside.Taking.{if_line, has_blank, is_new_resource, may_name_cell, is_in_cells, may_add_cell}
-use Rattle.rt_load.specs.Inside.Taking.{with_name_of, and_cell, next_cell, take_words, take_line, take_lines}
+use Rattle.rt_load.specs.Inside.Taking.{with_name_of, and_cell, next_cell, take_words, take_line}
 use Rattle.rt_load.specs.declared.front.Front.{Front}
 use Rattle.rt_load.specs.declared.operand.Wrong.{Wrong}
 use Rattle.rt_load.specs.declared.operand.Wrong.TheVariants as wrong
 use Rattle.rt_load.proofs.Lines.{cell_text, cell_spelled, words_of_spelled}
 use Rattle.rt_load.proofs.Read.{number_back}
 use Rattle.rt_load.proofs.ForwardParts.{passes, chooses, front_taken, first_behind, new_from_parts, named_here}
-use Rattle.rt_load.proofs.ForwardParts.{below_all, no_blank}
+use Rattle.rt_load.proofs.ForwardParts.{below_all, no_blank, RowsLead, row_leads}
 
 -- cells
 abbrev is_resource : List ℕ → Bool
@@ -144,14 +144,15 @@ module _ (img : Image) (l : IsLoadable img) where
       }))
       (names_next done cell)
 
-  pub cells_taken : (done left : List CellRow) → img.cells ≡ done ++ left
+  pub cells_lead : (done left : List CellRow) → img.cells ≡ done ++ left
       → AllByRecursion (λ cell. IsWord cell.name) left → AllByRecursion (λ cell. Is32Bits cell.first) left
-      → take_lines (cells_front img done) (map row_text (numbered cell_row (length done) left)) ≡ Ok
-      (cells_front img img.cells)
-  cells_taken done [] is words firsts = ap (λ cells. Ok (cells_front img cells)) (sym (is ∙ append-nil done))
-  cells_taken done (cell ∷ left) is words firsts =
-      let number : suc (length done) ≡ length (done ++ cell ∷ []) = omega (arith, length-append done (cell ∷ [])) in
-      ap (λ (r : Result Front Wrong). and_then r (λ next. take_lines next
-      (map row_text (numbered cell_row (suc (length done)) left)))) (cell_step done left cell is words.0 firsts.0)
-      ∙ ap (λ k. take_lines (cells_front img (done ++ cell ∷ [])) (map row_text (numbered cell_row k left))) number
-      ∙ cells_taken (done ++ cell ∷ []) left (is ∙ sym (append_assoc done (cell ∷ []) left)) words.1 firsts.1
+      → RowsLead (cells_front img done) (numbered cell_row (length done) left) (cells_front img img.cells)
+  cells_lead done [] is words firsts = ap (λ cells. Some (cells_front img cells)) (sym (is ∙ append-nil done))
+  cells_lead done (cell ∷ left) is words firsts =
+      let next = done ++ cell ∷ [] in
+      let number : length next ≡ suc (length done) = omega (arith, length-append done (cell ∷ [])) in
+      row_leads (cells_front img done) (cells_front img next) (cells_front img img.cells)
+      (cell_row (length done) cell) (numbered cell_row (suc (length done)) left)
+      (cell_spelled (length done) cell words.0) (cell_step done left cell is words.0 firsts.0)
+      (subst (λ k. RowsLead (cells_front img next) (numbered cell_row k left) (cells_front img img.cells)) number
+      (cells_lead next left (is ∙ sym (append_assoc done (cell ∷ []) left)) words.1 firsts.1))

@@ -1,22 +1,27 @@
 -- What lets a line pass: it prints as it was read, and what it declares is new.
 use Rattle.std.proofs.Common.{◌≡◌, ◌<◌, ◌≤◌, ℕ, Bool, true, false, ◌&&◌, ◌||◌, ◌==◌, nat_lt, List, [], ◌∷◌, ◌++◌}
-use Rattle.std.proofs.Common.{length, take, Option, Some, None, Result, Ok, Err, if◌then◌else◌, is_none, refl, ap, sym}
-use Rattle.std.proofs.Common.{◌∙◌, subst, arith, length-append, slice_get, eq-eqb}
+use Rattle.std.proofs.Common.{length, map, take, Option, Some, None, Result, Ok, Err, if◌then◌else◌, is_none, refl, ap}
+use Rattle.std.proofs.Common.{sym, ◌∙◌, subst, arith, length-append, slice_get, eq-eqb}
 use Rattle.std.specs.List.{AllByRecursion}
 use Rattle.std.proofs.lemmas.Bool.{lt-ltb, ne_eqb}
+use Rattle.std.proofs.lemmas.List.{map-append}
 use Rattle.std.proofs.lemmas.Slice.Eq.{bytes_eq-Decides}
 use Rattle.rt_lemmas.proofs.Bools.{and_both, or_neither}
 use Rattle.rt_lemmas.proofs.Lists.{all_behind}
 use Rattle.rt_ids.specs.Word.{IsName}
 use Rattle.rt_code.specs.Listable.{IsWord}
-use Rattle.rt_lines.specs.Answers.{and_then}
+use Rattle.rt_lines.specs.Reading.{Lead}
+use Rattle.rt_lines.proofs.Reading.{lead_append}
+use Rattle.rt_listing.proofs.Lines.{Row, row_text}
 use Rattle.rt_load.specs.Reading.{line_with_feed}
-use Rattle.rt_load.specs.Inside.Taking.{if_line, may_declare, has_blank, take_line, take_lines}
+use Rattle.rt_load.specs.Inside.Taking.{if_line, may_declare, has_blank, take_line}
+use Rattle.rt_load.specs.Inside.Reader.{told, listing_reader}
 use Rattle.rt_load.specs.declared.front.Front.{Front}
 use Rattle.rt_load.specs.declared.operand.Wrong.{Wrong}
 use Rattle.rt_load.specs.declared.operand.Wrong.TheVariants as wrong
 use Rattle.rt_load.proofs.Declared.{declares}
-use Rattle.rt_load.proofs.Read.{then_ok, same_ok}
+use Rattle.rt_load.proofs.Fed.{step_fed}
+use Rattle.rt_load.proofs.Lines.{IsSpelled, line_of_spelled}
 
 -- what passes
 pub passes : {A : Type 0} (printed line : List ℕ) (x : A) → printed ≡ line_with_feed line → if_line printed line x
@@ -69,14 +74,23 @@ no_blank (b ∷ name) h =
     (ne_eqb b 32 (λ e. h.0 (3, omega arith, sym e))))
     (no_blank name h.1)
 
--- lines that are taken, and then others
-pub taken_append : (front next : Front) (xs ys : List (List ℕ)) → take_lines front xs ≡ Ok next
-    → take_lines front (xs ++ ys) ≡ take_lines next ys
-taken_append front next [] ys e = ap (λ f. take_lines f ys) (same_ok (Ok front) front next refl e)
-taken_append front next (x ∷ xs) ys e =
-    let first = then_ok (take_line front x) (λ f. take_lines f xs) next e in
-    ap (λ (r : Result Front Wrong). and_then r (λ f. take_lines f (xs ++ ys))) first.1
-    ∙ taken_append first.0 next xs ys first.2
+-- the lines of rows lead from one front to another
+abbrev pub RowsLead : Front → List Row → Front → Type 0
+RowsLead front rows next = Lead listing_reader (Some front) (map line_with_feed (map row_text rows)) (Some next)
+
+pub row_leads : (front next last : Front) (row : Row) (rows : List Row) → IsSpelled row
+    → take_line front (row_text row) ≡ Ok next → RowsLead next rows last → RowsLead front (row ∷ rows) last
+row_leads front next last row rows spelled e rest =
+    (Some next, step_fed (Some front) (row_text row) (line_of_spelled row spelled) ∙ ap told e, rest)
+
+pub rows_append : (front next last : Front) (xs ys : List Row) → RowsLead front xs next → RowsLead next ys last
+    → RowsLead front (xs ++ ys) last
+rows_append front next last xs ys first rest =
+    subst (λ ls. Lead listing_reader (Some front) ls (Some last))
+    (sym (ap (map line_with_feed) (map-append row_text xs ys)
+    ∙ map-append line_with_feed (map row_text xs) (map row_text ys)))
+    (lead_append listing_reader (Some front) (Some next) (Some last) (map line_with_feed (map row_text xs)) _ first
+    rest)
 
 -- a number is itself
 pub same_itself : (n : ℕ) → (n == n) ≡ true

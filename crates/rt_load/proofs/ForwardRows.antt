@@ -19,7 +19,7 @@ use Rattle.rt_code.specs.declared.image.Handler.{Handler}
 use Rattle.rt_code.specs.declared.image.BodyRow.{BodyRow}
 use Rattle.rt_lines.specs.Answers.{and_then, and_make}
 use Rattle.rt_listing.specs.Listing.{irq_line, body_line, handler_words}
-use Rattle.rt_listing.proofs.Lines.{row_text, irq_row, body_row, numbered}
+use Rattle.rt_listing.proofs.Lines.{irq_row, body_row, numbered}
 use Rattle.rt_lines.specs.Table.{spaced_text}
 use Rattle.rt_lines.proofs.Numerals.{number_spelled}
 use Rattle.rt_load.specs.Loadable.{IsLoadable, IsIrqWithin, IsHandlerWithin, IsBodyWithin}
@@ -27,14 +27,14 @@ use Rattle.rt_load.specs.Reading.{line_with_feed}
 use Rattle.rt_load.specs.Inside.Operand.{number_at, word_at}
 use Rattle.rt_load.specs.Inside.Rows.{handler_at, irq_row_at, body_row_at}
 use Rattle.rt_load.specs.Inside.Taking.{if_line, is_new_irq, is_new_task, may_add_irq, may_add_body, has_cells, and_irq}
-use Rattle.rt_load.specs.Inside.Taking.{and_body, take_words, take_line, take_lines}
+use Rattle.rt_load.specs.Inside.Taking.{and_body, take_words, take_line}
 use Rattle.rt_load.specs.declared.front.Front.{Front}
 use Rattle.rt_load.specs.declared.operand.Wrong.{Wrong}
 use Rattle.rt_load.specs.declared.operand.Wrong.TheVariants as wrong
 use Rattle.rt_load.proofs.Lines.{irq_text, body_text, irq_spelled, body_spelled, known_names, words_of_spelled}
 use Rattle.rt_load.proofs.Read.{number_back}
 use Rattle.rt_load.proofs.ForwardParts.{passes, chooses, front_taken, first_behind, new_from_parts, named_here}
-use Rattle.rt_load.proofs.ForwardParts.{below_all, same_itself}
+use Rattle.rt_load.proofs.ForwardParts.{below_all, same_itself, RowsLead, row_leads}
 
 module _ (img : Image) (l : IsLoadable img) where
   -- interrupts
@@ -128,15 +128,14 @@ module _ (img : Image) (l : IsLoadable img) where
         cells = length img.cells;
       })) (sym (map_push irq_pair done row))
 
-  pub irqs_taken : (n : ℕ) (done left : List IrqRow) → img.irqs ≡ done ++ left → AllByRecursion IsIrqWithin left
+  pub irqs_lead : (n : ℕ) (done left : List IrqRow) → img.irqs ≡ done ++ left → AllByRecursion IsIrqWithin left
       → AllByRecursion (λ row. IsWord row.name) left
-      → take_lines (irqs_front done) (map row_text (numbered (λ k. irq_row) n left)) ≡ Ok (irqs_front img.irqs)
-  irqs_taken n done [] is within words = ap (λ rows. Ok (irqs_front rows)) (sym (is ∙ append-nil done))
-  irqs_taken n done (row ∷ left) is within words =
-      ap (λ (r : Result Front Wrong). and_then r
-      (λ next. take_lines next (map row_text (numbered (λ k. irq_row) (suc n) left))))
-      (irq_step done left row is within.0 words.0)
-      ∙ irqs_taken (suc n) (done ++ row ∷ []) left (is ∙ sym (append_assoc done (row ∷ []) left)) within.1 words.1
+      → RowsLead (irqs_front done) (numbered (λ k. irq_row) n left) (irqs_front img.irqs)
+  irqs_lead n done [] is within words = ap (λ rows. Some (irqs_front rows)) (sym (is ∙ append-nil done))
+  irqs_lead n done (row ∷ left) is within words =
+      row_leads (irqs_front done) (irqs_front (done ++ row ∷ [])) (irqs_front img.irqs) (irq_row row)
+      (numbered (λ k. irq_row) (suc n) left) (irq_spelled row words.0) (irq_step done left row is within.0 words.0)
+      (irqs_lead (suc n) (done ++ row ∷ []) left (is ∙ sym (append_assoc done (row ∷ []) left)) within.1 words.1)
 
   -- bodies
   abbrev tasks_of : List BodyRow → List (List ℕ)
@@ -245,13 +244,12 @@ module _ (img : Image) (l : IsLoadable img) where
         cells = length img.cells;
       })) (sym (map_push (λ (row : BodyRow). task_name img.names row.task) done row))
 
-  pub bodies_taken : (n : ℕ) (done left : List BodyRow) → img.bodies ≡ done ++ left → AllByRecursion IsBodyWithin left
+  pub bodies_lead : (n : ℕ) (done left : List BodyRow) → img.bodies ≡ done ++ left → AllByRecursion IsBodyWithin left
       → AllByRecursion (λ row. row.task < length img.names.tasks) left
-      → take_lines (bodies_front done) (map row_text (numbered (λ k. body_row img.names) n left)) ≡ Ok
-      (bodies_front img.bodies)
-  bodies_taken n done [] is within has = ap (λ rows. Ok (bodies_front rows)) (sym (is ∙ append-nil done))
-  bodies_taken n done (row ∷ left) is within has =
-      ap (λ (r : Result Front Wrong). and_then r
-      (λ next. take_lines next (map row_text (numbered (λ k. body_row img.names) (suc n) left))))
-      (body_step done left row is within.0 has.0)
-      ∙ bodies_taken (suc n) (done ++ row ∷ []) left (is ∙ sym (append_assoc done (row ∷ []) left)) within.1 has.1
+      → RowsLead (bodies_front done) (numbered (λ k. body_row img.names) n left) (bodies_front img.bodies)
+  bodies_lead n done [] is within has = ap (λ rows. Some (bodies_front rows)) (sym (is ∙ append-nil done))
+  bodies_lead n done (row ∷ left) is within has =
+      row_leads (bodies_front done) (bodies_front (done ++ row ∷ [])) (bodies_front img.bodies) (body_row img.names row)
+      (numbered (λ k. body_row img.names) (suc n) left)
+      (body_spelled img.names row (known_names img.names l.fits.names)) (body_step done left row is within.0 has.0)
+      (bodies_lead (suc n) (done ++ row ∷ []) left (is ∙ sym (append_assoc done (row ∷ []) left)) within.1 has.1)

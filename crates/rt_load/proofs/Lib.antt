@@ -1,5 +1,6 @@
 pub mod Declared
 pub mod Read
+pub mod Fed
 pub mod Fronts
 pub mod Ends
 pub mod Lines
@@ -14,12 +15,11 @@ pub mod Nexts
 pub mod Ops
 pub mod Split
 pub mod Witness
+pub mod Leads
 pub mod Further
 pub mod Unknown
-pub mod Following
 pub mod Named
 pub mod Verdict
-pub mod Either
 pub mod OneWay
 pub mod Judged
 pub mod Headed

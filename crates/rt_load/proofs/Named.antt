@@ -9,7 +9,7 @@ use Rattle.std.proofs.lemmas.Slice.Eq.{bytes_eq-Decides}
 use Rattle.rt_lemmas.proofs.Bools.{and_parts}
 use Rattle.rt_lemmas.proofs.Lists.{all_map}
 use Rattle.rt_lemmas.proofs.Membership.{all_weaker}
-use Rattle.rt_ids.specs.Names.{Names, with_task}
+use Rattle.rt_ids.specs.Names.{Names}
 use Rattle.rt_ids.specs.declared.limits.TheConstants.{IRQ_NUMBERS}
 use Rattle.rt_code.specs.declared.image.IrqRow.{IrqRow}
 use Rattle.rt_code.specs.declared.instr.Instr.{Instr}
@@ -25,15 +25,14 @@ use Rattle.rt_lines.specs.declared.operand.Wrong.TheVariants as word
 use Rattle.rt_lines.proofs.More.{IsOk, IsOkOrName, IsKnown, HasNames, made_ok, from_made, both_ok, from_both, number_ok}
 use Rattle.rt_lines.proofs.More.{said_known, word_known}
 use Rattle.rt_lines.proofs.Words.{spaced_words_of}
-use Rattle.rt_listing.specs.Listing.{cell_line, irq_line, body_line, code_line, code_words}
+use Rattle.rt_listing.specs.Listing.{code_line, code_words}
 use Rattle.rt_listing.specs.Words.{instr_rows, note_rows}
 use Rattle.rt_load.specs.Loadable.{IsIrqWithin}
 use Rattle.rt_load.specs.Reading.{line_with_feed, IsOfUnknownName, AreMore}
-use Rattle.rt_load.specs.Inside.Operand.{number_at, word_at, of_line, is_end, in_front, behind}
+use Rattle.rt_load.specs.Inside.Operand.{number_at, of_line, is_end, in_front, behind}
 use Rattle.rt_load.specs.Inside.Noting.{words_at, note_after, line_at}
-use Rattle.rt_load.specs.Inside.Rows.{only, three, cell_at, service_at, handler_at, irq_row_at, body_row_at}
-use Rattle.rt_load.specs.Inside.Taking.{if_line, has_cells, may_add_cell, may_add_irq, may_add_body, may_add_line}
-use Rattle.rt_load.specs.Inside.Taking.{and_cell, and_irq, and_body, and_line, next_cell, next_irq, next_body}
+use Rattle.rt_load.specs.Inside.Rows.{only, three, three_at, cell_at, service_at, handler_at, irq_row_at, body_row_at}
+use Rattle.rt_load.specs.Inside.Taking.{first_at, take_first, if_line, has_cells, may_add_line, and_line}
 use Rattle.rt_load.specs.Inside.Taking.{next_line, take_cell, take_irq, take_body, take_code, take_words, take_line}
 use Rattle.rt_load.specs.declared.front.Front.{Front}
 use Rattle.rt_load.specs.declared.operand.Wrong.{Wrong}
@@ -85,6 +84,9 @@ three_nameless : (ws : List (List ℕ)) → IsNameless (three ws)
 three_nameless (a ∷ b ∷ c ∷ []) = ok_nameless (a, b, c)
 three_nameless ws = form_nameless
 
+numbers_nameless : (ws : List (List ℕ)) → IsNameless (three_at ws)
+numbers_nameless ws = search (then_nameless, make_nameless, three_nameless, number_nameless)
+
 only_nameless : (ws : List (List ℕ)) → IsNameless (only ws)
 only_nameless (a ∷ []) = ok_nameless a
 only_nameless ws = form_nameless
@@ -118,6 +120,16 @@ take_cell_nameless front line ws =
 take_irq_nameless : (front : Front) (line : List ℕ) (ws : List (List ℕ)) → IsNameless (take_irq front line ws)
 take_irq_nameless front line ws =
     search (then_nameless, make_nameless, if_nameless, form_nameless, irq_nameless, line_nameless)
+
+first_nameless : (ws : List (List ℕ)) → IsNameless (first_at ws)
+first_nameless (kind ∷ form ∷ bits ∷ stack ∷ ws) =
+    search (then_nameless, make_nameless, numbers_nameless, number_nameless)
+first_nameless ws = form_nameless
+
+pub take_first_nameless : (line : List ℕ) → take_first line ≡ Err wrong.Name → ⊥
+take_first_nameless line =
+    let r : IsNameless (take_first line) =
+    search (then_nameless, if_nameless, form_nameless, first_nameless, line_nameless) in r.none
 
 take_body_nameless : (front : Front) (line : List ℕ) (ws : List (List ℕ)) → IsNameless (take_body front line ws)
 take_body_nameless front line ws =

@@ -34,6 +34,9 @@ module _ {E : Type 0} where
   pub same_ok : {A : Type 0} (r : Result A E) (x y : A) → r ≡ Ok x → r ≡ Ok y → x ≡ y
   same_ok r x y d e = cc
 
+  pub ok_err : {A : Type 0} (r : Result A E) (x : A) (w : E) → r ≡ Ok x → r ≡ Err w → ⊥
+  ok_err r x w a b = cc
+
   -- where a test chose
   pub chosen : {A : Type 0} (b : Bool) (x y r : Result A E) (P : Type 0) → (if b then x else y) ≡ r
       → (b ≡ true → x ≡ r → P) → (b ≡ false → y ≡ r → P) → P

@@ -1,7 +1,7 @@
 -- Where nothing is wrong with a line but that a name in it is in no table.
 use Rattle.std.proofs.Common.{◌≡◌, ◌&&◌, ℕ, Bool, true, false, List, [], ◌∷◌, ◌++◌, length, flat_map, decimal, codes}
 use Rattle.std.proofs.Common.{bytes_eq, nat_lt, Option, Some, None, Result, Ok, Err, if◌then◌else◌, refl, ap, sym, ◌∙◌}
-use Rattle.std.proofs.Common.{subst, arith}
+use Rattle.std.proofs.Common.{IfOk, subst, arith}
 use Rattle.std.specs.List.{AllByRecursion}
 use Rattle.std.proofs.lemmas.Bool.{false≢true}
 use Rattle.rt_lemmas.proofs.Bools.{and_parts}
@@ -14,11 +14,13 @@ use Rattle.rt_code.specs.declared.instr.Instr.{Instr}
 use Rattle.rt_code.specs.declared.instr.Instr.TheVariants as instr
 use Rattle.rt_code.specs.declared.instr.Note.{Note}
 use Rattle.rt_lines.specs.Answers.{and_make}
-use Rattle.rt_lines.specs.Parts.{words}
+use Rattle.rt_lines.specs.Parts.{parts, words}
+use Rattle.rt_lines.specs.Reading.{Lead}
 use Rattle.rt_lines.specs.Table.{both, spaced_text}
 use Rattle.rt_lines.specs.declared.operand.Wrong as answer
 use Rattle.rt_lines.specs.declared.operand.Wrong.TheVariants as word
 use Rattle.rt_lines.proofs.Apart.{same_cons}
+use Rattle.rt_lines.proofs.Reading.{kept}
 use Rattle.rt_lines.proofs.More.{AreKnown, IsOkOrName, made_name, both_name, said_over}
 use Rattle.rt_listing.specs.Listing.{cell_line, irq_line, body_line, code_words}
 use Rattle.rt_listing.specs.Words.{instr_rows, instr_first, instr_operands, instr_words, note_rows, note_first}
@@ -33,15 +35,17 @@ use Rattle.rt_load.specs.Inside.Rows.{cell_at, irq_row_at, body_row_at}
 use Rattle.rt_load.specs.Inside.Taking.{if_line, has_cells, may_add_line, may_add_cell, may_add_irq, may_add_body}
 use Rattle.rt_load.specs.Inside.Taking.{may_name_cell, is_in_cells, is_new_irq, is_new_task, and_cell, and_irq}
 use Rattle.rt_load.specs.Inside.Taking.{and_body, and_line, next_line, next_cell, next_irq, next_body, take_cell}
-use Rattle.rt_load.specs.Inside.Taking.{take_irq, take_body, take_code, take_words, take_all, take_line, take_lines}
+use Rattle.rt_load.specs.Inside.Taking.{take_irq, take_body, take_code, take_words, take_line}
+use Rattle.rt_load.specs.Inside.Reader.{fed_lines, ended, told, step, listing_reader}
 use Rattle.rt_load.specs.declared.front.Front.{Front}
 use Rattle.rt_load.specs.declared.operand.Wrong.{Wrong}
 use Rattle.rt_load.specs.declared.operand.Wrong.TheVariants as wrong
-use Rattle.rt_load.proofs.Read.{then_ok, make_ok, if_ok, same_ok, chosen, of_line_ok}
+use Rattle.rt_load.proofs.Read.{then_ok, make_ok, if_ok, ok_err, chosen, of_line_ok}
 use Rattle.rt_load.proofs.Lines.{known_names, code_text, code_spelled, code_cut, note_part, words_of_spelled}
 use Rattle.rt_load.proofs.Lines.{line_of_spelled}
 use Rattle.rt_load.proofs.{ForwardParts.chooses, Forward.whole}
-use Rattle.rt_load.proofs.Following.{next_taken, ok_err}
+use Rattle.rt_load.proofs.Fed.{step_fed}
+use Rattle.rt_load.proofs.Leads.{Leads, told_ok, next_leads}
 use Rattle.rt_load.proofs.Ends.{last_same}
 use Rattle.rt_load.proofs.Fronts.{Stands}
 use Rattle.rt_load.proofs.Written.{IsRight, instr_has, note_has, line_reads, line_from}
@@ -153,13 +157,23 @@ line_keeps : (front next : Front) (line : List ℕ) → is_empty front.image.cod
 unfolding take_line
 line_keeps front next line some e = words_keep front next line (words line) some e
 
-lines_keep : (ls : List (List ℕ)) (front next : Front) → is_empty front.image.code ≡ false → take_lines front ls
-    ≡ Ok next → next.image.names ≡ front.image.names
-lines_keep [] front next some e = ap (λ (f : Front). f.image.names) (sym (same_ok (Ok front) front next refl e))
-lines_keep (line ∷ ls) front next some e =
-    let first = then_ok (take_line front line) (λ f. take_lines f ls) next e in
-    let keeps = line_keeps front first.0 line some first.1 in
-    lines_keep ls first.0 next keeps.code first.2 ∙ keeps.names
+-- what a reader has read keeps these names, and there is code
+abbrev HasKept : Names → Option Front → Type 0
+HasKept names None = ⊥
+HasKept names (Some front) = (front.image.names ≡ names) × (is_empty front.image.code ≡ false)
+
+lines_keep : (names : Names) (s : Option Front) (line : List ℕ) → HasKept names s
+    → IfOk (listing_reader.step s line) (HasKept names)
+lines_keep names None line has = absurd has
+lines_keep names (Some front) line has = by (ended (parts 10 line))
+  where
+    taken : (text : List ℕ) (r : Result Front Wrong) → take_line front text ≡ r → IfOk (told r) (HasKept names)
+    taken text (Ok next) e = let keeps = line_keeps front next text has.1 e in (keeps.names ∙ has.0, keeps.code)
+    taken text (Err w) e = tt
+
+    by : (found : Option (List ℕ)) → IfOk (step (Some front) found) (HasKept names)
+    by None = tt
+    by (Some text) = taken text (take_line front text) refl
 
 -- where a `mark` at an address is taken
 record Marked (front next : Front) (address : ℕ) : Type 0 where
@@ -228,21 +242,25 @@ refuted front line more address code w m are may here few right is e =
     by (Err word.Form) p over q = absurd over
 
 pub form_is : (before : List (List ℕ)) (front : Front) (line : List ℕ) (w : Wrong) → (w ≡ wrong.Name → ⊥)
-    → AllByRecursion IsLine before → take_all before ≡ Ok front → Stands front
+    → AllByRecursion IsLine before → Leads None before (Some front) → Stands front
     → take_line front line ≡ Err w → ¬ IsOfUnknownName (flat_map line_with_feed before) line
-form_is before front line w other all taken stands e u =
+form_is before front line w other all lead stands e u =
     let own_names = u.image.names in
     let mark : Instr × Option Note = (instr.Mark, None) in
     let text = code_text own_names u.address mark in
     let known_own = known_names own_names u.loadable.fits.names in
     let own : IsLine text = line_of_spelled (code_row own_names u.address mark)
     (code_spelled own_names u.address mark known_own) in
-    let next = next_taken before front text u.behind u.image u.loadable all own taken u.goes_on in
-    let marked = mark_taken front next.0 own_names u.address known_own next.2 in
+    let goes = next_leads u.image u.loadable before text u.behind (Some front) all own lead u.goes_on in
+    let next = told_ok (take_line front text) goes.0 (sym (step_fed (Some front) text own) ∙ goes.1) in
+    let marked = mark_taken front next.0 own_names u.address known_own next.1 in
     let fn = front.image.names in
     let index = length front.image.code in
-    let same : own_names ≡ fn = lines_keep next.1 next.0 (whole u.image u.loadable) marked.code next.3 ∙ marked.names in
-    let m : AreMore fn u.names = subst (λ (n : Names). AreMore n u.names) same u.more in
+    let keeps = kept listing_reader (HasKept fn) (lines_keep fn) (Some next.0) (Some (whole u.image u.loadable))
+    (fed_lines u.behind)
+    (subst (λ s. Lead listing_reader s (fed_lines u.behind) (Some (whole u.image u.loadable))) (sym next.2) goes.2)
+    (marked.names, marked.code) in
+    let m : AreMore fn u.names = subst (λ (n : Names). AreMore n u.names) keeps.0 u.more in
     let l = stands.loadable in
     let fits = stands.code in
     let few_lines = stands.few_lines in

@@ -3,4 +3,4 @@ pub mod Operand
 pub mod Noting
 pub mod Rows
 pub mod Taking
-pub mod Progress
+pub mod Reader

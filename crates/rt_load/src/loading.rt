@@ -1,14 +1,14 @@
-ghost use Rattle.std.specs.Prelude.{◌≡◌, ◌<◌, ◌==◌, ◌&&◌, length, position, Ok, Err, IfOk, IfErr, OnOk, MatchOption};
-ghost use Rattle.rt_ids.specs.Lists.{is_empty};
-ghost use Rattle.rt_load.specs.Reading.{IsLine, IsListingText, IsRefused};
-ghost use Rattle.rt_load.specs.Inside.Progress.{IsCut, IsRefusalOf, IsRefusalOfFirst};
-ghost use Rattle.rt_load.specs.Inside.Taking as spec;
+ghost use Rattle.std.specs.Prelude.{◌≡◌, ◌≢◌, ◌<◌, ◌∷◌, [], length, Ok, Err, IfOk, IfErr, OnOk, IfSome, MatchOption};
+ghost use Rattle.rt_lines.specs.Parts.{parts};
+ghost use Rattle.rt_load.specs.Reading.{IsListingText, IsRefused};
+ghost use Rattle.rt_load.specs.Inside.Reader as spec;
 ghost use Rattle.rt_load.specs.declared.refusal.TheConstants.{IMAGE_BYTES};
 
 use crate::front::Front;
 use crate::operand::Wrong;
 use crate::refusal::{IMAGE_BYTES, LoadRefused};
 use rt_code::Image;
+use rt_lines::cut;
 use std::alloc::Global;
 
 /// The image whose listing the bytes are. More than `IMAGE_BYTES` bytes are too long. Other bytes that are the listing
@@ -21,59 +21,54 @@ pub fn load(alloc: Global, bytes: &[u8]) -> Result<Image, LoadRefused>
     if bytes.len() > IMAGE_BYTES as usize {
         return Err(LoadRefused::TooLong);
     }
-    let Some((line, behind)) = first_line(bytes) else {
-        return Err(LoadRefused::BadLine(1));
-    };
-    let mut front = match begin(alloc, line) {
-        Ok(front) => front,
-        Err(refusal) => return Err(refusal),
-    };
-    let mut rest = behind;
-    let mut number = 2;
-    while let Some((line, behind)) = first_line(rest) {
-        if let Err(refusal) = take_line(alloc, &mut front, line, number) {
-            return Err(refusal);
-        }
+    let mut front = None;
+    let mut rest = bytes;
+    let mut number = 0;
+    while let Some((line, behind)) = next_line(rest) {
         number += 1;
-        rest = behind;
+        match take(alloc, &mut front, line) {
+            Ok(()) => rest = behind,
+            Err(wrong) => return Err(refusal(number, wrong)),
+        }
     }
-    if is_whole(&front, rest) {
-        Ok(image_of(front))
-    } else {
-        Err(LoadRefused::BadLine(number))
-    }
-}
-
-/// Whether neither a line nor the rest of a line is missing.
-fn is_whole(front: &Front, rest: &[u8]) -> bool
-    ensures { result ≡ (is_empty rest.now && spec.is_complete front.now) }
-{
-    rest.is_empty() && front.is_complete()
-}
-
-/// The front of a first line.
-fn begin(alloc: Global, line: &[u8]) -> Result<Front, LoadRefused>
-    ensures read { IfOk result (λ front. spec.take_first line.now ≡ Ok front) }
-    ensures refused { IfErr result (λ refusal. IsRefusalOfFirst (spec.take_first line.now) refusal) }
-{
-    match Front::begin(alloc, line) {
-        Ok(front) => Ok(front),
-        Err(Wrong::Form) => Err(LoadRefused::BadLine(1)),
-        Err(Wrong::Name) => Err(LoadRefused::BadLine(1)),
-        Err(Wrong::NoMemory) => Err(LoadRefused::NoMemory),
+    match front {
+        Some(front) if rest.is_empty() && front.is_complete() => Ok(image_of(front)),
+        _ => Err(LoadRefused::BadLine(number + 1)),
     }
 }
 
-/// Takes the line of a number behind the first.
-fn take_line(alloc: Global, front: &mut Front, line: &[u8], number: u64) -> Result<(), LoadRefused>
-    ensures taken { OnOk result (spec.take_line front.old line.now ≡ Ok front.new) }
-    ensures refused { IfErr result (λ refusal. IsRefusalOf (spec.take_line front.old line.now) number refusal) }
+/// The first line of a text, and what stands behind its line feed; None where there is no line feed.
+fn next_line(text: &[u8]) -> Option<(&[u8], &[u8])>
+    ensures parts { MatchOption result (parts 10 text.now ≡ text.now ∷ [])
+        (λ next. parts 10 text.now ≡ next.0.now ∷ parts 10 next.1.now) }
+    ensures shorter { IfSome result (λ next. length next.1.now < length text.now) }
 {
-    match front.take(alloc, line) {
-        Ok(()) => Ok(()),
-        Err(Wrong::Form) => Err(LoadRefused::BadLine(number)),
-        Err(Wrong::Name) => Err(LoadRefused::UnknownName(number)),
-        Err(Wrong::NoMemory) => Err(LoadRefused::NoMemory),
+    let (line, behind) = cut(text, b'\n');
+    Some((line, behind?))
+}
+
+/// Takes a line: the first makes a front, and each line behind it leads it on. After an error the front is of no use.
+fn take(alloc: Global, front: &mut Option<Front>, line: &[u8]) -> Result<(), Wrong>
+    ensures taken { OnOk result (spec.told (spec.take front.old line.now) ≡ Ok front.new) }
+    ensures refused { IfErr result (λ w. w ≢ Wrong.NoMemory → spec.take front.old line.now ≡ Err w) }
+{
+    match front {
+        Some(front) => front.take(alloc, line),
+        None => {
+            *front = Some(Front::begin(alloc, line)?);
+            Ok(())
+        }
+    }
+}
+
+/// The refusal of the line of a number.
+fn refusal(number: u64, wrong: Wrong) -> LoadRefused
+    ensures { result ≡ spec.refusal_of number wrong }
+{
+    match wrong {
+        Wrong::Form => LoadRefused::BadLine(number),
+        Wrong::Name => LoadRefused::UnknownName(number),
+        Wrong::NoMemory => LoadRefused::NoMemory,
     }
 }
 
@@ -87,21 +82,4 @@ fn image_of(front: Front) -> Image
         cells: _,
     } = front;
     image
-}
-
-/// Where the first line feed stands.
-fn first_feed(text: &[u8]) -> Option<usize>
-    ensures { result ≡ position (λ b. b == 10) text.now }
-{
-    text.iter().position(|b| *b == b'\n')
-}
-
-/// The first line of a text, and what stands behind its line feed; None where there is no line feed.
-fn first_line(text: &[u8]) -> Option<(&[u8], &[u8])>
-    ensures { MatchOption result (IsLine text.now) (λ cut. IsCut text.now cut.0.now cut.1.now) }
-{
-    match first_feed(text) {
-        Some(at) => Some((&text[..at], &text[at + 1..])),
-        None => None,
-    }
 }

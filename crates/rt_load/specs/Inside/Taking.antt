@@ -203,16 +203,6 @@ take_words front line (kind ∷ ws) =
 unfoldable pub take_line : Front → List ℕ → Result Front Wrong
 take_line front line = take_words front line (words line)
 
--- lines behind the first, one after another
-abbrev pub take_lines : Front → List (List ℕ) → Result Front Wrong
-take_lines front [] = Ok front
-take_lines front (line ∷ lines) = and_then (take_line front line) (λ next. take_lines next lines)
-
--- the front behind all lines
-abbrev pub take_all : List (List ℕ) → Result Front Wrong
-take_all [] = Err wrong.Form
-take_all (line ∷ lines) = and_then (take_first line) (λ front. take_lines front lines)
-
 -- no line is missing
 abbrev pub is_complete : Front → Bool
 is_complete front = has_cells front && (length front.image.code == front.code)
