@@ -90,7 +90,7 @@ class Case:
     def run(self, *words, **more):
         """Its status, and what it wrote."""
         process = self.start(*words, **more)
-        said, complained = process.communicate(timeout=30)
+        said, complained = process.communicate(timeout=100)
         return process.returncode, said, complained
 
     def seen(self):
@@ -199,7 +199,7 @@ def try_interrupted(case):
             status, said, _ = case.run()
             expect(f"a second: {status} {said}", (status, said.count("\n")) == (2, 1) and "another ./build" in said)
         process.send_signal(number)
-        process.communicate(timeout=30)
+        process.communicate(timeout=100)
         expect(f"signal {number}: {process.returncode} {lines}", process.returncode == 128 + number)
         expect(f"signal {number} leaves something", case.is_tidy() and not case.is_alive())
     left, other = (case.folder / "temporary" / f"rtic-build-{name}" for name in ("left", "other"))

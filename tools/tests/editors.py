@@ -30,7 +30,7 @@ OF_FORM = ("E02", "E03")
 LONGEST = 20_000
 LEAST_TEXTS = 600
 AT_ONCE = 4
-STARTS = 20
+STARTS = 100
 
 
 class Told:
