@@ -33,7 +33,8 @@ TEXT = b"// \xff\0 a text\r\nwithout an end"
 LARGE = bytes(range(256)) * 20_000
 BEHIND, PROVED = "is newer than the proved program", "the proved program is built, and no source is newer"
 NEW, OLD = 2_000_000_000, 1_000_000_000
-NEWER = ("crates/low/src/deep/in.rt", "crates/low/specs/Inside/Of.antt", "crates/low/proofs/Of.antt")
+CODE = "crates/low/src/deep/in.rt"
+OF_PROOFS = ("crates/low/specs/Inside/Of.antt", "crates/low/proofs/Of.antt")
 NOT_NEWER = ("crates/low/out/made.rt", "crates/low/data/cases", "crates/low/stdout")
 
 
@@ -110,16 +111,41 @@ def try_toolchain(place):
 
 
 def try_sources(place):
-    """Which sources are newer than the program."""
+    """Which sources are newer than the program: code as it runs, and proofs where it is asked for its version."""
     place.build()
-    for name in NEWER + NOT_NEWER:
-        path = written(place.root / name, "", NEW)
-        output = place.ended(["check", "file"])[1]
-        place.expect(f"{name} is newer", output.startswith(b"try " if name in NEWER else b"check\n"))
-        output = place.ended(["--version"])[1]
-        due = lines(f"{name} {BEHIND}" if name in NEWER else PROVED)
-        place.expect(f"the version where {name} is newer", output.endswith(due))
+    listed = place.program.with_name("rtic.sources")
+    for name in (CODE, *OF_PROOFS, *NOT_NEWER):
+        # (with no list of the code, and then with the list that the call before has left)
+        for known in (False, True):
+            listed.unlink(missing_ok=True)
+            path = written(place.root / name, "")
+            if known:
+                place.ended(["check", "file"])
+                place.expect(f"the code is listed beside {name}", listed.is_file())
+            written(path, "", NEW)
+            output = place.ended(["check", "file"])[1]
+            place.expect(f"{name} is newer", output.startswith(b"try " if name == CODE else b"check\n"))
+            output = place.ended(["--version"])[1]
+            due = lines(PROVED if name in NOT_NEWER else f"{name} {BEHIND}")
+            place.expect(f"the version where {name} is newer", output.endswith(due))
         path.unlink()
+    try_list(place, listed)
+
+
+def try_list(place, listed):
+    """A list that is older than the program is made again; where the folder takes none, the code is looked at all the
+    same."""
+    written(place.root / CODE, "")
+    written(listed, "code='crates/rt_top/src/top.rt'\n")
+    place.expect("a list from before the program", place.ended(["check", "file"])[1].startswith(b"check\n"))
+    place.expect("it has the code that came since", CODE in listed.read_text(encoding="utf-8").split())
+    listed.unlink()
+    if os.geteuid() != 0:
+        place.program.parent.chmod(0o555)
+        place.expect("a folder without room for it", place.ended(["check", "file"]) == (0, b"check\nfile\n", b""))
+        place.expect("no list is left", not listed.exists())
+        place.program.parent.chmod(0o755)
+    (place.root / CODE).unlink()
 
 
 def try_own_words(place):
