@@ -3,16 +3,18 @@
 
     python3 beside.py PROGRAM PEER FOLDER
 
-PROGRAM is rtic, PEER is bench/beside.rs, FOLDER takes the texts. The programs take turns, and of seven turns the least
-time of each counts, from start to end of the process. What `soak` writes is compared byte for byte, for each number of
-workers; of `live`, where the moment of a pend is free, the total and the pends of each interrupt are compared.
+PROGRAM is rtic, PEER is bench/beside.rs, FOLDER takes the texts. The programs take turns, and the median of seven turns
+counts. Beside a peer it is processor time, of all threads together; how much faster more workers are is time by the
+clock, which a busy machine stretches: so the load is said. What `soak` writes is compared byte for byte, for each
+number of workers; of `live`, where the moment of a pend is free, the total and the pends of each interrupt are
+compared.
 """
 
 import os
 import subprocess
 import sys
 
-from reading import run
+from timing import load, medians, processor
 
 TURNS = 7
 RUNS = 1000
@@ -57,12 +59,6 @@ def listing_of(program, folder, app):
     return write(folder, "listing", told([program, "build", app]))
 
 
-def turns(*programs):
-    """The least time of each of these, in seconds."""
-    times = [[run(words) for words in programs] for _ in range(TURNS)]
-    return [min(column) for column in zip(*times)]
-
-
 def end_of(output):
     """The total, and of each interrupt its pends and whether it was latched as often as raised and nothing is left."""
     total, *account = output[output.rindex("\ntotal ") + 1 :].splitlines()
@@ -80,7 +76,7 @@ def measure_live(program, peer, folder, pends, steps):
     ours, plain = [program, "live", app, script], [peer, "live", listing, script]
     if end_of(told(ours)) != end_of(told(plain)):
         sys.exit("beside.py: the peer's total or account is another one")
-    seconds, other = turns(ours, plain)
+    seconds, other = processor(TURNS, ours, plain)
     print(
         f"live, 4 devices of {pends} pends, {2 * steps} steps: {seconds * 1000:.0f} ms, "
         f"{seconds / other:.2f} times a plain program ({other * 1000:.0f} ms)"
@@ -97,14 +93,15 @@ def measure_soak(program, peer, folder):
     for words in soaks:
         if told(words) != wanted:
             sys.exit(f"beside.py: {' '.join(words[2:])} counts otherwise than the peer")
-    *times, other = turns(*soaks, plain)
+    *times, other = medians(TURNS, *soaks, plain)
     one, all_ = times[0], times[workers.index(os.cpu_count())]
     print(
-        f"soak, demo 48, {RUNS} runs: {one * 1000:.0f} ms with one worker, {one / other:.2f} times a plain simulator "
-        f"without text ({other * 1000:.0f} ms)"
+        f"soak, demo 48, {RUNS} runs: {one.processor * 1000:.0f} ms with one worker, "
+        f"{one.processor / other.processor:.2f} times a plain simulator without text ({other.processor * 1000:.0f} ms)"
     )
     print(
-        f"soak with {os.cpu_count()} workers: {all_ * 1000:.0f} ms, {one / all_:.2f} times as fast as with one; "
+        f"soak with {os.cpu_count()} workers: by the clock {all_.clock * 1000:.0f} ms, {one.clock / all_.clock:.2f} "
+        f"times as fast as with one ({load()}); of a processor {all_.processor / one.processor:.2f} times as much; "
         f"the same bytes with {', '.join(map(str, workers))}"
     )
 

@@ -4,42 +4,19 @@ the same text.
 
     python3 reading.py PROGRAM FOLDER
 
-PROGRAM is rtic, FOLDER takes the texts. Times are the least of five runs, from start to end of the process.
+PROGRAM is rtic, FOLDER takes the texts. Times are processor time, in the median of five turns of the two.
 """
 
 import os
-import subprocess
 import sys
-import time
 
 import texts
+from timing import peak, processor
 
-RUNS = 5
+TURNS = 5
 LARGEST = 262144
 # the code of a longer one is more than an application may have
 DENSEST = 98304
-
-
-def run(words):
-    """The seconds that a program takes, which has to end with status 0."""
-    begin = time.perf_counter()
-    done = subprocess.run(words, stdout=subprocess.DEVNULL, env={**os.environ, "LC_ALL": "C"}, check=False)
-    seconds = time.perf_counter() - begin
-    if done.returncode != 0:
-        sys.exit(f"reading.py: {' '.join(words)} ended with status {done.returncode}")
-    return seconds
-
-
-def least(words):
-    return min(run(words) for _ in range(RUNS))
-
-
-def peak(words, folder):
-    """The peak memory of a program in KiB. Told by `time`, since a child of Python begins with Python's own."""
-    file = os.path.join(folder, "peak")
-    run(["time", "-f", "%M", "-o", file, *words])
-    with open(file, encoding="ascii") as told:
-        return int(told.read())
 
 
 def measure(program, folder, command, what, text):
@@ -47,8 +24,7 @@ def measure(program, folder, command, what, text):
     file = os.path.join(folder, "text")
     with open(file, "w", encoding="ascii") as to:
         to.write(text)
-    counted = least(["wc", "-w", file])
-    seconds = least([program, command, file])
+    counted, seconds = processor(TURNS, ["wc", "-w", file], [program, command, file])
     memory = peak([program, command, file], folder)
     print(
         f"{command} of {what}, {len(text)} bytes: {seconds * 1000:.1f} ms, "

@@ -4,16 +4,16 @@ memory of both as their input grows.
 
     python3 running.py PROGRAM SIMULATOR READER FOLDER
 
-PROGRAM is rtic, SIMULATOR and READER are bench/simulator.rs and bench/reader.rs, FOLDER takes the texts. The programs
-take turns, and of fifteen turns the least time of each counts, from start to end of the process. What the simulator
-writes is compared with what rtic writes, byte for byte.
+PROGRAM is rtic, SIMULATOR and READER are bench/simulator.rs and bench/reader.rs, FOLDER takes the texts. Times are
+processor time, in the median of fifteen turns of the programs. What the simulator writes is compared with what rtic
+writes, byte for byte.
 """
 
 import os
 import subprocess
 import sys
 
-from reading import peak, run
+from timing import peak, processor, used
 
 TURNS = 15
 EVENTS = 1_000_000
@@ -125,12 +125,6 @@ def output(words, path):
     return path
 
 
-def turns(*programs):
-    """The least time of each of these, in seconds."""
-    times = [[run(words) for words in programs] for _ in range(TURNS)]
-    return [min(column) for column in zip(*times)]
-
-
 def takes(program, folder, last):
     """Whether the program takes an interrupt of this number: an older one may not."""
     app = write(folder, "app", f"app bench(bits = 4);\ninterrupts {{ A = {last} }}\n")
@@ -146,7 +140,7 @@ def measure_run(program, simulator, folder, irqs, last, name, script):
     if open(ours, "rb").read() != open(plain, "rb").read():
         sys.exit(f"running.py: the simulator writes another trace, {name}, {irqs} interrupts up to {last}")
     words = [program, "run", app, events]
-    seconds, other = turns(words, [simulator, listing, events])
+    seconds, other = processor(TURNS, words, [simulator, listing, events])
     print(
         f"run, {name}, {irqs} interrupts up to {last}, {EVENTS} events: {seconds * 1000:.0f} ms, "
         f"{seconds / other:.2f} times a plain simulator ({other * 1000:.0f} ms); {peak(words, folder)} KiB "
@@ -192,7 +186,7 @@ def measure_audit(program, reader, folder, irqs, last, items):
     if told != f"yes {items}\n":
         sys.exit(f"running.py: the audit of {items} items says {told}")
     words = [program, "audit", app, trace]
-    seconds, counted, read = turns(words, ["wc", "-w", trace], [reader, trace])
+    seconds, counted, read = processor(TURNS, words, ["wc", "-w", trace], [reader, trace])
     size = os.path.getsize(trace)
     print(
         f"audit, {irqs} interrupts up to {last}, {items} items, {size // 1024} KiB: {seconds * 1000:.0f} ms, "
@@ -223,7 +217,7 @@ def measure_long_audits(program, folder):
     memory = []
     for size in MEGABYTE, 200 * MEGABYTE:
         trace, items = write_long(folder, "long", size, first, rounds, "tick")
-        seconds = run([program, "audit", app, trace])
+        seconds = used([program, "audit", app, trace]).processor
         right = audit_of(program, app, trace)
         memory.append(peak([program, "audit", app, trace], folder))
         wrong = audit_of(program, app, write_long(folder, "long", size, first, rounds, "emit 1")[0])
