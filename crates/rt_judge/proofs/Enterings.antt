@@ -1,11 +1,10 @@
 -- What is kept of those who enter sections, with one more point.
-use Rattle.std.proofs.Common.{◌≡◌, ◌≢◌, ◌⊎◌, ◌↔◌, ◌&&◌, ◌≤◌, ◌<◌, Bool, true, false, not, IsTrue, ℕ, max, min, List, []}
+use Rattle.std.proofs.Common.{◌≡◌, ◌≢◌, ◌⊎◌, ◌↔◌, ◌&&◌, ◌<◌, Bool, true, false, not, IsTrue, ℕ, max, List, []}
 use Rattle.std.proofs.Common.{◌∷◌, ◌++◌}
 use Rattle.std.proofs.Common.{map, slice_get, Option, Some, None, if◌then◌else◌, refl, sym, ap, subst, ◌∙◌, inl, inr}
 use Rattle.std.proofs.Common.{⊎_elim, arith}
-use Rattle.std.specs.List.{AllByRecursion, list_any, Contains}
+use Rattle.std.specs.List.{AllByRecursion, list_any}
 use Rattle.std.proofs.lemmas.Bool.{cases_lt}
-use Rattle.std.proofs.lemmas.List.Folds.{list_any-append}
 use Rattle.std.proofs.lemmas.List.Elements.{Contains-append_left, Contains-push_cases, Contains-push}
 use Rattle.rt_lemmas.proofs.Bools.{or_left, both_of_none, not_true}
 use Rattle.rt_lemmas.proofs.Membership.{all_append, any_left, any_right}
@@ -15,21 +14,21 @@ use Rattle.rt_ids.specs.declared.ids.Section.{Section}
 use Rattle.rt_code.specs.Image.{Image}
 use Rattle.rt_code.specs.declared.instr.Instr.{Instr}
 use Rattle.rt_code.specs.declared.instr.Note.{Note}
-use Rattle.rt_code.specs.declared.instr.Note.TheVariants as note
 use Rattle.rt_points.specs.Point.{Point, sections}
 use Rattle.rt_points.specs.declared.point.Owner.TheVariants.{Starting, Thread, Handling}
 use Rattle.rt_points.specs.ExecutionPriority.{owner_value}
 use Rattle.rt_judge.specs.Inside.Kept.{EntersBy, FreeAt}
-use Rattle.rt_judge.specs.Inside.Entering.{Enterer, priority_after, IsGreatestValue, IsLeastValue, IsLeastOrNone}
+use Rattle.rt_judge.specs.Inside.Entering.{Enterer, priority_after, IsGreatestValue, IsLeastOrNone}
 use Rattle.rt_judge.specs.Inside.Entering.{IsEntering}
 use Rattle.rt_judge.specs.Inside.Entering.{TellsOfSections, least, with_entering, row_with_entering, rows_with_entering}
-use Rattle.rt_judge.specs.Inside.Entering.{EntersNone}
+use Rattle.rt_judge.specs.Inside.Entering.{EntersNone, AreApart}
 use Rattle.rt_judge.specs.Inside.Values.{outside_value}
 use Rattle.rt_judge.specs.declared.entering.Entering.{Entering}
 use Rattle.rt_judge.specs.declared.entering.Sections.{Sections}
 use Rattle.rt_judge.proofs.SameSections.{same_is, is_same}
-use Rattle.rt_judge.proofs.Lines.{Line, instr_in, section_in, told_line, note_in, line_of}
-use Rattle.rt_judge.proofs.Seen.{tells_more, any_inside, inside_any, all_map, all_front, all_last}
+use Rattle.rt_judge.proofs.EnteringRows.{added_here, added_apart, any_added, apart_with}
+use Rattle.rt_judge.proofs.Lines.{instr_in, section_in, told_line, note_in, line_of}
+use Rattle.rt_judge.proofs.Seen.{tells_more, any_inside, inside_any, all_front}
 
 is_not : (b : Bool) → ¬ (b ≡ true) → not b ≡ true
 is_not true h = absurd (h refl)
@@ -229,9 +228,9 @@ module _ (img : Image) (ps : List Point) (p : Point) (i : Instr) (x : Section) (
     step_row : (row : Entering) → IsEntering img ps row.section row
         → IsEntering img (ps ++ p ∷ []) (row_with_entering e row).section (row_with_entering e row)
     step_row row is = ⊎_elim
-        (λ same. subst (λ r. IsEntering img (ps ++ p ∷ []) r.section r) (sym (added_here row same))
+        (λ same. subst (λ r. IsEntering img (ps ++ p ∷ []) r.section r) (sym (added_here e row same))
         (same_row row (same_is row.section e.section same ∙ of) is))
-        (λ apart. subst (λ r. IsEntering img (ps ++ p ∷ []) r.section r) (sym (added_apart row apart))
+        (λ apart. subst (λ r. IsEntering img (ps ++ p ∷ []) r.section r) (sym (added_apart e row apart))
         (other_row row (λ same. absurd (let both : is_same_section row.section e.section ≡ true =
         subst (λ y. is_same_section row.section y ≡ true) (same ∙ sym of) (is_same row.section) in cc)) is))
         (either (is_same_section row.section e.section))
@@ -239,26 +238,6 @@ module _ (img : Image) (ps : List Point) (p : Point) (i : Instr) (x : Section) (
         either : (b : Bool) → (b ≡ true) ⊎ (b ≡ false)
         either true = inl refl
         either false = inr refl
-
-        added_here : (row : Entering) → is_same_section row.section e.section ≡ true → row_with_entering e row
-            ≡ with_entering e row
-        added_here row same = rw same refl
-
-        added_apart : (row : Entering) → is_same_section row.section e.section ≡ false → row_with_entering e row ≡ row
-        added_apart row apart = rw apart refl
-
-    section_added : (row : Entering) → (row_with_entering e row).section ≡ row.section
-    section_added row = elim (is_same_section row.section e.section) as
-        (λ b. is_same_section row.section e.section ≡ b → (row_with_entering e row).section ≡ row.section) [
-          | true ↦ λ same. rw same refl
-          | false ↦ λ apart. rw apart refl
-        ] refl
-
-    any_added : (y : Section) (rows : List Entering) → list_any (λ row. is_same_section row.section y)
-        (map (row_with_entering e) rows)
-        ≡ list_any (λ row. is_same_section row.section y) rows
-    any_added y [] = refl
-    any_added y (row ∷ rows) = rw (section_added row, any_added y rows) refl
 
     rows_on : (rows : List Entering) → AllByRecursion (λ row. IsEntering img ps row.section row) rows
         → AllByRecursion (λ row. IsEntering img (ps ++ p ∷ []) row.section row) (map (row_with_entering e) rows)
@@ -316,7 +295,7 @@ module _ (img : Image) (ps : List Point) (p : Point) (i : Instr) (x : Section) (
           (λ b. list_any (λ row. is_same_section row.section e.section) s.rows.items ≡ b
           → list_any (λ row. is_same_section row.section y)
           (if b then map (row_with_entering e) s.rows.items else s.rows.items ++ e ∷ []) ≡ true) [
-            | true ↦ λ there. any_added y s.rows.items ∙ by_cases y q j enters (tells.each y q j)
+            | true ↦ λ there. any_added e y s.rows.items ∙ by_cases y q j enters (tells.each y q j)
                 (λ _ _ same. subst (λ z. list_any (λ row. is_same_section row.section z) s.rows.items ≡ true)
                 (of ∙ same) there)
             | false ↦ λ none. by_cases y q j enters
@@ -333,6 +312,7 @@ module _ (img : Image) (ps : List Point) (p : Point) (i : Instr) (x : Section) (
             (tells_more s.free (not (list_any (λ o. is_same_section o.section x) p.inside)) (FreeAt img) ps p tells.free
             free_here);
         rows = subst (λ r. AllByRecursion (λ row. IsEntering img (ps ++ p ∷ []) row.section row) r) (sym rows) rows_now;
+        apart = subst AreApart (sym rows) (apart_with e s.rows.items tells.apart);
         each = λ y q j enters. subst (λ r. list_any (λ row. is_same_section row.section y) r ≡ true) (sym rows)
             (each_now y q j enters);
       }
@@ -393,5 +373,6 @@ takes_none img ps p s none tells =
         λ all. tells.free.1 (all_front (FreeAt img) ps p all),
       );
       rows = rows_more img ps p before s.rows.items tells.rows;
+      apart = tells.apart;
       each = λ y q j e. tells.each y q j (before y q j e);
     }

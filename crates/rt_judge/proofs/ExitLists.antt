@@ -1,11 +1,11 @@
 -- The addresses that an instruction leads to are those of the list.
-use Rattle.std.proofs.Common.{◌≡◌, ◌⊎◌, ℕ, suc, Bool, true, false, List, [], ◌∷◌, refl, sym, inl, inr, subst}
+use Rattle.std.proofs.Common.{◌≡◌, ℕ, suc, true, false, [], ◌∷◌, refl, sym, inl, inr, subst}
 use Rattle.std.specs.List.{AllByRecursion, Contains}
 use Rattle.rt_code.specs.declared.instr.Instr.{Instr}
 use Rattle.rt_code.specs.declared.instr.Instr.TheVariants as instr
 use Rattle.rt_lemmas.proofs.Membership.{contains_here, contains_there}
 use Rattle.rt_points.specs.declared.point.Owner.{Owner}
-use Rattle.rt_points.specs.declared.point.Owner.TheVariants.{Starting, Thread, Handling}
+use Rattle.rt_points.specs.declared.point.Owner.TheVariants.{Starting}
 use Rattle.rt_points.specs.Leading.{LeadsOn, owner_after}
 use Rattle.rt_judge.specs.Inside.Exits.{targets, ends_init}
 

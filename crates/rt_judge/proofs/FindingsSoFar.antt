@@ -1,11 +1,9 @@
 -- What was found, with one more point.
-use Rattle.std.proofs.Common.{◌≡◌, ◌↔◌, ◌&&◌, Bool, true, false, IsTrue, ℕ, List, [], ◌∷◌, ◌++◌, length, slice_get}
+use Rattle.std.proofs.Common.{◌≡◌, ◌↔◌, ◌&&◌, Bool, false, IsTrue, List, [], ◌∷◌, ◌++◌, slice_get}
 use Rattle.std.proofs.Common.{Option}
-use Rattle.std.proofs.Common.{Some, None, refl, sym, ap, subst, ◌∙◌, arith, map, Bor, append_assoc}
-use Rattle.std.specs.Map.Iter.{deref_pair}
+use Rattle.std.proofs.Common.{Some, None, sym, ap, subst, ◌∙◌, map, append_assoc}
 use mathlib.Core.List.{map-append}
-use Rattle.std.specs.List.{AllByRecursion}
-use Rattle.std.proofs.lemmas.Option.{none-some, slice_get_within, slice_get-get_or}
+use Rattle.std.proofs.lemmas.Option.{slice_get_within, slice_get-get_or}
 use Rattle.rt_lemmas.proofs.Membership.{all_append}
 use Rattle.rt_code.specs.Image.{Image}
 use Rattle.rt_code.specs.declared.instr.Instr.{Instr}
@@ -14,9 +12,8 @@ use Rattle.rt_code.specs.declared.instr.Note.{Note}
 use Rattle.rt_points.specs.Point.{Point}
 use Rattle.rt_points.specs.Rules.{IsOperable, IsNotedWell}
 use Rattle.rt_points.specs.declared.point.Owner.{Owner}
-use Rattle.rt_points.specs.declared.point.Opened.{Opened}
 use Rattle.rt_judge.specs.Inside.Points.{point}
-use Rattle.rt_judge.specs.Inside.Finds.{points_of}
+use Rattle.rt_judge.specs.Inside.Visits.{Spot, point_of}
 use Rattle.rt_judge.specs.Inside.Kept.{TellsOfAll, HasLine, OperatesAt, NotesAt}
 use Rattle.rt_judge.proofs.Lines.{instr_in, note_in, told_line, no_line}
 use Rattle.rt_judge.proofs.Seen.{tells_more, all_front, all_last}
@@ -93,13 +90,10 @@ module _ (img : Image) (ps : List Point) (p : Point) (absent : slice_get img.cod
     λ all. tells.1 (all_front (NotesAt img) ps p all),
   )
 
--- the points of a table, one more
-pub points_more : (owner : Owner) (ps : List Point) (ys : List (Bor ℕ × Bor (List Opened)))
-    (y : Bor ℕ × Bor (List Opened))
-    → (ps ++ points_of owner (map deref_pair ys)) ++ point y.0.now owner y.1.now ∷ []
-    ≡ ps ++ points_of owner (map deref_pair (ys ++ y ∷ []))
-points_more owner ps ys y =
-    append_assoc ps (points_of owner (map deref_pair ys)) (point y.0.now owner y.1.now ∷ [])
-    ∙ ap (λ (qs : List Point). ps ++ qs)
-    (sym (ap (points_of owner) (map-append deref_pair ys (y ∷ []))
-    ∙ map-append (λ (e : ℕ × List Opened). point e.0 owner e.1) (map deref_pair ys) (deref_pair y ∷ [])))
+-- the points of the spots so far, one more
+pub points_more : (owner : Owner) (ps : List Point) (done : List Spot) (spot : Spot)
+    → (ps ++ map (point_of owner) done) ++ point spot.address owner spot.inside ∷ []
+    ≡ ps ++ map (point_of owner) (done ++ spot ∷ [])
+points_more owner ps done spot =
+    append_assoc ps (map (point_of owner) done) (point_of owner spot ∷ [])
+    ∙ ap (λ (qs : List Point). ps ++ qs) (sym (map-append (point_of owner) done (spot ∷ [])))

@@ -1,5 +1,5 @@
 -- The greatest frame of a priority value, row after row.
-use Rattle.std.proofs.Common.{◌≡◌, ◌+◌, ◌*◌, ◌==◌, Bool, true, false, ℕ, max, List, [], ◌∷◌, map, filter, Option, Some}
+use Rattle.std.proofs.Common.{◌≡◌, ◌+◌, ◌*◌, ◌==◌, true, false, ℕ, max, List, [], ◌∷◌, map, filter, Option, Some}
 use Rattle.std.proofs.Common.{None}
 use Rattle.std.proofs.Common.{suc, cond, if◌then◌else◌, refl, sym, ap, ◌∙◌, arith}
 use Rattle.std.specs.List.{cons_option}

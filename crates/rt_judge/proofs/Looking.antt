@@ -1,21 +1,13 @@
 -- The points of an owner, from a walk through its code; and those of all owners.
-use Rattle.std.proofs.Common.{◌≡◌, ◌≢◌, ◌⊎◌, ◌≤◌, ◌<◌, ◌+◌, ℕ, suc, List, [], ◌∷◌, ◌++◌, map, length, slice_get, Option}
+use Rattle.std.proofs.Common.{◌≡◌, ◌⊎◌, ◌≤◌, ◌<◌, ◌+◌, ℕ, List, [], ◌∷◌, ◌++◌, map, length, slice_get, Option}
 use Rattle.std.proofs.Common.{Some, None}
 use Rattle.std.proofs.Common.{refl, sym, ap, subst, ◌∙◌, inl, inr, ⊎_elim, arith, append_assoc, append-nil, Result, Ok}
 use Rattle.std.proofs.Common.{Err, IfOk, Bool, true, false, MatchBool, MatchOption}
 use Rattle.std.specs.List.{AllByRecursion, Contains}
-use Rattle.std.specs.BTreeMap.{get, IsOrdered}
-use Rattle.std.specs.Ordering.{nat_cmp, eq_by_cmp, is_eq}
-use Rattle.std.specs.Cmp.{nat_cmp_total}
 use Rattle.std.proofs.lemmas.Bool.{cases_eq}
-use Rattle.std.proofs.lemmas.Cmp.{eq_by_cmp_equiv}
 use Rattle.std.proofs.lemmas.List.Elements.{Contains-append_left, Contains-append_right}
-use Rattle.std.proofs.lemmas.Map.Keys.{IsDistinct-from_sorted}
-use Rattle.std.proofs.lemmas.Map.Lookups.{exact_unsigned}
-use Rattle.std.proofs.lemmas.Map.Views.{Contains-from_lookup, lookup-from_Contains}
 use Rattle.std.proofs.lemmas.Option.{none-some, slice_get_within}
-use Rattle.rt_lemmas.proofs.Membership.{contains_here, contains_there, contains_cases, contains_none, all_append}
-use Rattle.rt_lemmas.proofs.Membership.{all_has, all_from_members}
+use Rattle.rt_lemmas.proofs.Membership.{contains_here, all_append}
 use Rattle.rt_ids.specs.Lists.{then_from}
 use Rattle.rt_code.specs.Image.{Image}
 use Rattle.rt_code.specs.declared.image.Handler.{Handler}
@@ -25,69 +17,42 @@ use Rattle.rt_points.specs.Point.{Point}
 use Rattle.rt_points.specs.declared.point.Owner.{Owner}
 use Rattle.rt_points.specs.declared.point.Owner.TheVariants.{Starting, Thread, Handling}
 use Rattle.rt_points.specs.declared.point.Opened.{Opened}
-use Rattle.rt_points.specs.declared.rule.TheConstants.{MOST_OPEN}
-use Rattle.rt_points.specs.Leading.{IsPoint, Begins, Enters, Leads, LeadsTo, owner_after, handler_at, starts_at}
+use Rattle.rt_points.specs.Leading.{IsPoint, Begins, Enters, Leads, LeadsTo, owner_after, handler_at}
 use Rattle.rt_judge.specs.Inside.Points.{point}
-use Rattle.rt_judge.specs.Inside.Visits.{point_of, visit_of}
-use Rattle.rt_judge.specs.Inside.Walks.{Table, Has, IsWalked}
-use Rattle.rt_judge.specs.Inside.Finds.{Finds, points_of}
+use Rattle.rt_judge.specs.Inside.Visits.{Spot, point_of, spot_of, spots_of}
+use Rattle.rt_judge.specs.Inside.Walks.{Reached, Has, ArePoints, IsWalked}
+use Rattle.rt_judge.specs.Inside.Finds.{Finds}
 use Rattle.rt_judge.specs.Inside.Looks.{LooksFrom, LooksBehind, LooksFromEntry, Looks, Looked, LookedBelow, IsThread}
 use Rattle.rt_judge.specs.Inside.Looks.{IsOf, IsBelow}
 use Rattle.rt_judge.specs.declared.findings.Findings.{Findings}
-use Rattle.rt_judge.specs.declared.walk.Visit.{Visit}
+use Rattle.rt_judge.specs.declared.walk.Visits.{Visits}
+use Rattle.rt_judge.proofs.Walking.{contains_map}
 
-is_eq_same : (x y : ℕ) → eq_by_cmp nat_cmp x y ≡ true → x ≡ y
-is_eq_same x y is = grind (arith, is)
-
--- what a table has stands among its points, and the other way round
-entries_points : (owner : Owner) (entries : List (ℕ × List Opened)) (e : ℕ × List Opened) → Contains entries e
-    → Contains (points_of owner entries) (point e.0 owner e.1)
-entries_points owner [] e is = absurd (contains_none e is)
-entries_points owner (d ∷ entries) e is = elim (contains_cases d entries e is) [
-  | inl same ↦ subst (λ (f : ℕ × List Opened). Contains (points_of owner (d ∷ entries)) (point f.0 owner f.1)) same
-      (contains_here (point d.0 owner d.1) (points_of owner entries))
-  | inr behind ↦ contains_there (point d.0 owner d.1) (points_of owner entries) (point e.0 owner e.1)
-      (entries_points owner entries e behind)
-]
-
-has_points : (owner : Owner) (t : Table) (visit : Visit) → Has t visit
-    → Contains (points_of owner t.entries) (point_of owner visit)
-has_points owner t visit has =
-    entries_points owner t.entries (visit.address, visit.nesting)
-    (Contains-from_lookup is_eq_same visit.address visit.nesting t.entries has)
-
-points_have : (img : Image) (owner : Owner) (t : Table) → IsOrdered nat_cmp t
-    → ((visit : Visit) → Has t visit → IsPoint img (point_of owner visit)) → (entries : List (ℕ × List Opened))
-    → ((e : ℕ × List Opened) → Contains entries e → Contains t.entries e)
-    → AllByRecursion (IsPoint img) (points_of owner entries)
-points_have img owner t ordered sound [] inside = tt
-points_have img owner t ordered sound (e ∷ entries) inside = (
-  sound (record { address = e.0; nesting = e.1 })
-      (lookup-from_Contains (eq_by_cmp_equiv nat_cmp_total) e.0 e.1 t.entries (IsDistinct-from_sorted nat_cmp _ ordered)
-      (inside e (contains_here e entries))),
-  points_have img owner t ordered sound entries (λ d is. inside d (contains_there e entries d is)),
-)
+-- spots of points, as points
+points_of_spots : (img : Image) (owner : Owner) (done : List Spot) → ArePoints img owner done
+    → AllByRecursion (IsPoint img) (map (point_of owner) done)
+points_of_spots img owner [] all = tt
+points_of_spots img owner (spot ∷ done) all = (all.0, points_of_spots img owner done all.1)
 
 -- a walk from where an owner begins has all its points
-module _ (img : Image) (owner : Owner) (starts : List Visit) (old new : Findings) (bs : List Visit)
+module _ (img : Image) (owner : Owner) (starts : List Spot) (old new : Findings) (bs : Visits)
     (looked : LooksFrom img owner starts old new bs) (complete : (p : Point) → IsPoint img p → p.owner ≡ owner
-    → Has looked.table (visit_of p)) where
-  of_owner : (p : Point) → p.owner ≡ owner → point_of owner (visit_of p) ≡ p
+    → Has looked.reached (spot_of p)) where
+  of_owner : (p : Point) → p.owner ≡ owner → point_of owner (spot_of p) ≡ p
   of_owner p same = λ i. record { address = p.address; owner = sym same i; inside = p.inside }
 
   pub looks_of : Looks img (λ o. o ≡ owner) old new
   looks_of = record {
-    points = points_of owner looked.table.entries;
-    sound = points_have img owner looked.table looked.walked.ordered looked.walked.table.points looked.table.entries
-        (λ e is. is);
-    all = λ p is mine. subst (Contains (points_of owner looked.table.entries)) (of_owner p mine)
-        (has_points owner looked.table (visit_of p) (complete p is mine));
+    points = map (point_of owner) looked.done;
+    sound = points_of_spots img owner looked.done looked.walked.points;
+    all = λ p is mine. subst (Contains (map (point_of owner) looked.done)) (of_owner p mine)
+        (contains_map (point_of owner) looked.done (spot_of p) (looked.walked.listed (spot_of p) (complete p is mine)));
     one = λ p q is_p is_q mine same at.
-        let first : get nat_cmp looked.table p.address ≡ Some p.inside = complete p is_p mine in
-        let second : get nat_cmp looked.table q.address ≡ Some q.inside = complete q is_q (sym same ∙ mine) in
-        let both : Some p.inside ≡ Some q.inside = sym first ∙ ap (get nat_cmp looked.table) at ∙ second in
+        let first : looked.reached p.address ≡ Some p.inside = complete p is_p mine in
+        let second : looked.reached q.address ≡ Some q.inside = complete q is_q (sym same ∙ mine) in
+        let both : Some p.inside ≡ Some q.inside = sym first ∙ ap looked.reached at ∙ second in
         some_of p.inside q.inside both;
-    few = λ p is mine. looked.walked.table.few (visit_of p) (complete p is mine);
+    few = λ p is mine. looked.walked.sound.few (spot_of p) (complete p is mine);
     finds = looked.finds;
   }
     where
@@ -104,53 +69,53 @@ not_starting : (i : Instr) (owner : Owner) → owner_after i owner ≡ Starting 
 not_starting i owner e = ⊎_elim (λ same. sym same ∙ e) (λ both. both.0) (serves i owner)
 
 -- all points of `init`
-module _ (img : Image) (t : Table) (bs : List Visit) (start : Visit)
-    (begins : start ≡ record { address = 0; nesting = [] })
-    (walked : IsWalked img Starting (start ∷ []) t bs) where
-  pub starting_has : (p : Point) → IsPoint img p → p.owner ≡ Starting → Has t (visit_of p)
+module _ (img : Image) (t : Reached) (done bs : List Spot) (start : Spot)
+    (begins : start ≡ record { address = 0; inside = [] })
+    (walked : IsWalked img Starting (start ∷ []) t done bs) where
+  pub starting_has : (p : Point) → IsPoint img p → p.owner ≡ Starting → Has t (spot_of p)
   starting_has p Begins mine = subst (Has t) begins (walked.began start (contains_here start []))
   starting_has p (Enters index h is) mine = absurd (let e : Handling index ≡ Starting = mine in cc)
   starting_has s (Leads p q is to) mine =
       let was : p.owner ≡ Starting = not_starting to.line.0 p.owner (sym to.owner ∙ mine) in
-      walked.closed (visit_of p) q (starting_has p is was)
+      walked.closed (spot_of p) q (starting_has p is was)
       (subst (λ o. LeadsTo img (point p.address o p.inside) q) was to) mine
 
   -- and those behind it are where the thread begins
   pub thread_starts : (p q : Point) → IsPoint img p → LeadsTo img p q → p.owner ≡ Starting → q.owner ≡ Thread
-      → Contains bs (visit_of q)
+      → Contains bs (spot_of q)
   thread_starts p q is to was now =
-      walked.left (visit_of p) q (starting_has p is was)
+      walked.left (spot_of p) q (starting_has p is was)
       (subst (λ o. LeadsTo img (point p.address o p.inside) q) was to)
       (λ e. absurd (let both : Thread ≡ Starting = sym now ∙ e in cc))
 
-  module _ (u : Table) (cs : List Visit) (behind : IsWalked img Thread bs u cs) where
-    pub thread_has : (p : Point) → IsPoint img p → p.owner ≡ Thread → Has u (visit_of p)
+  module _ (u : Reached) (more cs : List Spot) (behind : IsWalked img Thread bs u more cs) where
+    pub thread_has : (p : Point) → IsPoint img p → p.owner ≡ Thread → Has u (spot_of p)
     thread_has p Begins mine = absurd (let e : Starting ≡ Thread = mine in cc)
     thread_has p (Enters index h is) mine = absurd (let e : Handling index ≡ Thread = mine in cc)
     thread_has s (Leads p q is to) mine = ⊎_elim
         (λ same.
         let was : p.owner ≡ Thread = sym same ∙ sym to.owner ∙ mine in
-        behind.closed (visit_of p) q (thread_has p is was)
+        behind.closed (spot_of p) q (thread_has p is was)
         (subst (λ o. LeadsTo img (point p.address o p.inside) q) was to) mine)
-        (λ served. behind.began (visit_of q) (thread_starts p q is to served.0 mine))
+        (λ served. behind.began (spot_of q) (thread_starts p q is to served.0 mine))
         (serves to.line.0 p.owner)
 
 -- all points of a handler
-module _ (img : Image) (index : ℕ) (h : Handler) (is : handler_at img index ≡ Some h) (t : Table) (bs : List Visit)
-    (start : Visit)
-    (begins : start ≡ record { address = h.entry; nesting = [] })
-    (walked : IsWalked img (Handling index) (start ∷ []) t bs) where
-  pub handler_has : (p : Point) → IsPoint img p → p.owner ≡ Handling index → Has t (visit_of p)
+module _ (img : Image) (index : ℕ) (h : Handler) (is : handler_at img index ≡ Some h) (t : Reached)
+    (done bs : List Spot) (start : Spot)
+    (begins : start ≡ record { address = h.entry; inside = [] })
+    (walked : IsWalked img (Handling index) (start ∷ []) t done bs) where
+  pub handler_has : (p : Point) → IsPoint img p → p.owner ≡ Handling index → Has t (spot_of p)
   handler_has p Begins mine = absurd (let e : Starting ≡ Handling index = mine in cc)
   handler_has p (Enters other g there) mine =
       let same : other ≡ index = let e : Handling other ≡ Handling index = mine in cc in
       let one : h ≡ g = let e : Some h ≡ Some g = sym is ∙ ap (handler_at img) (sym same) ∙ there in cc in
-      subst (λ (k : Handler). Has t (record { address = k.entry; nesting = [] })) one
+      subst (λ (k : Handler). Has t (record { address = k.entry; inside = [] })) one
       (subst (Has t) begins (walked.began start (contains_here start [])))
   handler_has s (Leads p q from to) mine = ⊎_elim
       (λ same.
       let was : p.owner ≡ Handling index = sym same ∙ sym to.owner ∙ mine in
-      walked.closed (visit_of p) q (handler_has p from was)
+      walked.closed (spot_of p) q (handler_has p from was)
       (subst (λ o. LeadsTo img (point p.address o p.inside) q) was to) mine)
       (λ served. absurd (let both : Thread ≡ Handling index = sym served.1 ∙ sym to.owner ∙ mine in cc))
       (serves to.line.0 p.owner)
@@ -207,24 +172,28 @@ looks_weaker img M O a b wider looks = record {
   finds = looks.finds;
 }
 
-pub looks_thread : (img : Image) (a b c : Findings) (starts bs : List Visit) → starts
-    ≡ record { address = 0; nesting = [] } ∷ []
-    → LooksFrom img Starting starts a b bs → LooksBehind img bs b c → Looks img IsThread a c
+pub looks_thread : (img : Image) (a b c : Findings) (starts : List Spot) (bs : Visits) → starts
+    ≡ record { address = 0; inside = [] } ∷ []
+    → LooksFrom img Starting starts a b bs → LooksBehind img (spots_of bs) b c → Looks img IsThread a c
 looks_thread img a b c starts bs begins first behind =
-    let start : Visit = record { address = 0; nesting = [] } in
-    let from : LooksFrom img Starting (start ∷ []) a b bs = subst (λ (s : List Visit). LooksFrom img Starting s a b bs)
+    let start : Spot = record { address = 0; inside = [] } in
+    let from : LooksFrom img Starting (start ∷ []) a b bs = subst (λ (s : List Spot). LooksFrom img Starting s a b bs)
     begins first in
+    let next = behind.1 in
     looks_then img (λ o. o ≡ Starting) (λ o. o ≡ Thread) IsThread a b c (λ o is. is)
-    (looks_of img Starting (start ∷ []) a b bs from (starting_has img from.table bs start refl from.walked))
-    (looks_of img Thread bs b c behind.0 behind.1
-    (thread_has img from.table bs start refl from.walked behind.1.table behind.0 behind.1.walked))
+    (looks_of img Starting (start ∷ []) a b bs from
+    (starting_has img from.reached from.done (spots_of bs) start refl from.walked))
+    (looks_of img Thread (spots_of bs) b c behind.0 next
+    (thread_has img from.reached from.done (spots_of bs) start refl from.walked next.reached next.done
+    (spots_of behind.0) next.walked))
 
 pub looks_handler : (img : Image) (index : ℕ) (h : Handler) (a b : Findings) → handler_at img index ≡ Some h
     → LooksFromEntry img index h.entry a b → Looks img (IsOf index) a b
 looks_handler img index h a b is looks =
-    let start : Visit = record { address = h.entry; nesting = [] } in
-    looks_of img (Handling index) (start ∷ []) a b looks.0 looks.1
-    (handler_has img index h is looks.1.table looks.0 start refl looks.1.walked)
+    let start : Spot = record { address = h.entry; inside = [] } in
+    let from = looks.1 in
+    looks_of img (Handling index) (start ∷ []) a b looks.0 from
+    (handler_has img index h is from.reached from.done (spots_of looks.0) start refl from.walked)
 
 pub looks_nowhere : (img : Image) (index : ℕ) (f : Findings) → handler_at img index ≡ None → Looks img (IsOf index) f f
 looks_nowhere img index f none = record {
@@ -280,6 +249,14 @@ looked_all img n f all looked =
 pub if_ok_weaker : {T E : Type 0} (r : Result T E) (P Q : T → Type 0) → ((x : T) → P x → Q x) → IfOk r P → IfOk r Q
 if_ok_weaker (Ok x) P Q f h = f x h
 if_ok_weaker (Err e) P Q f h = h
+
+-- what is known where an answer is known
+pub ok_true : {E : Type 0} (r : Result Bool E) (P N : Type 0) → r ≡ Ok true → P → IfOk r (λ kept. MatchBool kept P N)
+ok_true r P N is h = subst (λ v. IfOk v (λ kept. MatchBool kept P N)) (sym is) h
+
+pub ok_false : {E : Type 0} (r : Result Bool E) (P N : Type 0) → r ≡ Ok false → N
+    → IfOk r (λ kept. MatchBool kept P N)
+ok_false r P N is h = subst (λ v. IfOk v (λ kept. MatchBool kept P N)) (sym is) h
 
 pub kept_weaker : (b : Bool) (P Q N : Type 0) → (P → Q) → MatchBool b P N → MatchBool b Q N
 kept_weaker true P Q N f h = f h

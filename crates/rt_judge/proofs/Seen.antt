@@ -1,7 +1,7 @@
 -- Points that were looked at, with one more.
-use Rattle.std.proofs.Common.{◌≡◌, ◌⊎◌, ◌↔◌, ◌&&◌, Bool, true, false, not, IsTrue, ℕ, zero, suc, List, [], ◌∷◌, ◌++◌}
+use Rattle.std.proofs.Common.{◌≡◌, ◌↔◌, ◌&&◌, Bool, true, IsTrue, zero, suc, List, [], ◌∷◌, ◌++◌}
 use Rattle.std.proofs.Common.{map}
-use Rattle.std.proofs.Common.{slice_get, Some, refl, sym, ap, subst, ◌∙◌, inl, inr}
+use Rattle.std.proofs.Common.{Some, ap, subst, inl, inr}
 use Rattle.std.specs.List.{AllByRecursion, list_any}
 use Rattle.std.proofs.lemmas.Option.{same_Some, none-some}
 use Rattle.rt_lemmas.proofs.Bools.{and_parts, and_both, or_left, or_right, or_cases}

@@ -1,14 +1,14 @@
 -- What is kept of those who touch cells, with one more point.
-use Rattle.std.proofs.Common.{◌≡◌, ◌≢◌, ◌⊎◌, ◌≤◌, ◌<◌, ◌||◌, ◌==◌, Bool, true, false, not, cond, ℕ, zero, suc, List, []}
+use Rattle.std.proofs.Common.{◌≡◌, ◌≢◌, ◌⊎◌, ◌≤◌, ◌||◌, ◌==◌, Bool, true, false, not, cond, ℕ, zero, suc, List, []}
 use Rattle.std.proofs.Common.{◌∷◌, ◌++◌}
-use Rattle.std.proofs.Common.{map, filter, length, slice_get, slice_set, option_map, Option, Some, None, refl, sym, ap}
+use Rattle.std.proofs.Common.{filter, length, slice_get, slice_set, option_map, Option, Some, None, refl, sym, ap}
 use Rattle.std.proofs.Common.{subst, ◌∙◌}
 use Rattle.std.proofs.Common.{inl, inr, ⊎_elim, arith, eq-eqb}
-use Rattle.std.specs.List.{Contains, list_any}
-use Rattle.std.proofs.lemmas.Bool.{cases_eq, eqb-true}
+use Rattle.std.specs.List.{list_all}
+use Rattle.std.proofs.lemmas.Bool.{eqb-true}
 use Rattle.std.proofs.lemmas.Option.{same_Some, none-some, slice_get_within}
 use Rattle.std.proofs.lemmas.List.Elements.{Contains-append_left, Contains-push_cases, Contains-push}
-use Rattle.rt_lemmas.proofs.Bools.{not_true, not_false}
+use Rattle.rt_lemmas.proofs.Bools.{not_true, not_false, and_parts}
 use Rattle.rt_ids.specs.Choice.{IsIn}
 use Rattle.rt_ids.specs.declared.ids.Section.{Section}
 use Rattle.rt_code.specs.Access.{Access, Loads, Stores, cell_of}
@@ -18,11 +18,10 @@ use Rattle.rt_code.specs.declared.instr.Note.{Note}
 use Rattle.rt_points.specs.Point.{Point, sections}
 use Rattle.rt_points.specs.ExecutionPriority.{owner_value}
 use Rattle.rt_points.specs.Rules.{touched_cell, IsStore}
-use Rattle.rt_points.specs.declared.point.Opened.{Opened}
 use Rattle.rt_points.specs.declared.point.Owner.TheVariants.{Starting}
 use Rattle.rt_judge.specs.Inside.Touching.{Toucher, SomeIfTrue, IsTouching, TellsOfTouching, TellsOfCells, is_stored}
 use Rattle.rt_judge.specs.Inside.Touching.{is_open}
-use Rattle.rt_judge.specs.Inside.Touching.{IsFirst, IsWith, IsNext, IsTouched, IsTouchOf}
+use Rattle.rt_judge.specs.Inside.Touching.{IsFirst, IsWith, IsNext, IsTouched}
 use Rattle.rt_judge.specs.declared.touching.Touching.{Touching}
 use Rattle.rt_judge.specs.declared.touching.Touch.{Touch}
 use Rattle.rt_judge.proofs.Seen.{any_inside, inside_any}
@@ -290,6 +289,13 @@ module _ (img : Image) (ps : List Point) (p : Point) (i : Instr) (told : Option 
         (next_row done.row done.next done.is_next (tells touch.cell done.row done.was))))
         (λ there. row_more img ps p k (apart k there.0) row (tells k row there.1))
         (get_set old touch.cell k (Some done.next) row (subst (λ rows. slice_get rows k ≡ Some row) done.is is))
+
+-- a filter leaves all, where all pass
+pub filter_all : {X : Type 0} (f : X → Bool) (xs : List X) → list_all f xs ≡ true → xs ≡ filter f xs
+filter_all f [] all = refl
+filter_all f (x ∷ xs) all =
+    let parts = and_parts (f x) (list_all f xs) all in
+    rw parts.0 (ap (λ ys. x ∷ ys) (filter_all f xs parts.1))
 
 -- the access of a touch
 pub record HasAccess (i : Instr) (touch : Touch) : Type 0 where

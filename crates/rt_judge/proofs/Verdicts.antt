@@ -1,35 +1,34 @@
 -- What the rules say of an image whose points were all looked at.
 use Rattle.std.proofs.Common.{◌≡◌, ◌≢◌, ◌↔◌, ◌≤◌, ◌<◌, ◌&&◌, ◌||◌, ◌==◌, Bool, true, false, not, IsTrue, ℕ, zero, suc}
 use Rattle.std.proofs.Common.{List, [], ◌∷◌}
-use Rattle.std.proofs.Common.{length, slice_get, Option, Some, None, refl, sym, ap, subst, ◌∙◌, inl, inr, ⊎_elim, arith}
+use Rattle.std.proofs.Common.{length, slice_get, Option, Some, None, refl, sym, subst, ◌∙◌, arith}
 use Rattle.std.proofs.Common.{nat_le}
-use Rattle.std.specs.List.{AllByRecursion, Contains, list_any, list_all}
+use Rattle.std.specs.List.{list_all}
 use Rattle.std.proofs.lemmas.Bool.{eqb-true}
-use Rattle.std.proofs.lemmas.Option.{none-some, slice_get-get_or, slice_get_within}
-use Rattle.rt_lemmas.proofs.Bools.{and_parts, and_left, and_right, both_of_none, not_true, not_false}
+use Rattle.std.proofs.lemmas.Option.{none-some, slice_get-get_or}
+use Rattle.rt_lemmas.proofs.Bools.{and_left, and_right, not_false}
 use Rattle.rt_lemmas.proofs.Membership.{all_has, all_at, all_weaker, any_one}
 use Rattle.rt_ids.specs.Choice.{IsIn}
 use Rattle.rt_ids.specs.Location.{is_same_section}
 use Rattle.rt_ids.specs.declared.ids.Section.{Section}
-use Rattle.rt_code.specs.Access.{Access, cell_of}
+use Rattle.rt_code.specs.Access.{Access}
 use Rattle.rt_code.specs.Image.{Image}
 use Rattle.rt_code.specs.declared.instr.Instr.{Instr}
-use Rattle.rt_code.specs.declared.instr.Note.{Note}
-use Rattle.rt_points.specs.Checked.{Keeps, IsChecked, IsLeastBroken, rule_number}
+use Rattle.rt_points.specs.Checked.{Keeps, IsChecked, rule_number}
 use Rattle.rt_points.specs.Leading.{IsPoint}
 use Rattle.rt_points.specs.ExecutionPriority.{owner_value}
-use Rattle.rt_points.specs.Point.{Point, sections}
+use Rattle.rt_points.specs.Point.{Point}
 use Rattle.rt_points.specs.Rules.{NestsInOneWay, HasRightNumbers, StaysInCode, OperatesWell, NotesWell, EntersWell}
 use Rattle.rt_points.specs.Rules.{GuardsCells}
-use Rattle.rt_points.specs.Rules.{IsOperable, IsNotedWell, HoldsOff, EntersAt, Touches, IsContended, IsGuardedBy}
-use Rattle.rt_points.specs.Rules.{IsStore, HasItsCell, touched_cell}
+use Rattle.rt_points.specs.Rules.{EntersAt, Touches, IsContended, IsGuardedBy}
+use Rattle.rt_points.specs.Rules.{IsStore, HasItsCell}
 use Rattle.rt_points.specs.declared.point.Owner.TheVariants.{Starting}
 use Rattle.rt_points.specs.declared.rule.Rule.{Rule}
 use Rattle.rt_points.specs.declared.rule.Rule.TheVariants as rule
-use Rattle.rt_judge.specs.Inside.Kept.{TellsOfAll, HasLine, OperatesAt, NotesAt, FreeAt, EntersBy}
-use Rattle.rt_judge.specs.Inside.Entering.{Enterer, IsEntering, IsLeastOrNone, TellsOfSections, holds_off}
+use Rattle.rt_judge.specs.Inside.Kept.{HasLine, OperatesAt, NotesAt, FreeAt}
+use Rattle.rt_judge.specs.Inside.Entering.{Enterer, IsEntering, IsLeastOrNone, holds_off}
 use Rattle.rt_judge.specs.Inside.Entering.{priority_after, none_or}
-use Rattle.rt_judge.specs.Inside.Touching.{Toucher, IsTouching, TellsOfTouching, SomeIfTrue, is_guarded, is_row_guarded}
+use Rattle.rt_judge.specs.Inside.Touching.{Toucher, TellsOfTouching, SomeIfTrue, is_row_guarded}
 use Rattle.rt_judge.specs.Inside.Looks.{Looked}
 use Rattle.rt_judge.specs.declared.entering.Entering.{Entering}
 use Rattle.rt_judge.specs.declared.touching.Touching.{Touching}

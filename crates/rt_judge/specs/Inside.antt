@@ -1,6 +1,8 @@
 -- What private contracts say.
 pub mod Exits
 pub mod Points
+pub mod Nestings
+pub mod Tables
 pub mod Visits
 pub mod Walks
 pub mod Values

@@ -1,16 +1,15 @@
-ghost use Rattle.std.specs.Prelude.{◌≡◌, ◌++◌, ◌∷◌, [], map, ◌&&◌, ◌↔◌, ℕ, IsTrue, OnOk, MatchOption, List, Some};
+ghost use Rattle.std.specs.Prelude.{◌≡◌, ◌++◌, ◌∷◌, [], ◌&&◌, IsTrue, IfOk, OnOk, MatchOption, List, Some};
 ghost use Rattle.std.specs.Prelude.{slice_get};
-ghost use Rattle.std.specs.List.{list_any, list_all};
-ghost use Rattle.rt_ids.specs.Location.{is_same_section};
+ghost use Rattle.std.specs.List.{list_all};
 ghost use Rattle.rt_points.specs.Point.{Point};
 ghost use Rattle.rt_judge.specs.Inside.Points.{point};
 ghost use Rattle.rt_judge.specs.Inside.Entering as spec;
 
-use crate::execution_priority::{execution_priority, outside_value};
-use crate::nesting::{Nesting, is_inside, is_same_section};
+use crate::execution_priority::{execution_priority, lowered_value, outside_value};
+use crate::nesting::{is_inside, is_same_section, kind_of};
 use rt_code::{Image, Line, Note};
 use rt_ids::{NoMemory, Section};
-use rt_points::Owner;
+use rt_points::{Opened, Owner};
 use std::alloc::Global;
 
 /// Who enters a section.
@@ -26,7 +25,10 @@ pub struct Entering {
 /// Who enters which section, at the points that were looked at.
 #[derive(Drop)]
 pub struct Sections {
+    /// One for each section that is entered.
     rows: Vec<Entering>,
+    /// By the address of an entering the index at which its row was found: it is tried first the next time.
+    places: Vec<usize>,
     /// Nobody enters a section that he is inside.
     free: bool,
 }
@@ -63,31 +65,35 @@ impl Entering {
         }
     }
 
-    /// One more entering, which is added to a row of its section.
+    /// One more entering of its section.
     fn add(&mut self, other: &Entering)
-        ensures { self.new ≡ spec.row_with_entering other.now self.old }
+        ensures { self.new ≡ spec.with_entering other.now self.old }
     {
-        if is_same_section(self.section, other.section) {
-            self.weakest = self.weakest.max(other.weakest);
-            self.value = least(self.value, other.value);
+        self.weakest = self.weakest.max(other.weakest);
+        self.value = least(self.value, other.value);
+    }
+}
+
+/// Whether the row at an index is of a section.
+fn is_row_of(rows: &[Entering], index: usize, section: &Section) -> bool
+    ensures { IsTrue result → spec.IsRowOf rows.now section.now index }
+{
+    match rows.get(index) {
+        Some(row) => is_same_section(row.section, *section),
+        None => false,
+    }
+}
+
+/// The index of the row of a section.
+fn find_row(rows: &[Entering], section: &Section) -> Option<usize>
+    ensures { spec.IsFound rows.now section.now result }
+{
+    for (index, row) in rows.iter().enumerate() {
+        if is_same_section(row.section, *section) {
+            return Some(index);
         }
     }
-}
-
-/// Whether there is a row of a section.
-fn has_row(rows: &[Entering], section: Section) -> bool
-    ensures { result ≡ list_any (λ row. is_same_section row.section section) rows.now }
-{
-    rows.iter().any(|row| is_same_section(row.section, section))
-}
-
-/// Adds an entering to the rows of its section.
-fn add_to_rows(rows: &mut [Entering], entering: &Entering)
-    ensures { rows.new ≡ map (spec.row_with_entering entering.now) rows.old }
-{
-    for row in rows.iter_mut() {
-        row.add(entering);
-    }
+    None
 }
 
 /// Whether each of these holds off everyone who enters.
@@ -98,15 +104,15 @@ fn all_hold_off(rows: &[Entering]) -> bool
 }
 
 impl Sections {
-    /// Of no points.
-    pub fn new(alloc: Global) -> Sections
-        ensures rows { result.rows.items ≡ [] }
-        ensures free { IsTrue result.free }
+    /// Of no points, for code of this length.
+    pub fn new(alloc: Global, length: usize) -> Result<Sections, NoMemory>
+        ensures { IfOk result (λ sections. (sections.rows.items ≡ []) × IsTrue sections.free) }
     {
-        Sections {
+        Ok(Sections {
             rows: Vec::new(alloc),
+            places: Vec::from_elem(alloc, 0, length)?,
             free: true,
-        }
+        })
     }
 
     /// Whether each section is entered by who is not inside it, and holds off everyone who enters it.
@@ -116,62 +122,95 @@ impl Sections {
         self.free && all_hold_off(&self.rows)
     }
 
-    /// One more entering.
-    fn enter(&mut self, entering: &Entering) -> Result<(), NoMemory>
-        ensures rows { OnOk result (self.new.rows.items ≡ spec.rows_with_entering entering.now self.old.rows.items) }
+    /// The index of the row of a section that is entered at an address.
+    fn row_of(&self, address: u32, section: &Section) -> Option<usize>
+        ensures { spec.IsFound self.now.rows.items section.now result }
+    {
+        let place = match self.places.get(address as usize) {
+            Some(place) => *place,
+            None => 0,
+        };
+        if is_row_of(&self.rows, place, section) {
+            Some(place)
+        } else {
+            find_row(&self.rows, section)
+        }
+    }
+
+    /// Keeps where the row of the section that is entered at an address stands.
+    fn keep_place(&mut self, address: u32, place: usize)
+        ensures rows { self.new.rows ≡ self.old.rows }
         ensures free { self.new.free ≡ self.old.free }
     {
-        if has_row(&self.rows, entering.section) {
-            add_to_rows(&mut self.rows, entering);
-        } else {
-            self.rows.push(*entering)?;
+        if let Some(kept) = self.places.get_mut(address as usize) {
+            *kept = place;
         }
-        Ok(())
+    }
+
+    /// One more entering, at an address.
+    fn enter(&mut self, address: u32, entering: &Entering) -> Result<(), NoMemory>
+        ensures rows { OnOk result (spec.AreApart self.old.rows.items
+            → self.new.rows.items ≡ spec.rows_with_entering entering.now self.old.rows.items) }
+        ensures free { self.new.free ≡ self.old.free }
+    {
+        match self.row_of(address, &entering.section) {
+            Some(place) => {
+                self.rows[place].add(entering);
+                self.keep_place(address, place);
+                Ok(())
+            }
+            None => {
+                let place = self.rows.len();
+                self.rows.push(*entering)?;
+                self.keep_place(address, place);
+                Ok(())
+            }
+        }
     }
 
     /// One more point, at which a section is entered.
     fn take_enter(
         &mut self,
-        alloc: Global,
         image: &Image,
         owner: Owner,
+        address: u32,
         line: &Line,
-        nesting: &Nesting,
+        opened: &[Opened],
         section: Section,
     ) -> Result<(), NoMemory>
         requires { line.now.1 ≡ Some (Note.Enter section) }
-        ensures { OnOk result ((address : ℕ) (ps : List Point)
+        ensures { OnOk result ((ps : List Point)
             → slice_get image.now.code address ≡ Some line.now
             → spec.TellsOfSections image.now ps self.old
-            → spec.TellsOfSections image.now (ps ++ point address owner nesting.now ∷ []) self.new) }
+            → spec.TellsOfSections image.now (ps ++ point address owner opened.now ∷ []) self.new) }
     {
-        let is_inside = is_inside(nesting.open_sections(), &section);
-        let behind = nesting.behind(alloc, line.0, line.1)?;
+        let is_inside = is_inside(opened, &section);
+        let value = execution_priority(image, owner, opened);
         let entering = Entering {
             section,
-            weakest: execution_priority(image, owner, behind.open_sections()),
+            weakest: lowered_value(kind_of(line.0), value),
             value: outside_value(image, owner),
         };
         self.free = self.free && !is_inside;
-        self.enter(&entering)
+        self.enter(address, &entering)
     }
 
     /// One more point, at which a line stands.
     pub fn take(
         &mut self,
-        alloc: Global,
         image: &Image,
         owner: Owner,
+        address: u32,
         line: &Line,
-        nesting: &Nesting,
+        opened: &[Opened],
     ) -> Result<(), NoMemory>
-        ensures { OnOk result ((address : ℕ) (ps : List Point)
+        ensures { OnOk result ((ps : List Point)
             → slice_get image.now.code address ≡ Some line.now
             → spec.TellsOfSections image.now ps self.old
-            → spec.TellsOfSections image.now (ps ++ point address owner nesting.now ∷ []) self.new) }
+            → spec.TellsOfSections image.now (ps ++ point address owner opened.now ∷ []) self.new) }
     {
         match entered_section(&line.1) {
-            Some(section) => self.take_enter(alloc, image, owner, line, nesting, section),
+            Some(section) => self.take_enter(image, owner, address, line, opened, section),
             None => Ok(()),
         }
     }

@@ -56,7 +56,7 @@ pub fn frame_of(image: &Image, owner: Owner) -> u32
 }
 
 /// The execution priority inside a section of a kind.
-fn lowered_value(kind: Kind, value: u32) -> u32
+pub fn lowered_value(kind: Kind, value: u32) -> u32
     ensures { result ≡ lowered_value kind value }
 {
     match kind {

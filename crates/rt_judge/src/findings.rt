@@ -1,19 +1,17 @@
-ghost use Rattle.std.specs.Prelude.{◌≡◌, ◌++◌, ◌∷◌, [], IfOk, OnOk, ℕ, List, Some, slice_get};
+ghost use Rattle.std.specs.Prelude.{◌≡◌, ◌++◌, ◌∷◌, [], IfOk, OnOk, List, Some, slice_get};
 ghost use Rattle.rt_points.specs.Point.{Point};
 ghost use Rattle.rt_judge.specs.Inside.Points.{point};
 ghost use Rattle.rt_judge.specs.Inside.Finds as spec;
 
 use crate::entering::Sections;
 use crate::exits::line_at;
-use crate::nesting::Nesting;
 use crate::notes::is_noted_well;
 use crate::operands::is_operable;
 use crate::touching::Cells;
 use rt_code::{Image, Line};
 use rt_ids::NoMemory;
-use rt_points::Owner;
+use rt_points::{Opened, Owner};
 use std::alloc::Global;
-use std::collections::BTreeMap;
 
 /// What was found at the points of an image that were looked at.
 #[derive(Drop)]
@@ -38,7 +36,7 @@ impl Findings {
             addresses: true,
             operands: true,
             notes: true,
-            sections: Sections::new(alloc),
+            sections: Sections::new(alloc, image.code.len())?,
             cells,
         })
     }
@@ -49,59 +47,42 @@ impl Findings {
         alloc: Global,
         image: &Image,
         owner: Owner,
+        address: u32,
         line: &Line,
-        nesting: &Nesting,
+        opened: &[Opened],
     ) -> Result<(), NoMemory>
-        ensures { OnOk result ((address : ℕ) (ps : List Point)
+        ensures { OnOk result ((ps : List Point)
             → slice_get image.now.code address ≡ Some line.now
             → spec.Finds image.now ps self.old
-            → spec.Finds image.now (ps ++ point address owner nesting.now ∷ []) self.new) }
+            → spec.Finds image.now (ps ++ point address owner opened.now ∷ []) self.new) }
     {
-        let is_operable = is_operable(image, owner, nesting.open_sections(), &line.0);
-        let is_noted_well = is_noted_well(image, owner, nesting.open_sections(), &line.0, &line.1);
+        let is_operable = is_operable(image, owner, opened, &line.0);
+        let is_noted_well = is_noted_well(image, owner, opened, &line.0, &line.1);
         self.operands &= is_operable;
         self.notes &= is_noted_well;
-        self.sections.take(alloc, image, owner, line, nesting)?;
-        self.cells.take(alloc, image, owner, line, nesting)
+        self.sections.take(image, owner, address, line, opened)?;
+        self.cells.take(alloc, image, owner, line, opened)
     }
 
     /// One more point.
-    fn take_point(
+    pub fn take_point(
         &mut self,
         alloc: Global,
         image: &Image,
         owner: Owner,
         address: u32,
-        nesting: &Nesting,
+        opened: &[Opened],
     ) -> Result<(), NoMemory>
         ensures { OnOk result ((ps : List Point)
             → spec.Finds image.now ps self.old
-            → spec.Finds image.now (ps ++ point address owner nesting.now ∷ []) self.new) }
+            → spec.Finds image.now (ps ++ point address owner opened.now ∷ []) self.new) }
     {
         match line_at(image, address) {
-            Some(line) => self.take_line(alloc, image, owner, &line, nesting),
+            Some(line) => self.take_line(alloc, image, owner, address, &line, opened),
             None => {
                 self.addresses = false;
                 Ok(())
             }
         }
-    }
-
-    /// The points of an owner.
-    pub fn take_points(
-        &mut self,
-        alloc: Global,
-        image: &Image,
-        owner: Owner,
-        table: &BTreeMap<u32, Nesting>,
-    ) -> Result<(), NoMemory>
-        ensures { OnOk result ((ps : List Point)
-            → spec.Finds image.now ps self.old
-            → spec.Finds image.now (ps ++ spec.points_of owner table.now.entries) self.new) }
-    {
-        for (address, nesting) in table {
-            self.take_point(alloc, image, owner, *address, nesting)?;
-        }
-        Ok(())
     }
 }

@@ -9,6 +9,7 @@ mod nesting;
 mod notes;
 mod numbers;
 mod operands;
+mod table;
 mod touching;
 pub mod verdict;
 mod walk;

@@ -1,101 +1,114 @@
-ghost use Rattle.std.specs.Prelude.{◌≡◌, ◌↔◌, [], ◌∷◌, drop, IfOk, IsTrue};
+ghost use Rattle.std.specs.Prelude.{◌≡◌, ◌↔◌, ◌++◌, [], ◌∷◌, List, drop, IfOk, OnOk, IsTrue};
+ghost use Rattle.rt_points.specs.declared.point.Opened.{Opened as OpenedView};
 ghost use Rattle.rt_points.specs.Leading.{kind_of, inside_after};
 ghost use Rattle.rt_ids.specs.Location.{is_same_section};
 ghost use Rattle.std.specs.List.{list_any};
+ghost use Rattle.rt_judge.specs.Inside.Nestings as spec;
 
 use rt_code::{Instr, Note};
 use rt_ids::{NoMemory, Section};
 use rt_points::{Kind, Opened};
 use std::alloc::Global;
-use std::marker::Model;
 
-/// The sections that are open at an address of the code, innermost first. Contracts see the list.
-#[derive(Drop)]
+/// Where the sections that are open at an address stand in a list of nestings.
+#[derive(Clone, Copy, PartialEq, Eq)]
 pub struct Nesting {
-    opened: Vec<Opened>,
-}
-
-impl Model for Nesting {
-    ghost use Rattle.std.specs.Prelude.{List};
-    ghost use Rattle.rt_points.specs.declared.point.Opened.{Opened};
-
-    ghost Value = { List Opened };
-
-    ghost view = { λ nesting. nesting.opened.items };
+    pub start: usize,
+    pub end: usize,
 }
 
 impl Nesting {
     /// Nothing is open.
-    pub fn new(alloc: Global) -> Nesting
-        ensures { result ≡ [] }
+    pub const NOTHING: Nesting = Nesting { start: 0, end: 0 };
+
+    /// With the innermost section left, where there is one.
+    fn without_innermost(self) -> Nesting
+        ensures { (opened : List OpenedView) → spec.Stands opened self
+            → spec.Stands opened result
+            × (spec.inside_of opened result ≡ drop 1 (spec.inside_of opened self)) }
     {
-        Nesting {
+        if self.start < self.end {
+            Nesting {
+                start: self.start + 1,
+                end: self.end,
+            }
+        } else {
+            self
+        }
+    }
+}
+
+/// The nestings of an owner's addresses, one behind the other. In each the innermost section is the first, so that
+/// what is open once that is left stands there too.
+#[derive(Drop)]
+pub struct Nestings {
+    pub opened: Vec<Opened>,
+}
+
+/// Copies a nesting behind the others.
+fn copy_to_end(opened: &mut Vec<Opened>, nesting: Nesting) -> Result<(), NoMemory>
+    requires { spec.Stands opened.old.items nesting }
+    ensures { OnOk result (opened.new.items ≡ opened.old.items ++ spec.inside_of opened.old.items nesting) }
+{
+    Ok(opened.extend_from_within(nesting.start..nesting.end)?)
+}
+
+impl Nestings {
+    /// Of nobody.
+    pub fn new(alloc: Global) -> Nestings
+        ensures { result.opened.items ≡ [] }
+    {
+        Nestings {
             opened: Vec::new(alloc),
         }
     }
 
-    /// The open sections, innermost first.
-    pub fn open_sections(&self) -> &[Opened]
-        ensures { result.now ≡ self.now }
+    /// The open sections of a nesting, innermost first.
+    pub fn open_sections(&self, nesting: Nesting) -> &[Opened]
+        requires { spec.Stands self.now.opened.items nesting }
+        ensures { result.now ≡ spec.inside_of self.now.opened.items nesting }
     {
-        self.opened.as_slice()
+        &self.opened[nesting.start..nesting.end]
     }
 
     /// Whether the same sections are open.
-    pub fn is_same(&self, other: &Nesting) -> bool
-        ensures { IsTrue result ↔ (self.now ≡ other.now) }
+    pub fn are_same(&self, one: Nesting, other: Nesting) -> bool
+        requires one { spec.Stands self.now.opened.items one }
+        requires other { spec.Stands self.now.opened.items other }
+        ensures { IsTrue result
+            ↔ (spec.inside_of self.now.opened.items one ≡ spec.inside_of self.now.opened.items other) }
     {
-        are_same(self.open_sections(), other.open_sections())
+        one == other || are_same(self.open_sections(one), self.open_sections(other))
     }
 
     /// With one more section open.
-    fn nesting_with(&self, alloc: Global, opened: Opened) -> Result<Nesting, NoMemory>
-        ensures { IfOk result (λ nesting. nesting ≡ opened ∷ self.now) }
+    fn enter(&mut self, nesting: Nesting, section: Section, kind: Kind) -> Result<Nesting, NoMemory>
+        requires { spec.Stands self.old.opened.items nesting }
+        ensures { IfOk result (λ behind. spec.IsSaid self.old.opened.items self.new.opened.items behind
+            (record { section = section; kind = kind } ∷ spec.inside_of self.old.opened.items nesting)) }
     {
-        let mut all = Vec::with_capacity(alloc, self.opened.len().saturating_add(1))?;
-        all.push(opened)?;
-        all.extend_from_slice(self.opened.as_slice())?;
-        Ok(Nesting { opened: all })
-    }
-
-    /// With the innermost section left, where there is one.
-    fn without_innermost(&self, alloc: Global) -> Result<Nesting, NoMemory>
-        ensures { IfOk result (λ nesting. nesting ≡ drop 1 self.now) }
-    {
-        let outer = match self.opened.as_slice().split_first() {
-            Some((_, outer)) => outer,
-            None => &[],
-        };
-        Ok(Nesting {
-            opened: Vec::from_slice(alloc, outer)?,
-        })
-    }
-
-    /// The same sections.
-    fn copy(&self, alloc: Global) -> Result<Nesting, NoMemory>
-        ensures { IfOk result (λ nesting. nesting ≡ self.now) }
-    {
-        Ok(Nesting {
-            opened: Vec::from_slice(alloc, self.opened.as_slice())?,
-        })
+        let start = self.opened.len();
+        self.opened.push(Opened { section, kind })?;
+        copy_to_end(&mut self.opened, nesting)?;
+        let end = self.opened.len();
+        Ok(Nesting { start, end })
     }
 
     /// The open sections behind an instruction with a note.
     pub fn behind(
-        &self,
-        alloc: Global,
+        &mut self,
         instr: Instr,
         note: Option<Note>,
+        nesting: Nesting,
     ) -> Result<Nesting, NoMemory>
-        ensures { IfOk result (λ nesting. nesting ≡ inside_after instr note self.now) }
+        requires { spec.Stands self.old.opened.items nesting }
+        ensures { IfOk result (λ behind. spec.IsSaid self.old.opened.items self.new.opened.items behind
+            (inside_after instr note (spec.inside_of self.old.opened.items nesting))) }
     {
         match note {
-            Some(Note::Enter(section)) => {
-                let kind = kind_of(instr);
-                self.nesting_with(alloc, Opened { section, kind })
-            }
-            Some(Note::Leave(_)) => self.without_innermost(alloc),
-            _ => self.copy(alloc),
+            Some(Note::Enter(section)) => self.enter(nesting, section, kind_of(instr)),
+            Some(Note::Leave(_)) => Ok(nesting.without_innermost()),
+            _ => Ok(nesting),
         }
     }
 }

@@ -1,12 +1,12 @@
 ghost use Rattle.std.specs.Prelude.{◌≡◌, ◌++◌, ◌∷◌, [], ◌<◌, ℕ, IfOk, OnOk, List, Some, None, replicate, slice_get};
-ghost use Rattle.std.specs.Prelude.{filter, map, length};
+ghost use Rattle.std.specs.Prelude.{filter, map, length, IsTrue, true};
 ghost use Rattle.std.specs.List.{list_all};
 ghost use Rattle.rt_points.specs.Point.{Point};
 ghost use Rattle.rt_judge.specs.Inside.Points.{point};
 ghost use Rattle.rt_judge.specs.Inside.Touching as spec;
 
 use crate::execution_priority::outside_value;
-use crate::nesting::{Nesting, is_inside};
+use crate::nesting::{is_inside, is_same_section};
 use crate::operands::{is_store, touched_cell};
 use rt_code::{Image, Line};
 use rt_ids::{NoMemory, Section};
@@ -61,6 +61,29 @@ fn common(alloc: Global, sections: &[Section], opened: &[Opened]) -> Result<Vec<
     )
 }
 
+/// Whether these sections are those that are open outermost, in their order.
+fn are_outermost(sections: &[Section], opened: &[Opened]) -> bool
+    ensures { IsTrue result → list_all (spec.is_open opened.now) sections.now ≡ true }
+{
+    if opened.len() < sections.len() {
+        return false;
+    }
+    let inner = opened.len() - sections.len();
+    for (index, section) in sections.iter().enumerate() {
+        if !is_same_section(opened[inner + index].section, *section) {
+            return false;
+        }
+    }
+    true
+}
+
+/// Whether all of these sections are open. Most often they are the outermost, which is the faster test.
+fn are_open(sections: &[Section], opened: &[Opened]) -> bool
+    ensures { result ≡ list_all (spec.is_open opened.now) sections.now }
+{
+    are_outermost(sections, opened) || sections.iter().all(|section| is_inside(opened, section))
+}
+
 impl Touching {
     /// A first touch.
     fn new(alloc: Global, touch: &Touch, opened: &[Opened]) -> Result<Touching, NoMemory>
@@ -74,16 +97,17 @@ impl Touching {
         })
     }
 
-    /// With one more touch.
-    fn with(&self, alloc: Global, touch: &Touch, opened: &[Opened]) -> Result<Touching, NoMemory>
-        ensures { IfOk result (spec.IsWith self.now touch.now opened.now) }
+    /// One more touch.
+    fn add(&mut self, alloc: Global, touch: &Touch, opened: &[Opened]) -> Result<(), NoMemory>
+        ensures { OnOk result (spec.IsWith self.old touch.now opened.now self.new) }
     {
-        Ok(Touching {
-            stored: self.stored || touch.stored,
-            value: self.value,
-            differ: self.differ || touch.value != self.value,
-            sections: common(alloc, self.sections.as_slice(), opened)?,
-        })
+        let is_other = touch.value != self.value;
+        self.stored = self.stored || touch.stored;
+        self.differ = self.differ || is_other;
+        if !are_open(self.sections.as_slice(), opened) {
+            self.sections = common(alloc, self.sections.as_slice(), opened)?;
+        }
+        Ok(())
     }
 
     /// Whether it is touched inside one section alone, where owners contend for it.
@@ -94,18 +118,21 @@ impl Touching {
     }
 }
 
-/// What is known of a cell, with one more touch.
-fn touching_with(
+/// One more touch of the cell of a row.
+fn touch_row(
     alloc: Global,
-    row: &Option<Touching>,
+    row: &mut Option<Touching>,
     touch: &Touch,
     opened: &[Opened],
-) -> Result<Touching, NoMemory>
-    ensures { IfOk result (spec.IsNext row.now touch.now opened.now) }
+) -> Result<(), NoMemory>
+    ensures { OnOk result (spec.IsTouchedRow row.old row.new touch.now opened.now) }
 {
     match row {
-        Some(touching) => touching.with(alloc, touch, opened),
-        None => Touching::new(alloc, touch, opened),
+        Some(touching) => touching.add(alloc, touch, opened),
+        None => {
+            *row = Some(Touching::new(alloc, touch, opened)?);
+            Ok(())
+        }
     }
 }
 
@@ -162,9 +189,7 @@ impl Cells {
             (spec.IsTouched self.old.rows.items self.new.rows.items touch.now opened.now) }
         ensures rows { length self.new.rows.items ≡ length self.old.rows.items }
     {
-        let touching = touching_with(alloc, &self.rows[touch.cell], touch, opened)?;
-        self.rows[touch.cell] = Some(touching);
-        Ok(())
+        touch_row(alloc, &mut self.rows[touch.cell], touch, opened)
     }
 
     /// One more point, at which a line stands.
@@ -174,18 +199,18 @@ impl Cells {
         image: &Image,
         owner: Owner,
         line: &Line,
-        nesting: &Nesting,
+        opened: &[Opened],
     ) -> Result<(), NoMemory>
         ensures rows { length self.new.rows.items ≡ length self.old.rows.items }
         ensures told { OnOk result ((address : ℕ) (ps : List Point)
             → slice_get image.now.code address ≡ Some line.now
             → spec.TellsOfCells image.now ps self.old.rows.items
-            → spec.TellsOfCells image.now (ps ++ point address owner nesting.now ∷ []) self.new.rows.items) }
+            → spec.TellsOfCells image.now (ps ++ point address owner opened.now ∷ []) self.new.rows.items) }
     {
         match touch_of(image, owner, line) {
             Some(touch) => {
                 if touch.cell < self.rows.len() {
-                    self.touch(alloc, &touch, nesting.open_sections())
+                    self.touch(alloc, &touch, opened)
                 } else {
                     Ok(())
                 }

@@ -4,13 +4,14 @@ ghost use Rattle.rt_points.specs.Leading.{IsPoint, starts_at};
 ghost use Rattle.rt_points.specs.Limits.{IsWithinLimits};
 ghost use Rattle.rt_points.specs.Rules.{NestsInOneWay};
 ghost use Rattle.rt_judge.specs.Inside.Looks as spec;
+ghost use Rattle.rt_judge.specs.Inside.Visits.{spots_of, AreSound};
 ghost use Rattle.rt_judge.specs.Inside.Walks.{ArePoints};
 
 use crate::execution_priority::handler_at;
 use crate::findings::Findings;
-use crate::nesting::Nesting;
+use crate::nesting::{Nesting, Nestings};
 use crate::numbers::has_right_numbers;
-use crate::walk::{Visit, walk_from};
+use crate::walk::{Visit, Visits, walk_from};
 use rt_code::Image;
 use rt_ids::NoMemory;
 use rt_points::{Owner, Rule};
@@ -26,38 +27,19 @@ pub enum Verified {
 }
 
 /// Where the walk over an owner's code begins, with nothing open.
-fn start(alloc: Global, address: u32) -> Result<Vec<Visit>, NoMemory>
-    ensures { IfOk result (λ starts. starts.items ≡ record { address = address; nesting = [] } ∷ []) }
+fn start(alloc: Global, address: u32) -> Result<Visits, NoMemory>
+    ensures { IfOk result (λ starts. AreSound starts
+        × (spots_of starts ≡ record { address = address; inside = [] } ∷ [])) }
 {
-    let mut starts = Vec::new(alloc);
-    starts.push(Visit {
+    let mut list = Vec::new(alloc);
+    list.push(Visit {
         address,
-        nesting: Nesting::new(alloc),
+        nesting: Nesting::NOTHING,
     })?;
-    Ok(starts)
-}
-
-/// Finds what there is at the points of an owner, from where it begins. The answer is where another owner goes on, or
-/// None where the first rule is broken.
-fn look_from(
-    alloc: Global,
-    image: &Image,
-    findings: &mut Findings,
-    owner: Owner,
-    starts: Vec<Visit>,
-) -> Result<Option<Vec<Visit>>, NoMemory>
-    requires limits { IsWithinLimits image.now }
-    requires points { ArePoints image.now owner starts.items }
-    ensures { IfOk result (λ behind. MatchOption behind (¬ NestsInOneWay image.now)
-        (λ bs. spec.LooksFrom image.now owner starts.items findings.old findings.new bs.items)) }
-{
-    match walk_from(alloc, image, owner, starts)? {
-        Some(walk) => {
-            findings.take_points(alloc, image, owner, &walk.table)?;
-            Ok(Some(walk.behind))
-        }
-        None => Ok(None),
-    }
+    Ok(Visits {
+        nestings: Nestings::new(alloc),
+        list,
+    })
 }
 
 /// Finds what there is at the points of the thread, from where `init` ends. It answers whether the first rule is kept.
@@ -65,14 +47,15 @@ fn look_behind(
     alloc: Global,
     image: &Image,
     findings: &mut Findings,
-    behind: Vec<Visit>,
+    behind: Visits,
 ) -> Result<bool, NoMemory>
     requires limits { IsWithinLimits image.now }
-    requires points { ArePoints image.now Owner.Thread behind.items }
+    requires sound { AreSound behind }
+    requires points { ArePoints image.now Owner.Thread (spots_of behind) }
     ensures { IfOk result (λ kept. MatchBool kept
-        (spec.LooksBehind image.now behind.items findings.old findings.new) (¬ NestsInOneWay image.now)) }
+        (spec.LooksBehind image.now (spots_of behind) findings.old findings.new) (¬ NestsInOneWay image.now)) }
 {
-    match look_from(alloc, image, findings, Owner::Thread, behind)? {
+    match walk_from(alloc, image, findings, Owner::Thread, behind)? {
         Some(_) => Ok(true),
         None => Ok(false),
     }
@@ -85,7 +68,7 @@ fn look_at_thread(alloc: Global, image: &Image, findings: &mut Findings) -> Resu
         (spec.Looks image.now spec.IsThread findings.old findings.new) (¬ NestsInOneWay image.now)) }
 {
     let starts = start(alloc, 0)?;
-    match look_from(alloc, image, findings, Owner::Starting, starts)? {
+    match walk_from(alloc, image, findings, Owner::Starting, starts)? {
         Some(behind) => look_behind(alloc, image, findings, behind),
         None => Ok(false),
     }
@@ -105,7 +88,7 @@ fn look_from_entry(
         (spec.LooksFromEntry image.now index entry findings.old findings.new) (¬ NestsInOneWay image.now)) }
 {
     let starts = start(alloc, entry)?;
-    match look_from(alloc, image, findings, Owner::Handling(index), starts)? {
+    match walk_from(alloc, image, findings, Owner::Handling(index), starts)? {
         Some(_) => Ok(true),
         None => Ok(false),
     }

@@ -1,6 +1,6 @@
 -- What is kept of those who enter a section, by the points that were looked at.
 use Rattle.std.specs.Prelude.{◌≡◌, ◌≢◌, ◌↔◌, ℕ, ◌≤◌, ◌++◌, [], ◌∷◌, Bool, true, IsTrue, nat_le, min, max, map}
-use Rattle.std.specs.Prelude.{List, Some, Option, None, if◌then◌else◌}
+use Rattle.std.specs.Prelude.{false, List, Some, Option, None, if◌then◌else◌, slice_get}
 use Rattle.std.specs.List.{Contains, AllByRecursion, list_any}
 use Rattle.rt_ids.specs.Location.{is_same_section}
 use Rattle.rt_ids.specs.declared.ids.Section.{Section}
@@ -62,12 +62,33 @@ pub record IsEntering (img : Image) (ps : List Point) (x : Section) (e : Enterin
   pub weakest : IsGreatestValue img ps x e.weakest
   pub value : IsLeastOrNone img ps x e.value
 
+-- whether there is a row of a section
+abbrev pub has_row : List Entering → Section → Bool
+has_row rows x = list_any (λ row. is_same_section row.section x) rows
+
+-- no two rows are of one section
+abbrev pub AreApart : List Entering → Type 0
+AreApart [] = Unit {0}
+AreApart (row ∷ rows) = (has_row rows row.section ≡ false) × AreApart rows
+
+-- the row at an index is of a section
+pub record IsRowOf (rows : List Entering) (x : Section) (index : ℕ) : Type 0 where
+  pub row : Entering
+  pub is : slice_get rows index ≡ Some row
+  pub of : is_same_section row.section x ≡ true
+
+-- the index of the row of a section, or there is none
+abbrev pub IsFound : List Entering → Section → Option ℕ → Type 0
+IsFound rows x None = has_row rows x ≡ false
+IsFound rows x (Some index) = IsRowOf rows x index
+
 -- what the rows have of sections: each of its own, and there is one for each that is entered
 pub record TellsOfSections (img : Image) (ps : List Point) (s : Sections) : Type 0 where
   pub free : IsTrue s.free ↔ AllByRecursion (FreeAt img) ps
   pub rows : AllByRecursion (λ row. IsEntering img ps row.section row) s.rows.items
+  pub apart : AreApart s.rows.items
   pub each : (x : Section) (p : Point) (i : Instr) → Enterer img ps x p i
-      → list_any (λ row. is_same_section row.section x) s.rows.items ≡ true
+      → has_row s.rows.items x ≡ true
 
 -- the lesser of two values that may not be there
 abbrev pub least : Option ℕ → Option ℕ → Option ℕ
@@ -86,7 +107,7 @@ row_with_entering e row = if is_same_section row.section e.section then with_ent
 -- the rows with one more entering
 abbrev pub rows_with_entering : Entering → List Entering → List Entering
 rows_with_entering e rows =
-    if list_any (λ row. is_same_section row.section e.section) rows then map (row_with_entering e) rows else rows ++ e
+    if has_row rows e.section then map (row_with_entering e) rows else rows ++ e
     ∷ []
 
 -- each entering holds off everyone who enters

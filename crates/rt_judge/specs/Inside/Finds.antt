@@ -1,12 +1,7 @@
 -- What was found at points, rule by rule.
-use Rattle.std.specs.Prelude.{ℕ, List, length, ◌≡◌, map}
-use Rattle.std.specs.List.{AllByRecursion}
+use Rattle.std.specs.Prelude.{List, length, ◌≡◌}
 use Rattle.rt_code.specs.Image.{Image}
 use Rattle.rt_points.specs.Point.{Point}
-use Rattle.rt_points.specs.declared.point.Owner.{Owner}
-use Rattle.rt_points.specs.declared.point.Opened.{Opened}
-use Rattle.rt_judge.specs.Inside.Points.{point}
-use Rattle.rt_judge.specs.Inside.Walks.{Table}
 use Rattle.rt_judge.specs.Inside.Kept.{TellsOfAll, HasLine, OperatesAt, NotesAt}
 use Rattle.rt_judge.specs.Inside.Entering.{TellsOfSections}
 use Rattle.rt_judge.specs.Inside.Touching.{TellsOfCells}
@@ -21,7 +16,3 @@ pub record Finds (img : Image) (ps : List Point) (f : Findings) : Type 0 where
   pub cells : TellsOfCells img ps f.cells.rows.items
   -- there is a row for each cell
   pub rows : length f.cells.rows.items ≡ length img.cells
-
--- the points of a table
-abbrev pub points_of : Owner → List (ℕ × List Opened) → List Point
-points_of owner entries = map (λ e. point e.0 owner e.1) entries

@@ -1,5 +1,5 @@
 -- What was looked at: the points of some owners.
-use Rattle.std.specs.Prelude.{◌≡◌, ◌⊎◌, ℕ, ◌≤◌, ◌<◌, ◌++◌, [], ◌∷◌, List, length}
+use Rattle.std.specs.Prelude.{◌≡◌, ◌⊎◌, ℕ, ◌≤◌, ◌<◌, ◌++◌, [], ◌∷◌, List, length, map}
 use Rattle.std.specs.Prelude.{Option, Some, None}
 use Rattle.std.specs.List.{AllByRecursion, Contains}
 use Rattle.rt_code.specs.Image.{Image}
@@ -7,21 +7,36 @@ use Rattle.rt_points.specs.Checked.{IsChecked, IsLeastBroken, rule_number}
 use Rattle.rt_points.specs.Leading.{IsPoint}
 use Rattle.rt_points.specs.Point.{Point}
 use Rattle.rt_points.specs.Rules.{NestsInOneWay}
+use Rattle.rt_points.specs.declared.point.Opened.{Opened}
 use Rattle.rt_points.specs.declared.point.Owner.{Owner}
 use Rattle.rt_points.specs.declared.point.Owner.TheVariants.{Starting, Thread, Handling}
 use Rattle.rt_points.specs.declared.rule.Rule.{Rule}
 use Rattle.rt_points.specs.declared.rule.TheConstants.{MOST_OPEN}
-use Rattle.rt_judge.specs.Inside.Finds.{Finds, points_of}
-use Rattle.rt_judge.specs.Inside.Walks.{Table, IsWalked}
+use Rattle.rt_judge.specs.Inside.Finds.{Finds}
+use Rattle.rt_judge.specs.Inside.Visits.{Spot, point_of, spots, spots_of, AreSound}
+use Rattle.rt_judge.specs.Inside.Walks.{Reached, IsWalking, IsWalked, IsSound, reached_in}
 use Rattle.rt_judge.specs.declared.findings.Findings.{Findings}
+use Rattle.rt_judge.specs.declared.table.Table.{Table}
 use Rattle.rt_judge.specs.declared.walk.Visit.{Visit}
+use Rattle.rt_judge.specs.declared.walk.Visits.{Visits}
 
--- a walk from some visits, and what was found on it
-pub record LooksFrom (img : Image) (owner : Owner) (starts : List Visit) (old new : Findings) (bs : List Visit) : Type
-    0 where
-  pub table : Table
-  pub walked : IsWalked img owner starts table bs
-  pub finds : (ps : List Point) → Finds img ps old → Finds img (ps ++ points_of owner table.entries) new
+-- a walk so far, and what was found on it
+pub record IsLooking (img : Image) (owner : Owner) (starts : List Spot) (opened : List Opened) (table : Table)
+    (ws bs : List Visit) (old new : Findings) : Type 0 where
+  pub done : List Spot
+  pub walking : IsWalking img owner starts (reached_in opened table) done (spots opened ws) (spots opened bs)
+  pub sound : IsSound opened table ws bs
+  pub size : length table.rows.items ≡ length img.code
+  pub finds : (ps : List Point) → Finds img ps old → Finds img (ps ++ map (point_of owner) done) new
+
+-- a walk from some spots, and what was found on it
+pub record LooksFrom (img : Image) (owner : Owner) (starts : List Spot) (old new : Findings) (bs : Visits)
+    : Type 0 where
+  pub sound : AreSound bs
+  pub reached : Reached
+  pub done : List Spot
+  pub walked : IsWalked img owner starts reached done (spots_of bs)
+  pub finds : (ps : List Point) → Finds img ps old → Finds img (ps ++ map (point_of owner) done) new
 
 -- all points of these owners, and what was found at them
 pub record Looks (img : Image) (Mine : Owner → Type 0) (old new : Findings) : Type 0 where
@@ -34,13 +49,13 @@ pub record Looks (img : Image) (Mine : Owner → Type 0) (old new : Findings) : 
   pub finds : (ps : List Point) → Finds img ps old → Finds img (ps ++ points) new
 
 -- the thread's points, from these visits on
-abbrev pub LooksBehind : Image → List Visit → Findings → Findings → Type 0
-LooksBehind img starts old new = (bs : List Visit) × LooksFrom img Thread starts old new bs
+abbrev pub LooksBehind : Image → List Spot → Findings → Findings → Type 0
+LooksBehind img starts old new = (bs : Visits) × LooksFrom img Thread starts old new bs
 
 -- a handler's points, from its entry on
 abbrev pub LooksFromEntry : Image → ℕ → ℕ → Findings → Findings → Type 0
 LooksFromEntry img index entry old new =
-    (bs : List Visit) × LooksFrom img (Handling index) (record { address = entry; nesting = [] } ∷ []) old new bs
+    (bs : Visits) × LooksFrom img (Handling index) (record { address = entry; inside = [] } ∷ []) old new bs
 
 -- the handler at an index
 abbrev pub IsOf : ℕ → Owner → Type 0

@@ -85,6 +85,12 @@ abbrev pub IsNext : Option Touching → Touch → List Opened → Touching → T
 IsNext None touch opened t = IsFirst touch opened t
 IsNext (Some old) touch opened t = IsWith old touch opened t
 
+-- a row behind a touch
+pub record IsTouchedRow (old new : Option Touching) (touch : Touch) (opened : List Opened) : Type 0 where
+  pub next : Touching
+  pub is_next : IsNext old touch opened next
+  pub is : new ≡ Some next
+
 -- the rows with one more touch
 pub record IsTouched (old new : List (Option Touching)) (touch : Touch) (opened : List Opened) : Type 0 where
   pub row : Option Touching

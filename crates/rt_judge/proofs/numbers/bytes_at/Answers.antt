@@ -1,4 +1,4 @@
-use Rattle.std.proofs.Common.{◌≡◌, Option, Some, None, sym, ap, ◌∙◌, arith}
+use Rattle.std.proofs.Common.{Some, None, sym, ap, ◌∙◌, arith}
 use Rattle.rt_code.specs.Image.{Image, entry_words}
 use Rattle.rt_judge.specs.Inside.Greatest.{greatest_frame}
 use Rattle.rt_judge.proofs.GreatestFrames.{bytes_from}

@@ -1,11 +1,12 @@
-use Rattle.std.proofs.Common.{◌+◌, ◌-◌, ◌*◌, ◌^◌, length}
-use Rattle.std.specs.BTreeMap.{btree_map_len}
-use Rattle.rt_judge.specs.Inside.Walks.{IsWalking}
+use Rattle.std.proofs.Common.{◌+◌, ◌*◌, length}
+use Rattle.rt_judge.specs.Inside.Looks.{IsLooking}
+use Rattle.rt_judge.specs.Inside.Tables.{empty_rows}
+use Rattle.rt_judge.specs.Inside.Visits.{spots_of}
 use Rattle.rt_judge.proofs.walk.walk_from.Given as goal
 
 abbrev pub invariant-loop-visit : goal.invariant-loop-visit
-invariant-loop-visit l = IsWalking l.image l.owner l.fn.starts.items l.walk.table l.walk.waiting.items
-    l.walk.behind.items
+invariant-loop-visit l = IsLooking l.image l.owner (spots_of l.fn.starts) l.walk.nestings.opened.items l.walk.table
+    l.walk.waiting.items l.walk.behind.items l.fn.findings l.findings
 
 abbrev pub decreases-loop-visit : goal.decreases-loop-visit
-decreases-loop-visit l = 3 * (2 ^ 32 - btree_map_len l.walk.table) + length l.walk.waiting.items
+decreases-loop-visit l = 3 * empty_rows l.walk.table.rows.items + length l.walk.waiting.items

@@ -9,7 +9,7 @@ pub returns-in-None : goal.returns-in-None
 returns-in-None c ps found =
     let img = c.args.image.now in
     let self = c.args.self.now in
-    let p = point c.args.address c.args.owner c.args.nesting.now in
+    let p = point c.args.address c.args.owner c.args.opened.now in
     let absent = sym c.in-None.ensures in
     record {
       addresses = no_address img ps p absent self.addresses;

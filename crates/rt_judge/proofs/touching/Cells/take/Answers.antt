@@ -1,14 +1,12 @@
-use Rattle.std.proofs.Common.{◌≤◌, List, length, rules, subst}
+use Rattle.std.proofs.Common.{◌≤◌, length, rules}
 use Rattle.rt_lemmas.proofs.Results.{on_ok_weaker}
-use Rattle.rt_points.specs.declared.point.Opened.{Opened}
 use Rattle.rt_judge.specs.Inside.Points.{point}
-use Rattle.rt_judge.specs.Inside.Touching.{IsTouched}
 use Rattle.rt_judge.proofs.Touchings.{takes_no_touch, takes_outer_touch, takes_inner_touch, access_of_touch}
 use Rattle.rt_judge.proofs.touching.Cells.take.Goals as goal
 
 pub returns-in-None-clause-told : goal.returns-in-None-clause-told
 returns-in-None-clause-told c address ps at tells =
-    takes_no_touch c.args.image.now ps (point address c.args.owner c.args.nesting.now) c.args.line.now.0
+    takes_no_touch c.args.image.now ps (point address c.args.owner c.args.opened.now) c.args.line.now.0
     c.args.line.now.1 at
     c.args.self.now.rows.items c.in-None.ensures tells
 
@@ -19,7 +17,7 @@ returns-else-touch-len-clause-told c address ps at tells =
     let is = c.in-Some.ensures in
     let made = access_of_touch line.0 touch is.2 is.3 in
     let past : length c.args.self.now.rows.items ≤ touch.cell = search rules in
-    takes_outer_touch c.args.image.now ps (point address c.args.owner c.args.nesting.now) line.0 line.1 at touch
+    takes_outer_touch c.args.image.now ps (point address c.args.owner c.args.opened.now) line.0 line.1 at touch
     made.access
     is.0 is.1 made.by made.at made.stores c.args.self.now.rows.items past tells
 
@@ -31,8 +29,7 @@ returns-then-touch-len-clause-told c = on_ok_weaker c.touch.result _ _ (λ done 
     let made = access_of_touch line.0 touch is.2 is.3 in
     let old = c.args.self.now.rows.items in
     let new = c.touch.new.self.rows.items in
-    takes_inner_touch c.args.image.now ps (point address c.args.owner c.args.nesting.now) line.0 line.1 at touch
+    takes_inner_touch c.args.image.now ps (point address c.args.owner c.args.opened.now) line.0 line.1 at touch
     made.access
-    is.0 is.1 made.by made.at made.stores old new
-    (subst (λ (opened : List Opened). IsTouched old new touch opened) c.open_sections.ensures done) tells)
+    is.0 is.1 made.by made.at made.stores old new done tells)
     c.touch.ensures.touched
