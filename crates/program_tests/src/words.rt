@@ -2,33 +2,35 @@
 
 ghost use Rattle.std.specs.Prelude.{◌≡◌, ◌≢◌, ℕ, ◌+◌, ◌-◌, ◌^◌, ◌<◌, [], length};
 ghost use Rattle.rt_words.specs.Object.{IsPending};
-ghost use Rattle.rt_words.specs.Lines.{count};
+ghost use Rattle.rt_words.specs.Row.{bit_in_row, word_in_row};
+ghost use Rattle.rt_words.specs.Lines.{count, new_line};
+ghost use Rattle.rt_words.specs.declared.row.TheConstants.{CORE_WORDS};
 
 use crate::part::print_line;
 use anyhow::{Result, bail};
 use rt_ids::{Irq, NoMemory};
-use rt_words::{CoreLine, DeviceLine, Left, Pended, Tally, Words};
+use rt_words::{CORE_WORDS, Left, Line, Pended, ROW_WORDS, Tally, Words};
 use std::alloc::Global;
 use std::thread::{Threads, join};
 
-// The bit of one interrupt.
-fn only(irq: Irq) -> [u32; 16]
-    ensures it { IsPending result irq }
-    ensures no_other { (n : ℕ) → IsPending result n → n ≡ irq }
+// The bit of one interrupt of a core.
+fn only(core: u8, irq: Irq) -> [u32; 32]
+    requires { core < 2 }
+    ensures it { IsPending result (bit_in_row core irq) }
+    ensures no_other { (bit : ℕ) → IsPending result bit → bit ≡ bit_in_row core irq }
 {
     let number = irq.get();
-    let mut may = [0; 16];
-    may[usize::from(number / 32)] = 1 << (number % 32);
+    let mut may = [0; 32];
+    may[usize::from(CORE_WORDS * core) + usize::from(number / 32)] = 1 << (number % 32);
     may
 }
 
 // So many pends of an interrupt.
-fn pend_often(words: &Words, mut line: DeviceLine, irq: Irq, times: u32) -> DeviceLine
+fn pend_often(words: &Words, mut line: Line, irq: Irq, times: u32) -> Line
     requires words { line.words ≡ words.now }
     requires room { length line.calls + times < 2 ^ 32 - 1 }
-    requires may { IsPending words.now.may irq }
-    ensures words { result.words ≡ words.now }
-    ensures number { result.number ≡ line.number }
+    requires may { IsPending words.now.may (bit_in_row line.there irq) }
+    ensures { result ≡ record line { calls = result.calls } }
 {
     for _ in 0..times {
         line.pend(words, irq);
@@ -37,12 +39,12 @@ fn pend_often(words: &Words, mut line: DeviceLine, irq: Irq, times: u32) -> Devi
 }
 
 // So many latches of a word.
-fn latch_often(words: &Words, mut line: CoreLine, k: u8, times: u32) -> CoreLine
+fn latch_often(words: &Words, mut line: Line, k: u8, times: u32) -> Line
     requires words { line.words ≡ words.now }
     requires room { length line.calls + times < 2 ^ 32 - 1 }
-    requires word { k < count words.now }
-    ensures words { result.words ≡ words.now }
-    ensures lines { (result.made ≡ line.made) × (result.gathered ≡ line.gathered) }
+    requires core { k < CORE_WORDS }
+    requires word { word_in_row line.here k < count words.now }
+    ensures { result ≡ record line { calls = result.calls } }
 {
     for _ in 0..times {
         line.latch(words, k);
@@ -54,15 +56,15 @@ fn latch_often(words: &Words, mut line: CoreLine, k: u8, times: u32) -> CoreLine
 fn pend_by_both<R: Threads + Sync>(
     rt: &R,
     words: &Words,
-    one: DeviceLine,
-    two: DeviceLine,
+    one: Line,
+    two: Line,
     irq: Irq,
-) -> (DeviceLine, DeviceLine)
-    requires first { (one.words ≡ words.now) × (one.calls ≡ []) }
-    requires second { (two.words ≡ words.now) × (two.calls ≡ []) }
-    requires may { IsPending words.now.may irq }
+) -> (Line, Line)
+    requires first { one ≡ new_line words.now 0 0 0 }
+    requires second { two ≡ new_line words.now 1 0 0 }
+    requires may { IsPending words.now.may (bit_in_row 0 irq) }
     ensures words { (result.0.words ≡ words.now) × (result.1.words ≡ words.now) }
-    ensures numbers { (result.0.number ≡ one.number) × (result.1.number ≡ two.number) }
+    ensures numbers { (result.0.number ≡ 0) × (result.1.number ≡ 1) }
 {
     join(
         rt,
@@ -71,7 +73,7 @@ fn pend_by_both<R: Threads + Sync>(
     )
 }
 
-// Two threads pend an interrupt of word 1, while the core latches the word a thousand times.
+// Two threads pend an interrupt of word 1, while the first line latches the word a thousand times.
 fn pend_and_latch<R: Threads + Sync>(
     rt: &R,
     alloc: Global,
@@ -79,25 +81,25 @@ fn pend_and_latch<R: Threads + Sync>(
 ) -> Result<(Tally, Tally, Left), NoMemory>
     requires { irq < 64 }
 {
-    let (words, mut core) = Words::make(alloc, 2, only(irq))?;
-    let one = core.split(&words, 0);
-    let two = core.split(&words, 1);
-    let (mut core, (one, two)) = join(
+    let (words, mut first) = Words::make(alloc, 2, only(0, irq), 0)?;
+    let one = first.split(&words, 0, 0, 0);
+    let two = first.split(&words, 1, 0, 0);
+    let (mut first, (one, two)) = join(
         rt,
-        || latch_often(&words, core, 1, 1000),
-        || -> (DeviceLine, DeviceLine)
-            requires { (one.words ≡ words) × (one.calls ≡ []) × (two.words ≡ words) × (two.calls ≡ [])
-                × IsPending words.may irq }
+        || latch_often(&words, first, 1, 1000),
+        || -> (Line, Line)
+            requires { (one ≡ new_line words 0 0 0) × (two ≡ new_line words 1 0 0)
+                × IsPending words.may (bit_in_row 0 irq) }
             ensures { (result.0.words ≡ words) × (result.1.words ≡ words)
-                × (result.0.number ≡ one.number) × (result.1.number ≡ two.number) }
+                × (result.0.number ≡ 0) × (result.1.number ≡ 1) }
         { pend_by_both(rt, &words, one, two, irq) },
     );
-    let first = core.gather(&words, one);
-    let second = core.gather(&words, two);
-    Ok((first, second, words.close(core)))
+    let of_one = first.gather(&words, one);
+    let of_two = first.gather(&words, two);
+    Ok((of_one, of_two, words.close(first)))
 }
 
-/// Two threads pend an interrupt beside a core that latches: how many pends raised it or merged, and whether as many
+/// Two threads pend an interrupt beside a line that latches: how many pends raised it or merged, and whether as many
 /// raised it as were latched or left.
 fn pends_of_two_threads<R: Threads + Sync>(
     rt: &R,
@@ -106,35 +108,36 @@ fn pends_of_two_threads<R: Threads + Sync>(
 ) -> Result<(u64, bool), NoMemory>
     requires { irq < 64 }
 {
-    let (first, second, left) = pend_and_latch(rt, alloc, irq)?;
+    let (one, two, left) = pend_and_latch(rt, alloc, irq)?;
     let index = usize::from(irq.get());
-    let raised = u64::from(first.raised[index]) + u64::from(second.raised[index]);
-    let merged = u64::from(first.merged[index]) + u64::from(second.merged[index]);
+    let raised = u64::from(one.raised[index]) + u64::from(two.raised[index]);
+    let merged = u64::from(one.merged[index]) + u64::from(two.merged[index]);
     let bit = (left.bits[index / 32] >> (index % 32)) & 1;
-    let ended = u64::from(left.latched[index]) + u64::from(bit);
+    let ended = u64::from(left.own.latched[index]) + u64::from(bit);
     Ok((raised + merged, raised == ended))
 }
 
-/// What two latches find around two pends of a line, what became of these and of a pend behind them, and how many of
-/// the pends raised the interrupt and merged, which bits were left, and how many were latched.
+/// What two latches of the second core's line find around two pends of the first line, what became of these and of a
+/// pend behind them, and how many of the pends raised the second core's interrupt and merged, which bits were left, and
+/// how many were latched.
 fn pends_of_one_line(alloc: Global, irq: Irq) -> Result<([u32; 2], [Pended; 3], [u32; 4]), NoMemory>
     requires { irq < 32 }
 {
-    let (words, mut core) = Words::make(alloc, 1, only(irq))?;
-    let mut line = core.split(&words, 0);
-    let before = core.latch(&words, 0);
-    let first = line.pend(&words, irq);
-    let second = line.pend(&words, irq);
-    let found = core.latch(&words, 0);
-    let third = line.pend(&words, irq);
-    let tally = core.gather(&words, line);
-    let left = words.close(core);
+    let (words, mut first) = Words::make(alloc, ROW_WORDS, only(1, irq), 1)?;
+    let mut second = first.split(&words, 254, 1, 0);
+    let before = second.latch(&words, 0);
+    let one = first.pend(&words, irq);
+    let two = first.pend(&words, irq);
+    let found = second.latch(&words, 0);
+    let three = first.pend(&words, irq);
+    let tally = first.gather(&words, second);
+    let left = words.close(first);
     let index = usize::from(irq.get());
-    let pends = [tally.raised[index], tally.merged[index]];
-    let ends = [left.bits[0], left.latched[index]];
+    let pends = [left.own.raised[index], left.own.merged[index]];
+    let ends = [left.bits[usize::from(CORE_WORDS)], tally.latched[index]];
     Ok((
         [before, found],
-        [first, second, third],
+        [one, two, three],
         [pends[0], pends[1], ends[0], ends[1]],
     ))
 }

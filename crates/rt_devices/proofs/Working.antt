@@ -1,6 +1,6 @@
 -- What a device does, part after part.
 use Rattle.std.proofs.Common.{◌≡◌, ℕ, zero, suc, ◌+◌, ◌-◌, ◌^◌, ◌<◌, ◌≤◌, Bool, cond, List, [], ◌∷◌, ◌++◌}
-use Rattle.std.proofs.Common.{length, take, drop, min, count_by, replicate, get_or, Some, refl, ap}
+use Rattle.std.proofs.Common.{length, take, drop, min, count_by, map, replicate, get_or, Option, Some, refl, ap}
 use Rattle.std.proofs.Common.{sym, subst, ◌∙◌, append_assoc, arith}
 use Rattle.std.proofs.lemmas.List.{append-nil, map-append, length-map, length-append, length-replicate}
 use Rattle.std.proofs.lemmas.List.{take-append-drop, replicate-append-replicate}
@@ -9,6 +9,7 @@ use Rattle.std.proofs.lemmas.Grind.{flat_map-append}
 use Rattle.rt_lemmas.proofs.Lists.{flat_map_next}
 use Rattle.rt_words.specs.declared.call.Call.{Call}
 use Rattle.rt_words.specs.Lines.{Line}
+use Rattle.rt_words.specs.Row.{bit_in_row}
 use Rattle.rt_devices.specs.declared.device.Device.{Device}
 use Rattle.rt_devices.specs.Work.{requests, interrupt_asked, is_raised, is_merged, saturating_count, Works}
 
@@ -41,8 +42,11 @@ pub works_on : (irqs more : List ℕ) (a b c : Device) → Works irqs a b → Wo
 works_on irqs more a b c p q = record {
   calls = p.calls ++ q.calls;
   asked =
-      map-append interrupt_asked p.calls q.calls ∙ (λ i. p.asked i ++ q.asked i)
-      ∙ sym (map-append (λ (irq : ℕ). Some irq) irqs more);
+      let asks : ℕ → ℕ → Option ℕ = λ core irq. Some (bit_in_row core irq) in
+      let same : b.line.there ≡ a.line.there = ap (λ (l : Line). l.there) p.line in
+      map-append interrupt_asked p.calls q.calls
+      ∙ (λ i. p.asked i ++ (q.asked ∙ ap (λ (core : ℕ). map (asks core) more) same) i)
+      ∙ sym (map-append (asks a.line.there) irqs more);
   line =
       q.line ∙ ap (λ (l : Line). record l { calls = l.calls ++ q.calls }) p.line
       ∙ ap (λ (cs : List Call). record a.line { calls = cs }) (append_assoc a.line.calls p.calls q.calls);
@@ -65,7 +69,7 @@ calls_length irqs a b p =
       ap (λ (l : Line). length l.calls) p.line,
       length-append a.line.calls p.calls,
       length-map p.calls interrupt_asked,
-      length-map irqs (λ (irq : ℕ). Some irq),
+      length-map irqs (λ (irq : ℕ). Some (bit_in_row a.line.there irq)),
       ap length p.asked,
     )
 

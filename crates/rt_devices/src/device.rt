@@ -1,17 +1,18 @@
 ghost use Rattle.std.specs.Prelude.{◌≡◌, ◌+◌, ◌-◌, ◌^◌, ◌<◌, [], ◌∷◌, length, replicate};
 ghost use Rattle.std.specs.List.{AllByRecursion};
+ghost use Rattle.rt_words.specs.Row.{bit_in_row};
 ghost use Rattle.rt_words.specs.Object.{IsPending};
 ghost use Rattle.rt_devices.specs.Work.{requests, Works};
 
 use crate::gate::Gate;
 use rt_ids::Irq;
-use rt_words::{DeviceLine, Pended, Words};
+use rt_words::{Line, Pended, Words};
 
 /// A device, which pends interrupts in a thread of its own, by its line of the pending words.
 #[derive(Drop)]
 pub struct Device {
     /// Its line of the words.
-    pub line: DeviceLine,
+    pub line: Line,
     /// The number by which a gate knows it.
     pub number: u8,
     /// The interrupts that it pends, each so many times, in order.
@@ -26,7 +27,7 @@ impl Device {
     // Pends an interrupt, and counts the answer.
     fn pend(&mut self, words: &Words, irq: Irq)
         requires words { self.old.line.words ≡ words.now }
-        requires may { IsPending words.now.may irq }
+        requires may { IsPending words.now.may (bit_in_row self.old.line.there irq) }
         requires room { length self.old.line.calls < 2 ^ 32 - 1 }
         ensures { Works (irq ∷ []) self.old self.new }
     {
@@ -40,7 +41,7 @@ impl Device {
     // each pend by its number; no clause says so, since a gate's calls leave nothing that a clause could name.
     fn pend_often<G: Gate>(&mut self, words: &Words, gate: &G, irq: Irq, count: u32, first: u64)
         requires words { self.old.line.words ≡ words.now }
-        requires may { IsPending words.now.may irq }
+        requires may { IsPending words.now.may (bit_in_row self.old.line.there irq) }
         requires room { length self.old.line.calls + count < 2 ^ 32 - 1 }
         requires first { first < 2 ^ 32 }
         ensures { Works (replicate count irq) self.old self.new }
@@ -54,7 +55,8 @@ impl Device {
     /// Makes every pend of its script, in order. The gate is told of pend `n` of this call, from 0, before it is made.
     pub fn work<G: Gate>(&mut self, words: &Words, gate: &G)
         requires words { self.old.line.words ≡ words.now }
-        requires may { AllByRecursion (λ entry. IsPending words.now.may entry.0) self.old.script.items }
+        requires may { AllByRecursion
+            (λ entry. IsPending words.now.may (bit_in_row self.old.line.there entry.0)) self.old.script.items }
         requires room { length self.old.line.calls + length (requests self.old.script.items) < 2 ^ 32 - 1 }
         ensures { Works (requests self.old.script.items) self.old self.new }
     {

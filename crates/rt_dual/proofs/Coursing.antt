@@ -1,10 +1,7 @@
 -- What is written of two cores that have ended is a text that the definitions allow.
-use Rattle.std.proofs.Common.{◌≡◌, ℕ, List, [], ◌∷◌, ◌++◌, map, flat_map, codes}
-use Rattle.std.proofs.Common.{Option, Some, refl, sym, ap, ◌∙◌}
-use Rattle.std.proofs.Common.{append_assoc, arith}
-use Rattle.std.proofs.Common.{Result, Ok, Err, OnOk, is_err, false}
+use Rattle.std.proofs.Common.{◌≡◌, ℕ, List, ◌++◌, map, flat_map, codes, Option, Some, sym, ap, ◌∙◌}
+use Rattle.std.proofs.Common.{append_assoc, arith, Result, Ok, Err, OnOk, is_err, false}
 use Rattle.std.proofs.lemmas.Bool.{false≢true}
-use Rattle.std.specs.List.{cons_option}
 use Rattle.std.proofs.lemmas.List.{append-nil}
 use Rattle.rt_ids.specs.Event.{Event, steps}
 use Rattle.rt_ids.specs.Names.{Names}
@@ -12,7 +9,6 @@ use Rattle.rt_code.specs.Image.{Image}
 use Rattle.rt_core.specs.Core.{Core}
 use Rattle.rt_core.specs.Machine.{Machine, IsFresh}
 use Rattle.rt_core.specs.Trace.{labels, trace}
-use Rattle.rt_devices.specs.Work.{interrupt_asked}
 use Rattle.rt_outside.specs.Bytes.{Took}
 use Rattle.rt_run.specs.Done.{Leads}
 use Rattle.rt_run.specs.Sending.{shown_items, lines_of}
@@ -20,42 +16,25 @@ use Rattle.rt_script.specs.declared.line.Line.{Line}
 use Rattle.rt_trace.specs.Label.{items_of}
 use Rattle.rt_trace.specs.Text.{text, total_text, trace_text}
 use Rattle.rt_trace.specs.declared.item.Item.{Item}
-use Rattle.rt_trace.specs.declared.item.What.{What}
-use Rattle.rt_trace.specs.declared.item.What.TheVariants as what
 use Rattle.rt_words.specs.Ending.{calls_in}
 use Rattle.rt_words.specs.History.{part}
-use Rattle.rt_words.specs.Lines.{Row, Core as CoreLine, Line as BellLine}
-use Rattle.rt_live.specs.Account.{account_of, account_text, declared_irqs}
+use Rattle.rt_words.specs.declared.call.Entry.{Entry}
+use Rattle.rt_words.specs.Lines.{Row}
+use Rattle.rt_live.specs.Account.{account_of, account_text}
+use Rattle.rt_live.specs.Interleaving.{interleaving}
 use Rattle.rt_live.specs.Ready.{irqs_of}
-use Rattle.rt_live.specs.Interleaving.{look_calls, interleaving}
+use Rattle.rt_live.specs.Requests.{Request, request_of, turn_requests}
 use Rattle.rt_live.specs.declared.account.AccountRow.{AccountRow}
-use Rattle.rt_dual.specs.Course.{Course, IsCourse, turns, course_items, first_events, second_events}
+use Rattle.rt_live.specs.declared.share.Share.{Share}
+use Rattle.rt_live.specs.declared.share.Share.TheVariants.{First, Second}
+use Rattle.rt_dual.specs.Course.{Place, IsCourse, first_place, second_place, turns, first_events, second_events}
 use Rattle.rt_dual.specs.Doing.{HasPaired}
-use Rattle.rt_dual.specs.Forwarded.{forward_of, forwarded_irqs}
+use Rattle.rt_dual.specs.Forwarded.{forward}
 use Rattle.rt_dual.specs.Output.{IsPairText, account, core_text, course_text}
-use Rattle.rt_dual.specs.Inside.Both.{IsBefore, AreBefore, HaveEnded, IsWritten}
-use Rattle.rt_dual.specs.Inside.Halves.{Settles, front}
-use Rattle.rt_dual.specs.Inside.Own.{number_of, other_of, line_of}
-use Rattle.rt_dual.specs.Inside.Forwarding.{AreRoutes, irq_routed, irqs_routed}
-use Rattle.rt_dual.specs.Inside.Running.{Ends}
-use Rattle.rt_dual.specs.declared.half.Half.{Half}
-use Rattle.rt_dual.specs.declared.pairing.Both.{Both}
-use Rattle.rt_dual.specs.declared.core_id.CoreId.{CoreId}
-use Rattle.rt_dual.specs.declared.core_id.CoreId.TheVariants.{First, Second}
-use Rattle.rt_dual.specs.declared.side.Side.{Side}
-use Rattle.rt_dual.proofs.Halving.{irqs_empty}
-
--- the table pends what the definition forwards
-module _ (img : Image) (other : Names) (routes : List (Option ℕ)) (are : AreRoutes img other routes) where
-  one_forwarded : (w : What) → irq_routed routes w ≡ forward_of img other w
-  one_forwarded (what.Post irq) = are irq
-  one_forwarded w = refl
-
-  pub all_forwarded : (items : List Item) → irqs_routed routes items ≡ forwarded_irqs img other items
-  all_forwarded [] = refl
-  all_forwarded (x ∷ items) =
-      ap (λ (o : Option ℕ). cons_option o (irqs_routed routes items)) (one_forwarded x.what)
-      ∙ ap (cons_option (forward_of img other x.what)) (all_forwarded items)
+use Rattle.rt_dual.specs.Inside.Both.{IsBefore, AreBefore, HasEnded, HaveEnded, IsWritten, front}
+use Rattle.rt_dual.specs.declared.making.Both.{Both}
+use Rattle.rt_dual.specs.declared.making.Side.{Side}
+use Rattle.rt_dual.proofs.Beforehand.{own_calls, rows_irqs}
 
 -- what a fresh core shows is the trace of its image
 module _ (m : Machine) (fresh : IsFresh m) (es : List Event) where
@@ -72,119 +51,78 @@ module _ (m : Machine) (fresh : IsFresh m) (es : List Event) where
       ∙ ap (λ (is : List Item). flat_map (text m.image.names) is ++ total_text (steps es)) fresh_items
       ∙ ap (λ t. flat_map (text m.image.names) (trace m.image es) ++ t) (sym (append-nil (total_text (steps es))))
 
--- what the line of the other core's words pended, when this core has ended
-module _ (other : Image) (es : List Event) (m n : Machine) (fresh : IsFresh m) (side side' : Side) (words : Row) (k : ℕ)
-    (silent : side.bell ≡ record { words = words; number = k; calls = [] })
-    (are : AreRoutes m.image other.names side.routes) (run : Ends (turns es) m n side side') where
-  pub known : side'.bell.number ≡ k
-  known = ap (λ (l : BellLine). l.number) run.forwards.line ∙ ap (λ (l : BellLine). l.number) silent
+-- one of the cores, with its side before and behind its run
+module _ (place : Place) (share : Share) (head : List ℕ) (row : Row) (other : Image) (es : List Event) (m n : Machine)
+    (side side' : Side) (fresh : IsFresh m) (before : IsBefore place share head row m.image other side)
+    (ended : HasEnded es m n side side') (history : List Entry) where
+  abbrev asks : (ℕ → Option ℕ) → ℕ → ℕ → Core → List Request
+  asks route here there core = turn_requests route here there m.image core (turns es) ended.ends.found
 
-  pub forwarded_asked : map interrupt_asked side'.bell.calls
-      ≡ map (λ irq. Some irq) (forwarded_irqs m.image other.names (trace m.image (interleaving (turns es) run.found)))
-  forwarded_asked =
-      ap (λ (l : BellLine). map interrupt_asked l.calls) run.forwards.line
-      ∙ ap (λ (l : BellLine). map interrupt_asked (l.calls ++ run.forwards.calls)) silent
-      ∙ run.forwards.asked
-      ∙ ap (map (λ irq. Some irq))
-      (all_forwarded m.image other.names side.routes are (shown_items m (interleaving (turns es) run.found))
-      ∙ ap (forwarded_irqs m.image other.names) (fresh_items m fresh (interleaving (turns es) run.found)))
-
--- one of the cores, with its side before and behind its run; the other core's side is the far one
-module _ (core_id : CoreId) (other : Image) (es : List Event) (m n : Machine) (half half' : Half)
-    (side side' far far' : Side)
-    (fresh : IsFresh m) (before : IsBefore core_id m.image other half side far) (same : half' ≡ half)
-    (run : Ends (turns es) m n side side') (rows : List AccountRow)
-    (closed : Settles side'.line.calls far'.bell (irqs_of half'.rows.items) rows) where
-  abbrev course : Course
-  course = record { found = run.found; history = closed.history; left = closed.left }
-
-  pub is_course : (pends : List ℕ) → map interrupt_asked far'.bell.calls ≡ map (λ irq. Some irq) pends
-      → far'.bell.number ≡ number_of (other_of core_id) → IsCourse es (number_of (other_of core_id)) pends course
-  is_course pends forwards number_is = record {
-    many = run.many;
-    whole = run.whole;
-    legal = closed.legal;
-    own =
-        closed.core ∙ run.latched
-        ∙ ap (λ (l : CoreLine). l.calls ++ flat_map look_calls run.found) before.made.unused;
-    pended =
-        ap (λ k. map interrupt_asked (part closed.history k)) (sym number_is) ∙ ap (map interrupt_asked) closed.other
-        ∙ forwards;
-    others = λ number ne other_ne. closed.others number ne (λ e. other_ne (e ∙ number_is));
+  pub is_course : part history place.line ≡ side'.line.value.calls
+      → IsCourse place m.image other.names es ended.ends.found history
+  is_course own = record {
+    bits = before.bits;
+    many = ended.ends.many;
+    whole = ended.ends.whole;
+    declared = ended.ends.declared;
+    called =
+        ap (map request_of) (own
+        ∙ own_calls place share head row m.image other side side' before es m n ended)
+        ∙ ended.ends.asked
+        ∙ ap (λ (r : ℕ → Option ℕ). asks r side.line.value.here side.line.value.there m.core)
+        (λ i post. before.routes post i)
+        ∙ ap (λ k. asks (forward m.image other.names) k side.line.value.there m.core) before.line.here
+        ∙ ap (λ k. asks (forward m.image other.names) place.here k m.core) before.line.there
+        ∙ ap (asks (forward m.image other.names) place.here place.there) fresh.core;
   }
 
   -- and its text
-  pub core_written : half'.front.items ++ (side'.trace.bytes.items ++ account_text m.image.names rows)
-      ≡ core_text (line_of core_id) m.image es course
-  core_written =
-      let head : List ℕ = front core_id m.image in
-      let told : List ℕ = course_text m.image es course in
-      ap (λ f. f ++ (side'.trace.bytes.items ++ account_text m.image.names rows))
-      (ap (λ (h : Half). h.front.items) same ∙ before.front)
-      ∙ ap (λ t. head ++ (t ++ account_text m.image.names rows))
-      (run.kept ∙ ap (λ x. x ++ (lines_of m (interleaving (turns es) run.found) ++ total_text n.steps)) before.kept
-      ∙ fresh_text m fresh (interleaving (turns es) run.found) n run.leads)
-      ∙ ap (λ rs. head ++ (told ++ account_text m.image.names rs))
-      (closed.account
-      ∙ ap (λ irqs. account_of irqs (calls_in closed.history) closed.left)
-      (ap (λ (h : Half). irqs_of h.rows.items) same ∙ ap irqs_of before.made.empty
-      ∙ irqs_empty (declared_irqs m.image.names)))
-      ∙ sym (append_assoc head told (account m.image course))
+  pub core_written : (left : List ℕ) (rows : List AccountRow)
+      → rows ≡ account_of place.here (irqs_of side'.rows.items) (calls_in history) left
+      → side'.front.items ++ (side'.trace.bytes.items ++ account_text m.image.names rows)
+      ≡ core_text head m.image es ended.ends.found (account place.here m.image history left)
+  core_written left rows are =
+      let told : List ℕ = course_text m.image es ended.ends.found in
+      ap (λ f. f ++ (side'.trace.bytes.items ++ account_text m.image.names rows)) (ended.front ∙ before.front)
+      ∙ ap (λ t. front head m.image ++ (t ++ account_text m.image.names rows))
+      (ended.ends.wrote
+      ∙ ap (λ x. x ++ (lines_of m (interleaving (turns es) ended.ends.found) ++ total_text n.steps)) before.kept
+      ∙ fresh_text m fresh (interleaving (turns es) ended.ends.found) n ended.ends.leads)
+      ∙ ap (λ rs. front head m.image ++ (told ++ account_text m.image.names rs))
+      (are
+      ∙ ap (λ irqs. account_of place.here irqs (calls_in history) left)
+      (rows_irqs place share head row m.image other side side' before es m n ended))
+      ∙ sym (append_assoc (front head m.image) told (account place.here m.image history left))
 
 -- both of them
 abbrev pub pair_text : (script : List Line) (a a' b b' : Machine) (old new : Both) (bytes : List ℕ) → IsFresh a
     → IsFresh b → AreBefore a.image b.image old → HaveEnded script a a' b b' old new
     → IsWritten a.image b.image new bytes → IsPairText a.image b.image script bytes
 pair_text script a a' b b' old new bytes fresh_a fresh_b before ended written =
-    let one : Course = record {
-      found = ended.first_side.found;
-      history = written.one_settled.history;
-      left = written.one_settled.left;
-    } in
-    let two : Course = record {
-      found = ended.second_side.found;
-      history = written.two_settled.history;
-      left = written.two_settled.left;
-    } in
+    let are = written.are in
     record {
-      one = one;
-      two = two;
+      one = ended.one.ends.found;
+      two = ended.two.ends.found;
+      history = are.history;
+      left = are.left;
+      legal = are.legal;
       is_one =
-          is_course First b.image (first_events script) a a' old.first_half new.first_half old.first_side
-          new.first_side old.second_side new.second_side
-          fresh_a
-          before.one ended.first_half ended.first_side written.one written.one_settled
-          (forwarded_irqs b.image a.image.names (course_items b.image (second_events script) two))
-          (forwarded_asked a.image (second_events script) b b' fresh_b old.second_side new.second_side
-          old.first_half.words 2 before.one.made.silent
-          before.two.routes ended.second_side)
-          (known a.image (second_events script) b b' fresh_b old.second_side new.second_side old.first_half.words 2
-          before.one.made.silent
-          before.two.routes ended.second_side);
+          is_course first_place First (codes "core 1\n") old.words b.image (first_events script) a a' old.first
+          new.first fresh_a before.one ended.one are.history are.first;
       is_two =
-          is_course Second a.image (second_events script) b b' old.second_half new.second_half old.second_side
-          new.second_side old.first_side new.first_side
-          fresh_b
-          before.two ended.second_half ended.second_side written.two written.two_settled
-          (forwarded_irqs a.image b.image.names (course_items a.image (first_events script) one))
-          (forwarded_asked b.image (first_events script) a a' fresh_a old.first_side new.first_side
-          old.second_half.words 1 before.two.made.silent
-          before.one.routes ended.first_side)
-          (known b.image (first_events script) a a' fresh_a old.first_side new.first_side old.second_half.words 1
-          before.two.made.silent
-          before.one.routes ended.first_side);
+          is_course second_place Second (codes "core 2\n") old.words a.image (second_events script) b b' old.second
+          new.second fresh_b before.two ended.two are.history are.second;
+      others = are.others;
       written =
           written.written
-          ∙ ap (λ t. t ++ (new.second_half.front.items ++ (new.second_side.trace.bytes.items
+          ∙ ap (λ t. t ++ (new.second.front.items ++ (new.second.trace.bytes.items
           ++ account_text b.image.names written.two)))
-          (core_written First b.image (first_events script) a a' old.first_half new.first_half old.first_side
-          new.first_side old.second_side new.second_side
-          fresh_a
-          before.one ended.first_half ended.first_side written.one written.one_settled)
-          ∙ ap (λ t. core_text (codes "core 1\n") a.image (first_events script) one ++ t)
-          (core_written Second a.image (second_events script) b b' old.second_half new.second_half old.second_side
-          new.second_side old.first_side new.first_side
-          fresh_b before.two ended.second_half ended.second_side written.two written.two_settled);
+          (core_written first_place First (codes "core 1\n") old.words b.image (first_events script) a a' old.first
+          new.first fresh_a before.one ended.one are.history are.left written.one are.one_rows)
+          ∙ ap (λ t. core_text (codes "core 1\n") a.image (first_events script) ended.one.ends.found
+          (account 0 a.image are.history are.left) ++ t)
+          (core_written second_place Second (codes "core 2\n") old.words a.image (second_events script) b b'
+          old.second new.second fresh_b before.two ended.two are.history are.left written.two are.two_rows);
     }
 
 -- and each core has done the events of its trace in it
@@ -195,8 +133,8 @@ has_paired script a a' b b' old new bytes fresh_a fresh_b before ended written x
   bytes = bytes;
   is = pair_text script a a' b b' old new bytes fresh_a fresh_b before ended written;
   took = took;
-  one_leads = ended.first_side.leads;
-  two_leads = ended.second_side.leads;
+  one_leads = ended.one.ends.leads;
+  two_leads = ended.two.ends.leads;
 }
 
 -- the text of a core, part by part

@@ -1,9 +1,9 @@
-pub mod Forwarding
-pub mod Cutting
-pub mod Running
-pub mod Owning
 pub mod Routing
-pub mod Halving
-pub mod Coursing
+pub mod Cutting
 pub mod Beforehand
+pub mod Accounts
+pub mod Coursing
+pub mod Posted
+pub mod Ordered
+pub mod Nothing
 pub mod Found

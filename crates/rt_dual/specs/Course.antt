@@ -1,60 +1,71 @@
--- What may become of one core of a pair. A look is one latch of each of the core's sixteen words, from word 0 up, and
--- what it found is the list of the words that the latches answered, whose bits arrive at the core. This is this
--- project's own; looks and their weaving into events are those of a run beside devices.
-use Rattle.std.specs.Prelude.{◌≡◌, ◌≢◌, ℕ, Bool, true, false, List, [], ◌∷◌, ◌++◌, length, map, filter, flat_map, Some}
+-- What may become of the cores of a pair. Their pending words stand in one row, those of the second core behind those
+-- of the first. A core latches its own words and pends on the other core, both by one line, so that its calls are in
+-- one order. A look is one latch of each of the core's sixteen words, from word 0 up, and what it found is the list of
+-- the words that the latches answered, whose bits arrive at the core. This is this project's own; looks, their weaving
+-- into events and what they ask of the words are those of any core of a row.
+use Rattle.std.specs.Prelude.{◌≡◌, ℕ, ◌<◌, List, ◌++◌, length, map}
 use Rattle.std.specs.List.{AllByRecursion}
-use Rattle.rt_ids.specs.Event.{Event, Arrive, Tick, Step}
+use Rattle.rt_ids.specs.Event.{Event}
+use Rattle.rt_ids.specs.Names.{Names}
+use Rattle.rt_ids.specs.declared.limits.TheConstants.{IRQ_NUMBERS}
 use Rattle.rt_code.specs.Image.{Image}
+use Rattle.rt_core.specs.Core.{reset}
 use Rattle.rt_core.specs.Trace.{trace}
-use Rattle.rt_devices.specs.Work.{interrupt_asked}
-use Rattle.rt_script.specs.Script.{events}
 use Rattle.rt_script.specs.declared.line.Line.{Line}
 use Rattle.rt_trace.specs.declared.item.Item.{Item}
-use Rattle.rt_words.specs.History.{IsLegal, part}
+use Rattle.rt_words.specs.History.{part}
 use Rattle.rt_words.specs.declared.call.Entry.{Entry}
-use Rattle.rt_live.specs.Going.{IsWholeLook}
-use Rattle.rt_live.specs.Interleaving.{Turn, Happens, Looks, looks, look_calls, interleaving}
-
--- the script's events without the requests of interrupts, which are all the first core's
-abbrev pub is_of_both : Event → Bool
-is_of_both (Arrive irq) = false
-is_of_both Tick = true
-is_of_both Step = true
+use Rattle.rt_live.specs.Account.{declared_irqs}
+use Rattle.rt_live.specs.Going.{IsWholeLook, FindsDeclared}
+use Rattle.rt_live.specs.Interleaving.{Turn, Happens, looks, last_turns, interleaving}
+use Rattle.rt_live.specs.Requests.{request_of, turn_requests}
+use Rattle.rt_live.specs.Shares.{own_events}
+use Rattle.rt_live.specs.declared.share.Share.TheVariants.{First, Second}
+use Rattle.rt_dual.specs.Forwarded.{forward}
 
 -- the events of the first core under a script: all that the script has, devices' requests at the places of their lines
 abbrev pub first_events : List Line → List Event
-first_events script = events script
+first_events script = own_events First script
 
 -- the events of the second core under the same script: its ticks and steps
 abbrev pub second_events : List Line → List Event
-second_events script = filter is_of_both (events script)
+second_events script = own_events Second script
 
 -- what is done on a core's side: its events, each step behind a look, and one look behind the last of them
 abbrev pub turns : List Event → List Turn
-turns events = map Happens events ++ Looks ∷ []
+turns events = map Happens events ++ last_turns 0
 
--- what the looks of a core found, the calls on its words in the order of their history, and the words that were left
-pub record Course : Type 0 where
-  pub found : List (List ℕ)
-  pub history : List Entry
-  pub left : List ℕ
+-- the place of a core in the row: the number that the row has for it, that of the other core, and that of its line
+pub record Place : Type 0 where
+  pub here : ℕ
+  pub there : ℕ
+  pub line : ℕ
 
--- the events that came to the core: its own, with what the looks found in front of each step and behind the last event
-abbrev pub course_events : List Event → Course → List Event
-course_events events course = interleaving (turns events) course.found
+-- the first core's place; its line is the first line of the row
+abbrev pub first_place : Place
+first_place = record { here = 0; there = 1; line = 255 }
 
--- what the core showed of them, from reset
-abbrev pub course_items : Image → List Event → Course → List Item
-course_items img events course = trace img (course_events events course)
+-- the second core's
+abbrev pub second_place : Place
+second_place = record { here = 1; there = 0; line = 254 }
 
--- Each look found sixteen words. One thread could have made the calls on the words of the core, from words of 0 on, and
--- they left what was left. The core's own line, of the number 255, latched what its looks found, look behind look. The
--- other core's line, which has the number of that core, pended these interrupts, in order and no other. No other line
--- made a call.
-pub record IsCourse (events : List Event) (other : ℕ) (pends : List ℕ) (course : Course) : Type 0 where
-  pub many : length course.found ≡ looks (turns events)
-  pub whole : AllByRecursion IsWholeLook course.found
-  pub legal : IsLegal course.history course.left
-  pub own : part course.history 255 ≡ flat_map look_calls course.found
-  pub pended : map interrupt_asked (part course.history other) ≡ map (λ irq. Some irq) pends
-  pub others : (number : ℕ) → number ≢ 255 → number ≢ other → part course.history number ≡ []
+-- the events that came to a core: its own, with what the looks found in front of each step and behind the last event
+abbrev pub course_events : List Event → List (List ℕ) → List Event
+course_events events found = interleaving (turns events) found
+
+-- what a core showed of them, from reset
+abbrev pub course_items : Image → List Event → List (List ℕ) → List Item
+course_items img events found = trace img (course_events events found)
+
+-- The words of a core have a bit for each interrupt that its image declares. Each of its looks found sixteen words,
+-- with bits of declared interrupts alone. The calls of its line in this history of both cores are what its events ask
+-- for, in order and no other: look behind look its latches, which found this, and behind each step that shows a post
+-- the pend that the post leads to on the other core.
+pub record IsCourse (place : Place) (img : Image) (other : Names) (events : List Event) (found : List (List ℕ))
+    (history : List Entry) : Type 0 where
+  pub bits : AllByRecursion (λ irq. irq < IRQ_NUMBERS) (declared_irqs img.names)
+  pub many : length found ≡ looks (turns events)
+  pub whole : AllByRecursion IsWholeLook found
+  pub declared : AllByRecursion (FindsDeclared img.names) found
+  pub called : map request_of (part history place.line)
+      ≡ turn_requests (forward img other) place.here place.there img (reset img) (turns events) found

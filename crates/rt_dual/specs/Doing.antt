@@ -8,7 +8,7 @@ use Rattle.rt_dual.specs.Course.{first_events, second_events, course_events}
 use Rattle.rt_dual.specs.Output.{IsPairText, TookPart}
 
 -- The texts of both cores were taken, and each core has done the events of its trace there and no other: its own, with
--- what the looks found in the same course.
+-- what its looks found in the same history.
 pub record HasPaired (script : List Line) (first first' second second' : Machine) (before after : List ℕ) : Type 0 where
   pub bytes : List ℕ
   pub is : IsPairText first.image second.image script bytes

@@ -1,16 +1,12 @@
 -- Which posts of a core are interrupts of the other core of a pair. As between the cores of a multicore
 -- microcontroller, a core may ring the other's doorbell: it posts an interrupt that it does not take itself, and where
 -- the other application declares an interrupt of that name, it is pended there. That names tie the two is this
--- project's own. The definitions go over the items of a trace; the code looks each post up in a table of numbers.
-use Rattle.std.specs.Prelude.{ℕ, ◌==◌, ◌&&◌, Bool, if◌then◌else◌, List, filter_map, is_some}
-use Rattle.std.specs.Prelude.{option_and_then, Option, None}
+-- project's own. The definitions go by names; the code looks each post up in a table of numbers.
+use Rattle.std.specs.Prelude.{ℕ, ◌==◌, ◌&&◌, Bool, if◌then◌else◌, is_some, option_and_then, Option, None}
 use Rattle.std.specs.List.{list_any}
 use Rattle.rt_ids.specs.Names.{Names, irq_of}
 use Rattle.rt_ids.specs.Naming.{irq_named}
 use Rattle.rt_code.specs.Image.{Image}
-use Rattle.rt_trace.specs.declared.item.Item.{Item}
-use Rattle.rt_trace.specs.declared.item.What.{What}
-use Rattle.rt_trace.specs.declared.item.What.TheVariants as what
 
 -- the image enables the interrupt of this number, so that its core takes it
 abbrev pub enables : Image → ℕ → Bool
@@ -23,12 +19,3 @@ namesake names other irq = option_and_then (λ declared. irq_of other declared.0
 -- the interrupt that a post of this one pends on the other core, whose application has these names
 abbrev pub forward : Image → Names → ℕ → Option ℕ
 forward img other irq = if enables img irq then None else namesake img.names other irq
-
--- the one that an item shows, where it is such a post
-abbrev pub forward_of : Image → Names → What → Option ℕ
-forward_of img other (what.Post irq) = forward img other irq
-forward_of img other shown = None
-
--- the interrupts that the items of a core pend on the other one, in order
-abbrev pub forwarded_irqs : Image → Names → List Item → List ℕ
-forwarded_irqs img other items = filter_map (λ item. forward_of img other item.what) items

@@ -2,4 +2,5 @@ pub mod Forwarded
 pub mod Course
 pub mod Output
 pub mod Doing
+pub mod Laws
 pub mod Inside

@@ -1,5 +1,5 @@
 -- What `pair` may write of two images under a script. The form of the text is this project's own.
-use Rattle.std.specs.Prelude.{◌≡◌, ℕ, ◌≤◌, ◌⊎◌, List, [], ◌++◌, length, Some, codes}
+use Rattle.std.specs.Prelude.{◌≡◌, ◌≢◌, ℕ, ◌≤◌, ◌⊎◌, List, [], ◌++◌, length, Some, codes}
 use Rattle.std.specs.List.{AllByRecursion}
 use Rattle.rt_ids.specs.Event.{Event, steps}
 use Rattle.rt_code.specs.Image.{Image}
@@ -11,44 +11,47 @@ use Rattle.rt_run.specs.Sending.{EndsInItem}
 use Rattle.rt_script.specs.declared.line.Line.{Line}
 use Rattle.rt_trace.specs.Text.{trace_text}
 use Rattle.rt_words.specs.Ending.{calls_in}
+use Rattle.rt_words.specs.History.{IsLegal, part}
+use Rattle.rt_words.specs.declared.call.Entry.{Entry}
 use Rattle.rt_live.specs.Account.{account_of, account_text, declared_irqs}
 use Rattle.rt_live.specs.Going.{IsWholeLook, FindsDeclared}
 use Rattle.rt_live.specs.Interleaving.{Turn, looks, interleaving}
-use Rattle.rt_dual.specs.Course.{Course, IsCourse, first_events, second_events, course_events, course_items}
-use Rattle.rt_dual.specs.Forwarded.{forwarded_irqs}
+use Rattle.rt_dual.specs.Course.{IsCourse, first_place, second_place, first_events, second_events, course_events}
+use Rattle.rt_dual.specs.Course.{course_items}
 
 -- the trace of a core, with its total of core steps
-abbrev pub course_text : Image → List Event → Course → List ℕ
-course_text img events course =
+abbrev pub course_text : Image → List Event → List (List ℕ) → List ℕ
+course_text img events found =
     trace_text img.names (record {
-      items = course_items img events course;
-      total =
-          Some (steps (course_events events course));
+      items = course_items img events found;
+      total = Some (steps (course_events events found));
     })
 
--- what was pended on the core by the other one
-abbrev pub account : Image → Course → List ℕ
-account img course =
-    account_text img.names (account_of (declared_irqs img.names) (calls_in course.history) course.left)
+-- what became of the interrupts of a core, to which the row has given this number
+abbrev pub account : ℕ → Image → List Entry → List ℕ → List ℕ
+account core img history left =
+    account_text img.names (account_of core (declared_irqs img.names) (calls_in history) left)
 
 -- The text of a core: its own line, the listing of its image, its trace, and the account of the other core's pends.
-abbrev pub core_text : List ℕ → Image → List Event → Course → List ℕ
-core_text head img events course =
-    head ++ listing img ++ codes "trace\n" ++ course_text img events course ++ account img course
+abbrev pub core_text : List ℕ → Image → List Event → List (List ℕ) → List ℕ → List ℕ
+core_text head img events found told = head ++ listing img ++ codes "trace\n" ++ course_text img events found ++ told
 
--- The texts of both cores, for courses of which each has the pends that the other core forwards by its trace. Nothing
--- orders the calls on one core's words against those on the other's: two posts that each need the other first are
--- allowed.
+-- The texts of both cores. There is one history of the calls of both on the words of both: one thread could have made
+-- them, from words of 0 on, and they left what is left. Its calls of the number 255 are the first core's, those of the
+-- number 254 the second's, each in the core's own order, and no other line made a call. So what a look finds was posted
+-- before it, and a post comes behind the looks that the core had made when it posted.
 pub record IsPairText (first second : Image) (script : List Line) (bytes : List ℕ) : Type 0 where
-  pub one : Course
-  pub two : Course
-  pub is_one : IsCourse (first_events script) 2
-      (forwarded_irqs second first.names (course_items second (second_events script) two)) one
-  pub is_two : IsCourse (second_events script) 1
-      (forwarded_irqs first second.names (course_items first (first_events script) one)) two
+  pub one : List (List ℕ)
+  pub two : List (List ℕ)
+  pub history : List Entry
+  pub left : List ℕ
+  pub legal : IsLegal history left
+  pub is_one : IsCourse first_place first second.names (first_events script) one history
+  pub is_two : IsCourse second_place second first.names (second_events script) two history
+  pub others : (number : ℕ) → number ≢ 255 → number ≢ 254 → part history number ≡ []
   pub written : bytes
-      ≡ core_text (codes "core 1\n") first (first_events script) one
-      ++ core_text (codes "core 2\n") second (second_events script) two
+      ≡ core_text (codes "core 1\n") first (first_events script) one (account 0 first history left)
+      ++ core_text (codes "core 2\n") second (second_events script) two (account 1 second history left)
 
 -- a beginning of such a text was taken
 pub record TookPart (first second : Image) (script : List Line) (before after : List ℕ) : Type 0 where

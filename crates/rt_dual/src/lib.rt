@@ -1,15 +1,15 @@
 // Two cores that run beside each other and pend each other's interrupts through shared atomic words.
 #![tactic(auto)]
 
-mod core_id;
-mod half;
+mod closing;
 mod kept;
+mod laws;
+mod making;
 mod pairing;
 mod routes;
-mod showing;
-mod side;
-mod turns;
+mod running;
 mod writing;
 
+pub use laws::pairs_are_ordered;
 pub use pairing::pair;
 pub use rt_live::LiveFail;

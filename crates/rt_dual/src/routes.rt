@@ -1,18 +1,33 @@
-ghost use Rattle.std.specs.Prelude.{◌≡◌, ℕ, ◌<◌, ◌≤◌, None, slice_index_or};
+// Where the posts of a core lead on the other core of a pair.
+ghost use Rattle.std.specs.Prelude.{◌≡◌, ℕ, ◌<◌, ◌≤◌, None, slice_index_or, IfOk};
 ghost use Rattle.rt_ids.specs.declared.limits.TheConstants.{IRQ_NUMBERS};
 ghost use Rattle.rt_dual.specs.Forwarded.{enables, forward};
-ghost use Rattle.rt_dual.specs.Inside.Forwarding.{irq_of_shown};
 
 use rt_code::Image;
 use rt_ids::limits::IRQ_NUMBERS;
-use rt_ids::{Irq, Names};
-use rt_trace::What;
-
-/// Places of the table: one for each interrupt number, 0 to 495.
-const PLACES: usize = 496;
+use rt_ids::{Irq, Names, NoMemory};
+use rt_live::Routes;
+use std::alloc::Global;
 
 /// For each interrupt number of a core the one that a post of it pends on the other core.
-pub type Routes = [Option<Irq>; PLACES];
+#[derive(Drop)]
+pub struct Table {
+    /// A place for each interrupt number, 0 to 495.
+    pub places: Vec<Option<Irq>>,
+}
+
+impl Routes for Table {
+    ghost use Rattle.rt_dual.specs.Inside.Both.{leads_by};
+
+    ghost leads = { leads_by };
+
+    fn route(&self, posted: Irq) -> Option<Irq> {
+        match self.places.get(usize::from(posted.get())) {
+            Some(place) => *place,
+            None => None,
+        }
+    }
+}
 
 /// Whether an image enables an interrupt.
 fn is_enabled(image: &Image, irq: Irq) -> bool
@@ -36,25 +51,18 @@ fn route(image: &Image, other: &Names, irq: Irq) -> Option<Irq>
 }
 
 /// Where the posts of a core with this image go on the other core, whose names are given.
-pub fn routes_of(image: &Image, other: &Names) -> Routes
-    ensures there { (irq : ℕ) → irq < IRQ_NUMBERS → slice_index_or result irq None ≡ forward image.now other.now irq }
-    ensures above { (irq : ℕ) → IRQ_NUMBERS ≤ irq → slice_index_or result irq None ≡ None }
+pub fn table_of(alloc: Global, image: &Image, other: &Names) -> Result<Table, NoMemory>
+    ensures there { IfOk result (λ table. (irq : ℕ) → irq < IRQ_NUMBERS
+        → slice_index_or table.places.items irq None ≡ forward image.now other.now irq) }
+    ensures above { IfOk result (λ table. (irq : ℕ) → IRQ_NUMBERS ≤ irq
+        → slice_index_or table.places.items irq None ≡ None) }
 {
-    let mut routes = [None; PLACES];
+    let mut places = Vec::new(alloc);
     for number in 0..IRQ_NUMBERS {
-        if let Some(irq) = Irq::new(number) {
-            routes[usize::from(number)] = route(image, other, irq);
-        }
+        let Some(irq) = Irq::new(number) else {
+            unreachable!()
+        };
+        places.push(route(image, other, irq))?;
     }
-    routes
-}
-
-/// The interrupt that a core pends on the other one behind a step that shows this.
-pub(crate) fn irq_of_shown(routes: &Routes, shown: &Option<What>) -> Option<Irq>
-    ensures { result ≡ irq_of_shown routes.now shown.now }
-{
-    match shown {
-        Some(What::Post(posted)) => routes[usize::from(posted.get())],
-        _ => None,
-    }
+    Ok(Table { places })
 }

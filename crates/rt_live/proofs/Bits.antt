@@ -18,7 +18,7 @@ use Rattle.rt_core.specs.Machine.{Machine}
 use Rattle.rt_run.specs.Sending.{Sends, Breaks}
 use Rattle.rt_run.proofs.Sent.{sends_none, sends_on, breaks_behind, breaks_before}
 use Rattle.rt_words.specs.declared.call.Call.TheVariants.{Latch}
-use Rattle.rt_live.specs.Interleaving.{arrivals_from, look_arrivals, look_calls_from, look_calls}
+use Rattle.rt_live.specs.Interleaving.{arrivals_from, look_arrivals, look_calls_from}
 
 abbrev test : ℕ → ℕ → Bool
 test word bit = bit_at word bit == 1
@@ -172,8 +172,7 @@ latches_from-append k (w ∷ words) word =
     ∙ ap (λ n. look_calls_from (suc k) words ++ Latch n word ∷ [])
     (let e : suc k + length words ≡ k + suc (length words) = omega arith in e))
 
-pub latches_more : (words : List ℕ) (word k : ℕ) → length words ≡ k
-    → look_calls (words ++ word ∷ []) ≡ look_calls words ++ Latch k word ∷ []
-latches_more words word k many =
-    latches_from-append 0 words word
-    ∙ ap (λ n. look_calls words ++ Latch n word ∷ []) (let e : 0 + length words ≡ k = omega (arith, many) in e)
+pub latches_more : (first : ℕ) (words : List ℕ) (word k : ℕ) → first + length words ≡ k
+    → look_calls_from first (words ++ word ∷ []) ≡ look_calls_from first words ++ Latch k word ∷ []
+latches_more first words word k many =
+    latches_from-append first words word ∙ ap (λ n. look_calls_from first words ++ Latch n word ∷ []) many

@@ -18,16 +18,17 @@ use Rattle.rt_words.specs.declared.call.Entry.{Entry}
 use Rattle.rt_live.specs.Going.{IsWholeLook}
 use Rattle.rt_live.specs.History.{IsHistory}
 use Rattle.rt_live.specs.Interleaving.{Turn, looks, look_arrivals, look_calls, last_looks, interleaving}
-use Rattle.rt_live.proofs.Onward.{leads_on, led_as_many, part_on, part_own, part_other, zeros}
+use Rattle.rt_live.proofs.Onward.{leads_on, led_as_many, part_on, part_own, part_other, zeros, in_row}
 use Rattle.rt_live.proofs.Further.{interleaving_finished}
 use Rattle.rt_live.proofs.LastLooks.{ends_looking, later_empty, whole_behind, drop_within, last_more}
 use Rattle.rt_live.proofs.Finishing.{Finishes, FinishesLook, looks_more, finish, nothing_left}
 
--- The calls that these looks took, the last of which may be cut, and all pends of the devices, left these words. What
--- the core called since some time comes last; that was no later than the end of its own lines.
+-- The calls that these looks took, the last of which may be cut, and all pends of the devices, left the core these
+-- words, and no other word of the row set. What the core called since some time comes last; that was no later than the
+-- end of its own lines.
 pub record IsCutHistory (script : List Line) (found : List (List ℕ)) (last words : List ℕ) (history : List Entry)
     : Type 0 where
-  pub legal : IsLegal history words
+  pub legal : IsLegal history (in_row words)
   pub core : part history 255 ≡ flat_map look_calls (found ++ last ∷ [])
   pub devices : (number : ℕ) → number ≢ 255
       → map interrupt_asked (part history number) ≡ map (λ irq. Some irq) (pends script number)
@@ -94,7 +95,8 @@ module _ (script : List Line) (found : List (List ℕ)) (last words : List ℕ) 
       ≤ length (found ++ more.added) → AllByRecursion IsWholeLook (found ++ more.added)
       → IsHistory script (found ++ more.added) (history ++ entries 255 more.calls)
   finished count more many whole =
-      let legal = leads_on (zeros 16) words (zeros 16) history (entries 255 more.calls) cut.legal more.leads in
+      let legal = leads_on (zeros 32) (in_row words) (in_row (zeros 16)) history (entries 255 more.calls) cut.legal
+      more.leads in
       let ended = ended_all count more many whole in
       record {
         legal = legal;
@@ -102,7 +104,7 @@ module _ (script : List Line) (found : List (List ℕ)) (last words : List ℕ) 
         devices = λ number ne. ap (map interrupt_asked) (others_stay more.calls number ne) ∙ cut.devices number ne;
         ended = ended;
         quiet =
-            later_empty (history ++ entries 255 more.calls) (last_looks script (found ++ more.added)) (zeros 16) legal
+            later_empty (history ++ entries 255 more.calls) (last_looks script (found ++ more.added)) (zeros 32) legal
             ended (whole_behind (steps (core_events script)) (found ++ more.added) whole);
       }
 
@@ -150,9 +152,14 @@ module _ (script : List Line) (found : List (List ℕ)) (last words : List ℕ) 
         }
 
     long : length words ≡ 16
-    long = led_as_many (zeros 16) words history cut.legal
+    long =
+        omega (
+          arith,
+          led_as_many (zeros 32) (in_row words) history cut.legal,
+          length-append words (zeros 16),
+        )
 
-    extend_more : Settles ts found last words → length last < 16 → length found < looks ts
+    extend_more : Settles ts found last words → length last ≤ 16 → length found < looks ts
         → Extends script ts found last
     extend_more settles short few =
         let n : ℕ = looks ts - suc (length found) in
@@ -160,7 +167,7 @@ module _ (script : List Line) (found : List (List ℕ)) (last words : List ℕ) 
         (finish words last n long (omega (arith, short))
         (λ none. nothing_left (length last) words long (omega (arith, short)) (settles.begun (omega (arith, none)))))
 
-    pub extend : Settles ts found last words → length last < 16
+    pub extend : Settles ts found last words → length last ≤ 16
         → (length found < looks ts) ⊎ ((last ≡ []) × (length found ≤ looks ts)) → Extends script ts found last
     extend settles short few =
         dite (dec_lt (length found) (looks ts))

@@ -8,7 +8,7 @@ use Rattle.rt_words.specs.declared.call.Call.{Call}
 use Rattle.rt_words.specs.History.{LeavesWords, entries}
 use Rattle.rt_live.specs.Going.{IsWholeLook}
 use Rattle.rt_live.specs.Interleaving.{look_calls_from, look_calls}
-use Rattle.rt_live.proofs.Onward.{zeros, calls_lead, looked_from, looked, latches_on}
+use Rattle.rt_live.proofs.Onward.{zeros, in_row, calls_lead, looked_from, looked, latches_on}
 
 -- From these words on, behind a look that found these first words: so many looks more, the begun one with them, and
 -- nothing is pending.
@@ -16,17 +16,18 @@ pub record Finishes (words last : List ℕ) (count : ℕ) : Type 0 where
   pub added : List (List ℕ)
   pub calls : List Call
   pub all : look_calls last ++ calls ≡ flat_map look_calls added
-  pub leads : LeavesWords words (entries 255 calls) (zeros 16)
+  pub leads : LeavesWords (in_row words) (entries 255 calls) (in_row (zeros 16))
   pub many : length added ≡ count
   pub whole : AllByRecursion IsWholeLook added
 
 -- looks that find nothing
-silent : (n : ℕ) → LeavesWords (zeros 16) (entries 255 (flat_map look_calls (replicate n (zeros 16)))) (zeros 16)
+silent : (n : ℕ)
+    → LeavesWords (in_row (zeros 16)) (entries 255 (flat_map look_calls (replicate n (zeros 16)))) (in_row (zeros 16))
 silent zero = refl
 silent (suc n) =
-    calls_lead 255 (zeros 16) (zeros 16) (zeros 16) (look_calls (zeros 16))
+    calls_lead 255 (in_row (zeros 16)) (in_row (zeros 16)) (in_row (zeros 16)) (look_calls (zeros 16))
     (flat_map look_calls (replicate n (zeros 16)))
-    (looked (zeros 16)) (silent n)
+    (looked (zeros 16) (zeros 16)) (silent n)
 
 all_whole : (n : ℕ) → AllByRecursion IsWholeLook (replicate n (zeros 16))
 all_whole zero = tt
@@ -38,7 +39,7 @@ looks_more words zero long none = record {
   added = [];
   calls = [];
   all = refl;
-  leads = none refl;
+  leads = ap in_row (none refl);
   many = refl;
   whole = tt;
 }
@@ -48,8 +49,10 @@ looks_more words (suc n) long none =
       calls = look_calls words ++ calls;
       all = refl;
       leads =
-          calls_lead 255 words (zeros 16) (zeros 16) (look_calls words) calls
-          (subst (λ m. LeavesWords words (entries 255 (look_calls words)) (zeros m)) long (looked words)) (silent n);
+          calls_lead 255 (in_row words) (in_row (zeros 16)) (in_row (zeros 16)) (look_calls words) calls
+          (subst (λ m. LeavesWords (in_row words) (entries 255 (look_calls words)) (in_row (zeros m))) long
+          (looked words (zeros 16)))
+          (silent n);
       many = ap suc (length-replicate n (zeros 16));
       whole = (long, all_whole n);
     }
@@ -60,16 +63,17 @@ left_from m words = take m words ++ zeros (16 - m)
 
 -- a look is finished from the word of this number on
 rest_looked : (m : ℕ) (words : List ℕ) → length words ≡ 16 → m ≤ 16
-    → LeavesWords words (entries 255 (look_calls_from m (drop m words))) (left_from m words)
+    → LeavesWords (in_row words) (entries 255 (look_calls_from m (drop m words))) (in_row (left_from m words))
 rest_looked m words long few =
     let front : List ℕ = take m words in
     let rest : List ℕ = drop m words in
     let behind : length rest ≡ 16 - m = length-drop m words ∙ ap (λ k. k - m) long in
     let first : length front ≡ m = length-take-le m words (omega (arith, long, few)) in
-    subst (λ (w : List ℕ). LeavesWords w (entries 255 (look_calls_from m rest)) (left_from m words))
-    (take-append-drop m words)
-    (subst (λ k. LeavesWords (front ++ rest) (entries 255 (look_calls_from m rest)) (front ++ zeros k)) behind
-    (looked_from m front rest first))
+    subst (λ (w : List ℕ). LeavesWords w (entries 255 (look_calls_from m rest)) (in_row (left_from m words)))
+    (sym (append_assoc front rest (zeros 16)) ∙ ap in_row (take-append-drop m words))
+    (subst (λ (w : List ℕ). LeavesWords (front ++ (rest ++ zeros 16)) (entries 255 (look_calls_from m rest)) w)
+    (ap (λ k. front ++ (zeros k ++ zeros 16)) behind ∙ sym (append_assoc front (zeros (16 - m)) (zeros 16)))
+    (looked_from m front rest (zeros 16) first))
 
 left_long : (m : ℕ) (words : List ℕ) → length words ≡ 16 → m ≤ 16 → length (left_from m words) ≡ 16
 left_long m words long few =
@@ -113,7 +117,8 @@ finish words last n long short none =
           ∙ ap (λ (t : List Call). t ++ more.calls) joined
           ∙ ap (λ (t : List Call). look_calls (last ++ rest) ++ t) more.all;
       leads =
-          calls_lead 255 words left (zeros 16) now more.calls (rest_looked m words long short) more.leads;
+          calls_lead 255 (in_row words) (in_row left) (in_row (zeros 16)) now more.calls
+          (rest_looked m words long short) more.leads;
       many = ap suc more.many;
       whole = (omega (arith, length-append last rest, behind, short), more.whole);
     } in
@@ -141,3 +146,18 @@ nothing_left m words long short none =
 pub all_zeros : (words : List ℕ) → length words ≡ 16 → ((k : ℕ) → k < 16 → get_or words k 0 ≡ 0) → words ≡ zeros 16
 all_zeros words long none =
     sym (take_all 16 words (omega (arith, long))) ∙ take_zeros 16 words (omega (arith, long)) none
+
+-- a row of which no word but the first is set
+pub row_is : (words : List ℕ) → length words ≡ 32 → ((k : ℕ) → 16 ≤ k → get_or words k 0 ≡ 0)
+    → words ≡ in_row (take 16 words)
+row_is words long behind =
+    sym (take-append-drop 16 words)
+    ∙ ap (λ (ws : List ℕ). take 16 words ++ ws)
+    (all_zeros (drop 16 words) (omega (arith, long, length-drop 16 words))
+    (λ k below. dropped 16 words k ∙ behind (16 + k) (omega arith)))
+  where
+    dropped : (n : ℕ) (ws : List ℕ) (k : ℕ) → get_or (drop n ws) k 0 ≡ get_or ws (n + k) 0
+    dropped zero ws k = ap (λ m. get_or ws m 0) (let e : k ≡ 0 + k = omega arith in e)
+    dropped (suc n) [] k = ap (λ m. get_or [] m 0) (let e : k ≡ k = refl in e)
+    dropped (suc n) (w ∷ ws) k =
+        dropped n ws k ∙ ap (λ m. get_or (w ∷ ws) m 0) (let e : suc (n + k) ≡ suc n + k = omega arith in e)

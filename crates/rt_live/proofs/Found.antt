@@ -294,7 +294,7 @@ own_few (line ∷ script) =
     )
 
 -- the core's own lines request what has a name
-replicated_events : (P : ℕ → Type 0) (n : ℕ) (e : Event) → Arrives P e → AllByRecursion (Arrives P) (replicate n e)
+pub replicated_events : (P : ℕ → Type 0) (n : ℕ) (e : Event) → Arrives P e → AllByRecursion (Arrives P) (replicate n e)
 replicated_events P zero e is = tt
 replicated_events P (suc n) e is = (is, replicated_events P n e is)
 
@@ -408,7 +408,7 @@ module _ (names : Names) (script : List Line) (found : List (List ℕ)) (history
       looks_all (Named names) found
       (subst (AllByRecursion (Finds (Named names))) is.core
       (part_all (Finds (Named names)) history 255
-      (found_asked (Named names) history (replicate 16 0) is.legal
+      (found_asked (Named names) history (replicate 32 0) is.legal
       (all_weaker (λ (e : Entry). Is e.line e.call) (λ (e : Entry). Asks (Named names) e.call) (λ e all. all.0) history
       all_calls))))
 
@@ -430,7 +430,7 @@ module _ (names : Names) (script : List Line) (found : List (List ℕ)) (history
         looks_found found,
         ap found_in (sym is.core),
         part_found history 255,
-        found_few history (replicate 16 0) is.legal,
+        found_few history (replicate 32 0) is.legal,
         asked_few (numbers_down 16) history
             (all_weaker (λ (e : Entry). Is e.line e.call)
             (λ (e : Entry). (asked_by e.call ≡ 0) ⊎ Contains (numbers_down 16) e.line) (λ e all. all.1) history
@@ -464,4 +464,4 @@ module _ (names : Names) (script : List Line) (found : List (List ℕ)) (history
 -- the rows of the account of what `live` may write
 abbrev pub live_row : {image : Image} {script : List Line} {shown : List ℕ} → IsLiveText image script shown → ℕ
     → AccountRow
-live_row live = row_of (calls_in live.history) (replicate 16 0)
+live_row live = row_of 0 (calls_in live.history) (replicate 32 0)

@@ -1,6 +1,6 @@
 -- The looks behind the core's own lines come last in a history, and those behind the first of them find nothing.
 use Rattle.std.proofs.Common.{◌≡◌, ℕ, zero, suc, ◌*◌, ◌≤◌, List, [], ◌∷◌, ◌++◌, length, map, flat_map, take, drop}
-use Rattle.std.proofs.Common.{replicate, refl, sym, ap, subst, ◌∙◌, arith, append_assoc, length-append}
+use Rattle.std.proofs.Common.{replicate, refl, sym, ap, subst, ◌∙◌, arith, append_assoc, length-append, length-take-le}
 use Rattle.std.specs.List.{AllByRecursion}
 use Rattle.std.proofs.lemmas.List.{take-append-drop}
 use Rattle.std.proofs.lemmas.List.Concat.{flat_map-append}
@@ -99,17 +99,19 @@ ends_looking script found history since whole many early last =
     last_of_last history (drop since front) behind (subst (CallsLast history 255) split last)
 
 -- looks at words of 0
-empty_looks : (found : List (List ℕ)) (left : List ℕ) → AllByRecursion IsWholeLook found
-    → LeavesWords (zeros 16) (entries 255 (flat_map look_calls found)) left → AllByRecursion IsEmptyLook found
-empty_looks [] left whole leads = tt
-empty_looks (ws ∷ found) left whole leads =
+empty_looks : (found : List (List ℕ)) (others left : List ℕ) → AllByRecursion IsWholeLook found
+    → LeavesWords (zeros 16 ++ others) (entries 255 (flat_map look_calls found)) left
+    → AllByRecursion IsEmptyLook found
+empty_looks [] others left whole leads = tt
+empty_looks (ws ∷ found) others left whole leads =
     let more : List Call = flat_map look_calls found in
-    let cut = led_apart (zeros 16) left (entries 255 (look_calls ws)) (entries 255 more)
-    (subst (λ (es : List Entry). LeavesWords (zeros 16) es left) (map-append entry_of_core (look_calls ws) more)
+    let row : List ℕ = zeros 16 ++ others in
+    let cut = led_apart row left (entries 255 (look_calls ws)) (entries 255 more)
+    (subst (λ (es : List Entry). LeavesWords row es left) (map-append entry_of_core (look_calls ws) more)
     leads) in
-    let first = look_finds 0 [] (zeros 16) ws cut.0 refl whole.0 cut.1 in (
+    let first = look_finds 0 [] (zeros 16) others ws cut.0 refl whole.0 cut.1 in (
       first.0,
-      empty_looks found left whole.1
+      empty_looks found others left whole.1
           (subst (λ (w : List ℕ). LeavesWords w (entries 255 more) left) first.1 cut.2),
     )
 
@@ -120,12 +122,18 @@ pub later_empty : (history : List Entry) (found : List (List ℕ)) (left : List 
 later_empty history [] left legal last whole = tt
 later_empty history (ws ∷ found) left legal last whole =
     let more : List Call = flat_map look_calls found in
-    let all = led_apart (zeros 16) left last.earlier (entries 255 (look_calls ws ++ more))
-    (subst (λ (h : List Entry). LeavesWords (zeros 16) h left) last.is legal) in
-    let long : length all.0 ≡ 16 = led_as_many (zeros 16) all.0 last.earlier all.1 in
-    let cut = led_apart all.0 left (entries 255 (look_calls ws)) (entries 255 more)
+    let all = led_apart (zeros 32) left last.earlier (entries 255 (look_calls ws ++ more))
+    (subst (λ (h : List Entry). LeavesWords (zeros 32) h left) last.is legal) in
+    let own : List ℕ = take 16 all.0 in
+    let others : List ℕ = drop 16 all.0 in
+    let long : length own ≡ 16 =
+    length-take-le 16 all.0 (omega (arith, led_as_many (zeros 32) all.0 last.earlier all.1)) in
+    let cut = led_apart (own ++ others) left (entries 255 (look_calls ws)) (entries 255 more)
+    (subst (λ (w : List ℕ). LeavesWords w (entries 255 (look_calls ws) ++ entries 255 more) left)
+    (sym (take-append-drop 16 all.0))
     (subst (λ (es : List Entry). LeavesWords all.0 es left) (map-append entry_of_core (look_calls ws) more)
-    all.2) in
-    let first = look_finds 0 [] all.0 ws cut.0 refl (whole.0 ∙ sym long) cut.1 in
-    empty_looks found left whole.1
-    (subst (λ (w : List ℕ). LeavesWords w (entries 255 more) left) (first.1 ∙ ap zeros long) cut.2)
+    all.2)) in
+    let first = look_finds 0 [] own others ws cut.0 refl (whole.0 ∙ sym long) cut.1 in
+    empty_looks found others left whole.1
+    (subst (λ (w : List ℕ). LeavesWords w (entries 255 more) left)
+    (first.1 ∙ ap (λ k. zeros k ++ others) long) cut.2)

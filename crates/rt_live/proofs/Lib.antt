@@ -1,8 +1,10 @@
 pub mod Bits
 pub mod Woven
+pub mod Asking
 pub mod Turning
 pub mod Looking
 pub mod Owning
+pub mod Latches
 pub mod Ended
 pub mod Tallied
 pub mod Made

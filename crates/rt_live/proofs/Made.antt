@@ -2,7 +2,7 @@
 use Rattle.std.proofs.Common.{◌≡◌, ℕ, zero, suc, ◌+◌, ◌*◌, ◌/◌, ◌%◌, ◌^◌, ◌<◌, ◌==◌, ◌⊎◌, inl, inr, Bool, true, false}
 use Rattle.std.proofs.Common.{if◌then◌else◌, List, [], ◌∷◌, ◌++◌, map, filter, flat_map, replicate, length, take}
 use Rattle.std.proofs.Common.{get_or, set}
-use Rattle.std.proofs.Common.{bit_or, Contains, Some, refl, ap, sym, subst, ◌∙◌, arith}
+use Rattle.std.proofs.Common.{bit_or, Contains, Some, refl, ap, sym, subst, ◌∙◌, append_assoc, arith}
 use Rattle.std.specs.Int.{bit_at}
 use Rattle.std.specs.Prelude.{◌↔◌}
 use Rattle.std.specs.List.{AllByRecursion, list_any}
@@ -16,6 +16,7 @@ use Rattle.std.proofs.lemmas.Nat.Bits.{bit_at-zero}
 use native.Mathlib.Decide.{ℕ_discrete}
 use Rattle.rt_lemmas.proofs.Lists.{map_next}
 use Rattle.rt_lemmas.proofs.Membership.{contains_here, contains_there, contains_cases, contains_none, all_append}
+use Rattle.rt_lemmas.proofs.Membership.{all_has}
 use Rattle.rt_ids.specs.Lists.{numbers_below}
 use Rattle.rt_ids.specs.declared.limits.TheConstants.{IRQ_NUMBERS}
 use Rattle.rt_script.specs.Script.{pends, line_pends}
@@ -23,7 +24,8 @@ use Rattle.rt_script.specs.declared.line.Line.{Line}
 use Rattle.rt_script.specs.declared.line.Line.TheVariants.{Steps, Ticks, Pends, Device as DeviceLine}
 use Rattle.rt_devices.specs.Work.{requests}
 use Rattle.rt_devices.specs.declared.device.Device.{Device}
-use Rattle.rt_words.specs.Lines.{Row, Core, IsUnused}
+use Rattle.rt_words.specs.Lines.{Row, Line as Caller, new_line}
+use Rattle.rt_words.specs.Row.{bit_in_row}
 use Rattle.rt_words.specs.Object.{IsPending, pending_bit}
 use Rattle.rt_words.proofs.Bits as bits
 use Rattle.rt_words.proofs.Bits.{with_bit, pend_same, pend_other}
@@ -92,34 +94,33 @@ module _ (words : List ℕ) (irqs : List ℕ) (irq : ℕ) (within : irq / 32 < l
       becomes (inr same) (no other) = absurd (other same)
 
 -- the bits of one row more
-module _ (words : List ℕ) (rows : List AccountRow) (i : ℕ) (row : AccountRow) (within : i < length rows)
-    (is : row ≡ get_or rows i row) (n k : ℕ) (same : n ≡ row.irq) (index : k ≡ n / 32) (fits : n / 32 < length words)
-    (may : (j : ℕ) → IsPending words j ↔ Contains (irqs_of (take i rows)) j) where
-  abbrev after_row : List ℕ
-  after_row = set words k (bit_or (get_or words k 0) (1 * 2 ^ (n % 32) % 2 ^ 32))
+module _ (words before : List ℕ) (core : ℕ) (rows : List AccountRow) (i : ℕ) (row : AccountRow)
+    (within : i < length rows) (is : row ≡ get_or rows i row) where
+  abbrev bits_of : ℕ → List ℕ
+  bits_of n = map (bit_in_row core) (irqs_of (take n rows))
 
-  as_bit : after_row ≡ bit_in words n
-  as_bit = ap (λ q. set words q (bit_or (get_or words q 0) (1 * 2 ^ (n % 32) % 2 ^ 32))) index
+  one_irq : irqs_of (take (i + 1) rows) ≡ irqs_of (take i rows) ++ row.irq ∷ []
+  one_irq = map_next (λ (r : AccountRow). r.irq) rows i row within is
 
-  one_irq : irqs_of (take (i + 1) rows) ≡ irqs_of (take i rows) ++ n ∷ []
-  one_irq =
-      map_next (λ (r : AccountRow). r.irq) rows i row within is
-      ∙ ap (λ m. irqs_of (take i rows) ++ m ∷ []) (sym same)
+  one_bit : before ++ bits_of (i + 1) ≡ (before ++ bits_of i) ++ bit_in_row core row.irq ∷ []
+  one_bit =
+      ap (λ irqs. before ++ map (bit_in_row core) irqs) one_irq
+      ∙ ap (λ bs. before ++ bs) (map-append (bit_in_row core) (irqs_of (take i rows)) (row.irq ∷ []))
+      ∙ sym (append_assoc before (bits_of i) (bit_in_row core row.irq ∷ []))
 
-  pub bits_step : (j : ℕ) → IsPending after_row j ↔ Contains (irqs_of (take (i + 1) rows)) j
-  bits_step j =
-      subst (λ irqs. IsPending after_row j ↔ Contains irqs j) (sym one_irq)
-      (subst (λ (ws : List ℕ). IsPending ws j ↔ Contains (irqs_of (take i rows) ++ n ∷ []) j) (sym as_bit)
-      (bits_more words (irqs_of (take i rows)) n fits may j))
+  pub bits_step : (n : ℕ) → n ≡ bit_in_row core row.irq → n / 32 < length words
+      → ((j : ℕ) → IsPending words j ↔ Contains (before ++ bits_of i) j)
+      → (j : ℕ) → IsPending (bit_in words n) j ↔ Contains (before ++ bits_of (i + 1)) j
+  bits_step n same fits may j =
+      subst (λ irqs. IsPending (bit_in words n) j ↔ Contains irqs j) (sym one_bit)
+      (subst (λ b. IsPending (bit_in words n) j ↔ Contains ((before ++ bits_of i) ++ b ∷ []) j) same
+      (bits_more words (before ++ bits_of i) n fits may j))
 
-  pub range_step : n < IRQ_NUMBERS → ((j : ℕ) → IsPending words j → j < IRQ_NUMBERS) → (j : ℕ) → IsPending after_row j
-      → j < IRQ_NUMBERS
-  range_step low in_range j there =
-      elim (contains_pushed (irqs_of (take i rows)) n j
-      (subst (λ irqs. Contains irqs j) one_irq ((bits_step j).0 there))) [
-        | inl before ↦ in_range j ((may j).1 before)
-        | inr this ↦ subst (λ m. m < IRQ_NUMBERS) (sym this) low
-      ]
+  pub range_step : row.irq < IRQ_NUMBERS → AllByRecursion (λ irq. irq < IRQ_NUMBERS) (irqs_of (take i rows))
+      → AllByRecursion (λ irq. irq < IRQ_NUMBERS) (irqs_of (take (i + 1) rows))
+  range_step low all =
+      subst (AllByRecursion (λ irq. irq < IRQ_NUMBERS)) (sym one_irq)
+      (all_append (λ irq. irq < IRQ_NUMBERS) (irqs_of (take i rows)) (row.irq ∷ []) all (low, tt))
 
 -- the row of one interrupt more
 pub rows_step : (irqs : List (List ℕ × ℕ)) (i : ℕ) (name : List ℕ) (irq : ℕ) → i < length irqs
@@ -135,12 +136,27 @@ rows_step irqs i name irq below at =
     ∙ ap (map empty_row) (map-append (λ (x : List ℕ × ℕ). x.1) (take i irqs) (e ∷ []))
     ∙ map-append empty_row (map (λ (x : List ℕ × ℕ). x.1) (take i irqs)) (irq ∷ []))
 
--- of words of 0 no interrupt is pending
-pub no_bits : (i : ℕ) → IsPending (replicate 16 0) i ↔ Contains [] i
+-- of words of 0 no bit is pending
+pub no_bits : (i : ℕ) → IsPending (replicate 32 0) i ↔ Contains [] i
 no_bits i = (
-  λ is. absurd (omega (arith, is, ap (λ (w : ℕ). bit_at w (i % 32)) (bits.zeros 16 (i / 32)) ∙ bit_at-zero (i % 32))),
+  λ is. absurd (omega (arith, is, ap (λ (w : ℕ). bit_at w (i % 32)) (bits.zeros 32 (i / 32)) ∙ bit_at-zero (i % 32))),
   λ is. absurd (contains_none i is),
 )
+
+core_bits : (irqs : List ℕ) → map (bit_in_row 0) irqs ≡ irqs
+core_bits [] = refl
+core_bits (irq ∷ irqs) =
+    ap (λ n. n ∷ map (bit_in_row 0) irqs) (let e : bit_in_row 0 irq ≡ irq = omega arith in e)
+    ∙ ap (λ is. irq ∷ is) (core_bits irqs)
+
+-- the bits of core 0 are its interrupts' numbers
+pub alone_bits : (may irqs : List ℕ) → ((bit : ℕ) → IsPending may bit ↔ Contains (map (bit_in_row 0) irqs) bit)
+    → (irq : ℕ) → IsPending may irq ↔ Contains irqs irq
+alone_bits may irqs are irq = subst (λ is. IsPending may irq ↔ Contains is irq) (core_bits irqs) (are irq)
+
+pub alone_range : (may irqs : List ℕ) → ((irq : ℕ) → IsPending may irq ↔ Contains irqs irq)
+    → AllByRecursion (λ irq. irq < IRQ_NUMBERS) irqs → (irq : ℕ) → IsPending may irq → irq < IRQ_NUMBERS
+alone_range may irqs are low irq there = all_has (λ n. n < IRQ_NUMBERS) irqs irq low ((are irq).0 there)
 
 one_entry : (irq n : ℕ) (same : Bool)
     → requests (if same then (irq, n) ∷ [] else []) ≡ (if same then replicate n irq else [])
@@ -227,29 +243,35 @@ below (suc n) m script is =
     (subst (λ ns. Contains ns m) (one_more n script) is)
 
 -- the core's line, before it has made any
-pub no_lines : (line : Core) (words : Row) → IsUnused line words → (script : List Line)
+pub no_lines : (line : Caller) (words : Row) → line ≡ new_line words 255 0 0 → (script : List Line)
     → HasMadeLines line (devices_below 0 script) words
 no_lines line words unused script = record {
-  words = ap (λ (l : Core). l.words) unused;
-  calls = ap (λ (l : Core). l.calls) unused;
-  gathered = ap (λ (l : Core). l.gathered) unused;
-  since = ap (λ (l : Core). l.since) unused;
+  words = ap (λ (l : Caller). l.words) unused;
+  number = ap (λ (l : Caller). l.number) unused;
+  here = ap (λ (l : Caller). l.here) unused;
+  there = ap (λ (l : Caller). l.there) unused;
+  calls = ap (λ (l : Caller). l.calls) unused;
+  gathered = ap (λ (l : Caller). l.gathered) unused;
+  since = ap (λ (l : Caller). l.since) unused;
   made = λ number.
       subst (λ ns. Contains line.made number ↔ Contains ns number) (sym (none_below script))
-      (subst (λ ns. Contains ns number ↔ Contains [] number) (sym (ap (λ (l : Core). l.made) unused))
+      (subst (λ ns. Contains ns number ↔ Contains [] number) (sym (ap (λ (l : Caller). l.made) unused))
       (λ is. is, λ is. is));
 }
 
 -- one line more
-pub line_more : (line next : Core) (words : Row) (lines : List ℕ) (n : ℕ) → HasMadeLines line lines words
+pub line_more : (line next : Caller) (words : Row) (lines : List ℕ) (n : ℕ) → HasMadeLines line lines words
     → next ≡ record line { made = n ∷ line.made; since = length line.calls } → HasMadeLines next (lines ++ n ∷ []) words
 line_more line next words lines n has is = record {
-  words = ap (λ (l : Core). l.words) is ∙ has.words;
-  calls = ap (λ (l : Core). l.calls) is ∙ has.calls;
-  gathered = ap (λ (l : Core). l.gathered) is ∙ has.gathered;
-  since = ap (λ (l : Core). l.since) is ∙ ap length has.calls;
+  words = ap (λ (l : Caller). l.words) is ∙ has.words;
+  number = ap (λ (l : Caller). l.number) is ∙ has.number;
+  here = ap (λ (l : Caller). l.here) is ∙ has.here;
+  there = ap (λ (l : Caller). l.there) is ∙ has.there;
+  calls = ap (λ (l : Caller). l.calls) is ∙ has.calls;
+  gathered = ap (λ (l : Caller). l.gathered) is ∙ has.gathered;
+  since = ap (λ (l : Caller). l.since) is ∙ ap length has.calls;
   made = λ number.
-      subst (λ ns. Contains ns number ↔ Contains (lines ++ n ∷ []) number) (sym (ap (λ (l : Core). l.made) is)) (
+      subst (λ ns. Contains ns number ↔ Contains (lines ++ n ∷ []) number) (sym (ap (λ (l : Caller). l.made) is)) (
         λ there. elim (contains_cases n line.made number there) [
           | inl here ↦ contains_push lines n number (inr (sym here))
           | inr behind ↦ contains_push lines n number (inl ((has.made number).0 behind))

@@ -74,42 +74,49 @@ set_behind : (done : List ℕ) (x : ℕ) (rest : List ℕ) → set (done ++ x �
 set_behind [] x rest = refl
 set_behind (y ∷ done) x rest = ap (λ (t : List ℕ). y ∷ t) (set_behind done x rest)
 
+-- a row whose first words are these, the core's, and of which no other is set
+abbrev pub in_row : List ℕ → List ℕ
+in_row words = words ++ zeros 16
+
 -- The core latches each word behind the first ones: it finds them as they stand, and leaves them 0.
-pub looked_from : (k : ℕ) (done rest : List ℕ) → length done ≡ k
-    → LeavesWords (done ++ rest) (entries 255 (look_calls_from k rest)) (done ++ zeros (length rest))
-looked_from k done [] long = refl
-looked_from k done (x ∷ rest) long =
-    let there : x ≡ get_or (done ++ x ∷ rest) k 0 =
-    get_behind done x rest ∙ ap (λ n. get_or (done ++ x ∷ rest) n 0) long in
-    let left : set (done ++ x ∷ rest) k 0 ≡ (done ++ 0 ∷ []) ++ rest =
-    sym (ap (λ n. set (done ++ x ∷ rest) n 0) long) ∙ set_behind done x rest ∙ sym (append_assoc done (0 ∷ []) rest) in
+pub looked_from : (k : ℕ) (done rest more : List ℕ) → length done ≡ k
+    → LeavesWords (done ++ (rest ++ more)) (entries 255 (look_calls_from k rest))
+    (done ++ (zeros (length rest) ++ more))
+looked_from k done [] more long = refl
+looked_from k done (x ∷ rest) more long =
+    let tail : List ℕ = rest ++ more in
+    let there : x ≡ get_or (done ++ x ∷ tail) k 0 =
+    get_behind done x tail ∙ ap (λ n. get_or (done ++ x ∷ tail) n 0) long in
+    let left : set (done ++ x ∷ tail) k 0 ≡ (done ++ 0 ∷ []) ++ tail =
+    sym (ap (λ n. set (done ++ x ∷ tail) n 0) long) ∙ set_behind done x tail ∙ sym (append_assoc done (0 ∷ []) tail) in
     let longer : length (done ++ 0 ∷ []) ≡ suc k = omega (arith, long, length-append done (0 ∷ [])) in (
       there,
       subst (λ (w : List ℕ). LeavesWords w (entries 255 (look_calls_from (suc k) rest))
-          (done ++ zeros (length (x ∷ rest))))
+          (done ++ (zeros (length (x ∷ rest)) ++ more)))
           (sym left)
-          (subst (λ (w : List ℕ). LeavesWords ((done ++ 0 ∷ []) ++ rest) (entries 255 (look_calls_from (suc k) rest)) w)
-          (append_assoc done (0 ∷ []) (zeros (length rest)))
-          (looked_from (suc k) (done ++ 0 ∷ []) rest longer)),
+          (subst (λ (w : List ℕ). LeavesWords ((done ++ 0 ∷ []) ++ tail) (entries 255 (look_calls_from (suc k) rest)) w)
+          (append_assoc done (0 ∷ []) (zeros (length rest) ++ more))
+          (looked_from (suc k) (done ++ 0 ∷ []) rest more longer)),
     )
 
 -- a look finds the words that stand, and leaves words of 0
-pub look_finds : (k : ℕ) (done rest ws left : List ℕ) → length done ≡ k → length ws ≡ length rest
-    → LeavesWords (done ++ rest) (entries 255 (look_calls_from k ws)) left
-    → (ws ≡ rest) × (left ≡ done ++ zeros (length rest))
-look_finds k done [] [] left long many leads = (refl, sym leads)
-look_finds k done [] (w ∷ ws) left long many leads = absurd (omega (arith, many))
-look_finds k done (x ∷ rest) [] left long many leads = absurd (omega (arith, many))
-look_finds k done (x ∷ rest) (w ∷ ws) left long many leads =
+pub look_finds : (k : ℕ) (done rest more ws left : List ℕ) → length done ≡ k → length ws ≡ length rest
+    → LeavesWords (done ++ (rest ++ more)) (entries 255 (look_calls_from k ws)) left
+    → (ws ≡ rest) × (left ≡ done ++ (zeros (length rest) ++ more))
+look_finds k done [] more [] left long many leads = (refl, sym leads)
+look_finds k done [] more (w ∷ ws) left long many leads = absurd (omega (arith, many))
+look_finds k done (x ∷ rest) more [] left long many leads = absurd (omega (arith, many))
+look_finds k done (x ∷ rest) more (w ∷ ws) left long many leads =
+    let tail : List ℕ = rest ++ more in
     let there : w ≡ x =
-    leads.0 ∙ ap (λ n. get_or (done ++ x ∷ rest) n 0) (sym long) ∙ sym (get_behind done x rest) in
-    let stands : set (done ++ x ∷ rest) k 0 ≡ (done ++ 0 ∷ []) ++ rest =
-    sym (ap (λ n. set (done ++ x ∷ rest) n 0) long) ∙ set_behind done x rest ∙ sym (append_assoc done (0 ∷ []) rest) in
-    let more = look_finds (suc k) (done ++ 0 ∷ []) rest ws left (omega (arith, long, length-append done (0 ∷ [])))
-    (omega (arith, many))
+    leads.0 ∙ ap (λ n. get_or (done ++ x ∷ tail) n 0) (sym long) ∙ sym (get_behind done x tail) in
+    let stands : set (done ++ x ∷ tail) k 0 ≡ (done ++ 0 ∷ []) ++ tail =
+    sym (ap (λ n. set (done ++ x ∷ tail) n 0) long) ∙ set_behind done x tail ∙ sym (append_assoc done (0 ∷ []) tail) in
+    let next = look_finds (suc k) (done ++ 0 ∷ []) rest more ws left
+    (omega (arith, long, length-append done (0 ∷ []))) (omega (arith, many))
     (subst (λ (v : List ℕ). LeavesWords v (entries 255 (look_calls_from (suc k) ws)) left) stands leads.1) in (
-      ap (λ (v : ℕ). v ∷ ws) there ∙ ap (λ (vs : List ℕ). x ∷ vs) more.0,
-      more.1 ∙ append_assoc done (0 ∷ []) (zeros (length rest)),
+      ap (λ (v : ℕ). v ∷ ws) there ∙ ap (λ (vs : List ℕ). x ∷ vs) next.0,
+      next.1 ∙ append_assoc done (0 ∷ []) (zeros (length rest) ++ more),
     )
 
 pub latches_on : (k : ℕ) (xs ys : List ℕ) → look_calls_from k (xs ++ ys) ≡ look_calls_from k xs
@@ -121,6 +128,7 @@ latches_on k (x ∷ xs) ys =
     ∙ ap (λ n. look_calls_from (suc k) xs ++ look_calls_from n ys)
     (let e : suc k + length xs ≡ k + length (x ∷ xs) = omega arith in e))
 
--- a look at every word, from its beginning
-pub looked : (words : List ℕ) → LeavesWords words (entries 255 (look_calls words)) (zeros (length words))
-looked words = looked_from 0 [] words refl
+-- a look at every word of the core, from its beginning
+pub looked : (words more : List ℕ)
+    → LeavesWords (words ++ more) (entries 255 (look_calls words)) (zeros (length words) ++ more)
+looked words more = looked_from 0 [] words more refl

@@ -20,7 +20,10 @@ use Rattle.rt_words.specs.Ending.{calls_in}
 use Rattle.rt_words.specs.declared.call.Entry.{Entry}
 use Rattle.rt_live.specs.Account.{account_of, account_text, declared_irqs}
 use Rattle.rt_live.specs.Going.{IsWholeLook}
-use Rattle.rt_live.specs.History.{IsHistory}
+use Rattle.rt_words.specs.Account.{raised_count, merged_count}
+use Rattle.rt_words.specs.Row.{bit_in_row}
+use Rattle.rt_live.specs.History.{IsHistory, device_pends}
+use Rattle.rt_live.specs.Ready.{IsNumbered}
 use Rattle.rt_live.specs.Doing.{HasWrittenPart}
 use Rattle.rt_live.specs.Output.{IsLiveText, IsBalanced}
 use Rattle.rt_live.specs.Interleaving.{Happens, Looks, looks, turns, look_arrivals, interleaving}
@@ -28,6 +31,7 @@ use Rattle.rt_live.specs.Written.{live_text}
 use Rattle.rt_live.proofs.Woven.{looks-append}
 use Rattle.rt_live.proofs.Extending.{IsCutHistory, Settles, Extends, extend}
 use Rattle.rt_live.proofs.LastLooks.{own_within}
+use Rattle.rt_live.proofs.Readied.{bit_here}
 use Rattle.rt_live.proofs.Requesting.{devices_first}
 use Rattle.rt_live.proofs.Requested.{all_counted, all_latched, nothing_pending}
 
@@ -60,7 +64,7 @@ text_begins m script found done behind fresh parts =
 -- the account of a history
 abbrev pub account_behind : Image → List Entry → List ℕ
 account_behind image history =
-    account_text image.names (account_of (declared_irqs image.names) (calls_in history) (replicate 16 0))
+    account_text image.names (account_of 0 (declared_irqs image.names) (calls_in history) (replicate 32 0))
 
 -- the text of a run whose turns were all done
 abbrev pub live_whole : (image : Image) (script : List Line) (found : List (List ℕ)) (history : List Entry)
@@ -78,7 +82,7 @@ extended_text image script found last e = live_whole image script e.all e.histor
 -- a fault came in the turns
 pub part_cut : (m next : Machine) (script : List Line) (found : List (List ℕ)) (last words : List ℕ)
     (history : List Entry) (x y : List ℕ) → IsFresh m → IsCutHistory script found last words history
-    → AllByRecursion IsWholeLook found → Settles (turns script) found last words → length last < 16
+    → AllByRecursion IsWholeLook found → Settles (turns script) found last words → length last ≤ 16
     → (length found < looks (turns script)) ⊎ ((last ≡ []) × (length found ≤ looks (turns script)))
     → Breaks (interleaving (turns script) found ++ look_arrivals last) m next x y
     → HasWrittenPart script m next x y
@@ -116,9 +120,10 @@ looks_some script =
 
 -- a text is allowed whatever comes: the devices may pend before the first look
 pub some_text : (image : Image) (script : List Line) → AllByRecursion HasDeviceInRange script
+    → AllByRecursion IsNumbered script
     → (bytes : List ℕ) × IsLiveText image script bytes
-some_text image script ranges =
-    let first = devices_first script ranges in
+some_text image script ranges low =
+    let first = devices_first script ranges low in
     let some : 0 < looks (turns script) = looks_some script in
     let settles : Settles (turns script) [] [] first.0 = record {
       begun = λ late k below. absurd (omega (arith, below));
@@ -132,13 +137,15 @@ some_text image script ranges =
 -- the account of a history that is allowed
 pub balanced : (script : List Line) (found : List (List ℕ)) (history : List Entry) → IsHistory script found history
     → AllByRecursion HasDeviceInRange script → (irqs : List ℕ) → AllByRecursion (λ irq. irq < 512) irqs
-    → AllByRecursion (IsBalanced script) (account_of irqs (calls_in history) (replicate 16 0))
+    → AllByRecursion (IsBalanced script) (account_of 0 irqs (calls_in history) (replicate 32 0))
 balanced script found history is ranges [] within = tt
 balanced script found history is ranges (irq ∷ irqs) within = (
   record {
-    counted = all_counted script found history is ranges irq;
-    latched = all_latched script found history is ranges irq within.0;
-    none_left = nothing_pending script found history is ranges irq;
+    counted =
+        subst (λ bit. raised_count bit (calls_in history) + merged_count bit (calls_in history)
+        ≡ device_pends irq script) (sym (bit_here 0 irq refl)) (all_counted script found history is ranges irq);
+    latched = all_latched script found history is ranges (bit_in_row 0 irq) (omega (arith, within.0));
+    none_left = nothing_pending script found history is ranges (bit_in_row 0 irq);
   },
   balanced script found history is ranges irqs within.1,
 )

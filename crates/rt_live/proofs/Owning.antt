@@ -1,50 +1,28 @@
--- The core's own lines of a script, event by event and line by line, and the steps behind the last look.
-use Rattle.std.proofs.Common.{◌≡◌, ℕ, zero, suc, ◌+◌, ◌-◌, ◌<◌, ◌≤◌, List, [], ◌∷◌, ◌++◌, map, length, take, drop}
-use Rattle.std.proofs.Common.{replicate, get_or, refl, ap, sym, subst, ◌∙◌, append_assoc, arith}
+-- The lines of a script that have events of a core, event by event and line by line, and the steps behind the last
+-- look.
+use Rattle.std.proofs.Common.{◌≡◌, ℕ, zero, suc, ◌+◌, ◌-◌, ◌<◌, ◌≤◌, Bool, true, false, List, [], ◌∷◌, ◌++◌, map}
+use Rattle.std.proofs.Common.{Option, length, take, drop, replicate, get_or, refl, ap, sym, subst, ◌∙◌, append_assoc}
+use Rattle.std.proofs.Common.{arith}
+use Rattle.std.proofs.lemmas.Bool.{false≢true}
 use Rattle.std.proofs.lemmas.Grind.{flat_map-append}
-use Rattle.std.proofs.lemmas.List.{append-nil, length-append, length-map, length-replicate, map-append, take_more}
+use Rattle.std.proofs.lemmas.List.{append-nil, length-append, length-map, map-append, take_more}
 use Rattle.std.proofs.lemmas.List.{take-append-drop, replicate_more, replicate-append-replicate}
 use Rattle.std.proofs.lemmas.List.Sums.{sum_by-cons, sum_by_more_le}
 use Rattle.rt_ids.specs.Event.{Event, Arrive, Tick, Step}
-use Rattle.rt_code.specs.Image.{Image}
+use Rattle.rt_ids.specs.Names.{Names}
 use Rattle.rt_core.specs.Machine.{Machine}
-use Rattle.rt_run.specs.Done.{Leads}
-use Rattle.rt_run.proofs.Known.{still_writable}
-use Rattle.rt_script.specs.Script.{count, count_of, core_events, core_line_events}
-use Rattle.rt_script.specs.declared.line.Line.{Line}
+use Rattle.rt_lines.specs.Operand.{IsDeclared}
+use Rattle.rt_script.specs.Script.{count, count_of}
+use Rattle.rt_script.specs.declared.line.Line.{Line as Asked}
 use Rattle.rt_script.specs.declared.line.Line.TheVariants.{Steps, Ticks, Pends, Device}
-use Rattle.rt_words.specs.Lines.{Row, Core}
-use Rattle.rt_words.specs.declared.call.Call.{Call}
+use Rattle.rt_words.specs.Lines.{Line}
 use Rattle.rt_live.specs.Interleaving.{Turn, Happens, Looks, repeated_turns}
-use Rattle.rt_live.specs.Going.{Goes, Stops, IsSameLine}
-use Rattle.rt_live.specs.Able.{IsAble, MayArrive}
-use Rattle.rt_live.specs.Inside.Own.{own_turn, own_turns}
+use Rattle.rt_live.specs.Going.{Goes, Stops}
+use Rattle.rt_live.specs.Shares.{own_line_events, own_events, own_turn, own_turns, request_events}
+use Rattle.rt_live.specs.Shares.{takes_pends, takes_devices, HasOwnName}
+use Rattle.rt_live.specs.declared.share.Share.{Share}
+use Rattle.rt_live.specs.declared.share.Share.TheVariants.{BesideDevices, First, Second}
 use Rattle.rt_live.proofs.Turning.{goes_on, stops_behind, stops_before}
-
--- what turns ask stays so behind others
-pub still_able : (es : List Event) (a b : Machine) (line line' : Core) (words : Row) → Leads es a b
-    → IsSameLine line line' → IsAble a line words → IsAble b line' words
-still_able es a b line line' words run same able = record {
-  writable = still_writable es a b run able.writable;
-  words = ap (λ (l : Core). l.words) same.1 ∙ able.words;
-  many = able.many;
-  may = λ irq pending. subst (λ (img : Image). MayArrive img.names irq) (sym run.image) (able.may irq pending);
-}
-
--- calls, and more of them
-pub same_line : (a : Core) → IsSameLine a a
-same_line a = ([], ap (λ cs. record a { calls = cs }) (sym (append-nil a.calls)))
-
-pub same_line_on : (a b c : Core) → IsSameLine a b → IsSameLine b c → IsSameLine a c
-same_line_on a b c first second = (
-  first.0 ++ second.0,
-  second.1 ∙ ap (λ (l : Core). record l { calls = l.calls ++ second.0 }) first.1
-      ∙ ap (λ cs. record a { calls = cs }) (append_assoc a.calls first.0 second.0),
-)
-
-pub one_call_on : (a b c : Core) (call : Call) → IsSameLine a b → c ≡ record b { calls = b.calls ++ call ∷ [] }
-    → IsSameLine a c
-one_call_on a b c call first second = same_line_on a b c first (call ∷ [], second)
 
 pub repeated_add : (m n : ℕ) (ts : List Turn) → repeated_turns (m + n) ts ≡ repeated_turns m ts ++ repeated_turns n ts
 repeated_add zero n ts = ap (λ k. repeated_turns k ts) (let e : 0 + n ≡ n = omega arith in e)
@@ -57,11 +35,15 @@ repeated_more : (n : ℕ) (ts : List Turn) → repeated_turns n ts ++ ts ≡ rep
 repeated_more n ts =
     ap (λ us. repeated_turns n ts ++ us) (sym (append-nil ts)) ∙ sym (repeated_add n 1 ts)
 
-own_one : (line : Line) → length (own_turn line) ≤ 1
-own_one (Steps n) = omega arith
-own_one (Ticks n) = omega arith
-own_one (Pends irq n) = omega arith
-own_one (Device d irq n) = omega arith
+one_request : (own : Bool) (irq : ℕ) → length (map Happens (request_events own irq)) ≤ 1
+one_request true irq = omega arith
+one_request false irq = omega arith
+
+own_one : (share : Share) (line : Asked) → length (own_turn share line) ≤ 1
+own_one share (Steps n) = omega arith
+own_one share (Ticks n) = omega arith
+own_one share (Pends irq n) = one_request (takes_pends share) irq
+own_one share (Device d irq n) = one_request (takes_devices share) irq
 
 length-repeated : (n : ℕ) (ts : List Turn) → length ts ≤ 1 → length (repeated_turns n ts) ≤ n
 length-repeated zero ts one = omega arith
@@ -69,48 +51,48 @@ length-repeated (suc n) ts one =
     omega (arith, length-append ts (repeated_turns n ts), one, length-repeated n ts one)
 
 -- a line's turns are few
-pub few_turns : (n : ℕ) (line : Line) → length (repeated_turns n (own_turn line)) ≤ n
-few_turns n line = length-repeated n (own_turn line) (own_one line)
+pub few_turns : (n : ℕ) (share : Share) (line : Asked) → length (repeated_turns n (own_turn share line)) ≤ n
+few_turns n share line = length-repeated n (own_turn share line) (own_one share line)
 
-module _ (n : ℕ) (ts : List Turn) (a b c : Machine) (x y z : List ℕ) (calls calls' calls'' : List Call) where
+module _ (route : ℕ → Option ℕ) (n : ℕ) (ts : List Turn) (k l m : Line) (a b c : Machine) (x y z : List ℕ) where
   -- the same turns once more
-  pub once_more : Goes (repeated_turns n ts) calls calls' a b x y → Goes ts calls' calls'' b c y z
-      → Goes (repeated_turns (n + 1) ts) calls calls'' a c x z
+  pub once_more : Goes route (repeated_turns n ts) k l a b x y → Goes route ts l m b c y z
+      → Goes route (repeated_turns (n + 1) ts) k m a c x z
   once_more first second =
-      subst (λ us. Goes us calls calls'' a c x z) (repeated_more n ts)
-      (goes_on (repeated_turns n ts) ts a b c x y z calls calls' calls'' first second)
+      subst (λ us. Goes route us k m a c x z) (repeated_more n ts)
+      (goes_on route (repeated_turns n ts) ts k l a b x y first m c z second)
 
   -- or a fault at them
-  pub once_cut : (count : ℕ) → n < count → Goes (repeated_turns n ts) calls calls' a b x y
-      → Stops ts calls' calls'' b c y z → Stops (repeated_turns count ts) calls calls'' a c x z
+  pub once_cut : (count : ℕ) → n < count → Goes route (repeated_turns n ts) k l a b x y
+      → Stops route ts l m b c y z → Stops route (repeated_turns count ts) k m a c x z
   once_cut count within first cut =
       let rest : ℕ = count - (n + 1) in
       let all : repeated_turns (n + 1) ts ++ repeated_turns rest ts ≡ repeated_turns count ts =
       sym (repeated_add (n + 1) rest ts)
-      ∙ ap (λ k. repeated_turns k ts) (let same : n + 1 + rest ≡ count = omega arith in same) in
-      subst (λ us. Stops us calls calls'' a c x z) all
-      (stops_before (repeated_turns (n + 1) ts) (repeated_turns rest ts) a c x z calls calls''
-      (subst (λ us. Stops us calls calls'' a c x z) (repeated_more n ts)
-      (stops_behind (repeated_turns n ts) ts a b c x y z calls calls' calls'' first cut)))
+      ∙ ap (λ i. repeated_turns i ts) (let same : n + 1 + rest ≡ count = omega arith in same) in
+      subst (λ us. Stops route us k m a c x z) all
+      (stops_before route (repeated_turns (n + 1) ts) (repeated_turns rest ts) k m a c x z
+      (subst (λ us. Stops route us k m a c x z) (repeated_more n ts)
+      (stops_behind route (repeated_turns n ts) ts k l a b x y first m c z cut)))
 
   -- core steps behind the last look
-  pub step_more : (e : Turn) → Goes (Looks ∷ replicate n e) calls calls' a b x y → Goes (e ∷ []) calls' calls'' b c y z
-      → Goes (Looks ∷ replicate (n + 1) e) calls calls'' a c x z
+  pub step_more : (e : Turn) → Goes route (Looks ∷ replicate n e) k l a b x y → Goes route (e ∷ []) l m b c y z
+      → Goes route (Looks ∷ replicate (n + 1) e) k m a c x z
   step_more e first second =
-      subst (λ us. Goes (Looks ∷ us) calls calls'' a c x z) (replicate_more n e)
-      (goes_on (Looks ∷ replicate n e) (e ∷ []) a b c x y z calls calls' calls'' first second)
+      subst (λ us. Goes route (Looks ∷ us) k m a c x z) (replicate_more n e)
+      (goes_on route (Looks ∷ replicate n e) (e ∷ []) k l a b x y first m c z second)
 
-  pub step_more_cut : (e : Turn) (count : ℕ) → n < count → Goes (Looks ∷ replicate n e) calls calls' a b x y
-      → Stops (e ∷ []) calls' calls'' b c y z → Stops (Looks ∷ replicate count e) calls calls'' a c x z
+  pub step_more_cut : (e : Turn) (count : ℕ) → n < count → Goes route (Looks ∷ replicate n e) k l a b x y
+      → Stops route (e ∷ []) l m b c y z → Stops route (Looks ∷ replicate count e) k m a c x z
   step_more_cut e count within first cut =
       let rest : ℕ = count - (n + 1) in
       let all : replicate (n + 1) e ++ replicate rest e ≡ replicate count e =
       replicate-append-replicate (n + 1) rest e
-      ∙ ap (λ k. replicate k e) (let same : n + 1 + rest ≡ count = omega arith in same) in
-      subst (λ us. Stops (Looks ∷ us) calls calls'' a c x z) all
-      (stops_before (Looks ∷ replicate (n + 1) e) (replicate rest e) a c x z calls calls''
-      (subst (λ us. Stops (Looks ∷ us) calls calls'' a c x z) (replicate_more n e)
-      (stops_behind (Looks ∷ replicate n e) (e ∷ []) a b c x y z calls calls' calls'' first cut)))
+      ∙ ap (λ i. replicate i e) (let same : n + 1 + rest ≡ count = omega arith in same) in
+      subst (λ us. Stops route (Looks ∷ us) k m a c x z) all
+      (stops_before route (Looks ∷ replicate (n + 1) e) (replicate rest e) k m a c x z
+      (subst (λ us. Stops route (Looks ∷ us) k m a c x z) (replicate_more n e)
+      (stops_behind route (Looks ∷ replicate n e) (e ∷ []) k l a b x y first m c z cut)))
 
 -- the turns of a line are its events
 repeated_one : (n : ℕ) (e : Event) → repeated_turns n (Happens e ∷ []) ≡ map Happens (replicate n e)
@@ -121,77 +103,103 @@ repeated_none : (n : ℕ) → repeated_turns n [] ≡ []
 repeated_none zero = refl
 repeated_none (suc n) = repeated_none n
 
-line_turns : (line : Line) → repeated_turns (count_of line) (own_turn line) ≡ map Happens (core_line_events line)
-line_turns (Steps n) = repeated_one n Step
-line_turns (Ticks n) = repeated_one n Tick
-line_turns (Pends irq n) = repeated_one n (Arrive irq)
-line_turns (Device d irq n) = repeated_none n
+line_turns : (share : Share) (line : Asked)
+    → repeated_turns (count_of line) (own_turn share line) ≡ map Happens (own_line_events share line)
+line_turns BesideDevices (Steps n) = repeated_one n Step
+line_turns BesideDevices (Ticks n) = repeated_one n Tick
+line_turns BesideDevices (Pends irq n) = repeated_one n (Arrive irq)
+line_turns BesideDevices (Device d irq n) = repeated_none n
+line_turns First (Steps n) = repeated_one n Step
+line_turns First (Ticks n) = repeated_one n Tick
+line_turns First (Pends irq n) = repeated_one n (Arrive irq)
+line_turns First (Device d irq n) = repeated_one n (Arrive irq)
+line_turns Second (Steps n) = repeated_one n Step
+line_turns Second (Ticks n) = repeated_one n Tick
+line_turns Second (Pends irq n) = repeated_none n
+line_turns Second (Device d irq n) = repeated_none n
 
-own_line_length : (line : Line) → length (core_line_events line) ≤ count_of line
-own_line_length (Steps n) = omega (arith, length-replicate n Step)
-own_line_length (Ticks n) = omega (arith, length-replicate n Tick)
-own_line_length (Pends irq n) = omega (arith, length-replicate n (Arrive irq))
-own_line_length (Device d irq n) = omega arith
+own_line_length : (share : Share) (line : Asked) → length (own_line_events share line) ≤ count_of line
+own_line_length share line =
+    omega (
+      arith,
+      few_turns (count_of line) share line,
+      ap length (line_turns share line),
+      length-map (own_line_events share line) Happens,
+    )
 
 -- the core's own events are no more than the script's
-pub own_length : (script : List Line) → length (core_events script) ≤ count script
-own_length [] = omega arith
-own_length (line ∷ script) =
+pub own_length : (share : Share) (script : List Asked) → length (own_events share script) ≤ count script
+own_length share [] = omega arith
+own_length share (line ∷ script) =
     rw sum_by-cons
     (omega (
       arith,
-      length-append (core_line_events line) (core_events script),
-      own_line_length line,
-      own_length script,
+      length-append (own_line_events share line) (own_events share script),
+      own_line_length share line,
+      own_length share script,
     ))
 
-pub own_turns_length : (script : List Line) → length (own_turns script) ≤ count script
-own_turns_length script = omega (arith, length-map (core_events script) Happens, own_length script)
+pub own_turns_length : (share : Share) (script : List Asked) → length (own_turns share script) ≤ count script
+own_turns_length share script =
+    omega (arith, length-map (own_events share script) Happens, own_length share script)
 
-module _ (script : List Line) (i : ℕ) (line : Line) (below : i < length script) (is : line ≡ get_or script i line) where
-  own_more : own_turns (take (i + 1) script)
-      ≡ own_turns (take i script) ++ repeated_turns (count_of line) (own_turn line)
+module _ (share : Share) (script : List Asked) (i : ℕ) (line : Asked) (below : i < length script)
+    (is : line ≡ get_or script i line) where
+  own_more : own_turns share (take (i + 1) script)
+      ≡ own_turns share (take i script) ++ repeated_turns (count_of line) (own_turn share line)
   own_more =
-      ap own_turns (take_more script i line below)
-      ∙ ap (map Happens) (flat_map-append core_line_events (take i script) (get_or script i line ∷ []))
-      ∙ map-append Happens (core_events (take i script)) (core_events (get_or script i line ∷ []))
-      ∙ ap (λ es. own_turns (take i script) ++ map Happens es)
-      (append-nil (core_line_events (get_or script i line)))
-      ∙ ap (λ (l : Line). own_turns (take i script) ++ map Happens (core_line_events l)) (sym is)
-      ∙ ap (λ ts. own_turns (take i script) ++ ts) (sym (line_turns line))
+      ap (own_turns share) (take_more script i line below)
+      ∙ ap (map Happens) (flat_map-append (own_line_events share) (take i script) (get_or script i line ∷ []))
+      ∙ map-append Happens (own_events share (take i script)) (own_events share (get_or script i line ∷ []))
+      ∙ ap (λ es. own_turns share (take i script) ++ map Happens es)
+      (append-nil (own_line_events share (get_or script i line)))
+      ∙ ap (λ (l : Asked). own_turns share (take i script) ++ map Happens (own_line_events share l)) (sym is)
+      ∙ ap (λ ts. own_turns share (take i script) ++ ts) (sym (line_turns share line))
 
   -- so many turns were done before the line, and the line is so many
-  pub own_room : length (own_turns (take i script)) + count_of line ≤ count script
+  pub own_room : length (own_turns share (take i script)) + count_of line ≤ count script
   own_room =
       omega (
         arith,
-        own_turns_length (take i script),
+        own_turns_length share (take i script),
         sum_by_more_le count_of script i line below,
         ap count_of is,
       )
 
-  module _ (a b c : Machine) (x y z : List ℕ) (calls calls' calls'' : List Call) where
-    pub own_line_more : Goes (own_turns (take i script)) calls calls' a b x y
-        → Goes (repeated_turns (count_of line) (own_turn line)) calls' calls'' b c y z
-        → Goes (own_turns (take (i + 1) script)) calls calls'' a c x z
-    own_line_more first second =
-        subst (λ ts. Goes ts calls calls'' a c x z) (sym own_more)
-        (goes_on (own_turns (take i script)) (repeated_turns (count_of line) (own_turn line)) a b c x y z calls calls'
-        calls''
-        first second)
+  module _ (route : ℕ → Option ℕ) (k l m : Line) (a b c : Machine) (x y z : List ℕ)
+      (first : Goes route (own_turns share (take i script)) k l a b x y) where
+    pub own_line_more : Goes route (repeated_turns (count_of line) (own_turn share line)) l m b c y z
+        → Goes route (own_turns share (take (i + 1) script)) k m a c x z
+    own_line_more second =
+        subst (λ ts. Goes route ts k m a c x z) (sym own_more)
+        (goes_on route (own_turns share (take i script)) (repeated_turns (count_of line) (own_turn share line)) k l a b
+        x y first m c z second)
 
-    pub own_line_cut : Goes (own_turns (take i script)) calls calls' a b x y
-        → Stops (repeated_turns (count_of line) (own_turn line)) calls' calls'' b c y z
-        → Stops (own_turns script) calls calls'' a c x z
-    own_line_cut first cut =
-        subst (λ ts. Stops ts calls calls'' a c x z) all
-        (stops_before (own_turns (take (i + 1) script)) (own_turns (drop (i + 1) script)) a c x z calls calls''
-        (subst (λ ts. Stops ts calls calls'' a c x z) (sym own_more)
-        (stops_behind (own_turns (take i script)) (repeated_turns (count_of line) (own_turn line)) a b c x y z
-        calls calls' calls'' first cut)))
+    pub own_line_cut : Stops route (repeated_turns (count_of line) (own_turn share line)) l m b c y z
+        → Stops route (own_turns share script) k m a c x z
+    own_line_cut cut =
+        subst (λ ts. Stops route ts k m a c x z) all
+        (stops_before route (own_turns share (take (i + 1) script)) (own_turns share (drop (i + 1) script)) k m a c x z
+        (subst (λ ts. Stops route ts k m a c x z) (sym own_more)
+        (stops_behind route (own_turns share (take i script)) (repeated_turns (count_of line) (own_turn share line)) k l
+        a b x y first m c z cut)))
       where
-        all : own_turns (take (i + 1) script) ++ own_turns (drop (i + 1) script) ≡ own_turns script
+        all : own_turns share (take (i + 1) script) ++ own_turns share (drop (i + 1) script) ≡ own_turns share script
         all =
-            sym (map-append Happens (core_events (take (i + 1) script)) (core_events (drop (i + 1) script)))
-            ∙ ap (map Happens) (sym (flat_map-append core_line_events (take (i + 1) script) (drop (i + 1) script)))
-            ∙ ap own_turns (take-append-drop (i + 1) script)
+            sym (map-append Happens (own_events share (take (i + 1) script)) (own_events share (drop (i + 1) script)))
+            ∙ ap (map Happens)
+            (sym (flat_map-append (own_line_events share) (take (i + 1) script) (drop (i + 1) script)))
+            ∙ ap (own_turns share) (take-append-drop (i + 1) script)
+
+-- the interrupt of a request that the core gets is declared
+pub pend_named : (share : Share) (names : Names) (irq n : ℕ) → HasOwnName share names (Pends irq n)
+    → takes_pends share ≡ true → IsDeclared names irq
+pend_named BesideDevices names irq n named own = named
+pend_named First names irq n named own = named
+pend_named Second names irq n named own = absurd (false≢true own)
+
+pub device_named : (share : Share) (names : Names) (d irq n : ℕ) → HasOwnName share names (Device d irq n)
+    → takes_devices share ≡ true → IsDeclared names irq
+device_named BesideDevices names d irq n named own = absurd (false≢true own)
+device_named First names d irq n named own = named
+device_named Second names d irq n named own = absurd (false≢true own)

@@ -10,41 +10,60 @@ use Rattle.std.proofs.lemmas.List.{length-replicate}
 use Rattle.std.proofs.lemmas.List.Sums.{sum_by-cons}
 use Rattle.rt_lemmas.proofs.Bools.{true_and_false}
 use Rattle.rt_lemmas.proofs.Lists.{all_map}
-use Rattle.rt_lemmas.proofs.Membership.{all_append, all_weaker}
+use Rattle.rt_lemmas.proofs.Membership.{all_append, all_has, all_weaker}
 use Rattle.rt_lemmas.proofs.Membership.{contains_here, contains_there, contains_cases, contains_none}
 use Rattle.rt_ids.specs.Lists.{numbers_below}
 use Rattle.rt_ids.specs.Names.{Names}
 use Rattle.rt_ids.specs.declared.limits.TheConstants.{IRQ_NUMBERS, SCRIPT_EVENTS}
-use Rattle.rt_core.specs.Machine.{Machine}
+use Rattle.rt_code.specs.Lines.{HasLines}
+use Rattle.rt_core.specs.Core.{Core as CoreState}
+use Rattle.rt_core.specs.Machine.{Machine, IsFresh}
 use Rattle.rt_run.specs.Writable.{IsWritable}
+use Rattle.rt_run.proofs.Known.{fresh_known}
+use Rattle.std.proofs.lemmas.Option.{none-some}
 use Rattle.rt_script.specs.Script.{IsScript, HasName, HasNames, count, pends, line_pends, count_of}
 use Rattle.rt_script.specs.declared.line.Line.{Line}
 use Rattle.rt_script.specs.declared.line.Line.TheVariants.{Steps, Ticks, Pends, Device as DeviceLine}
 use Rattle.rt_devices.specs.Work.{requests, interrupt_asked, Works}
 use Rattle.rt_devices.specs.declared.device.Device.{Device}
 use Rattle.rt_lines.specs.Operand.{IsDeclared}
-use Rattle.rt_words.specs.Lines.{Row, Core, numbers, count as row_count}
-use Rattle.rt_words.specs.Object.{IsPending}
+use Rattle.rt_words.specs.Lines.{Row, Line as Caller, numbers, count as row_count}
+use Rattle.rt_words.specs.Row.{bit_in_row}
+use Rattle.rt_words.specs.Object.{IsPending, pending_bit}
 use Rattle.rt_words.specs.declared.view.Part.{Part}
 use Rattle.rt_live.specs.Account.{declared_irqs, empty_row}
 use Rattle.rt_live.specs.Devices.{devices, is_of_device}
 use Rattle.rt_live.specs.Going.{IsSameLine}
-use Rattle.rt_live.specs.Ready.{Prepared, IsReady, IsWaiting, HasMade, PendsOneOf, IsCounted, irqs_of}
+use Rattle.rt_live.specs.Ready.{Prepared, IsReady, IsBeside, IsWaiting, HasMade, PendsOneOf, IsCounted, irqs_of}
+use Rattle.rt_live.specs.Ready.{IsNumbered}
 use Rattle.rt_live.specs.declared.account.AccountRow.{AccountRow}
-use Rattle.rt_live.specs.Able.{IsAble}
+use Rattle.rt_live.specs.Able.{IsAble, CanGo}
+use Rattle.rt_live.specs.Requests.{no_route}
 use Rattle.rt_live.specs.Inside.Making.{MayPend, HasMadeLines}
 use Rattle.rt_live.specs.Gathering.{part_of, line_after_gathering}
 use Rattle.rt_live.specs.Inside.Working.{CanWork, AllWork, calls_gathered, calls_made}
-use Rattle.rt_live.proofs.Tallied.{same_words, same_made, gathered_parts, since_within}
+use Rattle.rt_live.proofs.Tallied.{same_words, same_number, same_here, same_there, same_made, same_calls}
+use Rattle.rt_live.proofs.Tallied.{gathered_parts}
+use Rattle.rt_live.proofs.Tallied.{since_within}
 
 -- a device that has made its pends of the script
 pub record HasEnded (row : Row) (script : List Line) (device : Device) : Type 0 where
-  pub words : device.line.words ≡ row
-  pub number : device.line.number ≡ device.number
+  pub beside : IsBeside row device
   pub made : map interrupt_asked device.line.calls ≡ map (λ irq. Some irq) (pends script device.number)
 
 abbrev device_numbers : List Device → List ℕ
 device_numbers ds = map (λ d. d.number) ds
+
+-- the bits of core 0 are its interrupts' numbers
+pub bit_here : (core irq : ℕ) → core ≡ 0 → bit_in_row core irq ≡ irq
+bit_here core irq none = omega (arith, none)
+
+bits_asked : (core : ℕ) → core ≡ 0 → (irqs : List ℕ)
+    → map (λ irq. Some (bit_in_row core irq)) irqs ≡ map (λ irq. Some irq) irqs
+bits_asked core none [] = refl
+bits_asked core none (irq ∷ irqs) =
+    ap (λ n. Some n ∷ map (λ i. Some (bit_in_row core i)) irqs) (bit_here core irq none)
+    ∙ ap (λ os. Some irq ∷ os) (bits_asked core none irqs)
 
 module _ (words : Row) (script : List Line) where
   one_ended : (old new : Device) → Works (requests old.script.items) old new → IsWaiting words script old
@@ -53,10 +72,16 @@ module _ (words : Row) (script : List Line) where
       let calls : new.line.calls ≡ works.calls =
       ap (λ l. l.calls) works.line ∙ ap (λ cs. cs ++ works.calls) waits.unused in
       record {
-        words = ap (λ l. l.words) works.line ∙ waits.words;
-        number = ap (λ l. l.number) works.line ∙ waits.number ∙ sym works.number;
+        beside = record {
+          words = ap (λ l. l.words) works.line ∙ waits.beside.words;
+          number = ap (λ l. l.number) works.line ∙ waits.beside.number ∙ sym works.number;
+          other = λ e. waits.beside.other (sym works.number ∙ e);
+          here = ap (λ l. l.here) works.line ∙ waits.beside.here;
+          there = ap (λ l. l.there) works.line ∙ waits.beside.there;
+        };
         made =
             ap (map interrupt_asked) calls ∙ works.asked
+            ∙ bits_asked old.line.there waits.beside.there (requests old.script.items)
             ∙ ap (map (λ irq. Some irq)) (waits.asks ∙ ap (pends script) (sym works.number));
       }
 
@@ -76,16 +101,16 @@ module _ (words : Row) (script : List Line) where
       )
 
   one_part : (d : Device) → HasEnded words script d → HasMade script (part_of d)
-  one_part d ended = ended.made ∙ ap (λ n. map (λ irq. Some irq) (pends script n)) (sym ended.number)
+  one_part d ended = ended.made ∙ ap (λ n. map (λ irq. Some irq) (pends script n)) (sym ended.beside.number)
 
   part_numbers : (ds : List Device) → AllByRecursion (HasEnded words script) ds
       → numbers (map part_of ds) ≡ device_numbers ds
   part_numbers [] ended = refl
   part_numbers (d ∷ ds) ended =
-      ap (λ n. n ∷ numbers (map part_of ds)) ended.0.number ∙ ap (λ ns. d.number ∷ ns) (part_numbers ds ended.1)
+      ap (λ n. n ∷ numbers (map part_of ds)) ended.0.beside.number ∙ ap (λ ns. d.number ∷ ns) (part_numbers ds ended.1)
 
 -- behind the devices' work, with all lines gathered
-module _ (ready : Prepared) (is : IsReady ready) (line : Core) (same : IsSameLine ready.line line) where
+module _ (ready : Prepared) (is : IsReady ready) (line : Caller) (same : IsSameLine ready.line line) where
   abbrev words : Row
   words = ready.words
 
@@ -93,14 +118,14 @@ module _ (ready : Prepared) (is : IsReady ready) (line : Core) (same : IsSameLin
   script = ready.script
 
   same_gathered : line.gathered ≡ ready.line.gathered
-  same_gathered = ap (λ (l : Core). l.gathered) same.1
+  same_gathered = ap (λ (l : Caller). l.gathered) same.1
 
   pub within : line.since ≤ length line.calls
   within =
       omega (
         arith,
-        ap (λ (l : Core). l.since) same.1,
-        ap (λ (l : Core). length l.calls) same.1,
+        ap (λ (l : Caller). l.since) same.1,
+        ap (λ (l : Caller). length l.calls) same.1,
         length-append ready.line.calls same.0,
         is.behind,
       )
@@ -109,36 +134,47 @@ module _ (ready : Prepared) (is : IsReady ready) (line : Core) (same : IsSameLin
   pub ready_calls : IsReady (record ready { line = line })
   ready_calls = record {
     scripted = is.scripted;
-    core_words = ap (λ (l : Core). l.words) same.1 ∙ is.core_words;
+    core_words = ap (λ (l : Caller). l.words) same.1 ∙ is.core_words;
+    number = ap (λ (l : Caller). l.number) same.1 ∙ is.number;
+    here = ap (λ (l : Caller). l.here) same.1 ∙ is.here;
+    there = ap (λ (l : Caller). l.there) same.1 ∙ is.there;
     many = is.many;
     waiting = is.waiting;
     gathered = subst (AllByRecursion (HasMade script)) (sym same_gathered) is.gathered;
     each = ap (λ ps. device_numbers ready.devices ++ numbers ps) same_gathered ∙ is.each;
     made = λ number.
-        subst (λ ns. Contains ns number ↔ Contains (devices script) number) (sym (ap (λ (l : Core). l.made) same.1))
+        subst (λ ns. Contains ns number ↔ Contains (devices script) number) (sym (ap (λ (l : Caller). l.made) same.1))
         (is.made number);
     behind = within;
     may = is.may;
     rows = is.rows;
-    counted = subst (λ ps. AllByRecursion (IsCounted ps) ready.rows) (sym same_gathered) is.counted;
+    counted = subst (λ ps. AllByRecursion (IsCounted 0 ps) ready.rows) (sym same_gathered) is.counted;
   }
 
   module _ (ended : List Device) (have : AllByRecursion (HasEnded words script) ended)
-      (known : device_numbers ended ≡ device_numbers ready.devices) (next : Core)
+      (known : device_numbers ended ≡ device_numbers ready.devices) (next : Caller)
       (gathers : next ≡ line_after_gathering ended line)
-      (rows : List AccountRow) (counted : AllByRecursion (IsCounted next.gathered) rows)
+      (rows : List AccountRow) (counted : AllByRecursion (IsCounted 0 next.gathered) rows)
       (irqs : irqs_of rows ≡ irqs_of ready.rows) where
     all_parts : next.gathered ≡ map part_of ended ++ ready.line.gathered
     all_parts =
-        ap (λ (l : Core). l.gathered) gathers ∙ gathered_parts ended line
+        ap (λ (l : Caller). l.gathered) gathers ∙ gathered_parts ended line
         ∙ ap (λ ps. map part_of ended ++ ps) same_gathered
 
     pub ready_gathered : IsReady (record ready { line = next; devices = []; rows = rows })
     ready_gathered = record {
       scripted = is.scripted;
       core_words =
-          ap (λ (l : Core). l.words) gathers ∙ same_words ended line ∙ ap (λ (l : Core). l.words) same.1
+          ap (λ (l : Caller). l.words) gathers ∙ same_words ended line ∙ ap (λ (l : Caller). l.words) same.1
           ∙ is.core_words;
+      number =
+          ap (λ (l : Caller). l.number) gathers ∙ same_number ended line ∙ ap (λ (l : Caller). l.number) same.1
+          ∙ is.number;
+      here =
+          ap (λ (l : Caller). l.here) gathers ∙ same_here ended line ∙ ap (λ (l : Caller). l.here) same.1 ∙ is.here;
+      there =
+          ap (λ (l : Caller). l.there) gathers ∙ same_there ended line ∙ ap (λ (l : Caller). l.there) same.1
+          ∙ is.there;
       many = is.many;
       waiting = tt;
       gathered =
@@ -150,9 +186,9 @@ module _ (ready : Prepared) (is : IsReady ready) (line : Core) (same : IsSameLin
           ∙ ap (λ ns. ns ++ numbers ready.line.gathered) (part_numbers words script ended have ∙ known) ∙ is.each;
       made = λ number.
           subst (λ ns. Contains ns number ↔ Contains (devices script) number)
-          (sym (ap (λ (l : Core). l.made) gathers ∙ same_made ended line ∙ ap (λ (l : Core). l.made) same.1))
+          (sym (ap (λ (l : Caller). l.made) gathers ∙ same_made ended line ∙ ap (λ (l : Caller). l.made) same.1))
           (is.made number);
-      behind = subst (λ (l : Core). l.since ≤ length l.calls) (sym gathers) (since_within ended line within);
+      behind = subst (λ (l : Caller). l.since ≤ length l.calls) (sym gathers) (since_within ended line within);
       may = λ irq. subst (λ is. IsPending words.may irq ↔ Contains is irq) (sym irqs) (is.may irq);
       rows = subst (λ is. AllByRecursion (PendsOneOf is) script) (sym irqs) is.rows;
       counted = counted;
@@ -183,8 +219,12 @@ pends_few number (line ∷ script) =
 one_can_work : (words : Row) (script : List Line) → IsScript script → (d : Device) → IsWaiting words script d
     → CanWork words d
 one_can_work words script scripted d waits = record {
-  words = waits.words;
-  may = waits.may;
+  words = waits.beside.words;
+  may =
+      all_weaker (λ (e : ℕ × ℕ). IsPending words.may e.0)
+      (λ (e : ℕ × ℕ). IsPending words.may (bit_in_row d.line.there e.0))
+      (λ e may. ap (pending_bit words.may) (bit_here d.line.there e.0 waits.beside.there) ∙ may) d.script.items
+      waits.may;
   room =
       omega (
         arith,
@@ -256,7 +296,7 @@ module _ (ready : Prepared) (is : IsReady ready) (names : Names) (irqs : irqs_of
       all_weaker (PendsOneOf (declared_irqs names)) (HasName names) (line_named names) ready.script
       (subst (λ irqs. AllByRecursion (PendsOneOf irqs) ready.script) irqs is.rows)
 
-  in_range : (irq : ℕ) (rows : List AccountRow) → AllByRecursion (IsCounted ready.line.gathered) rows
+  in_range : (irq : ℕ) (rows : List AccountRow) → AllByRecursion (IsCounted 0 ready.line.gathered) rows
       → Contains (irqs_of rows) irq → irq < IRQ_NUMBERS
   in_range irq [] counted there = absurd (contains_none irq there)
   in_range irq (row ∷ rows) counted there = elim (contains_cases row.irq (irqs_of rows) irq there) [
@@ -269,14 +309,51 @@ module _ (ready : Prepared) (is : IsReady ready) (names : Names) (irqs : irqs_of
   able_ready m writable named = record {
     writable = writable;
     words = is.core_words;
-    many = is.many;
-    may = λ irq pending.
-        let there : Contains (irqs_of ready.rows) irq = (is.may irq).0 pending in (
+    many = omega (arith, is.many, is.here);
+    may = λ irq low pending.
+        let there : Contains (irqs_of ready.rows) irq =
+        (is.may irq).0 (ap (pending_bit ready.words.may) (sym (bit_here ready.line.here irq is.here)) ∙ pending) in (
           subst (λ (n : Names). IsDeclared n irq) (sym named)
               (declared_at names irq (subst (λ is. Contains is irq) irqs there)),
           in_range irq ready.rows is.counted there,
         );
   }
+
+  -- those of the whole run
+  pub can_ready : (m : Machine) → IsFresh m → HasLines m.image → m.image.names ≡ names → ready.line.calls ≡ []
+      → CanGo (2 * count ready.script + 1) no_route m ready.line ready.words
+  can_ready m fresh lines named unused = record {
+    able = able_ready m (record { lines = lines; known = fresh_known m fresh }) named;
+    routed = λ posted irq e. absurd (none-some irq e);
+    few = omega (arith, fresh.steps, is.scripted.few);
+    early = omega (arith, ap (λ (c : CoreState). c.time) fresh.core, is.scripted.few);
+    room = omega (arith, ap length unused, is.scripted.few);
+  }
+
+-- gathering leaves the turns that can be done
+pub can_gathered : (n : ℕ) (m : Machine) (ended : List Device) (line next : Caller) (row : Row)
+    → next ≡ line_after_gathering ended line → CanGo n no_route m line row → CanGo n no_route m next row
+can_gathered n m ended line next row gathers can =
+    let here : next.here ≡ line.here = ap (λ (l : Caller). l.here) gathers ∙ same_here ended line in
+    record {
+      able = record {
+        writable = can.able.writable;
+        words = ap (λ (l : Caller). l.words) gathers ∙ same_words ended line ∙ can.able.words;
+        many = omega (arith, here, can.able.many);
+        may = λ irq low pending.
+            can.able.may irq low (ap (λ h. pending_bit row.may (bit_in_row h irq)) (sym here) ∙ pending);
+      };
+      routed = λ posted irq e. absurd (none-some irq e);
+      few = can.few;
+      early = can.early;
+      room =
+          omega (
+            arith,
+            ap (λ (l : Caller). length l.calls) gathers,
+            ap length (same_calls ended line),
+            can.room,
+          );
+    }
 
 -- what is made is ready
 module _ (names : Names) (script : List Line) (named : HasNames names script) (rows : List AccountRow)
@@ -293,6 +370,16 @@ module _ (names : Names) (script : List Line) (named : HasNames names script) (r
       subst (λ irqs. AllByRecursion (PendsOneOf irqs) script) (sym rows_declared)
       (all_weaker (HasName names) (PendsOneOf (declared_irqs names)) (line_pending names) script named)
 
+  -- the devices' interrupts are among those that there are
+  pub all_numbered : AllByRecursion (λ irq. irq < IRQ_NUMBERS) (irqs_of rows) → AllByRecursion IsNumbered script
+  all_numbered low = all_weaker (PendsOneOf (irqs_of rows)) IsNumbered line_numbered script pends_rows
+    where
+      line_numbered : (line : Line) → PendsOneOf (irqs_of rows) line → IsNumbered line
+      line_numbered (Steps n) there = tt
+      line_numbered (Ticks n) there = tt
+      line_numbered (Pends irq n) there = tt
+      line_numbered (DeviceLine d irq n) there = all_has (λ i. i < IRQ_NUMBERS) (irqs_of rows) irq low there
+
   module _ (words : Row) (may : (irq : ℕ) → IsPending words.may irq ↔ Contains (irqs_of rows) irq)
       (in_bounds : (irq : ℕ) → IsPending words.may irq → irq < IRQ_NUMBERS) where
     line_may_pend : (line : Line) → PendsOneOf (irqs_of rows) line → MayPend words line
@@ -305,26 +392,29 @@ module _ (names : Names) (script : List Line) (named : HasNames names script) (r
     all_may_pend = all_weaker (PendsOneOf (irqs_of rows)) (MayPend words) line_may_pend script pends_rows
 
     counted_empty : (irqs : List ℕ) → ((irq : ℕ) → Contains irqs irq → irq < IRQ_NUMBERS)
-        → AllByRecursion (IsCounted []) (map empty_row irqs)
+        → AllByRecursion (IsCounted 0 []) (map empty_row irqs)
     counted_empty [] low = tt
     counted_empty (irq ∷ irqs) low = (
-      record { in_range = low irq (contains_here irq irqs); raised = refl; merged = refl; latched = refl; left = refl },
+      record { in_range = low irq (contains_here irq irqs); raised = refl; merged = refl; latched = refl },
       counted_empty irqs (λ i there. low i (contains_there irq irqs i there)),
     )
 
-    rows_counted : AllByRecursion (IsCounted []) rows
+    rows_counted : AllByRecursion (IsCounted 0 []) rows
     rows_counted =
-        subst (AllByRecursion (IsCounted [])) (sym table)
+        subst (AllByRecursion (IsCounted 0 [])) (sym table)
         (counted_empty (declared_irqs names) (λ irq there.
         in_bounds irq ((may irq).1 (subst (λ is. Contains is irq) (sym rows_declared) there))))
 
-    pub made_ready : IsScript script → (line : Core) (ds : List Device) → row_count words ≡ 16
+    pub made_ready : IsScript script → (line : Caller) (ds : List Device) → row_count words ≡ 16
         → HasMadeLines line (devices script) words
         → device_numbers ds ≡ devices script → AllByRecursion (IsWaiting words script) ds
         → IsReady (record { script = script; words = words; line = line; devices = ds; rows = rows })
     made_ready scripted line ds many has known waits = record {
       scripted = scripted;
       core_words = has.words;
+      number = has.number;
+      here = has.here;
+      there = has.there;
       many = many;
       waiting = waits;
       gathered = subst (AllByRecursion (HasMade script)) (sym has.gathered) tt;
@@ -333,12 +423,12 @@ module _ (names : Names) (script : List Line) (named : HasNames names script) (r
       behind = omega (arith, has.since);
       may = may;
       rows = pends_rows;
-      counted = subst (λ ps. AllByRecursion (IsCounted ps) rows) (sym has.gathered) rows_counted;
+      counted = subst (λ ps. AllByRecursion (IsCounted 0 ps) rows) (sym has.gathered) rows_counted;
     }
 
 -- there is room for the counts of all lines
 module _ (script : List Line) (scripted : IsScript script) where
-  parts_few : (parts : List Part) → AllByRecursion (HasMade script) parts
+  pub parts_few : (parts : List Part) → AllByRecursion (HasMade script) parts
       → calls_gathered parts ≤ SCRIPT_EVENTS * length parts
   parts_few [] made = omega arith
   parts_few (p ∷ parts) made =
@@ -387,7 +477,7 @@ unfolding numbers_below
 length-below zero = refl
 length-below (suc n) = omega (arith, length-append (numbers_below n) (n ∷ []), length-below n)
 
-few_devices : (script : List Line) → length (devices script) ≤ 16
+pub few_devices : (script : List Line) → length (devices script) ≤ 16
 few_devices script =
     omega (
       arith,
@@ -403,8 +493,8 @@ taken_back xs ys n same all =
     ∙ ap (take n) (append-nil xs) ∙ take_all n xs (omega (arith, same, all))
 
 -- behind the devices' work
-module _ (ready : Prepared) (is : IsReady ready) (line : Core) (same : IsSameLine ready.line line) (ended : List Device)
-    (worked : AllWork ready.devices ended) (as_many : length ended ≡ length ready.devices) where
+module _ (ready : Prepared) (is : IsReady ready) (line : Caller) (same : IsSameLine ready.line line)
+    (ended : List Device) (worked : AllWork ready.devices ended) (as_many : length ended ≡ length ready.devices) where
   pub have_ended : AllByRecursion (HasEnded ready.words ready.script) ended
   have_ended = (all_ended ready.words ready.script ready.devices ended as_many worked is.waiting).0
 
@@ -412,9 +502,9 @@ module _ (ready : Prepared) (is : IsReady ready) (line : Core) (same : IsSameLin
   known_ended = (all_ended ready.words ready.script ready.devices ended as_many worked is.waiting).1
 
   -- With their lines gathered it is ready again. The devices and the rows were lent as slices, and are written back.
-  pub ready_again : (n : ℕ) → n ≡ length ready.devices → (next : Core)
+  pub ready_again : (n : ℕ) → n ≡ length ready.devices → (next : Caller)
       → next ≡ line_after_gathering (take n (ended ++ drop (length ended) ready.devices)) line
-      → (rows : List AccountRow) → AllByRecursion (IsCounted next.gathered) rows → irqs_of rows ≡ irqs_of ready.rows
+      → (rows : List AccountRow) → AllByRecursion (IsCounted 0 next.gathered) rows → irqs_of rows ≡ irqs_of ready.rows
       → (m : ℕ) → length rows ≡ length ready.rows → m ≡ length ready.rows → (left : List Device) → left ≡ []
       → IsReady (record ready {
         line = next;
@@ -433,16 +523,15 @@ module _ (ready : Prepared) (is : IsReady ready) (line : Core) (same : IsSameLin
       (subst (λ (rs : List AccountRow). IsReady (record ready { line = next; devices = []; rows = rs }))
       (sym (taken_back rows ready.rows m same_rows all_rows)) is_so)
 
-  pub words_ended : AllByRecursion (λ (d : Device). d.line.words ≡ ready.words) ended
-  words_ended =
-      all_weaker (HasEnded ready.words ready.script) (λ (d : Device). d.line.words ≡ ready.words)
-      (λ d ended. ended.words) ended have_ended
+  pub beside_ended : AllByRecursion (IsBeside ready.words) ended
+  beside_ended =
+      all_weaker (HasEnded ready.words ready.script) (IsBeside ready.words) (λ d ended. ended.beside) ended have_ended
 
   pub room_ended : calls_gathered line.gathered + calls_made ended + 2 ^ 32 ≤ 2 ^ 64
   room_ended =
       omega (
         arith,
-        ap (λ (l : Core). calls_gathered l.gathered) same.1,
+        ap (λ (l : Caller). calls_gathered l.gathered) same.1,
         parts_few ready.script is.scripted ready.line.gathered is.gathered,
         ended_few ready.script is.scripted ready.words ended have_ended,
         as_many,

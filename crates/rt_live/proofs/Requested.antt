@@ -281,10 +281,10 @@ module _ (script : List Line) (found : List (List ℕ)) (history : List Entry) (
       )
 
   -- nothing is left, and what was raised was latched
-  pub nothing_pending : (irq : ℕ) → pending_bit (replicate 16 0) irq ≡ 0
+  pub nothing_pending : (irq : ℕ) → pending_bit (replicate 32 0) irq ≡ 0
   nothing_pending irq =
-      ap (λ (w : ℕ). bit_at w (irq % 32)) (bits.zeros 16 (irq / 32)) ∙ bit_at-zero (irq % 32)
+      ap (λ (w : ℕ). bit_at w (irq % 32)) (bits.zeros 32 (irq / 32)) ∙ bit_at-zero (irq % 32)
 
   pub all_latched : (irq : ℕ) → irq < 512 → latched_count irq (calls_in history) ≡ raised_count irq (calls_in history)
   all_latched irq few =
-      omega (arith, accounts (replicate 16 0) history irq is.legal few, nothing_pending irq)
+      omega (arith, accounts (replicate 32 0) history irq is.legal (omega (arith, few)), nothing_pending irq)

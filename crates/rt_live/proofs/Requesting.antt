@@ -1,13 +1,16 @@
 -- The history in which the devices pend one after another, and the core does not look.
 use Rattle.std.proofs.Common.{◌≡◌, ◌≢◌, ℕ, zero, suc, ◌<◌, ◌≤◌, ◌==◌, Bool, if◌then◌else◌, List, [], ◌∷◌, ◌++◌}
-use Rattle.std.proofs.Common.{map, replicate, Some, cond, refl, sym, ap, subst, ◌∙◌, arith, append-nil}
-use Rattle.std.proofs.Common.{eq-eqb, ne_eqb, get_or, ◌/◌, ◌%◌}
+use Rattle.std.proofs.Common.{true, false, take, map, replicate, Some, cond, refl, sym, ap, subst, ◌∙◌, arith}
+use Rattle.std.proofs.Common.{append-nil, eq-eqb, ne_eqb, get_or, ◌/◌, ◌%◌}
+use Rattle.std.proofs.lemmas.List.{get_or-set_other}
 use Rattle.std.proofs.lemmas.Nat.Bits.{bit_at-lt}
 use Rattle.std.specs.List.{AllByRecursion}
 use mathlib.Core.Logic.{dite}
 use native.Mathlib.Decide.{ℕ_discrete, dec_lt}
 use Rattle.rt_devices.specs.Work.{interrupt_asked}
-use Rattle.rt_script.specs.Script.{HasDeviceInRange, pends}
+use Rattle.rt_lemmas.proofs.Membership.{all_append}
+use Rattle.rt_ids.specs.declared.limits.TheConstants.{IRQ_NUMBERS}
+use Rattle.rt_script.specs.Script.{HasDeviceInRange, pends, line_pends}
 use Rattle.rt_script.specs.declared.line.Line.{Line}
 use Rattle.rt_script.specs.declared.line.Line.TheVariants.{Steps, Ticks, Pends, Device}
 use Rattle.rt_words.specs.declared.call.Pended.{Pended}
@@ -17,7 +20,10 @@ use Rattle.rt_words.specs.declared.call.Call.TheVariants.{Pend}
 use Rattle.rt_words.specs.Object.{IsAnswered, after, pending_bit}
 use Rattle.rt_words.specs.History.{LeavesWords, part, entries}
 use Rattle.rt_words.specs.declared.call.Entry.{Entry}
-use Rattle.rt_live.proofs.Onward.{leads_on, part_on, part_own, part_other, zeros}
+use Rattle.rt_words.proofs.Bits.{zeros as zeros_at}
+use Rattle.rt_live.specs.Ready.{IsNumbered}
+use Rattle.rt_live.proofs.Finishing.{row_is}
+use Rattle.rt_live.proofs.Onward.{leads_on, led_as_many, part_on, part_own, part_other, zeros, in_row}
 use Rattle.rt_live.proofs.Extending.{IsCutHistory}
 
 -- what a pend is answered
@@ -128,27 +134,71 @@ module _ (script : List Line) where
           let ne : d ≢ number = omega (arith, out, all.0) in
           ap (λ b. cond b (replicate n irq) [] ++ pends ls number) (ne_eqb d number ne) ∙ none_of ls all.1
 
+  -- the pends of interrupts that there are set no word behind the core's
+  one_numbered : (number n irq : ℕ) (d : ℕ) → IsNumbered (Device d irq n)
+      → AllByRecursion (λ i. i < IRQ_NUMBERS) (line_pends number (Device d irq n))
+  one_numbered number n irq d low = by (d == number)
+    where
+      all : (m : ℕ) → AllByRecursion (λ i. i < IRQ_NUMBERS) (replicate m irq)
+      all zero = tt
+      all (suc m) = (low, all m)
+
+      by : (b : Bool) → AllByRecursion (λ i. i < IRQ_NUMBERS) (cond b (replicate n irq) [])
+      by true = all n
+      by false = tt
+
+  pends_numbered : (ls : List Line) → AllByRecursion IsNumbered ls → (number : ℕ)
+      → AllByRecursion (λ i. i < IRQ_NUMBERS) (pends ls number)
+  pends_numbered [] low number = tt
+  pends_numbered (Steps n ∷ ls) low number = pends_numbered ls low.1 number
+  pends_numbered (Ticks n ∷ ls) low number = pends_numbered ls low.1 number
+  pends_numbered (Pends irq n ∷ ls) low number = pends_numbered ls low.1 number
+  pends_numbered (Device d irq n ∷ ls) low number =
+      all_append (λ i. i < IRQ_NUMBERS) (line_pends number (Device d irq n)) (pends ls number)
+      (one_numbered number n irq d low.0) (pends_numbered ls low.1 number)
+
+  behind_pends : (words irqs : List ℕ) → AllByRecursion (λ i. i < IRQ_NUMBERS) irqs → (k : ℕ) → 16 ≤ k
+      → get_or (words_behind words irqs) k 0 ≡ get_or words k 0
+  unfolding words_behind
+  behind_pends words [] low k far = refl
+  behind_pends words (irq ∷ irqs) low k far =
+      behind_pends (after words (Pend irq (answer words irq))) irqs low.1 k far
+      ∙ get_or-set_other words (irq / 32) k _ 0 (omega (arith, low.0, far))
+
+  behind_below : (n : ℕ) (words : List ℕ) → AllByRecursion IsNumbered script → (k : ℕ) → 16 ≤ k
+      → get_or (words_below n words) k 0 ≡ get_or words k 0
+  unfolding words_below
+  behind_below zero words low k far = refl
+  behind_below (suc n) words low k far =
+      behind_below n (words_behind words (pends script n)) low k far
+      ∙ behind_pends words (pends script n) (pends_numbered script low n) k far
+
   -- all have pended, and there was no look
-  pub devices_first : AllByRecursion HasDeviceInRange script
+  pub devices_first : AllByRecursion HasDeviceInRange script → AllByRecursion IsNumbered script
       → (words : List ℕ) × (history : List Entry) × IsCutHistory script [] [] words history
-  devices_first ranges = (
-    words_below 16 (zeros 16),
-    history_below 16 (zeros 16),
-    record {
-      legal = below_leads 16 (zeros 16);
-      core = others_none 16 (zeros 16) 255 (omega arith);
-      since = 0;
-      within = omega arith;
-      early = omega arith;
-      ended = record {
-        earlier = history_below 16 (zeros 16);
-        is = sym (append-nil (history_below 16 (zeros 16)));
-      };
-      devices = λ number ne. dite (dec_lt number 16)
-          (λ within. each_pends 16 (zeros 16) number within)
-          (λ out.
-          let far : 16 ≤ number = omega (arith, out) in
-          ap (map interrupt_asked) (others_none 16 (zeros 16) number far)
-          ∙ ap (map (λ (irq : ℕ). Some irq)) (sym (none_asked number far ranges)));
-    },
-  )
+  devices_first ranges low =
+      let left : List ℕ = words_below 16 (zeros 32) in
+      let leads : LeavesWords (zeros 32) (history_below 16 (zeros 32)) left = below_leads 16 (zeros 32) in
+      let row : left ≡ in_row (take 16 left) =
+      row_is left (led_as_many (zeros 32) left (history_below 16 (zeros 32)) leads)
+      (λ k far. behind_below 16 (zeros 32) low k far ∙ zeros_at 32 k) in (
+        take 16 left,
+        history_below 16 (zeros 32),
+        record {
+          legal = subst (LeavesWords (zeros 32) (history_below 16 (zeros 32))) row leads;
+          core = others_none 16 (zeros 32) 255 (omega arith);
+          since = 0;
+          within = omega arith;
+          early = omega arith;
+          ended = record {
+            earlier = history_below 16 (zeros 32);
+            is = sym (append-nil (history_below 16 (zeros 32)));
+          };
+          devices = λ number ne. dite (dec_lt number 16)
+              (λ within. each_pends 16 (zeros 32) number within)
+              (λ out.
+              let far : 16 ≤ number = omega (arith, out) in
+              ap (map interrupt_asked) (others_none 16 (zeros 32) number far)
+              ∙ ap (map (λ (irq : ℕ). Some irq)) (sym (none_asked number far ranges)));
+        },
+      )

@@ -4,15 +4,12 @@ use Rattle.std.proofs.Common.{drop, Contains, sym, subst, arith, ⊎_elim, lengt
 use Rattle.std.specs.List.{AllByRecursion}
 use Rattle.std.proofs.lemmas.List.Concat.{flat_map-append}
 use Rattle.rt_lemmas.proofs.Membership.{contains_here, contains_there, contains_none}
-use Rattle.rt_words.specs.Ending.{LatchedAreZero, OneHistory}
-use Rattle.rt_words.specs.Lines.{Core}
+use Rattle.rt_words.specs.Lines.{Line}
 use Rattle.rt_words.specs.declared.call.Call.{Call}
 use Rattle.rt_words.specs.declared.call.Call.TheVariants.{Latch}
-use Rattle.rt_live.specs.Going.{IsWholeLook, LatchedLast}
-use Rattle.rt_live.specs.Latched.{LatchedSo}
+use Rattle.rt_live.specs.Going.{IsWholeLook}
+use Rattle.rt_live.specs.Latched.{LatchedLast, LatchedSo}
 use Rattle.rt_live.specs.Interleaving.{Turn, Looks, looks, look_calls, look_calls_from}
-use Rattle.rt_live.proofs.Closing.{left_none}
-use Rattle.rt_live.proofs.Extending.{Settles}
 use Rattle.rt_live.proofs.Woven.{looks-append}
 use Rattle.rt_live.proofs.Numbered.{contains_front, contains_behind}
 
@@ -34,25 +31,8 @@ latch_at words k within =
     subst (λ m. Contains (look_calls words) (Latch m (get_or words k 0))) (let e : 0 + k ≡ k = omega arith in e)
     (latch_of 0 k words within)
 
--- the words that the looks latched so late are 0
-pub settled : (ts : List Turn) (found : List (List ℕ)) (last bits : List ℕ) (line : Core) → OneHistory line bits
-    → LatchedSo ts found last line → LatchedAreZero (drop line.since line.calls) bits → Settles ts found last bits
-settled ts found last bits line h so silent = record {
-  begun = λ late k below.
-      silent k (get_or last k 0) (so.begun late (Latch k (get_or last k 0)) (latch_at last k below));
-  all = λ done. left_none line bits h (so.all done) silent;
-}
-
--- before the devices' lines are gathered a look is to come
-pub settled_early : (ts : List Turn) (found : List (List ℕ)) (words : List ℕ) → 0 < looks ts → length found < looks ts
-    → Settles ts found [] words
-settled_early ts found words some few = record {
-  begun = λ late k below. absurd (omega (arith, below));
-  all = λ done. absurd (omega (arith, few, done));
-}
-
 -- at the core's own turns, behind which a look alone comes
-pub latched_own : (ts us : List Turn) (found : List (List ℕ)) (last : List ℕ) (line : Core)
+pub latched_own : (ts us : List Turn) (found : List (List ℕ)) (last : List ℕ) (line : Line)
     → (length found < looks ts) ⊎ ((last ≡ []) × (length found ≤ looks ts))
     → LatchedSo (ts ++ Looks ∷ us) found last line
 latched_own ts us found last line few = record {
@@ -67,7 +47,7 @@ latched_own ts us found last line few = record {
 }
 
 -- a whole look behind the last line that was gathered latches every word
-pub latched_look : (line : Core) (front : List Call) (words : List ℕ) (behind : List Call) → IsWholeLook words
+pub latched_look : (line : Line) (front : List Call) (words : List ℕ) (behind : List Call) → IsWholeLook words
     → drop line.since line.calls ≡ front ++ (look_calls words ++ behind) → LatchedLast line
 latched_look line front words behind whole since k below = (
   get_or words k 0,
@@ -78,7 +58,7 @@ latched_look line front words behind whole since k below = (
 )
 
 -- behind the core's own turns, with the look alone
-pub latched_added : (ts us : List Turn) (own found : List (List ℕ)) (last : List ℕ) (line : Core) (front : List Call)
+pub latched_added : (ts us : List Turn) (own found : List (List ℕ)) (last : List ℕ) (line : Line) (front : List Call)
     → length own ≡ looks ts → AllByRecursion IsWholeLook found
     → drop line.since line.calls ≡ front ++ flat_map look_calls (found ++ last ∷ [])
     → LatchedSo (ts ++ Looks ∷ us) (own ++ found) last line

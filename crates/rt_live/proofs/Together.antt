@@ -45,7 +45,7 @@ module _ (ready : Prepared) (is : IsReady ready) (gone : ready.devices ≡ []) (
       → HasLived s old next x y rows) same
       (λ all.
       has_lived ready is gone ranges rows closed early_gathered old next fresh
-      (λ found. Took x y (live_text old.image ready.script found)) all irqs x y all.ends.wrote)
+      (λ found. Took x y (live_text old.image ready.script found)) all irqs x y all.wrote)
 
   module _ (irqs : irqs_of ready.rows ≡ declared_irqs old.image.names) (names : Names)
       (named : names ≡ next.image.names) (z : List ℕ) where
@@ -53,7 +53,7 @@ module _ (ready : Prepared) (is : IsReady ready) (gone : ready.devices ≡ []) (
     Whole s = Completes (turns s) ready.line old next (λ found. Took x y (live_text old.image s found))
 
     old_names : (s : List Line) → Whole s → names ≡ old.image.names
-    old_names s all = let led = all.ends.leads.image in cc
+    old_names s all = let led = all.leads.image in cc
 
     -- all was written
     pub wrote_whole : Whole script → Took y z (account_text names rows) → HasWritten script old next x z
@@ -61,7 +61,7 @@ module _ (ready : Prepared) (is : IsReady ready) (gone : ready.devices ≡ []) (
         subst (λ (s : List Line). Whole s → Took y z (account_text names rows) → HasWritten s old next x z) same
         (λ all took.
         has_written ready is gone ranges rows closed early_gathered old next fresh
-        (λ found. Took x y (live_text old.image ready.script found)) all irqs x y z all.ends.wrote
+        (λ found. Took x y (live_text old.image ready.script found)) all irqs x y z all.wrote
         (subst (λ (n : Names). Took y z (account_text n rows)) (old_names ready.script all) took))
 
     -- the sink failed in a line of the account
@@ -71,5 +71,5 @@ module _ (ready : Prepared) (is : IsReady ready) (gone : ready.devices ≡ []) (
         same
         (λ all part.
         account_part ready is gone ranges rows closed early_gathered old next fresh
-        (λ found. Took x y (live_text old.image ready.script found)) all irqs x y z all.ends.wrote
+        (λ found. Took x y (live_text old.image ready.script found)) all irqs x y z all.wrote
         (subst (λ (n : Names). TookPrefix y z (account_text n rows)) (old_names ready.script all) part))

@@ -4,6 +4,11 @@ use Rattle.std.proofs.Common.{refl, ap, sym, ◌∙◌, append_assoc, arith}
 use Rattle.std.specs.List.{AllByRecursion}
 use Rattle.std.proofs.lemmas.List.{length-append}
 use Rattle.rt_ids.specs.Event.{Event, Arrive, Tick, Step, steps}
+use Rattle.rt_core.specs.Machine.{Machine}
+use Rattle.rt_core.specs.Trace.{labels}
+use Rattle.rt_outside.specs.Bytes.{TookPrefix}
+use Rattle.rt_run.specs.Done.{Leads}
+use Rattle.rt_run.specs.Sending.{Breaks, lines_of}
 use Rattle.rt_run.proofs.Advancing.{steps-append}
 use Rattle.rt_run.proofs.Known.{ticks}
 use Rattle.rt_live.specs.Interleaving.{Turn, Happens, Looks, looks, arrivals_from, look_arrivals, look_calls_from}
@@ -120,3 +125,17 @@ all_latches (ws ∷ found) whole =
       whole.0,
       all_latches found whole.1,
     ) in e
+
+-- a fault in the lines of one event
+pub at_event : (e : Event) (a b : Machine) (x y : List ℕ) → Leads (e ∷ []) a b → TookPrefix x y (lines_of a (e ∷ []))
+    → Breaks (e ∷ []) a b x y
+unfolding labels
+at_event e a b x y run part = record {
+  done = [];
+  last = e;
+  rest = [];
+  parts = refl;
+  leads = run;
+  took = (part.0, part.2);
+  cut = part;
+}

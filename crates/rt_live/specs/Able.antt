@@ -1,14 +1,15 @@
 -- What a turn asks of the core, of its line and of the words.
-use Rattle.std.specs.Prelude.{◌≡◌, ℕ, ◌+◌, ◌*◌, ◌<◌}
+use Rattle.std.specs.Prelude.{◌≡◌, ℕ, ◌+◌, ◌-◌, ◌*◌, ◌^◌, ◌<◌, ◌≤◌, length, Option, Some}
 use Rattle.std.specs.Int.{bit_at}
 use Rattle.rt_ids.specs.Names.{Names}
 use Rattle.rt_ids.specs.declared.limits.TheConstants.{IRQ_NUMBERS}
 use Rattle.rt_core.specs.Machine.{Machine}
 use Rattle.rt_run.specs.Writable.{IsWritable}
 use Rattle.rt_lines.specs.Operand.{IsDeclared}
-use Rattle.rt_words.specs.Lines.{Row, Core, count}
+use Rattle.rt_words.specs.Lines.{Row, Line, count}
 use Rattle.rt_words.specs.Object.{IsPending}
-use Rattle.rt_live.specs.declared.turns.TheConstants.{WORDS}
+use Rattle.rt_words.specs.Row.{bit_in_row, word_in_row}
+use Rattle.rt_words.specs.declared.row.TheConstants.{CORE_WORDS}
 
 -- an interrupt may arrive: it is declared, and there is such a number
 abbrev pub MayArrive : Names → ℕ → Type 0
@@ -18,9 +19,23 @@ MayArrive names irq = IsDeclared names irq × (irq < IRQ_NUMBERS)
 abbrev pub BitsMayArrive : Names → ℕ → ℕ → Type 0
 BitsMayArrive names k word = (bit : ℕ) → bit < 32 → bit_at word bit ≡ 1 → MayArrive names (32 * k + bit)
 
--- lines can be written, the line is of these words, which are all that there are, and what may be pended may arrive
-pub record IsAble (m : Machine) (line : Core) (row : Row) : Type 0 where
+-- what posts lead to may be pended on the core of this number
+abbrev pub MayRoute : (ℕ → Option ℕ) → ℕ → Row → Type 0
+MayRoute route there row = (posted irq : ℕ) → route posted ≡ Some irq → IsPending row.may (bit_in_row there irq)
+
+-- lines can be written, the line is of these words, which have all those of its own core, and what may be pended on
+-- that core may arrive
+pub record IsAble (m : Machine) (line : Line) (row : Row) : Type 0 where
   pub writable : IsWritable m
   pub words : line.words ≡ row
-  pub many : count row ≡ WORDS
-  pub may : (irq : ℕ) → IsPending row.may irq → MayArrive m.image.names irq
+  pub many : word_in_row line.here CORE_WORDS ≤ count row
+  pub may : (irq : ℕ) → irq < 32 * CORE_WORDS → IsPending row.may (bit_in_row line.here irq)
+      → MayArrive m.image.names irq
+
+-- so many turns can be done, and what posts lead to can be pended
+pub record CanGo (n : ℕ) (route : ℕ → Option ℕ) (m : Machine) (line : Line) (row : Row) : Type 0 where
+  pub able : IsAble m line row
+  pub routed : MayRoute route line.there row
+  pub few : m.steps + n < 2 ^ 31
+  pub early : m.core.time + n < 2 ^ 31
+  pub room : length line.calls + 17 * n < 2 ^ 32 - 1

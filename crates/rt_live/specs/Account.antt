@@ -1,30 +1,33 @@
 -- The account of a run under `live`, over the calls of all lines: for each declared interrupt, in order, how often it
 -- was raised, merged and latched, and whether it is left pending. The form of its lines is this project's own. The
--- definitions count in a list of calls; the code adds up what each line counted by itself.
-use Rattle.std.specs.Prelude.{ℕ, ◌+◌, List, [], ◌∷◌, ◌++◌, map, flat_map, codes, decimal, slice_index}
+-- definitions count in a list of calls; the code adds up what each line counted by itself. Under `live` there is one
+-- core in the row, core 0.
+use Rattle.std.specs.Prelude.{ℕ, ◌+◌, ◌^◌, ◌≤◌, ◌==◌, if◌then◌else◌, List, [], ◌∷◌, ◌++◌, map, flat_map, codes}
+use Rattle.std.specs.Prelude.{decimal, slice_index}
 use Rattle.rt_ids.specs.Names.{Names}
 use Rattle.rt_ids.specs.Naming.{irq_name}
 use Rattle.rt_lines.specs.Table.{spaced_text}
 use Rattle.rt_words.specs.Account.{raised_count, merged_count, latched_count}
 use Rattle.rt_words.specs.Object.{pending_bit}
 use Rattle.rt_words.specs.declared.call.Call.{Call}
-use Rattle.rt_words.specs.declared.device_line.Tally.{Tally}
+use Rattle.rt_words.specs.Row.{bit_in_row}
+use Rattle.rt_words.specs.declared.tally.Tally.{Tally}
 use Rattle.rt_live.specs.declared.account.AccountRow.{AccountRow}
 
--- the row of an interrupt, over these calls and the words that they left
-abbrev pub row_of : List Call → List ℕ → ℕ → AccountRow
-row_of calls words irq =
+-- the row of an interrupt of a core of the row, over these calls and the words that they left
+abbrev pub row_of : ℕ → List Call → List ℕ → ℕ → AccountRow
+row_of core calls words irq =
     record {
       irq = irq;
-      raised = raised_count irq calls;
-      merged = merged_count irq calls;
-      latched = latched_count irq calls;
-      left = pending_bit words irq;
+      raised = raised_count (bit_in_row core irq) calls;
+      merged = merged_count (bit_in_row core irq) calls;
+      latched = latched_count (bit_in_row core irq) calls;
+      left = pending_bit words (bit_in_row core irq);
     }
 
--- a row for each of these interrupts
-abbrev pub account_of : List ℕ → List Call → List ℕ → List AccountRow
-account_of irqs calls words = map (row_of calls words) irqs
+-- a row for each of these interrupts of a core
+abbrev pub account_of : ℕ → List ℕ → List Call → List ℕ → List AccountRow
+account_of core irqs calls words = map (row_of core calls words) irqs
 
 -- the numbers of the declared interrupts, in order
 abbrev pub declared_irqs : Names → List ℕ
@@ -46,14 +49,22 @@ account_text names rows = flat_map (row_text names) rows
 abbrev pub empty_row : ℕ → AccountRow
 empty_row irq = record { irq = irq; raised = 0; merged = 0; latched = 0; left = 0 }
 
--- a row with a line's counts added
-abbrev pub with_counts : Tally → AccountRow → AccountRow
-with_counts tally row =
+-- there is room in a row for the counts of one line more
+pub record HasRoom (row : AccountRow) : Type 0 where
+  pub raised : row.raised + 2 ^ 32 ≤ 2 ^ 64
+  pub merged : row.merged + 2 ^ 32 ≤ 2 ^ 64
+  pub latched : row.latched + 2 ^ 32 ≤ 2 ^ 64
+
+-- a row of this core with the counts of a line added, which latches words of the core `here` and pends on the core
+-- `there`
+abbrev pub with_counts : ℕ → ℕ → ℕ → Tally → AccountRow → AccountRow
+with_counts core here there tally row =
     record row {
-      raised = row.raised + slice_index tally.raised row.irq;
-      merged = row.merged + slice_index tally.merged row.irq;
+      raised = row.raised + (if there == core then slice_index tally.raised row.irq else 0);
+      merged = row.merged + (if there == core then slice_index tally.merged row.irq else 0);
+      latched = row.latched + (if here == core then slice_index tally.latched row.irq else 0);
     }
 
--- a row with how often its interrupt was latched, and its bit of the words that are left
-abbrev pub settled_row : List ℕ → List ℕ → AccountRow → AccountRow
-settled_row latched bits row = record row { latched = slice_index latched row.irq; left = pending_bit bits row.irq }
+-- a row of this core with its interrupt's bit of the words that are left
+abbrev pub settled_row : ℕ → List ℕ → AccountRow → AccountRow
+settled_row core bits row = record row { left = pending_bit bits (bit_in_row core row.irq) }

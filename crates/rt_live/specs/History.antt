@@ -13,13 +13,14 @@ use Rattle.rt_live.specs.Interleaving.{look_calls, last_looks}
 abbrev pub IsEmptyLook : List ℕ → Type 0
 IsEmptyLook words = words ≡ replicate 16 0
 
--- One thread could have made these calls on sixteen words, and it left nothing pending. The core's line, of the number
--- 255, latched what was found, look behind look. Each other line pended what the device of its number pends in the
--- script, in order and no other; so a number of which the script has no device has no call. The devices have ended when
--- the core's own lines are over: the looks behind these come last in the history, behind every pend of every device. So
--- the look alone finds all that is pending still, and those of the steps that are added find nothing.
+-- One thread could have made these calls on the words of a row, of which the core's are the first, and it left nothing
+-- pending. The core's line, of the number 255, latched what was found, look behind look. Each other line pended what
+-- the device of its number pends in the script, in order and no other; so a number of which the script has no device
+-- has no call. The devices have ended when the core's own lines are over: the looks behind these come last in the
+-- history, behind every pend of every device. So the look alone finds all that is pending still, and those of the steps
+-- that are added find nothing.
 pub record IsHistory (script : List Line) (found : List (List ℕ)) (history : List Entry) : Type 0 where
-  pub legal : IsLegal history (replicate 16 0)
+  pub legal : IsLegal history (replicate 32 0)
   pub core : part history 255 ≡ flat_map look_calls found
   pub devices : (number : ℕ) → number ≢ 255
       → map interrupt_asked (part history number) ≡ map (λ irq. Some irq) (pends script number)

@@ -1,4 +1,4 @@
 -- What the functions of this crate ask of each other.
-pub mod Own
+pub mod Looking
 pub mod Working
 pub mod Making

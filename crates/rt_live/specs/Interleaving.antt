@@ -20,9 +20,13 @@ pub data Turn : Type 0 where
   -- a look without a core step
   Looks : Turn
 
+-- a look alone, and so many core steps, each behind a look
+abbrev pub last_turns : ℕ → List Turn
+last_turns n = Looks ∷ replicate n (Happens Step)
+
 -- what is done under a script
 abbrev pub turns : List Line → List Turn
-turns script = map Happens (core_events script) ++ Looks ∷ replicate (steps (core_events script)) (Happens Step)
+turns script = map Happens (core_events script) ++ last_turns (steps (core_events script))
 
 -- of what the looks found, what the looks behind the core's own lines found: the look alone, and those of the steps
 -- that are added

@@ -1,4 +1,6 @@
 pub mod Interleaving
+pub mod Requests
+pub mod Shares
 pub mod Able
 pub mod Constants
 pub mod Going

@@ -23,7 +23,7 @@ pub record IsLiveText (image : Image) (script : List Line) (bytes : List ℕ) : 
   pub history : List Entry
   pub is : IsHistory script found history
   pub written : bytes ≡ live_text image script found
-      ++ account_text image.names (account_of (declared_irqs image.names) (calls_in history) (replicate 16 0))
+      ++ account_text image.names (account_of 0 (declared_irqs image.names) (calls_in history) (replicate 32 0))
 
 -- a beginning of such a text was taken
 pub record TookPart (image : Image) (script : List Line) (before after : List ℕ) : Type 0 where
@@ -39,7 +39,7 @@ pub record Lives (image : Image) (script : List Line) (before after : List ℕ) 
   pub history : List Entry
   pub is : IsHistory script found history
   pub took : Took before after (live_text image script found)
-  pub account : rows ≡ account_of (declared_irqs image.names) (calls_in history) (replicate 16 0)
+  pub account : rows ≡ account_of 0 (declared_irqs image.names) (calls_in history) (replicate 32 0)
 
 -- a row of its account counts each pend of a device once, as raised or as merged; what was raised was latched, and
 -- nothing is left

@@ -1,5 +1,5 @@
 -- What is made ready for a run under `live`: the words, the core's line, and the devices with the lines that they call.
-use Rattle.std.specs.Prelude.{◌≡◌, ℕ, ◌<◌, ◌≤◌, List, [], ◌++◌, length, map, sum_by, Some, Contains, ◌↔◌}
+use Rattle.std.specs.Prelude.{◌≡◌, ◌≢◌, ℕ, ◌<◌, ◌≤◌, List, [], ◌++◌, length, map, sum_by, Some, Contains, ◌↔◌}
 use Rattle.std.specs.List.{AllByRecursion}
 use Rattle.rt_ids.specs.declared.limits.TheConstants.{IRQ_NUMBERS}
 use Rattle.rt_devices.specs.Work.{requests, interrupt_asked}
@@ -7,20 +7,21 @@ use Rattle.rt_devices.specs.declared.device.Device.{Device}
 use Rattle.rt_script.specs.Script.{IsScript, pends}
 use Rattle.rt_script.specs.declared.line.Line.{Line}
 use Rattle.rt_script.specs.declared.line.Line.TheVariants.{Steps, Ticks, Pends, Device as DeviceLine}
-use Rattle.rt_words.specs.Account.{raised_count, merged_count}
-use Rattle.rt_words.specs.Lines.{Row, Core, count, numbers}
+use Rattle.rt_words.specs.Account.{raised_count, merged_count, latched_count}
+use Rattle.rt_words.specs.Lines.{Row, Line as Caller, count, numbers}
+use Rattle.rt_words.specs.Row.{bit_in_row}
+use Rattle.rt_words.specs.declared.row.TheConstants.{CORE_WORDS}
 use Rattle.rt_words.specs.Object.{IsPending}
 use Rattle.rt_words.specs.declared.view.Part.{Part}
 use Rattle.rt_live.specs.Devices.{devices}
 use Rattle.rt_live.specs.declared.account.AccountRow.{AccountRow}
-use Rattle.rt_live.specs.declared.turns.TheConstants.{WORDS}
 
--- what contracts see of it: the lines of the script, which words they are, the core's line, the devices whose lines are
--- not gathered, and the rows of the account
+-- what contracts see of it: the lines of the script, which words they are, the core's line, which is the first, the
+-- devices whose lines are not gathered, and the rows of the account
 pub record Prepared : Type 0 where
   pub script : List Line
   pub words : Row
-  pub line : Core
+  pub line : Caller
   pub devices : List Device
   pub rows : List AccountRow
 
@@ -28,11 +29,17 @@ pub record Prepared : Type 0 where
 abbrev pub irqs_of : List AccountRow → List ℕ
 irqs_of rows = map (λ row. row.irq) rows
 
--- a device's line is of these words and has made no call, no answer is counted, and the device is to make its pends of
--- the script
-pub record IsWaiting (row : Row) (script : List Line) (device : Device) : Type 0 where
+-- a device's line is of these words, has the device's number, and has to do with core 0 alone
+pub record IsBeside (row : Row) (device : Device) : Type 0 where
   pub words : device.line.words ≡ row
   pub number : device.line.number ≡ device.number
+  pub other : device.number ≢ 255
+  pub here : device.line.here ≡ 0
+  pub there : device.line.there ≡ 0
+
+-- a device's line is so and has made no call, no answer is counted, and the device is to make its pends of the script
+pub record IsWaiting (row : Row) (script : List Line) (device : Device) : Type 0 where
+  pub beside : IsBeside row device
   pub unused : device.line.calls ≡ []
   pub none_raised : device.raised ≡ 0
   pub none_merged : device.merged ≡ 0
@@ -50,20 +57,30 @@ PendsOneOf irqs (DeviceLine d irq n) = Contains irqs irq
 PendsOneOf irqs (Steps n) = Unit {0}
 PendsOneOf irqs (Ticks n) = Unit {0}
 
--- a row counts how often its interrupt, of which there is one, was raised and merged by these lines, and no latch
-pub record IsCounted (parts : List Part) (row : AccountRow) : Type 0 where
+-- the interrupt that a line has a device pend, if it has, is one of those that there are
+abbrev pub IsNumbered : Line → Type 0
+IsNumbered (DeviceLine d irq n) = irq < IRQ_NUMBERS
+IsNumbered (Steps n) = Unit {0}
+IsNumbered (Ticks n) = Unit {0}
+IsNumbered (Pends irq n) = Unit {0}
+
+-- a row of this core counts how often its interrupt, of which there is one, was raised, merged and latched by these
+-- lines
+pub record IsCounted (core : ℕ) (parts : List Part) (row : AccountRow) : Type 0 where
   pub in_range : row.irq < IRQ_NUMBERS
-  pub raised : row.raised ≡ sum_by (λ p. raised_count row.irq p.calls) parts
-  pub merged : row.merged ≡ sum_by (λ p. merged_count row.irq p.calls) parts
-  pub latched : row.latched ≡ 0
-  pub left : row.left ≡ 0
+  pub raised : row.raised ≡ sum_by (λ p. raised_count (bit_in_row core row.irq) p.calls) parts
+  pub merged : row.merged ≡ sum_by (λ p. merged_count (bit_in_row core row.irq) p.calls) parts
+  pub latched : row.latched ≡ sum_by (λ p. latched_count (bit_in_row core row.irq) p.calls) parts
 
 -- Each device of the script is either waiting, or gathered with its pends; no other line was made. The interrupts that
 -- may be pended are those of the rows, among them all that the script pends. The rows count what was gathered.
 pub record IsReady (ready : Prepared) : Type 0 where
   pub scripted : IsScript ready.script
   pub core_words : ready.line.words ≡ ready.words
-  pub many : count ready.words ≡ WORDS
+  pub number : ready.line.number ≡ 255
+  pub here : ready.line.here ≡ 0
+  pub there : ready.line.there ≡ 0
+  pub many : count ready.words ≡ CORE_WORDS
   pub waiting : AllByRecursion (IsWaiting ready.words ready.script) ready.devices
   pub gathered : AllByRecursion (HasMade ready.script) ready.line.gathered
   pub each : map (λ device. device.number) ready.devices ++ numbers ready.line.gathered ≡ devices ready.script
@@ -71,4 +88,4 @@ pub record IsReady (ready : Prepared) : Type 0 where
   pub behind : ready.line.since ≤ length ready.line.calls
   pub may : (irq : ℕ) → IsPending ready.words.may irq ↔ Contains (irqs_of ready.rows) irq
   pub rows : AllByRecursion (PendsOneOf (irqs_of ready.rows)) ready.script
-  pub counted : AllByRecursion (IsCounted ready.line.gathered) ready.rows
+  pub counted : AllByRecursion (IsCounted 0 ready.line.gathered) ready.rows

@@ -1,15 +1,17 @@
 -- The text that `live` writes of a run: the trace of the image, from reset, under the interleaving of the script's own
 -- events with what the looks found, with its total of core steps. It is this project's own.
-use Rattle.std.specs.Prelude.{ℕ, List, Some}
+use Rattle.std.specs.Prelude.{ℕ, ◌⊎◌, List, ◌++◌, Option, Some}
 use Rattle.rt_ids.specs.Event.{steps}
 use Rattle.rt_code.specs.Image.{Image}
 use Rattle.rt_core.specs.Machine.{Machine}
 use Rattle.rt_core.specs.Trace.{trace}
-use Rattle.rt_outside.specs.Bytes.{TookAtLeast, TookPrefix}
+use Rattle.rt_outside.specs.Bytes.{Took, TookAtLeast, TookPrefix}
 use Rattle.rt_run.specs.Sending.{lines_of}
 use Rattle.rt_script.specs.declared.line.Line.{Line}
-use Rattle.rt_trace.specs.Text.{trace_text}
-use Rattle.rt_live.specs.Interleaving.{turns, interleaving}
+use Rattle.rt_trace.specs.Text.{trace_text, total_text}
+use Rattle.rt_words.specs.Lines.{Line as Caller}
+use Rattle.rt_live.specs.Going.{Stops, Ends}
+use Rattle.rt_live.specs.Interleaving.{Turn, turns, interleaving}
 
 -- the text of the trace of an image, under the lines of a script, where the looks found these words
 abbrev pub live_text : Image → List Line → List (List ℕ) → List ℕ
@@ -24,3 +26,20 @@ abbrev pub TookToTotal : Machine → List Line → List (List ℕ) → List ℕ 
 TookToTotal m script found before after =
     TookAtLeast before after (lines_of m (interleaving (turns script) found))
     × TookPrefix before after (live_text m.image script found)
+
+-- the lines of turns whose looks found these words, and the line of this total
+abbrev pub lines_and_total : List Turn → Machine → ℕ → List (List ℕ) → List ℕ
+lines_and_total ts m total found = lines_of m (interleaving ts found) ++ total_text total
+
+-- All of these turns were done, and their lines and that of the total of core steps were written.
+abbrev pub EndsWhole : (ℕ → Option ℕ) → List Turn → Caller → Caller → Machine → Machine → List ℕ → List ℕ → Type 0
+EndsWhole route ts line line' old new before after =
+    Ends route ts line line' old new (λ found. Took before after (lines_and_total ts old new.steps found))
+
+-- A fault of the sink came in these turns or, when all were done, in the line of the total.
+abbrev pub EndsEarly : (ℕ → Option ℕ) → List Turn → Caller → Caller → Machine → Machine → List ℕ → List ℕ → Type 0
+EndsEarly route ts line line' old new before after =
+    Stops route ts line line' old new before after
+    ⊎ Ends route ts line line' old new (λ found.
+    TookAtLeast before after (lines_of old (interleaving ts found))
+    × TookPrefix before after (lines_and_total ts old new.steps found))

@@ -1,20 +1,27 @@
-// The core's own lines and the devices, side by side.
-ghost use Rattle.std.specs.Prelude.{◌≡◌, ◌+◌, ◌-◌, ◌*◌, ◌^◌, ◌<◌, length, All, OnOk, OnErr};
+// The core's own lines and the devices, side by side, and the end of the run.
+ghost use Rattle.std.specs.Prelude.{◌≡◌, ◌+◌, ◌*◌, All, OnOk, OnErr};
 ghost use Rattle.std.specs.Thread.{IsSync};
 ghost use Rattle.rt_outside.specs.Faults.{HasCause};
 ghost use Rattle.rt_script.specs.Script.{count, HasNames};
+ghost use Rattle.rt_live.specs.Able.{CanGo};
 ghost use Rattle.rt_live.specs.Going.{Goes, Stops, IsSameLine};
-ghost use Rattle.rt_live.specs.Able.{IsAble};
-ghost use Rattle.rt_live.specs.Inside.Own.{own_turns};
+ghost use Rattle.rt_live.specs.Interleaving.{last_turns};
+ghost use Rattle.rt_live.specs.Requests.{no_route};
+ghost use Rattle.rt_live.specs.Shares.{own_turns};
+ghost use Rattle.rt_live.specs.Written.{EndsWhole, EndsEarly};
 ghost use Rattle.rt_live.specs.Inside.Working.{CanWork, AllWork};
+ghost use Rattle.rt_live.specs.declared.share.Share.TheVariants.{BesideDevices};
 
-use crate::turns::own_lines;
+use crate::ending::end;
+use crate::routes::{NoRoutes, Role};
+use crate::share::Share;
+use crate::turns::{Between, own_lines};
 use rt_core::Core;
 use rt_devices::{Device, Gate};
 use rt_ids::limits::DEVICES;
 use rt_outside::{Failed, Sink};
-use rt_script::Line;
-use rt_words::{CoreLine, Words};
+use rt_script::Line as Asked;
+use rt_words::{Line, Words};
 use std::marker::Sync;
 use std::thread::{Threads, for_each_mut, join_mut};
 
@@ -36,28 +43,77 @@ fn work_all<R: Threads + Sync, G: Gate + Sync>(
     );
 }
 
+/// The part of a core that runs alone, beside devices.
+const ALONE: Role<NoRoutes> = Role {
+    share: Share::BesideDevices,
+    routes: NoRoutes,
+};
+
+/// The core does the script's own lines.
+fn go_alone<K: Sink, G: Gate>(
+    core: &mut Core,
+    line: &mut Line,
+    words: &Words,
+    script: &[Asked],
+    out: &mut K,
+    gate: &G,
+) -> Result<(), Failed>
+    requires can { CanGo (count script.now) no_route core.old line.old words.now }
+    requires declared { HasNames core.old.image.names script.now }
+    ensures ok { OnOk result (Goes no_route (own_turns BesideDevices script.now) line.old line.new core.old core.new
+        (K.taken out.old) (K.taken out.new)) }
+    ensures err { OnErr result (Stops no_route (own_turns BesideDevices script.now) line.old line.new
+        core.old core.new (K.taken out.old) (K.taken out.new)) }
+    ensures same { IsSameLine line.old line.new }
+    ensures cause { HasCause (K.faults out.old) (K.faults out.new) result }
+    ensures quiet { OnOk result (K.faults out.new ≡ K.faults out.old) }
+{
+    let mut between = Between::new();
+    own_lines(core, line, words, &ALONE, script, out, &mut between, gate)
+}
+
+/// The core looks once more, makes as many core steps again as there were, each behind a look, and the line of the
+/// total goes out.
+pub(crate) fn end_alone<K: Sink, G: Gate>(
+    core: &mut Core,
+    line: &mut Line,
+    words: &Words,
+    out: &mut K,
+    gate: &G,
+) -> Result<(), Failed>
+    requires can { CanGo (core.old.steps + 1) no_route core.old line.old words.now }
+    ensures ok { OnOk result (EndsWhole no_route (last_turns core.old.steps) line.old line.new core.old core.new
+        (K.taken out.old) (K.taken out.new)) }
+    ensures err { OnErr result (EndsEarly no_route (last_turns core.old.steps) line.old line.new core.old core.new
+        (K.taken out.old) (K.taken out.new)) }
+    ensures same { IsSameLine line.old line.new }
+    ensures cause { HasCause (K.faults out.old) (K.faults out.new) result }
+    ensures quiet { OnOk result (K.faults out.new ≡ K.faults out.old) }
+{
+    let steps = core.steps();
+    let mut between = Between::new();
+    end(core, line, words, &ALONE, steps, out, &mut between, gate)
+}
+
 /// The core does the script's own lines while the devices make their pends. It ends when all of them have ended.
 pub(crate) fn beside<R: Threads + Sync, K: Sink, G: Gate + Sync>(
     rt: &R,
     core: &mut Core,
-    line: &mut CoreLine,
+    line: &mut Line,
     words: &Words,
-    script: &[Line],
+    script: &[Asked],
     out: &mut K,
     gate: &G,
     devices: &mut [Device],
 ) -> Result<(), Failed>
-    requires able { IsAble core.old line.old words.now }
-    requires few { core.old.steps + count script.now < 2 ^ 31 }
-    requires early { core.old.core.time + count script.now < 2 ^ 31 }
-    requires room { length line.old.calls + 16 * count script.now < 2 ^ 32 - 1 }
+    requires can { CanGo (count script.now) no_route core.old line.old words.now }
     requires declared { HasNames core.old.image.names script.now }
     requires work { All (CanWork words.now) devices.old }
     ensures worked { AllWork devices.old devices.new }
-    ensures ok { OnOk result (Goes (own_turns script.now) line.old.calls line.new.calls core.old core.new
+    ensures ok { OnOk result (Goes no_route (own_turns BesideDevices script.now) line.old line.new core.old core.new
         (K.taken out.old) (K.taken out.new)) }
-    ensures err { OnErr result (Stops (own_turns script.now) line.old.calls line.new.calls core.old core.new
-        (K.taken out.old) (K.taken out.new)) }
+    ensures err { OnErr result (Stops no_route (own_turns BesideDevices script.now) line.old line.new
+        core.old core.new (K.taken out.old) (K.taken out.new)) }
     ensures same { IsSameLine line.old line.new }
     ensures cause { HasCause (K.faults out.old) (K.faults out.new) result }
     ensures quiet { OnOk result (K.faults out.new ≡ K.faults out.old) }
@@ -69,19 +125,16 @@ pub(crate) fn beside<R: Threads + Sync, K: Sink, G: Gate + Sync>(
             ensures { AllWork devices.entry.now devices.exit.now }
         { work_all(rt, words, gate, devices) },
         &mut || -> Result<(), Failed>
-            requires able { IsAble core.now line.now words.now }
-            requires few { core.now.steps + count script.now < 2 ^ 31 }
-            requires early { core.now.core.time + count script.now < 2 ^ 31 }
-            requires room { length line.now.calls + 16 * count script.now < 2 ^ 32 - 1 }
+            requires can { CanGo (count script.now) no_route core.now line.now words.now }
             requires declared { HasNames core.now.image.names script.now }
-            ensures ok { OnOk result (Goes (own_turns script.entry.now) line.entry.now.calls line.exit.now.calls
-                core.entry.now core.exit.now (K.taken out.entry.now) (K.taken out.exit.now)) }
-            ensures err { OnErr result (Stops (own_turns script.entry.now) line.entry.now.calls line.exit.now.calls
-                core.entry.now core.exit.now (K.taken out.entry.now) (K.taken out.exit.now)) }
+            ensures ok { OnOk result (Goes no_route (own_turns BesideDevices script.entry.now) line.entry.now
+                line.exit.now core.entry.now core.exit.now (K.taken out.entry.now) (K.taken out.exit.now)) }
+            ensures err { OnErr result (Stops no_route (own_turns BesideDevices script.entry.now) line.entry.now
+                line.exit.now core.entry.now core.exit.now (K.taken out.entry.now) (K.taken out.exit.now)) }
             ensures same { IsSameLine line.entry.now line.exit.now }
             ensures cause { HasCause (K.faults out.entry.now) (K.faults out.exit.now) result }
             ensures quiet { OnOk result (K.faults out.exit.now ≡ K.faults out.entry.now) }
-        { own_lines(core, line, words, script, out, gate) },
+        { go_alone(core, line, words, script, out, gate) },
     );
     done
 }

@@ -1,52 +1,67 @@
 // The end of a run: the last look, the added steps, and the total.
-ghost use Rattle.std.specs.Prelude.{◌≡◌, ◌+◌, ◌-◌, ◌*◌, ◌^◌, ◌<◌, ◌∷◌, ◌++◌, ◌⊎◌, length, replicate, OnOk, OnErr};
-ghost use Rattle.rt_outside.specs.Bytes.{Took, TookAtLeast, TookPrefix};
+ghost use Rattle.std.specs.Prelude.{◌≡◌, ◌+◌, ◌-◌, ◌*◌, ◌^◌, ◌<◌, [], ◌++◌, OnOk, OnErr};
 ghost use Rattle.rt_outside.specs.Faults.{HasCause};
-ghost use Rattle.rt_ids.specs.Event.{Step};
-ghost use Rattle.rt_run.specs.Sending.{lines_of};
-ghost use Rattle.rt_trace.specs.Text.{total_text};
-ghost use Rattle.rt_live.specs.Going.{Stops, Ends, IsSameLine};
-ghost use Rattle.rt_live.specs.Interleaving.{Happens, Looks, interleaving};
-ghost use Rattle.rt_live.specs.Able.{IsAble};
+ghost use Rattle.rt_script.specs.Script.{count};
+ghost use Rattle.rt_live.specs.Able.{CanGo};
+ghost use Rattle.rt_live.specs.Interleaving.{last_turns};
+ghost use Rattle.rt_live.specs.Shares.{HasOwnNames, own_turns};
+ghost use Rattle.rt_live.specs.Written.{EndsWhole, EndsEarly};
 
-use crate::turns::last_turns;
+use crate::routes::{Role, Routes};
+use crate::turns::{Between, last_turns, own_lines};
 use rt_core::Core;
 use rt_devices::Gate;
 use rt_outside::{Failed, Sink};
 use rt_run::put_end;
-use rt_trace::LineBuffer;
-use rt_words::{CoreLine, Words};
+use rt_script::Line as Asked;
+use rt_words::{Line, Words};
 
-/// A look alone, as many core steps again as there were, each behind a look, and the line of the total.
-pub(crate) fn end<K: Sink, G: Gate>(
+/// A look alone, so many core steps, each behind a look, and the line of the total.
+pub(crate) fn end<K: Sink, G: Gate, T: Routes>(
     core: &mut Core,
-    line: &mut CoreLine,
+    line: &mut Line,
     words: &Words,
+    role: &Role<T>,
+    steps: u64,
     out: &mut K,
+    between: &mut Between,
     gate: &G,
 ) -> Result<(), Failed>
-    requires able { IsAble core.old line.old words.now }
-    requires few { 2 * core.old.steps < 2 ^ 31 }
-    requires room { length line.old.calls + 16 * (core.old.steps + 1) < 2 ^ 32 - 1 }
-    ensures ok { OnOk result (Ends (Looks ∷ replicate core.old.steps (Happens Step)) line.old.calls line.new.calls
-        core.old core.new (λ found. Took (K.taken out.old) (K.taken out.new)
-        (lines_of core.old (interleaving (Looks ∷ replicate core.old.steps (Happens Step)) found)
-        ++ total_text core.new.steps))) }
-    ensures err { OnErr result
-        (Stops (Looks ∷ replicate core.old.steps (Happens Step)) line.old.calls line.new.calls core.old core.new
-        (K.taken out.old) (K.taken out.new)
-        ⊎ Ends (Looks ∷ replicate core.old.steps (Happens Step)) line.old.calls line.new.calls core.old core.new
-        (λ found. TookAtLeast (K.taken out.old) (K.taken out.new)
-        (lines_of core.old (interleaving (Looks ∷ replicate core.old.steps (Happens Step)) found))
-        × TookPrefix (K.taken out.old) (K.taken out.new)
-        (lines_of core.old (interleaving (Looks ∷ replicate core.old.steps (Happens Step)) found)
-        ++ total_text core.new.steps))) }
-    ensures same { IsSameLine line.old line.new }
+    requires can { CanGo (steps + 1) (T.leads role.now.routes) core.old line.old words.now }
+    requires empty { between.old.held ≡ [] }
+    ensures ok { OnOk result (EndsWhole (T.leads role.now.routes) (last_turns steps) line.old line.new core.old core.new
+        (K.taken out.old) (K.taken out.new)) }
+    ensures err { OnErr result (EndsEarly (T.leads role.now.routes) (last_turns steps) line.old line.new
+        core.old core.new (K.taken out.old) (K.taken out.new)) }
     ensures cause { HasCause (K.faults out.old) (K.faults out.new) result }
     ensures quiet { OnOk result (K.faults out.new ≡ K.faults out.old) }
 {
-    let steps = core.steps();
-    last_turns(core, line, words, steps, out, gate)?;
-    let mut held = LineBuffer::new();
-    put_end(out, &mut held, core.steps())
+    last_turns(core, line, words, role, steps, out, between, gate)?;
+    put_end(out, &mut between.held, core.steps())
+}
+
+/// The whole run of a core that has no devices beside it: the events of a script that are its own, a look behind the
+/// last of them, and the line of the total.
+pub fn run_turns<K: Sink, G: Gate, T: Routes>(
+    core: &mut Core,
+    line: &mut Line,
+    words: &Words,
+    role: &Role<T>,
+    script: &[Asked],
+    out: &mut K,
+    gate: &G,
+) -> Result<(), Failed>
+    requires can { CanGo (count script.now + 1) (T.leads role.now.routes) core.old line.old words.now }
+    requires declared { HasOwnNames role.now.share core.old.image.names script.now }
+    ensures ok { OnOk result (EndsWhole (T.leads role.now.routes) (own_turns role.now.share script.now ++ last_turns 0)
+        line.old line.new core.old core.new (K.taken out.old) (K.taken out.new)) }
+    ensures err { OnErr result (EndsEarly (T.leads role.now.routes)
+        (own_turns role.now.share script.now ++ last_turns 0) line.old line.new core.old core.new
+        (K.taken out.old) (K.taken out.new)) }
+    ensures cause { HasCause (K.faults out.old) (K.faults out.new) result }
+    ensures quiet { OnOk result (K.faults out.new ≡ K.faults out.old) }
+{
+    let mut between = Between::new();
+    own_lines(core, line, words, role, script, out, &mut between, gate)?;
+    end(core, line, words, role, 0, out, &mut between, gate)
 }

@@ -9,10 +9,17 @@ mod laws;
 pub mod left;
 pub mod making;
 pub mod ready;
+mod routes;
+mod row_bits;
 pub mod running;
-pub mod turns;
+mod share;
+mod showing;
+mod turns;
 
 pub use account::{Account, AccountRow};
+pub use ending::run_turns;
 pub use laws::constants_are_as_documented;
 pub use ready::Ready;
+pub use routes::{NoRoutes, Role, Routes};
 pub use running::{LiveFail, live, run_beside};
+pub use share::Share;

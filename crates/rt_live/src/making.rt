@@ -1,8 +1,10 @@
 // What a run is made of: the rows of the account, the interrupts that may be pended, and the devices of the script.
-ghost use Rattle.std.specs.Prelude.{◌≡◌, ◌≢◌, ℕ, ◌<◌, ◌↔◌, ◌∷◌, length, map, flat_map, Contains, IfOk, OnOk};
+ghost use Rattle.std.specs.Prelude.{◌≡◌, ◌≢◌, ℕ, List, ◌<◌, ◌↔◌, ◌∷◌, ◌++◌, length, map, flat_map, Contains};
+ghost use Rattle.std.specs.Prelude.{IfOk, OnOk};
 ghost use Rattle.std.specs.List.{AllByRecursion, list_any};
 ghost use Rattle.rt_ids.specs.declared.limits.TheConstants.{IRQ_NUMBERS};
-ghost use Rattle.rt_words.specs.Lines.{IsUnused};
+ghost use Rattle.rt_words.specs.Lines.{new_line};
+ghost use Rattle.rt_words.specs.Row.{bit_in_row};
 ghost use Rattle.rt_words.specs.Object.{IsPending};
 ghost use Rattle.rt_live.specs.Devices.{devices, is_of_device};
 ghost use Rattle.rt_live.specs.Account.{declared_irqs, empty_row};
@@ -11,11 +13,12 @@ ghost use Rattle.rt_live.specs.Inside.Making.{MayPend, HasMadeLines};
 ghost use Rattle.rt_live.specs.Inside.Working.{entries_of};
 
 use crate::account::AccountRow;
+use crate::row_bits;
 use rt_devices::Device;
 use rt_ids::limits::DEVICES;
 use rt_ids::{Irq, Names, NoMemory};
 use rt_script::Line;
-use rt_words::{CoreLine, Words};
+use rt_words::{Line as Caller, Words};
 use std::alloc::Global;
 
 /// A row for each declared interrupt, in order, with nothing counted.
@@ -39,17 +42,17 @@ pub fn rows_of(alloc: Global, names: &Names) -> Result<Vec<AccountRow>, NoMemory
     Ok(rows)
 }
 
-/// The words with the bits of the rows' interrupts.
-pub fn bits_of(rows: &[AccountRow]) -> [u32; 16]
-    ensures may { (irq : ℕ) → IsPending result irq ↔ Contains (irqs_of rows.now) irq }
-    ensures in_range { (irq : ℕ) → IsPending result irq → irq < IRQ_NUMBERS }
+/// Adds the bits of a core's interrupts, of which these are the rows.
+pub fn add_bits(may: &mut [u32; 32], core: u8, rows: &[AccountRow])
+    requires core { core < 2 }
+    ensures may { (before : List ℕ) → ((bit : ℕ) → IsPending may.old bit ↔ Contains before bit)
+        → (bit : ℕ) → IsPending may.new bit ↔ Contains (before ++ map (bit_in_row core) (irqs_of rows.now)) bit }
+    ensures in_range { AllByRecursion (λ irq. irq < IRQ_NUMBERS) (irqs_of rows.now) }
 {
-    let mut may = [0u32; 16];
     for row in rows {
-        let irq = row.irq.get();
-        may[usize::from(irq / 32)] |= 1 << (irq % 32);
+        let bit = row_bits::bit_in_row(core, row.irq);
+        may[bit / 32] |= 1 << (bit % 32);
     }
-    may
 }
 
 /// Whether a line is one of the device of a number.
@@ -78,10 +81,11 @@ fn device_script(alloc: Global, lines: &[Line], number: u8) -> Result<Vec<(Irq, 
 fn device_of(
     alloc: Global,
     words: &Words,
-    line: &mut CoreLine,
+    line: &mut Caller,
     lines: &[Line],
     number: u8,
 ) -> Result<Device, NoMemory>
+    requires first { line.old.number ≡ 255 }
     requires words { line.old.words ≡ words.now }
     requires other { number ≢ 255 }
     requires new { ¬ Contains line.old.made number }
@@ -93,7 +97,7 @@ fn device_of(
     }) }
 {
     let script = device_script(alloc, lines, number)?;
-    let own = line.split(words, number);
+    let own = line.split(words, number, 0, 0);
     Ok(Device {
         line: own,
         number,
@@ -107,10 +111,10 @@ fn device_of(
 pub(crate) fn devices_of(
     alloc: Global,
     words: &Words,
-    line: &mut CoreLine,
+    line: &mut Caller,
     lines: &[Line],
 ) -> Result<Vec<Device>, NoMemory>
-    requires unused { IsUnused line.old words.now }
+    requires unused { line.old ≡ new_line words.now 255 0 0 }
     requires may { AllByRecursion (MayPend words.now) lines.now }
     ensures devices { IfOk result (λ made. map (λ device. device.number) made.items ≡ devices lines.now) }
     ensures waiting { IfOk result (λ made. AllByRecursion (IsWaiting words.now lines.now) made.items) }

@@ -1,4 +1,5 @@
 ghost use Rattle.std.specs.Prelude.{◌≡◌, ◌≤◌, ◌*◌, ◌⊎◌, [], map, IfOk, OnOk, OnErr};
+ghost use Rattle.std.specs.List.{AllByRecursion};
 ghost use Rattle.rt_code.specs.Lines.{HasLines};
 ghost use Rattle.rt_core.specs.Machine.{IsFresh};
 ghost use Rattle.rt_outside.specs.Bytes.{Took};
@@ -9,24 +10,22 @@ ghost use Rattle.rt_live.specs.Closed.{Closes};
 ghost use Rattle.rt_live.specs.Devices.{devices};
 ghost use Rattle.rt_live.specs.Account.{declared_irqs};
 ghost use Rattle.rt_live.specs.Latched.{Halts, Completes};
-ghost use Rattle.rt_live.specs.Ready.{IsReady, irqs_of};
+ghost use Rattle.rt_live.specs.Ready.{IsNumbered, IsReady, irqs_of};
 ghost use Rattle.rt_live.specs.Interleaving.{turns};
 ghost use Rattle.rt_live.specs.Written.{live_text, TookToTotal};
-ghost use Rattle.rt_live.specs.declared.turns.TheConstants.{WORDS};
+ghost use Rattle.rt_words.specs.declared.row.TheConstants.{CORE_WORDS};
 
 use crate::account::{Account, AccountRow};
-use crate::beside::beside;
-use crate::ending::end;
+use crate::beside::{beside, end_alone};
 use crate::gathering::gather_all;
-use crate::left::settle;
-use crate::making::{bits_of, devices_of, rows_of};
-use crate::turns::WORDS;
+use crate::left::enter_left;
+use crate::making::{add_bits, devices_of, rows_of};
 use rt_core::Core;
 use rt_devices::{Device, Gate};
 use rt_ids::NoMemory;
 use rt_outside::{Failed, Sink};
 use rt_script::Script;
-use rt_words::{CoreLine, Words};
+use rt_words::{CORE_WORDS, Line, Words};
 use std::alloc::Global;
 use std::marker::{Model, Send, Sync};
 use std::thread::Threads;
@@ -40,7 +39,7 @@ pub struct Ready<'a> {
     /// The pending words, 16 of them, with the bits of the rows' interrupts.
     pub words: Words,
     /// The core's line of the words.
-    pub line: CoreLine,
+    pub line: Line,
     /// The devices whose lines have not been gathered, by rising number.
     pub devices: Vec<Device>,
     /// The declared interrupts in order, with the counts of the gathered lines.
@@ -91,9 +90,12 @@ impl<'a> Ready<'a> {
         ensures rows { IfOk result (λ ready. irqs_of ready.rows ≡ declared_irqs core.now.image.names) }
         ensures devices { IfOk result (λ ready. map (λ device. device.number) ready.devices ≡ devices script.now) }
         ensures unused { IfOk result (λ ready. ready.line.calls ≡ []) }
+        ensures numbered { IfOk result (λ ready. AllByRecursion IsNumbered ready.script) }
     {
         let rows = rows_of(alloc, &core.image().names)?;
-        let (words, mut line) = Words::make(alloc, WORDS, bits_of(&rows))?;
+        let mut may = [0; 32];
+        add_bits(&mut may, 0, &rows);
+        let (words, mut line) = Words::make(alloc, CORE_WORDS, may, 0)?;
         let devices = devices_of(alloc, &words, &mut line, script.lines())?;
         Ok(Ready {
             script,
@@ -134,7 +136,7 @@ impl<'a> Ready<'a> {
         // Either way each device has made its pends, and its line is gathered. That came before the look alone: the
         // core's line had no more calls than the latches of the looks of the core's own lines.
         ensures gathered { self.new.devices ≡ [] }
-        ensures early { self.new.line.since ≤ WORDS * steps (core_events self.old.script) }
+        ensures early { self.new.line.since ≤ CORE_WORDS * steps (core_events self.old.script) }
         ensures script { self.new.script ≡ self.old.script }
         ensures rows { irqs_of self.new.rows ≡ irqs_of self.old.rows }
     {
@@ -156,7 +158,7 @@ impl<'a> Ready<'a> {
             &mut self.rows,
         );
         done?;
-        end(core, &mut self.line, &self.words, out, gate)
+        end_alone(core, &mut self.line, &self.words, out, gate)
     }
 
     /// Gathers the lines of the devices that have not run, and closes the words. The account counts the calls of all
@@ -177,7 +179,7 @@ impl<'a> Ready<'a> {
         } = self;
         gather_all(&mut line, &words, &mut devices, &mut rows);
         let left = words.close(line);
-        settle(&mut rows, &left);
+        enter_left(&mut rows, 0, &left, 0, 0);
         Account { rows }
     }
 }

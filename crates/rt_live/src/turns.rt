@@ -1,32 +1,56 @@
-// Turns of `live` on the core's side: looks at the words, and the events of the script's own lines.
+// Turns of a core of a row: looks at its words, the events of a script that are its own, and what its posts lead to.
 ghost use Rattle.std.specs.Prelude.{◌≡◌, ◌+◌, ◌-◌, ◌*◌, ◌^◌, ◌<◌, ◌==◌, [], ◌∷◌, length, map, replicate, OnOk, OnErr};
-ghost use Rattle.std.specs.Prelude.{if◌then◌else◌};
+ghost use Rattle.std.specs.Prelude.{true, if◌then◌else◌};
 ghost use Rattle.std.specs.Int.{bit_at};
 ghost use Rattle.rt_ids.specs.Arrivals.{arrivals};
 ghost use Rattle.rt_ids.specs.Event.{Arrive, Step};
+ghost use Rattle.rt_lines.specs.Operand.{IsDeclared};
 ghost use Rattle.rt_outside.specs.Faults.{HasCause};
 ghost use Rattle.rt_run.specs.Sending.{Sends, Breaks};
 ghost use Rattle.rt_run.specs.Writable.{IsWritable};
-ghost use Rattle.rt_script.specs.Script.{count, count_of, HasName, HasNames};
-ghost use Rattle.rt_live.specs.Going.{Goes, Stops, IsSameLine};
+ghost use Rattle.rt_script.specs.Script.{count, count_of};
+ghost use Rattle.rt_live.specs.Able.{IsAble, CanGo, BitsMayArrive, MayArrive, MayRoute};
+ghost use Rattle.rt_live.specs.Going.{Goes, Stops};
 ghost use Rattle.rt_live.specs.Interleaving.{Happens, Looks, repeated_turns};
-ghost use Rattle.rt_live.specs.Able.{IsAble, BitsMayArrive, MayArrive};
-ghost use Rattle.rt_live.specs.Inside.Own.{own_turn, own_turns};
+ghost use Rattle.rt_live.specs.Shares.{HasOwnName, HasOwnNames, own_turn, own_turns, request_events};
+ghost use Rattle.rt_live.specs.Requests as spec;
+ghost use Rattle.rt_live.specs.Inside.Looking.{Finds, FindsPart, Posts};
 
+use crate::routes::{Role, Routes};
+use crate::share::Share;
+use crate::showing::show_step;
 use rt_core::Core;
 use rt_devices::Gate;
 use rt_ids::Irq;
 use rt_outside::{Failed, Sink};
-use rt_run::{send_pend, send_step, send_tick};
-use rt_script::Line;
-use rt_trace::LineBuffer;
-use rt_words::{CoreLine, Words};
-
-/// How many pending words there are: 16 words of 32 bits have the bits of all interrupts, 0 to 495.
-pub const WORDS: u8 = 16;
+use rt_run::{send_pend, send_tick};
+use rt_script::Line as Asked;
+use rt_trace::{LineBuffer, What};
+use rt_words::{CORE_WORDS, Line, Words};
 
 /// Bits of a word.
 const WORD_BITS: u16 = 32;
+
+/// What goes from turn to turn: a buffer for lines, which is empty between them, and how often a post was forwarded.
+#[derive(Drop)]
+pub(crate) struct Between {
+    /// The lines of an event before they go out.
+    pub held: LineBuffer,
+    /// How often a post was forwarded; stands still at its type's end.
+    pub forwarded: u64,
+}
+
+impl Between {
+    /// Before the first turn.
+    pub(crate) fn new() -> Between
+        ensures { result.held ≡ [] }
+    {
+        Between {
+            held: LineBuffer::new(),
+            forwarded: 0,
+        }
+    }
+}
 
 /// The interrupt of a bit of a word arrives, where the bit stands.
 fn arrive_bit<K: Sink>(
@@ -47,7 +71,6 @@ fn arrive_bit<K: Sink>(
     ensures none_held { OnOk result (held.new ≡ []) }
     ensures err { OnErr result (Breaks (map Arrive (if bit_at found bit == 1 then (32 * word + bit) ∷ [] else []))
         core.old core.new (K.taken out.old) (K.taken out.new)) }
-    ensures none_left { OnErr result (held.new ≡ []) }
     ensures cause { HasCause (K.faults out.old) (K.faults out.new) result }
     ensures quiet { OnOk result (K.faults out.new ≡ K.faults out.old) }
 {
@@ -77,7 +100,6 @@ fn arrive_word<K: Sink>(
     ensures none_held { OnOk result (held.new ≡ []) }
     ensures err { OnErr result
         (Breaks (map Arrive (arrivals word found)) core.old core.new (K.taken out.old) (K.taken out.new)) }
-    ensures none_left { OnErr result (held.new ≡ []) }
     ensures cause { HasCause (K.faults out.old) (K.faults out.new) result }
     ensures quiet { OnOk result (K.faults out.new ≡ K.faults out.old) }
 {
@@ -90,10 +112,10 @@ fn arrive_word<K: Sink>(
     Ok(())
 }
 
-/// One look: latches every word from word 0 up, and what each holds arrives.
-pub fn look<K: Sink>(
+/// One look: latches every word of the line's own core, from word 0 up, and what each holds arrives.
+fn look<K: Sink>(
     core: &mut Core,
-    line: &mut CoreLine,
+    line: &mut Line,
     words: &Words,
     out: &mut K,
     held: &mut LineBuffer,
@@ -102,169 +124,230 @@ pub fn look<K: Sink>(
     requires few { core.old.steps < 2 ^ 31 }
     requires room { length line.old.calls + 16 < 2 ^ 32 - 1 }
     requires empty { held.old ≡ [] }
-    ensures ok { OnOk result (Goes (Looks ∷ []) line.old.calls line.new.calls core.old core.new
+    ensures ok { OnOk result (Finds CORE_WORDS line.old line.new core.old core.new
         (K.taken out.old) (K.taken out.new)) }
     ensures none_held { OnOk result (held.new ≡ []) }
-    ensures err { OnErr result (Stops (Looks ∷ []) line.old.calls line.new.calls core.old core.new
-        (K.taken out.old) (K.taken out.new)) }
-    ensures none_left { OnErr result (held.new ≡ []) }
-    ensures same { IsSameLine line.old line.new }
+    ensures err { OnErr result (FindsPart line.old line.new core.old core.new (K.taken out.old) (K.taken out.new)) }
     ensures cause { HasCause (K.faults out.old) (K.faults out.new) result }
     ensures quiet { OnOk result (K.faults out.new ≡ K.faults out.old) }
 {
-    for k in 0..WORDS {
+    for k in 0..CORE_WORDS {
         let found = line.latch(words, k);
         arrive_word(core, k, found, out, held)?;
     }
     Ok(())
 }
 
-/// One core step behind a look. The gate is told of it before the look.
-fn step<K: Sink, G: Gate>(
-    core: &mut Core,
-    line: &mut CoreLine,
-    words: &Words,
-    out: &mut K,
-    held: &mut LineBuffer,
-    gate: &G,
-) -> Result<(), Failed>
-    requires able { IsAble core.old line.old words.now }
-    requires few { core.old.steps < 2 ^ 31 }
-    requires room { length line.old.calls + 16 < 2 ^ 32 - 1 }
-    requires empty { held.old ≡ [] }
-    ensures ok { OnOk result (Goes (Happens Step ∷ []) line.old.calls line.new.calls core.old core.new
-        (K.taken out.old) (K.taken out.new)) }
-    ensures none_held { OnOk result (held.new ≡ []) }
-    ensures err { OnErr result (Stops (Happens Step ∷ []) line.old.calls line.new.calls core.old core.new
-        (K.taken out.old) (K.taken out.new)) }
-    ensures same { IsSameLine line.old line.new }
-    ensures cause { HasCause (K.faults out.old) (K.faults out.new) result }
-    ensures quiet { OnOk result (K.faults out.new ≡ K.faults out.old) }
+/// The interrupt that an item leads to on the other core.
+fn routed<T: Routes>(routes: &T, shown: &Option<What>) -> Option<Irq>
+    ensures { result ≡ spec.routed (T.leads routes.now) shown.now }
 {
-    gate.before_step(core.steps());
-    look(core, line, words, out, held)?;
-    send_step(core, out, held)
-}
-
-/// One of the events that a line of the script counts, and nothing for a device's line.
-fn turn<K: Sink, G: Gate>(
-    core: &mut Core,
-    line: &mut CoreLine,
-    words: &Words,
-    asked: &Line,
-    out: &mut K,
-    held: &mut LineBuffer,
-    gate: &G,
-) -> Result<(), Failed>
-    requires able { IsAble core.old line.old words.now }
-    requires few { core.old.steps < 2 ^ 31 }
-    requires early { core.old.core.time < 2 ^ 31 }
-    requires room { length line.old.calls + 16 < 2 ^ 32 - 1 }
-    requires declared { HasName core.old.image.names asked.now }
-    requires empty { held.old ≡ [] }
-    ensures ok { OnOk result (Goes (own_turn asked.now) line.old.calls line.new.calls core.old core.new
-        (K.taken out.old) (K.taken out.new)) }
-    ensures none_held { OnOk result (held.new ≡ []) }
-    ensures err { OnErr result (Stops (own_turn asked.now) line.old.calls line.new.calls core.old core.new
-        (K.taken out.old) (K.taken out.new)) }
-    ensures same { IsSameLine line.old line.new }
-    ensures cause { HasCause (K.faults out.old) (K.faults out.new) result }
-    ensures quiet { OnOk result (K.faults out.new ≡ K.faults out.old) }
-{
-    match asked {
-        Line::Steps(_) => step(core, line, words, out, held, gate),
-        Line::Ticks(_) => send_tick(core, out, held),
-        Line::Pends(irq, _) => send_pend(core, *irq, out, held),
-        Line::Device(_, _, _) => Ok(()),
+    match shown {
+        Some(What::Post(posted)) => routes.route(*posted),
+        _ => None,
     }
 }
 
-/// The events of a line of the script.
-fn own_line<K: Sink, G: Gate>(
-    core: &mut Core,
-    line: &mut CoreLine,
+/// Pends on the other core what an item leads to there. The gate is told of each such pend of a core by its number,
+/// from 0, before it is made; no clause says so, since a gate's calls leave nothing that a clause could name.
+fn forward<G: Gate, T: Routes>(
+    line: &mut Line,
     words: &Words,
-    asked: &Line,
+    role: &Role<T>,
+    shown: &Option<What>,
+    forwarded: &mut u64,
+    gate: &G,
+)
+    requires words { line.old.words ≡ words.now }
+    requires may { MayRoute (T.leads role.now.routes) line.old.there words.now }
+    requires room { length line.old.calls < 2 ^ 32 - 1 }
+    ensures { Posts (T.leads role.now.routes) shown.now line.old line.new }
+{
+    let Some(irq) = routed(&role.routes, shown) else {
+        return;
+    };
+    gate.before_pend(role.share.number(), *forwarded);
+    line.pend(words, irq);
+    *forwarded = forwarded.saturating_add(1);
+}
+
+/// A gate is told of the steps of one core: in a pair of the first.
+fn tell<G: Gate>(share: Share, step: u64, gate: &G) {
+    if share != Share::Second {
+        gate.before_step(step);
+    }
+}
+
+/// One core step behind a look, and what it leads to on the other core. The gate is told of it before the look.
+fn step<K: Sink, G: Gate, T: Routes>(
+    core: &mut Core,
+    line: &mut Line,
+    words: &Words,
+    role: &Role<T>,
     out: &mut K,
-    held: &mut LineBuffer,
+    between: &mut Between,
     gate: &G,
 ) -> Result<(), Failed>
-    requires able { IsAble core.old line.old words.now }
-    requires few { core.old.steps + count_of asked.now < 2 ^ 31 }
-    requires early { core.old.core.time + count_of asked.now < 2 ^ 31 }
-    requires room { length line.old.calls + 16 * count_of asked.now < 2 ^ 32 - 1 }
-    requires declared { HasName core.old.image.names asked.now }
-    requires empty { held.old ≡ [] }
-    ensures ok { OnOk result (Goes (repeated_turns (count_of asked.now) (own_turn asked.now)) line.old.calls
-        line.new.calls
-        core.old core.new (K.taken out.old) (K.taken out.new)) }
-    ensures none_held { OnOk result (held.new ≡ []) }
-    ensures err { OnErr result (Stops (repeated_turns (count_of asked.now) (own_turn asked.now)) line.old.calls
-        line.new.calls
-        core.old core.new (K.taken out.old) (K.taken out.new)) }
-    ensures same { IsSameLine line.old line.new }
+    requires can { CanGo 1 (T.leads role.now.routes) core.old line.old words.now }
+    requires empty { between.old.held ≡ [] }
+    ensures ok { OnOk result (Goes (T.leads role.now.routes) (Happens Step ∷ []) line.old line.new core.old core.new
+        (K.taken out.old) (K.taken out.new)) }
+    ensures none_held { OnOk result (between.new.held ≡ []) }
+    ensures err { OnErr result (Stops (T.leads role.now.routes) (Happens Step ∷ []) line.old line.new core.old core.new
+        (K.taken out.old) (K.taken out.new)) }
     ensures cause { HasCause (K.faults out.old) (K.faults out.new) result }
     ensures quiet { OnOk result (K.faults out.new ≡ K.faults out.old) }
 {
-    for _done in 0..asked.count() {
-        turn(core, line, words, asked, out, held, gate)?;
+    tell(role.share, core.steps(), gate);
+    look(core, line, words, out, &mut between.held)?;
+    let shown = show_step(core, out)?;
+    forward(line, words, role, &shown, &mut between.forwarded, gate);
+    Ok(())
+}
+
+/// A request of the script, where the core gets it.
+fn request<K: Sink>(
+    core: &mut Core,
+    own: bool,
+    irq: Irq,
+    out: &mut K,
+    held: &mut LineBuffer,
+) -> Result<(), Failed>
+    requires writable { IsWritable core.old }
+    requires few { core.old.steps < 2 ^ 31 }
+    requires declared { own ≡ true → IsDeclared core.old.image.names irq }
+    requires empty { held.old ≡ [] }
+    ensures ok { OnOk result (Sends (request_events own irq) core.old core.new (K.taken out.old) (K.taken out.new)) }
+    ensures none_held { OnOk result (held.new ≡ []) }
+    ensures err { OnErr result (Breaks (request_events own irq) core.old core.new
+        (K.taken out.old) (K.taken out.new)) }
+    ensures cause { HasCause (K.faults out.old) (K.faults out.new) result }
+    ensures quiet { OnOk result (K.faults out.new ≡ K.faults out.old) }
+{
+    if own {
+        return send_pend(core, irq, out, held);
     }
     Ok(())
 }
 
-/// The events of the lines of a script that are the core's own, in order; each core step comes behind a look.
-pub(crate) fn own_lines<K: Sink, G: Gate>(
+/// One of the events that a line of the script counts, as far as it is this core's.
+fn turn<K: Sink, G: Gate, T: Routes>(
     core: &mut Core,
-    line: &mut CoreLine,
+    line: &mut Line,
     words: &Words,
-    script: &[Line],
+    role: &Role<T>,
+    asked: &Asked,
     out: &mut K,
+    between: &mut Between,
     gate: &G,
 ) -> Result<(), Failed>
-    requires able { IsAble core.old line.old words.now }
-    requires few { core.old.steps + count script.now < 2 ^ 31 }
-    requires early { core.old.core.time + count script.now < 2 ^ 31 }
-    requires room { length line.old.calls + 16 * count script.now < 2 ^ 32 - 1 }
-    requires declared { HasNames core.old.image.names script.now }
-    ensures ok { OnOk result (Goes (own_turns script.now) line.old.calls line.new.calls core.old core.new
-        (K.taken out.old) (K.taken out.new)) }
-    ensures err { OnErr result (Stops (own_turns script.now) line.old.calls line.new.calls core.old core.new
-        (K.taken out.old) (K.taken out.new)) }
-    ensures same { IsSameLine line.old line.new }
+    requires can { CanGo 1 (T.leads role.now.routes) core.old line.old words.now }
+    requires declared { HasOwnName role.now.share core.old.image.names asked.now }
+    requires empty { between.old.held ≡ [] }
+    ensures ok { OnOk result (Goes (T.leads role.now.routes) (own_turn role.now.share asked.now) line.old line.new
+        core.old core.new (K.taken out.old) (K.taken out.new)) }
+    ensures none_held { OnOk result (between.new.held ≡ []) }
+    ensures err { OnErr result (Stops (T.leads role.now.routes) (own_turn role.now.share asked.now) line.old line.new
+        core.old core.new (K.taken out.old) (K.taken out.new)) }
     ensures cause { HasCause (K.faults out.old) (K.faults out.new) result }
     ensures quiet { OnOk result (K.faults out.new ≡ K.faults out.old) }
 {
-    let mut held = LineBuffer::new();
+    match asked {
+        Asked::Steps(_) => step(core, line, words, role, out, between, gate),
+        Asked::Ticks(_) => send_tick(core, out, &mut between.held),
+        Asked::Pends(irq, _) => {
+            let own = role.share.takes_pends();
+            request(core, own, *irq, out, &mut between.held)
+        }
+        Asked::Device(_, irq, _) => {
+            let own = role.share.takes_devices();
+            request(core, own, *irq, out, &mut between.held)
+        }
+    }
+}
+
+/// The events of a line of the script.
+fn own_line<K: Sink, G: Gate, T: Routes>(
+    core: &mut Core,
+    line: &mut Line,
+    words: &Words,
+    role: &Role<T>,
+    asked: &Asked,
+    out: &mut K,
+    between: &mut Between,
+    gate: &G,
+) -> Result<(), Failed>
+    requires can { CanGo (count_of asked.now) (T.leads role.now.routes) core.old line.old words.now }
+    requires declared { HasOwnName role.now.share core.old.image.names asked.now }
+    requires empty { between.old.held ≡ [] }
+    ensures ok { OnOk result (Goes (T.leads role.now.routes)
+        (repeated_turns (count_of asked.now) (own_turn role.now.share asked.now)) line.old line.new core.old core.new
+        (K.taken out.old) (K.taken out.new)) }
+    ensures none_held { OnOk result (between.new.held ≡ []) }
+    ensures err { OnErr result (Stops (T.leads role.now.routes)
+        (repeated_turns (count_of asked.now) (own_turn role.now.share asked.now)) line.old line.new core.old core.new
+        (K.taken out.old) (K.taken out.new)) }
+    ensures cause { HasCause (K.faults out.old) (K.faults out.new) result }
+    ensures quiet { OnOk result (K.faults out.new ≡ K.faults out.old) }
+{
+    for _done in 0..asked.count() {
+        turn(core, line, words, role, asked, out, between, gate)?;
+    }
+    Ok(())
+}
+
+/// The events of a script that are the core's own, in order; each core step comes behind a look.
+pub(crate) fn own_lines<K: Sink, G: Gate, T: Routes>(
+    core: &mut Core,
+    line: &mut Line,
+    words: &Words,
+    role: &Role<T>,
+    script: &[Asked],
+    out: &mut K,
+    between: &mut Between,
+    gate: &G,
+) -> Result<(), Failed>
+    requires can { CanGo (count script.now) (T.leads role.now.routes) core.old line.old words.now }
+    requires declared { HasOwnNames role.now.share core.old.image.names script.now }
+    requires empty { between.old.held ≡ [] }
+    ensures ok { OnOk result (Goes (T.leads role.now.routes) (own_turns role.now.share script.now) line.old line.new
+        core.old core.new (K.taken out.old) (K.taken out.new)) }
+    ensures none_held { OnOk result (between.new.held ≡ []) }
+    ensures err { OnErr result (Stops (T.leads role.now.routes) (own_turns role.now.share script.now) line.old line.new
+        core.old core.new (K.taken out.old) (K.taken out.new)) }
+    ensures cause { HasCause (K.faults out.old) (K.faults out.new) result }
+    ensures quiet { OnOk result (K.faults out.new ≡ K.faults out.old) }
+{
     for asked in script {
-        own_line(core, line, words, asked, out, &mut held, gate)?;
+        own_line(core, line, words, role, asked, out, between, gate)?;
     }
     Ok(())
 }
 
 /// A look alone, and then so many core steps, each behind a look.
-pub(crate) fn last_turns<K: Sink, G: Gate>(
+pub(crate) fn last_turns<K: Sink, G: Gate, T: Routes>(
     core: &mut Core,
-    line: &mut CoreLine,
+    line: &mut Line,
     words: &Words,
+    role: &Role<T>,
     steps: u64,
     out: &mut K,
+    between: &mut Between,
     gate: &G,
 ) -> Result<(), Failed>
-    requires able { IsAble core.old line.old words.now }
-    requires few { core.old.steps + steps < 2 ^ 31 }
-    requires room { length line.old.calls + 16 * (steps + 1) < 2 ^ 32 - 1 }
-    ensures ok { OnOk result (Goes (Looks ∷ replicate steps (Happens Step)) line.old.calls line.new.calls
+    requires can { CanGo (steps + 1) (T.leads role.now.routes) core.old line.old words.now }
+    requires empty { between.old.held ≡ [] }
+    ensures ok { OnOk result (Goes (T.leads role.now.routes) (Looks ∷ replicate steps (Happens Step)) line.old line.new
         core.old core.new (K.taken out.old) (K.taken out.new)) }
-    ensures err { OnErr result (Stops (Looks ∷ replicate steps (Happens Step)) line.old.calls line.new.calls
-        core.old core.new (K.taken out.old) (K.taken out.new)) }
-    ensures same { IsSameLine line.old line.new }
+    ensures none_held { OnOk result (between.new.held ≡ []) }
+    ensures err { OnErr result (Stops (T.leads role.now.routes) (Looks ∷ replicate steps (Happens Step)) line.old
+        line.new core.old core.new (K.taken out.old) (K.taken out.new)) }
     ensures cause { HasCause (K.faults out.old) (K.faults out.new) result }
     ensures quiet { OnOk result (K.faults out.new ≡ K.faults out.old) }
 {
-    let mut held = LineBuffer::new();
-    look(core, line, words, out, &mut held)?;
+    look(core, line, words, out, &mut between.held)?;
     for _done in 0..steps {
-        step(core, line, words, out, &mut held, gate)?;
+        step(core, line, words, role, out, between, gate)?;
     }
     Ok(())
 }

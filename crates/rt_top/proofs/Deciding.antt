@@ -8,6 +8,7 @@ use Rattle.rt_app.specs.Tree.{App}
 use Rattle.rt_baker.specs.declared.verdict.Verdict.TheVariants as judged
 use Rattle.rt_build.specs.Accepted.{IsApplication}
 use Rattle.rt_code.specs.Image.{Image}
+use Rattle.rt_dual.proofs.Ordered.{ordered}
 use Rattle.rt_rta.specs.Text.{IsLimitsText}
 use Rattle.rt_rta.specs.declared.limits.Limit.{Limit}
 use Rattle.rt_script.specs.Text.{IsScriptText}
@@ -136,6 +137,7 @@ module _ (u : Inputs) (app : App) (accepted : IsApplication u.first app) (ended 
         script = asked;
         read = read;
         written = shows.is;
+        ordered = ordered image shows.second asked bytes shows.is;
         first_runs = runs_first app image good u.third asked read other shows.second shows.good bytes shows.is;
         second_runs = runs_second app image good u.third asked read other shows.second shows.good bytes shows.is;
         first_short =

@@ -97,12 +97,12 @@ module _ (app : App) (image : Image) (is : IsGoodOf app image) where
       runs_first =
           let es : List Event = course_events (first_events script) pair.one in
           runs_under app image is.good es (renamed es (first_named image second script bytes pair scripted named))
-          (omega (arith, length_weighs es, first_weighs image second script bytes pair scripted named))
+          (omega (arith, length_weighs es, first_weighs image second script bytes pair scripted))
 
       pub runs_second : RunsWell other second (course_events (second_events script) pair.two)
       runs_second =
           let es : List Event = course_events (second_events script) pair.two in
           runs_under other second is_other.good es
           (subst (λ (n : Names). AllByRecursion (Arrives (Named n)) es) is_other.of_application.tables.names
-          (second_named image second script bytes pair scripted named))
-          (omega (arith, length_weighs es, second_weighs image second script bytes pair scripted named))
+          (second_named image second script bytes pair scripted))
+          (omega (arith, length_weighs es, second_weighs image second script bytes pair scripted))

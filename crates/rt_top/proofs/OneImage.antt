@@ -85,13 +85,15 @@ pairs_show text more last first second bytes l m p = record {
   parts = pair_parts p.first p.first_image p.is_first.good p.is_first.numbers last p.script p.read p.second
       p.second_image p.is_second.good p.is_second.numbers bytes p.written;
   of_first = shows text first
-      (course_text p.first_image (first_events p.script) p.written.one ++ account p.first_image p.written.one) l p.first
-      p.first_image p.is_first _
+      (course_text p.first_image (first_events p.script) p.written.one
+      ++ account 0 p.first_image p.written.history p.written.left) l p.first p.first_image p.is_first _
       (append_assoc (listing p.first_image ++ codes "trace\n")
-      (course_text p.first_image (first_events p.script) p.written.one) (account p.first_image p.written.one));
+      (course_text p.first_image (first_events p.script) p.written.one)
+      (account 0 p.first_image p.written.history p.written.left));
   of_second = shows more second
-      (course_text p.second_image (second_events p.script) p.written.two ++ account p.second_image p.written.two) m
-      p.second p.second_image p.is_second _
+      (course_text p.second_image (second_events p.script) p.written.two
+      ++ account 1 p.second_image p.written.history p.written.left) m p.second p.second_image p.is_second _
       (append_assoc (listing p.second_image ++ codes "trace\n")
-      (course_text p.second_image (second_events p.script) p.written.two) (account p.second_image p.written.two));
+      (course_text p.second_image (second_events p.script) p.written.two)
+      (account 1 p.second_image p.written.history p.written.left));
 }

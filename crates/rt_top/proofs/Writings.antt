@@ -10,7 +10,7 @@ use Rattle.rt_app.specs.Tree.{App}
 use Rattle.rt_build.specs.Accepted.{IsApplication}
 use Rattle.rt_code.specs.Image.{Image}
 use Rattle.rt_core.specs.Trace.{trace}
-use Rattle.rt_dual.specs.Course.{Course, first_events, second_events, course_events}
+use Rattle.rt_dual.specs.Course.{first_events, second_events, course_events}
 use Rattle.rt_dual.specs.Output.{IsPairText, core_text, course_text, account}
 use Rattle.rt_listing.specs.Listing.{listing}
 use Rattle.rt_listing.specs.Numbers.{HasTypedNumbers}
@@ -20,7 +20,7 @@ use Rattle.rt_live.specs.Output.{IsLiveText}
 use Rattle.rt_live.specs.Written.{live_text}
 use Rattle.rt_live.specs.declared.account.AccountRow.{AccountRow}
 use Rattle.rt_live.proofs.Found.{named_events, events_named, events_weigh, live_row}
-use Rattle.rt_dual.proofs.Found.{first_named, second_named, first_weighs, second_weighs, course_row}
+use Rattle.rt_dual.proofs.Found.{first_named, second_named, first_weighs, second_weighs, pair_row}
 use Rattle.rt_run.specs.Written.{text_of}
 use Rattle.rt_run.proofs.Scripted.{events_length}
 use Rattle.rt_run.proofs.Weighing.{Arrives, Named, weight, steps_weigh}
@@ -133,23 +133,25 @@ module _ (app : App) (image : Image) (is : IsGoodOf app image) (numbers : HasTyp
   module _ (other : App) (second : Image) (is_other : IsGoodOf other second) (second_numbers : HasTypedNumbers second)
       (bytes : List ℕ) (pair : IsPairText image second script bytes) where
     -- the text of a core behind its own line
-    abbrev behind_head : Image → List Event → Course → List ℕ
-    behind_head img es course = listing img ++ codes "trace\n" ++ course_text img es course ++ account img course
+    abbrev behind_head : ℕ → Image → List Event → List (List ℕ) → List ℕ
+    behind_head core img es found =
+        listing img ++ codes "trace\n" ++ course_text img es found ++ account core img pair.history pair.left
 
-    written_core : (img : Image) (es : List Event) (course : Course) → behind_head img es course
-        ≡ listing img ++ codes "trace\n" ++ (course_text img es course ++ flat_map fed (account_lines img.names
-        (map (course_row course) (declared_irqs img.names))))
-    written_core img es course =
-        append_assoc (listing img ++ codes "trace\n") (course_text img es course) (account img course)
-        ∙ behind (listing img ++ codes "trace\n") (course_text img es course) img
-        (map (course_row course) (declared_irqs img.names))
+    written_core : (core : ℕ) (img : Image) (es : List Event) (found : List (List ℕ)) → behind_head core img es found
+        ≡ listing img ++ codes "trace\n" ++ (course_text img es found ++ flat_map fed (account_lines img.names
+        (map (pair_row pair core) (declared_irqs img.names))))
+    written_core core img es found =
+        append_assoc (listing img ++ codes "trace\n") (course_text img es found)
+        (account core img pair.history pair.left)
+        ∙ behind (listing img ++ codes "trace\n") (course_text img es found) img
+        (map (pair_row pair core) (declared_irqs img.names))
 
-    headed : (head : List ℕ) (img : Image) (es : List Event) (course : Course)
-        → core_text head img es course ≡ head ++ behind_head img es course
-    headed head img es course =
+    headed : (head : List ℕ) (core : ℕ) (img : Image) (es : List Event) (found : List (List ℕ))
+        → core_text head img es found (account core img pair.history pair.left) ≡ head ++ behind_head core img es found
+    headed head core img es found =
         let l = listing img in
-        let t = course_text img es course in
-        let a = account img course in
+        let t = course_text img es found in
+        let a = account core img pair.history pair.left in
         ap (λ x. (x ++ t) ++ a) (append_assoc head l (codes "trace\n"))
         ∙ ap (λ x. x ++ a) (append_assoc head (l ++ codes "trace\n") t)
         ∙ append_assoc head ((l ++ codes "trace\n") ++ t) a
@@ -160,76 +162,73 @@ module _ (app : App) (image : Image) (is : IsGoodOf app image) (numbers : HasTyp
     abbrev two_events : List Event
     two_events = course_events (second_events script) pair.two
 
-    one_few : length (behind_head image (first_events script) pair.one) ≤ 224000000
+    one_few : length (behind_head 0 image (first_events script) pair.one) ≤ 224000000
     one_few =
         told_few app image is numbers one_events
         (runs_first app image is more script read other second is_other bytes pair)
         (first_named image second script bytes pair (scripted app image is more script read)
         (named app image is more script read))
-        (first_weighs image second script bytes pair (scripted app image is more script read)
-        (named app image is more script read)) (course_row pair.one)
-        (behind_head image (first_events script) pair.one) (written_core image (first_events script) pair.one)
+        (first_weighs image second script bytes pair (scripted app image is more script read)) (pair_row pair 0)
+        (behind_head 0 image (first_events script) pair.one) (written_core 0 image (first_events script) pair.one)
 
-    two_few : length (behind_head second (second_events script) pair.two) ≤ 224000000
+    two_few : length (behind_head 1 second (second_events script) pair.two) ≤ 224000000
     two_few =
         told_few other second is_other second_numbers two_events
         (runs_second app image is more script read other second is_other bytes pair)
-        (second_named image second script bytes pair (scripted app image is more script read)
-        (named app image is more script read))
-        (second_weighs image second script bytes pair (scripted app image is more script read)
-        (named app image is more script read)) (course_row pair.two)
-        (behind_head second (second_events script) pair.two) (written_core second (second_events script) pair.two)
+        (second_named image second script bytes pair (scripted app image is more script read))
+        (second_weighs image second script bytes pair (scripted app image is more script read)) (pair_row pair 1)
+        (behind_head 1 second (second_events script) pair.two) (written_core 1 second (second_events script) pair.two)
 
-    pub first_short : length (core_text (codes "core 1\n") image (first_events script) pair.one) < TRACE_BYTES
+    pub first_short : length (core_text (codes "core 1\n") image (first_events script) pair.one
+        (account 0 image pair.history pair.left)) < TRACE_BYTES
     first_short =
         omega (
           arith,
           one_few,
-          ap length (headed (codes "core 1\n") image (first_events script) pair.one),
-          length-append (codes "core 1\n") (behind_head image (first_events script) pair.one),
+          ap length (headed (codes "core 1\n") 0 image (first_events script) pair.one),
+          length-append (codes "core 1\n") (behind_head 0 image (first_events script) pair.one),
         )
 
-    pub second_short : length (core_text (codes "core 2\n") second (second_events script) pair.two) < TRACE_BYTES
+    pub second_short : length (core_text (codes "core 2\n") second (second_events script) pair.two
+        (account 1 second pair.history pair.left)) < TRACE_BYTES
     second_short =
         omega (
           arith,
           two_few,
-          ap length (headed (codes "core 2\n") second (second_events script) pair.two),
-          length-append (codes "core 2\n") (behind_head second (second_events script) pair.two),
+          ap length (headed (codes "core 2\n") 1 second (second_events script) pair.two),
+          length-append (codes "core 2\n") (behind_head 1 second (second_events script) pair.two),
         )
 
     pub first_audited : (text : List ℕ) → IsApplication text app
-        → IsAudited text (behind_head image (first_events script) pair.one) status.Done
+        → IsAudited text (behind_head 0 image (first_events script) pair.one) status.Done
         (codes "yes " ++ decimal (length (trace image one_events)) ++ codes "\n")
     first_audited text of_text =
         told_audited app image is numbers one_events
         (runs_first app image is more script read other second is_other bytes pair)
         (first_named image second script bytes pair (scripted app image is more script read)
         (named app image is more script read))
-        (first_weighs image second script bytes pair (scripted app image is more script read)
-        (named app image is more script read)) (course_row pair.one)
-        (behind_head image (first_events script) pair.one) (written_core image (first_events script) pair.one) text
+        (first_weighs image second script bytes pair (scripted app image is more script read)) (pair_row pair 0)
+        (behind_head 0 image (first_events script) pair.one) (written_core 0 image (first_events script) pair.one) text
         of_text
 
     pub second_audited : (text : List ℕ) → IsApplication text other
-        → IsAudited text (behind_head second (second_events script) pair.two) status.Done
+        → IsAudited text (behind_head 1 second (second_events script) pair.two) status.Done
         (codes "yes " ++ decimal (length (trace second two_events)) ++ codes "\n")
     second_audited text of_text =
         told_audited other second is_other second_numbers two_events
         (runs_second app image is more script read other second is_other bytes pair)
-        (second_named image second script bytes pair (scripted app image is more script read)
-        (named app image is more script read))
-        (second_weighs image second script bytes pair (scripted app image is more script read)
-        (named app image is more script read)) (course_row pair.two)
-        (behind_head second (second_events script) pair.two) (written_core second (second_events script) pair.two) text
-        of_text
+        (second_named image second script bytes pair (scripted app image is more script read))
+        (second_weighs image second script bytes pair (scripted app image is more script read)) (pair_row pair 1)
+        (behind_head 1 second (second_events script) pair.two) (written_core 1 second (second_events script) pair.two)
+        text of_text
 
     -- the text of both
-    pub pair_parts : bytes ≡ (codes "core 1\n" ++ behind_head image (first_events script) pair.one)
-        ++ (codes "core 2\n" ++ behind_head second (second_events script) pair.two)
+    pub pair_parts : bytes ≡ (codes "core 1\n" ++ behind_head 0 image (first_events script) pair.one)
+        ++ (codes "core 2\n" ++ behind_head 1 second (second_events script) pair.two)
     pair_parts =
         pair.written
-        ∙ ap (λ t. t ++ core_text (codes "core 2\n") second (second_events script) pair.two)
-        (headed (codes "core 1\n") image (first_events script) pair.one)
-        ∙ ap (λ t. (codes "core 1\n" ++ behind_head image (first_events script) pair.one) ++ t)
-        (headed (codes "core 2\n") second (second_events script) pair.two)
+        ∙ ap (λ t. t ++ core_text (codes "core 2\n") second (second_events script) pair.two
+        (account 1 second pair.history pair.left))
+        (headed (codes "core 1\n") 0 image (first_events script) pair.one)
+        ∙ ap (λ t. (codes "core 1\n" ++ behind_head 0 image (first_events script) pair.one) ++ t)
+        (headed (codes "core 2\n") 1 second (second_events script) pair.two)

@@ -1,4 +1,5 @@
 ghost use Rattle.std.specs.Prelude.{◌≡◌, ◌⊎◌, ◌++◌, ℕ, List, [], ◌∷◌, OnOk, OnErr};
+ghost use Rattle.std.specs.List.{AllByRecursion};
 ghost use Rattle.rt_app.specs.Accepted.{IsAccepted};
 ghost use Rattle.rt_app.specs.View.{app_of};
 ghost use Rattle.rt_build.specs.Accepted.{IsApplication};
@@ -8,7 +9,7 @@ ghost use Rattle.rt_code.specs.Lines.{HasLines};
 ghost use Rattle.rt_core.specs.Machine.{IsFresh};
 ghost use Rattle.rt_live.specs.Account.{declared_irqs};
 ghost use Rattle.rt_live.specs.Output.{IsLiveText};
-ghost use Rattle.rt_live.specs.Ready.{irqs_of};
+ghost use Rattle.rt_live.specs.Ready.{IsNumbered, irqs_of};
 ghost use Rattle.rt_script.specs.Script.{IsScript, HasNames};
 ghost use Rattle.rt_top.specs.Words as word;
 ghost use Rattle.rt_top.specs.Kinds as kind;
@@ -98,6 +99,7 @@ fn put_live<R: Threads + Sync, K: Sink + Send, G: Gate + Sync>(
     requires fresh { IsFresh core.old }
     requires lines { HasLines core.old.image }
     requires script { IsScript ready.script }
+    requires numbered { AllByRecursion IsNumbered ready.script }
     requires rows { irqs_of ready.rows ≡ declared_irqs core.old.image.names }
     requires unused { ready.line.calls ≡ [] }
     ensures ok { OnOk result ((shown : List ℕ) × IsLiveText core.old.image ready.entry.script shown

@@ -99,11 +99,11 @@ accounts_from words last (e ∷ es) irq h l =
     omega (arith, rest, one, r, s)
 
 -- raised is latched and left
-pub accounts : (last : List ℕ) (history : List Entry) (irq : ℕ) → IsLegal history last → irq < 512
+pub accounts : (last : List ℕ) (history : List Entry) (irq : ℕ) → IsLegal history last → irq < 1024
     → raised_count irq (calls_in history) ≡ latched_count irq (calls_in history) + pending_bit last irq
 accounts last history irq h l =
-    let long = blank_long 16 in
-    let start : pending_bit (blank 16) irq ≡ 0 = ap (λ (w : ℕ). bit_at w (irq % 32)) (zeros 16 (irq / 32))
+    let long = blank_long 32 in
+    let start : pending_bit (blank 32) irq ≡ 0 = ap (λ (w : ℕ). bit_at w (irq % 32)) (zeros 32 (irq / 32))
     ∙ bit_at-zero (irq % 32) in
-    let e = accounts_from (blank 16) last history irq h (omega arith) in
+    let e = accounts_from (blank 32) last history irq h (omega arith) in
     omega (arith, e, start)

@@ -1,6 +1,6 @@
 -- A latch that answers 0 without a look keeps no rule: worked for one word, in which the bit stands that a line pended.
 use Rattle.std.proofs.Common.{◌≡◌, ℕ, zero, suc, ◌/◌, ◌%◌, ◌^◌, ◌<◌, ◌≢◌, List, [], ◌∷◌, get_or}
-use Rattle.std.proofs.Common.{Some, None, unwrap_or, Contains, refl, sym, ap, ◌∙◌, subst, ⊎_elim, arith}
+use Rattle.std.proofs.Common.{Contains, refl, sym, ap, ◌∙◌, subst, ⊎_elim, arith}
 use Rattle.std.specs.Int.{bit_at}
 use Rattle.std.proofs.lemmas.Nat.Bits.{bit_at-zero}
 use mathlib.Core.List.{IsPrefix}
@@ -16,8 +16,8 @@ use Rattle.rt_words.specs.declared.view.View.{View}
 use Rattle.rt_words.specs.Object.{IsAnswered}
 use Rattle.rt_words.specs.History.{Entry, LeavesWords, IsLegal, part}
 use Rattle.rt_words.specs.Inside.Rule.{padded_words, Standing, Kept}
-use Rattle.rt_words.specs.Inside.Seats.{Seat, number_of, InUse, Seated}
-use Rattle.rt_words.specs.Inside.Steps.{newcomer, device}
+use Rattle.rt_words.specs.Inside.Seats.{Seat, InUse, Seated}
+use Rattle.rt_words.specs.Inside.Steps.{newcomer}
 use Rattle.rt_words.proofs.Lists.{in_head, in_none, in_cases}
 use Rattle.rt_words.proofs.Histories.{entry}
 use Rattle.rt_words.proofs.Parting.{part_first, part_rest}
@@ -34,7 +34,7 @@ abbrev first_seat : View
 first_seat = record (newcomer word) { made = 0 ∷ [] }
 
 abbrev line_seat : View
-line_seat = device 0 (Pend 0 Raised ∷ []) (pend ∷ []) word
+line_seat = record (newcomer word) { line = 0; calls = Pend 0 Raised ∷ []; seen = pend ∷ [] }
 
 abbrev views : List View
 views = first_seat ∷ line_seat ∷ []
@@ -47,17 +47,10 @@ at_cases P zero v at a b = subst P (some-injective first_seat v at) a
 at_cases P (suc zero) v at a b = subst P (some-injective line_seat v at) b
 at_cases P (suc (suc seat)) v at a b = absurd (some-ne-none v (sym at))
 
-claims : (seat number : ℕ) (v : View) → get_elem? views seat ≡ some v → number_of v ≡ Some number
-    → (seat ≡ 1) × (line_seat ≡ v) × (0 ≡ number)
-claims zero number v at is =
-    let e : None ≡ Some number = ap number_of (some-injective first_seat v at) ∙ is in absurd cc
-claims (suc zero) number v at is =
-    let same = some-injective line_seat v at in (
-      refl,
-      same,
-      ap (λ o. unwrap_or o 0) (ap number_of same ∙ is),
-    )
-claims (suc (suc seat)) number v at is = absurd (some-ne-none v (sym at))
+others : (seat : ℕ) (v : View) → get_elem? views seat ≡ some v → v.line ≢ 255 → (seat ≡ 1) × (line_seat ≡ v)
+others zero v at ne = absurd (ne (sym (ap (λ (x : View). x.line) (some-injective first_seat v at))))
+others (suc zero) v at ne = (refl, some-injective line_seat v at)
+others (suc (suc seat)) v at ne = absurd (some-ne-none v (sym at))
 
 low : (k : ℕ) → get_or word k 0 < 2 ^ 32
 low zero = omega arith
@@ -70,18 +63,12 @@ covers (suc q) r h = let z : bit_at 0 r ≡ 0 = bit_at-zero r in absurd (omega a
 seated : Seated (pend ∷ []) views first_seat
 seated = record {
   first = refl;
-  stage = refl;
+  number = refl;
   own = refl;
-  lines = λ seat number v at is.
-      let c = claims seat number v at is in
-      subst (λ (x : View). InUse (pend ∷ []) first_seat x number) c.1
-      (subst (λ (n : ℕ). InUse (pend ∷ []) first_seat line_seat n) c.2 record {
-        same_calls = refl;
-        made = in_head 0 [];
-        ungathered = in_none 0;
-        other = λ e. omega arith;
-      });
-  apart = λ i j number v w a b is js. (claims i number v a is).0 ∙ sym (claims j number w b js).0;
+  lines = λ seat v at ne.
+      subst (λ (x : View). InUse (pend ∷ []) first_seat x) (others seat v at ne).1
+      record { same_calls = refl; made = in_head 0 []; ungathered = in_none 0 };
+  apart = λ i j v w a b ne e. (others i v a ne).0 ∙ sym (others j w b (λ f. ne (e ∙ f))).0;
   parts = λ p h. absurd (in_none p h);
   once = tt;
   unmade = λ number other out.
@@ -99,11 +86,10 @@ standing = record {
       (prefix_self (pend ∷ []));
   same_may = λ seat v at lives. at_cases (λ (x : View). x.may ≡ word) seat v at refl refl;
   behind = omega arith;
-  quiet = λ all k n h. absurd (in_none (Latch k n) h);
   last = λ all. record { earlier = pend ∷ []; is = refl };
 }
 
--- behind the pend, the core's latch of 0 alone is not legal
+-- behind the pend, the first line's latch of 0 alone is not legal
 illegal : (more : List Entry) (last : List ℕ) → LeavesWords (padded_words word) more last
     → part more 255 ≡ Latch 0 0 ∷ []
     → ((n : ℕ) → n ≢ 255 → part more n ≡ []) → ⊥
@@ -118,7 +104,7 @@ illegal (e ∷ es) last leads own others = dite (ℕ_discrete e.line 255)
     let gone : e.call ∷ part es e.line ≡ [] = sym (part_first e es e.line refl) ∙ others e.line ne in
     absurd cc)
 
--- the core has made a latch of word 0 and no other call, with the answer 0, whatever was found
+-- the first line has made a latch of word 0 and no other call, with the answer 0, whatever was found
 abbrev pub AnswersBlindly : ℕ → Seat → Type 0
 AnswersBlindly found after = (after.0.calls ≡ Latch 0 0 ∷ []) × (after.0.made ≡ 0 ∷ [])
 
@@ -130,20 +116,20 @@ blind_refused f allows =
     let w : View = step.0 in
     let history : List Entry = step.3.0 in
     let st = step.3.2 in
-    let core_is : step.3.1 ≡ w = sym (some-injective w step.3.1 st.seated.first) in
+    let maker_is : step.3.1 ≡ w = sym (some-injective w step.3.1 st.seated.first) in
     let seen = st.seen 1 line_seat refl in
     let more : List Entry = seen.0 in
     let goes_on : pend ∷ more ≡ history = seen.1 in
     let legal : IsLegal (pend ∷ more) left = subst (λ (h : List Entry). IsLegal h left) (sym goes_on) st.legal in
     let own : part more 255 ≡ Latch 0 0 ∷ [] =
-    ap (λ (h : List Entry). part h 255) goes_on ∙ st.seated.own ∙ ap (λ (v : View). v.calls) core_is ∙ step.4.0 in
+    ap (λ (h : List Entry). part h 255) goes_on ∙ st.seated.own ∙ ap (λ (v : View). v.calls) maker_is ∙ step.4.0 in
     let line : Pend 0 Raised ∷ part more 0 ≡ Pend 0 Raised ∷ [] =
-    ap (λ (h : List Entry). part h 0) goes_on ∙ (st.seated.lines 1 0 line_seat refl refl).same_calls in
+    ap (λ (h : List Entry). part h 0) goes_on ∙ (st.seated.lines 1 line_seat refl (λ e. omega arith)).same_calls in
     illegal more left legal.1 own (λ n other. dite (ℕ_discrete 0 n)
     (λ e. let none_ : part more 0 ≡ [] = cc in subst (λ (m : ℕ). part more m ≡ []) e none_)
     (λ ne.
     sym (part_rest pend more n ne) ∙ ap (λ (h : List Entry). part h n) goes_on
     ∙ st.seated.unmade n other (λ h.
     let made : Contains (0 ∷ []) n =
-    subst (λ (ns : List ℕ). Contains ns n) (ap (λ (v : View). v.made) core_is ∙ step.4.1) h in
+    subst (λ (ns : List ℕ). Contains ns n) (ap (λ (v : View). v.made) maker_is ∙ step.4.1) h in
     ⊎_elim ne (λ t. in_none n t) (in_cases 0 n [] made))))

@@ -1,12 +1,12 @@
 -- What latches find was pended: each bit that they find is that of an interrupt that some call pended, and they find no
 -- more bits than there are such calls.
 use Rattle.std.proofs.Common.{◌≡◌, ℕ, zero, suc, ◌+◌, ◌*◌, ◌/◌, ◌%◌, ◌<◌, ◌≤◌, ◌==◌, ◌≢◌, ◌⊎◌, Bool, true, false, cond}
-use Rattle.std.proofs.Common.{List, [], ◌∷◌, ◌++◌, length, map, filter, get_or, set, replicate, Contains, inl, inr}
+use Rattle.std.proofs.Common.{List, [], ◌∷◌, length, map, filter, get_or, set, replicate, Contains, inl, inr}
 use Rattle.std.proofs.Common.{refl, sym, ap}
-use Rattle.std.proofs.Common.{subst, ◌∙◌, arith, eq-eqb, ne_eqb, length-append, length-set}
+use Rattle.std.proofs.Common.{subst, ◌∙◌, arith, eq-eqb, length-append}
 use Rattle.std.specs.Int.{bit_at}
 use Rattle.std.specs.List.{AllByRecursion}
-use Rattle.std.proofs.lemmas.List.{length-map, get_or_default}
+use Rattle.std.proofs.lemmas.List.{length-map}
 use Rattle.std.proofs.lemmas.List.Elements.{filter-append}
 use Rattle.std.proofs.lemmas.Nat.Bits.{bit_at-lt, bit_at-zero}
 use Rattle.std.proofs.lemmas.Bool.{false≢true}
@@ -19,7 +19,7 @@ use Rattle.rt_words.specs.Object.{IsPending, after, IsAnswered, pending_bit}
 use Rattle.rt_words.specs.History.{Entry, LeavesWords, IsLegal, part}
 use Rattle.rt_words.specs.Ending.{calls_in}
 use Rattle.rt_words.proofs.Lists.{in_cases, in_none}
-use Rattle.rt_words.proofs.Bits.{with_bit, with_bit_same, with_bit_other, pend_other, zero_pending, bit_of_word, zeros}
+use Rattle.rt_words.proofs.Bits.{with_bit, with_bit_other, pend_other, zero_pending, bit_of_word, zeros}
 
 -- how many of the first bits of a word are set
 abbrev pub bits_below : ℕ → ℕ → ℕ
@@ -65,61 +65,98 @@ pub as_many : (k word : ℕ) → length (arrivals k word) ≡ bits_below 32 word
 as_many k word =
     length-map (filter (λ bit. bit_at word bit == 1) (numbers_below 32)) (λ bit. 32 * k + bit) ∙ kept_bits 32 word
 
--- how many bits are set in these words
-abbrev total : List ℕ → ℕ
-total [] = 0
-total (word ∷ words) = bits_below 32 word + total words
+-- a number where it is counted
+abbrev pub counted : Bool → ℕ → ℕ
+counted true n = n
+counted false n = 0
 
-total_set : (words : List ℕ) (k n : ℕ) → total (set words k n) + bits_below 32 (get_or words k 0) ≤ total words
-    + bits_below 32 n
-total_set [] k n = omega (arith, no_bits 32)
-total_set (word ∷ words) zero n = omega arith
-total_set (word ∷ words) (suc k) n = omega (arith, total_set words k n)
+none_counted : (b : Bool) (n : ℕ) → n ≡ 0 → counted b n ≡ 0
+none_counted true n none = none
+none_counted false n none = refl
 
-none_set : (n : ℕ) → total (replicate n 0) ≡ 0
-none_set zero = refl
-none_set (suc n) = omega (arith, no_bits 32, none_set n)
+more_counted : (b : Bool) (m n : ℕ) → m ≤ suc n → counted b m ≤ counted b n + counted b 1
+more_counted true m n few = omega (arith, few)
+more_counted false m n few = omega arith
 
--- how many bits a call found, and whether it pended one
-abbrev pub found_by : Call → ℕ
-found_by (Pend irq answer) = 0
-found_by (Latch k word) = bits_below 32 word
+-- how many bits are set in these words, of which some are counted
+abbrev total : (ℕ → Bool) → List ℕ → ℕ
+total some [] = 0
+total some (word ∷ words) = counted (some 0) (bits_below 32 word) + total (λ k. some (suc k)) words
+
+total_set : (some : ℕ → Bool) (words : List ℕ) (k n : ℕ)
+    → total some (set words k n) + counted (some k) (bits_below 32 (get_or words k 0))
+    ≤ total some words + counted (some k) (bits_below 32 n)
+total_set some [] k n = omega (arith, none_counted (some k) (bits_below 32 0) (no_bits 32))
+total_set some (word ∷ words) zero n = omega arith
+total_set some (word ∷ words) (suc k) n = omega (arith, total_set (λ j. some (suc j)) words k n)
+
+none_set : (some : ℕ → Bool) (n : ℕ) → total some (replicate n 0) ≡ 0
+none_set some zero = refl
+none_set some (suc n) =
+    omega (arith, none_counted (some 0) (bits_below 32 0) (no_bits 32), none_set (λ k. some (suc k)) n)
+
+-- how many bits a call found in words that are counted, and whether it pended one there
+module _ (some : ℕ → Bool) where
+  abbrev pub found_there : Call → ℕ
+  found_there (Pend irq answer) = 0
+  found_there (Latch k word) = counted (some k) (bits_below 32 word)
+
+  abbrev pub asked_there : Call → ℕ
+  asked_there (Pend irq answer) = counted (some (irq / 32)) 1
+  asked_there (Latch k word) = 0
+
+  abbrev pub all_found_there : List Call → ℕ
+  all_found_there [] = 0
+  all_found_there (c ∷ calls) = found_there c + all_found_there calls
+
+  abbrev pub all_asked_there : List Call → ℕ
+  all_asked_there [] = 0
+  all_asked_there (c ∷ calls) = asked_there c + all_asked_there calls
+
+  call_counts : (words : List ℕ) (c : Call) → IsAnswered words c
+      → found_there c + total some (after words c) ≤ total some words + asked_there c
+  call_counts words (Pend irq answer) is =
+      let old : ℕ = get_or words (irq / 32) 0 in
+      omega (
+        arith,
+        total_set some words (irq / 32) (with_bit old (irq % 32)),
+        more_counted (some (irq / 32)) (bits_below 32 (with_bit old (irq % 32))) (bits_below 32 old)
+            (one_more 32 old (irq % 32)),
+      )
+  call_counts words (Latch k word) is =
+      let same : counted (some k) (bits_below 32 word) ≡ counted (some k) (bits_below 32 (get_or words k 0)) =
+      ap (λ w. counted (some k) (bits_below 32 w)) is in
+      omega (arith, total_set some words k 0, none_counted (some k) (bits_below 32 0) (no_bits 32), same)
+
+  history_counts : (words : List ℕ) (history : List Entry) (last : List ℕ) → LeavesWords words history last
+      → all_found_there (calls_in history) + total some last ≤ total some words + all_asked_there (calls_in history)
+  history_counts words [] last same =
+      let e : total some words ≡ total some last = ap (total some) same in omega (arith, e)
+  history_counts words (e ∷ history) last h =
+      omega (arith, call_counts words e.call h.0, history_counts (after words e.call) history last h.1)
+
+  -- no more bits are found in these words than there are pends
+  pub few_found_there : (history : List Entry) (last : List ℕ) → IsLegal history last
+      → all_found_there (calls_in history) ≤ all_asked_there (calls_in history)
+  few_found_there history last legal =
+      omega (arith, history_counts (replicate 32 0) history last legal, none_set some 32)
+
+-- the same of all words
+abbrev every : ℕ → Bool
+every k = true
 
 abbrev pub asked_by : Call → ℕ
-asked_by (Pend irq answer) = 1
-asked_by (Latch k word) = 0
+asked_by c = asked_there every c
 
 abbrev pub found_in : List Call → ℕ
-found_in [] = 0
-found_in (c ∷ calls) = found_by c + found_in calls
+found_in calls = all_found_there every calls
 
 abbrev pub asked_in : List Call → ℕ
-asked_in [] = 0
-asked_in (c ∷ calls) = asked_by c + asked_in calls
+asked_in calls = all_asked_there every calls
 
-call_counts : (words : List ℕ) (c : Call) → IsAnswered words c → found_by c + total (after words c) ≤ total words
-    + asked_by c
-call_counts words (Pend irq answer) is =
-    omega (
-      arith,
-      total_set words (irq / 32) (with_bit (get_or words (irq / 32) 0) (irq % 32)),
-      one_more 32 (get_or words (irq / 32) 0) (irq % 32),
-    )
-call_counts words (Latch k word) is =
-    let same : bits_below 32 word ≡ bits_below 32 (get_or words k 0) = ap (bits_below 32) is in
-    omega (arith, total_set words k 0, no_bits 32, same)
-
-history_counts : (words : List ℕ) (history : List Entry) (last : List ℕ) → LeavesWords words history last
-    → found_in (calls_in history) + total last ≤ total words + asked_in (calls_in history)
-history_counts words [] last same = let e : total words ≡ total last = ap total same in omega (arith, e)
-history_counts words (e ∷ history) last h =
-    omega (arith, call_counts words e.call h.0, history_counts (after words e.call) history last h.1)
-
--- no more bits are found than there are pends
 pub found_few : (history : List Entry) (last : List ℕ) → IsLegal history last
     → found_in (calls_in history) ≤ asked_in (calls_in history)
-found_few history last legal =
-    omega (arith, history_counts (replicate 16 0) history last legal, none_set 16)
+found_few history last legal = few_found_there every history last legal
 
 -- the calls of one line, and those of some
 pub part_counts : (f : Call → ℕ) (g : List Call → ℕ) → (g [] ≡ 0)
@@ -135,7 +172,7 @@ part_counts f g none more (e ∷ history) n = by (part_counts f g none more hist
     by rest false = omega (arith, rest, more e.call (calls_in history))
 
 pub part_found : (history : List Entry) (n : ℕ) → found_in (part history n) ≤ found_in (calls_in history)
-part_found history n = part_counts found_by found_in refl (λ c calls. refl) history n
+part_found history n = part_counts (found_there every) found_in refl (λ c calls. refl) history n
 
 abbrev pub lengths_of : List ℕ → List Entry → ℕ
 lengths_of [] history = 0
@@ -229,7 +266,7 @@ module _ (P : ℕ → Type 0) where
   set_past (word ∷ words) zero n past = absurd (omega (arith, past))
   set_past (word ∷ words) (suc k) n past = ap (λ (ws : List ℕ). word ∷ ws) (set_past words k n (omega (arith, past)))
 
-  stays : (words : List ℕ) (c : Call) → Asks c → ((irq : ℕ) → IsPending words irq → P irq)
+  pub stays : (words : List ℕ) (c : Call) → Asks c → ((irq : ℕ) → IsPending words irq → P irq)
       → (irq : ℕ) → IsPending (after words c) irq → P irq
   stays words (Pend n answer) asks all irq is = by (ℕ_discrete irq n) (dec_lt (n / 32) (length words))
     where
@@ -255,13 +292,13 @@ module _ (P : ℕ → Type 0) where
     all_find (after words e.call) history last h.1 (stays words e.call asks.0 all) asks.1,
   )
 
-  none_pending : (irq : ℕ) → IsPending (replicate 16 0) irq → P irq
+  pub none_pending : (irq : ℕ) → IsPending (replicate 32 0) irq → P irq
   none_pending irq is =
-      let none : bit_at (get_or (replicate 16 0) (irq / 32) 0) (irq % 32) ≡ 0 =
-      ap (λ w. bit_at w (irq % 32)) (zeros 16 (irq / 32)) ∙ bit_at-zero (irq % 32) in
+      let none : bit_at (get_or (replicate 32 0) (irq / 32) 0) (irq % 32) ≡ 0 =
+      ap (λ w. bit_at w (irq % 32)) (zeros 32 (irq / 32)) ∙ bit_at-zero (irq % 32) in
       absurd (omega (arith, none, is))
 
   pub found_asked : (history : List Entry) (last : List ℕ) → IsLegal history last
       → AllByRecursion (λ (e : Entry). Asks e.call) history → AllByRecursion (λ (e : Entry). Finds e.call) history
   found_asked history last legal asks =
-      all_find (replicate 16 0) history last legal none_pending asks
+      all_find (replicate 32 0) history last legal none_pending asks

@@ -3,6 +3,7 @@ pub mod Bits
 pub mod Histories
 pub mod Seeing
 pub mod Seats
+pub mod Calling
 pub mod Latching
 pub mod Pending
 pub mod Making
@@ -12,6 +13,7 @@ pub mod Opening
 pub mod Accounting
 pub mod Parting
 pub mod Closing
+pub mod Silent
 pub mod Worked
 pub mod Blind
 pub mod Found

@@ -112,13 +112,13 @@ module _ (p : Call → Bool) where
         sum_by-cons (λ (r : Part). count_by p r.calls) q qs,
       )
 
-  -- the calls are those of the core and of the gathered lines
-  pub by_parts : (history : List Entry) (core : List Call) (parts : List Part) → part history 255 ≡ core
+  -- the calls are those of the first line and of the gathered ones
+  pub by_parts : (history : List Entry) (mine : List Call) (parts : List Part) → part history 255 ≡ mine
       → ((q : Part) → Contains parts q → part history q.line ≡ q.calls)
       → ¬ Contains (numbers parts) 255 → Distinct (numbers parts)
       → ((n : ℕ) → n ≢ 255 → ¬ Contains (numbers parts) n → part history n ≡ [])
-      → count_by p (calls_in history) ≡ count_by p core + sum_by (λ (q : Part). count_by p q.calls) parts
-  by_parts history core parts own is other apart out =
+      → count_by p (calls_in history) ≡ count_by p mine + sum_by (λ (q : Part). count_by p q.calls) parts
+  by_parts history mine parts own is other apart out =
       let all = by_numbers history (255 ∷ numbers parts) (other, apart)
       (λ n no_. out n (λ e. no_ (subst (λ (k : ℕ). Contains (k ∷ numbers parts) n) e (in_head n (numbers parts))))
       (λ t. no_ (in_tail 255 n (numbers parts) t))) in

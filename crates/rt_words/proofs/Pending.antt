@@ -1,30 +1,28 @@
 -- A pend keeps the rule.
 use Rattle.std.proofs.Common.{◌≡◌, ℕ, ◌+◌, ◌-◌, ◌*◌, ◌/◌, ◌%◌, ◌^◌, ◌<◌, ◌≢◌, if◌then◌else◌, List, [], ◌∷◌, ◌++◌}
-use Rattle.std.proofs.Common.{length, get_or, set, bit_or, refl, sym, ap, ◌∙◌, subst, arith, length-set}
+use Rattle.std.proofs.Common.{length, get_or, set, bit_or, sym, ap, ◌∙◌, subst, arith, length-set}
 use Rattle.std.proofs.Common.{get_or-set_same, get_or-set_other, eq-eqb, ne_eqb}
 use Rattle.std.specs.Int.{bit_at}
 use Rattle.std.proofs.lemmas.Nat.{or_of_32, pow_below}
 use Rattle.std.proofs.lemmas.Nat.Bits.{bit_at-pow_same, bit_at-pow_other, bit_at-lt}
-use mathlib.Core.Option.{none, some}
+use mathlib.Core.Option.{none}
 use mathlib.Core.Logic.{dite}
 use native.Mathlib.Decide.{ℕ_discrete}
-use lib.ListN.{get_elem?}
 use Rattle.atomic_table.specs.Table.{step, keeps, Allows}
 use Rattle.rt_words.specs.declared.call.Pended.{Pended}
 use Rattle.rt_words.specs.declared.call.Pended.TheVariants.{Raised, Merged}
 use Rattle.rt_words.specs.declared.call.Call.{Call}
 use Rattle.rt_words.specs.declared.call.Call.TheVariants.{Pend}
-use Rattle.rt_words.specs.declared.view.Stage.TheVariants.{Device}
 use Rattle.rt_words.specs.declared.view.View.{View}
 use Rattle.rt_words.specs.Object.{IsPending, IsAnswered, after}
-use Rattle.rt_words.specs.History.{Entry, IsLegal}
-use Rattle.rt_words.specs.Inside.Rule.{IsRow, padded_words, Standing, Kept}
-use Rattle.rt_words.specs.Inside.Seats.{Seat}
+use Rattle.rt_words.specs.History.{Entry}
+use Rattle.rt_words.specs.Inside.Rule.{IsRow, padded_words, Kept}
+use Rattle.rt_words.specs.Inside.Seats.{Seat, IsLive}
 use Rattle.rt_words.specs.Inside.Steps.{view_after_call, Extends, answer_at, pend_step}
 use Rattle.rt_words.proofs.Bits.{blank, set_padding, get_or_padding, with_bit, pend_other}
-use Rattle.rt_words.proofs.Histories.{entry, LeavesWords-push}
-use Rattle.rt_words.proofs.Seeing.{prefix_self, seen_more, extends}
-use Rattle.rt_words.proofs.Seats.{know_set, numbered, seated_pend}
+use Rattle.rt_words.proofs.Histories.{entry}
+use Rattle.rt_words.proofs.Seeing.{extends}
+use Rattle.rt_words.proofs.Calling.{called}
 
 -- two equal powers of 2 are one power
 pub one_power : (a b : ℕ) → 2 ^ a ≡ 2 ^ b → a ≡ b
@@ -85,49 +83,29 @@ pend_padded : (words : List ℕ) (irq : ℕ) (a : Pended) → irq / 32 < length 
 pend_padded words irq a l =
     let i : ℕ = irq / 32 in
     let n : ℕ = with_bit (get_or words i 0) (irq % 32) in
-    ap (λ (w : ℕ). set (padded_words words) i (with_bit w (irq % 32))) (get_or_padding words (16 - length words) i)
-    ∙ set_padding words (blank (16 - length words)) i n l
-    ∙ ap (λ (m : ℕ). set words i n ++ blank (16 - m)) (sym (length-set words i n))
+    ap (λ (w : ℕ). set (padded_words words) i (with_bit w (irq % 32))) (get_or_padding words (32 - length words) i)
+    ∙ set_padding words (blank (32 - length words)) i n l
+    ∙ ap (λ (m : ℕ). set words i n ++ blank (32 - m)) (sym (length-set words i n))
 
-pended_standing : (may words : List ℕ) (views : List View) (history : List Entry) (core : View) (id irq : ℕ) (v : View)
-    → Standing may words views history core
-    → get_elem? views id ≡ some v → v.stage ≡ Device → IsPending may irq
-    → (c : Call) → c ≡ Pend irq (answer_at (get_or words (irq / 32) 0) (irq % 32))
-    → Standing may (pend_in words irq) (set views id (view_after_call v (history ++ entry v.line c ∷ []) c))
-    (history ++ entry v.line c ∷ []) core
-pended_standing may words views history core id irq v st at stage may_be c is =
-    let n : ℕ = get_or words (irq / 32) 0 in
-    let l = st.row.covers irq may_be in
-    let mine = st.seated.lines id v.line v at (numbered v Device stage) in
-    let more : List Entry = history ++ entry v.line c ∷ [] in
-    let a : IsAnswered (padded_words words) c = subst (λ (x : Call). IsAnswered (padded_words words) x) (sym is)
-    (answered (padded_words words) irq n (get_or_padding words (16 - length words) (irq / 32))) in
-    record {
-      row = pend_row may words irq may_be st.row;
-      legal = subst (λ (x : List ℕ). IsLegal (history ++ entry v.line c ∷ []) x)
-          (ap (λ (x : Call). after (padded_words words) x) is ∙ pend_padded words irq (answer_at n (irq % 32)) l)
-          (LeavesWords-push _ (padded_words words) history (entry v.line c) st.legal a);
-      seated = seated_pend history views core id v more c st.seated at stage;
-      seen = seen_more history (entry v.line c ∷ []) views id (view_after_call v more c) st.seen (prefix_self more);
-      same_may = know_set may views id (view_after_call v more c) st.same_may (st.same_may id v at);
-      behind = st.behind;
-      quiet = λ all. absurd (mine.ungathered (all v.line mine.made));
-      last = λ all. absurd (mine.ungathered (all v.line mine.made));
-    }
-
--- a device's step that sets the bit of an interrupt
-pub pends : (may : List ℕ) (slots id irq : ℕ) (me : Seat) → me.0.stage ≡ Device → IsPending may irq
+-- a step of a line that sets a bit
+pub pends : (may : List ℕ) (slots id irq : ℕ) (me : Seat) → IsLive id me.0 → IsPending may irq
     → Allows (Kept may) slots id me (irq / 32) (λ n. bit_or n (2 ^ (irq % 32)))
     (pend_step (step slots (irq / 32) (2 ^ (irq % 32)) 0 none) me)
-pends may slots id irq me stage may_be s kept homes at small =
+pends may slots id irq me live may_be s kept homes at small =
+    let st = kept.2 in
     let n : ℕ = get_or s.words (irq / 32) 0 in
     let c : Call = Pend irq (answer_at n (irq % 32)) in
     let more : List Entry = kept.0 ++ entry me.0.line c ∷ [] in
-    let w : View = view_after_call me.0 more c in (
+    let w : View = view_after_call me.0 more c in
+    let goes_on =
+    called may s.words (pend_in s.words irq) s.views kept.0 kept.1 id me.0 c st at live
+    (answered (padded_words s.words) irq n (get_or_padding s.words (32 - length s.words) (irq / 32)))
+    (pend_padded s.words irq (answer_at n (irq % 32)) (st.row.covers irq may_be))
+    (pend_row may s.words irq may_be st.row) in (
       w,
       keeps,
       tt,
-      (more, kept.1, pended_standing may s.words s.views kept.0 kept.1 id irq me.0 kept.2 at stage may_be c refl),
+      (more, goes_on.0, goes_on.1),
       (
         more,
         λ bit l e.
@@ -137,20 +115,20 @@ pends may slots id irq me stage may_be s kept homes at small =
             ap (λ (x : ℕ × ℕ). Pend x.0 (answer_at n x.1)) (λ i. (whole i, is i)) in (
               ap (λ (x : Call). (view_after_call me.0 more x, me.1)) same,
               subst (λ (x : Call). Extends me.0.seen me.0.line x more) same
-                  (extends me.0.seen kept.0 me.0.line c (kept.2.seen id me.0 at)),
+                  (extends me.0.seen kept.0 me.0.line c (st.seen id me.0 at)),
             ),
       ),
     )
 
 -- the same, at the word and the operand of the code
 pub pends_as : (may : List ℕ) (slots id irq word mask : ℕ) (me : Seat) → word ≡ irq / 32 → mask ≡ 2 ^ (irq % 32)
-    → me.0.stage ≡ Device → IsPending may irq
+    → IsLive id me.0 → IsPending may irq
     → Allows (Kept may) slots id me word (λ n. bit_or n mask) (pend_step (step slots word mask 0 none) me)
-pends_as may slots id irq word mask me w m stage may_be =
+pends_as may slots id irq word mask me w m live may_be =
     subst (λ (x : ℕ). Allows (Kept may) slots id me x (λ n. bit_or n mask) (pend_step (step slots x mask 0 none) me))
     (sym w)
     (subst (λ (y : ℕ). Allows (Kept may) slots id me (irq / 32) (λ n. bit_or n y)
-    (pend_step (step slots (irq / 32) y 0 none) me)) (sym m) (pends may slots id irq me stage may_be))
+    (pend_step (step slots (irq / 32) y 0 none) me)) (sym m) (pends may slots id irq me live may_be))
 
 -- the answer, by the test of the bit
 pub answer_merged : (found bit : ℕ) → bit_at found bit ≡ 1 → answer_at found bit ≡ Merged

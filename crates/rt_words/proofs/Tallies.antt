@@ -1,202 +1,214 @@
 -- A line's counts after one call more.
-use Rattle.std.proofs.Common.{◌≡◌, ℕ, ◌+◌, ◌-◌, ◌^◌, ◌<◌, ◌==◌, Bool, false, cond, List, [], ◌∷◌, ◌++◌, length, get_or}
-use Rattle.std.proofs.Common.{set, count_by, refl, sym, ap, ◌∙◌, subst, arith, eq-eqb, ne_eqb, get_or-set_same}
-use Rattle.std.proofs.Common.{get_or-set_other, length-set}
-use Rattle.std.proofs.lemmas.List.Sums.{sum_by_push, sum_by-cons, count_by-le-length}
+use Rattle.std.proofs.Common.{◌≡◌, ◌≢◌, ℕ, ◌+◌, ◌-◌, ◌/◌, ◌%◌, ◌^◌, ◌<◌, ◌==◌, ◌&&◌, Bool, false, cond, List, []}
+use Rattle.std.proofs.Common.{◌∷◌, ◌++◌, length, get_or, set, count_by, refl, sym, ap, ◌∙◌, subst, arith, eq-eqb}
+use Rattle.std.proofs.Common.{ne_eqb, get_or-set_same, get_or-set_other, length-set}
+use Rattle.std.specs.Int.{bit_at}
+use Rattle.std.proofs.lemmas.List.Sums.{sum_by_push, count_by-le-length}
 use Rattle.std.proofs.lemmas.List.{get_or_past}
-use mathlib.Core.Logic.{dite}
 use native.Mathlib.Decide.{ℕ_discrete, dec_lt}
-use Rattle.rt_words.proofs.Counting.{one_if}
 use Rattle.rt_words.specs.declared.call.Pended.TheVariants.{Raised, Merged}
 use Rattle.rt_words.specs.declared.call.Call.{Call}
 use Rattle.rt_words.specs.declared.call.Call.TheVariants.{Latch, Pend}
-use Rattle.rt_words.specs.Account.{raises, merges, latches, latched_count}
-use Rattle.rt_words.specs.Inside.Fields.{Counts, IsCoreSeat, IsDeviceSeat}
-use Rattle.rt_words.specs.Inside.Seats.{Seat}
-use Rattle.rt_words.specs.Inside.Steps.{view_after_call, device, newcomer, view_after_reserve, without_reserved}
-use Rattle.rt_words.specs.Inside.Steps.{view_after_join}
-use Rattle.rt_words.specs.declared.view.Part.{Part}
+use Rattle.rt_words.specs.declared.tally.Tally.{Tally}
+use Rattle.rt_words.specs.declared.view.View.{View}
+use Rattle.rt_words.specs.Account.{raises, merges, latches, IsTally}
 use Rattle.rt_words.specs.History.{Entry}
+use Rattle.rt_words.specs.Row.{bit_in_row, word_in_row}
+use Rattle.rt_words.specs.Inside.Fields.{IsSoundLine}
+use Rattle.rt_words.specs.Inside.Seats.{Seat, IsLive}
+use Rattle.rt_words.specs.Inside.Steps.{view_after_call}
 use Rattle.rt_words.proofs.Bits.{blank, blank_long, zeros}
+use Rattle.rt_words.proofs.Counting.{one_if}
 
 -- one call more, under any test
-pub count_more : (p : Call → Bool) (calls : List Call) (c : Call) → count_by p (calls ++ c ∷ []) ≡ count_by p calls
-    + cond (p c) 1 0
-count_more p calls c = sum_by_push (λ x. cond (p x) 1 0) calls c
+more_if : (p : Call → Bool) (calls : List Call) (c : Call) (old new : ℕ) → old ≡ count_by p calls
+    → new ≡ old + one_if (p c) → new ≡ count_by p (calls ++ c ∷ [])
+more_if p calls c old new before more =
+    omega (arith, before, more, sum_by_push (λ x. cond (p x) 1 0) calls c)
 
-module _ (f : ℕ → Call → Bool) (counts : List ℕ) (calls : List Call) (c : Call)
-    (is : Counts (λ irq. count_by (f irq)) counts calls) where
-  counts_hit : (n : ℕ) → n < length counts → ((irq : ℕ) → f irq c ≡ (n == irq))
-      → Counts (λ irq. count_by (f irq)) (set counts n (get_or counts n 0 + 1)) (calls ++ c ∷ [])
-  counts_hit n l hits irq small = dite (ℕ_discrete n irq)
-      (λ e.
-      let one : one_if (f irq c) ≡ 1 = ap one_if (hits irq ∙ eq-eqb n irq e) in
-      let more = count_more (f irq) calls c in
-      let before = is irq small in
-      let here : get_or (set counts n (get_or counts n 0 + 1)) irq 0 ≡ get_or counts irq 0 + 1 =
-      ap (λ (i : ℕ). get_or (set counts n (get_or counts n 0 + 1)) i 0) (sym e) ∙ get_or-set_same counts n _ 0 l
-      ∙ ap (λ (i : ℕ). get_or counts i 0 + 1) e in
-      omega arith)
-      (λ ne.
-      let zero_ : one_if (f irq c) ≡ 0 = ap one_if (hits irq ∙ ne_eqb n irq ne) in
-      let more = count_more (f irq) calls c in
-      let before = is irq small in
-      let other : get_or (set counts n (get_or counts n 0 + 1)) irq 0 ≡ get_or counts irq 0 =
-      get_or-set_other counts n irq _ 0 (λ e. ne (sym e)) in
-      omega arith)
+none_more : (p : Call → Bool) (calls : List Call) (c : Call) → count_by p calls ≡ 0 → p c ≡ false
+    → count_by p (calls ++ c ∷ []) ≡ 0
+none_more p calls c none miss = omega (arith, none, ap one_if miss, sum_by_push (λ x. cond (p x) 1 0) calls c)
 
-  counts_miss : ((irq : ℕ) → f irq c ≡ false) → Counts (λ irq. count_by (f irq)) counts (calls ++ c ∷ [])
-  counts_miss misses irq small =
-      let zero_ : one_if (f irq c) ≡ 0 = ap one_if (misses irq) in
-      let more = count_more (f irq) calls c in
-      let before = is irq small in
-      omega arith
+-- the counts are those before with what one call adds, by interrupt number
+abbrev Adds : (ℕ → Bool) → List ℕ → List ℕ → Type 0
+Adds test old new = (irq : ℕ) → get_or new irq 0 ≡ get_or old irq 0 + one_if (test irq)
 
-none_more : (f : ℕ → Call → Bool) (calls : List Call) (c : Call) → ((irq : ℕ) → count_by (f irq) calls ≡ 0)
-    → ((irq : ℕ) → f irq c ≡ false) → (irq : ℕ) → count_by (f irq) (calls ++ c ∷ []) ≡ 0
-none_more f calls c is misses irq =
-    let zero_ : one_if (f irq c) ≡ 0 = ap one_if (misses irq) in
-    let more = count_more (f irq) calls c in
-    let before = is irq in
-    omega arith
+module _ (here there : ℕ) (calls : List Call) (c : Call) (old new : Tally) (is : IsTally here there calls old)
+    (raised : Adds (λ irq. raises (bit_in_row there irq) c) old.raised new.raised)
+    (merged : Adds (λ irq. merges (bit_in_row there irq) c) old.merged new.merged)
+    (latched : (irq : ℕ) → irq < 512
+    → get_or new.latched irq 0 ≡ get_or old.latched irq 0 + one_if (latches (bit_in_row here irq) c))
+    (raises_there : (bit : ℕ) → bit / 512 ≢ there → raises bit c ≡ false)
+    (merges_there : (bit : ℕ) → bit / 512 ≢ there → merges bit c ≡ false)
+    (latches_here : (bit : ℕ) → bit / 512 ≢ here → latches bit c ≡ false) where
+  tally_after : IsTally here there (calls ++ c ∷ []) new
+  tally_after = record {
+    raised = λ irq small. more_if (raises (bit_in_row there irq)) calls c _ _ (is.raised irq small) (raised irq);
+    merged = λ irq small. more_if (merges (bit_in_row there irq)) calls c _ _ (is.merged irq small) (merged irq);
+    latched = λ irq small.
+        more_if (latches (bit_in_row here irq)) calls c _ _ (is.latched irq small) (latched irq small);
+    raised_there = λ bit far. none_more (raises bit) calls c (is.raised_there bit far) (raises_there bit far);
+    merged_there = λ bit far. none_more (merges bit) calls c (is.merged_there bit far) (merges_there bit far);
+    latched_here = λ bit far. none_more (latches bit) calls c (is.latched_here bit far) (latches_here bit far);
+  }
 
-after_merged_at : (me : Seat) (rs ms : List ℕ) (n : ℕ) (seen : List Entry) → IsDeviceSeat me rs ms → n < 512
-    → IsDeviceSeat (view_after_call me.0 seen (Pend n Merged), me.1) rs (set ms n (get_or ms n 0 + 1))
-after_merged_at me rs ms n seen is l = let e = is.room_merged in record {
-  slots = is.slots;
-  stage = is.stage;
-  room_raised = is.room_raised;
-  room_merged = length-set ms n (get_or ms n 0 + 1) ∙ is.room_merged;
-  count_raised = counts_miss raises rs me.0.calls (Pend n Merged) is.count_raised (λ irq. refl);
-  count_merged = counts_hit merges ms me.0.calls (Pend n Merged) is.count_merged n (omega arith) (λ irq. refl);
-  latches = none_more latches me.0.calls (Pend n Merged) is.latches (λ irq. refl);
-}
+same_plus_none : (n : ℕ) → n ≡ n + 0
+same_plus_none n = omega arith
 
-after_raised_at : (me : Seat) (rs ms : List ℕ) (n : ℕ) (seen : List Entry) → IsDeviceSeat me rs ms → n < 512
-    → IsDeviceSeat (view_after_call me.0 seen (Pend n Raised), me.1) (set rs n (get_or rs n 0 + 1)) ms
-after_raised_at me rs ms n seen is l = let e = is.room_raised in record {
-  slots = is.slots;
-  stage = is.stage;
-  room_raised = length-set rs n (get_or rs n 0 + 1) ∙ is.room_raised;
-  room_merged = is.room_merged;
-  count_raised = counts_hit raises rs me.0.calls (Pend n Raised) is.count_raised n (omega arith) (λ irq. refl);
-  count_merged = counts_miss merges ms me.0.calls (Pend n Raised) is.count_merged (λ irq. refl);
-  latches = none_more latches me.0.calls (Pend n Raised) is.latches (λ irq. refl);
-}
+-- one more at a place
+hit : (counts : List ℕ) (n irq : ℕ) → n < length counts
+    → get_or (set counts n (get_or counts n 0 + 1)) irq 0 ≡ get_or counts irq 0 + one_if (n == irq)
+hit counts n irq inside = by (ℕ_discrete n irq)
+  where
+    by : Dec (n ≡ irq)
+        → get_or (set counts n (get_or counts n 0 + 1)) irq 0 ≡ get_or counts irq 0 + one_if (n == irq)
+    by (yes e) =
+        ap (λ (i : ℕ). get_or (set counts n (get_or counts n 0 + 1)) i 0) (sym e)
+        ∙ get_or-set_same counts n (get_or counts n 0 + 1) 0 inside
+        ∙ (λ i. get_or counts (e i) 0 + one_if (sym (eq-eqb n irq e) i))
+    by (no ne) =
+        get_or-set_other counts n irq (get_or counts n 0 + 1) 0 (λ e. ne (sym e))
+        ∙ same_plus_none (get_or counts irq 0)
+        ∙ ap (λ b. get_or counts irq 0 + one_if b) (sym (ne_eqb n irq ne))
 
--- a device's line after a pend, with its count one more
-pub after_merged : (me me' : Seat) (rs ms : List ℕ) (n : ℕ) (seen : List Entry) → IsDeviceSeat me rs ms → n < 512
-    → me' ≡ (view_after_call me.0 seen (Pend n Merged), me.1) → IsDeviceSeat me' rs (set ms n (get_or ms n 0 + 1))
-after_merged me me' rs ms n seen is l e =
-    subst (λ (x : Seat). IsDeviceSeat x rs (set ms n (get_or ms n 0 + 1))) (sym e)
-    (after_merged_at me rs ms n seen is l)
+-- two tests that are equal
+both_test : (a b c d : ℕ) → (a ≡ b → c ≡ d) → (c ≡ d → a ≡ b) → (a == b) ≡ (c == d)
+both_test a b c d on back = by (ℕ_discrete a b)
+  where
+    by : Dec (a ≡ b) → (a == b) ≡ (c == d)
+    by (yes e) = eq-eqb a b e ∙ sym (eq-eqb c d (on e))
+    by (no ne) = ne_eqb a b ne ∙ sym (ne_eqb c d (λ e. ne (back e)))
 
-pub after_raised : (me me' : Seat) (rs ms : List ℕ) (n : ℕ) (seen : List Entry) → IsDeviceSeat me rs ms → n < 512
-    → me' ≡ (view_after_call me.0 seen (Pend n Raised), me.1) → IsDeviceSeat me' (set rs n (get_or rs n 0 + 1)) ms
-after_raised me me' rs ms n seen is l e =
-    subst (λ (x : Seat). IsDeviceSeat x (set rs n (get_or rs n 0 + 1)) ms) (sym e)
-    (after_raised_at me rs ms n seen is l)
+-- an interrupt of one core, and a bit of another
+other_core : (core n bit : ℕ) → n < 512 → bit / 512 ≢ core → (bit_in_row core n == bit) ≡ false
+other_core core n bit small far =
+    ne_eqb (bit_in_row core n) bit (λ e. far (omega (arith, e, small)))
 
-after_latched_at : (id : ℕ) (me : Seat) (old new : List ℕ) (k word : ℕ) (seen : List Entry) → IsCoreSeat id me old
-    → length new ≡ 512 → ((irq : ℕ) → get_or new irq 0 ≡ get_or old irq 0 + cond (latches irq (Latch k word)) 1 0)
-    → IsCoreSeat id (view_after_call me.0 seen (Latch k word), me.1) new
-after_latched_at id me old new k word seen is room grown = record {
-  first = is.first;
-  slots = is.slots;
-  stage = is.stage;
-  free = is.free;
-  room = room;
-  counted = λ irq small.
-      let more = count_more (latches irq) me.0.calls (Latch k word) in
-      let before = is.counted irq small in
-      let g = grown irq in
-      omega arith;
-  raises = none_more raises me.0.calls (Latch k word) is.raises (λ irq. refl);
-  merges = none_more merges me.0.calls (Latch k word) is.merges (λ irq. refl);
-  others = is.others;
-}
+hit_there : (there : ℕ) (counts : List ℕ) (n : ℕ) → n < length counts
+    → Adds (λ irq. bit_in_row there n == bit_in_row there irq) counts (set counts n (get_or counts n 0 + 1))
+hit_there there counts n inside irq =
+    hit counts n irq inside
+    ∙ ap (λ b. get_or counts irq 0 + one_if b)
+    (both_test n irq (bit_in_row there n) (bit_in_row there irq) (ap (bit_in_row there)) (λ e. omega (arith, e)))
 
--- the core's line after a latch, with its counts
-pub after_latched : (id id' : ℕ) (me me' : Seat) (old new : List ℕ) (k word : ℕ) (seen : List Entry)
-    → IsCoreSeat id me old → length new ≡ 512
-    → ((irq : ℕ) → get_or new irq 0 ≡ get_or old irq 0 + cond (latches irq (Latch k word)) 1 0)
-    → id' ≡ id → me' ≡ (view_after_call me.0 seen (Latch k word), me.1) → IsCoreSeat id' me' new
-after_latched id id' me me' old new k word seen is room grown same e =
-    subst (λ (x : ℕ × Seat). IsCoreSeat x.0 x.1 new) (λ i. (sym same i, sym e i))
-    (after_latched_at id me old new k word seen is room grown)
+-- a word of a core has the bits of its interrupts
+latches_core : (here k word irq : ℕ) → latches irq (Latch k word)
+    ≡ latches (bit_in_row here irq) (Latch (word_in_row here k) word)
+latches_core here k word irq =
+    let bit : irq % 32 ≡ bit_in_row here irq % 32 = omega arith in
+    let test : (k == irq / 32) ≡ (word_in_row here k == bit_in_row here irq / 32) =
+    both_test k (irq / 32) (word_in_row here k) (bit_in_row here irq / 32) (λ e. omega (arith, e))
+    (λ e. omega (arith, e)) in
+    λ i. test i && (bit_at word (bit i) == 1)
 
--- a count is at most the number of calls
-pub counts_room : (f : ℕ → Call → Bool) (counts : List ℕ) (calls : List Call)
-    → Counts (λ irq. count_by (f irq)) counts calls → length counts ≡ 512 → length calls < 2 ^ 32 - 1 → (irq : ℕ)
-    → get_or counts irq 0 < 2 ^ 32 - 1
-counts_room f counts calls is wide few irq = dite (dec_lt irq 512)
-    (λ l. let b = count_by-le-length (f irq) calls in let c = is irq l in omega arith)
-    (λ no_. let z : get_or counts irq 0 ≡ 0 = get_or_past counts irq 0 (omega arith) in omega arith)
+latches_else : (here k word bit : ℕ) → k < 16 → bit / 512 ≢ here → latches bit (Latch (word_in_row here k) word) ≡ false
+latches_else here k word bit small far =
+    ap (λ b. b && (bit_at word (bit % 32) == 1))
+    (ne_eqb (word_in_row here k) (bit / 32) (λ e. far (omega (arith, e, small))))
 
--- the core's line after it made a line
-pub after_made : (id id' number : ℕ) (me me' : Seat) (counts : List ℕ) → IsCoreSeat id me counts → id' ≡ id → me'
-    ≡ (without_reserved (view_after_reserve number me.0), me.1) → IsCoreSeat id' me' counts
-after_made id id' number me me' counts is same e = subst (λ (x : ℕ × Seat). IsCoreSeat x.0 x.1 counts)
-    (λ i. (sym same i, sym e i)) record {
-      first = is.first;
-      slots = is.slots;
-      stage = is.stage;
-      free = refl;
-      room = is.room;
-      counted = is.counted;
-      raises = is.raises;
-      merges = is.merges;
-      others = is.others;
-    }
-
--- the new line
-pub new_device : (number : ℕ) (seen : List Entry) (may : List ℕ) (me : Seat) (rs ms : List ℕ)
-    → me ≡ (device number [] seen may, []) → rs ≡ blank 512 → ms ≡ blank 512 → IsDeviceSeat me rs ms
-new_device number seen may me rs ms e r m =
-    subst (λ (x : Seat × List ℕ × List ℕ). IsDeviceSeat x.0 x.1 x.2) (λ i. (sym e i, sym r i, sym m i)) record {
+-- a line with the calls that its tally counts
+pub sound : (id : ℕ) (me : Seat) (v : View) (here there : ℕ) (tally : Tally) → me ≡ (v, []) → IsLive id v
+    → here < 2 → there < 2
+    → length tally.raised ≡ 512 → length tally.merged ≡ 512 → length tally.latched ≡ 512
+    → IsTally here there v.calls tally → IsSoundLine id me here there tally
+sound id me v here there tally e seat near far raised merged latched counted =
+    subst (λ (x : Seat). IsSoundLine id x here there tally) (sym e) record {
       slots = refl;
-      stage = refl;
-      room_raised = blank_long 512;
-      room_merged = blank_long 512;
-      count_raised = λ irq small. zeros 512 irq;
-      count_merged = λ irq small. zeros 512 irq;
-      latches = λ irq. refl;
+      seat = seat;
+      near = near;
+      far = far;
+      room_raised = raised;
+      room_merged = merged;
+      room_latched = latched;
+      counted = counted;
     }
 
--- the core's line after it took in a line
-pub after_gathered : (id id' : ℕ) (me me' dev : Seat) (counts rs ms : List ℕ) (since : ℕ) (seen : List Entry)
-    → IsCoreSeat id me counts → IsDeviceSeat dev rs ms → id' ≡ id
-    → me' ≡ (record (view_after_join me.0 dev.0) { since = since; seen = seen }, me.1) → IsCoreSeat id' me' counts
-after_gathered id id' me me' dev counts rs ms since seen is taken same e =
-    subst (λ (x : ℕ × Seat). IsCoreSeat x.0 x.1 counts) (λ i. (sym same i, sym e i)) record {
-      first = is.first;
-      slots = is.slots;
-      stage = is.stage;
-      free = is.free;
-      room = is.room;
-      counted = is.counted;
-      raises = is.raises;
-      merges = is.merges;
-      others = λ irq.
-          let all = sum_by-cons (λ (p : Part). latched_count irq p.calls)
-          (record { line = dev.0.line; calls = dev.0.calls }) me.0.gathered in
-          let one = taken.latches irq in
-          let rest = is.others irq in
-          omega arith;
-    }
+-- a line's seat after a step of it
+module _ (id next : ℕ) (me after : Seat) (here there : ℕ) (old : Tally) (is : IsSoundLine id me here there old)
+    (same : next ≡ id) where
+  held : (v : View) → after ≡ (v, me.1) → after ≡ (v, [])
+  held v e = e ∙ ap (λ (xs : List (ℕ × Unit {0})). (v, xs)) is.slots
 
--- the core's line at the beginning
-pub new_core : (id : ℕ) (may : List ℕ) (me : Seat) (counts : List ℕ) → id ≡ 0 → me ≡ (newcomer may, []) → counts
-    ≡ blank 512 → IsCoreSeat id me counts
-new_core id may me counts first e c = subst (λ (x : Seat × List ℕ). IsCoreSeat id x.0 x.1) (λ i. (sym e i, sym c i))
-    record {
-      first = first;
-      slots = refl;
-      stage = refl;
-      free = refl;
-      room = blank_long 512;
-      counted = λ irq small. zeros 512 irq;
-      raises = λ irq. refl;
-      merges = λ irq. refl;
-      others = λ irq. refl;
-    }
+  -- that leaves the calls
+  pub after_still : (v : View) → after ≡ (v, me.1) → v.line ≡ me.0.line → v.calls ≡ me.0.calls
+      → IsSoundLine next after here there old
+  after_still v e line calls =
+      sound next after v here there old (held v e) (λ f. same ∙ is.seat (sym line ∙ f)) is.near is.far is.room_raised
+      is.room_merged is.room_latched
+      (subst (λ (cs : List Call). IsTally here there cs old) (sym calls) is.counted)
+
+  after_call : (seen : List Entry) (c : Call) (new : Tally) → after ≡ (view_after_call me.0 seen c, me.1)
+      → length new.raised ≡ 512 → length new.merged ≡ 512 → length new.latched ≡ 512
+      → IsTally here there (me.0.calls ++ c ∷ []) new → IsSoundLine next after here there new
+  after_call seen c new e raised merged latched counted =
+      let v : View = view_after_call me.0 seen c in
+      sound next after v here there new (held v e) (λ f. same ∙ is.seat f) is.near is.far raised merged latched counted
+
+  pub after_merged : (seen : List Entry) (n : ℕ) → n < 512
+      → after ≡ (view_after_call me.0 seen (Pend (bit_in_row there n) Merged), me.1)
+      → IsSoundLine next after here there (record old { merged = set old.merged n (get_or old.merged n 0 + 1) })
+  after_merged seen n small e =
+      let c : Call = Pend (bit_in_row there n) Merged in
+      let new : Tally = record old { merged = set old.merged n (get_or old.merged n 0 + 1) } in
+      after_call seen c new e is.room_raised (length-set old.merged n (get_or old.merged n 0 + 1) ∙ is.room_merged)
+      is.room_latched
+      (tally_after here there me.0.calls c old new is.counted (λ irq. same_plus_none (get_or old.raised irq 0))
+      (hit_there there old.merged n (omega (arith, small, is.room_merged)))
+      (λ irq within. same_plus_none (get_or old.latched irq 0)) (λ bit far. refl)
+      (λ bit far. other_core there n bit small far) (λ bit far. refl))
+
+  pub after_raised : (seen : List Entry) (n : ℕ) → n < 512
+      → after ≡ (view_after_call me.0 seen (Pend (bit_in_row there n) Raised), me.1)
+      → IsSoundLine next after here there (record old { raised = set old.raised n (get_or old.raised n 0 + 1) })
+  after_raised seen n small e =
+      let c : Call = Pend (bit_in_row there n) Raised in
+      let new : Tally = record old { raised = set old.raised n (get_or old.raised n 0 + 1) } in
+      after_call seen c new e (length-set old.raised n (get_or old.raised n 0 + 1) ∙ is.room_raised) is.room_merged
+      is.room_latched
+      (tally_after here there me.0.calls c old new is.counted
+      (hit_there there old.raised n (omega (arith, small, is.room_raised)))
+      (λ irq. same_plus_none (get_or old.merged irq 0)) (λ irq within. same_plus_none (get_or old.latched irq 0))
+      (λ bit far. other_core there n bit small far) (λ bit far. refl) (λ bit far. refl))
+
+  pub after_latched : (seen : List Entry) (k word : ℕ) (counts : List ℕ) → k < 16
+      → after ≡ (view_after_call me.0 seen (Latch (word_in_row here k) word), me.1) → length counts ≡ 512
+      → Adds (λ irq. latches irq (Latch k word)) old.latched counts
+      → IsSoundLine next after here there (record old { latched = counts })
+  after_latched seen k word counts small e room grown =
+      let c : Call = Latch (word_in_row here k) word in
+      let new : Tally = record old { latched = counts } in
+      after_call seen c new e is.room_raised is.room_merged room
+      (tally_after here there me.0.calls c old new is.counted (λ irq. same_plus_none (get_or old.raised irq 0))
+      (λ irq. same_plus_none (get_or old.merged irq 0))
+      (λ irq within. grown irq ∙ ap (λ b. get_or old.latched irq 0 + one_if b) (latches_core here k word irq))
+      (λ bit far. refl) (λ bit far. refl) (λ bit far. latches_else here k word bit small far))
+
+-- a line before its first call
+pub new_sound : (id : ℕ) (me : Seat) (v : View) (here there : ℕ) (tally : Tally) → me ≡ (v, []) → IsLive id v
+    → v.calls ≡ [] → here < 2 → there < 2 → tally.raised ≡ blank 512 → tally.merged ≡ blank 512
+    → tally.latched ≡ blank 512 → IsSoundLine id me here there tally
+new_sound id me v here there tally e seat none near far raised merged latched =
+    let empty : (counts : List ℕ) → counts ≡ blank 512 → (irq : ℕ) → get_or counts irq 0 ≡ 0 =
+    λ counts is irq. ap (λ (xs : List ℕ). get_or xs irq 0) is ∙ zeros 512 irq in
+    let long : (counts : List ℕ) → counts ≡ blank 512 → length counts ≡ 512 =
+    λ counts is. ap length is ∙ blank_long 512 in
+    sound id me v here there tally e seat near far (long tally.raised raised) (long tally.merged merged)
+    (long tally.latched latched)
+    (subst (λ (cs : List Call). IsTally here there cs tally) (sym none) record {
+      raised = λ irq small. empty tally.raised raised irq;
+      merged = λ irq small. empty tally.merged merged irq;
+      latched = λ irq small. empty tally.latched latched irq;
+      raised_there = λ bit other. refl;
+      merged_there = λ bit other. refl;
+      latched_here = λ bit other. refl;
+    })
+
+-- there is room for a latch more in each count
+pub latched_room : (here there : ℕ) (calls : List Call) (tally : Tally) → IsTally here there calls tally
+    → length tally.latched ≡ 512 → length calls < 2 ^ 32 - 1 → (irq : ℕ) → get_or tally.latched irq 0 < 2 ^ 32 - 1
+latched_room here there calls tally is wide few irq = by (dec_lt irq 512)
+  where
+    by : Dec (irq < 512) → get_or tally.latched irq 0 < 2 ^ 32 - 1
+    by (yes l) = omega (arith, is.latched irq l, count_by-le-length (latches (bit_in_row here irq)) calls, few)
+    by (no past) = omega (arith, get_or_past tally.latched irq 0 (omega (arith, past, wide)))

@@ -8,18 +8,18 @@ use Rattle.rt_words.specs.Account.{raised_count, merged_count, latched_count}
 use Rattle.rt_words.specs.Ending.{calls_in}
 use Rattle.rt_words.proofs.Histories.{entry}
 
--- line 0 pends interrupt 3 twice, the core latches word 0, and line 0 pends it again
+-- line 0 pends interrupt 3 twice, the first line latches word 0, and line 0 pends it again
 abbrev history : List Entry
 history = entry 0 (Pend 3 Raised) ∷ entry 0 (Pend 3 Merged) ∷ entry 255 (Latch 0 8) ∷ entry 0 (Pend 3 Raised) ∷ []
 
 abbrev left : List ℕ
-left = 8 ∷ replicate 15 0
+left = 8 ∷ replicate 31 0
 
 is_legal : IsLegal history left
 is_legal = (refl, (refl, (refl, (refl, refl))))
 
-core_part : part history 255 ≡ Latch 0 8 ∷ []
-core_part = refl
+first_part : part history 255 ≡ Latch 0 8 ∷ []
+first_part = refl
 
 counts : (raised_count 3 (calls_in history) ≡ 2) × (merged_count 3 (calls_in history) ≡ 1)
     × (latched_count 3 (calls_in history) ≡ 1) × (pending_bit left 3 ≡ 1)

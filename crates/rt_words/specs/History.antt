@@ -9,10 +9,10 @@ abbrev pub LeavesWords : List ℕ → List Entry → List ℕ → Type 0
 LeavesWords words [] last = words ≡ last
 LeavesWords words (e ∷ es) last = IsAnswered words e.call × LeavesWords (after words e.call) es last
 
--- the history is legal (Herlihy and Wing, Linearizability, 1990): one thread could have made these calls, from words of
--- 0 on
+-- the history is legal (Herlihy and Wing, Linearizability, 1990): one thread could have made these calls, from 32 words
+-- of 0 on
 abbrev pub IsLegal : List Entry → List ℕ → Type 0
-IsLegal history last = LeavesWords (replicate 16 0) history last
+IsLegal history last = LeavesWords (replicate 32 0) history last
 
 -- these calls, as one line makes them
 abbrev pub entries : ℕ → List Call → List Entry

@@ -1,3 +1,4 @@
+pub mod Row
 pub mod Object
 pub mod History
 pub mod Account

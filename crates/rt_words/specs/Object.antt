@@ -5,21 +5,21 @@ use Rattle.rt_words.specs.declared.call.Pended.TheVariants.{Raised, Merged}
 use Rattle.rt_words.specs.declared.call.Call.{Call}
 use Rattle.rt_words.specs.declared.call.Call.TheVariants.{Pend, Latch}
 
--- the bit of an interrupt: 1 where it is pending, else 0
+-- a bit of the row: 1 where its interrupt is pending, else 0
 abbrev pub pending_bit : List ℕ → ℕ → ℕ
-pending_bit words irq = bit_of words irq
+pending_bit words bit = bit_of words bit
 
--- the interrupt is pending
+-- the interrupt of this bit is pending
 abbrev pub IsPending : List ℕ → ℕ → Type 0
-IsPending words irq = pending_bit words irq ≡ 1
+IsPending words bit = pending_bit words bit ≡ 1
 
 -- the call got the answer that these words give
 abbrev pub IsAnswered : List ℕ → Call → Type 0
-IsAnswered words (Pend irq Raised) = pending_bit words irq ≡ 0
-IsAnswered words (Pend irq Merged) = pending_bit words irq ≡ 1
+IsAnswered words (Pend bit Raised) = pending_bit words bit ≡ 0
+IsAnswered words (Pend bit Merged) = pending_bit words bit ≡ 1
 IsAnswered words (Latch k word) = word ≡ slice_index words k
 
--- the words after the call: a pend sets the interrupt's bit, a latch sets the word to 0
+-- the words after the call: a pend sets the bit, a latch sets the word to 0
 abbrev pub after : List ℕ → Call → List ℕ
-after words (Pend irq answer) = slice_set words (irq / 32) (bit_or (slice_index words (irq / 32)) (2 ^ (irq % 32)))
+after words (Pend bit answer) = slice_set words (bit / 32) (bit_or (slice_index words (bit / 32)) (2 ^ (bit % 32)))
 after words (Latch k word) = slice_set words k 0

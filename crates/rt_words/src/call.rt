@@ -9,9 +9,9 @@ pub enum Pended {
 
 /// A call of a line, with the answer that it got. Contracts name its values; no program makes one.
 pub enum Call {
-    /// The number of the interrupt that was pended, and what became of it.
+    /// The bit of the row that was pended, and what became of it.
     Pend(u16, Pended),
-    /// The number of the word that was latched, and the word that stood.
+    /// The word of the row that was latched, and its bits that stood.
     Latch(u8, u32),
 }
 

@@ -1,17 +1,18 @@
-// Pending interrupts as a row of atomic words: devices in threads of their own pend, the core latches, and all calls
-// stand in one history.
+// Pending interrupts of one or two cores as a row of atomic words. Lines in threads of their own pend and latch, and
+// all calls stand in one history.
 #![tactic(auto)]
 
 mod call;
-mod core_line;
-mod counts;
-mod device_line;
+mod line;
+mod row;
 mod rule;
+mod tally;
 mod view;
 mod words;
 
 pub use call::{Call, Entry, Pended};
-pub use core_line::CoreLine;
-pub use device_line::{DeviceLine, Tally};
+pub use line::Line;
+pub use row::{CORE_WORDS, ROW_WORDS};
+pub use tally::Tally;
 pub use view::Part;
 pub use words::{Left, Words};

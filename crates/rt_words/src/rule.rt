@@ -5,7 +5,7 @@ use std::marker::{Brand, PhantomData};
 
 pub(crate) struct Law;
 
-impl TableRule<(), View, [u32; 16]> for Law {
+impl TableRule<(), View, [u32; 32]> for Law {
     ghost use Rattle.rt_words.specs.Inside.Rule.{Kept};
     ghost use Rattle.rt_words.specs.Inside.Steps.{newcomer};
 
@@ -14,7 +14,7 @@ impl TableRule<(), View, [u32; 16]> for Law {
     ghost first = { newcomer };
 }
 
-// A device pends.
+// A line pends.
 pub(crate) struct Pend;
 
 impl Play<(), View> for Pend {
@@ -23,7 +23,7 @@ impl Play<(), View> for Pend {
     ghost then = { pend_step };
 }
 
-// The core latches.
+// A line latches.
 pub(crate) struct Latch;
 
 impl Play<(), View> for Latch {
@@ -43,38 +43,20 @@ impl Numbered for Brand {
     ghost number = { 0 };
 }
 
-// The core reserves a number before a split.
-pub(crate) struct Reserve<N> {
+// The first line splits off the seat of the new line.
+pub(crate) struct SplitOff<N> {
     of: PhantomData<N>,
 }
 
-impl<N: Numbered> Play<(), View> for Reserve<N> {
-    ghost use Rattle.rt_words.specs.Inside.Steps.{reserve_step};
+impl<N: Numbered> Split<View> for SplitOff<N> {
+    ghost use Rattle.rt_words.specs.Inside.Steps.{view_after_split, view_of_new};
 
-    ghost then = { reserve_step N.number };
+    ghost left = { view_after_split N.number };
+
+    ghost right = { view_of_new N.number };
 }
 
-// The core splits off a seat, which has the reserved number.
-pub(crate) struct SplitOff;
-
-impl Split<View> for SplitOff {
-    ghost use Rattle.rt_words.specs.Inside.Steps.{without_reserved, view_of_copy};
-
-    ghost left = { without_reserved };
-
-    ghost right = { view_of_copy };
-}
-
-// The new seat takes its number.
-pub(crate) struct Take;
-
-impl Play<(), View> for Take {
-    ghost use Rattle.rt_words.specs.Inside.Steps.{take_step};
-
-    ghost then = { take_step };
-}
-
-// The core takes in a line.
+// The first line takes in another.
 pub(crate) struct Gather;
 
 impl Join<View> for Gather {
@@ -85,7 +67,7 @@ impl Join<View> for Gather {
     ghost spent = { spent_view };
 }
 
-// The core looks after a join.
+// The first line looks after a join.
 pub(crate) struct Look;
 
 impl Play<(), View> for Look {

@@ -7,13 +7,14 @@ use Rattle.rt_devices.specs.declared.device.Device.{Device}
 use Rattle.rt_script.specs.declared.line.Line.{Line}
 use Rattle.rt_script.specs.declared.line.Line.TheVariants.{Steps, Ticks, Pends, Device as DeviceLine}
 use Rattle.rt_words.specs.Lines.{Row}
+use Rattle.rt_words.specs.Row.{bit_in_row}
 use Rattle.rt_words.specs.Object.{IsPending}
 use Rattle.rt_words.specs.declared.view.Part.{Part}
 
 -- a device can make the pends of its script
 pub record CanWork (row : Row) (device : Device) : Type 0 where
   pub words : device.line.words ≡ row
-  pub may : AllByRecursion (λ entry. IsPending row.may entry.0) device.script.items
+  pub may : AllByRecursion (λ entry. IsPending row.may (bit_in_row device.line.there entry.0)) device.script.items
   pub room : length device.line.calls + length (requests device.script.items) < 2 ^ 32 - 1
 
 -- each device of a list has made the pends of its script

@@ -4,33 +4,31 @@ use Rattle.atomic_table.specs.Table.{State}
 use Rattle.rt_words.specs.declared.view.View.{View}
 use Rattle.rt_words.specs.Object.{IsPending}
 use Rattle.rt_words.specs.History.{Entry, IsLegal, CallsLast}
-use Rattle.rt_words.specs.Ending.{AllGathered, LatchedAreZero}
+use Rattle.rt_words.specs.Ending.{AllGathered}
 use Rattle.rt_words.specs.Inside.Seats.{Seated, HaveSeen, AllKnow}
 
--- at most 16 words of 32 bits, which have a bit for each interrupt that may be pended, and no other bit set
+-- at most 32 words of 32 bits, with each bit that may be pended, and no other bit set
 pub record IsRow (may words : List ℕ) : Type 0 where
-  pub short : length words ≤ 16
+  pub short : length words ≤ 32
   pub low : (k : ℕ) → slice_index words k < 2 ^ 32
-  pub within : (irq : ℕ) → IsPending words irq → IsPending may irq
-  pub covers : (irq : ℕ) → IsPending may irq → irq / 32 < length words
+  pub within : (bit : ℕ) → IsPending words bit → IsPending may bit
+  pub covers : (bit : ℕ) → IsPending may bit → bit / 32 < length words
 
--- the words with words of 0 after them, 16 in all
+-- the words with words of 0 after them, 32 in all
 abbrev pub padded_words : List ℕ → List ℕ
-padded_words words = words ++ replicate (16 - length words) 0
+padded_words words = words ++ replicate (32 - length words) 0
 
 -- A legal history leaves the words as they are, its parts are the seats' calls, and each seat has seen a beginning of
--- it. Once every line is gathered, only the core calls: what it has called since finds the words of 0 that it left, and
--- comes last.
-pub record Standing (may words : List ℕ) (views : List View) (history : List Entry) (core : View) : Type 0 where
+-- it. Once every line is gathered, only the maker, the first line, calls: what it has called since comes last.
+pub record Standing (may words : List ℕ) (views : List View) (history : List Entry) (maker : View) : Type 0 where
   pub row : IsRow may words
   pub legal : IsLegal history (padded_words words)
-  pub seated : Seated history views core
+  pub seated : Seated history views maker
   pub seen : HaveSeen history views
   pub same_may : AllKnow may views
-  pub behind : core.since ≤ length core.calls
-  pub quiet : AllGathered core.made core.gathered → LatchedAreZero (drop core.since core.calls) words
-  pub last : AllGathered core.made core.gathered → CallsLast history 255 (drop core.since core.calls)
+  pub behind : maker.since ≤ length maker.calls
+  pub last : AllGathered maker.made maker.gathered → CallsLast history 255 (drop maker.since maker.calls)
 
 -- there is one such history
 abbrev pub Kept : List ℕ → State (Unit {0}) View → Type 0
-Kept may s = (history : List Entry) × (core : View) × Standing may s.words s.views history core
+Kept may s = (history : List Entry) × (maker : View) × Standing may s.words s.views history maker

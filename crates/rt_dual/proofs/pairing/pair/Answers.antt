@@ -49,9 +49,9 @@ returns-in-Ok-put_both-clause-all g c =
     (sym c.is_err.ensures.value ∙ c.if-is_err.false) c.run_both.ensures.ok) in
     let wrote = c.in-Ok-put_both.ensures.ok in
     let written : IsWritten a.image b.image new wrote.0 =
-    subst (λ (i : Image). IsWritten i b.image new wrote.0) (c.image-3.ensures ∙ ended.first_side.leads.image)
+    subst (λ (i : Image). IsWritten i b.image new wrote.0) (c.image-3.ensures ∙ ended.one.ends.leads.image)
     (subst (λ (i : Image). IsWritten c.image-3.result.now i new wrote.0) (c.image-4.ensures
-    ∙ ended.second_side.leads.image)
+    ∙ ended.two.ends.leads.image)
     wrote.1) in
     has_paired c.args.script.now a x b y old new wrote.0 c.requires.first_fresh c.requires.second_fresh before ended
     written (g.K.Sink.taken c.args.out.now) (g.K.Sink.taken c.put_both.new.out) wrote.2
@@ -77,9 +77,9 @@ returns-in-Err-clause-begun g c =
     (sym c.is_err.ensures.value ∙ c.if-is_err.false) c.run_both.ensures.ok) in
     let wrote = c.in-Err.ensures.err in
     let written : IsWritten a.image b.image new wrote.0 =
-    subst (λ (i : Image). IsWritten i b.image new wrote.0) (c.image-3.ensures ∙ ended.first_side.leads.image)
+    subst (λ (i : Image). IsWritten i b.image new wrote.0) (c.image-3.ensures ∙ ended.one.ends.leads.image)
     (subst (λ (i : Image). IsWritten c.image-3.result.now i new wrote.0) (c.image-4.ensures
-    ∙ ended.second_side.leads.image)
+    ∙ ended.two.ends.leads.image)
     wrote.1) in
     λ _. record {
       part = record {
@@ -90,8 +90,8 @@ returns-in-Err-clause-begun g c =
             written;
         took = wrote.2;
       };
-      one_leads = ended.first_side.leads;
-      two_leads = ended.second_side.leads;
+      one_leads = ended.one.ends.leads;
+      two_leads = ended.two.ends.leads;
     }
 
 pub returns-in-Err-clause-part : goal.returns-in-Err-clause-part

@@ -1,59 +1,44 @@
-use Rattle.std.proofs.Common.{◌∷◌, replicate, inl, inr, subst, ◌∙◌, arith}
-use Rattle.std.proofs.lemmas.List.{length-replicate}
+use Rattle.std.proofs.Common.{inl, ◌∙◌, arith}
 use Rattle.std.proofs.lemmas.Result.{on_ok_weaker, on_err_weaker}
+use Rattle.std.proofs.lemmas.List.{length-replicate}
 use Rattle.rt_lemmas.proofs.Results.{on_err_from}
 use Rattle.rt_ids.specs.Event.{Step}
 use Rattle.rt_run.proofs.Taking.{cause_on}
-use Rattle.rt_live.specs.Going.{Goes, Stops}
-use Rattle.rt_live.specs.Interleaving.{Happens, Looks}
+use Rattle.rt_live.specs.Interleaving.{Happens, last_turns}
 use Rattle.rt_live.proofs.Ended.{ended, ended_cut}
 use Rattle.rt_live.proofs.Turning.{steps_below}
 use Rattle.rt_live.proofs.ending.end.Goals as goal
 
-pub last_turns-requires-clause-few : goal.last_turns-requires-clause-few
-last_turns-requires-clause-few g c = omega (arith, c.steps-steps.ensures, c.requires.few)
-
-pub last_turns-requires-clause-room : goal.last_turns-requires-clause-room
-last_turns-requires-clause-room g c = omega (arith, c.steps-steps.ensures, c.requires.room)
-
 pub returns-in_err-last_turns-clause-err : goal.returns-in_err-last_turns-clause-err
-returns-in_err-last_turns-clause-err g c =
-    on_err_from c.from_residual.result
-    (inl (subst (λ n. Stops (Looks ∷ replicate n (Happens Step)) c.args.line.now.calls c.last_turns.new.line.calls
-    c.args.core.now c.last_turns.new.core (g.K.Sink.taken c.args.out.now) (g.K.Sink.taken c.last_turns.new.out))
-    c.steps-steps.ensures c.in_err-last_turns.ensures.err))
+returns-in_err-last_turns-clause-err g c = on_err_from c.from_residual.result (inl c.in_err-last_turns.ensures.err)
 
 pub put_end-requires : goal.put_end-requires
 put_end-requires g c =
     omega (
       arith,
       c.steps.ensures,
-      steps_below _ c.args.core.now _ _ _ _ _ c.in_ok-last_turns.ensures.ok,
-      length-replicate c.steps-steps.result (Happens Step),
-      c.steps-steps.ensures,
-      c.requires.few,
+      steps_below (g.T.Routes.leads c.args.role.now.routes) (last_turns c.args.steps) c.args.line.now _
+          c.args.core.now _ _ _
+          c.in_ok-last_turns.ensures.ok,
+      length-replicate c.args.steps (Happens Step),
+      c.requires.can.few,
     )
 
 pub returns-clause-ok : goal.returns-clause-ok
 returns-clause-ok g c =
-    let ts = Looks ∷ replicate c.args.core.now.steps (Happens Step) in
-    let run = subst (λ n. Goes (Looks ∷ replicate n (Happens Step)) c.args.line.now.calls c.last_turns.new.line.calls
-    c.args.core.now c.last_turns.new.core (g.K.Sink.taken c.args.out.now) (g.K.Sink.taken c.last_turns.new.out))
-    c.steps-steps.ensures c.in_ok-last_turns.ensures.ok in
     on_ok_weaker c.put_end.result
-    (ended ts c.args.line.now.calls _ c.args.core.now _ _ _ _ c.new-held.result c.steps.result c.new-held.ensures
-    c.steps.ensures run)
+    (ended (g.T.Routes.leads c.args.role.now.routes) (last_turns c.args.steps) c.args.line.now c.last_turns.new.line
+    c.args.core.now c.last_turns.new.core _ _ _ c.last_turns.new.between.held c.steps.result
+    c.in_ok-last_turns.ensures.none_held c.steps.ensures c.in_ok-last_turns.ensures.ok)
     c.put_end.ensures.ok
 
 pub returns-clause-err : goal.returns-clause-err
 returns-clause-err g c =
-    let ts = Looks ∷ replicate c.args.core.now.steps (Happens Step) in
-    let run = subst (λ n. Goes (Looks ∷ replicate n (Happens Step)) c.args.line.now.calls c.last_turns.new.line.calls
-    c.args.core.now c.last_turns.new.core (g.K.Sink.taken c.args.out.now) (g.K.Sink.taken c.last_turns.new.out))
-    c.steps-steps.ensures c.in_ok-last_turns.ensures.ok in
     on_err_weaker c.put_end.result
-    (λ part. inr (ended_cut ts c.args.line.now.calls _ c.args.core.now _ _ _ _ c.new-held.result c.steps.result
-    c.new-held.ensures c.steps.ensures run part))
+    (ended_cut (g.T.Routes.leads c.args.role.now.routes) (last_turns c.args.steps) c.args.line.now
+    c.last_turns.new.line
+    c.args.core.now c.last_turns.new.core _ _ _ c.last_turns.new.between.held c.steps.result
+    c.in_ok-last_turns.ensures.none_held c.steps.ensures c.in_ok-last_turns.ensures.ok)
     c.put_end.ensures.err
 
 pub returns-clause-cause : goal.returns-clause-cause

@@ -1,22 +1,27 @@
-use Rattle.std.proofs.Common.{◌≡◌, refl, ap, ◌∙◌}
-use Rattle.rt_words.specs.Lines.{Core}
-use Rattle.rt_devices.specs.declared.device.Device.{Device}
-use Rattle.rt_live.proofs.Tallied.{gathers_none, gathers_more, next_has, next_room, same_words}
+use Rattle.std.proofs.Common.{refl, ap, ◌∙◌}
+use Rattle.rt_words.specs.Lines.{Line}
+use Rattle.rt_live.proofs.Tallied.{gathers_none, gathers_more, next_has, next_room, same_words, same_number}
+use Rattle.rt_live.specs.Ready.{IsBeside}
 use Rattle.rt_live.proofs.gathering.gather_all.Goals as goal
 
 pub loop-device-init : goal.loop-device-init
 loop-device-init c =
     record { run = gathers_none c.args.devices.now.items c.args.line.now; counted = c.requires.counted; irqs = refl }
 
+pub gather_line-requires-clause-first : goal.gather_line-requires-clause-first
+gather_line-requires-clause-first c =
+    let run = c.loop-device.invariant.run in
+    ap (λ (l : Line). l.number) run.line ∙ same_number run.done c.args.line.now ∙ c.requires.first
+
 pub gather_line-requires-clause-core : goal.gather_line-requires-clause-core
 gather_line-requires-clause-core c =
     let run = c.loop-device.invariant.run in
-    ap (λ (l : Core). l.words) run.line ∙ same_words run.done c.args.line.now ∙ c.requires.core
+    ap (λ (l : Line). l.words) run.line ∙ same_words run.done c.args.line.now ∙ c.requires.core
 
 pub gather_line-requires-clause-device : goal.gather_line-requires-clause-device
 gather_line-requires-clause-device c =
     next_has c.args.devices.now.items _ c.args.line.now _ _ c.in-Some.device c.loop-device.invariant.run
-    c.in-Some.ensures.items (λ (d : Device). d.line.words ≡ c.args.words.now) c.requires.devices
+    c.in-Some.ensures.items (IsBeside c.args.words.now) c.requires.devices
 
 pub gather_line-requires-clause-room : goal.gather_line-requires-clause-room
 gather_line-requires-clause-room c =

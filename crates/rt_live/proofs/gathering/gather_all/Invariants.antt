@@ -7,7 +7,7 @@ use Rattle.rt_live.proofs.gathering.gather_all.Given as goal
 abbrev pub invariant-loop-device : goal.invariant-loop-device
 invariant-loop-device l = record {
   run : GathersLast l.fn.devices.items l.devices.items l.fn.line l.line;
-  counted : AllByRecursion (IsCounted l.line.gathered) l.rows;
+  counted : AllByRecursion (IsCounted 0 l.line.gathered) l.rows;
   irqs : irqs_of l.rows ≡ irqs_of l.fn.rows;
 }
 

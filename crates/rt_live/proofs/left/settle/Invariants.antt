@@ -4,5 +4,4 @@ use Rattle.rt_live.proofs.left.settle.Given as goal
 
 abbrev pub invariant-loop-row : goal.invariant-loop-row
 invariant-loop-row l =
-    l.rows
-    ≡ map (settled_row l.left.latched l.left.bits) (take l.row-index l.fn.rows) ++ drop l.row-index l.fn.rows
+    l.rows ≡ map (settled_row l.core l.bits) (take l.row-index l.fn.rows) ++ drop l.row-index l.fn.rows

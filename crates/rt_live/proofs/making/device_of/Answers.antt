@@ -11,8 +11,13 @@ returns-clause-device c =
     let line = c.split-own.ensures.line in
     let entries = c.in_ok-script.ensures in (
       record {
-        words = ap (λ (l : Line). l.words) line;
-        number = ap (λ (l : Line). l.number) line;
+        beside = record {
+          words = ap (λ (l : Line). l.words) line;
+          number = ap (λ (l : Line). l.number) line;
+          other = c.requires.other;
+          here = ap (λ (l : Line). l.here) line;
+          there = ap (λ (l : Line). l.there) line;
+        };
         unused = ap (λ (l : Line). l.calls) line;
         none_raised = refl;
         none_merged = refl;

@@ -2,7 +2,7 @@ use Rattle.std.proofs.Common.{◌≡◌, map, true, false, ap, sym, subst, ◌�
 use Rattle.std.specs.List.{AllByRecursion, list_any}
 use Rattle.rt_lemmas.proofs.Membership.{all_append}
 use Rattle.rt_devices.specs.declared.device.Device.{Device}
-use Rattle.rt_words.specs.Lines.{Core}
+use Rattle.rt_words.specs.Lines.{Line as Caller}
 use Rattle.rt_live.specs.Devices.{is_of_device}
 use Rattle.rt_live.specs.Ready.{IsWaiting}
 use Rattle.rt_live.specs.Inside.Making.{HasMadeLines}
@@ -58,6 +58,6 @@ loop-number-preserved c =
                 subst (λ v. AllByRecursion (IsWaiting words script) v.items) (sym w.made-is) before.waiting;
             line =
                 subst (λ ns. HasMadeLines c.if-names_device.line ns words) (sym (no_device n script named))
-                (subst (λ (l : Core). HasMadeLines l (devices_below n script) words) (sym w.line-is) before.line);
+                (subst (λ (l : Caller). HasMadeLines l (devices_below n script) words) (sym w.line-is) before.line);
           }
     ]

@@ -1,43 +1,62 @@
-use Rattle.std.proofs.Common.{[], ◌∷◌, ◌∙◌, arith}
-use Rattle.std.proofs.lemmas.Result.{on_ok_weaker, on_err_weaker}
+use Rattle.std.proofs.Common.{[], ◌∷◌, length, ap, refl, sym, subst, ◌∙◌, arith}
+use Rattle.std.proofs.lemmas.List.{length-append}
 use Rattle.rt_lemmas.proofs.Results.{on_err_from}
+use Rattle.rt_ids.specs.Event.{Step}
 use Rattle.rt_run.proofs.Known.{still_writable}
-use Rattle.rt_run.proofs.Taking.{cause_on}
-use Rattle.rt_live.specs.Interleaving.{Looks, interleaving}
-use Rattle.rt_live.proofs.Looking.{step_alone, step_cut, step_look_cut}
-use Rattle.rt_live.proofs.Woven.{look_steps}
+use Rattle.rt_words.specs.Lines.{Line}
+use Rattle.rt_words.specs.Row.{word_in_row}
+use Rattle.rt_live.specs.Able.{MayRoute}
+use Rattle.rt_live.specs.Interleaving.{Happens, look_arrivals, look_calls_from, arrivals_from}
+use Rattle.rt_live.proofs.Looking.{look_cut, step_alone, step_cut}
+use Rattle.rt_live.proofs.Woven.{no_steps, length-latches}
 use Rattle.rt_live.proofs.turns.step.Goals as goal
 
 pub returns-in_err-look-clause-err : goal.returns-in_err-look-clause-err
 returns-in_err-look-clause-err g c =
-    on_err_from c.from_residual.result (step_look_cut c.args.line.now.calls _ c.args.core.now _ _ _
-    c.in_err-look.ensures.err)
+    on_err_from c.from_residual.result
+    (look_cut (g.T.Routes.leads c.args.role.now.routes) c.args.line.now _ c.args.core.now _ _ _ (Happens Step ∷ [])
+    (omega arith) refl c.in_err-look.ensures.err)
 
-pub send_step-requires-clause-writable : goal.send_step-requires-clause-writable
-send_step-requires-clause-writable g c =
+pub show_step-requires-clause-writable : goal.show_step-requires-clause-writable
+show_step-requires-clause-writable g c =
     let run = c.in_ok-look.ensures.ok in
-    still_writable (interleaving (Looks ∷ []) run.found) c.args.core.now _ run.sends.leads c.requires.able.writable
+    still_writable (look_arrivals run.found) c.args.core.now _ run.sends.leads c.requires.can.able.writable
 
-pub send_step-requires-clause-few : goal.send_step-requires-clause-few
-send_step-requires-clause-few g c =
+pub show_step-requires-clause-few : goal.show_step-requires-clause-few
+show_step-requires-clause-few g c =
     let run = c.in_ok-look.ensures.ok in
-    omega (arith, run.sends.leads.steps, look_steps run.found, c.requires.few)
+    omega (arith, run.sends.leads.steps, no_steps (arrivals_from 0 run.found), c.requires.can.few)
+
+pub returns-in_err-shown-clause-err : goal.returns-in_err-shown-clause-err
+returns-in_err-shown-clause-err g c =
+    on_err_from c.from_residual-in_err-shown.result
+    (step_cut (g.T.Routes.leads c.args.role.now.routes) c.args.line.now _ c.args.core.now _ c.show_step.new.core _ _ _
+    c.in_ok-look.ensures.ok c.in_err-shown.ensures.err)
+
+pub forward-requires-clause-words : goal.forward-requires-clause-words
+forward-requires-clause-words g c =
+    ap (λ (l : Line). l.words) c.in_ok-look.ensures.ok.latched ∙ c.requires.can.able.words
+
+pub forward-requires-clause-may : goal.forward-requires-clause-may
+forward-requires-clause-may g c =
+    subst (λ n. MayRoute (g.T.Routes.leads c.args.role.now.routes) n c.args.words.now)
+    (sym (ap (λ (l : Line). l.there) c.in_ok-look.ensures.ok.latched)) c.requires.can.routed
+
+pub forward-requires-clause-room : goal.forward-requires-clause-room
+forward-requires-clause-room g c =
+    let finds = c.in_ok-look.ensures.ok in
+    let first = word_in_row c.args.line.now.here 0 in
+    omega (
+      arith,
+      ap (λ (l : Line). length l.calls) finds.latched,
+      length-append c.args.line.now.calls (look_calls_from first finds.found),
+      length-latches first finds.found,
+      finds.many,
+      c.requires.can.room,
+    )
 
 pub returns-clause-ok : goal.returns-clause-ok
 returns-clause-ok g c =
-    on_ok_weaker c.send_step.result
-    (step_alone c.args.line.now.calls _ c.args.core.now _ c.send_step.new.core _ _ _ c.in_ok-look.ensures.ok)
-    c.send_step.ensures.ok
-
-pub returns-clause-err : goal.returns-clause-err
-returns-clause-err g c =
-    on_err_weaker c.send_step.result
-    (step_cut c.args.line.now.calls _ c.args.core.now _ c.send_step.new.core _ _ _ c.in_ok-look.ensures.ok)
-    c.send_step.ensures.err
-
-pub returns-clause-cause : goal.returns-clause-cause
-returns-clause-cause g c = cause_on _ _ _ c.send_step.result c.in_ok-look.ensures.quiet c.send_step.ensures.cause
-
-pub returns-clause-quiet : goal.returns-clause-quiet
-returns-clause-quiet g c =
-    on_ok_weaker c.send_step.result (λ same. same ∙ c.in_ok-look.ensures.quiet) c.send_step.ensures.quiet
+    step_alone (g.T.Routes.leads c.args.role.now.routes) c.args.line.now c.look.new.line c.args.core.now
+    c.look.new.core c.show_step.new.core _ _ _ c.in_ok-look.ensures.ok c.forward.new.line c.in_ok-shown.shown
+    c.in_ok-shown.ensures.ok c.in_ok-shown.ensures.shown c.forward.ensures

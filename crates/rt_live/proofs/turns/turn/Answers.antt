@@ -1,49 +1,81 @@
-use Rattle.std.proofs.Common.{[], ap, sym, subst}
+use Rattle.std.proofs.Common.{[], ◌∷◌, ap, sym, subst, ◌∙◌}
 use Rattle.std.proofs.lemmas.Result.{on_ok_weaker, on_err_weaker}
 use Rattle.rt_ids.specs.Event.{Tick}
-use Rattle.rt_script.specs.declared.line.Line.{Line}
-use Rattle.rt_live.specs.Going.{Goes}
+use Rattle.rt_script.specs.declared.line.Line.{Line as Asked}
 use Rattle.rt_live.specs.Interleaving.{looks, interleaving}
-use Rattle.rt_live.specs.Inside.Own.{own_turn}
-use Rattle.rt_live.proofs.Looking.{event_alone, event_cut}
-use Rattle.rt_live.proofs.Turning.{goes_none}
+use Rattle.rt_live.specs.Shares.{HasOwnName, own_turn, takes_pends, takes_devices}
+use Rattle.rt_live.proofs.Looking.{event_alone, event_cut, requested, requested_cut}
+use Rattle.rt_live.proofs.Owning.{pend_named, device_named}
 use Rattle.rt_live.proofs.turns.turn.Goals as goal
 
 pub returns-in-Ticks-clause-ok : goal.returns-in-Ticks-clause-ok
 returns-in-Ticks-clause-ok g c =
     let is = c.in-Ticks.is in
+    let share = c.args.role.now.share in
     on_ok_weaker c.send_tick.result
-    (event_alone Tick (own_turn c.args.asked.now) (ap (λ (l : Line). looks (own_turn l)) is)
-    (ap (λ (l : Line). interleaving (own_turn l) []) is) c.args.line.now.calls c.args.core.now _ _ _)
+    (event_alone (g.T.Routes.leads c.args.role.now.routes) (Tick ∷ []) (own_turn share c.args.asked.now)
+    (ap (λ (l : Asked). looks (own_turn share l)) is) (ap (λ (l : Asked). interleaving (own_turn share l) []) is)
+    c.args.line.now c.args.core.now _ _ _)
     c.send_tick.ensures.ok
 
 pub returns-in-Ticks-clause-err : goal.returns-in-Ticks-clause-err
 returns-in-Ticks-clause-err g c =
     let is = c.in-Ticks.is in
+    let share = c.args.role.now.share in
     on_err_weaker c.send_tick.result
-    (event_cut Tick (own_turn c.args.asked.now) (ap (λ (l : Line). looks (own_turn l)) is)
-    (ap (λ (l : Line). interleaving (own_turn l) []) is) c.args.line.now.calls c.args.core.now _ _ _)
+    (event_cut (g.T.Routes.leads c.args.role.now.routes) (Tick ∷ []) (own_turn share c.args.asked.now)
+    (ap (λ (l : Asked). looks (own_turn share l)) is) (ap (λ (l : Asked). interleaving (own_turn share l) []) is)
+    c.args.line.now c.args.core.now _ _ _)
     c.send_tick.ensures.err
+
+pub request-requires-clause-declared : goal.request-requires-clause-declared
+request-requires-clause-declared g c = λ own.
+    let share = c.args.role.now.share in
+    let names = c.args.core.now.image.names in
+    pend_named share names c.in-Pends.irq c.in-Pends.field-1
+    (subst (λ (l : Asked). HasOwnName share names l) c.in-Pends.is c.requires.declared)
+    (sym c.takes_pends-own.ensures ∙ own)
 
 pub returns-in-Pends-clause-ok : goal.returns-in-Pends-clause-ok
 returns-in-Pends-clause-ok g c =
-    let is = c.in-Pends.is in
-    on_ok_weaker c.send_pend.result
-    (event_alone _ (own_turn c.args.asked.now) (ap (λ (l : Line). looks (own_turn l)) is)
-    (ap (λ (l : Line). interleaving (own_turn l) []) is) c.args.line.now.calls c.args.core.now _ _ _)
-    c.send_pend.ensures.ok
+    let share = c.args.role.now.share in
+    on_ok_weaker c.request.result
+    (requested (g.T.Routes.leads c.args.role.now.routes) (own_turn share c.args.asked.now) c.takes_pends-own.result
+    (takes_pends share) c.in-Pends.irq c.takes_pends-own.ensures (ap (own_turn share) c.in-Pends.is) c.args.line.now
+    c.args.core.now _ _ _)
+    c.request.ensures.ok
 
 pub returns-in-Pends-clause-err : goal.returns-in-Pends-clause-err
 returns-in-Pends-clause-err g c =
-    let is = c.in-Pends.is in
-    on_err_weaker c.send_pend.result
-    (event_cut _ (own_turn c.args.asked.now) (ap (λ (l : Line). looks (own_turn l)) is)
-    (ap (λ (l : Line). interleaving (own_turn l) []) is) c.args.line.now.calls c.args.core.now _ _ _)
-    c.send_pend.ensures.err
+    let share = c.args.role.now.share in
+    on_err_weaker c.request.result
+    (requested_cut (g.T.Routes.leads c.args.role.now.routes) (own_turn share c.args.asked.now) c.takes_pends-own.result
+    (takes_pends share) c.in-Pends.irq c.takes_pends-own.ensures (ap (own_turn share) c.in-Pends.is) c.args.line.now
+    c.args.core.now _ _ _)
+    c.request.ensures.err
+
+pub request-requires-in-Device-clause-declared : goal.request-requires-in-Device-clause-declared
+request-requires-in-Device-clause-declared g c = λ own.
+    let share = c.args.role.now.share in
+    let names = c.args.core.now.image.names in
+    device_named share names c.in-Device.field-0 c.in-Device.irq c.in-Device.field-2
+    (subst (λ (l : Asked). HasOwnName share names l) c.in-Device.is c.requires.declared)
+    (sym c.takes_devices-own.ensures ∙ own)
 
 pub returns-in-Device-clause-ok : goal.returns-in-Device-clause-ok
 returns-in-Device-clause-ok g c =
-    let calls = c.args.line.now.calls in
-    subst (λ (l : Line). Goes (own_turn l) calls calls c.args.core.now c.args.core.now
-    (g.K.Sink.taken c.args.out.now) (g.K.Sink.taken c.args.out.now))
-    (sym c.in-Device.is) (goes_none calls c.args.core.now _)
+    let share = c.args.role.now.share in
+    on_ok_weaker c.request-in-Device.result
+    (requested (g.T.Routes.leads c.args.role.now.routes) (own_turn share c.args.asked.now) c.takes_devices-own.result
+    (takes_devices share) c.in-Device.irq c.takes_devices-own.ensures (ap (own_turn share) c.in-Device.is)
+    c.args.line.now c.args.core.now _ _ _)
+    c.request-in-Device.ensures.ok
+
+pub returns-in-Device-clause-err : goal.returns-in-Device-clause-err
+returns-in-Device-clause-err g c =
+    let share = c.args.role.now.share in
+    on_err_weaker c.request-in-Device.result
+    (requested_cut (g.T.Routes.leads c.args.role.now.routes) (own_turn share c.args.asked.now)
+    c.takes_devices-own.result (takes_devices share) c.in-Device.irq c.takes_devices-own.ensures
+    (ap (own_turn share) c.in-Device.is) c.args.line.now c.args.core.now _ _ _)
+    c.request-in-Device.ensures.err

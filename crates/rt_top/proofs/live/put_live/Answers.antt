@@ -9,7 +9,7 @@ use Rattle.rt_top.proofs.live.put_live.Goals as goal
 
 pub returns-in_err-put_all-clause-err : goal.returns-in_err-put_all-clause-err
 returns-in_err-put_all-clause-err g c =
-    let some = some_text c.args.core.now.image c.args.ready.script c.requires.script.devices in
+    let some = some_text c.args.core.now.image c.args.ready.script c.requires.script.devices c.requires.numbered in
     on_err_from c.from_residual.result (
       some.0,
       some.1,
