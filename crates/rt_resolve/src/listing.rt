@@ -36,7 +36,8 @@ pub(crate) fn resolve_shared(
     ensures listed { IfOk result (λ ls. ls.items ≡ map (meant.resolved_listing (written.app_of app.now)) listed.now) }
     ensures faults { OnOk result (faults.new.items ≡
         faults.old.items ++ flat_map
-        (λ l. wrong.if_unknown (named.shared_resource_named (written.app_of app.now) l.name.name) l.name.at) listed.now) }
+        (λ l. wrong.if_unknown (named.shared_resource_named (written.app_of app.now) l.name.name) l.name.at)
+        listed.now) }
 {
     let mut resolved = Vec::new(alloc);
     for l in listed {
@@ -97,7 +98,8 @@ fn shared_listings(
     requires { IsCounted (written.app_of app.now) }
     ensures { IfOk result (λ ls. map use_of ls.items ≡
         flat_map
-        (λ l. rules_on.listing_of (named.shared_resource_named (written.app_of app.now) l.name.name) l.name.at) listed.now) }
+        (λ l. rules_on.listing_of (named.shared_resource_named (written.app_of app.now) l.name.name) l.name.at)
+        listed.now) }
 {
     let mut listings = Vec::new(alloc);
     for l in listed {
@@ -145,7 +147,8 @@ pub(crate) fn push_shared_twice(
     ensures { OnOk result (faults.new.items ≡
         faults.old.items
         ++ rules_on.listed_twice [] (flat_map
-        (λ l. rules_on.listing_of (named.shared_resource_named (written.app_of app.now) l.name.name) l.name.at) listed.now)) }
+        (λ l. rules_on.listing_of (named.shared_resource_named (written.app_of app.now) l.name.name) l.name.at)
+        listed.now)) }
 {
     let listings = shared_listings(alloc, app, listed)?;
     push_listed_twice(faults, &listings)

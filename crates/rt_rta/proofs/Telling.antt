@@ -50,7 +50,8 @@ module _ (app : App) (limits : List Limit) where
   limit_new : (name count : List ℕ) → IfOk (limit_of app limits name count) IsNew
   limit_new name count =
       if_ok_then IsNew (distance_of (short_number count)) (λ every. limit_for limits every (bound_irq app name)) _
-      (distance_some (short_number count)) (λ every. for_new every (bound_irq app name) (irq_bound (irq_of app.irqs name)))
+      (distance_some (short_number count))
+      (λ every. for_new every (bound_irq app name) (irq_bound (irq_of app.irqs name)))
 
   words_new : (words : List (List ℕ)) → IfOk (words_tell app limits words) IsNew
   words_new [] = tt
