@@ -11,6 +11,7 @@ FORMS = {
 }
 SECTIONS = ": X is a shared resource, `free.T`, `ready.P` with P below 256, or `timer.0`"
 MEANING = {"take": ", with the bytes of stack in use after the entry", "enter": SECTIONS, "leave": SECTIONS}
+UNITS = "a number has no unit: `step` counts core steps, and `tick` ticks of the timer"
 HASH = "a comment begins with `#`, and has a line of its own"
 EVENTS, SCRIPT_BYTES, LARGEST = 1_000_000, 1_048_576, 4_294_967_295
 NUMERAL = re.compile(r"[0-9]+")
@@ -18,6 +19,17 @@ SECTION = re.compile(r"(free|ready|timer)\.")
 WORDS = ("step", "tick", "pend", "device")
 NUMBERS = ("V", "H", "DEPTH", "K")
 ROWS = ("image", "cell", "irq", "body", "code")
+
+
+def plain_number(word):
+    """How a number is written in a line, where a word is nearly one; or None."""
+    bare = word.rstrip(",;:.")
+    if re.fullmatch(r"0[xX][0-9a-fA-F]+", bare):
+        return f"numbers are decimal: write `{int(bare, 16)}`"
+    joined = re.sub(r"(?<=\d)[_,'](?=\d)", "", bare)
+    if NUMERAL.fullmatch(joined):
+        return f"write `{joined}`, with no other sign in it or after it"
+    return UNITS if re.fullmatch(r"\d+[A-Za-z]+", bare) else None
 
 
 class Line:
@@ -88,6 +100,10 @@ def bad_line(app, said, words, table):
             said.helps = ["this looks like an application; the application comes first, then the script"]
         elif words[0].lower() in WORDS:
             said.helps = [f"write `{words[0].lower()}`"]
+        elif joined := re.fullmatch(r"(step|tick|device)(\d+)", words[0]):
+            said.helps = [f"a blank comes between two words: `{joined[1]} {joined[2]}`"]
+        elif near := similar_word(words[0]):
+            said.helps = [f"write `{near}`", forms]
         elif words[0] in ("repeat", "loop", "for", "while", "times", "end", "done"):
             said.helps = ["a script has no loops: `pend I N` requests N times, and `step N` takes N steps"]
         elif NUMERAL.fullmatch(words[0]) and words[1:] and words[1] in WORDS:
@@ -100,7 +116,20 @@ def bad_line(app, said, words, table):
     short_words(app, said, words)
     if any(word.startswith(("#", "//")) for word in words):
         said.helps = [HASH]
+    elif words[0] != "device" and any(word in WORDS for word in words[1:]):
+        said.helps = ["a line says one thing: write a line for each"]
+    elif not said.helps and (told := plain_number(source[said.start :][: said.length])):
+        said.helps = [told]
     return said
+
+
+def similar_word(word):
+    """The word of a script that is nearly written, or meant by another one."""
+    if word.lower().rstrip("s;:,") in WORDS:
+        return word.lower().rstrip("s;:,")
+    if word.lower() in ("wait", "run", "sleep", "delay", "cycle", "cycles", "advance"):
+        return "step"
+    return next(iter(difflib.get_close_matches(word.lower(), WORDS, 1, 0.7)), None)
 
 
 def short_words(app, said, words):
@@ -120,7 +149,11 @@ def short_words(app, said, words):
                 f"`pend` wants the name of an interrupt, and `{words[1] if len(words) > 1 else ''}` is none")
         rows = [row[0].text for row in app.interrupts if len(words) > 1 and words[1] == str(row[1].value)]
         said.helps = [f"the interrupt of number {words[1]} is `{rows[0]}`"] if rows else []
+        if len(words) == 3 and NUMERAL.fullmatch(words[1]) and re.fullmatch(r"[A-Za-z_]\w*", words[2]):
+            said.helps = [f"the interrupt comes first: `pend {words[2]} {words[1]}`"]
         return ended_with_sign(said, words[1] if len(words) > 1 else "", words[2:])
+    if re.fullmatch(r"[A-Za-z_]\w*", words[2]) and words[2] not in WORDS:
+        said.helps = ["a line requests one interrupt: write a line for each"]
     if len(words) > 3:
         return said.at(words[3], "at most one number comes after `pend I`")
     return said.at(words[2], f"`{words[2]}` is no number of one to nine digits")
@@ -149,7 +182,7 @@ def unknown_interrupt(app, said, name, table):
 
 
 def similar(said, kind, name, names):
-    near = difflib.get_close_matches(name, names, 1, 0.7)
+    near = [one for one in names if one.lower() == name.lower()] or difflib.get_close_matches(name, names, 1, 0.7)
     if near:
         said.helps.append(f"{kind} of a similar name is `{near[0]}`")
 
@@ -246,4 +279,7 @@ def unknown_in_trace(app, said, words, table):
     else:
         kind, names = "software task", [task.name.text for task in app.tasks if task.is_software]
     said.at(name, table.cause("trace 3", K=Phrase(kind), N=name))
+    task = app.task(name)
+    if kind == "interrupt" and task and task.binds:
+        said.helps = [f"`{name}` is a task, and binds the interrupt `{task.binds.text}`"]
     similar(said, "an interrupt" if kind == "interrupt" else f"a {kind}", name, names)
