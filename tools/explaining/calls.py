@@ -14,7 +14,8 @@ class Named:
     """The tasks of a text that need not be in the grammar, each with the interrupt that it binds, or None."""
 
     def __init__(self, tokens):
-        self.tasks, self.armed, self.interrupts = {}, [], declared(tokens)
+        self.tasks, self.armed, self.interrupts = {}, [], declared(tokens, "interrupts")
+        self.resources = declared(tokens, "shared") + declared(tokens, "local")
         for number, token in enumerate(tokens[:-1]):
             behind = tokens[number + 1]
             if token.text == "task" and behind.kind == "name":
@@ -29,9 +30,11 @@ class Named:
         return [name for name, interrupt in self.tasks.items() if interrupt is None]
 
 
-def declared(tokens):
-    """The names of the interrupts that are declared."""
-    start = next((number for number, token in enumerate(tokens) if token.text == "interrupts"), len(tokens))
+def declared(tokens, word):
+    """The names that the declaration of this word has."""
+    rows = zip(tokens, tokens[1:])
+    start = next((number for number, (token, behind) in enumerate(rows) if (token.text, behind.text) == (word, "{")),
+                 len(tokens))
     stop = next((number for number, token in enumerate(tokens) if number > start and token.text == "}"), start)
     return [token.text for token in tokens[start:stop] if token.kind == "name"]
 

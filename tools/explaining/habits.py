@@ -6,11 +6,12 @@ after which a statement begins.
 """
 import re
 
-from .marks import COMMENT
+from .marks import BEGINS, COMMENT
 from .tokens import WORDS
 
 OPPOSITE = {"==": "!=", "!=": "==", "<": ">=", ">=": "<", ">": "<=", "<=": ">"}
 OTHER_NAME = rf"(?!(?:{'|'.join(sorted(WORDS))})\b)[A-Za-z_]\w*"
+OTHERS = r"(?:match|switch|while|return|unless|when|do|try|static|const|var|mut|await|async|auto|yield|el\w+|int|bool)"
 OPERAND = r"(?:[=(,+*/%&|^<>-]|emit|if)"
 STATEMENT = r"(?<!interrupts )(?<!shared )(?<!local )[;{}]"
 TYPE = r"(?:[ui](?:8|16|32|64|128|size)|bool|char|f32|f64|int|str|String)\b"
@@ -19,6 +20,12 @@ CONTEXT = r"(?:cx|ctx|c|_cx|_c|self|context)"
 NO_TYPES = "there are no types, every value is a number of 32 bits: leave `: <t>` out"
 NO_CONTEXT = "bodies get no context: resources are used by their names"
 NO_LOOP = "there is no `<w>`: a loop is `for i in 0..8 { .. }`, and the body of `idle` runs again and again"
+# where a name comes, and no value
+QUOTABLE = (
+    r"(?:\bbinds =|\b(?:shared|local|dispatchers) = \[(?: [^\]]*,)?|\b(?:pend|lock|spawn|app|task|with)"
+    r"|\b(?:interrupts|shared|local) \{(?: [^}]*,)?)$"
+)
+UNQUOTED = "a name has no quotes round it: write `<x>`"
 NO_TEXTS = "there are no texts and characters: `emit` shows a number"
 NO_MACROS = "there are no macros: `emit N;` shows a number in the trace"
 NUMERAL = "a number is decimal digits, or `0x` and hexadecimal ones: no `_`, no `0b`, no `0o`"
@@ -31,6 +38,10 @@ NOT_EQUAL = "not equal is `!=`"
 HEXADECIMAL = "a hexadecimal number begins with `0x`: `0x<x>`"
 ONE_FILE = "an application is one file, and takes in no other"
 
+NO_WFI = "without `idle` the core waits by itself while nothing runs: leave it out"
+NO_CHANNELS = "there are no channels: each software task has a queue of its own, `task t(capacity = 4) with x { .. }`"
+NO_FRAME = "nothing is round the declarations: leave this out, and the brace that closes it"
+SERVED = "a task serves an interrupt: `task t(binds = I) { .. }`"
 NO_DELAY = "no body waits: `spawn_after(d) t(..);` goes on in a task d ticks later"
 NO_PINS = "a body sets and reads no pin or register: `emit N;` shows a number in the trace"
 NO_MASKS = "nothing masks all interrupts: `lock a { .. }` holds off those who share the resource `a`"
@@ -55,13 +66,26 @@ PINS = (
     r"(?:pin|led|port|reg|register|high|low)\w*|led_?(?:on|off|toggle)\w*|(?:read|write)[lbw]?)"
 )
 LATER = r"(?:after|later|defer|schedule\w*|set_?[Tt]imeout|start_?[Tt]imer\w*|call_after|run_after|post_?delayed)"
+QUEUES = r"(?:x?Queue\w*(?:Send|Overwrite)\w*|osMessage\w*(?:Put|Send)\w*|k_msgq_put|x?\w*BufferSend\w*)"
+RECEIVES = r"(?:x?Queue\w*(?:Receive|Peek)\w*|osMessage\w*Get\w*|k_msgq_get|x?\w*BufferReceive\w*)"
+SEMAPHORES = (
+    r"(?:x?Semaphore\w+|os(?:Mutex|Semaphore)\w+|k_(?:mutex|sem)_\w+|pthread_mutex_\w+"
+    r"|(?:mutex|sem|semaphore|spin|spinlock)_?(?:[Ll]ock|[Uu]nlock|[Ww]ait|[Tt]ake|[Gg]ive|[Aa]cquire|[Rr]elease)\w*)"
+)
+CREATES = r"(?:xTaskCreate\w*|osThread(?:New|Create)\w*|k_thread_create|vTaskStartScheduler|osKernelStart)"
 FUNCTIONS = [
-    (DELAYS, NO_DELAY), (LATER, "a message for later is `spawn_after(d) t(..);`"), (MASKS, NO_MASKS),
+    (r"\w*(?:TO|to)_?(?:TICKS|ticks)\w*|K_(?:MSEC|SECONDS|TICKS)",
+     "a delay is a number of ticks: `spawn_after(100) ..`"),
+    (QUEUES, "a queue belongs to a software task: `spawn t(..);` puts a message into it"),
+    (RECEIVES, "a message starts its task, and its values are the names after `with`"),
+    (SEMAPHORES, "a resource is held for a block, `lock a { .. }`, and nothing else is taken and given"),
+    (CREATES, "nothing creates or starts a task: it runs when its interrupt or a message comes"),
+    (r"_*wf[ie]|__WF[IE]", NO_WFI), (DELAYS, NO_DELAY), (LATER, "a message for later is `spawn_after(d) t(..);`"),
+    (MASKS, NO_MASKS),
     (CLOCKS, "the time in ticks is the value of `let x = now;`"),
     (REQUESTS, "an interrupt is requested by `pend I;`"), (PINS, NO_PINS),
 ]
 ENDED = "a statement ends with `;`"
-BEGINS = r"(?:let|if|for|lock|emit|pend|spawn|spawn_after|cancel|reschedule_after|\}|\w+ =(?!=))"
 WORD_SIGNS = {
     "mod": "%", "div": "/", "xor": "^", "shl": "<<", "shr": ">>", "rem": "%", "eq": "==", "ne": "!=", "is": "==",
     "equals": "==", "isnt": "!=", "gt": ">", "lt": "<",
@@ -86,6 +110,7 @@ FOREIGN = [
     (r"", r"~ =", NOT_EQUAL),
     (r"\b(?P<n>\d{1,3})$", r"' (?P<x>\d{3})\b", "a number has no sign between its digits: write `<n><x>`"),
     (r"\blocal = \[ (?:[^\]]*, )?(?P<x>\w+)$", r": \w+ =", LISTED),
+    (r"\block_free$", r":(?! :)", "no sign comes after `lock_free`: `lock_free a = 0`"),
     (r"\b(?:shared|local) \{ (?:[^}]*, )?(?P<x>\w+)$", r": [A-Za-z]",
      "a resource is declared with its first value, and has no type: `<x> = 0`"),
     (r"\b(?:spawn|cancel) \w+ \( (?:[^;]*, )?\w+$", r": \w", BY_NAME),
@@ -98,19 +123,23 @@ FOREIGN = [
     (r"\b(?:spawn|cancel|\))(?: \w+)$", r"\. (?P<x>[A-Za-z_]\w*) \(", "there are no paths: write `<x>` alone"),
     (r"\b(?:app|task) (?P<x>\w+)$", r"\. (?P<y>\w+)", "names have letters, digits and `_`: write `<x>_<y>`"),
     (r"\w$", r"\. (?:binds|priority|capacity|shared|local) =", "a `,` comes between two options"),
-    (r"\b(?:interrupts|shared|local) \{[^}]*$|\[[^\]]*$", r"\. \w", "commas separate what is in a list"),
+    (r"\b(?:interrupts|shared|local) \{[^}]*$|\[[^\]]*$", r"\. [\w&]", "commas separate what is in a list"),
+    (r"\b(?:spawn|cancel) \w+ \([^;{}]*\)$|\bspawn_after \([^;{}]*\)$", r"\. await\b",
+     "a spawn does not wait for its task: leave `.await` out"),
     (r"", r"(?:: : \w*delay\w*|: : sleep|\. await)\b", NO_DELAY),
     (r"", r"\. delay(?:_\w+)? \(", NO_DELAY),
     (r"\w$", r": =", "to assign is `=`"),
     (rf"@ \w+$", rf": {BEGINS}(?: |$)", "there are no labels and no jumps: a loop is `for i in 0..8 { .. }`"),
     (r"\w$", rf": (?P<t>{TYPE})", NO_TYPES),
-    (r"rtic$", rf": : pend \( {CALL}(?P<x>\w+) \)", "`rtic::pend(Interrupt::<x>)` is `pend <x>;` here"),
+    (r"(?P<c>\w+)$", rf": : (?P<f>pend|set_pending|set_pending_irq) \( {CALL}(?P<x>\w+) \)",
+     "`<c>::<f>(Interrupt::<x>)` is `pend <x>;` here"),
     (r"(?P<t>\w+)$", r": : spawn \(",
      "`<t>::spawn(..)` is `spawn <t>(..);` here, or `let sent = spawn <t>(..);`"),
     (r"(?P<t>\w+)$", r": : spawn_(?:after|at) \(",
      "`<t>::spawn_after(d, ..)` is `spawn_after(d) <t>(..);` here, or `let handle = spawn_after(d) <t>(..);`"),
     (r"monotonics$", rf": : {CALL}now", "`monotonics::now()` is `let x = now;` here"),
     (r"(?:=|pend|\[|,) \w+$", rf": : {CALL}(?P<x>\w+)", "write `<x>` alone: an interrupt has no path here"),
+    (r"\w$", r": : (?:\w+ : : )*wf[ie]\b", NO_WFI),
     (r"", r": :", "there are no paths: a name is one word"),
     (r"[({,] (?P<x>\w+)$", r": (?P<v>\w+)", "write `=` here: `<x> = <v>`"),
     (r"[({,] (?P<x>\w+)$", r": \[", "write `=` here: `<x> = [..]`"),
@@ -121,9 +150,14 @@ FOREIGN = [
     (rf"\b(?P<c>{CONTEXT})$", r"\. (?P<k>local|shared|resources) \. (?P<x>\w+)",
      "bodies get no context: write `<x>` for `<c>.<k>.<x>`"),
     (r"(?P<x>\w+)$", r"\. lock\b", "a lock is `lock <x> { .. }` here, and inside it `<x>` is a number"),
+    (r"(?:@ \w+ =|\bemit|\bif|\blet \w+ =) (?!.*_after)[^;{}]*\b(?P<n>\d+)$",
+     r"\. (?:nanos|micros|millis|secs|minutes|hours|Hz|kHz|MHz)\b", "a number has no unit: write `<n>`"),
     (r"(?P<n>\b\d+)$", r"\. (?:nanos|micros|millis|secs|minutes|hours|Hz|kHz|MHz)\b",
      "a delay is a number of ticks: `spawn_after(<n>) ..`"),
+    (r"\bfor \w+ in \w+$", r"\. \w", "a loop is `for i in 0..8 { .. }`, with two dots"),
     (r"\b\d\w*$", r"\. \d", "numbers are whole ones of 32 bits"),
+    (r"(?P<x>\w+)$", r"\. (?P<f>abort|stop|kill|drop|delete|remove) \( \)",
+     "if `<x>` is a handle: `cancel foo(<x>);` withdraws its message, with the task's name"),
     (r"(?P<x>\w+)$", r"\. cancel \(", "`<x>.cancel()` is `cancel foo(<x>);` here, with the task's name"),
     (r"(?P<x>\w+)$", r"\. reschedule_after \(",
      "`<x>.reschedule_after(d)` is `reschedule_after(d) foo(<x>);` here, with the task's name"),
@@ -142,10 +176,13 @@ FOREIGN = [
     (r"", r"\. (?:set_high|set_low|toggle|is_high|is_low|set_output|write|read|modify)\b", NO_PINS),
     (r"(?P<x>\b\w+)$", r"\. (?:is_some|is_none|is_ok|is_err|unwrap|is_empty)\b",
      "each value is a number: compare it, as `<x> != 0`"),
+    (r"\b[A-Za-z_]\w*$", r"\. (?:print\w*|log|write\w*|puts|send|trace|info|debug) \(",
+     "to show a number in the trace is `emit N;`"),
     (r"(?P<x>\b\w+)$", r"\. (?P<f>\w+) \(",
      "there are no methods: `<x>` is one number, and what `<f>` calculates is written out"),
     (r"\w$", r"\. [A-Za-z_]", ONE_NUMBER),
     (r"\w$", r"\.", "take it out, or write the sign that is meant"),
+    (r"\bmake_channel$", r"!", NO_CHANNELS),
     (rf"(?:^|(?<!\w)){OTHER_NAME}$", r"! [(\[{]", NO_MACROS),
     *[(r"", rf"! (?P<a>[A-Za-z_]\w*) {sign} (?P<b>\w+)",
        f"there is no `!`: for `!<a> {sign} <b>` write `<a> {other} <b>`") for sign, other in OPPOSITE.items()],
@@ -157,6 +194,10 @@ FOREIGN = [
     (r"", r"~", "there is no `~`: write `a ^ 0xffffffff`"),
     (r"\)$", r"\?", "nothing panics: `spawn` gives 1, or 0 where no place was left, as in `let sent = spawn ..;`"),
     (r"", r"\?", "there is no `?`: write `if a { x = b; } else { x = c; }`"),
+    (r"&$", r"' \w+ (?:mut )?(?P<x>\w+)", "there are no lifetimes: write `&<x>`"),
+    (QUOTABLE, r"[\"'`] (?P<x>\w+) [\"'`]", UNQUOTED),
+    (r"", r"` ` `", "this is a mark of Markdown: take the line out"),
+    (rf"(?:^|@)$", r"`", "this is a mark of Markdown: take it out, and the one behind it"),
     (r"", r"[\"'`]", NO_TEXTS),
     (r"", r":", "no `:` comes here: values have no types, and options and first values come after `=`"),
 ]
@@ -167,30 +208,48 @@ SYNTAX = [
     (r"^$", r"(?:step|tick|pend|device)\b", "this looks like a script; the application comes first, then the script"),
     (r"^$", r"(?:use|mod|extern|pub|fn|struct|const|static)\b",
      "Rust is not read here: an application begins with `app name(bits = 4);`"),
+    *[(rf"(?<!\S){sign}$", rf"{sign}(?: |$)", f"`{sign}{sign}` is one sign, without a blank in it") for sign in "<>"],
+    *[(rf"& {word}$", r";", f"`&{word};` is `{sign}` as web pages have it: write the sign itself")
+      for word, sign in (("gt", ">"), ("lt", "<"), ("amp", "&"))],
     (r"<$", r">", NOT_EQUAL),
     (r"!=$", r"=(?: |$)", NOT_EQUAL),
     (r"(?:^| )(?P<s>[<>])$", r"=(?: |$)", "`<s>=` is one sign, without a blank in it"),
+    (r"(?:\bemit|\bpend|\bspawn|@ \w+ =) [^;{}]*[\w)]$", r"(?:if|unless|when)\b[^;{}]*;",
+     "the condition comes first, and the statement in its block: `if a { .. }`"),
     (r"\bemit$", r"\[", "an `emit` has no brackets: `emit a;`"),
     (r"\b(?:shared|local) =$", r"& (?P<x>\w+)", "a list goes in brackets: `[&<x>]`"),
     (r"\bif [^;{}]*$", r"/ =(?: |$)", NOT_EQUAL),
+    (r"\bif [^;{}]*$", r"= !", NOT_EQUAL),
     (r"\b(?:if|emit) [^;{}]*$", r"= >", "greater or equal is `>=`"),
     (r"\b(?:if|emit) [^;{}]*$", r"= <", "less or equal is `<=`"),
     (r"\*$", r"\*", "there is no `**`: a power of 2 is `1 << n`"),
     (r"(?:\w|\))$", rf"as (?:u|i)8\b", "there are no types: the low 8 bits of a value are `value & 255`"),
     (r"(?:\w|\))$", rf"as (?:u|i)16\b", "there are no types: the low 16 bits of a value are `value & 65535`"),
     (r"(?:\w|\))$", rf"as (?P<t>{TYPE})", NO_TYPES.replace(": <t>", "as <t>")),
+    (r"(?<![\w)] )\( (?:unsigned |signed )?(?:u?int8_t|[ui]8|char|byte) \)$", r"[\w(]",
+     "there are no types: the low 8 bits of a value are `value & 255`"),
+    (r"(?<![\w)] )\( (?:unsigned |signed )?(?:u?int16_t|[ui]16|short) \)$", r"[\w(]",
+     "there are no types: the low 16 bits of a value are `value & 65535`"),
+    (rf"(?<![\w)] )\( (?P<t>(?:unsigned |signed )?(?:{TYPE}|u?int(?:32|64)_t|long|unsigned)) \)$", r"[\w(]",
+     "there are no types, every value is a number of 32 bits: leave `(<t>)` out"),
     (r"\bif$", r"let\b", "an `if` takes an expression: `let sent = spawn ..;` before it, and then `if sent { .. }`"),
     (r"[(,]$", r"resources = \[",
      "`resources = [..]` is `shared = [..]` here, or `local = [..]` for what one body alone uses"),
     (r"[(,]$", r"(?P<w>spawn|schedule) = \[",
      "each body may spawn every software task: leave `<w> = [..]` out"),
     (r"[;}]$", r'extern " C', DISPATCHERS),
+    (r"[;}]$", r"(?!monotonic\b)\w*monotonic\w* (?:! )?[({]",
+     "the timer of messages is declared by `monotonic(binds = I, priority = 3);`"),
+    (r"[;}]$", rf"{C_TYPE} (?P<x>[A-Za-z_]\w*) \(",
+     "there are no functions: only `init`, `idle` and tasks have bodies"),
     (r"[;}]$", rf"{C_TYPE} (?P<x>[A-Za-z_]\w*) (?:[=;:]|$)", VARIABLE),
     (r"[;}]$", r"resources? \{", RESOURCES),
     (r"[;}]$", r"(?:handler|isr|ISR|irq|interrupt|IRQ_HANDLER|INTERRUPT) (?:\( )?(?P<x>[A-Za-z_]\w*)",
      "a task serves an interrupt: `task t(binds = <x>) { .. }`"),
     (r"@$", r"(?P<o>[+-]) (?P=o) (?P<x>[A-Za-z_]\w*)", "there is no `<o><o>`: write `<x> = <x> <o> 1;`"),
     (r"\bwith \w+(?: , \w+)*$", r"\(", "the options come before `with`: `task t(priority = 1) with x { .. }`"),
+    (r"\bwith \w+ (?:, \w+ )*,$", r"(?P<w>binds|priority|capacity|shared|local) =",
+     "the options come before `with`: `task t(<w> = ..) with x { .. }`"),
     (r"\b(?:spawn|pend)$", r"init\b", "`init` runs by itself, once at the beginning"),
     (r"\b(?:spawn|pend)$", r"idle\b", "`idle` runs by itself, whenever nothing else does"),
     (r"@ unlock$", r"[\w(]", "there is no `unlock`: a lock ends with its block, `lock n { .. }`"),
@@ -203,7 +262,6 @@ SYNTAX = [
     (r"\b(?:interrupts|shared|local) \{(?: [^}]*,)?$", r"(?P<n>\d\w*) = (?P<x>\w+)",
      "the name comes first: `<x> = <n>`"),
     (r"\b0x[0-9a-fA-F]+$", r"(?![uUlL]+\b|[ui]\d)[G-Zg-z_]\w*", "hexadecimal digits are 0 to 9 and A to F"),
-    (r"\bemit [^;{}]*[\w)]$|@ \w+ = [^;{}]*[\w)]$", rf", {BEGINS}(?: |$)", ENDED),
     (r"\bfor \w+ in \w+ \.\. \w+$", r"\.\.|,|step\b|by\b",
      "a loop counts by 1: `for i in 0..5 { .. }`, and inside it `i * 2`"),
     (r"\w -$", r">", ONE_NUMBER),
@@ -212,23 +270,32 @@ SYNTAX = [
      "no instruction of the processor can be written: bodies have the statements of the language alone"),
     (r"(?:^|(?<!\w))(?P<w>Some|Ok|Err)$", r"\(", "there is no `<w>`: each value is a number"),
     (r"\b(?:shared|local|dispatchers) =$", r"\( (?P<x>[A-Za-z_]\w*)", "a list goes in brackets: `[<x>]`"),
+    (r"\bspawn (?P<x>\w+)$", r"= (?P<t>\w+) \(", "the variable comes first: `let <x> = spawn <t>(..);`"),
     (r"\bspawn \w+ \( (?:[^;]*, )?\w+$", r"=(?: |$)", BY_NAME),
     *[(r"(?:\w|\))$", rf"{word}\b", f"there is no `{word}`: write `{sign}`") for word, sign in WORD_SIGNS.items()],
     (r"(?:[=(,]|emit|if)$", r"\+ (?P<n>\w+)",
      "there is no sign before a number: leave the `+` out, or write `x = x + <n>;` to add"),
+    (r"^app [^;]*; interrupts$", r"[(\[]", "rows go in braces: `interrupts { .. }`"),
     *[(rf"(?:^|(?<!\w)){name}$", r"\(", sentence) for name, sentence in FUNCTIONS],
     (rf"@ {DELAYS}$", r"\w", NO_DELAY),
     (r"@ (?:print\w*|echo|show|display|log|write|output|puts|trace)$", r"\w",
      "to show a number in the trace is `emit N;`"),
     (r"\binterrupts \{[^}]*=$", r"-", "an interrupt has a number from 0 to 495, without a sign"),
-    (r"\b(?:interrupts|shared|local) \{[^}]*=$", r">", "write `=` for `=>`"),
+    (r"\b(?:interrupts|shared|local) \{$", r"\|", "a row is `a = 5`, and commas separate the rows"),
+    (r"\b(?:interrupts|shared|local) \{[^}]*=$|[(,] \w+ =$", r">", "write `=` for `=>`"),
+    (r"\bdispatchers = \[(?: [^\]]*,)?$", r"(?P<n>\d+)\b",
+     "an interrupt is named: `interrupts { I = <n> }` declares it, and `dispatchers = [I]` takes it"),
     (r"\b(?:interrupts|shared|local) \{(?: [^}]*,)?$", r"let\b",
      "a resource is declared by its name and its first value: leave `let` out"),
     (r"@$", r"with\b", "`with` names the arguments of a task; a lock is `lock a { .. }`"),
+    (rf"(?<=[;{{}}] )(?P<x>(?!{OTHERS}\b){OTHER_NAME})$", r"(?P<w>pend|emit|lock|cancel|spawn)\b(?! =)",
+     "the word comes first: `<w> <x> ..`"),
+    (r"@ \w+$", r"(?:, \w+ )+= ", "an assignment sets one variable: write several, with a `let` first to swap two"),
+    (rf"(?<=[;{{}}] )(?P<x>{OTHER_NAME})$", r"(?P<y>(?:, \w+ )+)lock\b", "the word comes first: `lock a, b { .. }`"),
     (r"\bpend (?P<x>\w+)$", r"\(", "a pend has no parentheses: `pend <x>;`"),
     (r"\bfor (?:each|all|every|int|let|mut)$", r"[A-Za-z_]", "the form is `for i in 0..8 { .. }`"),
     (rf"\blet (?!mut$)(?:{TYPE}|{C_TYPE})$", r"(?P<x>[A-Za-z_]\w*)", "there are no types: write `let <x> = ..;`"),
-    (r"@ static$", r"(?:mut )?(?P<x>[A-Za-z_]\w*)", VARIABLE),
+    (r"@ static$", rf"(?:mut )?(?:{C_TYPE} )?(?P<x>[A-Za-z_]\w*)", VARIABLE),
     (r"\b(?:spawn|cancel) \w+$", r"\[", "the form is `spawn t(a, b);`"),
     (r"", r"/ \*", COMMENT),
     (r"/$", r"\*", COMMENT),
@@ -238,8 +305,11 @@ SYNTAX = [
     (r"\b(?:shared|local) \{ (?:[^}]*, )?mut$", r"\w", "every resource can be assigned: leave `mut` out"),
     (rf"\b(?:shared|local|interrupts) \{{ (?:[^}}]*, )?(?P<t>{TYPE})$", r"(?P<x>\w+)",
      "there are no types: write `<x> = ..`"),
+    (rf"\b(?:shared|local) \{{ (?:[^}}]*, )?(?:static|volatile|const|unsigned|signed|atomic|pub|{TYPE})$",
+     rf"(?:{C_TYPE} )?(?P<x>[A-Za-z_]\w*) =", "there are no types: write `<x> = ..`"),
     (r"\b(?:shared|local) \{ (?:[^}]*, )?(?P<x>\w+)$", r"lock_free\b",
      "`lock_free` comes before the name: `lock_free <x> = 0`"),
+    (r"\block_free$", r"\( (?P<x>\w+) \)", "`lock_free` has no parentheses: `lock_free <x> = 0`"),
     (r"\b(?:shared|local) \{ [^}]*=$", r"-", "a first value has no sign: for -1 write 0xffffffff"),
     (r"\bnow$", r"\(", "no parentheses come after `now`"),
     (r"(?:@|=) spawn_at$", r"\(", "there are no messages for an instant: `spawn_after(d) t(..);` waits for d ticks"),
@@ -262,16 +332,24 @@ SYNTAX = [
     (r"\bfor \w+$", r"=", "a loop is `for i in 0..8 { .. }`"),
     (r"\.\.$", r"=", "there is no `..=`: the second bound is one more than the last turn's number"),
     (r"\bfor \w+ in$", r"\[|range\b|\w+ \(", "a loop is `for i in 0..8 { .. }`, and its two bounds are numbers"),
+    (r"\block [^{}]*\{[^{}]*\}$", r"else\b",
+     "a lock never fails, and has no `else`: one comes after the block of an `if` alone"),
     (r"\}$", r"else\b", "an `else` comes once, directly after the block of its `if`"),
     (r"\btask (?P<t>\w+) \{$", r"(?P<w>binds|priority|capacity|shared|local) =",
      "options go in parentheses: `task <t>(<w> = ..) { .. }`"),
     (r"\bfor (?P<x>\w+) in$", r"\( (?P<n>\d+) \.\. (?P<m>\d+) \)",
      "the bounds of a `for` have no parentheses: `<n>..<m>`"),
+    (r"\bfor \w+ in(?: \w+ \.\.)?$", r"- (?P<n>\w+)",
+     "a bound has no sign: count from 0, and take away `<n>` inside, which wraps"),
     (r"\bfor \w+ in(?: \w+ \.\.)?$", r"[A-Za-z_(]",
      "the bounds of a `for` are numbers; inside it an `if` can pass over what is too many"),
     (r"\bfor (?P<x>\w+) in (?P<n>\w+)$", r"\{", "a loop has two bounds: `for <x> in 0..<n> { .. }`"),
+    (r"\bshared = \[[^\]]*&$", r"& (?P<x>\w+)", "one `&` lists a resource for reading: `&<x>`"),
+    (r"&$", r"\^ (?P<x>\w+)", "there is no `&^`: write `& (<x> ^ 0xffffffff)`"),
     (r"&$", r"&", COMPARED.replace("<w>", "&&").replace("<o>", "&")),
     (r"\|$", r"\|", COMPARED.replace("<w>", "||").replace("<o>", "|")),
+    (r"\block (?:\w+ , )*\w+$", r"(?:and|&|\+|with)(?: |$)", "commas separate the names: `lock a, b { .. }`"),
+    (r"\bwith (?:\w+ , )*\w+$", r"(?:and|&|\+)(?: |$)", "commas separate the names: `with x, y`"),
     (r"(?:\w|\))$", r"(?P<w>and)\b", COMPARED.replace("<o>", "&")),
     (r"(?:\w|\))$", r"(?P<w>or)\b", COMPARED.replace("<o>", "|")),
     *[(r"\bnot$", rf"(?P<a>[A-Za-z_]\w*) {sign} (?P<b>\w+)",
@@ -296,6 +374,7 @@ SYNTAX = [
     (r"\blet (?P<x>\w+) =$", r"lock\b(?: (?P<r>[A-Za-z_]\w*))?",
      "a lock has no value: assign the variable inside, `let <x> = 0; lock <r> { <x> = <r>; }`"),
     (r"\blet (?P<x>\w+)$", r";", "a variable begins with a value: `let <x> = 0;`"),
+    (r"\blet$", r"\( [^;]*= (?:\w+ : : )*\w*[Cc]hannel\w*\b|\( [^;]*= [^;]*\bsplit\b", NO_CHANNELS),
     (r"\blet$", r"\(", "a `let` declares one variable"),
     (r"@ (?:const |volatile |static )?(?:unsigned |signed |long )?"
      r"(?:int|unsigned|u?int\d+_t|[ui]\d+|bool|char|long|short|float|double|var|const|static|volatile|auto)$",
@@ -304,10 +383,13 @@ SYNTAX = [
      "there is no `<w>`: put what is to be passed over into an `if`"),
     (r"(?:@|=) (?P<w>match|switch)$", r"[\w(]",
      "there is no `<w>`: write `if a == 1 { .. } else { if a == 2 { .. } }`"),
+    (r"\bemit$", r"if\b", "an `if` has no value: `if a { emit b; } else { emit c; }`"),
     (r"=$", r"if\b", "an `if` has no value: `let x = 0; if a { x = b; } else { x = c; }`"),
     (r"\block$", r"\( (?P<x>\w+)", "a lock has no parentheses: `lock <x> { .. }`"),
     (r"\bpend$", r"\( (?P<x>\w+)", "a pend has no parentheses: `pend <x>;`"),
-    (r"\bspawn$", r"\( (?P<x>\w+)", "the task's name comes before the parentheses: `spawn <x>();`"),
+    (r"\bspawn$", r"\( (?P<x>[A-Za-z_]\w*) \)", "the task's name comes before the parentheses: `spawn <x>();`"),
+    (r"\bspawn$", r"\( (?P<x>[A-Za-z_]\w*) ,", "the task's name comes before the parentheses: `spawn <x>(..);`"),
+    (r"\bspawn$", r"\(", "a spawn names its task before the parentheses: `spawn t(..);`"),
     (r"@ (?:printf|println|print|puts|hprintln|log)$", r"\(", "to show a number in the trace is `emit N;`"),
     (rf"@ (?P<f>{OTHER_NAME})$", r"\(",
      "there are no functions: write out here what `<f>` does, or make it a software task, `spawn <f>(..);`"),
@@ -318,6 +400,8 @@ SYNTAX = [
      "the values of a message come after `with`: `task <t> with x { .. }`"),
     (r"\bwith$", r"\(", "no parentheses come after `with`: `with x, y`"),
     (r"\blocal = \[ (?:[^\]]*, )?(?P<x>\w+)$", r"=", LISTED),
+    (r"\bshared = \[(?: [^\]]*,)? (?P<w>ref|const|readonly|in|read)$", r"(?P<x>\w+)",
+     "there is no `<w>`: `&<x>` lists a resource for reading, `<x>` for reading and writing"),
     (r"\[[^\]]* & mut$|\[ mut$|, mut$", r"(?P<x>\w+)",
      "there is no `mut`: `<x>` lists a resource for reading and writing, `&<x>` for reading alone"),
     (r"@$", r"\( \w+ \. shared \. (?P<a>\w+) , \w+ \. shared \. (?P<b>\w+)",
@@ -327,11 +411,15 @@ SYNTAX = [
     (r"@$", r"\* (?P<c>\w+) \. (?P<k>local|shared) \. (?P<x>\w+)",
      "there are no pointers: write `<x> = ..;` for `*<c>.<k>.<x>`"),
     (r"@$", r"\* (?P<x>\w+)", "there are no pointers: write `<x> = ..;` for `*<x>`"),
+    (r"(?:[=(,+*/%|^<>-]|emit|if)$", rf"(?P<o>[*&]) (?:mut )?(?P<c>{CONTEXT}) \. (?P<k>\w+) \. (?P<x>\w+)",
+     "bodies get no context: write `<x>` for `<o><c>.<k>.<x>`"),
     (r"(?:[=(,+*/%|^<>-]|emit|if)$", r"(?P<o>[*&]) (?:mut )?(?P<x>[A-Za-z_]\w*)",
      "there are no pointers: write `<x>` for `<o><x>`"),
+    (r"\b(?:spawn_after|reschedule_after) \($", r"-", "a delay has no sign: it is 0 or more ticks"),
     (r"(?:[=(,+*/%&|^<>-]|emit|if)$", r"- (?P<n>\w+)",
      "there is no sign before a number: write `0 - <n>`, which wraps"),
     (r"\block$", r"\| (?P<x>\w+)", "there are no closures: `lock <x> { .. }`"),
+    (r"\block (?:\w+ , )*\w+$", r"; (?:\w+ [;,] )*\w+ \{", "commas separate the names: `lock a, b { .. }`"),
     (r"\block (?:\w+ , )*(?P<x>\w+)$", r";", "a lock holds for its block: `lock <x> { .. }`"),
     (r"\bbinds =$", r"\[", "`binds` names one interrupt: give each interrupt a task of its own"),
     (r"\bpend$", r"(?P<n>\d+)", "an interrupt is named, not numbered: `pend I;`"),
@@ -346,23 +434,33 @@ SYNTAX = [
     (r"", r"now\b", "`now` is only the whole value of a `let`: `let x = now;`"),
     (r"(?:[=(,+*/%&|^<>-]|emit|if)$", r"(?P<w>spawn|spawn_after|cancel|reschedule_after)\b",
      "`<w>` is a statement, or the whole value of a `let`: `let x = <w> ..;`"),
+    (r"\btask (?P<t>\w+)$", r"\[ (?P<n>\d+) \]",
+     "how many messages may be out is an option: `task <t>(capacity = <n>) with x { .. }`"),
     (r"[A-Za-z_]\w*$", r"\[ \d", "a resource or a variable is one number, and there are no arrays"),
     (r"[;}] (?P<w>shared|local|interrupts)$", r"[\[(]", "rows go in braces: `<w> { .. }`"),
     (r"\b(?P<w>shared|local|dispatchers)$", r"\[", "write `=` here: `<w> = [..]`"),
     (r"\b(?P<w>shared|local|interrupts)$", r"= \{", "no `=` comes before the braces: `<w> { .. }`"),
     (r"\b(?:shared|local|dispatchers) =$", r"(?P<x>[A-Za-z_]\w*)", "a list goes in brackets: `[<x>]`"),
     (r"\b(?:shared|local|dispatchers) =$", r"\{", "a list goes in brackets: `[..]`"),
+    (r"[;}]$", r"(?:\w+ )*(?:ISR \( )?\w*(?:_IRQHandler|_Handler|_irq|_isr|_ISR|_vect)\b", SERVED),
     (r"[;}]$", r"(?:pub )?(?:async )?(?:fn|void|def|func)\b",
      "there are no functions: only `init`, `idle` and tasks have bodies"),
+    (r"^app \w+ \([^;]*\) ;$", r"(?:typedef |pub )?(?:enum|struct|union|class)\b",
+     "the interrupts are declared next: `interrupts { I = 5 }`"),
     (r"[;}]$", r"(?:pub )?struct\b", RESOURCES),
+    (r"[;}]$", r"const \w+ : \( \)|(?:pub )?mod \w+ \{", NO_FRAME),
     (r"[;}]$", r"(?:use|mod|extern|import)\b", ONE_FILE),
     (r"[;}]$", r"(?:const|static|type|enum|impl|trait)\b", "there are no constants and types: write the number itself"),
     (r"^app \w+ \([^;]*\)$", r"\{",
      "the first declaration ends with `;`, and the others follow it without braces around them"),
     (r"^app (?P<x>\w+)$", r"[;{]|interrupts\b",
      "the first declaration is `app <x>(bits = 4);`, with the priority bits of the core"),
-    (r"^app \w+ \($", r"(?:dispatchers|fpu|interrupts|device)\b",
+    (r"^app \w+ \($", r"(?:dispatchers|fpu)\b",
      "`bits` comes first, then `dispatchers`, then `fpu`"),
+    (r"\b(?:interrupts|shared|local) \{[^}]*\b(?P<w>fpu|bits|priority|capacity|binds) =$", r"[A-Za-z_\[]",
+     "`<w>` is an option, and goes in parentheses: `app a(bits = 4, fpu = on);`, `task t(priority = 1) { .. }`"),
+    (r"\bfpu =$", r"(?!(?:false|off|no|none|0|soft|OFF|Off)\b)\w",
+     "the core's floating-point extension is told by `fpu = on`; without it leave `fpu` out"),
     (r"\bfpu =$", r"\w", "leave `fpu` out where the core has no floating-point extension"),
     (r"", r"(?:true|false)\b", "`true` is 1 and `false` is 0"),
     (r"\bfor$", r"\w+ \.\.", "a loop has a variable of its own: `for i in 0..8 { .. }`"),
@@ -380,6 +478,8 @@ SYNTAX = [
     (r"@ if [^;{}]*(?:\w|\w \))$", r"[A-Za-z_]", BLOCKS),
     (rf"(?:^|(?<!\w))(?P<f>{OTHER_NAME})$", r"\(", "there are no functions: write here what `<f>` is to calculate"),
     (r"\belse$", r"\w", "what depends on an `else` goes in braces: `else { .. }`"),
+    (r"\belse$", r"[^{]", "an `else` has a block: write `else { .. }`, or take it out"),
+    (r"@$", r"\(", "no statement begins with `(`: it is `a = ..;`, or begins with `if`, `lock` or another word"),
     (r"\binit \((?:.*,)?$", r"shared\b", "`init` uses every shared resource by its name, and lists none"),
     (r"\binit \((?:[^{]*,)?$", r"(?:priority|binds|capacity)\b", "`init` takes `local` alone"),
     (r"\bidle \((?:[^{]*,)?$", r"(?:priority|binds|capacity)\b",

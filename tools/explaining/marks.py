@@ -3,6 +3,7 @@ import re
 
 from .tokens import place_of
 
+BEGINS = r"(?:let|if|for|lock|emit|pend|spawn|spawn_after|cancel|reschedule_after|\}|\w+ =(?!=))"
 COMMENT = "a comment begins with `//` and ends with its line"
 LISTS = ("shared", "local", "dispatchers")
 AFTER_LIST = ("binds", "priority", "capacity", "shared", "local", "bits", "fpu", "with")
@@ -11,6 +12,7 @@ GROUPED = re.compile(r"\d{1,3}(?:(,| )\d{3})(?:\1\d{3})*(?!\d)")
 CLOSED = {"{": "}", "(": ")", "[": "]"}
 STATEMENTS = "`let`, `if`, `for`, `lock`, `emit`, `pend` or a spawn"
 ENDS = (";", "{", "}", ",", "[", "(")
+WORDS_OF_PROSE = 3
 DIGITS = str.maketrans("lIOo", "1100")
 OPERATORS = ("|", "^", "&", "<<", ">>", "+", "-", "*", "/", "%", "==", "!=", "<", "<=", ">", ">=")
 
@@ -26,6 +28,10 @@ def unclosed_list(syntax, found):
     if not opened or syntax.front[opened - 2].text not in LISTS:
         return None
     name, inner, token = syntax.front[opened - 2].text, syntax.front[opened + 1 :], syntax.token
+    if token.text == ";" and len(syntax.rest) > 2 and syntax.rest[1].kind == "name" and syntax.rest[2].text in "];,":
+        return "commas separate what is in a list"
+    if token.text == ";" and len(syntax.rest) > 1 and syntax.rest[1].text == "]":
+        return "no `;` comes in a list: take it out"
     if token.text == "=" and inner and inner[-1].text in ("fpu", "bits"):
         inner = inner[:-1]
     elif token.text not in AFTER_LIST + (")", "{", ";"):
@@ -180,3 +186,88 @@ def unopened(syntax, found):
     if syntax.token.text == ")" and "+" in found and behind in OPERATORS:
         return "this `)` has no `(`: one is missing before it, or it is one too many"
     return None
+
+
+def lone_number(syntax, found):
+    """A number in brackets, where one is due."""
+    rest = syntax.rest[1:3]
+    if found != {"a number"} or syntax.token.text not in CLOSED or len(rest) < 2 or rest[0].kind != "number":
+        return None
+    if rest[1].text != CLOSED[syntax.token.text]:
+        return None
+    return f"a number has no `{syntax.token.text}` and `{rest[1].text}` round it here: write `{rest[0].text}`"
+
+
+def last_comma(syntax, found):
+    """A comma after the last name, where only another name may come."""
+    if found != {"a name"} or not syntax.front or syntax.front[-1].text != "," or syntax.token.kind != "sign":
+        return None
+    return f"the `,` before `{syntax.token.text}` is one too many, or a name is missing after it"
+
+
+def open_parentheses(syntax, found):
+    """More than one parenthesis that is open where a statement ends or a block begins."""
+    if not {")", "+"} <= found or syntax.token.text not in (";", "{", "}"):
+        return None
+    depth = 0
+    for token in reversed(syntax.front):
+        if token.text in (";", "{", "}"):
+            break
+        depth += {"(": 1, ")": -1}.get(token.text, 0)
+    if depth < 2:
+        return None
+    return f"{depth} parentheses are open here: `{')' * depth}` is missing before `{syntax.token.text}`, or earlier"
+
+
+def merge_marks(syntax, found):
+    """The marks that a version control leaves where two changes met."""
+    if re.match(r"(<<<<<<<|=======|>>>>>>>|\|\|\|\|\|\|\|)( |\r?$)", line_of(syntax)[0]):
+        return "this is a mark of an unresolved merge: keep one of the two sides, and take all such lines out"
+    return None
+
+
+def line_of(syntax):
+    """The line of the place, and whether nothing comes before the place in it."""
+    start = syntax.text.rfind("\n", 0, syntax.at) + 1
+    return syntax.text[start:].split("\n", 1)[0], not syntax.text[start : syntax.at].strip()
+
+
+def pasted(syntax, found):
+    """What comes along where a line is pasted: its number, or the prompt of a terminal."""
+    line, is_first = line_of(syntax)
+    if is_first and re.match(r"\s*\d+ ?([:.|)]|\s)\s*[A-Za-z}{\[/]", line):
+        return f"this looks like the number of a line: take `{line.split()[0]}` out"
+    if is_first and re.match(r"\s*[$%>] ?\S+ \S+ ?\S*\s*$", line) and "=" not in line:
+        return "this looks like a line of a terminal: take it out"
+    return None
+
+
+def prose(syntax, found):
+    """A line of words without signs, where a declaration or a statement is due: a comment that has no mark."""
+    at = syntax.at
+    if "task" in found and re.match(r"\{[^;={}()]*\}|\(\*", syntax.text[at:]):
+        return COMMENT
+    if found == {"="} and syntax.begins_line:
+        at = syntax.front[-1].at
+    elif not {"task", "let"} & found or syntax.token.kind != "name" and syntax.token.text != ";":
+        return None
+    start = syntax.text.rfind("\n", 0, at) + 1
+    line = syntax.text[at:].split("\n", 1)[0].strip("; \t\r").removesuffix("//").strip()
+    if syntax.text[start:at].strip() or not re.fullmatch(r"[A-Za-z][A-Za-z0-9 ,.'-]*", line):
+        return None
+    return COMMENT if len(line.split()) >= WORDS_OF_PROSE else None
+
+
+def in_brackets(syntax, found):
+    """A bracket where an expression begins, as mathematics groups or other languages have arrays."""
+    if {"a name", "a number", "("} <= found and syntax.token.text == "[":
+        return "an expression is grouped by `(` and `)`, and there are no arrays"
+    return None
+
+
+def comma_for_end(syntax, found):
+    """A comma after a statement, where another statement comes."""
+    if syntax.token.text != "," or ";" not in found or not re.match(rf", {BEGINS}(?: |$)", syntax.behind):
+        return None
+    several = re.search(r"\blet [^;{}]*$", syntax.before) and re.match(r", \w+ =", syntax.behind)
+    return None if several else "a statement ends with `;`"

@@ -5,7 +5,7 @@ from .costs import MOST_CODE, MOST_STEPS, Costs, armed_tasks, sizes_before
 from .table import Phrase
 from .tokens import Token, nearest
 from .tree import CALLS, Call
-from .walk import statements_of, uses_of
+from .walk import Round, statements_of, uses_of, value_uses
 
 KINDS = {
     "interrupt": "an interrupt", "task": "a task", "shared": "a shared resource", "local": "a local resource",
@@ -13,7 +13,12 @@ KINDS = {
 }
 OF_NUMBERS = {"true": 1, "false": 0, "null": 0, "nullptr": 0, "nil": 0, "none": 0}
 LIKE_DIGITS = {"O": 0, "o": 0, "l": 1, "I": 1}
-HEXADECIMAL = re.compile(r"(?P<a>[0-9A-F]{2,})h|(?P<b>[A-Fa-f]+[0-9][0-9A-Fa-f]*)[hH]|F{2,8}")
+HEXADECIMAL = re.compile(
+    r"(?P<a>[0-9A-F]{2,})h|(?P<b>[A-Fa-f]+[0-9][0-9A-Fa-f]*)[hH]|[xX](?P<c>(?=.*[0-9])[0-9A-Fa-f]{2,8})|F{2,8}"
+)
+FEW = 4
+BINARY = re.compile(r"[Bb]([01]{2,32})")
+CONSTANT = re.compile(r"[A-Z][A-Z0-9_]+")
 ROLES = {"pend": "interrupt", "lock": "shared", "read": "value", "assign": "value", **{word: "task" for word in CALLS}}
 
 
@@ -100,6 +105,8 @@ class Rules:
             return self.unlisted(table, name, body)
         if use and wanted in ("value", "shared") and self.variable(table, name, body, use, wanted):
             return None
+        if use and wanted == "task" and self.exchanged(table, name, use):
+            return None
         others = self.declared(name)
         if others:
             return self.other_kind(table, name, wanted, *others[0])
@@ -111,9 +118,42 @@ class Rules:
         elif name in LIKE_DIGITS:
             self.help(f"if a digit is meant, it is `{LIKE_DIGITS[name]}`")
         elif hexadecimal := HEXADECIMAL.fullmatch(name):
-            self.help(f"a hexadecimal number begins with `0x`: `0x{hexadecimal['a'] or hexadecimal['b'] or name}`")
+            digits = hexadecimal["a"] or hexadecimal["b"] or hexadecimal["c"] or name
+            self.help(f"a hexadecimal number begins with `0x`: `0x{digits}`")
+        elif binary := BINARY.fullmatch(name):
+            self.help(f"there are no binary numbers: `{name}` is {int(binary[1], 2)}")
+        elif wanted == "value" and CONSTANT.fullmatch(name):
+            self.help("if a constant is meant: there are none, write the number itself")
         self.similar(name, wanted, use)
+        self.instead(wanted, body, use)
         return None
+
+    def instead(self, wanted, body, use):
+        """What may be meant where no name is similar: the software tasks, or an argument that nothing uses."""
+        if any("similar" in one or "told apart" in one for one in self.helps):
+            return
+        if wanted == "value" and sorted(use.token.text.lower()) == sorted("now"):
+            self.help("if the time is meant: it is the value of `let x = now;`")
+        elif wanted == "task" and (names := [f"`{task.name.text}`" for task in self.app.tasks if task.is_software]):
+            self.help(f"the software task{' is' if len(names) == 1 else 's are'} {', '.join(names[:FEW])}")
+        elif wanted == "value":
+            used = {one.token.text for one in uses_of(body) if one.role in ("read", "assign")}
+            rows = [(name.text, "argument") for name in body.arguments] + [(name.text, "local") for name in body.local]
+            rows += [(one.token.text, "variable") for one in uses_of(body) if one.role == "bind"]
+            left = [row for row in rows if row[0] not in used]
+            if len(left) == 1:
+                self.help(f"the {left[0][1]} `{left[0][0]}` is not used: it may be meant")
+
+    def exchanged(self, table, name, use):
+        """Whether the handle comes before the task in a `cancel` or a move; then it is said."""
+        inner = use.node.arguments[0] if use.role in ("cancel", "reschedule_after") and use.node.arguments else None
+        task = self.app.task(inner.token.text) if inner is not None and inner.token is not None else None
+        if task is None or self.app.task(name) or not (use.around.variable(name) or self.declared(name)):
+            return False
+        self.row(table, "E05 task", N=name)
+        form = use.role if use.role == "cancel" else f"{use.role}(..)"
+        self.helps = [f"the task comes first, and its handle in the parentheses: `{form} {task.name.text}({name});`"]
+        return True
 
     def wanted(self):
         """The kind of name that is due at the place, its token, and the body and use where it is in one."""
@@ -151,7 +191,7 @@ class Rules:
         own = [found for other, found in rows if other is body]
         if not rows:
             return False
-        before = [found for found in own if found.token.at < self.at and self.closed(body, found)]
+        before = [found for found in own if found.token.at < self.at and self.closed(found)]
         key = "E05 ended" if before else "E05 later" if own else "E05 elsewhere"
         if before and before[-1].role == "loop":
             key = "E05 ended loop"
@@ -160,13 +200,9 @@ class Rules:
         self.note(f"`{name}` is declared here", found.token)
         return True
 
-    def closed(self, body, found):
-        """Whether the block in which a variable is declared has ended at the place."""
-        if found.role == "loop":
-            return found.node.end <= self.at
-        holders = [one for one in statements_of(body.block) if one.at < found.token.at < one.end]
-        inner = [one for one in holders if one is not found.node]
-        return bool(inner) and inner[-1].end <= self.at or any(one.end <= self.at for one in inner)
+    def closed(self, found):
+        """Whether the block of a variable that is declared before the place, and not in scope there, has ended."""
+        return found.role == "loop" or not found.node.at <= self.at < found.node.end
 
     def other_kind(self, table, name, wanted, kind, token):
         key = "E05 kind" if wanted != "value" else "E05 value kind"
@@ -175,12 +211,12 @@ class Rules:
         self.row(table, key, N=name, K=Phrase(KINDS[kind]), W=Phrase(KINDS[wanted]))
         self.note(f"`{name}` is declared here", token)
         task = self.app.task(name)
-        if wanted == "interrupt" and task and task.binds:
-            self.help(f"the interrupt of the task `{name}` is `{task.binds.text}`")
-        elif wanted == "interrupt" and task:
-            self.help(f"`{name}` is a software task: `spawn {name}(..);` sends it a message")
+        if wanted == "interrupt" and kind == "task":
+            self.no_interrupt(task)
         elif wanted == "task" and kind == "interrupt":
-            self.help(f"`pend {name};` makes its task run")
+            self.no_task(name)
+        elif wanted == "task":
+            self.instead(wanted, None, None)
         elif wanted == "value" and kind == "interrupt":
             number = next(row[1].value for row in self.app.interrupts if row[0].text == name)
             self.help(f"an interrupt is no value: the number of `{name}` is {number}")
@@ -189,9 +225,44 @@ class Rules:
         elif wanted == "local" and kind == "shared":
             self.help(f"it is listed in `shared = [{name}]`")
 
+    def no_interrupt(self, task):
+        """A task in the place of an interrupt."""
+        name = task.name.text
+        if any(one.at == self.at for one in self.app.dispatchers):
+            self.help("a dispatcher is an interrupt that nothing else uses: software tasks of one priority share it")
+            self.unused()
+        elif task.binds and task.binds.text == name:
+            self.help(f"`binds` names the interrupt that `{name}` serves")
+            self.unused()
+        elif task.binds:
+            self.help(f"the interrupt of the task `{name}` is `{task.binds.text}`")
+        else:
+            self.help(f"`{name}` is a software task: `spawn {name}(..);` sends it a message")
+
+    def no_task(self, name):
+        """An interrupt in the place of a task."""
+        if name in [one.text for one in self.app.dispatchers]:
+            told = ", ".join(f"`{one}`" for one in self.dispatched(name)[:FEW])
+            self.help(f"`{name}` is a dispatcher" + f", and serves {told}" * bool(told))
+        elif self.app.monotonic and self.app.monotonic[1].text == name:
+            self.help(f"`{name}` is the monotonic's, and no task's")
+            self.instead("task", None, None)
+        else:
+            self.help(f"`pend {name};` makes its task run")
+
+    def dispatched(self, name):
+        """The software tasks that a dispatcher serves."""
+        place = [one.text for one in self.app.dispatchers].index(name)
+        levels = list(self.app.levels())
+        level = levels[place] if place < len(levels) else None
+        return [task.name.text for task in self.app.tasks if task.is_software and task.level == level]
+
     def similar(self, name, wanted, use):
         """A name that differs in capitals alone, or in few letters, among those that are declared and in scope."""
         names = self.names_of(wanted)
+        bare = re.sub(r"_?(IRQn?|Handler|IRQHandler|Interrupt|INTERRUPT)$", "", name)
+        if wanted == "interrupt" and bare != name and bare in names:
+            return self.help(f"an interrupt is named as it is declared: `{bare}`")
         variables = [one for scope in use.around.scopes for one in scope] if use and wanted == "value" else []
         same = next((one for one in names + variables if one.lower() == name.lower()), None)
         near = nearest(name, names + variables, 0.7)
@@ -201,6 +272,7 @@ class Rules:
         elif near:
             kind = KINDS["variable"] if near not in names else "a resource" if wanted == "value" else KINDS[wanted]
             self.help(f"{kind} of a similar name is `{near}`")
+        return None
 
     def e06(self, table):
         """A second declaration, a second listing, or a variable with a name that is taken."""
@@ -294,6 +366,9 @@ class Rules:
         _, _, name = self.listing()
         first, token = next((body, row) for body in self.app.bodies for row in body.local if row.text == name.text)
         self.row(table, "E10 init" if first.kind == "init" else "E10", N=name.text, B=first.name.text)
+        levels = {body.level for body in self.app.bodies if any(row.text == name.text for row in body.local)}
+        if first.kind == "task" and len(levels) == 1:
+            self.help(f"all that list it have the priority {first.level}: as `lock_free` in `shared` it needs no lock")
         self.note("it is listed first here", token)
 
     def e11(self, table):
@@ -313,7 +388,17 @@ class Rules:
         if use.around.locks:
             return self.row(table, "E11 other", M=use.around.locks[-1].text, **values)
         self.row(table, "E11 outside", **values)
+        self.condition(name, body)
         return self.alone(name, body)
+
+    def condition(self, name, body):
+        """A use in the condition of an `if`, which no lock inside its blocks is round."""
+        for one in statements_of(body.block):
+            if one.kind == "if" and any(use.token.at == self.at for use in value_uses(one.value, Round())):
+                inner = any(each.kind == "lock" and each.name.text == name
+                            for each in statements_of(one.block + one.other))
+                told = f", and take the `lock {name}` inside it out" * inner
+                self.help(f"the condition comes before the block: put the whole `if` into the lock{told}")
 
     def alone(self, name, body):
         """A shared resource that one body alone has: a local one may be meant."""

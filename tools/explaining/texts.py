@@ -1,14 +1,16 @@
 """E01 to E04: what the text itself is refused for."""
 import functools
 import re
-import unicodedata
 
+from .bodies import endless, handed, no_let, other_option, split_name, values_in_head
 from .calls import Named, called, nearly, unknown_word, without_handle, without_task
-from .habits import FOREIGN, NO_TEXTS, SYNTAX, looked_up
-from .marks import ended_early, glued, grouped, left_out, lettered, no_operand, no_operator, no_statement, other_end
-from .marks import no_comma, stroke, typed, unclosed_list, unnamed_option, unopened
+from .habits import FOREIGN, SYNTAX, looked_up
+from .marks import comma_for_end, ended_early, glued, grouped, in_brackets, last_comma, left_out, lettered, lone_number
+from .marks import merge_marks, no_comma, no_operand, no_operator, no_statement, open_parentheses, other_end, pasted
+from .marks import prose, stroke, typed, unclosed_list, unnamed_option, unopened
 from .braces import unclosed
 from .pieces import pieces_of
+from .signs import is_hidden, sign_at, sign_help
 from .table import Phrase
 from .tokens import WORDS, Token, nearest, offset_of, place_of, skipped_bytes, tokens_of
 
@@ -38,8 +40,8 @@ ORDER = (
     "the declarations come in this order: `app`, `interrupts`, `monotonic`, `shared`, `local`, `init`, `idle`, tasks"
 )
 STATEMENTS = ("let", "if", "for", "lock", "emit", "pend", "spawn", "spawn_after", "cancel", "reschedule_after")
+CALLS = ("spawn", "spawn_after", "cancel", "reschedule_after")
 DECLARED = ("app", "interrupts", "monotonic", "shared", "local", "init", "idle", "task")
-SIGNS_FOR = {"×": "*", "÷": "/", "≤": "<=", "≥": ">=", "≠": "!=", "∧": "&", "∨": "|"}
 
 
 class Syntax:
@@ -69,6 +71,14 @@ class Syntax:
         return sum(1 for token in self.front + self.rest if token.text == self.front[-1].text) == 1
 
     @functools.cached_property
+    def begins_line(self):
+        """Whether the token before the place is the first one of its line, and of a statement."""
+        if len(self.front) < 2 or self.front[-2].text not in (";", "{", "}"):
+            return False
+        start = self.text.rfind("\n", 0, self.front[-1].at) + 1
+        return not self.text[start : self.front[-1].at].strip()
+
+    @functools.cached_property
     def rest(self):
         """The tokens from the place on."""
         return list(tokens_of(self.text, self.at))
@@ -86,38 +96,19 @@ def too_long(text, table):
     return cause, sentence or table.mending("E01", M=Phrase(f"{skipped_bytes(text):,}"))
 
 
-def sign_at(text, at):
-    """The sign of UTF-8 that begins at an offset, or the byte itself."""
-    for size in (1, 2, 3, 4):
-        try:
-            return text[at : at + size].encode("latin-1").decode("utf-8"), size
-        except UnicodeDecodeError:
-            continue
-    return None, 1
-
-
 def foreign(syntax, table):
     """The label, the help and the length of a byte that no token begins with."""
     sign, size = sign_at(syntax.text, syntax.at)
     if sign is None or sign < " " or sign == "\x7f":
         return f"no token begins with the byte {ord(syntax.text[syntax.at])}", table.mending("E02"), 1
-    hidden = unicodedata.category(sign) in ("Cf", "Zs", "Cc", "Zl", "Zp")
-    label = f"no token begins with {f'U+{ord(sign):04X}' if hidden else f'`{sign}`'}"
-    return label, foreign_help(sign, syntax, table), size
+    label = f"no token begins with {f'U+{ord(sign):04X}' if is_hidden(sign) else f'`{sign}`'}"
+    return label, foreign_help(sign, syntax, size, table), size
 
 
-def foreign_help(sign, syntax, table):
-    if sign == "\ufeff" and syntax.at == 0:
-        return "the file begins with a mark of the order of bytes: save it without one"
-    if unicodedata.category(sign) in ("Zs", "Cf", "Zl", "Zp"):
-        return "this looks like a blank and is none: write a space"
-    if sign in "–—−":
-        return "this dash is no minus: write `-`"
-    if sign in SIGNS_FOR:
-        return f"write `{SIGNS_FOR[sign]}`"
-    if sign in "“”„‘’‚«»":
-        return NO_TEXTS
-    return looked_up(FOREIGN, syntax.before, syntax.behind) or table.mending("E02")
+def foreign_help(sign, syntax, size, table):
+    """How to mend a byte that no token begins with."""
+    help_ = pasted(syntax, None) or sign_help(sign, syntax, size) or no_let(syntax)
+    return help_ or looked_up(FOREIGN, syntax.before, syntax.behind) or table.mending("E02")
 
 
 def syntax_help(syntax, found, program, table):
@@ -125,13 +116,14 @@ def syntax_help(syntax, found, program, table):
     help_ = None
     for one in (without_task, without_handle, called, unknown_word, nearly):
         help_ = help_ or one(syntax, found)
-    for one in (unclosed_list, stroke, grouped, unopened, lettered, unnamed_option):
+    for one in (again, pasted, merge_marks, unclosed_list, stroke, grouped, unopened, lettered, unnamed_option,
+                values_in_head, endless, handed, other_option, lone_number, prose, comma_for_end):
         help_ = help_ or one(syntax, found)
     help_ = help_ or looked_up(SYNTAX, syntax.before, syntax.behind)
-    for one in (returns, again, unclosed, misspelt, declared, twice, no_comma, missing, no_name, chained,
-                no_interrupts):
+    for one in (returns, unclosed, split_name, misspelt, declared, twice, no_comma, missing, no_name, chained,
+                no_interrupts, last_comma, open_parentheses):
         help_ = help_ or one(syntax, found)
-    for one in (glued, typed, no_operand, no_operator, ended_early):
+    for one in (glued, typed, in_brackets, no_operand, no_operator, ended_early):
         help_ = help_ or one(syntax, found)
     if not help_ and found:
         help_ = repaired(syntax, found, program)
@@ -161,7 +153,7 @@ def returns(syntax, found):
 
 def misspelt(syntax, found):
     """A word of the language that is nearly written, here or before a statement's place."""
-    name, words = syntax.token, [word for word in found if word in WORDS]
+    name, words = syntax.token, [word for word in found if word in WORDS or word == "fpu"]
     if found == {"="} and syntax.front[-1].kind == "name":
         first = syntax.front[-2].text
         name, words = syntax.front[-1], STATEMENTS + ("else",) * (first == "}")
@@ -182,6 +174,8 @@ def declared(syntax, found):
     depth = 0
     for token in syntax.front:
         depth += {"{": 1, "(": 1, "[": 1, "}": -1, ")": -1, "]": -1}.get(token.text, 0)
+        if token.text == word and depth == 0 and word == "monotonic":
+            return f"there is one monotonic, that of line {place_of(syntax.text, token.at)[0]}, for all that waits"
         if token.text == word and depth == 0:
             return f"`{word}` comes once: put all into the one of line {place_of(syntax.text, token.at)[0]}"
     return ORDER
@@ -221,6 +215,12 @@ def no_name(syntax, found):
     """A word of the language in the place of a name."""
     if "a name" not in found or {"let", "("} & found:
         return None
+    behind = syntax.rest[1].text if len(syntax.rest) > 1 else ""
+    if syntax.token.kind == "word" and syntax.front[-1].text == "let" and behind != "=":
+        value = f": `let x = {syntax.token.text} ..;`" if syntax.token.text in CALLS + ("now",) else ""
+        return f"a name is missing after `let`{value}"
+    if path := re.match(r"\w+ : : (?:\w+ : : )*(\w+)", syntax.behind):
+        return f"there are no paths: write `{path[1]}` alone"
     if syntax.token.kind == "word":
         return f"`{syntax.token.text}` is a word of the language and names nothing: use another name"
     return "a name begins with a letter or `_`" if syntax.token.kind == "number" else None

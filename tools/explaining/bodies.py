@@ -1,0 +1,119 @@
+"""Habits for which it matters whose body it is, or what the text has named: loops without an end, values in a head."""
+import re
+
+from .pieces import pieces_of
+from .tokens import WORDS, between, nearest
+
+CONTEXTS = ("cx", "ctx", "_cx", "_c", "self", "context")
+ENDLESS = {"loop": r"\{", "while": r"(?:1|true)\b|\( (?:1|true) \)", "for": r"\( ; ; \)"}
+SENDS = re.compile(r"send|put|post|push|give|notify|signal|queue|start|run|call|wake|resume|trigger|submit|dispatch"
+                   r"|schedule", re.IGNORECASE)
+# a sign of one byte or of UTF-8 between the two halves of a word
+PARTED = r"(?:[^\w\s]{1,3})"
+LATER = re.compile(r"timer|timeout|later|after|delay|schedule", re.IGNORECASE)
+OF_APP, NEAR = ("bits", "dispatchers", "fpu"), 0.75
+
+
+def piece_of(syntax):
+    """The declaration or the task in which the place is."""
+    return next((piece for piece in reversed(pieces_of(syntax.text)) if piece.start <= syntax.at), None)
+
+
+def endless(syntax, found):
+    """A loop without an end in the body of a task, which is to end."""
+    word = re.search(r"[;{}] (while|loop|for)$", syntax.before)
+    if not word or not re.match(ENDLESS[word[1]], syntax.behind):
+        return None
+    piece = piece_of(syntax)
+    if not piece or piece.word != "task" or len(piece.tokens) < 2:
+        return None
+    name = piece.tokens[1].text
+    if syntax.named.tasks.get(name):
+        return f"no body runs for ever: a handler runs once for each request of its interrupt, so leave `{word[1]}` out"
+    return f"no body runs for ever: `spawn_after(d) {name}(..);` as its last statement runs it again d ticks later"
+
+
+def values_in_head(syntax, found):
+    """Names in the parentheses of a task's head, as a function has its parameters there."""
+    front, token = syntax.front, syntax.token
+    if not {"capacity", ")"} <= found or token.kind != "name" or front[-1].text not in ("(", ","):
+        return None
+    opened = max(number for number, one in enumerate(front) if one.text == "(")
+    behind = between([front[opened]] + syntax.rest)[0]
+    names = [one.text for one in behind]
+    if set(names[1::2]) - {","} or front[opened - 2].text != "task" or any(one.kind != "name" for one in behind[::2]):
+        return None
+    if token.text in syntax.named.interrupts + syntax.named.resources:
+        return None
+    values = [name for name in names[::2] if name not in CONTEXTS and not is_context(syntax, name)]
+    if not values:
+        return None
+    head = f"task {front[opened - 1].text}" + "(..)" * (front[-1].text == ",")
+    return f"the values of a message come after `with`: `{head} with {', '.join(values)} {{ .. }}`"
+
+
+def is_context(syntax, name):
+    """Whether something is taken out of a name, as from RTIC's context."""
+    texts = [token.text for token in syntax.rest]
+    return any(pair == (name, ".") for pair in zip(texts, texts[1:]))
+
+
+def handed(syntax, found):
+    """A function of another system, called with a task: what is sent to it is a message."""
+    name = syntax.front[-1] if syntax.front else None
+    if not name or syntax.token.text != "(" or name.kind != "name" or not SENDS.search(name.text):
+        return None
+    inner = [token.text for token in between(syntax.rest)[0]]
+    first = inner[1:2] if inner[:1] == ["&"] else inner[:1]
+    if not first or first[0] not in syntax.named.tasks or name.text in syntax.named.tasks:
+        return None
+    interrupt = syntax.named.tasks[first[0]]
+    if interrupt:
+        return f"`{first[0]}` is a hardware task: `pend {interrupt};` makes it run"
+    if "resched" in name.text.lower():
+        return f"`{first[0]}` is a task: `reschedule_after(d) {first[0]}(h);` moves its message with the handle h"
+    if LATER.search(name.text):
+        return f"`{first[0]}` is a task: `spawn_after(d) {first[0]}(..);` sends it a message in d ticks"
+    return f"`{first[0]}` is a task: `spawn {first[0]}(..);` sends it a message"
+
+
+def other_option(syntax, found):
+    """An option that the first declaration does not have."""
+    behind = syntax.rest[1].text if len(syntax.rest) > 1 else ""
+    if not re.match(r"app \w+ \((?:[^()]* ,)?$", syntax.before) or syntax.token.kind != "name" or behind != "=":
+        return None
+    if nearest(syntax.token.text.lower(), OF_APP, NEAR):
+        return None
+    return f"`app` has no `{syntax.token.text}`: it takes `bits`, then `dispatchers`, then `fpu`"
+
+
+def split_name(syntax, found):
+    """Two words that are one name, or one word of the language, with a blank in it."""
+    last = syntax.front[-1] if syntax.front else None
+    whole = "_".join(token.text for token in syntax.rest[:2])
+    behind = re.match(rf"{PARTED}([A-Za-z]\w*)", syntax.text[syntax.token.end :], re.ASCII)
+    if behind and f"{syntax.token.text}_{behind[1]}" in found:
+        whole = f"{syntax.token.text}_{behind[1]}"
+    elif last and (behind := re.match(rf"{PARTED}([A-Za-z]\w*)", syntax.text[syntax.at :], re.ASCII)):
+        whole = f"{last.text}_{behind[1]}" if f"{last.text}_{behind[1]}" in WORDS else whole
+    if whole in WORDS:
+        return f"`{whole}` is one word"
+    if last is None or last.kind not in ("name", "word") or syntax.token.kind not in ("name", "word", "number"):
+        return None
+    named, tokens = syntax.named, syntax.front + syntax.rest
+    names = {behind.text for token, behind in zip(tokens, tokens[1:]) if token.text in ("let", "with", "for")}
+    names |= {*named.tasks, *named.interrupts, *named.resources, *WORDS}
+    whole = [last.text + sign + syntax.token.text for sign in ("", "_")]
+    return next((f"`{name}` is one word" for name in whole if name in names), None)
+
+
+def no_let(syntax):
+    """A variable that is declared by `:=`, as in Go, where nothing of its name is declared."""
+    front = syntax.front
+    if not front or front[-1].kind != "name" or not syntax.behind.startswith(": =") or not syntax.in_body:
+        return None
+    name, start = front[-1].text, piece_of(syntax).start
+    own = [token for token in front[:-1] if token.at >= start and token.text == name]
+    if own or name in syntax.named.resources:
+        return None
+    return f"a variable is declared with `let`: `let {name} = ..;`"
