@@ -2,10 +2,8 @@
 import re
 import textwrap
 
-from calling.sources import ROOT, calls
+from calling.sources import calls
 
-DOCUMENT = ROOT / "docs" / "CALLS.md"
-BEGIN, END = "<!-- written by tools/calls: begin -->\n", "<!-- written by tools/calls: end -->\n"
 HEAD = "| Call | Needs | Other answers, and their cause | Left |\n|---|---|---|---|\n"
 # Types of answers of which each value is a cause of its own.
 TELLING = ("Status", "Verdict", "Verified", "Pended", "Measure")
@@ -133,26 +131,20 @@ def wrong(call):
     return ""
 
 
-def table():
-    """The tables of all crates, and what is wrong with their calls."""
-    text, faults, crate, waiting = [], [], None, []
-    for call in calls():
-        if is_law(call):
-            continue
+def tabled():
+    """The public calls that have a row: all but laws."""
+    return (call for call in calls() if not is_law(call))
+
+
+def printed(found):
+    """What is said of some calls: which of them may wait, and a table for each crate."""
+    found = list(found)
+    text, crate = [], None
+    waiting = ", ".join(f"`{call.name}` of `{call.crate}`" for call in found if may_wait(call)) or "none"
+    front = f"These may wait for threads that they started, or in a test's gate: {waiting}."
+    for call in found:
         if call.crate != crate:
             crate = call.crate
             text.append(f"\n### {crate}\n\n{HEAD}")
         text.append(row(call))
-        faults.append(wrong(call))
-        if may_wait(call):
-            waiting.append(f"`{call.name}` of `{call.crate}`")
-    front = f"These may wait for threads that they started, or in a test's gate: {', '.join(waiting)}."
-    return BEGIN + textwrap.fill(front, 120) + "\n" + "".join(text) + "\n" + END, [fault for fault in faults if fault]
-
-
-def written():
-    """The document, and its table as it is there."""
-    text = DOCUMENT.read_text(encoding="utf8")
-    front, rest = text.split(BEGIN)
-    old, behind = rest.split(END)
-    return front, BEGIN + old + END, behind
+    return textwrap.fill(front, 120) + "\n" + "".join(text)

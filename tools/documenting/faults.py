@@ -1,4 +1,5 @@
 """What a document says of the tree, and each point at which the tree says otherwise."""
+import functools
 import importlib.machinery
 import importlib.util
 import os
@@ -18,45 +19,25 @@ MADE = {
 }
 ELSEWHERE = {"reschedule_at", "unsafe", "runtimepath", "IK"}
 OUTSIDE = re.compile(r"(?<![\w.])/(?:work|opt|tmp|home|root|usr)/\w|\bproxy\.|\bregistry\.|\bpypi\b")
-COUNTED = [
-    (re.compile(r"\b(\d+)(?= crates\b)"), tree.count_of_crates),
-    (re.compile(r"\b(\d+)(?= wrong bodies\b)|(?<=must-fail edits: )(\d+)(?= refused)"), tree.count_of_wrong_bodies),
-]
-MARK = re.compile(r"<!-- bench/definitions( lines)? -->\n\n((?:    .*\n)+)")
 WIDTH, SPARED, WORDS_A_TIME = 120, {"stand": r"\bstand(?:s|ing)?\b", "behind": r"\bbehind\b"}, 300
 
 
-def definitions():
-    """bench/definitions as a module."""
+@functools.cache
+def of_definitions(column):
+    """A number of the last line of `bench/definitions lines`: 1 is that of the files, 2 and 3 are those of lines."""
     path = str(tree.ROOT / "bench" / "definitions")
     loader = importlib.machinery.SourceFileLoader("definitions", path)
     module = importlib.util.module_from_spec(importlib.util.spec_from_loader("definitions", loader))
     loader.exec_module(module)
-    return module
+    return int(module.counted()[-1].split()[column])
 
 
-def folded(lines, width=108):
-    """Lines of words within a width; what goes on is indented."""
-    found = []
-    for line in lines:
-        rest = line
-        while len(rest) > width:
-            cut = rest.rindex(" ", 0, width)
-            found.append(rest[:cut])
-            rest = "    " + rest[cut + 1 :]
-        found.append(rest)
-    return found
-
-
-def block(mark):
-    """The block that is to follow a mark."""
-    module = definitions()
-    if not mark:
-        return "".join(f"    {line}\n" for line in folded(module.listed()))
-    rows = ["{:14}{:>6}{:>7}{:>7}".format(*line.split()) for line in module.counted()]
-    head, half = "{:14}{:>6}{:>7}{:>7}".format("crate", "files", "lines", "bare"), (len(rows) + 1) // 2
-    columns = [[head, *rows[:half]], [head, *rows[half:], ""]]
-    return "".join(f"    {left}      {right}".rstrip() + "\n" for left, right in zip(*columns))
+COUNTED = [
+    (re.compile(r"\b(\d+)(?= crates\b)"), tree.count_of_crates),
+    (re.compile(r"\b(\d+)(?= wrong bodies\b)|(?<=must-fail edits: )(\d+)(?= refused)"), tree.count_of_wrong_bodies),
+    (re.compile(r"\b(\d+)(?= files of definitions\b)"), functools.partial(of_definitions, 1)),
+    (re.compile(r"\b(\d+)(?= lines of definitions\b)"), functools.partial(of_definitions, 3)),
+]
 
 
 def crates_named(part):
@@ -157,15 +138,12 @@ def links_amiss(page):
 
 
 def numbers_amiss(page):
-    """Counts that are not those of the tree, and lists that are not those of bench/definitions."""
+    """Counts that are not those of the tree."""
     for number, line in enumerate(page.lines, 1):
         for pattern, count in COUNTED:
             for found in pattern.finditer(line):
                 if int(found.group()) != count():
                     yield number, f"{found.group()} is {count()} in the tree"
-    for found in MARK.finditer(page.text):
-        if found.group(2) != block(found.group(1)):
-            yield page.text.count("\n", 0, found.start()) + 1, "the list is not that of bench/definitions"
 
 
 def forms_amiss(page):
@@ -192,7 +170,7 @@ def faults_of(page):
 
 
 def written(page):
-    """The text of a document with the numbers and lists of the tree."""
+    """The text of a document with the numbers of the tree."""
     text = page.text
     for _, part, contexts in in_context(page.parts()):
 
@@ -201,7 +179,6 @@ def written(page):
             return f"`{found[1]}`{found[2]}{found[3]}:{at[1] if at else found[4]}"
 
         text = text.replace(part, NUMBERED.sub(numbered, part), 1)
-    text = MARK.sub(lambda found: f"<!-- bench/definitions{found[1] or ''} -->\n\n{block(found[1])}", text)
     for pattern, count in COUNTED:
         text = pattern.sub(lambda found, count=count: str(count()), text)
     return text

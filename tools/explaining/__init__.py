@@ -1,1 +1,1 @@
-"""What `tools/explain` says beside the program `rtic`: outside of what is proved, and told in docs/EXPLAIN.md."""
+"""What `tools/explain` says beside the program `rtic`: outside of what is proved, and told in docs/TOOLS.md."""

@@ -1,7 +1,7 @@
 """What the running job does next, by the meaning of its body and the items of a trace that are right so far.
 
 This only proposes lines: `audit` says whether one of them may come. The actions of spawns, dispatchers and the timer
-are those of docs/MESSAGES.md and docs/LANGUAGE.md.
+are those of docs/LANGUAGE.md and docs/THEOREMS.md.
 """
 from .tokens import Token
 from .tree import Call

@@ -1,9 +1,8 @@
-"""The table of causes and mending in docs/LANGUAGE.md, which is read here and is nowhere else."""
+"""The table of causes and mending in causes.md, which is read here and is nowhere else."""
 import pathlib
 import re
 
-PAGE = pathlib.Path(__file__).resolve().parents[2] / "docs" / "LANGUAGE.md"
-HEADING = "## Causes and mending"
+PAGE = pathlib.Path(__file__).resolve().parent / "causes.md"
 
 
 class Phrase(str):
@@ -12,8 +11,7 @@ class Phrase(str):
 
 def rows_of(page):
     """The rows of the table: a key, a cause, and how to mend it."""
-    section = page.split(HEADING + "\n", 1)[1].split("\n## ", 1)[0]
-    for line in section.splitlines():
+    for line in page.splitlines():
         cells = [cell.strip().replace("\\|", "|") for cell in re.split(r"(?<!\\)\|", line)[1:-1]]
         if len(cells) == 3 and re.match(r"(E\d\d|script|trace|limits|image|verify)\b", cells[0]):
             yield cells[0], cells[1], cells[2]

@@ -1,1 +1,1 @@
-"""The language server `tools/lsp`: outside of what is proved, and told in docs/EDITORS.md."""
+"""The language server `tools/lsp`: outside of what is proved, and told in docs/TOOLS.md."""

@@ -1,5 +1,7 @@
-"""Tries tools/calls: the table is as the sources have it, and a call that lacks a row or a clause is told."""
+"""Tries tools/calls: that it prints a row for each public call with its needs and causes, that it names each call that
+may wait, by a search of its own in the sources, and that it tells of a call that lacks a clause."""
 import pathlib
+import re
 import subprocess
 import sys
 
@@ -22,8 +24,39 @@ def lacks(answer, *clauses, parameters=PLAIN.parameters):
     return bool(table.wrong(PLAIN._replace(answer=answer, clauses=list(clauses), parameters=parameters)))
 
 
+# rows as a person reads them off the sources
+ROWS = (
+    "| `Names::add_irq` | `named`, `unknown`, `room` | `NoMemory` | `unchanged` |",
+    "| `Nvic::enter` | `enabled`, `pending`, `room` |  |  |",
+    "| `Nvic::pick` |  | `None`: `value` |  |",
+    "| `Irq::new` |  | `None`: `in_range`, `value` |  |",
+)
+WAITS = re.compile(r"^ *pub fn (\w+)<[^(]*\b(?:Threads|Gate)\b", re.M)
+
+
+def printed(*words):
+    """What tools/calls prints, and its status."""
+    done = subprocess.run([sys.executable, str(TOOLS / "calls"), *words], capture_output=True, text=True, check=False)
+    return done.stdout, done.returncode
+
+
+def unprinted(text):
+    """What a print of all calls lacks: a crate, a row, or a call that may wait."""
+    crates = sources.below(sources.PROGRAM)
+    front = text.split("\n\n", 1)[0].replace("\n", " ")
+    lacking = [crate for crate in sorted({call.crate for call in table.tabled()}) if f"\n### {crate}\n" not in text]
+    lacking += [row for row in ROWS if row not in text]
+    for crate in crates:
+        for path in sorted((sources.ROOT / "crates" / crate / "src").rglob("*.rt")):
+            lacking += [f"{crate} {name}" for name in WAITS.findall(path.read_text(encoding="utf8"))
+                        if not re.search(rf"`(?:\w+::)?{name}` of `{crate}`", front)]
+    return lacking
+
+
 def main():
-    passes = subprocess.run([sys.executable, str(TOOLS / "calls")], check=False).returncode == 0
+    said, status = printed("check")
+    text, ended = printed()
+    lacking = unprinted(text)
     tried = [
         ("want of memory that leaves something unsaid", lacks("Result<(), NoMemory>", OK), True),
         ("want of memory that leaves all as it was", lacks("Result<(), NoMemory>", OK, LEFT), False),
@@ -38,12 +71,20 @@ def main():
         ("want of memory that leaves the second argument unsaid",
          lacks("Result<(), NoMemory>", LEFT._replace(text="OnErr result (first.new ≡ first.old)"), parameters=TWO),
          True),
-        ("a row that is missing", "| `Core::step` |" in table.table()[0], True),
+        ("a row that is missing", unprinted(text.replace(ROWS[0], "")) == lacking + [ROWS[0]], True),
+        ("a call that may wait and is not named", "rt_soak soak" in unprinted(text.replace("`soak` of", "`sok` of")),
+         True),
+        ("a crate that is missing", "rt_dual" in unprinted(text.replace("### rt_dual", "### rt_other")), True),
+        ("a crate alone", "rt_nvic" in printed("rt_nvic")[0] and "rt_core" not in printed("rt_nvic")[0], True),
+        ("a crate that is none", printed("rt_none")[1], 2),
     ]
     wrong = [name for name, is_told, wanted in tried if is_told != wanted]
+    print(said, end="")
+    for name in lacking:
+        print(f"calls: not printed: {name}")
     for name in wrong:
         print(f"calls: {name}: not told as it is to be")
-    return 0 if passes and not wrong else 1
+    return 1 if status or ended or lacking or wrong else 0
 
 
 if __name__ == "__main__":

@@ -23,8 +23,8 @@ PLANTED = {
     "| Name | File | Words |\n|---|---|---|\n| `Good` | `rt_sim/specs/Guarded.antt` | no |\n": "is not declared in",
     "It has 3 crates.\n": "in the tree",
     "It has 3 wrong bodies.\n": "in the tree",
-    "<!-- bench/definitions -->\n\n    rt_ids: Byte\n\n": "not that of bench/definitions",
-    "<!-- bench/definitions lines -->\n\n    all 1 2 3\n\n": "not that of bench/definitions",
+    "There are 3 files of definitions.\n": "in the tree",
+    "They have 3 lines of definitions.\n": "in the tree",
     "word " * 30 + "\n": "columns",
     "It lies in /opt/somewhere.\n": "of one machine",
     "It stands, and it stands.\n": "'stand' 2 times",
@@ -45,6 +45,7 @@ def main():
             faults.append(f"not seen: {text.strip()[:70]}: {seen}")
     faults += [f"seen where there is none: {fault}" for fault in faults_of(Page("README.md", RIGHT))]
     wrong = "By `images_are_good` (`crates/rt_sim/src/laws.rt:1`) it holds.\nIt has 3 crates.\n"
+    wrong += "It has 3 files of definitions, and 3 lines of definitions.\n"
     if faults_of(Page("README.md", written(Page("README.md", wrong)))):
         faults.append("what `write` writes is not right")
     for fault in faults:

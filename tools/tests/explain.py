@@ -25,7 +25,7 @@ sys.dont_write_bytecode = True
 from explaining.main import explained_call
 from explaining.program import Program, asked_program
 
-PAGE = HERE.parents[1] / "docs" / "EXPLAIN.md"
+PAGE = HERE.parents[1] / "docs" / "TOOLS.md"
 FILES = ("app.rtic", "second")
 TWO_FILES = ("run", "audit", "live", "times")
 PLACE = re.compile(r"(?:app\.rtic|second):\d+:\d+: ")

@@ -1,5 +1,5 @@
 #!/usr/bin/env python3
-"""Tries tools/fmt: texts that were formatted by hand (fmt/by_hand.rows, docs/FMT.md), comments that are put by chance
+"""Tries tools/fmt: texts that were formatted by hand (fmt/by_hand.rows, docs/TOOLS.md), comments that are put by chance
 between the tokens of texts whose canonical text is known or asked of the program, and the command line on a stand-in.
 
 What the program writes is compared only where there is one that answers at once: that of RTIC, or the proved one."""
@@ -76,8 +76,9 @@ class Trial:
 
 def by_hand():
     """The rows: a name, a text, and the formatted one; and the example of the document."""
-    loose, formatted = (shown for block in commands(Page("docs/FMT.md")) for shown in block)
-    yield "docs/FMT.md", "\n".join(loose.lines) + "\n", "\n".join(formatted.lines) + "\n"
+    blocks = commands(Page("docs/TOOLS.md"))
+    loose, formatted = next(block for block in blocks if block[0].command == "cat pump.rtic")
+    yield "docs/TOOLS.md", "\n".join(loose.lines) + "\n", "\n".join(formatted.lines) + "\n"
     for part in re.split(r"^== ", (HERE / "fmt" / "by_hand.rows").read_text(encoding="utf-8"), flags=re.M)[1:]:
         name, text = part.split("\n", 1)
         yield (name, *text.split("-- formatted\n"))
