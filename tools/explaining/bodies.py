@@ -10,7 +10,9 @@ SENDS = re.compile(r"send|put|post|push|give|notify|signal|queue|start|run|call|
                    r"|schedule", re.IGNORECASE)
 # a sign of one byte or of UTF-8 between the two halves of a word
 PARTED = r"(?:[^\w\s]{1,3})"
+STOPS = re.compile(r"stop|cancel|abort|kill|withdraw|clear", re.IGNORECASE)
 LATER = re.compile(r"timer|timeout|later|after|delay|schedule", re.IGNORECASE)
+STATEMENTS = ("let", "if", "for", "lock", "emit", "pend", "spawn", "spawn_after", "cancel", "reschedule_after")
 OF_APP, NEAR = ("bits", "dispatchers", "fpu"), 0.75
 
 
@@ -61,13 +63,18 @@ def is_context(syntax, name):
 def handed(syntax, found):
     """A function of another system, called with a task: what is sent to it is a message."""
     name = syntax.front[-1] if syntax.front else None
-    if not name or syntax.token.text != "(" or name.kind != "name" or not SENDS.search(name.text):
+    if not name or syntax.token.text != "(" or name.kind != "name":
+        return None
+    stops = STOPS.search(name.text)
+    if not stops and not SENDS.search(name.text):
         return None
     inner = [token.text for token in between(syntax.rest)[0]]
     first = inner[1:2] if inner[:1] == ["&"] else inner[:1]
     if not first or first[0] not in syntax.named.tasks or name.text in syntax.named.tasks:
         return None
     interrupt = syntax.named.tasks[first[0]]
+    if stops and not interrupt:
+        return f"`{first[0]}` is a task: `cancel {first[0]}(h);` withdraws its message with the handle h"
     if interrupt:
         return f"`{first[0]}` is a hardware task: `pend {interrupt};` makes it run"
     if "resched" in name.text.lower():
@@ -117,3 +124,13 @@ def no_let(syntax):
     if own or name in syntax.named.resources:
         return None
     return f"a variable is declared with `let`: `let {name} = ..;`"
+
+
+def outside(syntax, found):
+    """A statement where a declaration is due."""
+    behind = [token.text for token in syntax.rest[1:2]]
+    if "task" not in found or "let" in found or syntax.depth or syntax.token.kind not in ("name", "word"):
+        return None
+    if syntax.token.kind == "word" and syntax.token.text not in STATEMENTS or behind not in (["."], ["("], ["="]):
+        return None
+    return "no statement comes between the declarations: it goes into `init { .. }` or another body"

@@ -75,6 +75,8 @@ def lettered(syntax, found):
 
 def unnamed_option(syntax, found):
     """An interrupt or a number in the place of a task's option."""
+    if {"shared", ")"} <= found and "binds" not in found and syntax.token.text in syntax.named.interrupts:
+        return "`binds` names one interrupt: give each interrupt a task of its own"
     if {"binds", ")"} <= found and syntax.token.text in syntax.named.interrupts:
         return f"options have names: `binds = {syntax.token.text}`"
     if {"priority", ")"} <= found and syntax.token.kind == "number":
@@ -92,7 +94,8 @@ def no_comma(syntax, found):
 def typed(syntax, found):
     """A type, or another word, before the name of a row."""
     behind = syntax.rest[1].text if len(syntax.rest) > 1 else ""
-    if found == {"="} and syntax.token.kind == "name" and behind == "=" and syntax.front[-2].text in ("{", ","):
+    is_row = found == {"="} and syntax.token.kind == "name" and behind == "="
+    if is_row and syntax.front[-2].text in ("{", ",", "lock_free"):
         if not syntax.in_body:
             return f"a row is `{syntax.token.text} = ..`, with one name: leave `{syntax.front[-1].text}` out"
     return None

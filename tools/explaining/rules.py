@@ -11,7 +11,10 @@ KINDS = {
     "interrupt": "an interrupt", "task": "a task", "shared": "a shared resource", "local": "a local resource",
     "variable": "a variable", "value": "a value",
 }
-OF_NUMBERS = {"true": 1, "false": 0, "null": 0, "nullptr": 0, "nil": 0, "none": 0}
+OF_NUMBERS = {
+    "true": 1, "false": 0, "null": 0, "nullptr": 0, "nil": 0, "none": 0, "pdtrue": 1, "pdpass": 1, "pdfalse": 0,
+    "pdfail": 0,
+}
 LIKE_DIGITS = {"O": 0, "o": 0, "l": 1, "I": 1}
 HEXADECIMAL = re.compile(
     r"(?P<a>[0-9A-F]{2,})h|(?P<b>[A-Fa-f]+[0-9][0-9A-Fa-f]*)[hH]|[xX](?P<c>(?=.*[0-9])[0-9A-Fa-f]{2,8})|F{2,8}"
@@ -139,6 +142,7 @@ class Rules:
         elif wanted == "value":
             used = {one.token.text for one in uses_of(body) if one.role in ("read", "assign")}
             rows = [(name.text, "argument") for name in body.arguments] + [(name.text, "local") for name in body.local]
+            rows += [(row.name.text, "resource") for row in body.shared]
             rows += [(one.token.text, "variable") for one in uses_of(body) if one.role == "bind"]
             left = [row for row in rows if row[0] not in used]
             if len(left) == 1:

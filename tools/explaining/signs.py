@@ -4,7 +4,7 @@ import unicodedata
 
 from .habits import NO_TEXTS, QUOTABLE, UNQUOTED
 
-SIGNS_FOR = {"×": "*", "÷": "/", "≤": "<=", "≥": ">=", "≠": "!=", "∧": "&", "∨": "|"}
+SIGNS_FOR = {"×": "*", "÷": "/", "≤": "<=", "≥": ">=", "≠": "!=", "∧": "&", "∨": "|", "…": ".."}
 DASHES, QUOTES, ASCII_QUOTES = "–—−", "“”„‘’‚«»", "'\"`"
 BLANKS, UNSEEN = ("Zs", "Zl", "Zp"), "Cf"
 

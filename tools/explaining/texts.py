@@ -2,7 +2,7 @@
 import functools
 import re
 
-from .bodies import endless, handed, no_let, other_option, split_name, values_in_head
+from .bodies import endless, handed, no_let, other_option, outside, split_name, values_in_head
 from .calls import Named, called, nearly, unknown_word, without_handle, without_task
 from .habits import FOREIGN, SYNTAX, looked_up
 from .marks import comma_for_end, ended_early, glued, grouped, in_brackets, last_comma, left_out, lettered, lone_number
@@ -127,7 +127,7 @@ def syntax_help(syntax, found, program, table):
         help_ = help_ or one(syntax, found)
     if not help_ and found:
         help_ = repaired(syntax, found, program)
-    for one in (other_end, left_out, no_statement, form):
+    for one in (other_end, left_out, no_statement, outside, form):
         help_ = help_ or one(syntax, found)
     return help_
 
@@ -242,6 +242,17 @@ def no_interrupts(syntax, found):
     return None
 
 
+def refused_then(syntax, text, output):
+    """What is said of a change after which a rule is broken: of an unknown name, or in the declaration or the task."""
+    found = re.match(r"(\d+):(\d+) (E\d\d [^\n]*)", output)
+    if not found:
+        return ""
+    at = offset_of(text, int(found[1]), int(found[2]))
+    piece = next(piece for piece in reversed(pieces_of(text)) if piece.start <= at)
+    is_near = piece.start <= syntax.at < piece.stop or found[3].startswith("E05")
+    return f", and then line {found[1]} is refused: {found[3]}" * is_near
+
+
 def repaired(syntax, found, program):
     """One sign put in or the token taken out, where the whole text is then one of the grammar; or where the declaration
     or the task is read then, and the next refusal is in another one."""
@@ -252,9 +263,11 @@ def repaired(syntax, found, program):
         texts.append(f"{front} {syntax.text[syntax.token.end :]}")
     told_ways = [f"with `{sign}` put before it" for sign in put] + [f"with `{syntax.token.text}` taken out"]
     answers = program.formats(texts)
-    for told_way, (status, _) in zip(told_ways, answers):
-        if status == 0:
-            return f"{told_way} the whole text is read"
+    read = [(told_way, text) for told_way, text, (status, _) in zip(told_ways, texts, answers) if status == 0]
+    judged = [(told_way, text, *program.ask("check", program.file("repaired", text))) for told_way, text in read]
+    if judged:
+        told_way, text, _, output = min(judged, key=lambda row: row[2])
+        return f"{told_way} the whole text is read{refused_then(syntax, text, output)}"
     stop = next((piece.stop for piece in pieces_of(syntax.text) if piece.start <= syntax.at < piece.stop), 0)
     for told_way, text, (_, output) in zip(told_ways, texts, answers):
         line, column = (int(word) for word in re.match(r"(\d+):(\d+) ", output).groups())
