@@ -27,9 +27,10 @@ use Rattle.rt_live.specs.declared.share.Share.TheVariants.{First, Second}
 use Rattle.rt_live.specs.Interleaving.{Happens, last_turns}
 use Rattle.rt_live.specs.Requests.{request_of, turn_requests}
 use Rattle.rt_live.proofs.Asking.{few_asked}
-use Rattle.rt_live.proofs.Closed.{contains_either}
-use Rattle.rt_live.proofs.Numbered.{contains_front, contains_behind}
-use Rattle.rt_live.proofs.Owning.{own_length}
+use Rattle.std.proofs.lemmas.List.Elements.{Contains-append_cases as contains_either}
+use Rattle.std.proofs.lemmas.List.Elements.{Contains-append_left as contains_front}
+use Rattle.std.proofs.lemmas.List.Elements.{Contains-append_right as contains_behind}
+use Rattle.rt_live.proofs.Turning.{own_length}
 use Rattle.rt_live.proofs.Readied.{declared_at}
 use Rattle.rt_dual.specs.Course.{Place, first_place, second_place, turns, first_events, second_events}
 use Rattle.rt_dual.specs.Inside.Both.{IsPlaced, IsBefore, AreBefore, HasEnded, HaveEnded, CanWrite}

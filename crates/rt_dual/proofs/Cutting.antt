@@ -15,8 +15,8 @@ use Rattle.rt_words.specs.Lines.{Line as Caller}
 use Rattle.rt_live.specs.Interleaving.{Turn, looks, arrivals_from, look_arrivals, interleaving}
 use Rattle.rt_live.specs.Going.{IsWholeLook, FindsDeclared, Stops, Ends}
 use Rattle.rt_live.specs.Written.{EndsWhole, EndsEarly}
-use Rattle.rt_live.proofs.Bits.{zero_arrives}
-use Rattle.rt_live.proofs.Further.{found_on, interleaving_finished}
+use Rattle.rt_live.proofs.Looking.{zero_arrives}
+use Rattle.rt_live.proofs.Woven.{found_on, interleaving_finished}
 use Rattle.rt_live.proofs.Onward.{zeros}
 use Rattle.rt_dual.specs.Output.{HasBegun}
 

@@ -36,7 +36,7 @@ use Rattle.rt_live.specs.declared.account.AccountRow.{AccountRow}
 use Rattle.rt_live.specs.declared.share.Share.TheVariants.{First, Second}
 use Rattle.rt_live.proofs.Found.{found_irqs, woven_all, woven_weight, named_events, own_turns_named, own_weight}
 use Rattle.rt_live.proofs.Found.{replicated_events}
-use Rattle.rt_live.proofs.Owning.{own_length}
+use Rattle.rt_live.proofs.Turning.{own_length}
 use Rattle.rt_dual.specs.Course.{Place, IsCourse, first_place, second_place, first_events, second_events, turns}
 use Rattle.rt_dual.specs.Course.{course_events}
 use Rattle.rt_dual.specs.Forwarded.{forward}

@@ -25,7 +25,8 @@ use Rattle.rt_words.proofs.Found.{Asks, stays, none_pending}
 use Rattle.rt_words.proofs.Parting.{part_first}
 use Rattle.rt_live.specs.Account.{declared_irqs}
 use Rattle.rt_live.specs.Requests.{Pends, request_of, turn_requests}
-use Rattle.rt_live.proofs.Numbered.{contains_front, contains_behind}
+use Rattle.std.proofs.lemmas.List.Elements.{Contains-append_left as contains_front}
+use Rattle.std.proofs.lemmas.List.Elements.{Contains-append_right as contains_behind}
 use Rattle.rt_live.proofs.Onward.{part_on}
 use Rattle.rt_dual.specs.Course.{Place, IsCourse, first_place, second_place, first_events, second_events, turns}
 use Rattle.rt_dual.specs.Forwarded.{forward}

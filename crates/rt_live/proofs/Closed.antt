@@ -1,10 +1,10 @@
 -- What the words tell when they are closed, said of the run that ends.
-use Rattle.std.proofs.Common.{◌≡◌, ◌≢◌, ◌⊎◌, ℕ, ◌+◌, ◌^◌, ◌≤◌, List, [], ◌∷◌, ◌++◌, length, map}
-use Rattle.std.proofs.Common.{get_or, drop, length-append}
-use Rattle.std.proofs.Common.{Contains, refl, sym, ap, subst, ◌∙◌, arith, ⊎_elim, inl, inr}
+use Rattle.std.proofs.Common.{◌≡◌, ◌≢◌, ℕ, ◌+◌, ◌^◌, ◌≤◌, List, [], ◌∷◌, ◌++◌, length, map, get_or, drop}
+use Rattle.std.proofs.Common.{length-append, Contains, refl, sym, ap, subst, ◌∙◌, arith, ⊎_elim}
 use Rattle.std.specs.List.{AllByRecursion}
 use Rattle.std.proofs.lemmas.List.{length-map}
 use Rattle.std.proofs.lemmas.List.Sums.{sum_by-cons}
+use Rattle.std.proofs.lemmas.List.Elements.{Contains-append_left, Contains-append_right, Contains-append_cases}
 use mathlib.Core.List.{map-append}
 use Rattle.rt_lemmas.proofs.Membership.{all_has, all_weaker, contains_here, contains_there, contains_cases}
 use Rattle.rt_lemmas.proofs.Membership.{contains_none}
@@ -23,10 +23,8 @@ use Rattle.rt_live.specs.Gathering.{part_of, line_after_gathering}
 use Rattle.rt_live.specs.Ready.{Prepared, IsReady, IsBeside, IsWaiting, IsCounted, irqs_of}
 use Rattle.rt_live.specs.Inside.Working.{calls_gathered, calls_made}
 use Rattle.rt_live.specs.declared.account.AccountRow.{AccountRow}
-use Rattle.rt_live.proofs.Numbered.{contains_front, contains_behind}
 use Rattle.rt_live.proofs.Readied.{parts_few, few_devices}
-use Rattle.rt_live.proofs.Tallied.{same_calls, same_made, same_here, same_there, gathered_parts, rows_settled}
-use Rattle.rt_live.proofs.Tallied.{counts_fit, made_parts}
+use Rattle.rt_live.proofs.Tallied.{rows_settled, counts_fit, made_parts}
 
 -- waiting devices have made no call
 waiting_made : (row : Row) (script : List Line) (ds : List Device) → AllByRecursion (IsWaiting row script) ds
@@ -49,13 +47,6 @@ contains_mapped f [] x is = absurd (contains_none x is)
 contains_mapped f (y ∷ xs) x is =
     ⊎_elim (λ e. subst (λ z. Contains (z ∷ map f xs) (f x)) (sym (ap f e)) (contains_here (f x) (map f xs)))
     (λ more. contains_there (f y) (map f xs) (f x) (contains_mapped f xs x more)) (contains_cases y xs x is)
-
-pub contains_either : (xs ys : List ℕ) (n : ℕ) → Contains (xs ++ ys) n → Contains xs n ⊎ Contains ys n
-contains_either [] ys n is = inr is
-contains_either (x ∷ xs) ys n is =
-    ⊎_elim (λ e. inl (subst (λ z. Contains (z ∷ xs) n) (sym e) (contains_here n xs)))
-    (λ more. ⊎_elim (λ front. inl (contains_there x xs n front)) (λ behind. inr behind) (contains_either xs ys n more))
-    (contains_cases x (xs ++ ys) n is)
 
 module _ (ready : Prepared) (is : IsReady ready) where
   abbrev pub line_then : Caller
@@ -91,7 +82,6 @@ module _ (ready : Prepared) (is : IsReady ready) where
         arith,
         room_for_all,
         ap (λ (l : Caller). calls_gathered l.gathered) same,
-        ap calls_gathered (gathered_parts ready.devices ready.line),
         made_parts ready.devices ready.line.gathered,
       ))
       counted
@@ -100,25 +90,24 @@ module _ (ready : Prepared) (is : IsReady ready) where
   pub all_gathered : (line : Caller) → line ≡ line_then → AllGathered line.made line.gathered
   all_gathered line same number made =
       let made_then : Contains ready.line.made number =
-      subst (λ (ns : List ℕ). Contains ns number) (ap (λ (l : Caller). l.made) same
-      ∙ same_made ready.devices ready.line) made in
+      subst (λ (ns : List ℕ). Contains ns number) (ap (λ (l : Caller). l.made) same) made in
       let there = subst (λ (ns : List ℕ). Contains ns number) (sym is.each) ((is.made number).0 made_then) in
       let parts : line.gathered ≡ map part_of ready.devices ++ ready.line.gathered =
-      ap (λ (l : Caller). l.gathered) same ∙ gathered_parts ready.devices ready.line in
+      ap (λ (l : Caller). l.gathered) same in
       let split : numbers line.gathered ≡ numbers (map part_of ready.devices) ++ numbers ready.line.gathered =
       ap numbers parts ∙ map-append (λ (p : Part). p.line) (map part_of ready.devices) ready.line.gathered in
       subst (λ (ns : List ℕ). Contains ns number) (sym split)
       (⊎_elim (λ waits.
       let d = waiting_part number waits in
-      contains_front (numbers (map part_of ready.devices)) (numbers ready.line.gathered) number
+      Contains-append_left (numbers (map part_of ready.devices)) (numbers ready.line.gathered) number
       (subst (λ n. Contains (numbers (map part_of ready.devices)) n) d.2
       (contains_mapped (λ (p : Part). p.line) (map part_of ready.devices) (part_of d.0) d.1)))
-      (λ gone. contains_behind (numbers (map part_of ready.devices)) (numbers ready.line.gathered) number gone)
-      (contains_either (map (λ (d : Device). d.number) ready.devices) (numbers ready.line.gathered) number there))
+      (λ gone. Contains-append_right (numbers (map part_of ready.devices)) (numbers ready.line.gathered) number gone)
+      (Contains-append_cases (map (λ (d : Device). d.number) ready.devices) (numbers ready.line.gathered) number there))
 
   module _ (line : Caller) (same : line ≡ line_then) (bits : List ℕ) (h : OneHistory line bits) where
     parts_then : line.gathered ≡ map part_of ready.devices ++ ready.line.gathered
-    parts_then = ap (λ (l : Caller). l.gathered) same ∙ gathered_parts ready.devices ready.line
+    parts_then = ap (λ (l : Caller). l.gathered) same
 
     others_none : (number : ℕ) → number ≢ 255 → ¬ Contains (numbers ready.line.gathered) number
         → part h.history number ≡ []
@@ -127,15 +116,14 @@ module _ (ready : Prepared) (is : IsReady ready) where
           let d = waiting_part number waits in
           let there : Contains line.gathered (part_of d.0) =
           subst (λ (ps : List Part). Contains ps (part_of d.0)) (sym parts_then)
-          (contains_front (map part_of ready.devices) ready.line.gathered (part_of d.0) d.1) in
+          (Contains-append_left (map part_of ready.devices) ready.line.gathered (part_of d.0) d.1) in
           ap (part h.history) (sym d.2) ∙ h.gathered (part_of d.0) there ∙ d.3
       | no none ↦
           h.unmade number ne (λ made.
           let made_then : Contains ready.line.made number =
-          subst (λ (ns : List ℕ). Contains ns number)
-          (ap (λ (l : Caller). l.made) same ∙ same_made ready.devices ready.line) made in
+          subst (λ (ns : List ℕ). Contains ns number) (ap (λ (l : Caller). l.made) same) made in
           ⊎_elim none out
-          (contains_either (map (λ (d : Device). d.number) ready.devices) (numbers ready.line.gathered) number
+          (Contains-append_cases (map (λ (d : Device). d.number) ready.devices) (numbers ready.line.gathered) number
           (subst (λ (ns : List ℕ). Contains ns number) (sym is.each) ((is.made number).0 made_then))))
     ]
 
@@ -148,10 +136,10 @@ module _ (ready : Prepared) (is : IsReady ready) where
       history = h.history;
       left = bits;
       legal = h.legal;
-      core = h.own ∙ ap (λ (l : Caller). l.calls) same ∙ same_calls ready.devices ready.line;
+      core = h.own ∙ ap (λ (l : Caller). l.calls) same;
       gathered = λ p there.
           h.gathered p (subst (λ (ps : List Part). Contains ps p) (sym parts_then)
-          (contains_behind (map part_of ready.devices) ready.line.gathered p there));
+          (Contains-append_right (map part_of ready.devices) ready.line.gathered p there));
       others = others_none;
       ended = λ none.
           let own : line ≡ ready.line = same ∙ ap (λ (ds : List Device). line_after_gathering ds ready.line) none in
@@ -160,9 +148,8 @@ module _ (ready : Prepared) (is : IsReady ready) where
       account =
           rows_settled 0 0 0 line bits h own
           (subst (λ n. IsTally n 0 line.calls own)
-          (ap (λ (l : Caller). l.here) same ∙ same_here ready.devices ready.line ∙ is.here)
-          (subst (λ n. IsTally line.here n line.calls own)
-          (ap (λ (l : Caller). l.there) same ∙ same_there ready.devices ready.line ∙ is.there) told))
+          (ap (λ (l : Caller). l.here) same ∙ is.here)
+          (subst (λ n. IsTally line.here n line.calls own) (ap (λ (l : Caller). l.there) same ∙ is.there) told))
           rows counted
           ∙ ap (λ (ns : List ℕ). account_of 0 ns (calls_in h.history) bits) irqs;
     }

@@ -1,23 +1,19 @@
 -- What looks find under a script: requests of its devices, each at most once.
-use Rattle.std.proofs.Common.{◌≡◌, ◌≢◌, ℕ, zero, suc, ◌+◌, ◌*◌, ◌<◌, ◌≤◌, ◌==◌, ◌⊎◌, Bool, true, false, cond, List, []}
-use Rattle.std.proofs.Common.{◌∷◌, ◌++◌, length, map, flat_map, replicate, Contains, Some, inl, inr}
-use Rattle.std.proofs.Common.{refl, ap, sym, subst, ◌∙◌, arith, length-append, if◌then◌else◌}
-use Rattle.std.proofs.Common.{drop, eq-eqb, ne_eqb}
-use Rattle.std.specs.Int.{bit_at}
+use Rattle.std.proofs.Common.{◌≡◌, ℕ, zero, suc, ◌+◌, ◌≤◌, ◌==◌, Bool, true, false, cond, List, [], ◌∷◌, ◌++◌, length}
+use Rattle.std.proofs.Common.{map, flat_map, replicate, count_by, sum_by, Some, refl, ap, sym, subst, arith}
+use Rattle.std.proofs.Common.{length-append, drop}
 use Rattle.std.specs.List.{AllByRecursion}
-use Rattle.std.proofs.lemmas.List.{length-map, length-replicate}
+use Rattle.std.proofs.lemmas.List.{length-replicate}
 use Rattle.std.proofs.lemmas.List.Sums.{sum_by-cons}
-use Rattle.std.proofs.lemmas.Bool.{eqb-true}
-use native.Mathlib.Decide.{ℕ_discrete, dec_lt}
-use Rattle.rt_lemmas.proofs.Membership.{all_append, all_flat_map, all_weaker, contains_here, contains_there}
+use native.Mathlib.Decide.{ℕ_discrete}
+use Rattle.rt_lemmas.proofs.Membership.{all_append, all_flat_map, all_weaker}
 use Rattle.rt_lemmas.proofs.Lists.{all_front, all_behind}
-use Rattle.rt_ids.specs.Arrivals.{arrivals, arrivals_below}
+use Rattle.rt_ids.specs.Arrivals.{arrivals}
 use Rattle.rt_ids.specs.Event.{Event, Arrive, Tick, Step, steps}
-use Rattle.rt_ids.specs.Lists.{numbers_below}
 use Rattle.rt_ids.specs.Names.{Names}
 use Rattle.rt_devices.specs.Work.{interrupt_asked}
-use Rattle.rt_script.specs.Script.{HasName, HasNames, IsScript, pends, line_pends, count, count_of}
-use Rattle.rt_script.specs.Script.{core_events, core_line_events, events, line_events}
+use Rattle.rt_script.specs.Script.{HasName, HasNames, IsScript, pends, line_pends, count, count_of, core_events}
+use Rattle.rt_script.specs.Script.{core_line_events, events, line_events}
 use Rattle.rt_script.specs.declared.line.Line.{Line}
 use Rattle.rt_script.specs.declared.line.Line.TheVariants.{Steps, Ticks, Pends, Device}
 use Rattle.rt_run.proofs.Weighing.{Arrives, Named, weight, weight_append, steps_weigh}
@@ -26,17 +22,19 @@ use Rattle.rt_words.specs.declared.call.Call.TheVariants.{Pend, Latch}
 use Rattle.rt_words.specs.declared.call.Entry.{Entry}
 use Rattle.rt_words.specs.Ending.{calls_in}
 use Rattle.rt_words.specs.History.{part}
-use Rattle.rt_words.proofs.Found.{as_many, found_in, asked_by, found_few, part_found, lengths_of, asked_few}
-use Rattle.rt_words.proofs.Found.{all_parts, part_all, Asks, Finds, found_asked}
+use Rattle.rt_words.proofs.Accounting.{count_first}
+use Rattle.rt_words.proofs.Found.{as_many, found_in, asked_by, asked_in, found_few, part_found, all_parts, part_all}
+use Rattle.rt_words.proofs.Found.{Asks, Finds, found_asked}
 use Rattle.rt_code.specs.Image.{Image}
 use Rattle.rt_live.specs.Account.{row_of}
-use Rattle.rt_live.specs.History.{IsHistory}
+use Rattle.rt_live.specs.History.{IsHistory, line_asks}
 use Rattle.rt_live.specs.Output.{IsLiveText}
 use Rattle.rt_live.specs.declared.account.AccountRow.{AccountRow}
 use Rattle.rt_live.specs.Interleaving.{Turn, Happens, Looks, turns, arrivals_from, look_arrivals, look_calls_from}
 use Rattle.rt_live.specs.Interleaving.{look_calls, interleaving}
-use Rattle.rt_live.proofs.Bits.{arrivals_more}
-use Rattle.rt_live.proofs.Requesting.{none_asked}
+use Rattle.rt_live.proofs.Looking.{arriving_all}
+use Rattle.rt_live.proofs.Requested.{asks_that, all_pended}
+use Rattle.rt_live.proofs.Requesting.{all_replicate}
 
 -- the interrupts that looks found, in order
 abbrev pub found_irqs : List (List ℕ) → List ℕ
@@ -81,26 +79,12 @@ module _ (P : ℕ → Type 0) where
       (woven_all ts found all.1
       (all_behind P (arrivals_from 0 words) (found_irqs found) is))
 
-  -- what a word is found with arrives
-  below_all : (k word n : ℕ) → n ≤ 32 → ((bit : ℕ) → bit < 32 → bit_at word bit ≡ 1 → P (32 * k + bit))
-      → AllByRecursion P (arrivals_below k word n)
-  unfolding numbers_below
-  below_all k word zero few finds = tt
-  below_all k word (suc n) few finds =
-      subst (AllByRecursion P) (sym (arrivals_more k word n))
-      (all_append P (arrivals_below k word n) (if bit_at word n == 1 then (32 * k + n) ∷ [] else [])
-      (below_all k word n (omega (arith, few)) finds)
-      (by (bit_at word n == 1) refl))
-    where
-      by : (b : Bool) → (bit_at word n == 1) ≡ b → AllByRecursion P (if b then (32 * k + n) ∷ [] else [])
-      by true is = (finds n (omega (arith, few)) (eqb-true (bit_at word n) 1 is), tt)
-      by false is = tt
-
+  -- what words are found with arrives
   look_all : (k : ℕ) (words : List ℕ) → AllByRecursion (Finds P) (look_calls_from k words)
       → AllByRecursion P (arrivals_from k words)
   look_all k [] all = tt
   look_all k (word ∷ words) all =
-      all_append P (arrivals k word) (arrivals_from (suc k) words) (below_all k word 32 (omega arith) all.0)
+      all_append P (arrivals k word) (arrivals_from (suc k) words) (arriving_all P k word all.0)
       (look_all (suc k) words all.1)
 
   pub looks_all : (found : List (List ℕ)) → AllByRecursion (Finds P) (flat_map look_calls found)
@@ -180,103 +164,31 @@ looks_found (words ∷ found) =
     )
 
 -- latches ask for nothing
-pub latched_all : (P : Call → Type 0) → ((k word : ℕ) → P (Latch k word)) → (found : List (List ℕ))
-    → AllByRecursion P (flat_map look_calls found)
-latched_all P is [] = tt
-latched_all P is (words ∷ found) =
-    all_append P (look_calls words) (flat_map look_calls found) (of_look 0 words) (latched_all P is found)
+latched_all : (P : ℕ → Type 0) (found : List (List ℕ)) → AllByRecursion (Asks P) (flat_map look_calls found)
+latched_all P [] = tt
+latched_all P (words ∷ found) =
+    all_append (Asks P) (look_calls words) (flat_map look_calls found) (of_look 0 words) (latched_all P found)
   where
-    of_look : (k : ℕ) (ws : List ℕ) → AllByRecursion P (look_calls_from k ws)
+    of_look : (k : ℕ) (ws : List ℕ) → AllByRecursion (Asks P) (look_calls_from k ws)
     of_look k [] = tt
-    of_look k (word ∷ ws) = (is k word, of_look (suc k) ws)
+    of_look k (word ∷ ws) = (tt, of_look (suc k) ws)
 
--- the numbers below this one
-abbrev pub numbers_down : ℕ → List ℕ
-numbers_down zero = []
-numbers_down (suc n) = n ∷ numbers_down n
-
-down_has : (n number : ℕ) → number < n → Contains (numbers_down n) number
-down_has zero number few = absurd (omega (arith, few))
-down_has (suc n) number few = by (down_has n number) (ℕ_discrete n number)
+-- how many interrupts calls ask for
+asked_count : (calls : List Call) → asked_in calls ≡ count_by (asks_that (λ irq. true)) calls
+asked_count [] = refl
+asked_count (c ∷ calls) =
+    omega (arith, one c, asked_count calls, count_first (asks_that (λ irq. true)) c calls)
   where
-    by : (number < n → Contains (numbers_down n) number) → Dec (n ≡ number) → Contains (numbers_down (suc n)) number
-    by rest (yes e) = subst (λ m. Contains (m ∷ numbers_down n) number) (sym e) (contains_here number (numbers_down n))
-    by rest (no ne) = contains_there n (numbers_down n) number (rest (omega (arith, few, ne)))
+    one : (c : Call) → asked_by c ≡ cond (asks_that (λ irq. true) c) 1 0
+    one (Pend irq answer) = refl
+    one (Latch k word) = refl
 
 -- how many requests lines have of devices
-abbrev line_asks : Line → ℕ
-line_asks (Steps n) = 0
-line_asks (Ticks n) = 0
-line_asks (Pends irq n) = 0
-line_asks (Device d irq n) = n
-
 abbrev pub all_asked : List Line → ℕ
-all_asked [] = 0
-all_asked (line ∷ script) = line_asks line + all_asked script
-
--- those of the devices below this number
-line_sum : ℕ → Line → ℕ
-line_sum zero line = 0
-line_sum (suc n) line = length (line_pends n line) + line_sum n line
-
-script_sum : ℕ → List Line → ℕ
-script_sum zero script = 0
-script_sum (suc n) script = length (pends script n) + script_sum n script
-
-line_none : (n : ℕ) (line : Line) → ((d : ℕ) → line_pends d line ≡ []) → line_sum n line ≡ 0
-unfolding line_sum
-line_none zero line none = refl
-line_none (suc n) line none = omega (arith, ap length (none n), line_none n line none)
-
-device_none : (n d irq count : ℕ) → n ≤ d → line_sum n (Device d irq count) ≡ 0
-unfolding line_sum
-device_none zero d irq count few = refl
-device_none (suc n) d irq count few =
-    let ne : d ≢ n = (λ e. omega (arith, e, few)) in
-    let none : length (line_pends n (Device d irq count)) ≡ 0 =
-    ap (λ b. length (cond b (replicate count irq) [])) (ne_eqb d n ne) in
-    omega (arith, none, device_none n d irq count (omega (arith, few)))
-
-device_few : (n d irq count : ℕ) → line_sum n (Device d irq count) ≤ count
-unfolding line_sum
-device_few zero d irq count = omega arith
-device_few (suc n) d irq count = by (device_few n d irq count) (ℕ_discrete d n)
-  where
-    by : line_sum n (Device d irq count) ≤ count → Dec (d ≡ n) → line_sum (suc n) (Device d irq count) ≤ count
-    by rest (yes e) =
-        let one : length (line_pends n (Device d irq count)) ≡ count =
-        ap (λ b. length (cond b (replicate count irq) [])) (eq-eqb d n e)
-        ∙ length-replicate count irq in
-        omega (arith, one, device_none n d irq count (omega (arith, e)))
-    by rest (no ne) =
-        let none : length (line_pends n (Device d irq count)) ≡ 0 =
-        ap (λ b. length (cond b (replicate count irq) [])) (ne_eqb d n ne) in
-        omega (arith, none, rest)
-
-line_few : (n : ℕ) (line : Line) → line_sum n line ≤ line_asks line
-line_few n (Steps m) = omega (arith, line_none n (Steps m) (λ d. refl))
-line_few n (Ticks m) = omega (arith, line_none n (Ticks m) (λ d. refl))
-line_few n (Pends irq m) = omega (arith, line_none n (Pends irq m) (λ d. refl))
-line_few n (Device d irq m) = device_few n d irq m
-
-sum_splits : (n : ℕ) (line : Line) (script : List Line) → script_sum n (line ∷ script) ≡ line_sum n line
-    + script_sum n script
-unfolding line_sum script_sum
-sum_splits zero line script = refl
-sum_splits (suc n) line script =
-    omega (arith, sum_splits n line script, length-append (line_pends n line) (pends script n))
-
-sum_none : (n : ℕ) → script_sum n [] ≡ 0
-unfolding script_sum
-sum_none zero = refl
-sum_none (suc n) = omega (arith, sum_none n)
-
-sum_few : (n : ℕ) (script : List Line) → script_sum n script ≤ all_asked script
-sum_few n [] = omega (arith, sum_none n)
-sum_few n (line ∷ script) = omega (arith, sum_splits n line script, line_few n line, sum_few n script)
+all_asked script = sum_by (line_asks (λ irq. true)) script
 
 -- the core's own events and the devices' requests are all that a script counts
-own_length : (line : Line) → length (core_line_events line) + line_asks line ≡ count_of line
+own_length : (line : Line) → length (core_line_events line) + line_asks (λ irq. true) line ≡ count_of line
 own_length (Steps n) = omega (arith, length-replicate n Step)
 own_length (Ticks n) = omega (arith, length-replicate n Tick)
 own_length (Pends irq n) = omega (arith, length-replicate n (Arrive irq))
@@ -291,12 +203,12 @@ own_few (line ∷ script) =
       own_few script,
       length-append (core_line_events line) (core_events script),
       sum_by-cons count_of line script,
+      sum_by-cons (line_asks (λ irq. true)) line script,
     )
 
 -- the core's own lines request what has a name
 pub replicated_events : (P : ℕ → Type 0) (n : ℕ) (e : Event) → Arrives P e → AllByRecursion (Arrives P) (replicate n e)
-replicated_events P zero e is = tt
-replicated_events P (suc n) e is = (is, replicated_events P n e is)
+replicated_events P n e is = all_replicate (Arrives P) n e is
 
 own_line : (names : Names) (line : Line) → HasName names line
     → AllByRecursion (Arrives (Named names)) (core_line_events line)
@@ -348,13 +260,6 @@ added_weight (suc n) = omega (arith, added_weight n)
 
 module _ (names : Names) (script : List Line) (found : List (List ℕ)) (history : List Entry)
     (is : IsHistory script found history) (scripted : IsScript script) (named : HasNames names script) where
-  abbrev Is : ℕ → Call → Type 0
-  Is n c = Asks (Named names) c × ((asked_by c ≡ 0) ⊎ Contains (numbers_down 16) n)
-
-  replicated : (n irq : ℕ) → (Named names) irq → AllByRecursion (Named names) (replicate n irq)
-  replicated zero irq is = tt
-  replicated (suc n) irq is = (is, replicated n irq is)
-
   line_named : (n : ℕ) (line : Line) → HasName names line → AllByRecursion (Named names) (line_pends n line)
   line_named n (Steps m) has = tt
   line_named n (Ticks m) has = tt
@@ -362,7 +267,7 @@ module _ (names : Names) (script : List Line) (found : List (List ℕ)) (history
   line_named n (Device d irq m) has = by (d == n)
     where
       by : (b : Bool) → AllByRecursion (Named names) (cond b (replicate m irq) [])
-      by true = replicated m irq has
+      by true = all_replicate (Named names) m irq has
       by false = tt
 
   asked_named : (n : ℕ) → AllByRecursion (Named names) (pends script n)
@@ -371,36 +276,14 @@ module _ (names : Names) (script : List Line) (found : List (List ℕ)) (history
       (all_weaker (HasName names) (λ line. AllByRecursion (Named names) (line_pends n line)) (line_named n) script
       named)
 
-  in_range : (n : ℕ) (c : Call) → n < 16 → Asks (Named names) c → Is n c
-  in_range n c few asks = (asks, inr (down_has 16 n few))
-
-  none_all : (n : ℕ) (calls : List Call) → map interrupt_asked calls ≡ [] → AllByRecursion (Is n) calls
-  none_all n [] none = tt
-  none_all n (c ∷ calls) none = absurd (cc)
-
-  of_device : (n : ℕ) → n ≢ 255 → AllByRecursion (Is n) (part history n)
-  of_device n ne = by (dec_lt n 16)
-    where
-      by : Dec (n < 16) → AllByRecursion (Is n) (part history n)
-      by (yes few) =
-          all_weaker (Asks (Named names)) (Is n) (λ c asks. in_range n c few asks) (part history n)
-          (asks_all (Named names) (part history n) (pends script n) (is.devices n ne) (asked_named n))
-      by (no far) =
-          none_all n (part history n)
-          (is.devices n ne
-          ∙ ap (map (λ (irq : ℕ). Some irq)) (none_asked script n (omega (arith, far)) scripted.devices))
-
-  each_line : (n : ℕ) → AllByRecursion (Is n) (part history n)
+  each_line : (n : ℕ) → AllByRecursion (Asks (Named names)) (part history n)
   each_line n = by (ℕ_discrete n 255)
     where
-      by : Dec (n ≡ 255) → AllByRecursion (Is n) (part history n)
+      by : Dec (n ≡ 255) → AllByRecursion (Asks (Named names)) (part history n)
       by (yes e) =
-          subst (λ m. AllByRecursion (Is m) (part history m)) (sym e)
-          (subst (AllByRecursion (Is 255)) (sym is.core) (latched_all (Is 255) (λ k word. (tt, inl refl)) found))
-      by (no ne) = of_device n ne
-
-  all_calls : AllByRecursion (λ (e : Entry). Is e.line e.call) history
-  all_calls = all_parts Is history each_line
+          subst (λ m. AllByRecursion (Asks (Named names)) (part history m)) (sym e)
+          (subst (AllByRecursion (Asks (Named names))) (sym is.core) (latched_all (Named names) found))
+      by (no ne) = asks_all (Named names) (part history n) (pends script n) (is.devices n ne) (asked_named n)
 
   -- what looks find has a name
   pub found_named : AllByRecursion (Named names) (found_irqs found)
@@ -409,18 +292,7 @@ module _ (names : Names) (script : List Line) (found : List (List ℕ)) (history
       (subst (AllByRecursion (Finds (Named names))) is.core
       (part_all (Finds (Named names)) history 255
       (found_asked (Named names) history (replicate 32 0) is.legal
-      (all_weaker (λ (e : Entry). Is e.line e.call) (λ (e : Entry). Asks (Named names) e.call) (λ e all. all.0) history
-      all_calls))))
-
-  lengths_are : (n : ℕ) → n ≤ 16 → lengths_of (numbers_down n) history ≡ script_sum n script
-  unfolding script_sum
-  lengths_are zero few = refl
-  lengths_are (suc n) few =
-      let ne : n ≢ 255 = (λ e. omega (arith, e, few)) in
-      let same : length (part history n) ≡ length (pends script n) =
-      sym (length-map (part history n) interrupt_asked) ∙ ap length (is.devices n ne)
-      ∙ length-map (pends script n) (λ irq. Some irq) in
-      omega (arith, same, lengths_are n (omega (arith, few)))
+      (all_parts (λ n c. Asks (Named names) c) history each_line))))
 
   -- and there is no more of it than the devices request
   pub found_within : length (found_irqs found) ≤ all_asked script
@@ -431,12 +303,8 @@ module _ (names : Names) (script : List Line) (found : List (List ℕ)) (history
         ap found_in (sym is.core),
         part_found history 255,
         found_few history (replicate 32 0) is.legal,
-        asked_few (numbers_down 16) history
-            (all_weaker (λ (e : Entry). Is e.line e.call)
-            (λ (e : Entry). (asked_by e.call ≡ 0) ⊎ Contains (numbers_down 16) e.line) (λ e all. all.1) history
-            all_calls),
-        lengths_are 16 (omega arith),
-        sum_few 16 script,
+        asked_count (calls_in history),
+        all_pended script found history is scripted.devices (λ irq. true),
       )
 
   -- each event of the run is of a declared interrupt

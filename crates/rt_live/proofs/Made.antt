@@ -1,16 +1,15 @@
 -- What is made for a run: bits of interrupts, rows, and devices with their lines.
 use Rattle.std.proofs.Common.{◌≡◌, ℕ, zero, suc, ◌+◌, ◌*◌, ◌/◌, ◌%◌, ◌^◌, ◌<◌, ◌==◌, ◌⊎◌, inl, inr, Bool, true, false}
 use Rattle.std.proofs.Common.{if◌then◌else◌, List, [], ◌∷◌, ◌++◌, map, filter, flat_map, replicate, length, take}
-use Rattle.std.proofs.Common.{get_or, set}
-use Rattle.std.proofs.Common.{bit_or, Contains, Some, refl, ap, sym, subst, ◌∙◌, append_assoc, arith}
+use Rattle.std.proofs.Common.{get_or, set, bit_or, Contains, Some, refl, ap, sym, subst, ◌∙◌, append_assoc, arith}
 use Rattle.std.specs.Int.{bit_at}
-use Rattle.std.specs.Prelude.{◌↔◌}
+use Rattle.std.specs.Prelude.{◌↔◌, slice_get}
 use Rattle.std.specs.List.{AllByRecursion, list_any}
-use Rattle.std.specs.Prelude.{slice_get}
 use Rattle.std.proofs.lemmas.List.{append-nil, take_more, map-append}
 use Rattle.std.proofs.lemmas.Option.{same_Some, slice_get-get_or}
 use Rattle.std.proofs.lemmas.Grind.{flat_map-append}
-use Rattle.std.proofs.lemmas.List.Elements.{filter-append}
+use Rattle.std.proofs.lemmas.List.Elements.{filter-append, Contains-append_left, Contains-append_right}
+use Rattle.std.proofs.lemmas.List.Elements.{Contains-append_cases}
 use Rattle.std.proofs.lemmas.Nat.{one_shl}
 use Rattle.std.proofs.lemmas.Nat.Bits.{bit_at-zero}
 use native.Mathlib.Decide.{ℕ_discrete}
@@ -38,24 +37,16 @@ use Rattle.rt_live.specs.Inside.Working.{entries_of}
 
 -- an interrupt stands in a list with one more exactly where it stood there or is that one
 pub contains_push : {X : Type 0} (xs : List X) (y x : X) → Contains xs x ⊎ (x ≡ y) → Contains (xs ++ y ∷ []) x
-contains_push [] y x (inl is) = absurd (contains_none x is)
-contains_push [] y x (inr same) = subst (λ z. Contains (y ∷ []) z) (sym same) (contains_here y [])
-contains_push (z ∷ xs) y x (inl is) = elim (contains_cases z xs x is) [
-  | inl here ↦ subst (λ w. Contains (z ∷ (xs ++ y ∷ [])) w) here (contains_here z (xs ++ y ∷ []))
-  | inr behind ↦ contains_there z (xs ++ y ∷ []) x (contains_push xs y x (inl behind))
-]
-contains_push (z ∷ xs) y x (inr same) = contains_there z (xs ++ y ∷ []) x (contains_push xs y x (inr same))
+contains_push xs y x (inl is) = Contains-append_left xs (y ∷ []) x is
+contains_push xs y x (inr same) =
+    Contains-append_right xs (y ∷ []) x (subst (λ z. Contains (y ∷ []) z) (sym same) (contains_here y []))
 
 pub contains_pushed : {X : Type 0} (xs : List X) (y x : X) → Contains (xs ++ y ∷ []) x → Contains xs x ⊎ (x ≡ y)
-contains_pushed [] y x is = elim (contains_cases y [] x is) [
-  | inl here ↦ inr (sym here)
-  | inr behind ↦ absurd (contains_none x behind)
-]
-contains_pushed (z ∷ xs) y x is = elim (contains_cases z (xs ++ y ∷ []) x is) [
-  | inl here ↦ inl (subst (λ w. Contains (z ∷ xs) w) here (contains_here z xs))
-  | inr behind ↦ elim (contains_pushed xs y x behind) [
-    | inl there ↦ inl (contains_there z xs x there)
-    | inr same ↦ inr same
+contains_pushed xs y x is = elim (Contains-append_cases xs (y ∷ []) x is) [
+  | inl there ↦ inl there
+  | inr last ↦ elim (contains_cases y [] x last) [
+    | inl here ↦ inr (sym here)
+    | inr behind ↦ absurd (contains_none x behind)
   ]
 ]
 

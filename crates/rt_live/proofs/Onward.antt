@@ -1,15 +1,32 @@
--- Histories that go on.
-use Rattle.std.proofs.Common.{◌≡◌, ◌≢◌, ℕ, suc, ◌+◌, List, [], ◌∷◌, ◌++◌, length, map, filter}
-use Rattle.std.proofs.Common.{get_or, set, replicate, cond, eqb, refl, sym, ap, subst, ◌∙◌, arith}
-use Rattle.std.proofs.Common.{append_assoc, eq-eqb, ne_eqb, length-append, length-set}
+-- Histories that go on: looks in them, the last looks of a run, and how a run that was cut goes on.
+use Rattle.std.proofs.Common.{◌≡◌, ◌≢◌, ◌⊎◌, ℕ, zero, suc, ◌+◌, ◌<◌, ◌≤◌, List, [], ◌∷◌, ◌++◌, length, map, filter}
+use Rattle.std.proofs.Common.{get_or, set, replicate, cond, eqb, inl, inr, refl, sym, ap, subst, ◌∙◌, arith, eq-eqb}
+use Rattle.std.proofs.Common.{ne_eqb, length-set, ◌*◌, flat_map, take, drop, append_assoc, length-append, ◌-◌, Some}
+use Rattle.std.proofs.Common.{append-nil, length-drop, ⊎_elim}
 use Rattle.std.proofs.lemmas.List.Elements.{filter-append}
 use mathlib.Core.List.{map-append}
+use mathlib.Core.Logic.{dite}
+use native.Mathlib.Decide.{ℕ_discrete, dec_lt}
 use Rattle.rt_words.specs.declared.call.Call.{Call}
 use Rattle.rt_words.specs.declared.call.Call.TheVariants.{Pend, Latch}
 use Rattle.rt_words.specs.Object.{after}
-use Rattle.rt_words.specs.History.{LeavesWords, part, entries}
+use Rattle.rt_words.specs.History.{LeavesWords, part, entries, IsLegal, CallsLast}
 use Rattle.rt_words.specs.declared.call.Entry.{Entry}
-use Rattle.rt_live.specs.Interleaving.{look_calls_from, look_calls}
+use Rattle.rt_words.proofs.Bits.{zero_here, zero_below, zeros as zeros_at}
+use Rattle.rt_live.specs.Interleaving.{look_calls_from, Happens, Looks, looks, turns, look_calls, last_looks}
+use Rattle.rt_live.specs.Interleaving.{look_arrivals, interleaving}
+use Rattle.std.specs.List.{AllByRecursion}
+use Rattle.std.proofs.lemmas.List.{take-append-drop, drop-append-le, ext_get_or, nil_from_length}
+use Rattle.std.proofs.lemmas.List.Concat.{flat_map-append}
+use Rattle.rt_ids.specs.Event.{Event, Arrive, Tick, Step, steps}
+use Rattle.rt_script.specs.Script.{core_events, pends}
+use Rattle.rt_script.specs.declared.line.Line.{Line}
+use Rattle.rt_live.specs.Going.{IsWholeLook}
+use Rattle.rt_live.specs.History.{IsEmptyLook, IsHistory}
+use Rattle.rt_live.proofs.Woven.{looks-append, length-latches, interleaving_finished}
+use Rattle.rt_lemmas.proofs.Membership.{all_append}
+use Rattle.rt_devices.specs.Work.{interrupt_asked}
+use Rattle.rt_live.proofs.Asking.{cut_before}
 
 -- a history, and one that goes on
 pub leads_on : (a b c : List ℕ) (front behind : List Entry) → LeavesWords a front b → LeavesWords b behind c
@@ -32,14 +49,6 @@ as_many words (Latch k word) = length-set words _ _
 pub led_as_many : (a b : List ℕ) (history : List Entry) → LeavesWords a history b → length b ≡ length a
 led_as_many a b [] leads = ap length (sym leads)
 led_as_many a b (e ∷ es) leads = led_as_many (after a e.call) b es leads.1 ∙ as_many a e.call
-
--- calls of one line, and more of them
-pub calls_lead : (number : ℕ) (a b c : List ℕ) (front behind : List Call) → LeavesWords a (entries number front) b
-    → LeavesWords b (entries number behind) c → LeavesWords a (entries number (front ++ behind)) c
-calls_lead number a b c front behind first then =
-    subst (λ (es : List Entry). LeavesWords a es c)
-    (sym (map-append (λ c. record { line = number; call = c }) front behind))
-    (leads_on a b c (entries number front) (entries number behind) first then)
 
 pub part_on : (front behind : List Entry) (n : ℕ) → part (front ++ behind) n ≡ part front n ++ part behind n
 part_on front behind n =
@@ -66,58 +75,53 @@ part_other n m (c ∷ cs) ne =
 abbrev pub zeros : ℕ → List ℕ
 zeros n = replicate n 0
 
-get_behind : (done : List ℕ) (x : ℕ) (rest : List ℕ) → x ≡ get_or (done ++ x ∷ rest) (length done) 0
-get_behind [] x rest = refl
-get_behind (y ∷ done) x rest = get_behind done x rest
+-- a word of 0 stays so where a word is latched
+still_zero : (words : List ℕ) (k j : ℕ) → get_or words j 0 ≡ 0 → get_or (set words k 0) j 0 ≡ 0
+still_zero words k j none = omega (arith, zero_below words k j, none)
 
-set_behind : (done : List ℕ) (x : ℕ) (rest : List ℕ) → set (done ++ x ∷ rest) (length done) 0 ≡ done ++ 0 ∷ rest
-set_behind [] x rest = refl
-set_behind (y ∷ done) x rest = ap (λ (t : List ℕ). y ∷ t) (set_behind done x rest)
+-- So many words latched one behind the other, from the word of this number on, as they stand: no other word is set.
+pub record Looked (k n : ℕ) (words : List ℕ) : Type 0 where
+  pub found : List ℕ
+  pub many : length found ≡ n
+  pub left : List ℕ
+  pub leads : LeavesWords words (entries 255 (look_calls_from k found)) left
+  pub kept : (j : ℕ) → get_or words j 0 ≡ 0 → get_or left j 0 ≡ 0
 
--- a row whose first words are these, the core's, and of which no other is set
-abbrev pub in_row : List ℕ → List ℕ
-in_row words = words ++ zeros 16
+pub look_from : (k n : ℕ) (words : List ℕ) → Looked k n words
+look_from k zero words = record { found = []; many = refl; left = words; leads = refl; kept = λ j none. none }
+look_from k (suc n) words =
+    let rest : Looked (suc k) n (set words k 0) = look_from (suc k) n (set words k 0) in
+    record {
+      found = get_or words k 0 ∷ rest.found;
+      many = ap suc rest.many;
+      left = rest.left;
+      leads = (refl, rest.leads);
+      kept = λ j none. rest.kept j (still_zero words k j none);
+    }
 
--- The core latches each word behind the first ones: it finds them as they stand, and leaves them 0.
-pub looked_from : (k : ℕ) (done rest more : List ℕ) → length done ≡ k
-    → LeavesWords (done ++ (rest ++ more)) (entries 255 (look_calls_from k rest))
-    (done ++ (zeros (length rest) ++ more))
-looked_from k done [] more long = refl
-looked_from k done (x ∷ rest) more long =
-    let tail : List ℕ = rest ++ more in
-    let there : x ≡ get_or (done ++ x ∷ tail) k 0 =
-    get_behind done x tail ∙ ap (λ n. get_or (done ++ x ∷ tail) n 0) long in
-    let left : set (done ++ x ∷ tail) k 0 ≡ (done ++ 0 ∷ []) ++ tail =
-    sym (ap (λ n. set (done ++ x ∷ tail) n 0) long) ∙ set_behind done x tail ∙ sym (append_assoc done (0 ∷ []) tail) in
-    let longer : length (done ++ 0 ∷ []) ≡ suc k = omega (arith, long, length-append done (0 ∷ [])) in (
-      there,
-      subst (λ (w : List ℕ). LeavesWords w (entries 255 (look_calls_from (suc k) rest))
-          (done ++ (zeros (length (x ∷ rest)) ++ more)))
-          (sym left)
-          (subst (λ (w : List ℕ). LeavesWords ((done ++ 0 ∷ []) ++ tail) (entries 255 (look_calls_from (suc k) rest)) w)
-          (append_assoc done (0 ∷ []) (zeros (length rest) ++ more))
-          (looked_from (suc k) (done ++ 0 ∷ []) rest more longer)),
-    )
+-- a look leaves words of 0, and no other word is set
+pub look_leaves : (k : ℕ) (ws words left : List ℕ) → LeavesWords words (entries 255 (look_calls_from k ws)) left
+    → (j : ℕ) → ((k ≤ j) × (j < k + length ws)) ⊎ (get_or words j 0 ≡ 0) → get_or left j 0 ≡ 0
+look_leaves k [] words left leads j (inl within) = absurd (omega (arith, within.0, within.1))
+look_leaves k [] words left leads j (inr none) = ap (λ (vs : List ℕ). get_or vs j 0) (sym leads) ∙ none
+look_leaves k (w ∷ ws) words left leads j (inr none) =
+    look_leaves (suc k) ws (set words k 0) left leads.1 j (inr (still_zero words k j none))
+look_leaves k (w ∷ ws) words left leads j (inl within) =
+    dite (ℕ_discrete k j)
+    (λ e. look_leaves (suc k) ws (set words k 0) left leads.1 j
+    (inr (subst (λ i. get_or (set words k 0) i 0 ≡ 0) e (zero_here words k))))
+    (λ ne. look_leaves (suc k) ws (set words k 0) left leads.1 j
+    (inl (omega (arith, within.0, ne), omega (arith, within.1))))
 
--- a look finds the words that stand, and leaves words of 0
-pub look_finds : (k : ℕ) (done rest more ws left : List ℕ) → length done ≡ k → length ws ≡ length rest
-    → LeavesWords (done ++ (rest ++ more)) (entries 255 (look_calls_from k ws)) left
-    → (ws ≡ rest) × (left ≡ done ++ (zeros (length rest) ++ more))
-look_finds k done [] more [] left long many leads = (refl, sym leads)
-look_finds k done [] more (w ∷ ws) left long many leads = absurd (omega (arith, many))
-look_finds k done (x ∷ rest) more [] left long many leads = absurd (omega (arith, many))
-look_finds k done (x ∷ rest) more (w ∷ ws) left long many leads =
-    let tail : List ℕ = rest ++ more in
-    let there : w ≡ x =
-    leads.0 ∙ ap (λ n. get_or (done ++ x ∷ tail) n 0) (sym long) ∙ sym (get_behind done x tail) in
-    let stands : set (done ++ x ∷ tail) k 0 ≡ (done ++ 0 ∷ []) ++ tail =
-    sym (ap (λ n. set (done ++ x ∷ tail) n 0) long) ∙ set_behind done x tail ∙ sym (append_assoc done (0 ∷ []) tail) in
-    let next = look_finds (suc k) (done ++ 0 ∷ []) rest more ws left
-    (omega (arith, long, length-append done (0 ∷ []))) (omega (arith, many))
-    (subst (λ (v : List ℕ). LeavesWords v (entries 255 (look_calls_from (suc k) ws)) left) stands leads.1) in (
-      ap (λ (v : ℕ). v ∷ ws) there ∙ ap (λ (vs : List ℕ). x ∷ vs) next.0,
-      next.1 ∙ append_assoc done (0 ∷ []) (zeros (length rest) ++ more),
-    )
+-- and finds nothing where they were 0
+pub look_empty : (k : ℕ) (ws words left : List ℕ) → LeavesWords words (entries 255 (look_calls_from k ws)) left
+    → ((j : ℕ) → k ≤ j → j < k + length ws → get_or words j 0 ≡ 0) → ws ≡ zeros (length ws)
+look_empty k [] words left leads none = refl
+look_empty k (w ∷ ws) words left leads none =
+    ap (λ (v : ℕ). v ∷ ws) (leads.0 ∙ none k (omega arith) (omega arith))
+    ∙ ap (λ (vs : List ℕ). 0 ∷ vs)
+    (look_empty (suc k) ws (set words k 0) left leads.1
+    (λ j from below. still_zero words k j (none j (omega (arith, from)) (omega (arith, below)))))
 
 pub latches_on : (k : ℕ) (xs ys : List ℕ) → look_calls_from k (xs ++ ys) ≡ look_calls_from k xs
     ++ look_calls_from (k + length xs) ys
@@ -128,7 +132,307 @@ latches_on k (x ∷ xs) ys =
     ∙ ap (λ n. look_calls_from (suc k) xs ++ look_calls_from n ys)
     (let e : suc k + length xs ≡ k + length (x ∷ xs) = omega arith in e))
 
--- a look at every word of the core, from its beginning
-pub looked : (words more : List ℕ)
-    → LeavesWords (words ++ more) (entries 255 (look_calls words)) (zeros (length words) ++ more)
-looked words more = looked_from 0 [] words more refl
+abbrev entry_of_core : Call → Entry
+entry_of_core call = record { line = 255; call = call }
+
+-- a look comes before each of the core's own steps
+pub looks_own : (es : List Event) → looks (map Happens es) ≡ steps es
+looks_own [] = refl
+looks_own (Step ∷ es) = ap suc (looks_own es)
+looks_own (Tick ∷ es) = looks_own es
+looks_own (Arrive irq ∷ es) = looks_own es
+
+pub all_looks : (script : List Line) → looks (turns script) ≡ suc (2 * steps (core_events script))
+all_looks script =
+    omega (
+      arith,
+      looks-append (map Happens (core_events script)) (Looks ∷ replicate (steps (core_events script)) (Happens Step)),
+      looks_own (core_events script),
+      added (steps (core_events script)),
+    )
+  where
+    added : (n : ℕ) → looks (replicate n (Happens Step)) ≡ n
+    added zero = refl
+    added (suc n) = ap suc (added n)
+
+pub whole_behind : (n : ℕ) (found : List (List ℕ)) → AllByRecursion IsWholeLook found
+    → AllByRecursion IsWholeLook (drop n found)
+whole_behind zero found whole = whole
+whole_behind (suc n) [] whole = tt
+whole_behind (suc n) (ws ∷ found) whole = whole_behind n found whole.1
+
+-- so many whole looks are so many calls
+whole_latches : (n : ℕ) (found : List (List ℕ)) → AllByRecursion IsWholeLook found → n ≤ length found
+    → 16 * n ≤ length (flat_map look_calls (take n found))
+whole_latches zero found whole within = omega arith
+whole_latches (suc n) [] whole within = absurd (omega (arith, within))
+whole_latches (suc n) (ws ∷ found) whole within =
+    let e : 16 * suc n ≤ length (look_calls ws ++ flat_map look_calls (take n found)) =
+    omega (
+      arith,
+      length-append (look_calls ws) (flat_map look_calls (take n found)),
+      length-latches 0 ws,
+      whole.0,
+      whole_latches n found whole.1 (omega (arith, within)),
+    ) in e
+
+-- more calls come last
+pub last_more : (history : List Entry) (calls more : List Call) → CallsLast history 255 calls
+    → CallsLast (history ++ entries 255 more) 255 (calls ++ more)
+last_more history calls more last = record {
+  earlier = last.earlier;
+  is =
+      ap (λ (h : List Entry). h ++ entries 255 more) last.is
+      ∙ append_assoc last.earlier (entries 255 calls) (entries 255 more)
+      ∙ ap (λ (t : List Entry). last.earlier ++ t) (sym (map-append entry_of_core calls more));
+}
+
+-- and the last of the last calls
+last_of_last : (history : List Entry) (front calls : List Call) → CallsLast history 255 (front ++ calls)
+    → CallsLast history 255 calls
+last_of_last history front calls last = record {
+  earlier = last.earlier ++ entries 255 front;
+  is =
+      last.is
+      ∙ ap (λ (t : List Entry). last.earlier ++ t) (map-append entry_of_core front calls)
+      ∙ sym (append_assoc last.earlier (entries 255 front) (entries 255 calls));
+}
+
+-- where the last calls begin no later than the looks behind the core's own lines, these come last
+pub ends_looking : (script : List Line) (found : List (List ℕ)) (history : List Entry) (since : ℕ)
+    → AllByRecursion IsWholeLook found → steps (core_events script) ≤ length found
+    → since ≤ 16 * steps (core_events script) → CallsLast history 255 (drop since (flat_map look_calls found))
+    → CallsLast history 255 (flat_map look_calls (last_looks script found))
+ends_looking script found history since whole many early last =
+    let n : ℕ = steps (core_events script) in
+    let front : List Call = flat_map look_calls (take n found) in
+    let behind : List Call = flat_map look_calls (drop n found) in
+    let split : drop since (flat_map look_calls found) ≡ drop since front ++ behind =
+    ap (λ (f : List (List ℕ)). drop since (flat_map look_calls f)) (sym (take-append-drop n found))
+    ∙ ap (drop since) (flat_map-append look_calls (take n found) (drop n found))
+    ∙ drop-append-le since front behind (omega (arith, early, whole_latches n found whole many)) in
+    last_of_last history (drop since front) behind (subst (CallsLast history 255) split last)
+
+calls_apart : (a c : List ℕ) (front behind : List Call) → LeavesWords a (entries 255 (front ++ behind)) c
+    → (b : List ℕ) × LeavesWords a (entries 255 front) b × LeavesWords b (entries 255 behind) c
+calls_apart a c front behind leads =
+    led_apart a c (entries 255 front) (entries 255 behind)
+    (subst (λ (es : List Entry). LeavesWords a es c) (map-append entry_of_core front behind) leads)
+
+-- looks at words of 0 find nothing, and leave them so
+empty_looks : (found : List (List ℕ)) (words left : List ℕ) → AllByRecursion IsWholeLook found
+    → ((j : ℕ) → j < 16 → get_or words j 0 ≡ 0) → LeavesWords words (entries 255 (flat_map look_calls found)) left
+    → AllByRecursion IsEmptyLook found × ((j : ℕ) → j < 16 → get_or left j 0 ≡ 0)
+empty_looks [] words left whole none leads =
+    (tt, λ j below. ap (λ (vs : List ℕ). get_or vs j 0) (sym leads) ∙ none j below)
+empty_looks (ws ∷ found) words left whole none leads =
+    let cut = calls_apart words left (look_calls ws) (flat_map look_calls found) leads in
+    let empty : ws ≡ zeros (length ws) =
+    look_empty 0 ws words cut.0 cut.1 (λ j from below. none j (omega (arith, below, whole.0))) in
+    let rest = empty_looks found cut.0 left whole.1
+    (λ j below. look_leaves 0 ws words cut.0 cut.1 j (inr (none j below))) cut.2 in
+    ((empty ∙ ap zeros whole.0, rest.0), rest.1)
+
+-- The looks that come last in a legal history find nothing behind the first of them, and leave nothing of the core.
+pub later_empty : (history : List Entry) (found : List (List ℕ)) (left : List ℕ) → IsLegal history left
+    → CallsLast history 255 (flat_map look_calls found) → AllByRecursion IsWholeLook found → 0 < length found
+    → AllByRecursion IsEmptyLook (drop 1 found) × ((j : ℕ) → j < 16 → get_or left j 0 ≡ 0)
+later_empty history [] left legal last whole some = absurd (omega (arith, some))
+later_empty history (ws ∷ found) left legal last whole some =
+    let all = led_apart (zeros 32) left last.earlier (entries 255 (look_calls ws ++ flat_map look_calls found))
+    (subst (λ (h : List Entry). LeavesWords (zeros 32) h left) last.is legal) in
+    let cut = calls_apart all.0 left (look_calls ws) (flat_map look_calls found) all.2 in
+    empty_looks found cut.0 left whole.1
+    (λ j below. look_leaves 0 ws all.0 cut.0 cut.1 j (inl (omega arith, omega (arith, below, whole.0)))) cut.2
+
+-- The calls that these looks took, the last of which may be cut, and all pends of the devices, left these words, and
+-- none behind the core's is set. What the core called since some time comes last; that was no later than the end of its
+-- own lines.
+pub record IsCutHistory (script : List Line) (found : List (List ℕ)) (last left : List ℕ) (history : List Entry)
+    : Type 0 where
+  pub legal : IsLegal history left
+  pub core : part history 255 ≡ flat_map look_calls (found ++ last ∷ [])
+  pub devices : (number : ℕ) → number ≢ 255
+      → map interrupt_asked (part history number) ≡ map (λ irq. Some irq) (pends script number)
+  pub since : ℕ
+  pub within : since ≤ length (flat_map look_calls (found ++ last ∷ []))
+  pub early : since ≤ 16 * steps (core_events script)
+  pub ended : CallsLast history 255 (drop since (flat_map look_calls (found ++ last ∷ [])))
+  pub behind : (k : ℕ) → 16 ≤ k → get_or left k 0 ≡ 0
+
+-- looks of a history that `live` allows, which begin with these
+pub record Extends (script : List Line) (found : List (List ℕ)) (last : List ℕ) : Type 0 where
+  pub all : List (List ℕ)
+  pub many : length all ≡ looks (turns script)
+  pub whole : AllByRecursion IsWholeLook all
+  pub history : List Entry
+  pub is : IsHistory script all history
+  pub behind : List Event
+  pub interleavings : interleaving (turns script) all
+      ≡ (interleaving (turns script) found ++ look_arrivals last) ++ behind
+
+-- where all looks were whole the history is one that `live` allows, and nothing is left
+pub closes_whole : {script : List Line} {found : List (List ℕ)} {left : List ℕ} {history : List Entry}
+    → IsCutHistory script found [] left history → AllByRecursion IsWholeLook found → length found ≡ looks (turns script)
+    → IsHistory script found history × (left ≡ zeros 32)
+closes_whole {script = script} {found = found} {left = left} {history = history} cut whole many =
+    let n : ℕ = steps (core_events script) in
+    let ended = ends_looking script found history cut.since whole (omega (arith, many, all_looks script)) cut.early
+    (subst (λ (cs : List Call). CallsLast history 255 (drop cut.since cs)) (cut_before found) cut.ended) in
+    let empty = later_empty history (last_looks script found) left cut.legal ended (whole_behind n found whole)
+    (omega (arith, many, all_looks script, length-drop n found)) in
+    let none : left ≡ zeros 32 =
+    ext_get_or 0 left (zeros 32)
+    (led_as_many (zeros 32) left history cut.legal)
+    (λ k below. dite (dec_lt k 16) (λ own. empty.1 k own) (λ far. cut.behind k (omega (arith, far)))
+    ∙ sym (zeros_at 32 k)) in (
+      record {
+        legal = subst (IsLegal history) none cut.legal;
+        core = cut.core ∙ cut_before found;
+        devices = cut.devices;
+        ended = ended;
+        quiet = empty.0;
+      },
+      none,
+    )
+
+-- A cut history goes on: a look is finished, or made where none is begun.
+module _ {script : List Line} {found : List (List ℕ)} {last left : List ℕ} {history : List Entry}
+    (cut : IsCutHistory script found last left history) where
+  latched_on : (rest : List ℕ)
+      → flat_map look_calls (found ++ last ∷ []) ++ look_calls_from (length last) rest
+      ≡ flat_map look_calls ((found ++ (last ++ rest) ∷ []) ++ [] ∷ [])
+  latched_on rest =
+      let front : List Call = flat_map look_calls found in
+      ap (λ (t : List Call). t ++ look_calls_from (length last) rest)
+      (flat_map-append look_calls found (last ∷ [])
+      ∙ ap (λ (t : List Call). front ++ t) (append-nil (look_calls last)))
+      ∙ append_assoc front (look_calls last) (look_calls_from (length last) rest)
+      ∙ ap (λ (t : List Call). front ++ t)
+      (ap (λ k. look_calls last ++ look_calls_from k rest)
+      (let e : length last ≡ 0 + length last = omega arith in e)
+      ∙ sym (latches_on 0 last rest) ∙ sym (append-nil (look_calls (last ++ rest))))
+      ∙ sym (flat_map-append look_calls found ((last ++ rest) ∷ []))
+      ∙ sym (cut_before (found ++ (last ++ rest) ∷ []))
+
+  look_on : (n : ℕ) (look : Looked (length last) n left)
+      → IsCutHistory script (found ++ (last ++ look.found) ∷ []) [] look.left
+      (history ++ entries 255 (look_calls_from (length last) look.found))
+  look_on n look =
+      let calls : List Call = look_calls_from (length last) look.found in
+      let before : List Call = flat_map look_calls (found ++ last ∷ []) in
+      record {
+        legal = leads_on (zeros 32) left look.left history (entries 255 calls) cut.legal look.leads;
+        core =
+            part_on history (entries 255 calls) 255
+            ∙ ap (λ (t : List Call). part history 255 ++ t) (part_own 255 calls)
+            ∙ ap (λ (t : List Call). t ++ calls) cut.core
+            ∙ latched_on look.found;
+        devices = λ number ne.
+            ap (map interrupt_asked)
+            (part_on history (entries 255 calls) number
+            ∙ ap (λ (t : List Call). part history number ++ t) (part_other 255 number calls (λ e. ne (sym e)))
+            ∙ append-nil (part history number))
+            ∙ cut.devices number ne;
+        since = cut.since;
+        within = omega (arith, cut.within, ap length (latched_on look.found), length-append before calls);
+        early = cut.early;
+        ended =
+            subst (CallsLast (history ++ entries 255 calls) 255)
+            (sym (drop-append-le cut.since before calls cut.within) ∙ ap (drop cut.since) (latched_on look.found))
+            (last_more history (drop cut.since before) calls cut.ended);
+        behind = λ k far. look.kept k (cut.behind k far);
+      }
+
+-- a cut history that went on: the begun look is finished, and so many are made behind it
+pub record GoesOn (script : List Line) (found : List (List ℕ)) (last : List ℕ) (count : ℕ) : Type 0 where
+  pub rest : List ℕ
+  pub others : List (List ℕ)
+  pub many : length others ≡ count
+  pub whole : AllByRecursion IsWholeLook (found ++ (last ++ rest) ∷ others)
+  pub left : List ℕ
+  pub history : List Entry
+  pub cut : IsCutHistory script (found ++ (last ++ rest) ∷ others) [] left history
+
+one_look : {script : List Line} {found : List (List ℕ)} {last left : List ℕ} {history : List Entry}
+    → IsCutHistory script found last left history → AllByRecursion IsWholeLook found → length last ≤ 16
+    → GoesOn script found last 0
+one_look {found = found} {last = last} {left = left} {history = history} cut whole short =
+    let look : Looked (length last) (16 - length last) left = look_from (length last) (16 - length last) left in
+    record {
+      rest = look.found;
+      others = [];
+      many = refl;
+      whole =
+          all_append IsWholeLook found ((last ++ look.found) ∷ []) whole
+          (omega (arith, length-append last look.found, look.many, short), tt);
+      left = look.left;
+      history = history ++ entries 255 (look_calls_from (length last) look.found);
+      cut = look_on cut (16 - length last) look;
+    }
+
+looks_on : {script : List Line} (n : ℕ) {found : List (List ℕ)} {last left : List ℕ} {history : List Entry}
+    → IsCutHistory script found last left history → AllByRecursion IsWholeLook found → length last ≤ 16
+    → GoesOn script found last n
+looks_on zero cut whole short = one_look cut whole short
+looks_on {script = script} (suc n) {found = found} {last = last} cut whole short =
+    let one : GoesOn script found last 0 = one_look cut whole short in
+    let look : List ℕ = last ++ one.rest in
+    let more : GoesOn script (found ++ look ∷ one.others) [] n = looks_on n one.cut one.whole (omega arith) in
+    let joined : (found ++ look ∷ one.others) ++ more.rest ∷ more.others ≡ found ++ look ∷ more.rest ∷ more.others =
+    ap (λ (os : List (List ℕ)). (found ++ look ∷ os) ++ more.rest ∷ more.others)
+    (nil_from_length one.others one.many)
+    ∙ append_assoc found (look ∷ []) (more.rest ∷ more.others) in
+    record {
+      rest = one.rest;
+      others = more.rest ∷ more.others;
+      many = ap suc more.many;
+      whole = subst (AllByRecursion IsWholeLook) joined more.whole;
+      left = more.left;
+      history = more.history;
+      cut = subst (λ (f : List (List ℕ)). IsCutHistory script f [] more.left more.history) joined more.cut;
+    }
+
+module _ {script : List Line} {found : List (List ℕ)} {last left : List ℕ} {history : List Entry}
+    (cut : IsCutHistory script found last left history) (whole : AllByRecursion IsWholeLook found) where
+  -- a look is begun, or to come
+  extend_look : length last ≤ 16 → length found < looks (turns script) → Extends script found last
+  extend_look short few =
+      let n : ℕ = looks (turns script) - suc (length found) in
+      let more : GoesOn script found last n = looks_on n cut whole short in
+      let woven = interleaving_finished (turns script) found more.others last more.rest few in
+      let many : length (found ++ (last ++ more.rest) ∷ more.others) ≡ looks (turns script) =
+      omega (arith, few, more.many, length-append found ((last ++ more.rest) ∷ more.others)) in
+      record {
+        all = found ++ (last ++ more.rest) ∷ more.others;
+        many = many;
+        whole = more.whole;
+        history = more.history;
+        is = (closes_whole more.cut more.whole many).0;
+        behind = woven.0;
+        interleavings = woven.1;
+      }
+
+  -- all looks are done
+  extend_none : last ≡ [] → length found ≡ looks (turns script) → Extends script found last
+  extend_none none many = record {
+    all = found;
+    many = many;
+    whole = whole;
+    history = history;
+    is =
+        (closes_whole (subst (λ (l : List ℕ). IsCutHistory script found l left history) none cut) whole many).0;
+    behind = [];
+    interleavings =
+        sym (append-nil (interleaving (turns script) found))
+        ∙ ap (λ (l : List ℕ). interleaving (turns script) found ++ look_arrivals l) (sym none)
+        ∙ sym (append-nil (interleaving (turns script) found ++ look_arrivals last));
+  }
+
+  pub extend : length last ≤ 16
+      → (length found < looks (turns script)) ⊎ ((last ≡ []) × (length found ≤ looks (turns script)))
+      → Extends script found last
+  extend short few =
+      dite (dec_lt (length found) (looks (turns script)))
+      (λ more. extend_look short more)
+      (λ all. ⊎_elim (λ more. absurd (all more)) (λ done. extend_none done.0 (omega (arith, all, done.1))) few)

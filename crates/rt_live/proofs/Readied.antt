@@ -1,13 +1,13 @@
 -- A run that is made ready, and stays so while devices work and their lines are gathered.
 use Rattle.std.proofs.Common.{◌≡◌, ℕ, zero, suc, ◌+◌, ◌*◌, ◌^◌, ◌<◌, ◌≤◌, ◌==◌, Bool, true, false, if◌then◌else◌}
 use Rattle.std.proofs.Common.{List, [], ◌∷◌, ◌++◌, map, replicate, length, Contains, IsSome, Some}
-use Rattle.std.proofs.Common.{find, filter, take, drop, inl, inr, refl, ap, sym, subst, ◌∙◌, arith, eq-eqb}
+use Rattle.std.proofs.Common.{find, take, drop, inl, inr, refl, ap, sym, subst, ◌∙◌, arith, eq-eqb}
 use Rattle.std.specs.Prelude.{All, ◌↔◌}
 use Rattle.std.specs.List.{AllByRecursion, list_any}
 use Rattle.std.proofs.lemmas.Bool.{eqb-true, false≢true}
 use Rattle.std.proofs.lemmas.List.{append-nil, take_all, drop_all, map-append, length-append, length-map}
 use Rattle.std.proofs.lemmas.List.{length-replicate}
-use Rattle.std.proofs.lemmas.List.Sums.{sum_by-cons}
+use Rattle.std.proofs.lemmas.List.Sums.{sum_by-cons, length-filter, count_by-le-length}
 use Rattle.rt_lemmas.proofs.Bools.{true_and_false}
 use Rattle.rt_lemmas.proofs.Lists.{all_map}
 use Rattle.rt_lemmas.proofs.Membership.{all_append, all_has, all_weaker}
@@ -42,8 +42,7 @@ use Rattle.rt_live.specs.Requests.{no_route}
 use Rattle.rt_live.specs.Inside.Making.{MayPend, HasMadeLines}
 use Rattle.rt_live.specs.Gathering.{part_of, line_after_gathering}
 use Rattle.rt_live.specs.Inside.Working.{CanWork, AllWork, calls_gathered, calls_made}
-use Rattle.rt_live.proofs.Tallied.{same_words, same_number, same_here, same_there, same_made, same_calls}
-use Rattle.rt_live.proofs.Tallied.{gathered_parts}
+use Rattle.rt_live.proofs.Made.{alone_bits}
 use Rattle.rt_live.proofs.Tallied.{since_within}
 
 -- a device that has made its pends of the script
@@ -109,90 +108,55 @@ module _ (words : Row) (script : List Line) where
   part_numbers (d ∷ ds) ended =
       ap (λ n. n ∷ numbers (map part_of ds)) ended.0.beside.number ∙ ap (λ ns. d.number ∷ ns) (part_numbers ds ended.1)
 
--- behind the devices' work, with all lines gathered
-module _ (ready : Prepared) (is : IsReady ready) (line : Caller) (same : IsSameLine ready.line line) where
-  abbrev words : Row
-  words = ready.words
-
-  abbrev script : List Line
-  script = ready.script
-
-  same_gathered : line.gathered ≡ ready.line.gathered
-  same_gathered = ap (λ (l : Caller). l.gathered) same.1
-
-  pub within : line.since ≤ length line.calls
-  within =
-      omega (
-        arith,
-        ap (λ (l : Caller). l.since) same.1,
-        ap (λ (l : Caller). length l.calls) same.1,
-        length-append ready.line.calls same.0,
-        is.behind,
-      )
-
+module _ (ready : Prepared) (is : IsReady ready) where
   -- calls alone leave it ready
-  pub ready_calls : IsReady (record ready { line = line })
-  ready_calls = record {
+  pub ready_calls : (line : Caller) → IsSameLine ready.line line → IsReady (record ready { line = line })
+  ready_calls line same =
+      subst (λ (l : Caller). IsReady (record ready { line = l })) (sym same.1) (record {
+        scripted = is.scripted;
+        core_words = is.core_words;
+        number = is.number;
+        here = is.here;
+        there = is.there;
+        many = is.many;
+        waiting = is.waiting;
+        gathered = is.gathered;
+        each = is.each;
+        made = is.made;
+        behind = omega (arith, is.behind, length-append ready.line.calls same.0);
+        may = is.may;
+        rows = is.rows;
+        counted = is.counted;
+      })
+
+  -- and so does the gathering of all lines, where the devices have worked
+  pub ready_gathered : (ended : List Device) → AllByRecursion (HasEnded ready.words ready.script) ended
+      → device_numbers ended ≡ device_numbers ready.devices → (rows : List AccountRow)
+      → AllByRecursion (IsCounted 0 (map part_of ended ++ ready.line.gathered)) rows
+      → irqs_of rows ≡ irqs_of ready.rows
+      → IsReady (record ready { line = line_after_gathering ended ready.line; devices = []; rows = rows })
+  ready_gathered ended have known rows counted irqs = record {
     scripted = is.scripted;
-    core_words = ap (λ (l : Caller). l.words) same.1 ∙ is.core_words;
-    number = ap (λ (l : Caller). l.number) same.1 ∙ is.number;
-    here = ap (λ (l : Caller). l.here) same.1 ∙ is.here;
-    there = ap (λ (l : Caller). l.there) same.1 ∙ is.there;
+    core_words = is.core_words;
+    number = is.number;
+    here = is.here;
+    there = is.there;
     many = is.many;
-    waiting = is.waiting;
-    gathered = subst (AllByRecursion (HasMade script)) (sym same_gathered) is.gathered;
-    each = ap (λ ps. device_numbers ready.devices ++ numbers ps) same_gathered ∙ is.each;
-    made = λ number.
-        subst (λ ns. Contains ns number ↔ Contains (devices script) number) (sym (ap (λ (l : Caller). l.made) same.1))
-        (is.made number);
-    behind = within;
-    may = is.may;
-    rows = is.rows;
-    counted = subst (λ ps. AllByRecursion (IsCounted 0 ps) ready.rows) (sym same_gathered) is.counted;
+    waiting = tt;
+    gathered =
+        all_append (HasMade ready.script) (map part_of ended) ready.line.gathered
+        (all_map part_of (HasEnded ready.words ready.script) (HasMade ready.script) (one_part ready.words ready.script)
+        ended have) is.gathered;
+    each =
+        map-append (λ (p : Part). p.line) (map part_of ended) ready.line.gathered
+        ∙ ap (λ ns. ns ++ numbers ready.line.gathered) (part_numbers ready.words ready.script ended have ∙ known)
+        ∙ is.each;
+    made = is.made;
+    behind = since_within ended ready.line is.behind;
+    may = λ irq. subst (λ is. IsPending ready.words.may irq ↔ Contains is irq) (sym irqs) (is.may irq);
+    rows = subst (λ is. AllByRecursion (PendsOneOf is) ready.script) (sym irqs) is.rows;
+    counted = counted;
   }
-
-  module _ (ended : List Device) (have : AllByRecursion (HasEnded words script) ended)
-      (known : device_numbers ended ≡ device_numbers ready.devices) (next : Caller)
-      (gathers : next ≡ line_after_gathering ended line)
-      (rows : List AccountRow) (counted : AllByRecursion (IsCounted 0 next.gathered) rows)
-      (irqs : irqs_of rows ≡ irqs_of ready.rows) where
-    all_parts : next.gathered ≡ map part_of ended ++ ready.line.gathered
-    all_parts =
-        ap (λ (l : Caller). l.gathered) gathers ∙ gathered_parts ended line
-        ∙ ap (λ ps. map part_of ended ++ ps) same_gathered
-
-    pub ready_gathered : IsReady (record ready { line = next; devices = []; rows = rows })
-    ready_gathered = record {
-      scripted = is.scripted;
-      core_words =
-          ap (λ (l : Caller). l.words) gathers ∙ same_words ended line ∙ ap (λ (l : Caller). l.words) same.1
-          ∙ is.core_words;
-      number =
-          ap (λ (l : Caller). l.number) gathers ∙ same_number ended line ∙ ap (λ (l : Caller). l.number) same.1
-          ∙ is.number;
-      here =
-          ap (λ (l : Caller). l.here) gathers ∙ same_here ended line ∙ ap (λ (l : Caller). l.here) same.1 ∙ is.here;
-      there =
-          ap (λ (l : Caller). l.there) gathers ∙ same_there ended line ∙ ap (λ (l : Caller). l.there) same.1
-          ∙ is.there;
-      many = is.many;
-      waiting = tt;
-      gathered =
-          subst (AllByRecursion (HasMade script)) (sym all_parts)
-          (all_append (HasMade script) (map part_of ended) ready.line.gathered
-          (all_map part_of (HasEnded words script) (HasMade script) (one_part words script) ended have) is.gathered);
-      each =
-          ap numbers all_parts ∙ map-append (λ (p : Part). p.line) (map part_of ended) ready.line.gathered
-          ∙ ap (λ ns. ns ++ numbers ready.line.gathered) (part_numbers words script ended have ∙ known) ∙ is.each;
-      made = λ number.
-          subst (λ ns. Contains ns number ↔ Contains (devices script) number)
-          (sym (ap (λ (l : Caller). l.made) gathers ∙ same_made ended line ∙ ap (λ (l : Caller). l.made) same.1))
-          (is.made number);
-      behind = subst (λ (l : Caller). l.since ≤ length l.calls) (sym gathers) (since_within ended line within);
-      may = λ irq. subst (λ is. IsPending words.may irq ↔ Contains is irq) (sym irqs) (is.may irq);
-      rows = subst (λ is. AllByRecursion (PendsOneOf is) script) (sym irqs) is.rows;
-      counted = counted;
-    }
 
 -- a device pends no more than the script has events
 line_pends_few : (number : ℕ) (line : Line) → length (line_pends number line) ≤ count_of line
@@ -296,13 +260,10 @@ module _ (ready : Prepared) (is : IsReady ready) (names : Names) (irqs : irqs_of
       all_weaker (PendsOneOf (declared_irqs names)) (HasName names) (line_named names) ready.script
       (subst (λ irqs. AllByRecursion (PendsOneOf irqs) ready.script) irqs is.rows)
 
-  in_range : (irq : ℕ) (rows : List AccountRow) → AllByRecursion (IsCounted 0 ready.line.gathered) rows
-      → Contains (irqs_of rows) irq → irq < IRQ_NUMBERS
-  in_range irq [] counted there = absurd (contains_none irq there)
-  in_range irq (row ∷ rows) counted there = elim (contains_cases row.irq (irqs_of rows) irq there) [
-    | inl here ↦ subst (λ n. n < IRQ_NUMBERS) here counted.0.in_range
-    | inr behind ↦ in_range irq rows counted.1 behind
-  ]
+  in_range : AllByRecursion (λ irq. irq < IRQ_NUMBERS) (irqs_of ready.rows)
+  in_range =
+      all_map (λ (row : AccountRow). row.irq) (IsCounted 0 ready.line.gathered) (λ irq. irq < IRQ_NUMBERS)
+      (λ row counted. counted.in_range) ready.rows is.counted
 
   -- and so the core's turns can be done
   pub able_ready : (m : Machine) → IsWritable m → m.image.names ≡ names → IsAble m ready.line ready.words
@@ -315,7 +276,7 @@ module _ (ready : Prepared) (is : IsReady ready) (names : Names) (irqs : irqs_of
         (is.may irq).0 (ap (pending_bit ready.words.may) (sym (bit_here ready.line.here irq is.here)) ∙ pending) in (
           subst (λ (n : Names). IsDeclared n irq) (sym named)
               (declared_at names irq (subst (λ is. Contains is irq) irqs there)),
-          in_range irq ready.rows is.counted there,
+          all_has (λ i. i < IRQ_NUMBERS) (irqs_of ready.rows) irq in_range there,
         );
   }
 
@@ -331,100 +292,105 @@ module _ (ready : Prepared) (is : IsReady ready) (names : Names) (irqs : irqs_of
   }
 
 -- gathering leaves the turns that can be done
-pub can_gathered : (n : ℕ) (m : Machine) (ended : List Device) (line next : Caller) (row : Row)
-    → next ≡ line_after_gathering ended line → CanGo n no_route m line row → CanGo n no_route m next row
-can_gathered n m ended line next row gathers can =
-    let here : next.here ≡ line.here = ap (λ (l : Caller). l.here) gathers ∙ same_here ended line in
-    record {
-      able = record {
-        writable = can.able.writable;
-        words = ap (λ (l : Caller). l.words) gathers ∙ same_words ended line ∙ can.able.words;
-        many = omega (arith, here, can.able.many);
-        may = λ irq low pending.
-            can.able.may irq low (ap (λ h. pending_bit row.may (bit_in_row h irq)) (sym here) ∙ pending);
-      };
-      routed = λ posted irq e. absurd (none-some irq e);
-      few = can.few;
-      early = can.early;
-      room =
-          omega (
-            arith,
-            ap (λ (l : Caller). length l.calls) gathers,
-            ap length (same_calls ended line),
-            can.room,
-          );
-    }
+pub can_gathered : {n : ℕ} {m : Machine} {line : Caller} {row : Row} (ended : List Device) → CanGo n no_route m line row
+    → CanGo n no_route m (line_after_gathering ended line) row
+can_gathered ended can = record {
+  able = record {
+    writable = can.able.writable;
+    words = can.able.words;
+    many = can.able.many;
+    may = can.able.may;
+  };
+  routed = can.routed;
+  few = can.few;
+  early = can.early;
+  room = can.room;
+}
 
 -- what is made is ready
-module _ (names : Names) (script : List Line) (named : HasNames names script) (rows : List AccountRow)
-    (table : rows ≡ map empty_row (declared_irqs names)) where
+module _ (names : Names) (script : List Line) (named : HasNames names script) (shown : Names) (is_shown : shown ≡ names)
+    (rows : List AccountRow) (table : rows ≡ map empty_row (declared_irqs shown)) where
   irqs_are : (irqs : List ℕ) → irqs_of (map empty_row irqs) ≡ irqs
   irqs_are [] = refl
   irqs_are (irq ∷ irqs) = ap (λ is. irq ∷ is) (irqs_are irqs)
 
   pub rows_declared : irqs_of rows ≡ declared_irqs names
-  rows_declared = ap irqs_of table ∙ irqs_are (declared_irqs names)
+  rows_declared = ap irqs_of table ∙ irqs_are (declared_irqs shown) ∙ ap declared_irqs is_shown
 
   pub pends_rows : AllByRecursion (PendsOneOf (irqs_of rows)) script
   pends_rows =
       subst (λ irqs. AllByRecursion (PendsOneOf irqs) script) (sym rows_declared)
       (all_weaker (HasName names) (PendsOneOf (declared_irqs names)) (line_pending names) script named)
 
-  -- the devices' interrupts are among those that there are
-  pub all_numbered : AllByRecursion (λ irq. irq < IRQ_NUMBERS) (irqs_of rows) → AllByRecursion IsNumbered script
-  all_numbered low = all_weaker (PendsOneOf (irqs_of rows)) IsNumbered line_numbered script pends_rows
-    where
-      line_numbered : (line : Line) → PendsOneOf (irqs_of rows) line → IsNumbered line
-      line_numbered (Steps n) there = tt
-      line_numbered (Ticks n) there = tt
-      line_numbered (Pends irq n) there = tt
-      line_numbered (DeviceLine d irq n) there = all_has (λ i. i < IRQ_NUMBERS) (irqs_of rows) irq low there
+  module _ (lent : List AccountRow) (is_lent : lent ≡ rows)
+      (low : AllByRecursion (λ irq. irq < IRQ_NUMBERS) (irqs_of lent)) where
+    low_rows : AllByRecursion (λ irq. irq < IRQ_NUMBERS) (irqs_of rows)
+    low_rows = subst (λ (rs : List AccountRow). AllByRecursion (λ irq. irq < IRQ_NUMBERS) (irqs_of rs)) is_lent low
 
-  module _ (words : Row) (may : (irq : ℕ) → IsPending words.may irq ↔ Contains (irqs_of rows) irq)
-      (in_bounds : (irq : ℕ) → IsPending words.may irq → irq < IRQ_NUMBERS) where
-    line_may_pend : (line : Line) → PendsOneOf (irqs_of rows) line → MayPend words line
-    line_may_pend (Steps n) is = tt
-    line_may_pend (Ticks n) is = tt
-    line_may_pend (Pends irq n) is = tt
-    line_may_pend (DeviceLine d irq n) is = (may irq).1 is
+    -- the devices' interrupts are among those that there are
+    pub all_numbered : AllByRecursion IsNumbered script
+    all_numbered = all_weaker (PendsOneOf (irqs_of rows)) IsNumbered line_numbered script pends_rows
+      where
+        line_numbered : (line : Line) → PendsOneOf (irqs_of rows) line → IsNumbered line
+        line_numbered (Steps n) there = tt
+        line_numbered (Ticks n) there = tt
+        line_numbered (Pends irq n) there = tt
+        line_numbered (DeviceLine d irq n) there = all_has (λ i. i < IRQ_NUMBERS) (irqs_of rows) irq low_rows there
 
-    pub all_may_pend : AllByRecursion (MayPend words) script
-    all_may_pend = all_weaker (PendsOneOf (irqs_of rows)) (MayPend words) line_may_pend script pends_rows
-
-    counted_empty : (irqs : List ℕ) → ((irq : ℕ) → Contains irqs irq → irq < IRQ_NUMBERS)
+    counted_empty : (irqs : List ℕ) → AllByRecursion (λ irq. irq < IRQ_NUMBERS) (irqs_of (map empty_row irqs))
         → AllByRecursion (IsCounted 0 []) (map empty_row irqs)
     counted_empty [] low = tt
-    counted_empty (irq ∷ irqs) low = (
-      record { in_range = low irq (contains_here irq irqs); raised = refl; merged = refl; latched = refl },
-      counted_empty irqs (λ i there. low i (contains_there irq irqs i there)),
-    )
+    counted_empty (irq ∷ irqs) low =
+        (record { in_range = low.0; raised = refl; merged = refl; latched = refl }, counted_empty irqs low.1)
 
     rows_counted : AllByRecursion (IsCounted 0 []) rows
     rows_counted =
         subst (AllByRecursion (IsCounted 0 [])) (sym table)
-        (counted_empty (declared_irqs names) (λ irq there.
-        in_bounds irq ((may irq).1 (subst (λ is. Contains is irq) (sym rows_declared) there))))
+        (counted_empty (declared_irqs shown)
+        (subst (λ (rs : List AccountRow). AllByRecursion (λ irq. irq < IRQ_NUMBERS) (irqs_of rs)) table low_rows))
 
-    pub made_ready : IsScript script → (line : Caller) (ds : List Device) → row_count words ≡ 16
-        → HasMadeLines line (devices script) words
-        → device_numbers ds ≡ devices script → AllByRecursion (IsWaiting words script) ds
-        → IsReady (record { script = script; words = words; line = line; devices = ds; rows = rows })
-    made_ready scripted line ds many has known waits = record {
-      scripted = scripted;
-      core_words = has.words;
-      number = has.number;
-      here = has.here;
-      there = has.there;
-      many = many;
-      waiting = waits;
-      gathered = subst (AllByRecursion (HasMade script)) (sym has.gathered) tt;
-      each = ap (λ ps. device_numbers ds ++ numbers ps) has.gathered ∙ append-nil (device_numbers ds) ∙ known;
-      made = has.made;
-      behind = omega (arith, has.since);
-      may = may;
-      rows = pends_rows;
-      counted = subst (λ ps. AllByRecursion (IsCounted 0 ps) rows) (sym has.gathered) rows_counted;
-    }
+    module _ (words : Row) (bits : List ℕ) (same : words.may ≡ bits)
+        (are : (bit : ℕ) → IsPending bits bit ↔ Contains (map (bit_in_row 0) (irqs_of lent)) bit) where
+      may : (irq : ℕ) → IsPending words.may irq ↔ Contains (irqs_of rows) irq
+      may irq =
+          subst (λ (ws : List ℕ). IsPending ws irq ↔ Contains (irqs_of rows) irq) (sym same)
+          (subst (λ (rs : List AccountRow). IsPending bits irq ↔ Contains (irqs_of rs) irq) is_lent
+          (alone_bits bits (irqs_of lent) are irq))
+
+      line_may_pend : (line : Line) → PendsOneOf (irqs_of rows) line → MayPend words line
+      line_may_pend (Steps n) is = tt
+      line_may_pend (Ticks n) is = tt
+      line_may_pend (Pends irq n) is = tt
+      line_may_pend (DeviceLine d irq n) is = (may irq).1 is
+
+      pub all_may_pend : AllByRecursion (MayPend words) script
+      all_may_pend = all_weaker (PendsOneOf (irqs_of rows)) (MayPend words) line_may_pend script pends_rows
+
+      pub made_ready : (read : List Line) → read ≡ script → IsScript script → (line : Caller) (ds : List Device)
+          → row_count words ≡ 16 → HasMadeLines line (devices read) words → device_numbers ds ≡ devices read
+          → AllByRecursion (IsWaiting words read) ds
+          → IsReady (record { script = script; words = words; line = line; devices = ds; rows = rows })
+      made_ready read is_read scripted line ds many made known waits =
+          let has : HasMadeLines line (devices script) words =
+          subst (λ (ls : List Line). HasMadeLines line (devices ls) words) is_read made in
+          record {
+            scripted = scripted;
+            core_words = has.words;
+            number = has.number;
+            here = has.here;
+            there = has.there;
+            many = many;
+            waiting = subst (λ (ls : List Line). AllByRecursion (IsWaiting words ls) ds) is_read waits;
+            gathered = subst (AllByRecursion (HasMade script)) (sym has.gathered) tt;
+            each =
+                ap (λ ps. device_numbers ds ++ numbers ps) has.gathered ∙ append-nil (device_numbers ds) ∙ known
+                ∙ ap devices is_read;
+            made = has.made;
+            behind = omega (arith, has.since);
+            may = may;
+            rows = pends_rows;
+            counted = subst (λ ps. AllByRecursion (IsCounted 0 ps) rows) (sym has.gathered) rows_counted;
+          }
 
 -- there is room for the counts of all lines
 module _ (script : List Line) (scripted : IsScript script) where
@@ -463,15 +429,6 @@ module _ (script : List Line) (scripted : IsScript script) where
           sym (length-map e.line.calls interrupt_asked) ∙ ap length is.made
           ∙ length-map (pends script e.number) (λ irq. Some irq)
 
-length-filter : {A : Type 0} (p : A → Bool) (xs : List A) → length (filter p xs) ≤ length xs
-length-filter p [] = omega arith
-length-filter p (x ∷ xs) = rest (length-filter p xs) (p x)
-  where
-    rest : length (filter p xs) ≤ length xs → (b : Bool)
-        → length (if b then x ∷ filter p xs else filter p xs) ≤ suc (length xs)
-    rest less true = omega (arith, less)
-    rest less false = omega (arith, less)
-
 length-below : (n : ℕ) → length (numbers_below n) ≡ n
 unfolding numbers_below
 length-below zero = refl
@@ -482,6 +439,7 @@ few_devices script =
     omega (
       arith,
       length-filter (λ number. list_any (is_of_device number) script) (numbers_below 16),
+      count_by-le-length (λ number. list_any (is_of_device number) script) (numbers_below 16),
       length-below 16,
     )
 
@@ -492,17 +450,21 @@ taken_back xs ys n same all =
     ap (λ m. take n (xs ++ drop m ys)) same ∙ ap (λ t. take n (xs ++ t)) (drop_all (length ys) ys (omega arith))
     ∙ ap (take n) (append-nil xs) ∙ take_all n xs (omega (arith, same, all))
 
--- behind the devices' work
-module _ (ready : Prepared) (is : IsReady ready) (line : Caller) (same : IsSameLine ready.line line)
-    (ended : List Device) (worked : AllWork ready.devices ended) (as_many : length ended ≡ length ready.devices) where
-  pub have_ended : AllByRecursion (HasEnded ready.words ready.script) ended
-  have_ended = (all_ended ready.words ready.script ready.devices ended as_many worked is.waiting).0
+-- behind the devices' work, for which these were lent as a slice that is written back
+module _ (ready : Prepared) (is : IsReady ready) (line : Caller) (same : IsSameLine ready.line line) (n : ℕ)
+    (all : n ≡ length ready.devices) (lent ended : List Device) (is_lent : lent ≡ ready.devices)
+    (worked : AllWork lent ended) (as_many : length ended ≡ length lent) where
+  have_ended : AllByRecursion (HasEnded ready.words ready.script) ended
+      × (device_numbers ended ≡ device_numbers ready.devices)
+  have_ended =
+      all_ended ready.words ready.script ready.devices ended (as_many ∙ ap length is_lent)
+      (subst (λ (ds : List Device). AllWork ds ended) is_lent worked) is.waiting
 
-  pub known_ended : device_numbers ended ≡ device_numbers ready.devices
-  known_ended = (all_ended ready.words ready.script ready.devices ended as_many worked is.waiting).1
+  written_back : take n (ended ++ drop (length ended) ready.devices) ≡ ended
+  written_back = taken_back ended ready.devices n (as_many ∙ ap length is_lent) all
 
-  -- With their lines gathered it is ready again. The devices and the rows were lent as slices, and are written back.
-  pub ready_again : (n : ℕ) → n ≡ length ready.devices → (next : Caller)
+  -- with their lines gathered it is ready again
+  pub ready_again : (next : Caller)
       → next ≡ line_after_gathering (take n (ended ++ drop (length ended) ready.devices)) line
       → (rows : List AccountRow) → AllByRecursion (IsCounted 0 next.gathered) rows → irqs_of rows ≡ irqs_of ready.rows
       → (m : ℕ) → length rows ≡ length ready.rows → m ≡ length ready.rows → (left : List Device) → left ≡ []
@@ -511,30 +473,38 @@ module _ (ready : Prepared) (is : IsReady ready) (line : Caller) (same : IsSameL
         devices = left;
         rows = take m (rows ++ drop (length rows) ready.rows);
       })
-  ready_again n all next gathers rows counted irqs m same_rows all_rows left none =
-      let back = taken_back ended ready.devices n as_many all in
-      let is_so = ready_gathered ready is line same ended have_ended known_ended next
-      (gathers ∙ ap (λ (ds : List Device). line_after_gathering ds line) back) rows counted irqs in
+  ready_again next gathers rows counted irqs m same_rows all_rows left none =
+      let is_next : next ≡ line_after_gathering ended line =
+      gathers ∙ ap (λ (ds : List Device). line_after_gathering ds line) written_back in
+      let parts : next.gathered ≡ map part_of ended ++ line.gathered = ap (λ (l : Caller). l.gathered) is_next in
+      let is_so = ready_gathered (record ready { line = line }) (ready_calls ready is line same) ended have_ended.0
+      have_ended.1 rows (subst (λ ps. AllByRecursion (IsCounted 0 ps) rows) parts counted) irqs in
       subst (λ (ds : List Device). IsReady (record ready {
         line = next;
         devices = ds;
         rows = take m (rows ++ drop (length rows) ready.rows);
       })) (sym none)
       (subst (λ (rs : List AccountRow). IsReady (record ready { line = next; devices = []; rows = rs }))
-      (sym (taken_back rows ready.rows m same_rows all_rows)) is_so)
+      (sym (taken_back rows ready.rows m same_rows all_rows))
+      (subst (λ (l : Caller). IsReady (record ready { line = l; devices = []; rows = rows })) (sym is_next) is_so))
 
-  pub beside_ended : AllByRecursion (IsBeside ready.words) ended
+  pub beside_ended : AllByRecursion (IsBeside ready.words) (take n (ended ++ drop (length ended) ready.devices))
   beside_ended =
-      all_weaker (HasEnded ready.words ready.script) (IsBeside ready.words) (λ d ended. ended.beside) ended have_ended
+      subst (AllByRecursion (IsBeside ready.words)) (sym written_back)
+      (all_weaker (HasEnded ready.words ready.script) (IsBeside ready.words) (λ d ended. ended.beside) ended
+      have_ended.0)
 
-  pub room_ended : calls_gathered line.gathered + calls_made ended + 2 ^ 32 ≤ 2 ^ 64
+  pub room_ended : calls_gathered line.gathered
+      + calls_made (take n (ended ++ drop (length ended) ready.devices)) + 2 ^ 32 ≤ 2 ^ 64
   room_ended =
       omega (
         arith,
+        ap calls_made written_back,
         ap (λ (l : Caller). calls_gathered l.gathered) same.1,
         parts_few ready.script is.scripted ready.line.gathered is.gathered,
-        ended_few ready.script is.scripted ready.words ended have_ended,
+        ended_few ready.script is.scripted ready.words ended have_ended.0,
         as_many,
+        ap length is_lent,
         ap length is.each,
         length-append (device_numbers ready.devices) (numbers ready.line.gathered),
         length-map ready.devices (λ d. d.number),

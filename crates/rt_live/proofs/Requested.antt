@@ -1,12 +1,12 @@
 -- How often a history that `live` allows raises, merges and latches an interrupt: as often as the script has its
 -- devices pend it.
-use Rattle.std.proofs.Common.{◌≡◌, ◌≢◌, ℕ, zero, suc, ◌+◌, ◌/◌, ◌%◌, ◌<◌, ◌≤◌, ◌==◌, Bool, cond, List, [], ◌∷◌, ◌++◌}
-use Rattle.std.proofs.Common.{map, flat_map, replicate, count_by, sum_by, Contains, Some, None, refl, sym, ap, subst}
-use Rattle.std.proofs.Common.{◌∙◌}
-use Rattle.std.proofs.Common.{arith, eq-eqb, ne_eqb, ⊎_elim}
+use Rattle.std.proofs.Common.{◌≡◌, ℕ, zero, suc, ◌+◌, ◌*◌, ◌/◌, ◌%◌, ◌<◌, ◌≤◌, ◌==◌, Bool, true, false, cond, List, []}
+use Rattle.std.proofs.Common.{◌∷◌, ◌++◌, map, flat_map, replicate, count_by, sum_by, Contains, Some, None, refl, sym}
+use Rattle.std.proofs.Common.{ap, subst, ◌∙◌, arith, eq-eqb, ne_eqb, ⊎_elim}
 use Rattle.std.specs.List.{AllByRecursion}
 use Rattle.std.specs.Int.{bit_at}
-use Rattle.std.proofs.lemmas.List.Sums.{sum_by-cons}
+use Rattle.std.proofs.lemmas.List.Sums.{sum_by-cons, sum_by-append}
+use Rattle.std.proofs.lemmas.List.Folds.{sum_by-replicate}
 use Rattle.std.proofs.lemmas.Nat.Bits.{bit_at-zero}
 use Rattle.std.proofs.lemmas.Option.{same_Some, none-some}
 use mathlib.Core.Logic.{dite}
@@ -32,63 +32,67 @@ use Rattle.rt_words.proofs.Lists.{in_head, in_tail, in_cases, in_none}
 use Rattle.rt_words.proofs.Parting.{by_parts}
 use Rattle.rt_live.specs.History.{IsHistory, line_asks, device_pends}
 use Rattle.rt_live.specs.Interleaving.{look_calls, look_calls_from}
-use Rattle.rt_live.proofs.Requesting.{none_asked}
+use Rattle.rt_live.proofs.Requesting.{none_asked, none_called}
 
 abbrev one_if : Bool → ℕ
 one_if b = cond b 1 0
 
--- how often an interrupt stands among these
-abbrev times : ℕ → List ℕ → ℕ
-times irq irqs = count_by (λ i. i == irq) irqs
+-- whether a call pends an interrupt of which this is so
+abbrev pub asks_that : (ℕ → Bool) → Call → Bool
+asks_that test (Pend n answer) = test n
+asks_that test (Latch k word) = false
 
 -- each pend raises or merges, and nothing else does
-pends_count : (irq : ℕ) (calls : List Call) (irqs : List ℕ) → map interrupt_asked calls ≡ map (λ i. Some i) irqs
-    → raised_count irq calls + merged_count irq calls ≡ times irq irqs
-pends_count irq [] [] e = refl
-pends_count irq [] (i ∷ irqs) e = absurd cc
-pends_count irq (c ∷ cs) [] e = absurd cc
-pends_count irq (Latch k word ∷ cs) (i ∷ irqs) e = let no_ : None ≡ Some i = cc in absurd (none-some i no_)
-pends_count irq (Pend n Raised ∷ cs) (i ∷ irqs) e =
-    let same : n ≡ i = same_Some n i cc in
-    let rest = pends_count irq cs irqs cc in
-    let one : one_if (n == irq) ≡ one_if (i == irq) = ap (λ k. one_if (k == irq)) same in
+each_pend : (irq : ℕ) (calls : List Call)
+    → raised_count irq calls + merged_count irq calls ≡ count_by (asks_that (λ i. i == irq)) calls
+each_pend irq [] = refl
+each_pend irq (c ∷ cs) =
     omega (
       arith,
-      rest,
-      one,
-      count_first (raises irq) (Pend n Raised) cs,
-      count_first (merges irq) (Pend n Raised) cs,
-      sum_by-cons (λ x. one_if (x == irq)) i irqs,
+      one c,
+      each_pend irq cs,
+      count_first (raises irq) c cs,
+      count_first (merges irq) c cs,
+      count_first (asks_that (λ i. i == irq)) c cs,
     )
-pends_count irq (Pend n Merged ∷ cs) (i ∷ irqs) e =
-    let same : n ≡ i = same_Some n i cc in
-    let rest = pends_count irq cs irqs cc in
-    let one : one_if (n == irq) ≡ one_if (i == irq) = ap (λ k. one_if (k == irq)) same in
-    omega (
-      arith,
-      rest,
-      one,
-      count_first (raises irq) (Pend n Merged) cs,
-      count_first (merges irq) (Pend n Merged) cs,
-      sum_by-cons (λ x. one_if (x == irq)) i irqs,
-    )
+  where
+    one : (c : Call) → one_if (raises irq c) + one_if (merges irq c) ≡ one_if (asks_that (λ i. i == irq) c)
+    one (Pend n Raised) = omega arith
+    one (Pend n Merged) = omega arith
+    one (Latch k word) = refl
 
-look_counts_none : (irq k : ℕ) (words : List ℕ) (calls : List Call) → raised_count irq calls ≡ 0
-    → merged_count irq calls ≡ 0
-    → (raised_count irq (look_calls_from k words ++ calls) ≡ 0)
-    × (merged_count irq (look_calls_from k words ++ calls) ≡ 0)
-look_counts_none irq k [] calls r m = (r, m)
-look_counts_none irq k (w ∷ ws) calls r m =
-    let rest = look_counts_none irq (suc k) ws calls r m in (
-      omega (arith, rest.0, count_first (raises irq) (Latch k w) (look_calls_from (suc k) ws ++ calls)),
-      omega (arith, rest.1, count_first (merges irq) (Latch k w) (look_calls_from (suc k) ws ++ calls)),
-    )
+module _ (test : ℕ → Bool) where
+  pends_count : (calls : List Call) (irqs : List ℕ) → map interrupt_asked calls ≡ map (λ i. Some i) irqs
+      → count_by (asks_that test) calls ≡ count_by test irqs
+  pends_count [] [] e = refl
+  pends_count [] (i ∷ irqs) e = absurd cc
+  pends_count (c ∷ cs) [] e = absurd cc
+  pends_count (Latch k word ∷ cs) (i ∷ irqs) e = let no_ : None ≡ Some i = cc in absurd (none-some i no_)
+  pends_count (Pend n answer ∷ cs) (i ∷ irqs) e =
+      let same : n ≡ i = same_Some n i cc in
+      let rest = pends_count cs irqs cc in
+      let one : one_if (test n) ≡ one_if (test i) = ap (λ k. one_if (test k)) same in
+      omega (
+        arith,
+        rest,
+        one,
+        count_first (asks_that test) (Pend n answer) cs,
+        sum_by-cons (λ x. one_if (test x)) i irqs,
+      )
 
-looks_count_none : (irq : ℕ) (found : List (List ℕ))
-    → (raised_count irq (flat_map look_calls found) ≡ 0) × (merged_count irq (flat_map look_calls found) ≡ 0)
-looks_count_none irq [] = (refl, refl)
-looks_count_none irq (ws ∷ found) =
-    let rest = looks_count_none irq found in look_counts_none irq 0 ws (flat_map look_calls found) rest.0 rest.1
+  look_counts_none : (k : ℕ) (words : List ℕ) (calls : List Call) → count_by (asks_that test) calls ≡ 0
+      → count_by (asks_that test) (look_calls_from k words ++ calls) ≡ 0
+  look_counts_none k [] calls none = none
+  look_counts_none k (w ∷ ws) calls none =
+      omega (
+        arith,
+        look_counts_none (suc k) ws calls none,
+        count_first (asks_that test) (Latch k w) (look_calls_from (suc k) ws ++ calls),
+      )
+
+  looks_count_none : (found : List (List ℕ)) → count_by (asks_that test) (flat_map look_calls found) ≡ 0
+  looks_count_none [] = refl
+  looks_count_none (ws ∷ found) = look_counts_none 0 ws (flat_map look_calls found) (looks_count_none found)
 
 -- the parts of the numbers below this one, the highest first
 parts_below : List Entry → ℕ → List Part
@@ -149,136 +153,101 @@ unfolding sum_below
 sum_none zero = refl
 sum_none (suc n) = let rest = sum_none n in omega (arith, rest)
 
-times_on : (irq : ℕ) (xs ys : List ℕ) → times irq (xs ++ ys) ≡ times irq xs + times irq ys
-times_on irq [] ys = let e : times irq ys ≡ 0 + times irq ys = omega arith in e
-times_on irq (x ∷ xs) ys =
-    omega (
-      arith,
-      times_on irq xs ys,
-      sum_by-cons (λ i. one_if (i == irq)) x (xs ++ ys),
-      sum_by-cons (λ i. one_if (i == irq)) x xs,
-    )
+module _ (test : ℕ → Bool) where
+  counted_once : (b : Bool) (n : ℕ) → n * one_if b ≡ cond b n 0
+  counted_once true n = omega arith
+  counted_once false n = omega arith
 
-times_again : (irq i n : ℕ) → times irq (replicate n i) ≡ cond (i == irq) n 0
-times_again irq i zero =
-    dite (ℕ_discrete i irq)
-    (λ e. sym (ap (λ b. cond b 0 0) (eq-eqb i irq e)))
-    (λ ne. sym (ap (λ b. cond b 0 0) (ne_eqb i irq ne)))
-times_again irq i (suc n) =
-    let rest = times_again irq i n in
-    let one = sum_by-cons (λ x. one_if (x == irq)) i (replicate n i) in
-    dite (ℕ_discrete i irq)
-    (λ e.
-    let a : one_if (i == irq) ≡ 1 = ap one_if (eq-eqb i irq e) in
-    let b : cond (i == irq) n 0 ≡ n = ap (λ b. cond b n 0) (eq-eqb i irq e) in
-    let c : cond (i == irq) (suc n) 0 ≡ suc n = ap (λ b. cond b (suc n) 0) (eq-eqb i irq e) in
-    omega (arith, rest, one, a, b, c))
-    (λ ne.
-    let a : one_if (i == irq) ≡ 0 = ap one_if (ne_eqb i irq ne) in
-    let b : cond (i == irq) n 0 ≡ 0 = ap (λ b. cond b n 0) (ne_eqb i irq ne) in
-    let c : cond (i == irq) (suc n) 0 ≡ 0 = ap (λ b. cond b (suc n) 0) (ne_eqb i irq ne) in
-    omega (arith, rest, one, a, b, c))
+  abbrev asked_of : ℕ → ℕ → ℕ → ℕ → ℕ
+  asked_of d i n e = count_by test (line_pends e (Device d i n))
 
--- a device's line is counted once, at its device
-asked_none : (irq d i n m : ℕ) → m ≤ d → sum_below (λ e. times irq (line_pends e (Device d i n))) m ≡ 0
-unfolding sum_below
-asked_none irq d i n zero out = refl
-asked_none irq d i n (suc m) out =
-    let rest = asked_none irq d i n m (omega (arith, out)) in
-    let none : times irq (line_pends m (Device d i n)) ≡ 0 =
-    ap (λ b. times irq (cond b (replicate n i) [])) (ne_eqb d m (omega (arith, out))) in
-    omega (arith, rest, none)
+  -- a device's line is counted once, at its device
+  asked_none : (d i n m : ℕ) → m ≤ d → sum_below (asked_of d i n) m ≡ 0
+  unfolding sum_below
+  asked_none d i n zero out = refl
+  asked_none d i n (suc m) out =
+      let none : asked_of d i n m ≡ 0 =
+      ap (λ b. count_by test (cond b (replicate n i) [])) (ne_eqb d m (omega (arith, out))) in
+      omega (arith, asked_none d i n m (omega (arith, out)), none)
 
-asked_once : (irq d i n m : ℕ) → d < m
-    → sum_below (λ e. times irq (line_pends e (Device d i n))) m ≡ line_asks irq (Device d i n)
-unfolding sum_below
-asked_once irq d i n zero within = absurd (omega (arith, within))
-asked_once irq d i n (suc m) within =
-    dite (ℕ_discrete d m)
-    (λ e.
-    let own : times irq (line_pends m (Device d i n)) ≡ cond (i == irq) n 0 =
-    ap (λ b. times irq (cond b (replicate n i) [])) (eq-eqb d m e) ∙ times_again irq i n in
-    let rest = asked_none irq d i n m (omega (arith, e)) in
-    omega (arith, own, rest))
-    (λ ne.
-    let none : times irq (line_pends m (Device d i n)) ≡ 0 =
-    ap (λ b. times irq (cond b (replicate n i) [])) (ne_eqb d m ne) in
-    let rest = asked_once irq d i n m (omega (arith, within, ne)) in
-    omega (arith, none, rest))
+  asked_once : (d i n m : ℕ) → d < m → sum_below (asked_of d i n) m ≡ line_asks test (Device d i n)
+  unfolding sum_below
+  asked_once d i n zero within = absurd (omega (arith, within))
+  asked_once d i n (suc m) within =
+      dite (ℕ_discrete d m)
+      (λ e.
+      let own : asked_of d i n m ≡ cond (test i) n 0 =
+      ap (λ b. count_by test (cond b (replicate n i) [])) (eq-eqb d m e)
+      ∙ sum_by-replicate (λ x. one_if (test x)) n i ∙ counted_once (test i) n in
+      omega (arith, own, asked_none d i n m (omega (arith, e))))
+      (λ ne.
+      let none : asked_of d i n m ≡ 0 = ap (λ b. count_by test (cond b (replicate n i) [])) (ne_eqb d m ne) in
+      omega (arith, none, asked_once d i n m (omega (arith, within, ne))))
 
-line_asked : (irq : ℕ) (line : Line) → HasDeviceInRange line
-    → sum_below (λ d. times irq (line_pends d line)) 16 ≡ line_asks irq line
-line_asked irq (Steps n) range = sum_none 16
-line_asked irq (Ticks n) range = sum_none 16
-line_asked irq (Pends i n) range = sum_none 16
-line_asked irq (Device d i n) range = asked_once irq d i n 16 range
+  line_asked : (line : Line) → HasDeviceInRange line
+      → sum_below (λ d. count_by test (line_pends d line)) 16 ≡ line_asks test line
+  line_asked (Steps n) range = sum_none 16
+  line_asked (Ticks n) range = sum_none 16
+  line_asked (Pends i n) range = sum_none 16
+  line_asked (Device d i n) range = asked_once d i n 16 range
 
-all_asked : (irq : ℕ) (script : List Line) → AllByRecursion HasDeviceInRange script
-    → sum_below (λ d. times irq (pends script d)) 16 ≡ device_pends irq script
-all_asked irq [] ranges = sum_none 16
-all_asked irq (line ∷ script) ranges =
-    let split = sum_same (λ d. times irq (pends (line ∷ script) d))
-    (λ d. times irq (line_pends d line) + times irq (pends script d)) 16
-    (λ d. times_on irq (line_pends d line) (pends script d)) in
-    let two = sum_two (λ d. times irq (line_pends d line)) (λ d. times irq (pends script d)) 16 in
-    omega (
-      arith,
-      split,
-      two,
-      line_asked irq line ranges.0,
-      all_asked irq script ranges.1,
-      sum_by-cons (line_asks irq) line script,
-    )
+  all_asked : (script : List Line) → AllByRecursion HasDeviceInRange script
+      → sum_below (λ d. count_by test (pends script d)) 16 ≡ sum_by (line_asks test) script
+  all_asked [] ranges = sum_none 16
+  all_asked (line ∷ script) ranges =
+      let split = sum_same (λ d. count_by test (pends (line ∷ script) d))
+      (λ d. count_by test (line_pends d line) + count_by test (pends script d)) 16
+      (λ d. sum_by-append (λ x. one_if (test x)) (line_pends d line) (pends script d)) in
+      let two = sum_two (λ d. count_by test (line_pends d line)) (λ d. count_by test (pends script d)) 16 in
+      omega (
+        arith,
+        split,
+        two,
+        line_asked line ranges.0,
+        all_asked script ranges.1,
+        sum_by-cons (line_asks test) line script,
+      )
 
 module _ (script : List Line) (found : List (List ℕ)) (history : List Entry) (is : IsHistory script found history)
     (ranges : AllByRecursion HasDeviceInRange script) where
-  none_above : (number : ℕ) → number ≢ 255 → 16 ≤ number → part history number ≡ []
-  none_above number ne out = empty (part history number) (is.devices number ne
-      ∙ ap (map (λ (irq : ℕ). Some irq)) (none_asked script number out ranges))
-    where
-      empty : (calls : List Call) → map interrupt_asked calls ≡ [] → calls ≡ []
-      empty [] e = refl
-      empty (c ∷ cs) e = absurd cc
-
   counted : (p : Call → Bool) → count_by p (calls_in history)
       ≡ count_by p (flat_map look_calls found) + sum_by (λ (q : Part). count_by p q.calls) (parts_below history 16)
   counted p =
       by_parts p history (flat_map look_calls found) (parts_below history 16) is.core (below_is history 16)
       (λ h. let l = below_all history 16 255 h in omega (arith, l)) (below_apart history 16)
-      (λ n ne out. none_above n ne (below_has history 16 n out))
+      (λ n ne out. none_called (part history n) (is.devices n ne
+      ∙ ap (map (λ (irq : ℕ). Some irq)) (none_asked script n (below_has history 16 n out) ranges)))
 
-  both_below : (irq n : ℕ) → n ≤ 16
-      → sum_by (λ (q : Part). raised_count irq q.calls) (parts_below history n)
-      + sum_by (λ (q : Part). merged_count irq q.calls) (parts_below history n)
-      ≡ sum_below (λ d. times irq (pends script d)) n
+  below_counted : (test : ℕ → Bool) (n : ℕ) → n ≤ 16
+      → sum_by (λ (q : Part). count_by (asks_that test) q.calls) (parts_below history n)
+      ≡ sum_below (λ d. count_by test (pends script d)) n
   unfolding parts_below sum_below
-  both_below irq zero few = refl
-  both_below irq (suc n) few =
-      let q : Part = record { line = n; calls = part history n } in
-      let rest : List Part = parts_below history n in
-      let ne : n ≢ 255 = omega (arith, few) in
+  below_counted test zero few = refl
+  below_counted test (suc n) few =
       omega (
         arith,
-        both_below irq n (omega (arith, few)),
-        pends_count irq (part history n) (pends script n) (is.devices n ne),
-        sum_by-cons (λ (x : Part). raised_count irq x.calls) q rest,
-        sum_by-cons (λ (x : Part). merged_count irq x.calls) q rest,
+        below_counted test n (omega (arith, few)),
+        pends_count test (part history n) (pends script n) (is.devices n (omega (arith, few))),
+        sum_by-cons (λ (x : Part). count_by (asks_that test) x.calls) (record { line = n; calls = part history n })
+            (parts_below history n),
+      )
+
+  -- the calls pend what the script has devices pend
+  pub all_pended : (test : ℕ → Bool)
+      → count_by (asks_that test) (calls_in history) ≡ sum_by (line_asks test) script
+  all_pended test =
+      omega (
+        arith,
+        counted (asks_that test),
+        looks_count_none test found,
+        below_counted test 16 (omega arith),
+        all_asked test script ranges,
       )
 
   -- raised and merged together are the pends of all devices
   pub all_counted : (irq : ℕ) → raised_count irq (calls_in history) + merged_count irq (calls_in history)
       ≡ device_pends irq script
-  all_counted irq =
-      let none = looks_count_none irq found in
-      omega (
-        arith,
-        counted (raises irq),
-        counted (merges irq),
-        none.0,
-        none.1,
-        both_below irq 16 (omega arith),
-        all_asked irq script ranges,
-      )
+  all_counted irq = each_pend irq (calls_in history) ∙ all_pended (λ i. i == irq)
 
   -- nothing is left, and what was raised was latched
   pub nothing_pending : (irq : ℕ) → pending_bit (replicate 32 0) irq ≡ 0

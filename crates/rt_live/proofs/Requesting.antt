@@ -1,14 +1,15 @@
--- The history in which the devices pend one after another, and the core does not look.
-use Rattle.std.proofs.Common.{◌≡◌, ◌≢◌, ℕ, zero, suc, ◌<◌, ◌≤◌, ◌==◌, Bool, if◌then◌else◌, List, [], ◌∷◌, ◌++◌}
-use Rattle.std.proofs.Common.{true, false, take, map, replicate, Some, cond, refl, sym, ap, subst, ◌∙◌, arith}
-use Rattle.std.proofs.Common.{append-nil, eq-eqb, ne_eqb, get_or, ◌/◌, ◌%◌}
-use Rattle.std.proofs.lemmas.List.{get_or-set_other}
+-- The history in which the devices pend one after another, and the core does not look; what a script asks of no device.
+use Rattle.std.proofs.Common.{◌≡◌, ℕ, zero, suc, ◌<◌, ◌≤◌, ◌==◌, Bool, true, false, cond, List, [], ◌∷◌, ◌++◌, map}
+use Rattle.std.proofs.Common.{filter, flat_map, replicate, Some, refl, sym, ap, ◌∙◌, arith, append-nil, ne_eqb, get_or}
+use Rattle.std.proofs.Common.{◌/◌, ◌%◌, ◌||◌, Contains, subst, ⊎_elim}
+use Rattle.std.proofs.lemmas.List.{get_or-set_other, map-append}
+use Rattle.std.proofs.lemmas.List.Elements.{filter-append, Contains-append_left, Contains-append_right}
 use Rattle.std.proofs.lemmas.Nat.Bits.{bit_at-lt}
-use Rattle.std.specs.List.{AllByRecursion}
-use mathlib.Core.Logic.{dite}
+use Rattle.std.specs.List.{AllByRecursion, list_any}
 use native.Mathlib.Decide.{ℕ_discrete, dec_lt}
 use Rattle.rt_devices.specs.Work.{interrupt_asked}
-use Rattle.rt_lemmas.proofs.Membership.{all_append}
+use Rattle.rt_lemmas.proofs.Membership.{all_flat_map, all_weaker, contains_here, contains_there, contains_cases}
+use Rattle.rt_lemmas.proofs.Membership.{contains_none}
 use Rattle.rt_ids.specs.declared.limits.TheConstants.{IRQ_NUMBERS}
 use Rattle.rt_script.specs.Script.{HasDeviceInRange, pends, line_pends}
 use Rattle.rt_script.specs.declared.line.Line.{Line}
@@ -18,187 +19,206 @@ use Rattle.rt_words.specs.declared.call.Pended.TheVariants.{Raised, Merged}
 use Rattle.rt_words.specs.declared.call.Call.{Call}
 use Rattle.rt_words.specs.declared.call.Call.TheVariants.{Pend}
 use Rattle.rt_words.specs.Object.{IsAnswered, after, pending_bit}
-use Rattle.rt_words.specs.History.{LeavesWords, part, entries}
+use Rattle.rt_words.specs.History.{LeavesWords, part}
 use Rattle.rt_words.specs.declared.call.Entry.{Entry}
 use Rattle.rt_words.proofs.Bits.{zeros as zeros_at}
 use Rattle.rt_live.specs.Ready.{IsNumbered}
-use Rattle.rt_live.proofs.Finishing.{row_is}
-use Rattle.rt_live.proofs.Onward.{leads_on, led_as_many, part_on, part_own, part_other, zeros, in_row}
-use Rattle.rt_live.proofs.Extending.{IsCutHistory}
+use Rattle.rt_live.proofs.Onward.{zeros, IsCutHistory}
+use mathlib.Core.Logic.{dite}
+use Rattle.rt_ids.specs.Lists.{numbers_below}
+use Rattle.rt_live.specs.Devices.{devices, is_of_device}
 
--- what a pend is answered
-answer : List ℕ → ℕ → Pended
-answer words irq = if pending_bit words irq == 1 then Merged else Raised
+pub all_replicate : {X : Type 0} (P : X → Type 0) (n : ℕ) (x : X) → P x → AllByRecursion P (replicate n x)
+all_replicate P zero x is = tt
+all_replicate P (suc n) x is = (is, all_replicate P n x is)
 
-answered : (words : List ℕ) (irq : ℕ) → IsAnswered words (Pend irq (answer words irq))
-unfolding answer
-answered words irq =
-    dite (ℕ_discrete (pending_bit words irq) 1)
-    (λ e.
-    let is : Merged ≡ answer words irq =
-    sym (ap (λ (b : Bool). if b then Merged else Raised) (eq-eqb (pending_bit words irq) 1 e)) in
-    subst (λ (a : Pended). IsAnswered words (Pend irq a)) is e)
-    (λ ne.
-    let is : Raised ≡ answer words irq =
-    sym (ap (λ (b : Bool). if b then Merged else Raised) (ne_eqb (pending_bit words irq) 1 ne)) in
-    let low : pending_bit words irq ≡ 0 = omega (arith, ne, bit_at-lt (get_or words (irq / 32) 0) (irq % 32)) in
-    subst (λ (a : Pended). IsAnswered words (Pend irq a)) is low)
+-- calls that ask for nothing are none
+pub none_called : (calls : List Call) → map interrupt_asked calls ≡ [] → calls ≡ []
+none_called [] none = refl
+none_called (c ∷ calls) none = absurd cc
 
--- the pends of these interrupts, with their answers, and the words behind them
-pend_calls : List ℕ → List ℕ → List Call
-pend_calls words [] = []
-pend_calls words (irq ∷ irqs) =
-    Pend irq (answer words irq) ∷ pend_calls (after words (Pend irq (answer words irq))) irqs
+-- a number of which there is no device has no pend
+pub none_asked : (script : List Line) (number : ℕ) → 16 ≤ number → AllByRecursion HasDeviceInRange script
+    → pends script number ≡ []
+none_asked [] number out all = refl
+none_asked (Steps n ∷ ls) number out all = none_asked ls number out all.1
+none_asked (Ticks n ∷ ls) number out all = none_asked ls number out all.1
+none_asked (Pends irq n ∷ ls) number out all = none_asked ls number out all.1
+none_asked (Device d irq n ∷ ls) number out all =
+    ap (λ b. cond b (replicate n irq) [] ++ pends ls number) (ne_eqb d number (omega (arith, out, all.0)))
+    ∙ none_asked ls number out all.1
 
-words_behind : List ℕ → List ℕ → List ℕ
-words_behind words [] = words
-words_behind words (irq ∷ irqs) = words_behind (after words (Pend irq (answer words irq))) irqs
+-- what a line has devices pend, each pend with the device's number
+abbrev asks : Line → List (ℕ × ℕ)
+asks (Device d irq n) = replicate n (d, irq)
+asks (Steps n) = []
+asks (Ticks n) = []
+asks (Pends irq n) = []
 
-pends_lead : (number : ℕ) (words irqs : List ℕ)
-    → LeavesWords words (entries number (pend_calls words irqs)) (words_behind words irqs)
-unfolding pend_calls words_behind
-pends_lead number words [] = refl
-pends_lead number words (irq ∷ irqs) =
-    (answered words irq, pends_lead number (after words (Pend irq (answer words irq))) irqs)
+-- the interrupts of those with this number
+abbrev of_number : ℕ → List (ℕ × ℕ) → List ℕ
+of_number number asked = map (λ (a : ℕ × ℕ). a.1) (filter (λ (a : ℕ × ℕ). a.0 == number) asked)
 
-pends_ask : (words irqs : List ℕ) → map interrupt_asked (pend_calls words irqs) ≡ map (λ irq. Some irq) irqs
-unfolding pend_calls
-pends_ask words [] = refl
-pends_ask words (irq ∷ irqs) =
-    ap (λ t. Some irq ∷ t) (pends_ask (after words (Pend irq (answer words irq))) irqs)
+asked_again : (n d irq number : ℕ) (b : Bool) → (d == number) ≡ b
+    → of_number number (replicate n (d, irq)) ≡ cond b (replicate n irq) []
+asked_again zero d irq number true is = refl
+asked_again zero d irq number false is = refl
+asked_again (suc n) d irq number true is =
+    ap (λ b. map (λ (a : ℕ × ℕ). a.1) (cond b ((d, irq) ∷ filter (λ (a : ℕ × ℕ). a.0 == number) (replicate n (d, irq)))
+    (filter (λ (a : ℕ × ℕ). a.0 == number) (replicate n (d, irq))))) is
+    ∙ ap (λ (is : List ℕ). irq ∷ is) (asked_again n d irq number true is)
+asked_again (suc n) d irq number false is =
+    ap (λ b. map (λ (a : ℕ × ℕ). a.1) (cond b ((d, irq) ∷ filter (λ (a : ℕ × ℕ). a.0 == number) (replicate n (d, irq)))
+    (filter (λ (a : ℕ × ℕ). a.0 == number) (replicate n (d, irq))))) is
+    ∙ asked_again n d irq number false is
 
-module _ (script : List Line) where
-  -- the devices of numbers below this one, the highest first
-  history_below : ℕ → List ℕ → List Entry
-  history_below zero words = []
-  history_below (suc n) words =
-      entries n (pend_calls words (pends script n)) ++ history_below n (words_behind words (pends script n))
+line_asked : (number : ℕ) (line : Line) → of_number number (asks line) ≡ line_pends number line
+line_asked number (Device d irq n) = asked_again n d irq number (d == number) refl
+line_asked number (Steps n) = refl
+line_asked number (Ticks n) = refl
+line_asked number (Pends irq n) = refl
 
-  words_below : ℕ → List ℕ → List ℕ
-  words_below zero words = words
-  words_below (suc n) words = words_below n (words_behind words (pends script n))
+all_asked : (number : ℕ) (script : List Line) → of_number number (flat_map asks script) ≡ pends script number
+all_asked number [] = refl
+all_asked number (line ∷ script) =
+    ap (map (λ (a : ℕ × ℕ). a.1))
+    (filter-append (λ (a : ℕ × ℕ). a.0 == number) (asks line) (flat_map asks script))
+    ∙ map-append (λ (a : ℕ × ℕ). a.1) (filter (λ (a : ℕ × ℕ). a.0 == number) (asks line))
+    (filter (λ (a : ℕ × ℕ). a.0 == number) (flat_map asks script))
+    ∙ ap (λ (is : List ℕ). is ++ of_number number (flat_map asks script)) (line_asked number line)
+    ∙ ap (λ (is : List ℕ). line_pends number line ++ is) (all_asked number script)
 
-  below_leads : (n : ℕ) (words : List ℕ) → LeavesWords words (history_below n words) (words_below n words)
-  unfolding history_below words_below
-  below_leads zero words = refl
-  below_leads (suc n) words =
-      let mid : List ℕ = words_behind words (pends script n) in
-      leads_on words mid (words_below n mid) (entries n (pend_calls words (pends script n))) (history_below n mid)
-      (pends_lead n words (pends script n)) (below_leads n mid)
+-- A history of these pends, with their answers, from these words on. It sets no word behind the core's.
+pub record Answers (words : List ℕ) (asked : List (ℕ × ℕ)) : Type 0 where
+  pub history : List Entry
+  pub left : List ℕ
+  pub leads : LeavesWords words history left
+  pub devices : (number : ℕ)
+      → map interrupt_asked (part history number) ≡ map (λ irq. Some irq) (of_number number asked)
+  pub behind : (k : ℕ) → 16 ≤ k → get_or words k 0 ≡ 0 → get_or left k 0 ≡ 0
 
-  others_none : (n : ℕ) (words : List ℕ) (number : ℕ) → n ≤ number → part (history_below n words) number ≡ []
-  unfolding history_below
-  others_none zero words number out = refl
-  others_none (suc n) words number out =
-      let mid : List ℕ = words_behind words (pends script n) in
-      let calls : List Call = pend_calls words (pends script n) in
-      let ne : n ≢ number = omega (arith, out) in
-      part_on (entries n calls) (history_below n mid) number
-      ∙ ap (λ (t : List Call). t ++ part (history_below n mid) number) (part_other n number calls ne)
-      ∙ others_none n mid number (omega (arith, out))
+one_part : (a : ℕ × ℕ) (answer : Pended) (history : List Entry) (asked : List (ℕ × ℕ)) (number : ℕ)
+    → map interrupt_asked (part history number) ≡ map (λ irq. Some irq) (of_number number asked) → (b : Bool)
+    → map interrupt_asked (map (λ (e : Entry). e.call)
+    (cond b (record { line = a.0; call = Pend a.1 answer } ∷ filter (λ (e : Entry). e.line == number) history)
+    (filter (λ (e : Entry). e.line == number) history)))
+    ≡ map (λ irq. Some irq) (map (λ (p : ℕ × ℕ). p.1) (cond b (a ∷ filter (λ (p : ℕ × ℕ). p.0 == number) asked)
+    (filter (λ (p : ℕ × ℕ). p.0 == number) asked)))
+one_part a answer history asked number rest true = ap (λ t. Some a.1 ∷ t) rest
+one_part a answer history asked number rest false = rest
 
-  each_pends : (n : ℕ) (words : List ℕ) (number : ℕ) → number < n
-      → map interrupt_asked (part (history_below n words) number) ≡ map (λ irq. Some irq) (pends script number)
-  unfolding history_below
-  each_pends zero words number within = absurd (omega (arith, within))
-  each_pends (suc n) words number within =
-      let mid : List ℕ = words_behind words (pends script n) in
-      let irqs : List ℕ = pends script n in
-      let calls : List Call = pend_calls words irqs in
-      let rest : List Entry = history_below n mid in
-      dite (ℕ_discrete n number)
-      (λ same.
-      let own : part (entries n calls ++ rest) n ≡ calls =
-      part_on (entries n calls) rest n
-      ∙ ap (λ (t : List Call). t ++ part rest n) (part_own n calls)
-      ∙ ap (λ (t : List Call). calls ++ t) (others_none n mid n (omega arith))
-      ∙ append-nil calls in
-      subst (λ k. map interrupt_asked (part (entries n calls ++ rest) k) ≡ map (λ irq. Some irq) (pends script k)) same
-      (ap (map interrupt_asked) own ∙ pends_ask words irqs))
-      (λ ne.
-      ap (map interrupt_asked)
-      (part_on (entries n calls) rest number
-      ∙ ap (λ (t : List Call). t ++ part rest number) (part_other n number calls ne))
-      ∙ each_pends n mid number (omega (arith, within, ne)))
-
-  -- a number of which there is no device has no pend
-  pub none_asked : (number : ℕ) → 16 ≤ number → AllByRecursion HasDeviceInRange script → pends script number ≡ []
-  none_asked number out all = none_of script all
-    where
-      none_of : (ls : List Line) → AllByRecursion HasDeviceInRange ls → pends ls number ≡ []
-      none_of [] all = refl
-      none_of (Steps n ∷ ls) all = none_of ls all.1
-      none_of (Ticks n ∷ ls) all = none_of ls all.1
-      none_of (Pends irq n ∷ ls) all = none_of ls all.1
-      none_of (Device d irq n ∷ ls) all =
-          let ne : d ≢ number = omega (arith, out, all.0) in
-          ap (λ b. cond b (replicate n irq) [] ++ pends ls number) (ne_eqb d number ne) ∙ none_of ls all.1
-
-  -- the pends of interrupts that there are set no word behind the core's
-  one_numbered : (number n irq : ℕ) (d : ℕ) → IsNumbered (Device d irq n)
-      → AllByRecursion (λ i. i < IRQ_NUMBERS) (line_pends number (Device d irq n))
-  one_numbered number n irq d low = by (d == number)
-    where
-      all : (m : ℕ) → AllByRecursion (λ i. i < IRQ_NUMBERS) (replicate m irq)
-      all zero = tt
-      all (suc m) = (low, all m)
-
-      by : (b : Bool) → AllByRecursion (λ i. i < IRQ_NUMBERS) (cond b (replicate n irq) [])
-      by true = all n
-      by false = tt
-
-  pends_numbered : (ls : List Line) → AllByRecursion IsNumbered ls → (number : ℕ)
-      → AllByRecursion (λ i. i < IRQ_NUMBERS) (pends ls number)
-  pends_numbered [] low number = tt
-  pends_numbered (Steps n ∷ ls) low number = pends_numbered ls low.1 number
-  pends_numbered (Ticks n ∷ ls) low number = pends_numbered ls low.1 number
-  pends_numbered (Pends irq n ∷ ls) low number = pends_numbered ls low.1 number
-  pends_numbered (Device d irq n ∷ ls) low number =
-      all_append (λ i. i < IRQ_NUMBERS) (line_pends number (Device d irq n)) (pends ls number)
-      (one_numbered number n irq d low.0) (pends_numbered ls low.1 number)
-
-  behind_pends : (words irqs : List ℕ) → AllByRecursion (λ i. i < IRQ_NUMBERS) irqs → (k : ℕ) → 16 ≤ k
-      → get_or (words_behind words irqs) k 0 ≡ get_or words k 0
-  unfolding words_behind
-  behind_pends words [] low k far = refl
-  behind_pends words (irq ∷ irqs) low k far =
-      behind_pends (after words (Pend irq (answer words irq))) irqs low.1 k far
-      ∙ get_or-set_other words (irq / 32) k _ 0 (omega (arith, low.0, far))
-
-  behind_below : (n : ℕ) (words : List ℕ) → AllByRecursion IsNumbered script → (k : ℕ) → 16 ≤ k
-      → get_or (words_below n words) k 0 ≡ get_or words k 0
-  unfolding words_below
-  behind_below zero words low k far = refl
-  behind_below (suc n) words low k far =
-      behind_below n (words_behind words (pends script n)) low k far
-      ∙ behind_pends words (pends script n) (pends_numbered script low n) k far
-
-  -- all have pended, and there was no look
-  pub devices_first : AllByRecursion HasDeviceInRange script → AllByRecursion IsNumbered script
-      → (words : List ℕ) × (history : List Entry) × IsCutHistory script [] [] words history
-  devices_first ranges low =
-      let left : List ℕ = words_below 16 (zeros 32) in
-      let leads : LeavesWords (zeros 32) (history_below 16 (zeros 32)) left = below_leads 16 (zeros 32) in
-      let row : left ≡ in_row (take 16 left) =
-      row_is left (led_as_many (zeros 32) left (history_below 16 (zeros 32)) leads)
-      (λ k far. behind_below 16 (zeros 32) low k far ∙ zeros_at 32 k) in (
-        take 16 left,
-        history_below 16 (zeros 32),
+answer_all : (asked : List (ℕ × ℕ)) (words : List ℕ) → AllByRecursion (λ (a : ℕ × ℕ). a.1 < IRQ_NUMBERS) asked
+    → Answers words asked
+answer_all [] words low =
+    record { history = []; left = words; leads = refl; devices = λ number. refl; behind = λ k far none. none }
+answer_all (a ∷ asked) words low =
+    by (λ (ws : List ℕ). answer_all asked ws low.1) (ℕ_discrete (pending_bit words a.1) 1)
+  where
+    with_answer : ((ws : List ℕ) → Answers ws asked) → (answer : Pended) → IsAnswered words (Pend a.1 answer)
+        → Answers words (a ∷ asked)
+    with_answer more answer is =
+        let rest : Answers (after words (Pend a.1 answer)) asked = more (after words (Pend a.1 answer)) in
         record {
-          legal = subst (LeavesWords (zeros 32) (history_below 16 (zeros 32))) row leads;
-          core = others_none 16 (zeros 32) 255 (omega arith);
-          since = 0;
-          within = omega arith;
-          early = omega arith;
-          ended = record {
-            earlier = history_below 16 (zeros 32);
-            is = sym (append-nil (history_below 16 (zeros 32)));
-          };
-          devices = λ number ne. dite (dec_lt number 16)
-              (λ within. each_pends 16 (zeros 32) number within)
-              (λ out.
-              let far : 16 ≤ number = omega (arith, out) in
-              ap (map interrupt_asked) (others_none 16 (zeros 32) number far)
-              ∙ ap (map (λ (irq : ℕ). Some irq)) (sym (none_asked number far ranges)));
-        },
-      )
+          history = record { line = a.0; call = Pend a.1 answer } ∷ rest.history;
+          left = rest.left;
+          leads = (is, rest.leads);
+          devices = λ number.
+              one_part a answer rest.history asked number (rest.devices number) (a.0 == number);
+          behind = λ k far none.
+              rest.behind k far
+              (get_or-set_other words (a.1 / 32) k _ 0 (omega (arith, low.0, far)) ∙ none);
+        }
+
+    by : ((ws : List ℕ) → Answers ws asked) → Dec (pending_bit words a.1 ≡ 1) → Answers words (a ∷ asked)
+    by more (yes set) = with_answer more Merged set
+    by more (no clear) =
+        with_answer more Raised (omega (arith, clear, bit_at-lt (get_or words (a.1 / 32) 0) (a.1 % 32)))
+
+line_numbered : (line : Line) → IsNumbered line → AllByRecursion (λ (a : ℕ × ℕ). a.1 < IRQ_NUMBERS) (asks line)
+line_numbered (Device d irq n) low = all_replicate (λ (a : ℕ × ℕ). a.1 < IRQ_NUMBERS) n (d, irq) low
+line_numbered (Steps n) low = tt
+line_numbered (Ticks n) low = tt
+line_numbered (Pends irq n) low = tt
+
+-- all have pended, and there was no look
+pub devices_first : (script : List Line) → AllByRecursion HasDeviceInRange script → AllByRecursion IsNumbered script
+    → (left : List ℕ) × (history : List Entry) × IsCutHistory script [] [] left history
+devices_first script ranges low =
+    let all : Answers (zeros 32) (flat_map asks script) =
+    answer_all (flat_map asks script) (zeros 32)
+    (all_flat_map (λ (a : ℕ × ℕ). a.1 < IRQ_NUMBERS) asks script
+    (all_weaker IsNumbered (λ line. AllByRecursion (λ (a : ℕ × ℕ). a.1 < IRQ_NUMBERS) (asks line)) line_numbered script
+    low)) in (
+      all.left,
+      all.history,
+      record {
+        legal = all.leads;
+        core =
+            none_called (part all.history 255)
+            (all.devices 255
+            ∙ ap (map (λ (irq : ℕ). Some irq)) (all_asked 255 script ∙ none_asked script 255 (omega arith) ranges));
+        devices = λ number ne. all.devices number ∙ ap (map (λ (irq : ℕ). Some irq)) (all_asked number script);
+        since = 0;
+        within = omega arith;
+        early = omega arith;
+        ended = record { earlier = all.history; is = sym (append-nil all.history) };
+        behind = λ k far. all.behind k far (zeros_at 32 k);
+      },
+    )
+
+number_below : (n number : ℕ) → number < n → Contains (numbers_below n) number
+unfolding numbers_below
+number_below zero number within = absurd (omega (arith, within))
+number_below (suc n) number within =
+    dite (ℕ_discrete n number)
+    (λ e. Contains-append_right (numbers_below n) (n ∷ []) number
+    (subst (λ k. Contains (k ∷ []) number) (sym e) (contains_here number [])))
+    (λ ne. Contains-append_left (numbers_below n) (n ∷ []) number (number_below n number (omega (arith, within, ne))))
+
+passes_stays : (test : ℕ → Bool) (xs : List ℕ) (x : ℕ) → Contains xs x → test x ≡ true → Contains (filter test xs) x
+passes_stays test [] x is passes = absurd (contains_none x is)
+passes_stays test (y ∷ xs) x is passes =
+    let rest : List ℕ = filter test xs in
+    ⊎_elim (λ e.
+    let same : test y ≡ true = ap test e ∙ passes in
+    subst (λ (b : Bool). Contains (cond b (y ∷ rest) rest) x) (sym same)
+    (subst (λ z. Contains (z ∷ rest) x) (sym e) (contains_here x rest)))
+    (λ more.
+    let in_rest = passes_stays test xs x more passes in
+    kept (test y) in_rest)
+    (contains_cases y xs x is)
+  where
+    kept : (b : Bool) → Contains (filter test xs) x → Contains (cond b (y ∷ filter test xs) (filter test xs)) x
+    kept true more = contains_there y (filter test xs) x more
+    kept false more = more
+
+-- no line is one of the device
+none_pends : (number : ℕ) (script : List Line) → list_any (is_of_device number) script ≡ false → pends script number
+    ≡ []
+none_pends number [] none = refl
+none_pends number (Steps n ∷ script) none = none_pends number script none
+none_pends number (Ticks n ∷ script) none = none_pends number script none
+none_pends number (Pends irq n ∷ script) none = none_pends number script none
+none_pends number (Device d irq n ∷ script) none = by (λ rest. none_pends number script rest) (d == number) refl
+  where
+    by : (list_any (is_of_device number) script ≡ false → pends script number ≡ []) → (b : Bool) → d == number ≡ b
+        → pends (Device d irq n ∷ script) number ≡ []
+    by others true is = let no_ : true ≡ false = sym (ap (λ c. c || list_any (is_of_device number) script) is) ∙ none in
+        absurd cc
+    by others false is =
+        ap (λ c. cond c (replicate n irq) [] ++ pends script number) is
+        ∙ others (sym (ap (λ c. c || list_any (is_of_device number) script) is) ∙ none)
+
+-- the script has no device of a number that is none of its devices'
+pub not_asked : (number : ℕ) (script : List Line) → AllByRecursion HasDeviceInRange script
+    → ¬ Contains (devices script) number → pends script number ≡ []
+not_asked number script ranges out =
+    dite (dec_lt number 16)
+    (λ within. by (list_any (is_of_device number) script) refl within)
+    (λ far. none_asked script number (omega (arith, far)) ranges)
+  where
+    by : (b : Bool) → list_any (is_of_device number) script ≡ b → number < 16 → pends script number ≡ []
+    by true is within =
+        absurd (out (passes_stays (λ k. list_any (is_of_device k) script) (numbers_below 16) number
+        (number_below 16 number within) is))
+    by false is within = none_pends number script is

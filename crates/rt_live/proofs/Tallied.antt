@@ -1,7 +1,7 @@
 -- Rows that count what lines did, as these are gathered.
 use Rattle.std.proofs.Common.{◌≡◌, ◌≢◌, ℕ, ◌+◌, ◌/◌, ◌<◌, ◌≤◌, ◌^◌, ◌==◌, if◌then◌else◌, List, [], ◌∷◌, ◌++◌, map}
 use Rattle.std.proofs.Common.{length, sum_by, slice_index, refl, ap, sym, subst, ◌∙◌, append_assoc, arith}
-use Rattle.std.proofs.Common.{zero, suc, take, drop, get_or, eq-eqb, ne_eqb}
+use Rattle.std.proofs.Common.{zero, suc, take, drop, get_or, eq-eqb, ne_eqb, Bool, count_by}
 use Rattle.std.specs.List.{AllByRecursion}
 use Rattle.std.proofs.lemmas.List.{append-nil}
 use Rattle.std.proofs.lemmas.List.Sums.{sum_by-cons, sum_by-append, count_by-le-length}
@@ -11,7 +11,7 @@ use Rattle.rt_lemmas.proofs.Lists.{all_map, all_behind}
 use Rattle.rt_lemmas.proofs.Membership.{all_at, all_weaker}
 use Rattle.std.proofs.lemmas.Option.{slice_get-get_or}
 use Rattle.rt_devices.specs.declared.device.Device.{Device}
-use Rattle.rt_words.specs.Account.{IsTally, raised_count, merged_count, latched_count}
+use Rattle.rt_words.specs.Account.{IsTally, raised_count, merged_count, latched_count, raises, merges, latches}
 use Rattle.rt_words.specs.Ending.{OneHistory, calls_in}
 use Rattle.rt_words.specs.Lines.{Line}
 use Rattle.rt_words.specs.Row.{bit_in_row}
@@ -22,7 +22,7 @@ use Rattle.rt_words.specs.declared.view.Part.{Part}
 use Rattle.rt_live.specs.Account.{HasRoom, with_counts, settled_row, row_of, account_of}
 use Rattle.rt_live.specs.Ready.{IsCounted, irqs_of}
 use Rattle.rt_live.specs.declared.account.AccountRow.{AccountRow}
-use Rattle.rt_live.specs.Gathering.{line_after_gathering, part_of}
+use Rattle.rt_live.specs.Gathering.{line_after_gathering, part_of, since_gathering}
 use Rattle.rt_live.specs.Inside.Working.{calls_gathered, calls_made}
 
 -- how often gathered lines did it is no more than their calls
@@ -42,29 +42,13 @@ times_below times below (p ∷ parts) =
 pub counts_fit : (core : ℕ) (parts : List Part) (rows : List AccountRow) → calls_gathered parts + 2 ^ 32 ≤ 2 ^ 64
     → AllByRecursion (IsCounted core parts) rows → AllByRecursion HasRoom rows
 counts_fit core parts rows room counted =
+    let fit : (test : Call → Bool) → sum_by (λ (p : Part). count_by test p.calls) parts + 2 ^ 32 ≤ 2 ^ 64 =
+    λ test. omega (arith, times_below (λ calls. count_by test calls) (count_by-le-length test) parts, room) in
     all_weaker (IsCounted core parts) HasRoom
     (λ row is. record {
-      raised =
-          omega (
-            arith,
-            is.raised,
-            times_below (raised_count (bit_in_row core row.irq)) (count_by-le-length _) parts,
-            room,
-          );
-      merged =
-          omega (
-            arith,
-            is.merged,
-            times_below (merged_count (bit_in_row core row.irq)) (count_by-le-length _) parts,
-            room,
-          );
-      latched =
-          omega (
-            arith,
-            is.latched,
-            times_below (latched_count (bit_in_row core row.irq)) (count_by-le-length _) parts,
-            room,
-          );
+      raised = omega (arith, is.raised, fit (raises (bit_in_row core row.irq)));
+      merged = omega (arith, is.merged, fit (merges (bit_in_row core row.irq)));
+      latched = omega (arith, is.latched, fit (latches (bit_in_row core row.irq)));
     })
     rows counted
 
@@ -191,37 +175,7 @@ pub record GathersLast (all left : List Device) (old new : Line) : Type 0 where
 pub gathers_none : (all : List Device) (line : Line) → GathersLast all all line line
 gathers_none all line = record { done = []; parts = sym (append-nil all); line = refl }
 
--- gathering leaves the words and the calls of the line
-pub same_words : (devices : List Device) (line : Line) → (line_after_gathering devices line).words ≡ line.words
-same_words [] line = refl
-same_words (d ∷ devices) line = same_words devices line
-
-pub same_number : (devices : List Device) (line : Line) → (line_after_gathering devices line).number ≡ line.number
-same_number [] line = refl
-same_number (d ∷ devices) line = same_number devices line
-
-pub same_here : (devices : List Device) (line : Line) → (line_after_gathering devices line).here ≡ line.here
-same_here [] line = refl
-same_here (d ∷ devices) line = same_here devices line
-
-pub same_there : (devices : List Device) (line : Line) → (line_after_gathering devices line).there ≡ line.there
-same_there [] line = refl
-same_there (d ∷ devices) line = same_there devices line
-
-pub same_calls : (devices : List Device) (line : Line) → (line_after_gathering devices line).calls ≡ line.calls
-same_calls [] line = refl
-same_calls (d ∷ devices) line = same_calls devices line
-
-pub same_made : (devices : List Device) (line : Line) → (line_after_gathering devices line).made ≡ line.made
-same_made [] line = refl
-same_made (d ∷ devices) line = same_made devices line
-
--- the parts of what was gathered stand in front
-pub gathered_parts : (devices : List Device) (line : Line)
-    → (line_after_gathering devices line).gathered ≡ map part_of devices ++ line.gathered
-gathered_parts [] line = refl
-gathered_parts (d ∷ devices) line = ap (λ ps. part_of d ∷ ps) (gathered_parts devices line)
-
+-- the calls of what was gathered
 pub made_parts : (devices : List Device) (parts : List Part)
     → calls_gathered (map part_of devices ++ parts) ≡ calls_made devices + calls_gathered parts
 made_parts [] parts = let e : calls_gathered parts ≡ 0 + calls_gathered parts = omega arith in e
@@ -249,11 +203,7 @@ module _ (all rest : List Device) (old new : Line) (left : List Device) (device 
     parts = whole;
     line =
         is
-        ∙ ap (λ (l : Line). record l { gathered = part_of device ∷ l.gathered; since = length l.calls }) gathers.line
-        ∙ ap (λ cs. record (line_after_gathering gathers.done old) {
-          gathered = part_of device ∷ (line_after_gathering gathers.done old).gathered;
-          since = length cs;
-        }) (same_calls gathers.done old);
+        ∙ ap (λ (l : Line). record l { gathered = part_of device ∷ l.gathered; since = length l.calls }) gathers.line;
   }
 
   -- what is asked of all devices is asked of it
@@ -271,19 +221,11 @@ module _ (all rest : List Device) (old new : Line) (left : List Device) (device 
         sum_by-append (λ (e : Device). length e.line.calls) rest (device ∷ gathers.done),
         sum_by-cons (λ (e : Device). length e.line.calls) device gathers.done,
         ap (λ (l : Line). calls_gathered l.gathered) gathers.line,
-        ap calls_gathered (gathered_parts gathers.done old),
         made_parts gathers.done old.gathered,
       )
 
--- none is left
-pub gathers_all : (all left : List Device) (old new : Line) → GathersLast all left old new → left ≡ []
-    → new ≡ line_after_gathering all old
-gathers_all all left old new gathers none =
-    gathers.line
-    ∙ ap (λ (ds : List Device). line_after_gathering ds old) (sym (gathers.parts ∙ ap (λ ds. ds ++ gathers.done) none))
-
 -- the line's last gathering is no later than its last call
 pub since_within : (devices : List Device) (line : Line) → line.since ≤ length line.calls
-    → (line_after_gathering devices line).since ≤ length (line_after_gathering devices line).calls
+    → since_gathering devices line ≤ length line.calls
 since_within [] line within = within
-since_within (d ∷ devices) line within = omega (arith, ap length (same_calls devices line))
+since_within (d ∷ devices) line within = omega arith

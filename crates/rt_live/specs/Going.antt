@@ -21,11 +21,11 @@ IsWholeLook words = length words ≡ CORE_WORDS
 abbrev pub FindsDeclared : Names → List ℕ → Type 0
 FindsDeclared names words = AllByRecursion (IsDeclared names) (arrivals_from 0 words)
 
--- All of these turns were done. Their looks found declared interrupts alone. The line made these calls and no other,
--- which ask for what the turns ask for where posts lead so, and the core did the events of the interleaving; their
--- lines were written.
-pub record Goes (route : ℕ → Option ℕ) (ts : List Turn) (line line' : Line) (old new : Machine) (before after : List ℕ)
-    : Type 0 where
+-- All of these turns were done, and this was written of what the looks found. The looks found declared interrupts
+-- alone. The line made these calls and no other, which ask for what the turns ask for where posts lead so, and the core
+-- did the events of the interleaving.
+pub record Ends (route : ℕ → Option ℕ) (ts : List Turn) (line line' : Line) (old new : Machine)
+    (written : List (List ℕ) → Type 0) : Type 0 where
   pub found : List (List ℕ)
   pub many : length found ≡ looks ts
   pub whole : AllByRecursion IsWholeLook found
@@ -33,7 +33,13 @@ pub record Goes (route : ℕ → Option ℕ) (ts : List Turn) (line line' : Line
   pub calls : List Call
   pub asked : map request_of calls ≡ turn_requests route line.here line.there old.image old.core ts found
   pub same : line' ≡ record line { calls = line.calls ++ calls }
-  pub sends : Sends (interleaving ts found) old new before after
+  pub leads : Leads (interleaving ts found) old new
+  pub wrote : written found
+
+-- All of these turns were done, and their lines were written.
+abbrev pub Goes : (ℕ → Option ℕ) → List Turn → Line → Line → Machine → Machine → List ℕ → List ℕ → Type 0
+Goes route ts line line' old new before after =
+    Ends route ts line line' old new (λ found. Sends (interleaving ts found) old new before after)
 
 -- A fault of the sink came in these turns. It may have come in a look, of which these first words were latched then.
 -- The looks found declared interrupts alone. The line made the calls of what was done, the latches of the last look
@@ -54,19 +60,6 @@ pub record Stops (route : ℕ → Option ℕ) (ts : List Turn) (line line' : Lin
       ≡ turn_requests route line.here line.there old.image old.core ts found ++ look_requests line.here last
   pub same : line' ≡ record line { calls = line.calls ++ calls }
   pub breaks : Breaks (interleaving ts found ++ look_arrivals last) old new before after
-
--- All of these turns were done, as far as the line and the core go, and this was written of what the looks found.
-pub record Ends (route : ℕ → Option ℕ) (ts : List Turn) (line line' : Line) (old new : Machine)
-    (written : List (List ℕ) → Type 0) : Type 0 where
-  pub found : List (List ℕ)
-  pub many : length found ≡ looks ts
-  pub whole : AllByRecursion IsWholeLook found
-  pub declared : AllByRecursion (FindsDeclared old.image.names) found
-  pub calls : List Call
-  pub asked : map request_of calls ≡ turn_requests route line.here line.there old.image old.core ts found
-  pub same : line' ≡ record line { calls = line.calls ++ calls }
-  pub leads : Leads (interleaving ts found) old new
-  pub wrote : written found
 
 -- the line made calls, and nothing else: it made and gathered no line
 abbrev pub IsSameLine : Line → Line → Type 0

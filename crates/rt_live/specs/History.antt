@@ -1,5 +1,5 @@
 -- The histories of the pending words that `live` allows, and how often the devices of a script pend an interrupt.
-use Rattle.std.specs.Prelude.{◌≡◌, ◌≢◌, ℕ, ◌==◌, List, flat_map, map, drop, replicate, sum_by, cond, Some}
+use Rattle.std.specs.Prelude.{◌≡◌, ◌≢◌, ℕ, ◌==◌, Bool, List, flat_map, map, drop, replicate, sum_by, cond, Some}
 use Rattle.std.specs.List.{AllByRecursion}
 use Rattle.rt_devices.specs.Work.{interrupt_asked}
 use Rattle.rt_script.specs.Script.{pends}
@@ -27,13 +27,13 @@ pub record IsHistory (script : List Line) (found : List (List ℕ)) (history : L
   pub ended : CallsLast history 255 (flat_map look_calls (last_looks script found))
   pub quiet : AllByRecursion IsEmptyLook (drop 1 (last_looks script found))
 
--- how often a line has a device pend the interrupt
-abbrev pub line_asks : ℕ → Line → ℕ
-line_asks irq (Device d asked n) = cond (asked == irq) n 0
-line_asks irq (Steps n) = 0
-line_asks irq (Ticks n) = 0
-line_asks irq (Pends asked n) = 0
+-- how often a line has a device pend an interrupt of which this is so
+abbrev pub line_asks : (ℕ → Bool) → Line → ℕ
+line_asks test (Device d irq n) = cond (test irq) n 0
+line_asks test (Steps n) = 0
+line_asks test (Ticks n) = 0
+line_asks test (Pends irq n) = 0
 
--- how often all devices of a script pend it
+-- how often all devices of a script pend this one
 abbrev pub device_pends : ℕ → List Line → ℕ
-device_pends irq script = sum_by (line_asks irq) script
+device_pends irq script = sum_by (line_asks (λ asked. asked == irq)) script

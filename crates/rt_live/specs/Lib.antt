@@ -7,7 +7,6 @@ pub mod Going
 pub mod Written
 pub mod Devices
 pub mod Gathering
-pub mod Latched
 pub mod History
 pub mod Account
 pub mod Output

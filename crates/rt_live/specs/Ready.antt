@@ -8,7 +8,8 @@ use Rattle.rt_script.specs.Script.{IsScript, pends}
 use Rattle.rt_script.specs.declared.line.Line.{Line}
 use Rattle.rt_script.specs.declared.line.Line.TheVariants.{Steps, Ticks, Pends, Device as DeviceLine}
 use Rattle.rt_words.specs.Account.{raised_count, merged_count, latched_count}
-use Rattle.rt_words.specs.Lines.{Row, Line as Caller, count, numbers}
+use Rattle.rt_words.specs.Lines.{Row, Line as Caller, count, numbers, new_line}
+use Rattle.rt_words.specs.declared.call.Call.{Call}
 use Rattle.rt_words.specs.Row.{bit_in_row}
 use Rattle.rt_words.specs.declared.row.TheConstants.{CORE_WORDS}
 use Rattle.rt_words.specs.Object.{IsPending}
@@ -24,6 +25,10 @@ pub record Prepared : Type 0 where
   pub line : Caller
   pub devices : List Device
   pub rows : List AccountRow
+
+-- the core's line of these words that has made these calls, and has made and gathered no line
+abbrev pub core_line : Row → List Call → Caller
+core_line words calls = record (new_line words 255 0 0) { calls = calls }
 
 -- the interrupts of these rows, in order
 abbrev pub irqs_of : List AccountRow → List ℕ

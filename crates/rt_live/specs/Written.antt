@@ -21,12 +21,6 @@ live_text img script found =
       total = Some (steps (interleaving (turns script) found));
     })
 
--- the lines of the whole trace were taken, and of the line of its total a beginning, not all
-abbrev pub TookToTotal : Machine → List Line → List (List ℕ) → List ℕ → List ℕ → Type 0
-TookToTotal m script found before after =
-    TookAtLeast before after (lines_of m (interleaving (turns script) found))
-    × TookPrefix before after (live_text m.image script found)
-
 -- the lines of turns whose looks found these words, and the line of this total
 abbrev pub lines_and_total : List Turn → Machine → ℕ → List (List ℕ) → List ℕ
 lines_and_total ts m total found = lines_of m (interleaving ts found) ++ total_text total

@@ -1,18 +1,17 @@
-ghost use Rattle.std.specs.Prelude.{◌≡◌, ◌≤◌, ◌*◌, ◌⊎◌, [], map, IfOk, OnOk, OnErr};
+ghost use Rattle.std.specs.Prelude.{◌≡◌, ◌≤◌, ◌*◌, [], map, IfOk, OnOk, OnErr};
 ghost use Rattle.std.specs.List.{AllByRecursion};
 ghost use Rattle.rt_code.specs.Lines.{HasLines};
 ghost use Rattle.rt_core.specs.Machine.{IsFresh};
-ghost use Rattle.rt_outside.specs.Bytes.{Took};
 ghost use Rattle.rt_outside.specs.Faults.{HasCause};
 ghost use Rattle.rt_ids.specs.Event.{steps};
 ghost use Rattle.rt_script.specs.Script.{IsScript, HasNames, core_events};
 ghost use Rattle.rt_live.specs.Closed.{Closes};
 ghost use Rattle.rt_live.specs.Devices.{devices};
 ghost use Rattle.rt_live.specs.Account.{declared_irqs};
-ghost use Rattle.rt_live.specs.Latched.{Halts, Completes};
-ghost use Rattle.rt_live.specs.Ready.{IsNumbered, IsReady, irqs_of};
+ghost use Rattle.rt_live.specs.Ready.{IsNumbered, IsReady, core_line, irqs_of};
 ghost use Rattle.rt_live.specs.Interleaving.{turns};
-ghost use Rattle.rt_live.specs.Written.{live_text, TookToTotal};
+ghost use Rattle.rt_live.specs.Requests.{no_route};
+ghost use Rattle.rt_live.specs.Written.{EndsWhole, EndsEarly};
 ghost use Rattle.rt_words.specs.declared.row.TheConstants.{CORE_WORDS};
 
 use crate::account::{Account, AccountRow};
@@ -120,23 +119,21 @@ impl<'a> Ready<'a> {
         requires rows { irqs_of self.old.rows ≡ declared_irqs core.old.image.names }
         requires unused { self.old.line.calls ≡ [] }
 
-        // The line's calls are the latches of the looks, block for block, the last of them behind the last line that
-        // was gathered. What was written is the trace of the interleaving with just what these looks found.
-        ensures ok { OnOk result (Completes (turns self.old.script) self.new.line core.old core.new
-            (λ found. Took (K.taken out.old) (K.taken out.new) (live_text core.old.image self.old.script found))) }
+        // The core's line made the calls of the turns, and no other: the latches of the looks. What was written is the
+        // trace of the interleaving with just what these looks found, and its total.
+        ensures ok { OnOk result (EndsWhole no_route (turns self.new.script) (core_line self.new.words [])
+            (core_line self.new.words self.new.line.calls) core.old core.new (K.taken out.old) (K.taken out.new)) }
 
         // A fault came in the turns, and the last look may be cut, or it came in the line of the total.
-        ensures err { OnErr result
-            (Halts (turns self.old.script) self.new.line core.old core.new (K.taken out.old) (K.taken out.new)
-            ⊎ Completes (turns self.old.script) self.new.line core.old core.new
-            (λ found. TookToTotal core.old self.old.script found (K.taken out.old) (K.taken out.new))) }
+        ensures err { OnErr result (EndsEarly no_route (turns self.new.script) (core_line self.new.words [])
+            (core_line self.new.words self.new.line.calls) core.old core.new (K.taken out.old) (K.taken out.new)) }
         ensures cause { HasCause (K.faults out.old) (K.faults out.new) result }
         ensures quiet { OnOk result (K.faults out.new ≡ K.faults out.old) }
 
         // Either way each device has made its pends, and its line is gathered. That came before the look alone: the
         // core's line had no more calls than the latches of the looks of the core's own lines.
         ensures gathered { self.new.devices ≡ [] }
-        ensures early { self.new.line.since ≤ CORE_WORDS * steps (core_events self.old.script) }
+        ensures early { self.new.line.since ≤ CORE_WORDS * steps (core_events self.new.script) }
         ensures script { self.new.script ≡ self.old.script }
         ensures rows { irqs_of self.new.rows ≡ irqs_of self.old.rows }
     {

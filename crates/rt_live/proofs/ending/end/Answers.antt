@@ -4,7 +4,7 @@ use Rattle.std.proofs.lemmas.List.{length-replicate}
 use Rattle.rt_lemmas.proofs.Results.{on_err_from}
 use Rattle.rt_ids.specs.Event.{Step}
 use Rattle.rt_run.proofs.Taking.{cause_on}
-use Rattle.rt_live.specs.Interleaving.{Happens, last_turns}
+use Rattle.rt_live.specs.Interleaving.{Happens}
 use Rattle.rt_live.proofs.Ended.{ended, ended_cut}
 use Rattle.rt_live.proofs.Turning.{steps_below}
 use Rattle.rt_live.proofs.ending.end.Goals as goal
@@ -17,9 +17,7 @@ put_end-requires g c =
     omega (
       arith,
       c.steps.ensures,
-      steps_below (g.T.Routes.leads c.args.role.now.routes) (last_turns c.args.steps) c.args.line.now _
-          c.args.core.now _ _ _
-          c.in_ok-last_turns.ensures.ok,
+      steps_below c.in_ok-last_turns.ensures.ok,
       length-replicate c.args.steps (Happens Step),
       c.requires.can.few,
     )
@@ -27,18 +25,15 @@ put_end-requires g c =
 pub returns-clause-ok : goal.returns-clause-ok
 returns-clause-ok g c =
     on_ok_weaker c.put_end.result
-    (ended (g.T.Routes.leads c.args.role.now.routes) (last_turns c.args.steps) c.args.line.now c.last_turns.new.line
-    c.args.core.now c.last_turns.new.core _ _ _ c.last_turns.new.between.held c.steps.result
-    c.in_ok-last_turns.ensures.none_held c.steps.ensures c.in_ok-last_turns.ensures.ok)
+    (ended _ c.last_turns.new.between.held c.steps.result c.in_ok-last_turns.ensures.none_held c.steps.ensures
+    c.in_ok-last_turns.ensures.ok)
     c.put_end.ensures.ok
 
 pub returns-clause-err : goal.returns-clause-err
 returns-clause-err g c =
     on_err_weaker c.put_end.result
-    (ended_cut (g.T.Routes.leads c.args.role.now.routes) (last_turns c.args.steps) c.args.line.now
-    c.last_turns.new.line
-    c.args.core.now c.last_turns.new.core _ _ _ c.last_turns.new.between.held c.steps.result
-    c.in_ok-last_turns.ensures.none_held c.steps.ensures c.in_ok-last_turns.ensures.ok)
+    (ended_cut _ c.last_turns.new.between.held c.steps.result c.in_ok-last_turns.ensures.none_held c.steps.ensures
+    c.in_ok-last_turns.ensures.ok)
     c.put_end.ensures.err
 
 pub returns-clause-cause : goal.returns-clause-cause

@@ -4,46 +4,34 @@ use Rattle.rt_lemmas.proofs.Results.{on_err_from}
 use Rattle.rt_run.proofs.Taking.{cause_on}
 use Rattle.rt_script.specs.Script.{count}
 use Rattle.rt_live.specs.Interleaving.{last_turns}
-use Rattle.rt_live.specs.Shares.{own_turns}
 use Rattle.rt_live.proofs.Ended.{whole_on, early_on}
-use Rattle.rt_live.proofs.Owning.{own_turns_length}
-use Rattle.rt_live.proofs.Turning.{can_fewer, can_on, stops_before}
+use Rattle.rt_live.proofs.Turning.{own_turns_length, can_fewer, can_on, stops_before}
 use Rattle.rt_live.proofs.ending.run_turns.Goals as goal
 
 pub own_lines-requires-clause-can : goal.own_lines-requires-clause-can
 own_lines-requires-clause-can g c =
-    can_fewer (g.T.Routes.leads c.args.role.now.routes) (count c.args.script.now) (count c.args.script.now + 1)
-    c.args.line.now c.args.core.now _ (omega arith) c.requires.can
+    can_fewer (count c.args.script.now) c.requires.can (omega arith)
 
 pub returns-in_err-own_lines-clause-err : goal.returns-in_err-own_lines-clause-err
 returns-in_err-own_lines-clause-err g c =
     on_err_from c.from_residual.result
-    (inl (stops_before (g.T.Routes.leads c.args.role.now.routes)
-    (own_turns c.args.role.now.share c.args.script.now) (last_turns 0) c.args.line.now c.own_lines.new.line
-    c.args.core.now c.own_lines.new.core _ _ c.in_err-own_lines.ensures.err))
+    (inl (stops_before (last_turns 0) c.in_err-own_lines.ensures.err))
 
 pub end-requires-clause-can : goal.end-requires-clause-can
 end-requires-clause-can g c =
-    let ts = own_turns c.args.role.now.share c.args.script.now in
-    can_on (g.T.Routes.leads c.args.role.now.routes) ts (0 + 1) (count c.args.script.now + 1) c.args.line.now
-    c.own_lines.new.line
-    c.args.core.now c.own_lines.new.core _ _ _ c.in_ok-own_lines.ensures.ok
-    (omega (arith, own_turns_length c.args.role.now.share c.args.script.now)) c.requires.can
+    can_on c.in_ok-own_lines.ensures.ok (0 + 1) c.requires.can
+    (omega (arith, own_turns_length c.args.role.now.share c.args.script.now))
 
 pub returns-clause-ok : goal.returns-clause-ok
 returns-clause-ok g c =
     on_ok_weaker c.end.result
-    (whole_on (g.T.Routes.leads c.args.role.now.routes) (own_turns c.args.role.now.share c.args.script.now)
-    (last_turns 0) c.args.line.now c.own_lines.new.line c.args.core.now c.own_lines.new.core _ _
-    c.in_ok-own_lines.ensures.ok c.end.new.line c.end.new.core _)
+    (whole_on c.in_ok-own_lines.ensures.ok (last_turns 0) c.end.new.line c.end.new.core _)
     c.end.ensures.ok
 
 pub returns-clause-err : goal.returns-clause-err
 returns-clause-err g c =
     on_err_weaker c.end.result
-    (early_on (g.T.Routes.leads c.args.role.now.routes) (own_turns c.args.role.now.share c.args.script.now)
-    (last_turns 0) c.args.line.now c.own_lines.new.line c.args.core.now c.own_lines.new.core _ _
-    c.in_ok-own_lines.ensures.ok c.end.new.line c.end.new.core _)
+    (early_on c.in_ok-own_lines.ensures.ok (last_turns 0) c.end.new.line c.end.new.core _)
     c.end.ensures.err
 
 pub returns-clause-cause : goal.returns-clause-cause

@@ -1,6 +1,6 @@
 use Rattle.std.proofs.Common.{refl, ap, ◌∙◌}
 use Rattle.rt_words.specs.Lines.{Line}
-use Rattle.rt_live.proofs.Tallied.{gathers_none, gathers_more, next_has, next_room, same_words, same_number}
+use Rattle.rt_live.proofs.Tallied.{gathers_none, gathers_more, next_has, next_room}
 use Rattle.rt_live.specs.Ready.{IsBeside}
 use Rattle.rt_live.proofs.gathering.gather_all.Goals as goal
 
@@ -10,13 +10,11 @@ loop-device-init c =
 
 pub gather_line-requires-clause-first : goal.gather_line-requires-clause-first
 gather_line-requires-clause-first c =
-    let run = c.loop-device.invariant.run in
-    ap (λ (l : Line). l.number) run.line ∙ same_number run.done c.args.line.now ∙ c.requires.first
+    ap (λ (l : Line). l.number) c.loop-device.invariant.run.line ∙ c.requires.first
 
 pub gather_line-requires-clause-core : goal.gather_line-requires-clause-core
 gather_line-requires-clause-core c =
-    let run = c.loop-device.invariant.run in
-    ap (λ (l : Line). l.words) run.line ∙ same_words run.done c.args.line.now ∙ c.requires.core
+    ap (λ (l : Line). l.words) c.loop-device.invariant.run.line ∙ c.requires.core
 
 pub gather_line-requires-clause-device : goal.gather_line-requires-clause-device
 gather_line-requires-clause-device c =

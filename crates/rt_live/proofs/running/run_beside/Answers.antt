@@ -7,9 +7,9 @@ use Rattle.rt_outside.specs.Bytes.{Took}
 use Rattle.rt_script.specs.Script.{HasDeviceInRange}
 use Rattle.rt_script.specs.declared.line.Line.{Line}
 use Rattle.rt_live.specs.Account.{account_text}
-use Rattle.rt_live.specs.Doing.{HasWritten}
+use Rattle.rt_live.specs.Doing.{HasWritten, HasWrittenPart}
 use Rattle.rt_live.specs.Output.{IsLiveText}
-use Rattle.rt_live.proofs.Together.{run_part, wrote_whole, wrote_part}
+use Rattle.rt_live.proofs.Outputs.{failed_part, has_written, account_part}
 use Rattle.rt_live.proofs.running.run_beside.Goals as goal
 
 pub returns-in_err-went-clause-begun : goal.returns-in_err-went-clause-begun
@@ -18,11 +18,11 @@ returns-in_err-went-clause-begun g c =
     let ranges = subst (λ (s : List Line). AllByRecursion HasDeviceInRange s)
     (ap (λ r. r.script) c.ready.view_is ∙ sym same) c.lines-events.ensures.script.devices in
     on_err_from c.from_residual.result
-    (run_part c.go-went.new.self c.close-account.ensures.ready c.go-went.ensures.gathered c.args.ready.script same
-    ranges
+    (subst (λ (s : List Line). HasWrittenPart s c.args.core.now c.go-went.new.core (g.K.Sink.taken c.args.out.now)
+    (g.K.Sink.taken c.go-went.new.out)) same
+    (failed_part c.go-went.new.self c.close-account.ensures.ready c.go-went.ensures.gathered ranges
     c.close-account.result.rows.items c.close-account.ensures.closes c.go-went.ensures.early c.args.core.now
-    c.go-went.new.core c.requires.fresh
-    (g.K.Sink.taken c.args.out.now) (g.K.Sink.taken c.go-went.new.out) c.in_err-went.ensures.err)
+    c.go-went.new.core c.requires.fresh _ _ c.in_err-went.ensures.err))
 
 pub returns-in_err-went-clause-err : goal.returns-in_err-went-clause-err
 returns-in_err-went-clause-err g c =
@@ -35,18 +35,17 @@ returns-clause-all g c =
     (ap (λ r. r.script) c.ready.view_is ∙ sym same) c.lines-events.ensures.script.devices in
     let irqs = c.go-went.ensures.rows ∙ c.requires.rows in
     let named = ap (λ (i : Image). i.names) (c.behind-core.view_is ∙ c.image.ensures) in
-    let x = g.K.Sink.taken c.args.out.now in
     let y = g.K.Sink.taken c.go-went.new.out in
     let z = g.K.Sink.taken c.put_account.new.out in
     on_ok_weaker c.put_account.result
     (Took y z (account_text c.behind-core.inside.names c.close-account.result.rows.items))
-    (HasWritten c.args.ready.script c.args.core.now c.go-went.new.core x z)
-    (wrote_whole c.go-went.new.self c.close-account.ensures.ready c.go-went.ensures.gathered c.args.ready.script same
-    ranges
+    (HasWritten c.args.ready.script c.args.core.now c.go-went.new.core (g.K.Sink.taken c.args.out.now) z)
+    (λ took. subst (λ (s : List Line). HasWritten s c.args.core.now c.go-went.new.core
+    (g.K.Sink.taken c.args.out.now) z) same
+    (has_written c.go-went.new.self c.close-account.ensures.ready c.go-went.ensures.gathered ranges
     c.close-account.result.rows.items c.close-account.ensures.closes c.go-went.ensures.early c.args.core.now
-    c.go-went.new.core c.requires.fresh
-    x y
-    irqs c.behind-core.inside.names named z c.in_ok-went.ensures.ok) c.put_account.ensures.ok
+    c.go-went.new.core c.requires.fresh irqs _ _ c.in_ok-went.ensures.ok c.behind-core.inside.names named z took))
+    c.put_account.ensures.ok
 
 pub returns-clause-ok : goal.returns-clause-ok
 returns-clause-ok g c =
@@ -63,16 +62,14 @@ returns-clause-begun g c =
     (ap (λ r. r.script) c.ready.view_is ∙ sym same) c.lines-events.ensures.script.devices in
     let irqs = c.go-went.ensures.rows ∙ c.requires.rows in
     let named = ap (λ (i : Image). i.names) (c.behind-core.view_is ∙ c.image.ensures) in
-    let x = g.K.Sink.taken c.args.out.now in
-    let y = g.K.Sink.taken c.go-went.new.out in
     let z = g.K.Sink.taken c.put_account.new.out in
     on_err_weaker c.put_account.result
-    (wrote_part c.go-went.new.self c.close-account.ensures.ready c.go-went.ensures.gathered c.args.ready.script same
-    ranges
+    (λ part. subst (λ (s : List Line). HasWrittenPart s c.args.core.now c.go-went.new.core
+    (g.K.Sink.taken c.args.out.now) z) same
+    (account_part c.go-went.new.self c.close-account.ensures.ready c.go-went.ensures.gathered ranges
     c.close-account.result.rows.items c.close-account.ensures.closes c.go-went.ensures.early c.args.core.now
-    c.go-went.new.core c.requires.fresh
-    x y
-    irqs c.behind-core.inside.names named z c.in_ok-went.ensures.ok) c.put_account.ensures.err
+    c.go-went.new.core c.requires.fresh irqs _ _ c.in_ok-went.ensures.ok c.behind-core.inside.names named z part))
+    c.put_account.ensures.err
 
 pub returns-clause-err : goal.returns-clause-err
 returns-clause-err g c =

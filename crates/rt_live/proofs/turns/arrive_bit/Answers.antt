@@ -1,6 +1,6 @@
 use Rattle.std.proofs.Common.{◌/◌, ◌^◌, ◌∙◌}
 use Rattle.std.proofs.lemmas.Nat.{and_mask}
-use Rattle.rt_live.proofs.Bits.{bit_skipped}
+use Rattle.rt_live.proofs.Looking.{bit_skipped}
 use Rattle.rt_live.proofs.turns.arrive_bit.Goals as goal
 
 pub returns-then-found-bit-ne1-clause-ok : goal.returns-then-found-bit-ne1-clause-ok

@@ -6,7 +6,7 @@ use Rattle.rt_code.specs.Image.{Image}
 use Rattle.rt_run.specs.Sending.{Sends}
 use Rattle.rt_run.proofs.Known.{still_writable}
 use Rattle.rt_live.specs.Able.{MayArrive}
-use Rattle.rt_live.proofs.Bits.{bit_none, word_none, bit_more, bit_cut}
+use Rattle.rt_live.proofs.Looking.{bit_none, word_none, bit_more, bit_cut}
 use Rattle.rt_live.proofs.Woven.{no_steps}
 use Rattle.rt_live.proofs.turns.arrive_word.Goals as goal
 

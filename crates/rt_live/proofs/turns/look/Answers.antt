@@ -8,8 +8,7 @@ use Rattle.rt_words.specs.Row.{word_in_row}
 use Rattle.rt_live.specs.Interleaving.{look_arrivals, look_calls_from, arrivals_from}
 use Rattle.rt_live.specs.Able.{MayArrive}
 use Rattle.rt_lines.specs.Operand.{IsDeclared}
-use Rattle.rt_live.proofs.Bits.{arriving_all}
-use Rattle.rt_live.proofs.Looking.{finds_none, finds_all, find_more, find_cut, arrives_here}
+use Rattle.rt_live.proofs.Looking.{arriving_all, finds_none, finds_all, find_more, find_cut, arrives_here}
 use Rattle.rt_live.proofs.Woven.{no_steps, length-latches}
 use Rattle.rt_live.proofs.turns.look.Goals as goal
 
@@ -67,23 +66,18 @@ arrive_word-requires-clause-may g c = λ bit within set.
 pub returns-in_err-arrive_word-clause-err : goal.returns-in_err-arrive_word-clause-err
 returns-in_err-arrive_word-clause-err g c =
     on_err_from c.from_residual.result
-    (find_cut c.args.line.now c.loop-k.line c.args.core.now _ _ _ c.loop-k.k c.latch-found.result
-    c.loop-k.invariant.run _
-    c.latch-found.ensures.call c.arrive_word.new.core _
+    (find_cut c.loop-k.invariant.run c.latch-found.result _ c.latch-found.ensures.call
     (arriving_all (IsDeclared c.args.core.now.image.names) c.loop-k.k c.latch-found.result
     (λ bit within set.
     (arrives_here c.args.line.now c.loop-k.line c.args.core.now _ c.requires.able c.loop-k.k (omega arith)
     (ap (λ (l : Line). l.here) c.loop-k.invariant.run.latched) bit within
     (c.latch-found.ensures.may bit within set)).0))
-    (omega arith)
-    c.in_err-arrive_word.ensures.err)
+    (omega arith) c.in_err-arrive_word.ensures.err)
 
 pub loop-k-preserved : goal.loop-k-preserved
 loop-k-preserved g c = record {
   run =
-      find_more c.args.line.now c.loop-k.line c.args.core.now _ _ _ c.loop-k.k c.latch-found.result
-      c.loop-k.invariant.run _
-      c.latch-found.ensures.call c.arrive_word.new.core _
+      find_more c.loop-k.invariant.run c.latch-found.result _ c.latch-found.ensures.call
       (arriving_all (IsDeclared c.args.core.now.image.names) c.loop-k.k c.latch-found.result
       (λ bit within set.
       (arrives_here c.args.line.now c.loop-k.line c.args.core.now _ c.requires.able c.loop-k.k (omega arith)
@@ -95,5 +89,4 @@ loop-k-preserved g c = record {
 }
 
 pub returns-clause-ok : goal.returns-clause-ok
-returns-clause-ok g c =
-    finds_all c.loop-k.k 16 c.args.line.now c.loop-k.line c.args.core.now _ _ _ (omega arith) c.loop-k.invariant.run
+returns-clause-ok g c = finds_all c.loop-k.invariant.run (omega arith)

@@ -4,12 +4,11 @@ use Rattle.std.proofs.lemmas.Option.{slice_get-get_or}
 use Rattle.rt_lemmas.proofs.Membership.{all_at}
 use Rattle.rt_lemmas.proofs.Results.{on_err_from}
 use Rattle.rt_code.specs.Image.{Image}
-use Rattle.rt_script.specs.Script.{count, count_of}
+use Rattle.rt_script.specs.Script.{count_of}
 use Rattle.rt_script.specs.declared.line.Line.{Line as Asked}
 use Rattle.rt_live.specs.Going.{Goes}
 use Rattle.rt_live.specs.Shares.{HasOwnName, own_turns}
-use Rattle.rt_live.proofs.Turning.{goes_none, can_on}
-use Rattle.rt_live.proofs.Owning.{own_room, own_line_more, own_line_cut}
+use Rattle.rt_live.proofs.Turning.{goes_none, can_on, own_room, own_line_more, own_line_cut}
 use Rattle.rt_live.proofs.turns.own_lines.Goals as goal
 
 pub loop-asked-init : goal.loop-asked-init
@@ -25,10 +24,8 @@ own_line-requires-clause-can g c =
     let i = c.loop-asked.asked-index in
     let at : i < length script = omega arith in
     let share = c.args.role.now.share in
-    can_on (g.T.Routes.leads c.args.role.now.routes) (own_turns share (take i script)) (count_of c.asked-item.result)
-    (count script) c.args.line.now c.loop-asked.line c.args.core.now c.loop-asked.core _ _ _
-    c.loop-asked.invariant.run
-    (own_room share script i c.asked-item.result at c.asked-item.is) c.requires.can
+    can_on c.loop-asked.invariant.run (count_of c.asked-item.result) c.requires.can
+    (own_room share script i c.asked-item.result at c.asked-item.is)
 
 pub own_line-requires-clause-declared : goal.own_line-requires-clause-declared
 own_line-requires-clause-declared g c =
@@ -41,7 +38,7 @@ own_line-requires-clause-declared g c =
     let named : HasOwnName share names (get_or script i line) =
     all_at (HasOwnName share names) script i (get_or script i line) c.requires.declared
     (slice_get-get_or script i line at) in
-    subst (λ (img : Image). HasOwnName share img.names line) (sym c.loop-asked.invariant.run.sends.leads.image)
+    subst (λ (img : Image). HasOwnName share img.names line) (sym c.loop-asked.invariant.run.leads.image)
     (subst (HasOwnName share names) (sym c.asked-item.is) named)
 
 pub returns-in_err-own_line-clause-err : goal.returns-in_err-own_line-clause-err
@@ -50,9 +47,8 @@ returns-in_err-own_line-clause-err g c =
     let i = c.loop-asked.asked-index in
     let at : i < length script = omega arith in
     on_err_from c.from_residual.result
-    (own_line_cut c.args.role.now.share script i c.asked-item.result at c.asked-item.is
-    (g.T.Routes.leads c.args.role.now.routes) c.args.line.now c.loop-asked.line c.own_line.new.line c.args.core.now
-    c.loop-asked.core c.own_line.new.core _ _ _ c.loop-asked.invariant.run c.in_err-own_line.ensures.err)
+    (own_line_cut c.args.role.now.share script i c.asked-item.result at c.asked-item.is c.loop-asked.invariant.run
+    c.in_err-own_line.ensures.err)
 
 pub loop-asked-preserved : goal.loop-asked-preserved
 loop-asked-preserved g c =
@@ -62,9 +58,7 @@ loop-asked-preserved g c =
     record {
       run =
           own_line_more c.args.role.now.share script i c.asked-item.result at c.asked-item.is
-          (g.T.Routes.leads c.args.role.now.routes) c.args.line.now c.loop-asked.line c.own_line.new.line
-          c.args.core.now c.loop-asked.core c.own_line.new.core _ _ _ c.loop-asked.invariant.run
-          c.in_ok-own_line.ensures.ok;
+          c.loop-asked.invariant.run c.in_ok-own_line.ensures.ok;
       none_held = c.in_ok-own_line.ensures.none_held;
       quiet = c.in_ok-own_line.ensures.quiet ∙ c.loop-asked.invariant.quiet;
     }

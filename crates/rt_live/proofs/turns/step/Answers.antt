@@ -14,8 +14,7 @@ use Rattle.rt_live.proofs.turns.step.Goals as goal
 pub returns-in_err-look-clause-err : goal.returns-in_err-look-clause-err
 returns-in_err-look-clause-err g c =
     on_err_from c.from_residual.result
-    (look_cut (g.T.Routes.leads c.args.role.now.routes) c.args.line.now _ c.args.core.now _ _ _ (Happens Step ∷ [])
-    (omega arith) refl c.in_err-look.ensures.err)
+    (look_cut (Happens Step ∷ []) (omega arith) refl c.in_err-look.ensures.err)
 
 pub show_step-requires-clause-writable : goal.show_step-requires-clause-writable
 show_step-requires-clause-writable g c =
@@ -30,8 +29,7 @@ show_step-requires-clause-few g c =
 pub returns-in_err-shown-clause-err : goal.returns-in_err-shown-clause-err
 returns-in_err-shown-clause-err g c =
     on_err_from c.from_residual-in_err-shown.result
-    (step_cut (g.T.Routes.leads c.args.role.now.routes) c.args.line.now _ c.args.core.now _ c.show_step.new.core _ _ _
-    c.in_ok-look.ensures.ok c.in_err-shown.ensures.err)
+    (step_cut (g.T.Routes.leads c.args.role.now.routes) c.in_ok-look.ensures.ok c.in_err-shown.ensures.err)
 
 pub forward-requires-clause-words : goal.forward-requires-clause-words
 forward-requires-clause-words g c =
@@ -57,6 +55,5 @@ forward-requires-clause-room g c =
 
 pub returns-clause-ok : goal.returns-clause-ok
 returns-clause-ok g c =
-    step_alone (g.T.Routes.leads c.args.role.now.routes) c.args.line.now c.look.new.line c.args.core.now
-    c.look.new.core c.show_step.new.core _ _ _ c.in_ok-look.ensures.ok c.forward.new.line c.in_ok-shown.shown
-    c.in_ok-shown.ensures.ok c.in_ok-shown.ensures.shown c.forward.ensures
+    step_alone (g.T.Routes.leads c.args.role.now.routes) c.in_ok-look.ensures.ok c.in_ok-shown.ensures.ok
+    c.in_ok-shown.ensures.shown c.forward.ensures

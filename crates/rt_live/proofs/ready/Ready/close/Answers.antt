@@ -7,7 +7,6 @@ use Rattle.std.specs.List.{AllByRecursion}
 use Rattle.rt_live.specs.Account.{HasRoom, settled_row, with_counts}
 use Rattle.rt_live.specs.declared.account.AccountRow.{AccountRow}
 use Rattle.rt_live.proofs.Closed.{all_gathered, closes, room_for_all, waiting_beside, rows_fit}
-use Rattle.rt_live.proofs.Tallied.{same_words, same_number}
 use Rattle.rt_live.proofs.ready.Ready.close.Goals as goal
 
 pub gather_all-requires-clause-devices : goal.gather_all-requires-clause-devices
@@ -19,13 +18,11 @@ gather_all-requires-clause-room c = room_for_all _ c.self.invariant
 
 pub close-left-requires-clause-words : goal.close-left-requires-clause-words
 close-left-requires-clause-words c =
-    ap (λ (l : Line). l.words) c.gather_all.ensures.line
-    ∙ same_words c.self.inside.devices.items c.self.inside.line ∙ c.self.invariant.core_words
+    ap (λ (l : Line). l.words) c.gather_all.ensures.line ∙ c.self.invariant.core_words
 
 pub close-left-requires-clause-first : goal.close-left-requires-clause-first
 close-left-requires-clause-first c =
-    ap (λ (l : Line). l.number) c.gather_all.ensures.line
-    ∙ same_number c.self.inside.devices.items c.self.inside.line ∙ c.self.invariant.number
+    ap (λ (l : Line). l.number) c.gather_all.ensures.line ∙ c.self.invariant.number
 
 pub close-left-requires-clause-gathered : goal.close-left-requires-clause-gathered
 close-left-requires-clause-gathered c = all_gathered _ c.self.invariant c.gather_all.new.line c.gather_all.ensures.line
