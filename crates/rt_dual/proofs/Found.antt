@@ -1,9 +1,8 @@
 -- What the looks of a core of a pair find: what the other core posts, each post at most once.
-use Rattle.std.proofs.Common.{◌≡◌, ◌≢◌, ℕ, zero, suc, ◌+◌, ◌*◌, ◌/◌, ◌<◌, ◌≤◌, ◌==◌, ◌⊎◌, Bool, true, false, List, []}
-use Rattle.std.proofs.Common.{◌∷◌, ◌++◌, map, length, option_to_list, Option, Some, None, inl, inr, refl, ap, sym}
-use Rattle.std.proofs.Common.{subst, ◌∙◌, arith, eq-eqb, ne_eqb, length-append}
-use Rattle.std.specs.List.{AllByRecursion}
-use native.Mathlib.Decide.{ℕ_discrete}
+use Rattle.std.proofs.Common.{◌≡◌, ◌≢◌, ℕ, suc, ◌+◌, ◌*◌, ◌/◌, ◌≤◌, ◌==◌, ◌⊎◌, inl, inr, Bool, true, false, List, []}
+use Rattle.std.proofs.Common.{◌∷◌, ◌++◌, map, length, option_to_list, Option, Some, None, refl, ap, arith, eq-eqb}
+use Rattle.std.proofs.Common.{ne_eqb, length-append}
+use Rattle.std.specs.List.{AllByRecursion, count_by}
 use Rattle.rt_lemmas.proofs.Membership.{all_append, all_flat_map}
 use Rattle.rt_ids.specs.Event.{Event, Arrive, Tick, Step, steps}
 use Rattle.rt_ids.specs.Arrivals.{arrivals}
@@ -22,26 +21,26 @@ use Rattle.rt_words.specs.History.{part}
 use Rattle.rt_words.specs.Row.{bit_in_row, word_in_row}
 use Rattle.rt_words.specs.declared.call.Call.{Call}
 use Rattle.rt_words.specs.declared.call.Call.TheVariants.{Pend, Latch}
-use Rattle.rt_words.specs.declared.call.Entry.{Entry}
 use Rattle.rt_words.proofs.Found.{as_many, bits_below, counted, all_found_there, all_asked_there, found_there}
-use Rattle.rt_words.proofs.Found.{few_found_there, part_counts, all_parts}
-use Rattle.rt_words.proofs.Parting.{part_first, part_rest}
+use Rattle.rt_words.proofs.Accounting.{count_first}
+use Rattle.rt_words.proofs.Counting.{one_if}
+use Rattle.rt_words.proofs.Found.{few_found_there, part_counts}
 use Rattle.rt_live.specs.Account.{row_of}
 use Rattle.rt_live.specs.Going.{IsWholeLook}
-use Rattle.rt_live.specs.Interleaving.{Looks, looks, last_turns, arrivals_from, look_arrivals, look_calls_from}
+use Rattle.rt_live.specs.Interleaving.{looks, last_turns, arrivals_from, look_arrivals, look_calls_from}
 use Rattle.rt_live.specs.Requests.{Request, Pends as Asks, Latches, request_of, routed, look_requests, post_requests}
 use Rattle.rt_live.specs.Requests.{turn_requests}
-use Rattle.rt_live.specs.Shares.{both_line_events, own_events}
+use Rattle.rt_live.specs.Shares.{both_line_events}
 use Rattle.rt_live.specs.declared.account.AccountRow.{AccountRow}
-use Rattle.rt_live.specs.declared.share.Share.TheVariants.{First, Second}
+use Rattle.rt_live.specs.declared.share.Share.TheVariants.{First}
 use Rattle.rt_live.proofs.Found.{found_irqs, woven_all, woven_weight, named_events, own_turns_named, own_weight}
 use Rattle.rt_live.proofs.Found.{replicated_events}
 use Rattle.rt_live.proofs.Turning.{own_length}
-use Rattle.rt_dual.specs.Course.{Place, IsCourse, first_place, second_place, first_events, second_events, turns}
+use Rattle.rt_dual.specs.Course.{Place, IsCourse, first_events, second_events, turns}
 use Rattle.rt_dual.specs.Course.{course_events}
 use Rattle.rt_dual.specs.Forwarded.{forward}
 use Rattle.rt_dual.specs.Output.{IsPairText}
-use Rattle.rt_dual.proofs.Ordered.{asks_in}
+use Rattle.rt_dual.proofs.Ordered.{asks_in, two_lines}
 use Rattle.rt_dual.proofs.Posted.{Within}
 
 -- the words of a core
@@ -110,25 +109,20 @@ module _ (core : ℕ) where
   looked_asked k [] = refl
   looked_asked k (word ∷ words) = omega (arith, looked_asked (suc k) words)
 
-  posted_asked : (route : ℕ → Option ℕ) (there : ℕ) (shown : Option What)
-      → sum asked_of (post_requests route there shown) ≤ 1
-  posted_asked route there shown = by (routed route shown)
+  posted : (f : Request → ℕ) (most : ℕ) → ((bit : ℕ) → f (Asks bit) ≤ most) → (route : ℕ → Option ℕ) (there : ℕ)
+      (shown : Option What) → sum f (post_requests route there shown) ≤ most
+  posted f most each route there shown = by (routed route shown)
+    where
+      by : (o : Option ℕ) → sum f (map (λ irq. Asks (bit_in_row there irq)) (option_to_list o)) ≤ most
+      by None = omega arith
+      by (Some irq) = omega (arith, each (bit_in_row there irq))
+
+  one_asked : (bit : ℕ) → asked_of (Asks bit) ≤ 1
+  one_asked bit = one (is_of core (bit / 32))
     where
       one : (b : Bool) → counted b 1 ≤ 1
       one true = omega arith
       one false = omega arith
-
-      by : (o : Option ℕ) → sum asked_of (map (λ irq. Asks (bit_in_row there irq)) (option_to_list o)) ≤ 1
-      by None = omega arith
-      by (Some irq) = omega (arith, one (is_of core (bit_in_row there irq / 32)))
-
-  posted_found : (route : ℕ → Option ℕ) (there : ℕ) (shown : Option What)
-      → sum found_of (post_requests route there shown) ≡ 0
-  posted_found route there shown = by (routed route shown)
-    where
-      by : (o : Option ℕ) → sum found_of (map (λ irq. Asks (bit_in_row there irq)) (option_to_list o)) ≡ 0
-      by None = refl
-      by (Some irq) = refl
 
   module _ (route : ℕ → Option ℕ) (here there : ℕ) (img : Image) where
     abbrev asks : Core → List Event → List (List ℕ) → List Request
@@ -153,7 +147,7 @@ module _ (core : ℕ) where
           sum_on asked_of look (posts ++ asks d es found),
           sum_on asked_of posts (asks d es found),
           looked_asked (word_in_row here 0) ws,
-          posted_asked route there (shown c ws),
+          posted asked_of 1 one_asked route there (shown c ws),
           few_asks d es found,
         )
 
@@ -184,86 +178,62 @@ module _ (core : ℕ) where
         sum_on found_of look (posts ++ turn_requests route core there img d (turns es) found),
         sum_on found_of posts (turn_requests route core there img d (turns es) found),
         whole_found ws whole.0,
-        posted_found route there (shown route core there img c ws),
+        posted found_of 0 (λ bit. omega arith) route there (shown route core there img c ws),
         length-append (arrivals_from 0 ws) (found_irqs found),
         all_found route there img d es found (omega (arith, many)) whole.1,
       )
 
-  -- the calls of two lines are all
-  part_more : (e : Entry) (history : List Entry) (n : ℕ)
-      → all_asked_there (is_of core) (part history n) ≤ all_asked_there (is_of core) (part (e ∷ history) n)
-  part_more e history n = by (ℕ_discrete e.line n)
-    where
-      by : Dec (e.line ≡ n)
-          → all_asked_there (is_of core) (part history n) ≤ all_asked_there (is_of core) (part (e ∷ history) n)
-      by (yes is) = omega (arith, ap (all_asked_there (is_of core)) (part_first e history n is))
-      by (no ne) = omega (arith, ap (all_asked_there (is_of core)) (part_rest e history n ne))
+  -- pends there, as calls that pass a test
+  abbrev pends_there : Call → Bool
+  pends_there (Pend bit answer) = is_of core (bit / 32)
+  pends_there (Latch word found) = false
 
-  two_parts : (a b : ℕ) (history : List Entry)
-      → AllByRecursion (λ (e : Entry). (e.line ≡ a) ⊎ (e.line ≡ b)) history
-      → all_asked_there (is_of core) (calls_in history)
-      ≤ all_asked_there (is_of core) (part history a) + all_asked_there (is_of core) (part history b)
-  two_parts a b [] all = omega arith
-  two_parts a b (e ∷ history) all = elim all.0 [
-    | inl is ↦ omega (
-      arith,
-      ap (all_asked_there (is_of core)) (part_first e history a is),
-      part_more e history b,
-      two_parts a b history all.1,
-    )
-    | inr is ↦ omega (
-      arith,
-      ap (all_asked_there (is_of core)) (part_first e history b is),
-      part_more e history a,
-      two_parts a b history all.1,
-    )
-  ]
+  asked_counts : (calls : List Call) → all_asked_there (is_of core) calls ≡ count_by pends_there calls
+  asked_counts [] = refl
+  asked_counts (Pend bit answer ∷ calls) =
+      omega (
+        arith,
+        asked_counts calls,
+        count_first pends_there (Pend bit answer) calls,
+        one (is_of core (bit / 32)),
+      )
+    where
+      one : (b : Bool) → counted b 1 ≡ one_if b
+      one true = refl
+      one false = refl
+  asked_counts (Latch word found ∷ calls) =
+      omega (arith, asked_counts calls, count_first pends_there (Latch word found) calls)
 
 -- ticks and steps alone come to the second core
-both_all : (P : ℕ → Type 0) (line : Line) → AllByRecursion (Arrives P) (both_line_events line)
-both_all P (Steps n) = replicated_events P n Step tt
-both_all P (Ticks n) = replicated_events P n Tick tt
-both_all P (Pends irq n) = tt
-both_all P (Device d irq n) = tt
-
 second_all : (P : ℕ → Type 0) (script : List Line) → AllByRecursion (Arrives P) (second_events script)
 second_all P [] = tt
 second_all P (line ∷ script) =
-    all_append (Arrives P) (both_line_events line) (second_events script) (both_all P line) (second_all P script)
-
-both_steps : (script : List Line) → steps (second_events script) ≤ steps (first_events script)
-both_steps [] = omega arith
-both_steps (line ∷ script) =
-    omega (
-      arith,
-      steps-append (both_line_events line) (second_events script),
-      steps-append (line_events line) (first_events script),
-      one line,
-      both_steps script,
-    )
+    all_append (Arrives P) (both_line_events line) (second_events script) (one line) (second_all P script)
   where
-    one : (l : Line) → steps (both_line_events l) ≤ steps (line_events l)
-    one (Steps n) = omega arith
-    one (Ticks n) = omega arith
-    one (Pends irq n) = omega arith
-    one (Device d irq n) = omega arith
+    one : (l : Line) → AllByRecursion (Arrives P) (both_line_events l)
+    one (Steps n) = replicated_events P n Step tt
+    one (Ticks n) = replicated_events P n Tick tt
+    one (Pends irq n) = tt
+    one (Device d irq n) = tt
 
-both_weigh : (script : List Line) → weight (second_events script) ≤ weight (first_events script)
-both_weigh [] = omega arith
-both_weigh (line ∷ script) =
-    omega (
-      arith,
-      weight_append (both_line_events line) (second_events script),
-      weight_append (line_events line) (first_events script),
-      one line,
-      both_weigh script,
-    )
-  where
-    one : (l : Line) → weight (both_line_events l) ≤ weight (line_events l)
-    one (Steps n) = omega arith
-    one (Ticks n) = omega arith
-    one (Pends irq n) = omega arith
-    one (Device d irq n) = omega arith
+-- no more than to the first
+some_or_none : (line : Line) → (both_line_events line ≡ line_events line) ⊎ (both_line_events line ≡ [])
+some_or_none (Steps n) = inl refl
+some_or_none (Ticks n) = inl refl
+some_or_none (Pends irq n) = inr refl
+some_or_none (Device d irq n) = inr refl
+
+second_fewer : (f : List Event → ℕ) → ((xs ys : List Event) → f (xs ++ ys) ≡ f xs + f ys) → (script : List Line)
+    → f (second_events script) ≤ f (first_events script)
+second_fewer f on [] = omega arith
+second_fewer f on (line ∷ script) =
+    let all = on (line_events line) (first_events script) in
+    let own = on (both_line_events line) (second_events script) in
+    let rest = second_fewer f on script in
+    elim (some_or_none line) [
+      | inl same ↦ omega (arith, all, own, rest, ap f same)
+      | inr none ↦ omega (arith, all, own, rest, ap f none, on [] [])
+    ]
 
 -- what comes to a core, whose own events are of such interrupts
 course_named : (img : Image) (es : List Event) (found : List (List ℕ))
@@ -286,85 +256,67 @@ module _ (first second : Image) (script : List Line) (bytes : List ℕ) (p : IsP
   second_named =
       course_named second (second_events script) p.two p.is_two.declared (second_all (Named second.names) script)
 
-  each_line : (n : ℕ) → AllByRecursion (λ (c : Call). (n ≡ 255) ⊎ (n ≡ 254)) (part p.history n)
-  each_line n = by (ℕ_discrete n 255) (ℕ_discrete n 254)
-    where
-      any : (calls : List Call) → (n ≡ 255) ⊎ (n ≡ 254) → AllByRecursion (λ (c : Call). (n ≡ 255) ⊎ (n ≡ 254)) calls
-      any [] which = tt
-      any (c ∷ calls) which = (which, any calls which)
-
-      by : Dec (n ≡ 255) → Dec (n ≡ 254) → AllByRecursion (λ (c : Call). (n ≡ 255) ⊎ (n ≡ 254)) (part p.history n)
-      by (yes is) no_matter = any (part p.history n) (inl is)
-      by (no ne) (yes is) = any (part p.history n) (inr is)
-      by (no ne) (no other) =
-          subst (AllByRecursion (λ (c : Call). (n ≡ 255) ⊎ (n ≡ 254))) (sym (p.others n ne other)) tt
-
-  -- no more is found than the other core posts
-  within : (core : ℕ) → all_found_there (is_of core) (calls_in p.history)
-      ≤ all_asked_there (is_of core) (part p.history 255) + all_asked_there (is_of core) (part p.history 254)
-  within core =
-      omega (
-        arith,
-        few_found_there (is_of core) p.history p.left p.legal,
-        two_parts core 255 254 p.history (all_parts (λ n c. (n ≡ 255) ⊎ (n ≡ 254)) p.history each_line),
-      )
-
-  module _ (core : ℕ) (place far : Place) (img other : Image) (es fs : List Event) (found seen : List (List ℕ))
+  module _ (img other : Image) {place far : Place} {es fs : List Event} {found seen : List (List ℕ)}
       (is : IsCourse place img other.names es found p.history) (beyond : IsCourse far other img.names fs seen p.history)
-      (here : place.here ≡ core) (there : place.there ≢ core)
-      (both : all_asked_there (is_of core) (part p.history 255) + all_asked_there (is_of core) (part p.history 254)
-      ≤ all_asked_there (is_of core) (part p.history place.line)
-      + all_asked_there (is_of core) (part p.history far.line))
-    where
-      found_within : length (found_irqs found) ≤ steps fs
-      found_within =
-          omega (
-            arith,
-            all_found core (forward img other.names) place.there img (reset img) es found is.many is.whole,
-            ap (λ k. sum core (found_of core) (turn_requests (forward img other.names) k place.there img (reset img)
-                (turns es) found)) here,
-            ap (sum core (found_of core)) is.called,
-            calls_found core (part p.history place.line),
-            part_counts (found_there (is_of core)) (all_found_there (is_of core)) refl (λ c calls. refl) p.history
-                place.line,
-            within core,
-            both,
-            calls_asked core (part p.history place.line),
-            none_asked core (map request_of (part p.history place.line)) place.here place.there there
-                (asks_in place img other.names es found p.history is beyond.bits),
-            calls_asked core (part p.history far.line),
-            ap (sum core (asked_of core)) beyond.called,
-            few_asks core (forward other img.names) far.here far.there other (reset other) fs seen,
-          )
+      (apart : place.there ≢ place.here)
+      (both : (test : Call → Bool) → count_by test (calls_in p.history)
+      ≡ count_by test (part p.history place.line) + count_by test (part p.history far.line)) where
+    abbrev core : ℕ
+    core = place.here
 
-      course_weighs : weight (course_events es found) ≤ weight es + steps fs
-      course_weighs =
-          omega (arith, woven_weight (turns es) found, own_weight es (last_turns 0), found_within)
+    -- no more is found than the other core posts
+    found_within : length (found_irqs found) ≤ steps fs
+    found_within =
+        let own : List Call = part p.history place.line in
+        let others : List Call = part p.history far.line in
+        omega (
+          arith,
+          all_found core (forward img other.names) place.there img (reset img) es found is.many is.whole,
+          ap (sum core (found_of core)) is.called,
+          calls_found core own,
+          part_counts (found_there (is_of core)) (all_found_there (is_of core)) refl (λ c calls. refl) p.history
+              place.line,
+          few_found_there (is_of core) p.history p.left p.legal,
+          asked_counts core (calls_in p.history),
+          both (pends_there core),
+          asked_counts core own,
+          calls_asked core own,
+          none_asked core (map request_of own) core place.there apart (asks_in is beyond.bits),
+          asked_counts core others,
+          calls_asked core others,
+          ap (sum core (asked_of core)) beyond.called,
+          few_asks core (forward other img.names) far.here far.there other (reset other) fs seen,
+        )
 
-  -- and they are few
+    -- and all that comes is little, where the events of both cores are no more than the first core's
+    weighs : weight es ≤ weight (first_events script) → steps fs ≤ steps (first_events script)
+        → weight (course_events es found) ≤ 2000000
+    weighs own others =
+        omega (
+          arith,
+          woven_weight (turns es) found,
+          own_weight es (last_turns 0),
+          found_within,
+          own,
+          others,
+          steps_weigh (first_events script),
+          own_length First script,
+          scripted.few,
+        )
+
+  two : (test : Call → Bool) → count_by test (calls_in p.history)
+      ≡ count_by test (part p.history 255) + count_by test (part p.history 254)
+  two test = two_lines test p.history p.others
+
   pub first_weighs : weight (course_events (first_events script) p.one) ≤ 2000000
   first_weighs =
-      omega (
-        arith,
-        course_weighs 0 first_place second_place first second (first_events script) (second_events script) p.one p.two
-            p.is_one p.is_two refl (λ e. omega (arith, e)) (omega arith),
-        both_steps script,
-        steps_weigh (first_events script),
-        own_length First script,
-        scripted.few,
-      )
+      weighs first second p.is_one p.is_two (λ e. absurd (omega (arith, e))) two (omega arith)
+      (second_fewer steps steps-append script)
 
   pub second_weighs : weight (course_events (second_events script) p.two) ≤ 2000000
   second_weighs =
-      omega (
-        arith,
-        course_weighs 1 second_place first_place second first (second_events script) (first_events script) p.two p.one
-            p.is_two p.is_one refl (λ e. omega (arith, e)) (omega arith),
-        both_weigh script,
-        steps_weigh (first_events script),
-        own_length First script,
-        scripted.few,
-      )
+      weighs second first p.is_two p.is_one (λ e. absurd (omega (arith, e))) (λ test. omega (arith, two test))
+      (second_fewer weight weight_append script) (omega arith)
 
 -- the rows of the account of a core in what `pair` may write
 abbrev pub pair_row : {first second : Image} {script : List Line} {bytes : List ℕ}

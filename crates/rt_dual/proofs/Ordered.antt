@@ -1,36 +1,37 @@
 -- In the history of a pair a post comes before the look that finds it, and a look before the posts that it leads to.
-use Rattle.std.proofs.Common.{◌≡◌, ℕ, ◌+◌, ◌*◌, ◌<◌, ◌≤◌, List, []}
-use Rattle.std.proofs.Common.{◌∷◌, ◌++◌, map, Contains, Some, refl, ap, sym, subst, ◌∙◌}
-use Rattle.std.proofs.Common.{append_assoc, arith, replicate}
+use Rattle.std.proofs.Common.{◌≡◌, ◌≢◌, ℕ, ◌+◌, ◌*◌, ◌/◌, ◌%◌, ◌<◌, ◌==◌, ◌&&◌, inl, inr, Bool, List, [], Some}
+use Rattle.std.proofs.Common.{◌∷◌, ◌++◌, map, Contains, refl, ap, sym, subst, ◌∙◌, append_assoc, arith, replicate}
+use Rattle.std.proofs.Common.{eq-eqb, ne_eqb}
 use Rattle.std.specs.Int.{bit_at}
-use Rattle.std.specs.List.{AllByRecursion}
+use Rattle.std.specs.List.{AllByRecursion, count_by}
+use Rattle.std.proofs.lemmas.Bool.{cases_lt}
 use Rattle.std.proofs.lemmas.List.{map-append}
+use Rattle.std.proofs.lemmas.List.Sums.{sum_by-cons, sum_by_push}
 use native.Mathlib.Decide.{ℕ_discrete}
-use Rattle.rt_lemmas.proofs.Lists.{all_unmap}
-use Rattle.rt_lemmas.proofs.Membership.{all_has, contains_here, contains_none}
+use Rattle.rt_lemmas.proofs.Lists.{all_unmap, all_front, all_behind, append_none_left}
+use Rattle.rt_lemmas.proofs.Membership.{all_has, contains_here, contains_there, contains_cases, contains_none}
 use Rattle.rt_ids.specs.Event.{Event}
 use Rattle.rt_ids.specs.Names.{Names}
 use Rattle.rt_code.specs.Image.{Image}
 use Rattle.rt_core.specs.Core.{reset}
 use Rattle.rt_script.specs.declared.line.Line.{Line}
-use Rattle.rt_words.specs.History.{LeavesWords, part}
-use Rattle.rt_words.specs.Object.{IsAnswered, IsPending, after}
+use Rattle.rt_words.specs.Account.{raises, latches, raised_count, latched_count}
+use Rattle.rt_words.specs.Ending.{calls_in}
+use Rattle.rt_words.specs.History.{IsLegal, part}
 use Rattle.rt_words.specs.declared.call.Call.{Call}
 use Rattle.rt_words.specs.declared.call.Call.TheVariants.{Pend, Latch}
 use Rattle.rt_words.specs.declared.call.Entry.{Entry}
-use Rattle.rt_words.specs.declared.call.Pended.{Pended}
 use Rattle.rt_words.specs.declared.call.Pended.TheVariants.{Raised, Merged}
-use Rattle.rt_words.proofs.Bits.{bit_of_word}
-use Rattle.rt_words.proofs.Found.{Asks, stays, none_pending}
-use Rattle.rt_words.proofs.Parting.{part_first}
+use Rattle.rt_words.specs.declared.view.Part.{Part}
+use Rattle.rt_words.proofs.Accounting.{accounts, count_first}
+use Rattle.rt_words.proofs.Counting.{one_if}
+use Rattle.rt_words.proofs.Parting.{part_first, by_parts}
 use Rattle.rt_live.specs.Account.{declared_irqs}
-use Rattle.rt_live.specs.Requests.{Pends, request_of, turn_requests}
-use Rattle.std.proofs.lemmas.List.Elements.{Contains-append_left as contains_front}
-use Rattle.std.proofs.lemmas.List.Elements.{Contains-append_right as contains_behind}
-use Rattle.rt_live.proofs.Onward.{part_on}
-use Rattle.rt_dual.specs.Course.{Place, IsCourse, first_place, second_place, first_events, second_events, turns}
+use Rattle.rt_live.specs.Requests.{Request, request_of, turn_requests}
+use Rattle.rt_live.proofs.Onward.{part_on, led_apart}
+use Rattle.rt_dual.specs.Course.{Place, IsCourse, turns}
 use Rattle.rt_dual.specs.Forwarded.{forward}
-use Rattle.rt_dual.specs.Laws.{LooksFindPosts, LooksPrecedePosts, PairsAreOrdered}
+use Rattle.rt_dual.specs.Laws.{IsOrdered, LooksPrecedePosts, PairsAreOrdered}
 use Rattle.rt_dual.specs.Output.{IsPairText}
 use Rattle.rt_dual.proofs.Posted.{Within, asks_within, posted}
 use Rattle.rt_dual.proofs.Routing.{forwards_declared}
@@ -44,69 +45,72 @@ part_there before behind line call =
     ∙ ap (λ (cs : List Call). part before line ++ cs)
     (part_first (record { line = line; call = call }) behind line refl)
 
--- the bit was raised by some call
-abbrev Raises : List Entry → ℕ → Type 0
-Raises history bit = (line : ℕ) × Contains (part history line) (Pend bit Raised)
+-- no line but these two made a call
+abbrev pub AreTwo : List Entry → Type 0
+AreTwo history = (number : ℕ) → number ≢ 255 → number ≢ 254 → part history number ≡ []
 
-still_raised : (es fs : List Entry) (bit : ℕ) → Raises es bit → Raises (es ++ fs) bit
-still_raised es fs bit (line, is) = (
-  line,
-  subst (λ (cs : List Call). Contains cs (Pend bit Raised)) (sym (part_on es fs line))
-      (contains_front (part es line) (part fs line) (Pend bit Raised) is),
-)
+-- so a count over all calls is one over those of the two
+pub two_lines : (test : Call → Bool) (history : List Entry) → AreTwo history
+    → count_by test (calls_in history) ≡ count_by test (part history 255) + count_by test (part history 254)
+two_lines test history two =
+    let far : Part = record { line = 254; calls = part history 254 } in
+    let one : (q : Part) → Contains (far ∷ []) q → part history q.line ≡ q.calls =
+    (λ q is. elim (contains_cases far [] q is) [
+      | inl same ↦ subst (λ (r : Part). part history r.line ≡ r.calls) same refl
+      | inr none ↦ absurd (contains_none q none)
+    ]) in
+    let apart : (n : ℕ) → n ≢ 254 → Contains (254 ∷ []) n → ⊥ =
+    (λ n ne is. elim (contains_cases 254 [] n is) [
+      | inl same ↦ ne (sym same)
+      | inr none ↦ contains_none n none
+    ]) in
+    let all = by_parts test history (part history 255) (far ∷ []) refl one (apart 255 (λ e. absurd (omega (arith, e))))
+    (contains_none 254, tt)
+    (λ n ne out. two n ne (λ e. out (subst (Contains (254 ∷ [])) (sym e) (contains_here 254 [])))) in
+    omega (arith, all, sum_by-cons (λ (q : Part). count_by test q.calls) far [])
 
-raised_now : (es : List Entry) (line bit : ℕ) → Raises (es ++ record { line = line; call = Pend bit Raised } ∷ []) bit
-raised_now es line bit = (
-  line,
-  subst (λ (cs : List Call). Contains cs (Pend bit Raised)) (sym (part_there es [] line (Pend bit Raised)))
-      (contains_behind (part es line) (Pend bit Raised ∷ part [] line) (Pend bit Raised)
-      (contains_here (Pend bit Raised) (part [] line))),
-)
-
--- what a call finds where each bit that stands was raised
-raises_asked : (es : List Entry) (line : ℕ) (words : List ℕ) (c : Call) → IsAnswered words c
-    → ((bit : ℕ) → IsPending words bit → Raises es bit)
-    → Asks (Raises (es ++ record { line = line; call = c } ∷ [])) c
-raises_asked es line words (Pend bit Raised) is stand = raised_now es line bit
-raises_asked es line words (Pend bit Merged) is stand =
-    still_raised es (record { line = line; call = Pend bit Merged } ∷ []) bit (stand bit is)
-raises_asked es line words (Latch k word) is stand = tt
-
-found_raised : (before front behind : List Entry) (words last : List ℕ) (line word found bit : ℕ)
-    → LeavesWords words (front ++ record { line = line; call = Latch word found } ∷ behind) last
-    → ((b : ℕ) → IsPending words b → Raises before b) → bit < 32 → bit_at found bit ≡ 1
-    → Raises (before ++ front) (32 * word + bit)
-found_raised before [] behind words last line word found bit leaves stand few set =
-    still_raised before [] (32 * word + bit)
-    (stand (32 * word + bit) (bit_of_word words word bit few ∙ ap (λ w. bit_at w bit) (sym leaves.0) ∙ set))
-found_raised before (e ∷ front) behind words last line word found bit leaves stand few set =
-    let now : List Entry = before ++ e ∷ [] in
-    subst (λ (es : List Entry). Raises es (32 * word + bit)) (append_assoc before (e ∷ []) front)
-    (found_raised now front behind (after words e.call) last line word found bit leaves.1
-    (stays (Raises now) words e.call (raises_asked before e.line words e.call leaves.0 stand)
-    (λ b is. still_raised before (e ∷ []) b (stand b is))) few set)
+-- a bit that was raised by some calls was raised by one of them
+raised_in : (bit : ℕ) (calls : List Call) → 0 < raised_count bit calls → Contains calls (Pend bit Raised)
+raised_in bit [] some = absurd (omega (arith, some))
+raised_in bit (Pend n Raised ∷ calls) some = elim (ℕ_discrete n bit) [
+  | yes e ↦
+      subst (λ k. Contains (Pend k Raised ∷ calls) (Pend bit Raised)) (sym e) (contains_here (Pend bit Raised) calls)
+  | no ne ↦
+      contains_there (Pend n Raised) calls (Pend bit Raised)
+      (raised_in bit calls
+      (omega (arith, some, count_first (raises bit) (Pend n Raised) calls, ap one_if (ne_eqb n bit ne))))
+]
+raised_in bit (Pend n Merged ∷ calls) some =
+    contains_there (Pend n Merged) calls (Pend bit Raised)
+    (raised_in bit calls (omega (arith, some, count_first (raises bit) (Pend n Merged) calls)))
+raised_in bit (Latch k word ∷ calls) some =
+    contains_there (Latch k word) calls (Pend bit Raised)
+    (raised_in bit calls (omega (arith, some, count_first (raises bit) (Latch k word) calls)))
 
 -- what the calls of a core ask for
-module _ (place : Place) (img : Image) (other : Names) (events : List Event) (found : List (List ℕ))
-    (history : List Entry) (is : IsCourse place img other events found history) where
-  -- a pend among what it asks for
-  pub asked_at : (before behind : List Entry) (bit : ℕ) (answer : Pended)
-      → history ≡ before ++ record { line = place.line; call = Pend bit answer } ∷ behind
-      → map request_of (part before place.line) ++ Pends bit ∷ map request_of (part behind place.line)
+module _ {place : Place} {img : Image} {other : Names} {events : List Event} {found : List (List ℕ)}
+    {history : List Entry} (is : IsCourse place img other events found history) where
+  -- a call among what it asks for
+  pub asked_at : (before behind : List Entry) (c : Call)
+      → history ≡ before ++ record { line = place.line; call = c } ∷ behind
+      → map request_of (part before place.line) ++ request_of c ∷ map request_of (part behind place.line)
       ≡ turn_requests (forward img other) place.here place.there img (reset img) (turns events) found
-  asked_at before behind bit answer same =
-      sym (map-append request_of (part before place.line) (Pend bit answer ∷ part behind place.line))
+  asked_at before behind c same =
+      sym (map-append request_of (part before place.line) (c ∷ part behind place.line))
       ∙ ap (map request_of) (sym (ap (λ (es : List Entry). part es place.line) same
-      ∙ part_there before behind place.line (Pend bit answer)))
+      ∙ part_there before behind place.line c))
       ∙ is.called
 
-  precede : LooksPrecedePosts place img other events found history
+  pub precede : LooksPrecedePosts place img other events found history
   precede before behind bit answer same =
-      posted (forward img other) place.here place.there img (reset img) (turns events) found
+      posted (forward img other) place.here place.there img (reset img) events found
       (map request_of (part before place.line)) (map request_of (part behind place.line)) bit
-      (asked_at before behind bit answer same)
+      (asked_at before behind (Pend bit answer) same)
 
   module _ (bits : AllByRecursion (λ irq. irq < 496) (declared_irqs other)) where
+    abbrev Own : Request → Type 0
+    Own = Within place.here place.there
+
     forwards_low : (post irq : ℕ) → forward img other post ≡ Some irq → irq < 512
     forwards_low post irq leads =
         omega (
@@ -115,92 +119,85 @@ module _ (place : Place) (img : Image) (other : Names) (events : List Event) (fo
         )
 
     -- each of its requests is of its own words, or of the other core's bits
-    pub asks_in : AllByRecursion (Within place.here place.there) (map request_of (part history place.line))
-    asks_in =
-        subst (AllByRecursion (Within place.here place.there)) (sym is.called)
-        (asks_within (forward img other) place.here place.there img forwards_low (reset img) (turns events) found
-        is.whole)
+    asks_own : AllByRecursion Own (turn_requests (forward img other) place.here place.there img (reset img)
+        (turns events) found)
+    asks_own =
+        asks_within (forward img other) place.here place.there img forwards_low (reset img) (turns events) found
+        is.whole
 
-    call_within : (c : Call) → Contains (part history place.line) c → Within place.here place.there (request_of c)
-    call_within c there =
-        all_has (λ (x : Call). Within place.here place.there (request_of x)) (part history place.line) c
-        (all_unmap request_of (Within place.here place.there) (part history place.line) asks_in) there
+    pub asks_in : AllByRecursion Own (map request_of (part history place.line))
+    asks_in = subst (AllByRecursion Own) (sym is.called) asks_own
+
+    -- so is a call in the history, and each of its line before
+    at_within : (before behind : List Entry) (c : Call)
+        → history ≡ before ++ record { line = place.line; call = c } ∷ behind
+        → Own (request_of c) × ((d : Call) → Contains (part before place.line) d → Own (request_of d))
+    at_within before behind c same =
+        let front : List Request = map request_of (part before place.line) in
+        let rest : List Request = request_of c ∷ map request_of (part behind place.line) in
+        let all : AllByRecursion Own (front ++ rest) =
+        subst (AllByRecursion Own) (sym (asked_at before behind c same)) asks_own in (
+          (all_behind Own front rest all).0,
+          λ d there. all_has (λ (x : Call). Own (request_of x)) (part before place.line) d
+              (all_unmap request_of Own (part before place.line) (all_front Own front rest all)) there,
+        )
+
+    module _ (far : ℕ) (left : List ℕ) (legal : IsLegal history left) (low : place.here < 2)
+        (apart : place.here ≢ place.there)
+        (both : (test : Call → Bool) (before behind : List Entry) → history ≡ before ++ behind
+        → count_by test (calls_in before) ≡ count_by test (part before place.line) + count_by test (part before far))
+      where
+        -- up to a look that finds a bit it was raised as often as latched, so at least once, and not by this core
+        finds : (before behind : List Entry) (word last bit : ℕ)
+            → history ≡ before ++ record { line = place.line; call = Latch word last } ∷ behind
+            → bit < 32 → bit_at last bit ≡ 1 → Contains (part before far) (Pend (32 * word + bit) Raised)
+        finds before behind word last bit same few set =
+            let latch : Entry = record { line = place.line; call = Latch word last } in
+            let now : List Entry = before ++ latch ∷ [] in
+            let b : ℕ = 32 * word + bit in
+            let w = at_within before behind (Latch word last) same in
+            let cut = led_apart (replicate 32 0) left now behind
+            (subst (λ (h : List Entry). IsLegal h left) (same ∙ sym (append_assoc before (latch ∷ []) behind)) legal) in
+            let calls_are : calls_in now ≡ calls_in before ++ Latch word last ∷ [] =
+            map-append (λ (e : Entry). e.call) before (latch ∷ []) in
+            let at : b / 32 ≡ word = omega (arith, few) in
+            let rest : b % 32 ≡ bit = omega (arith, few) in
+            let hit : one_if ((word == b / 32) && (bit_at last (b % 32) == 1)) ≡ 1 =
+            ap (λ t. one_if (t && (bit_at last (b % 32) == 1))) (eq-eqb word (b / 32) (sym at))
+            ∙ ap one_if (eq-eqb (bit_at last (b % 32)) 1 (ap (bit_at last) rest ∙ set)) in
+            let some : 0 < raised_count b (calls_in before) =
+            omega (
+              arith,
+              accounts cut.0 now b cut.1 (omega (arith, w.0.1, few, low)),
+              ap (raised_count b) calls_are,
+              sum_by_push (λ c. one_if (raises b c)) (calls_in before) (Latch word last),
+              ap (latched_count b) calls_are,
+              sum_by_push (λ c. one_if (latches b c)) (calls_in before) (Latch word last),
+              hit,
+            ) in
+            elim (cases_lt 0 (raised_count b (part before far))) [
+              | inl there ↦ raised_in b (part before far) there
+              | inr none ↦ let own = w.1 (Pend b Raised) (raised_in b (part before place.line)
+                  (omega (arith, some, none, both (raises b) before (latch ∷ behind) same))) in
+                  absurd (omega (arith, own.0, own.1, w.0.0, w.0.1, few, apart))
+            ]
 
 module _ (first second : Image) (script : List Line) (bytes : List ℕ) (p : IsPairText first second script bytes) where
-  -- a call that stands before another stands in the history
-  part_before : (before behind : List Entry) (e : Entry) (line : ℕ) (c : Call) → p.history ≡ before ++ e ∷ behind
-      → Contains (part before line) c → Contains (part p.history line) c
-  part_before before behind e line c same there =
-      subst (λ (cs : List Call). Contains cs c)
-      (sym (ap (λ (es : List Entry). part es line) same ∙ part_on before (e ∷ behind) line))
-      (contains_front (part before line) (part (e ∷ behind) line) c there)
+  counted : (test : Call → Bool) (before behind : List Entry) → p.history ≡ before ++ behind
+      → count_by test (calls_in before) ≡ count_by test (part before 255) + count_by test (part before 254)
+  counted test before behind same =
+      two_lines test before (λ n ne other. append_none_left (part before n) (part behind n)
+      (sym (ap (λ (h : List Entry). part h n) same ∙ part_on before behind n) ∙ p.others n ne other))
 
-  part_at : (before behind : List Entry) (line : ℕ) (c : Call)
-      → p.history ≡ before ++ record { line = line; call = c } ∷ behind → Contains (part p.history line) c
-  part_at before behind line c same =
-      subst (λ (cs : List Call). Contains cs c)
-      (sym (ap (λ (es : List Entry). part es line) same ∙ part_there before behind line c))
-      (contains_behind (part before line) (c ∷ part behind line) c (contains_here c (part behind line)))
-
-  one_within : (c : Call) → Contains (part p.history 255) c → Within 0 1 (request_of c)
-  one_within c there =
-      call_within first_place first second.names (first_events script) p.one p.history p.is_one p.is_two.bits c there
-
-  two_within : (c : Call) → Contains (part p.history 254) c → Within 1 0 (request_of c)
-  two_within c there =
-      call_within second_place second first.names (second_events script) p.two p.history p.is_two p.is_one.bits c there
-
-  -- a bit that was raised, by the line that pends there
-  raised_far : (before behind : List Entry) (e : Entry) (bit : ℕ) → p.history ≡ before ++ e ∷ behind → Raises before bit
-      → ((bit < 512 → Contains (part before 254) (Pend bit Raised))
-      × (512 ≤ bit → Contains (part before 255) (Pend bit Raised)))
-  raised_far before behind e bit same (line, there) = by (ℕ_discrete line 255) (ℕ_discrete line 254)
-    where
-      stands : (n : ℕ) → line ≡ n → Contains (part before n) (Pend bit Raised)
-      stands n is = subst (λ m. Contains (part before m) (Pend bit Raised)) is there
-
-      by : Dec (line ≡ 255) → Dec (line ≡ 254)
-          → ((bit < 512 → Contains (part before 254) (Pend bit Raised))
-          × (512 ≤ bit → Contains (part before 255) (Pend bit Raised)))
-      by (yes is) no_matter =
-          let w = one_within (Pend bit Raised)
-          (part_before before behind e 255 (Pend bit Raised) same (stands 255 is)) in
-          (λ low. absurd (omega (arith, low, w.0)), λ high. stands 255 is)
-      by (no ne) (yes is) =
-          let w = two_within (Pend bit Raised)
-          (part_before before behind e 254 (Pend bit Raised) same (stands 254 is)) in
-          (λ low. stands 254 is, λ high. absurd (omega (arith, high, w.1)))
-      by (no ne) (no other) =
-          absurd (contains_none (Pend bit Raised)
-          (subst (λ (cs : List Call). Contains cs (Pend bit Raised)) (p.others line ne other)
-          (part_before before behind e line (Pend bit Raised) same there)))
-
-  found_before : (before behind : List Entry) (line word found bit : ℕ)
-      → p.history ≡ before ++ record { line = line; call = Latch word found } ∷ behind → bit < 32 → bit_at found bit ≡ 1
-      → Raises before (32 * word + bit)
-  found_before before behind line word found bit same few set =
-      found_raised [] before behind (replicate 32 0) p.left line word found bit
-      (subst (λ (es : List Entry). LeavesWords (replicate 32 0) es p.left) same p.legal)
-      (none_pending (Raises [])) few set
-
-  pub one_finds : LooksFindPosts first_place second_place p.history
-  one_finds before behind word found bit same few set =
-      let w = one_within (Latch word found) (part_at before behind 255 (Latch word found) same) in
-      (raised_far before behind (record { line = 255; call = Latch word found }) (32 * word + bit) same
-      (found_before before behind 255 word found bit same few set)).0 (omega (arith, w.1, few))
-
-  pub two_finds : LooksFindPosts second_place first_place p.history
-  two_finds before behind word found bit same few set =
-      let w = two_within (Latch word found) (part_at before behind 254 (Latch word found) same) in
-      (raised_far before behind (record { line = 254; call = Latch word found }) (32 * word + bit) same
-      (found_before before behind 254 word found bit same few set)).1 (omega (arith, w.0, few))
+  pub ordered_pair : IsOrdered first second script p.one p.two p.history
+  ordered_pair = record {
+    one_finds = finds p.is_one p.is_two.bits 254 p.left p.legal (omega arith) (λ e. absurd (omega (arith, e))) counted;
+    two_finds =
+        finds p.is_two p.is_one.bits 255 p.left p.legal (omega arith) (λ e. absurd (omega (arith, e)))
+        (λ test before behind same. omega (arith, counted test before behind same));
+    one_posts = precede p.is_one;
+    two_posts = precede p.is_two;
+  }
 
 pub ordered : PairsAreOrdered
-ordered first second script bytes p = record {
-  one_finds = one_finds first second script bytes p;
-  two_finds = two_finds first second script bytes p;
-  one_posts =
-      precede first_place first second.names (first_events script) p.one p.history p.is_one;
-  two_posts =
-      precede second_place second first.names (second_events script) p.two p.history p.is_two;
-}
+ordered = ordered_pair

@@ -1,11 +1,12 @@
 -- What a core asks of the words: on which words and bits, and where a pend stands among its calls.
 use Rattle.std.proofs.Common.{◌≡◌, ℕ, suc, ◌+◌, ◌*◌, ◌<◌, ◌≤◌, ◌⊎◌, inl, inr, List, [], ◌∷◌, ◌++◌, map, length, drop}
 use Rattle.std.proofs.Common.{Option, Some, None, option_to_list, refl, ap, sym, subst, ◌∙◌, append_assoc, arith}
+use Rattle.std.proofs.Common.{length-append}
 use Rattle.std.specs.List.{AllByRecursion}
 use Rattle.std.proofs.lemmas.List.{append-nil}
-use Rattle.rt_lemmas.proofs.Lists.{all_behind}
+use Rattle.rt_lemmas.proofs.Lists.{all_front, all_behind}
 use Rattle.rt_lemmas.proofs.Membership.{all_append}
-use Rattle.rt_ids.specs.Event.{Event, Arrive, Tick, Step}
+use Rattle.rt_ids.specs.Event.{Event, Arrive, Tick, Step, steps}
 use Rattle.rt_code.specs.Image.{Image}
 use Rattle.rt_core.specs.Core.{Core}
 use Rattle.rt_core.specs.Stepping.{step}
@@ -15,9 +16,10 @@ use Rattle.rt_trace.specs.declared.item.What.{What}
 use Rattle.rt_trace.specs.declared.item.What.TheVariants as what
 use Rattle.rt_words.specs.Row.{bit_in_row, word_in_row}
 use Rattle.rt_live.specs.Going.{IsWholeLook}
-use Rattle.rt_live.specs.Interleaving.{Turn, Happens, Looks, look_arrivals, look_calls_from, interleaving}
+use Rattle.rt_live.specs.Interleaving.{Turn, Happens, Looks, looks, look_arrivals, look_calls_from, interleaving}
 use Rattle.rt_live.specs.Requests.{Request, Pends, Latches, request_of, routed, look_requests, post_requests}
 use Rattle.rt_live.specs.Requests.{turn_requests}
+use Rattle.rt_dual.specs.Course.{turns}
 use Rattle.rt_dual.specs.Laws.{IsPosted}
 
 -- an element of two lists stands in the first or in the second
@@ -76,6 +78,10 @@ module _ (route : ℕ → Option ℕ) (here there : ℕ) (img : Image) where
   abbrev asks : Core → List Turn → List (List ℕ) → List Request
   asks c ts found = turn_requests route here there img c ts found
 
+  -- what a step shows behind a look
+  abbrev shown : Core → List ℕ → Option What
+  shown c ws = (step img (core_after img c (look_arrivals ws))).1
+
   module _ (low : (post irq : ℕ) → route post ≡ Some irq → irq < 512) where
     look_within : (k : ℕ) (words : List ℕ) → 16 * here ≤ k → k + length words ≤ 16 * here + 16
         → AllByRecursion (Within here there) (map request_of (look_calls_from k words))
@@ -106,21 +112,44 @@ module _ (route : ℕ → Option ℕ) (here there : ℕ) (img : Image) where
     asks_within c (Happens (Arrive irq) ∷ ts) found whole =
         asks_within (core_after img c (Arrive irq ∷ [])) ts found whole
     asks_within c (Happens Step ∷ ts) [] whole = tt
-    asks_within c (Happens Step ∷ ts) (words ∷ found) whole =
-        let d : Core = core_after img c (look_arrivals words ++ Step ∷ []) in
-        let shown : Option What = (step img (core_after img c (look_arrivals words))).1 in
-        all_append (Within here there) (look_requests here words)
-        (post_requests route there shown ++ asks d ts found) (whole_within words whole.0)
-        (all_append (Within here there) (post_requests route there shown) (asks d ts found) (post_within shown)
-        (asks_within d ts found whole.1))
+    asks_within c (Happens Step ∷ ts) (ws ∷ found) whole =
+        let d : Core = core_after img c (look_arrivals ws ++ Step ∷ []) in
+        all_append (Within here there) (look_requests here ws)
+        (post_requests route there (shown c ws) ++ asks d ts found) (whole_within ws whole.0)
+        (all_append (Within here there) (post_requests route there (shown c ws)) (asks d ts found)
+        (post_within (shown c ws)) (asks_within d ts found whole.1))
     asks_within c (Looks ∷ ts) [] whole = tt
-    asks_within c (Looks ∷ ts) (words ∷ found) whole =
-        let d : Core = core_after img c (look_arrivals words) in
-        all_append (Within here there) (look_requests here words) (asks d ts found) (whole_within words whole.0)
+    asks_within c (Looks ∷ ts) (ws ∷ found) whole =
+        let d : Core = core_after img c (look_arrivals ws) in
+        all_append (Within here there) (look_requests here ws) (asks d ts found) (whole_within ws whole.0)
         (asks_within d ts found whole.1)
 
-  abbrev Posts : Core → List Turn → List (List ℕ) → List Request → ℕ → Type 0
-  Posts c ts found front bit = IsPosted route here there img c ts found front bit
+  -- what is so of all that turns ask for is so of the requests of each of their looks
+  pub looks_in : (P : Request → Type 0) (c : Core) (ts : List Turn) (found : List (List ℕ)) → length found ≡ looks ts
+      → AllByRecursion P (asks c ts found) → AllByRecursion (λ ws. AllByRecursion P (look_requests here ws)) found
+  looks_in P c ts [] many all = tt
+  looks_in P c [] (ws ∷ found) many all = absurd (omega (arith, many))
+  looks_in P c (Happens Tick ∷ ts) (ws ∷ found) many all =
+      looks_in P (core_after img c (Tick ∷ [])) ts (ws ∷ found) many all
+  looks_in P c (Happens (Arrive irq) ∷ ts) (ws ∷ found) many all =
+      looks_in P (core_after img c (Arrive irq ∷ [])) ts (ws ∷ found) many all
+  looks_in P c (Happens Step ∷ ts) (ws ∷ found) many all =
+      let d : Core = core_after img c (look_arrivals ws ++ Step ∷ []) in
+      let look : List Request = look_requests here ws in
+      let posts : List Request = post_requests route there (shown c ws) in (
+        all_front P look (posts ++ asks d ts found) all,
+        looks_in P d ts found (omega (arith, many))
+            (all_behind P posts (asks d ts found) (all_behind P look (posts ++ asks d ts found) all)),
+      )
+  looks_in P c (Looks ∷ ts) (ws ∷ found) many all =
+      let d : Core = core_after img c (look_arrivals ws) in
+      let look : List Request = look_requests here ws in (
+        all_front P look (asks d ts found) all,
+        looks_in P d ts found (omega (arith, many)) (all_behind P look (asks d ts found) all),
+      )
+
+  abbrev Posts : Core → List Event → List (List ℕ) → List Request → ℕ → Type 0
+  Posts c es found front bit = IsPosted route here there img c es found front bit
 
   -- a pend of a step is what it shows
   posted_here : (shown : Option What) (front more : List Request) (bit : ℕ)
@@ -142,127 +171,88 @@ module _ (route : ℕ → Option ℕ) (here there : ℕ) (img : Image) where
           (refl, (post.0, irq, post.1, post.2, at))
       by (Some irq) is (r ∷ rs) eq = absurd (none_in rs more (Pends bit) (ap (drop 1) eq))
 
-  -- the core behind a step, and behind what follows it
-  behind_step : (c : Core) (front es : List Event)
-      → core_after img (core_after img c (front ++ Step ∷ [])) es ≡ core_after img c (front ++ Step ∷ es)
-  unfolding core_after
-  behind_step c front es =
-      ap (λ (d : Core). core_after img d es) (core_after-append img c front (Step ∷ []))
-      ∙ sym (core_after-append img c front (Step ∷ es))
+  -- an event that comes before others with these looks, by which this happens and this is asked for
+  module _ (c : Core) (e : Event) (looked : List (List ℕ)) (came : List Event) (asked : List Request)
+      (many : (us : List Event) → length looked + steps us ≡ steps (e ∷ us))
+      (woven : (us : List Event) (fs : List (List ℕ))
+      → interleaving (map Happens (e ∷ us)) (looked ++ fs) ≡ came ++ interleaving (map Happens us) fs)
+      (asks_on : (us : List Event) (fs : List (List ℕ)) → asks c (map Happens (e ∷ us)) (looked ++ fs)
+      ≡ asked ++ asks (core_after img c came) (map Happens us) fs) where
+    behind : (es : List Event) (found : List (List ℕ)) (front : List Request) (bit : ℕ)
+        → Posts (core_after img c came) es found front bit → Posts c (e ∷ es) (looked ++ found) (asked ++ front) bit
+    behind es found front bit p = record {
+      earlier = e ∷ p.earlier;
+      later = p.later;
+      parts = ap (λ us. e ∷ us) p.parts;
+      seen = looked ++ p.seen;
+      words = p.words;
+      unseen = p.unseen;
+      found_parts = ap (λ fs. looked ++ fs) p.found_parts ∙ sym (append_assoc looked p.seen (p.words ∷ p.unseen));
+      many = omega (arith, length-append looked p.seen, p.many, many p.earlier);
+      made_parts =
+          ap (λ rs. asked ++ rs) p.made_parts
+          ∙ sym (append_assoc asked (asks (core_after img c came) (map Happens p.earlier) p.seen)
+          (look_requests here p.words))
+          ∙ ap (λ rs. rs ++ look_requests here p.words) (sym (asks_on p.earlier p.seen));
+      post = p.post;
+      irq = p.irq;
+      shows =
+          ap (λ es. (step img (core_after img c (es ++ look_arrivals p.words))).1) (woven p.earlier p.seen)
+          ∙ ap (λ es. (step img (core_after img c es)).1)
+          (append_assoc came (interleaving (map Happens p.earlier) p.seen) (look_arrivals p.words))
+          ∙ ap (λ (d : Core). (step img d).1)
+          (core_after-append img c came (interleaving (map Happens p.earlier) p.seen ++ look_arrivals p.words))
+          ∙ p.shows;
+      leads = p.leads;
+      is = p.is;
+    }
 
-  -- an event before turns that comes without a look and asks for nothing
-  behind_event : (t : Turn) (e : Event)
-      → ((us : List Turn) (fs : List (List ℕ)) → interleaving (t ∷ us) fs ≡ e ∷ interleaving us fs) → (c : Core)
-      → ((us : List Turn) (fs : List (List ℕ)) → asks c (t ∷ us) fs ≡ asks (core_after img c (e ∷ [])) us fs)
-      → (ts : List Turn) (found : List (List ℕ)) (front : List Request) (bit : ℕ)
-      → Posts (core_after img c (e ∷ [])) ts found front bit → Posts c (t ∷ ts) found front bit
-  unfolding core_after
-  behind_event t e woven c asked ts found front bit p = record {
-    earlier = t ∷ p.earlier;
-    later = p.later;
-    parts = ap (λ us. t ∷ us) p.parts;
-    seen = p.seen;
-    words = p.words;
-    unseen = p.unseen;
-    found_parts = p.found_parts;
-    made_parts = p.made_parts ∙ ap (λ rs. rs ++ look_requests here p.words) (sym (asked p.earlier p.seen));
-    post = p.post;
-    irq = p.irq;
-    shows =
-        ap (λ es. (step img (core_after img c (es ++ look_arrivals p.words))).1) (woven p.earlier p.seen) ∙ p.shows;
-    leads = p.leads;
-    is = p.is;
-  }
-
-  -- each pend among what turns ask for
-  pub posted : (c : Core) (ts : List Turn) (found : List (List ℕ)) (front rest : List Request) (bit : ℕ)
-      → front ++ Pends bit ∷ rest ≡ asks c ts found → Posts c ts found front bit
-  unfolding core_after
-  posted c [] found front rest bit same = absurd (none_in front rest (Pends bit) same)
-  posted c (Happens Tick ∷ ts) found front rest bit same =
-      behind_event (Happens Tick) Tick (λ us fs. refl) c (λ us fs. refl) ts found front bit
-      (posted (core_after img c (Tick ∷ [])) ts found front rest bit same)
-  posted c (Happens (Arrive irq) ∷ ts) found front rest bit same =
-      behind_event (Happens (Arrive irq)) (Arrive irq) (λ us fs. refl) c (λ us fs. refl) ts found front bit
-      (posted (core_after img c (Arrive irq ∷ [])) ts found front rest bit same)
-  posted c (Happens Step ∷ ts) [] front rest bit same = absurd (none_in front rest (Pends bit) same)
-  posted c (Happens Step ∷ ts) (ws ∷ found) front rest bit same =
-      let look : List Request = look_requests here ws in
-      let shown : Option What = (step img (core_after img c (look_arrivals ws))).1 in
-      let posts : List Request = post_requests route there shown in
-      let d : Core = core_after img c (look_arrivals ws ++ Step ∷ []) in
-      elim (split_at front rest look (posts ++ asks d ts found) (Pends bit) same) [
+  -- each pend among what the events of a core ask for
+  pub posted : (c : Core) (es : List Event) (found : List (List ℕ)) (front rest : List Request) (bit : ℕ)
+      → front ++ Pends bit ∷ rest ≡ asks c (turns es) found → Posts c es found front bit
+  posted c [] [] front rest bit same = absurd (none_in front rest (Pends bit) same)
+  posted c [] (ws ∷ found) front rest bit same =
+      elim (split_at front rest (look_requests here ws) [] (Pends bit) same) [
         | inl looked ↦ absurd (no_pend here ws front looked.0 bit looked.1)
-        | inr behind ↦ elim (split_at behind.0 rest posts (asks d ts found) (Pends bit) behind.2) [
-          | inl now ↦ let p = posted_here shown behind.0 now.0 bit (sym now.1) in
+        | inr past ↦ absurd (none_in past.0 rest (Pends bit) past.2)
+      ]
+  posted c (Tick ∷ es) found front rest bit same =
+      behind c Tick [] (Tick ∷ []) [] (λ us. omega arith) (λ us fs. refl) (λ us fs. refl) es found front bit
+      (posted (core_after img c (Tick ∷ [])) es found front rest bit same)
+  posted c (Arrive irq ∷ es) found front rest bit same =
+      behind c (Arrive irq) [] (Arrive irq ∷ []) [] (λ us. omega arith) (λ us fs. refl) (λ us fs. refl) es found front
+      bit (posted (core_after img c (Arrive irq ∷ [])) es found front rest bit same)
+  posted c (Step ∷ es) [] front rest bit same = absurd (none_in front rest (Pends bit) same)
+  posted c (Step ∷ es) (ws ∷ found) front rest bit same =
+      let look : List Request = look_requests here ws in
+      let posts : List Request = post_requests route there (shown c ws) in
+      let d : Core = core_after img c (look_arrivals ws ++ Step ∷ []) in
+      elim (split_at front rest look (posts ++ asks d (turns es) found) (Pends bit) same) [
+        | inl looked ↦ absurd (no_pend here ws front looked.0 bit looked.1)
+        | inr past ↦ elim (split_at past.0 rest posts (asks d (turns es) found) (Pends bit) past.2) [
+          | inl now ↦ let p = posted_here (shown c ws) past.0 now.0 bit (sym now.1) in
               record {
                 earlier = [];
-                later = ts;
+                later = es;
                 parts = refl;
                 seen = [];
                 words = ws;
                 unseen = found;
                 found_parts = refl;
-                made_parts = behind.1 ∙ ap (λ rs. look ++ rs) p.0 ∙ append-nil look;
+                many = refl;
+                made_parts = past.1 ∙ ap (λ rs. look ++ rs) p.0 ∙ append-nil look;
                 post = p.1.0;
                 irq = p.1.1;
                 shows = p.1.2;
                 leads = p.1.3;
                 is = p.1.4;
               }
-          | inr then ↦ let p = posted d ts found then.0 rest bit then.2 in
-              record {
-                earlier = Happens Step ∷ p.earlier;
-                later = p.later;
-                parts = ap (λ us. Happens Step ∷ us) p.parts;
-                seen = ws ∷ p.seen;
-                words = p.words;
-                unseen = p.unseen;
-                found_parts = ap (λ fs. ws ∷ fs) p.found_parts;
-                made_parts =
-                    behind.1
-                    ∙ ap (λ rs. look ++ rs) (then.1 ∙ ap (λ rs. posts ++ rs) p.made_parts
-                    ∙ sym (append_assoc posts (asks d p.earlier p.seen) (look_requests here p.words)))
-                    ∙ sym (append_assoc look (posts ++ asks d p.earlier p.seen) (look_requests here p.words));
-                post = p.post;
-                irq = p.irq;
-                shows =
-                    ap (λ es. (step img (core_after img c es)).1)
-                    (append_assoc (look_arrivals ws) (Step ∷ interleaving p.earlier p.seen) (look_arrivals p.words))
-                    ∙ ap (λ (e : Core). (step img e).1)
-                    (sym (behind_step c (look_arrivals ws) (interleaving p.earlier p.seen ++ look_arrivals p.words)))
-                    ∙ p.shows;
-                leads = p.leads;
-                is = p.is;
-              }
+          | inr then ↦
+              subst (λ rs. Posts c (Step ∷ es) (ws ∷ found) rs bit)
+              (append_assoc look posts then.0 ∙ ap (λ rs. look ++ rs) (sym then.1) ∙ sym past.1)
+              (behind c Step (ws ∷ []) (look_arrivals ws ++ Step ∷ []) (look ++ posts) (λ us. omega arith)
+              (λ us fs. sym (append_assoc (look_arrivals ws) (Step ∷ []) (interleaving (map Happens us) fs)))
+              (λ us fs. sym (append_assoc look posts (asks d (map Happens us) fs))) es found then.0 bit
+              (posted d es found then.0 rest bit then.2))
         ]
-      ]
-  posted c (Looks ∷ ts) [] front rest bit same = absurd (none_in front rest (Pends bit) same)
-  posted c (Looks ∷ ts) (ws ∷ found) front rest bit same =
-      let d : Core = core_after img c (look_arrivals ws) in
-      elim (split_at front rest (look_requests here ws) (asks d ts found) (Pends bit) same) [
-        | inl looked ↦ absurd (no_pend here ws front looked.0 bit looked.1)
-        | inr then ↦ let p = posted d ts found then.0 rest bit then.2 in
-            record {
-              earlier = Looks ∷ p.earlier;
-              later = p.later;
-              parts = ap (λ us. Looks ∷ us) p.parts;
-              seen = ws ∷ p.seen;
-              words = p.words;
-              unseen = p.unseen;
-              found_parts = ap (λ fs. ws ∷ fs) p.found_parts;
-              made_parts =
-                  then.1 ∙ ap (λ rs. look_requests here ws ++ rs) p.made_parts
-                  ∙ sym (append_assoc (look_requests here ws) (asks d p.earlier p.seen) (look_requests here p.words));
-              post = p.post;
-              irq = p.irq;
-              shows =
-                  ap (λ es. (step img (core_after img c es)).1)
-                  (append_assoc (look_arrivals ws) (interleaving p.earlier p.seen) (look_arrivals p.words))
-                  ∙ ap (λ (e : Core). (step img e).1)
-                  (core_after-append img c (look_arrivals ws) (interleaving p.earlier p.seen ++ look_arrivals p.words))
-                  ∙ p.shows;
-              leads = p.leads;
-              is = p.is;
-            }
       ]
