@@ -1,7 +1,8 @@
 use Rattle.std.proofs.Common.{◌≡◌, ◌+◌, ◌<◌, ◌++◌, ◌∷◌, [], ℕ, List, Option, None, length, slice_index_or, sym, subst}
 use Rattle.std.proofs.Common.{ap, ◌∙◌, arith, length-append}
+use Rattle.std.proofs.lemmas.List.{get_or_past}
 use Rattle.rt_dual.specs.Forwarded.{forward}
-use Rattle.rt_dual.proofs.Routing.{places_more, places_above}
+use Rattle.rt_dual.proofs.Routing.{places_more}
 use Rattle.rt_dual.proofs.routes.table_of.Goals as goal
 
 pub loop-number-preserved : goal.loop-number-preserved
@@ -21,5 +22,5 @@ loop-number-preserved c =
 
 pub returns-clause-above : goal.returns-clause-above
 returns-clause-above c irq high =
-    places_above c.loop-number.places.items irq
+    get_or_past c.loop-number.places.items irq None
     (omega (arith, c.loop-number.invariant.all, c.loop-number.auto.number-end, high))
