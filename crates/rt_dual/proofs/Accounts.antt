@@ -1,78 +1,115 @@
 -- What the lines of both cores counted, as the rows of their accounts have it.
-use Rattle.std.proofs.Common.{◌≡◌, ℕ, List, [], ◌∷◌, map, length, Contains, inl, inr, ap, sym, subst, ◌∙◌}
+use Rattle.std.proofs.Common.{◌≡◌, ℕ, List, [], ◌∷◌, map, length, Contains, inl, inr, ap, sym, subst, ◌∙◌, arith}
 use Rattle.std.specs.List.{AllByRecursion}
+use Rattle.std.proofs.lemmas.List.Sums.{sum_by-cons}
 use Rattle.rt_lemmas.proofs.Membership.{contains_here, contains_cases, contains_none}
 use Rattle.rt_words.specs.Account.{IsTally}
 use Rattle.rt_words.specs.Ending.{AllGathered, OneHistory, calls_in}
 use Rattle.rt_words.specs.Lines.{Row, Line, numbers}
-use Rattle.rt_words.specs.declared.call.Call.{Call}
 use Rattle.rt_words.specs.declared.tally.Tally.{Tally}
 use Rattle.rt_words.specs.declared.view.Part.{Part}
-use Rattle.rt_live.specs.Account.{account_of, with_counts}
-use Rattle.rt_live.specs.Ready.{IsCounted}
+use Rattle.rt_live.specs.Account.{HasRoom, account_of, settled_row, with_counts}
+use Rattle.rt_live.specs.Ready.{IsCounted, irqs_of}
 use Rattle.rt_live.specs.declared.account.AccountRow.{AccountRow}
-use Rattle.rt_live.proofs.Tallied.{all_counted}
+use Rattle.rt_live.proofs.Tallied.{all_counted, counts_fit, rows_settled, same_irqs}
 use Rattle.rt_dual.specs.Course.{Place, second_place}
-use Rattle.rt_dual.specs.Inside.Both.{IsPlaced, AreAccounts}
+use Rattle.rt_dual.specs.Inside.Both.{IsPlaced, CanClose, AreAccounts}
 
 -- what the tally of a line in this place counts
-pub told : (place : Place) (row : Row) (line : Line) → IsPlaced place row line → (tally : Tally)
+told : {place : Place} {row : Row} {line : Line} → IsPlaced place row line → (tally : Tally)
     → IsTally line.here line.there line.calls tally → IsTally place.here place.there line.calls tally
-told place row line placed tally is =
+told {place = place} {line = line} placed tally is =
     subst (λ n. IsTally n place.there line.calls tally) placed.here
     (subst (λ n. IsTally line.here n line.calls tally) placed.there is)
 
-abbrev part_of : Line → Part
-part_of line = record { line = 254; calls = line.calls }
+-- the rows of both cores, their lines, and what the second counted
+module _ {row : Row} {first second : Line} {ones twos : List AccountRow} (can : CanClose row first second ones twos)
+    {near beyond : Line} (is_near : near ≡ first) (is_beyond : beyond ≡ second) (far : Tally)
+    (is_far : IsTally beyond.here beyond.there beyond.calls far) where
+  abbrev part : Part
+  part = record { line = 254; calls = second.calls }
 
--- the first line took in the second
-module _ (core : ℕ) (row : Row) (first then second : Line) (placed : IsPlaced second_place row second)
-    (none : first.gathered ≡ [])
-    (maker : then ≡ record first {
+  -- rows that counted nothing count what it did, and there is room for more
+  module _ (core : ℕ) (rows : List AccountRow) (none : AllByRecursion (IsCounted core []) rows) where
+    counted : AllByRecursion (IsCounted core (part ∷ [])) (map (with_counts core 1 0 far) rows)
+    counted =
+        all_counted core 1 0 [] part far
+        (told {place = second_place} can.second_line far
+        (subst (λ (l : Line). IsTally l.here l.there l.calls far) is_beyond is_far)) rows none
+
+    pub more : AllByRecursion HasRoom (map (with_counts core 1 0 far) rows)
+    more =
+        counts_fit core (part ∷ []) (map (with_counts core 1 0 far) rows)
+        (omega (arith, can.few, sum_by-cons (λ (p : Part). length p.calls) part [])) counted
+
+  -- the first line has taken it in
+  module _ {then : Line} (is_taken : then ≡ record near {
+    gathered = record { line = beyond.number; calls = beyond.calls } ∷ near.gathered;
+    since = length near.calls;
+  }) where
+    is_then : then ≡ record first {
       gathered = record { line = second.number; calls = second.calls } ∷ first.gathered;
       since = length first.calls;
-    }) where
-  gathered : then.gathered ≡ part_of second ∷ []
-  gathered =
-      ap (λ (l : Line). l.gathered) maker
-      ∙ ap (λ n. record { line = n; calls = second.calls } ∷ first.gathered) placed.number
-      ∙ ap (λ (ps : List Part). part_of second ∷ ps) none
+    }
+    is_then =
+        is_taken
+        ∙ ap (λ (l : Line). record l {
+          gathered = record { line = beyond.number; calls = beyond.calls } ∷ l.gathered;
+          since = length l.calls;
+        }) is_near
+        ∙ ap (λ (l : Line). record first {
+          gathered = record { line = l.number; calls = l.calls } ∷ first.gathered;
+          since = length first.calls;
+        }) is_beyond
 
-  pub taken_in : (tally : Tally) → IsTally second.here second.there second.calls tally
-      → (rows rows' : List AccountRow) → rows' ≡ map (with_counts core 1 0 tally) rows
-      → AllByRecursion (IsCounted core []) rows → AllByRecursion (IsCounted core then.gathered) rows'
-  taken_in tally is rows rows' added counted =
-      subst (λ (ps : List Part). AllByRecursion (IsCounted core ps) rows') (sym gathered)
-      (subst (AllByRecursion (IsCounted core (part_of second ∷ []))) (sym added)
-      (all_counted core 1 0 [] (part_of second) tally (told second_place row second placed tally is) rows counted))
+    made : then.made ≡ 254 ∷ []
+    made = ap (λ (l : Line). l.made) is_then ∙ can.made
 
--- a line that made the second and gathered it has gathered all
-module _ (then : Line) (calls : List Call) (made : then.made ≡ 254 ∷ [])
-    (gathered : then.gathered ≡ record { line = 254; calls = calls } ∷ []) where
-  pub all_gathered : AllGathered then.made then.gathered
-  all_gathered number there =
-      subst (λ (ps : List Part). Contains (numbers ps) number) (sym gathered)
-      (subst (λ (ns : List ℕ). Contains ns number) made there)
+    gathered : then.gathered ≡ part ∷ []
+    gathered =
+        ap (λ (l : Line). l.gathered) is_then
+        ∙ ap (λ n. record { line = n; calls = second.calls } ∷ first.gathered) can.second_line.number
+        ∙ ap (λ (ps : List Part). part ∷ ps) can.gathered
 
-  pub are_accounts : (own : List Call) → then.calls ≡ own → (bits : List ℕ) (h : OneHistory then bits)
-      → (one_irqs two_irqs : List ℕ) (one two : List AccountRow)
-      → one ≡ account_of 0 one_irqs (calls_in h.history) bits
-      → two ≡ account_of 1 two_irqs (calls_in h.history) bits → AreAccounts own calls one_irqs two_irqs one two
-  are_accounts own is bits h one_irqs two_irqs one two one_is two_is = record {
-    history = h.history;
-    left = bits;
-    legal = h.legal;
-    first = h.own ∙ is;
-    second =
-        h.gathered (record { line = 254; calls = calls })
-        (subst (λ (ps : List Part). Contains ps (record { line = 254; calls = calls })) (sym gathered)
-        (contains_here (record { line = 254; calls = calls }) []));
-    others = λ number ne other.
-        h.unmade number ne (λ there.
-        elim (contains_cases 254 [] number (subst (λ (ns : List ℕ). Contains ns number) made there)) [
-          | inl same ↦ other (sym same)
-          | inr none ↦ contains_none number none
-        ]);
-    one_rows = one_is;
-    two_rows = two_is;
-  }
+    pub all_gathered : AllGathered then.made then.gathered
+    all_gathered number there =
+        subst (λ (ps : List Part). Contains (numbers ps) number) (sym gathered)
+        (subst (λ (ns : List ℕ). Contains ns number) made there)
+
+    module _ (bits : List ℕ) (h : OneHistory then bits) (own : Tally)
+        (is_own : IsTally then.here then.there then.calls own) where
+      counts : IsTally 0 1 then.calls own
+      counts =
+          subst (λ n. IsTally n 1 then.calls own) (ap (λ (l : Line). l.here) is_then ∙ can.first_line.here)
+          (subst (λ n. IsTally then.here n then.calls own)
+          (ap (λ (l : Line). l.there) is_then ∙ can.first_line.there) is_own)
+
+      settled : (core : ℕ) (rows : List AccountRow) → AllByRecursion (IsCounted core []) rows
+          → map (settled_row core bits) (map (with_counts core 0 1 own) (map (with_counts core 1 0 far) rows))
+          ≡ account_of core (irqs_of rows) (calls_in h.history) bits
+      settled core rows none =
+          rows_settled core 0 1 then bits h own counts (map (with_counts core 1 0 far) rows)
+          (subst (λ (ps : List Part). AllByRecursion (IsCounted core ps) (map (with_counts core 1 0 far) rows))
+          (sym gathered) (counted core rows none))
+          ∙ ap (λ irqs. account_of core irqs (calls_in h.history) bits) (same_irqs core 1 0 far rows)
+
+      -- so the rows with what both counted and what is left are the accounts
+      pub are_accounts : {one two : List AccountRow}
+          → one ≡ map (settled_row 0 bits) (map (with_counts 0 0 1 own) (map (with_counts 0 1 0 far) ones))
+          → two ≡ map (settled_row 1 bits) (map (with_counts 1 0 1 own) (map (with_counts 1 1 0 far) twos))
+          → AreAccounts first.calls second.calls (irqs_of ones) (irqs_of twos) one two
+      are_accounts one_is two_is = record {
+        history = h.history;
+        left = bits;
+        legal = h.legal;
+        first = h.own ∙ ap (λ (l : Line). l.calls) is_then;
+        second = h.gathered part (subst (λ (ps : List Part). Contains ps part) (sym gathered) (contains_here part []));
+        others = λ number ne other.
+            h.unmade number ne (λ there.
+            elim (contains_cases 254 [] number (subst (λ (ns : List ℕ). Contains ns number) made there)) [
+              | inl same ↦ other (sym same)
+              | inr none ↦ contains_none number none
+            ]);
+        one_rows = one_is ∙ settled 0 ones can.one_counted;
+        two_rows = two_is ∙ settled 1 twos can.two_counted;
+      }

@@ -1,0 +1,30 @@
+use Rattle.std.proofs.Common.{List, length, drop, map, ap, sym, subst, ◌∙◌}
+use Rattle.std.specs.List.{AllByRecursion}
+use Rattle.std.proofs.lemmas.List.{take_at}
+use Rattle.rt_live.specs.Account.{HasRoom, settled_row, with_counts}
+use Rattle.rt_live.specs.declared.account.AccountRow.{AccountRow}
+use Rattle.rt_dual.proofs.closing.account_of.Goals as goal
+
+pub enter_left-requires-clause-room : goal.enter_left-requires-clause-room
+enter_left-requires-clause-room c =
+    let rows = c.args.rows in
+    let counted : List AccountRow = c.add_counts.new.rows in
+    subst (AllByRecursion HasRoom)
+    (sym (c.deref_mut-2.ensures.value
+    ∙ take_at counted (drop (length counted) rows.items) rows.len (c.add_counts.auto.rows ∙ c.deref_mut.ensures.len)
+    ∙ c.add_counts.ensures
+    ∙ ap (map (with_counts c.args.core 1 0 c.args.far.now)) c.deref_mut.ensures.value)) c.requires.more
+
+pub returns : goal.returns
+returns c =
+    let rows = c.args.rows in
+    let counted : List AccountRow = c.add_counts.new.rows in
+    let out : List AccountRow = c.enter_left.new.rows in
+    take_at out _ rows.len (c.enter_left.auto.rows ∙ c.deref_mut-2.ensures.len)
+    ∙ c.enter_left.ensures
+    ∙ ap (λ (rs : List AccountRow). map (settled_row c.args.core c.args.left.now.bits)
+    (map (with_counts c.args.core 0 1 c.args.left.now.own) rs))
+    (c.deref_mut-2.ensures.value
+    ∙ take_at counted (drop (length counted) rows.items) rows.len (c.add_counts.auto.rows ∙ c.deref_mut.ensures.len)
+    ∙ c.add_counts.ensures
+    ∙ ap (map (with_counts c.args.core 1 0 c.args.far.now)) c.deref_mut.ensures.value)
