@@ -1,151 +1,136 @@
 -- What is written of two cores that have ended is a text that the definitions allow.
-use Rattle.std.proofs.Common.{◌≡◌, ℕ, List, ◌++◌, map, flat_map, codes, Option, Some, sym, ap, ◌∙◌}
-use Rattle.std.proofs.Common.{append_assoc, arith, Result, Ok, Err, OnOk, is_err, false}
-use Rattle.std.proofs.lemmas.Bool.{false≢true}
+use Rattle.std.proofs.Common.{◌≡◌, ℕ, List, [], ◌++◌, map, flat_map, Option, Some, sym, ap, subst, ◌∙◌}
+use Rattle.std.proofs.Common.{append_assoc, arith}
 use Rattle.std.proofs.lemmas.List.{append-nil}
 use Rattle.rt_ids.specs.Event.{Event, steps}
-use Rattle.rt_ids.specs.Names.{Names}
 use Rattle.rt_code.specs.Image.{Image}
-use Rattle.rt_core.specs.Core.{Core}
+use Rattle.rt_core.specs.Core.{Core, reset}
 use Rattle.rt_core.specs.Machine.{Machine, IsFresh}
 use Rattle.rt_core.specs.Trace.{labels, trace}
-use Rattle.rt_outside.specs.Bytes.{Took}
 use Rattle.rt_run.specs.Done.{Leads}
-use Rattle.rt_run.specs.Sending.{shown_items, lines_of}
+use Rattle.rt_run.specs.Sending.{lines_of}
 use Rattle.rt_script.specs.declared.line.Line.{Line}
 use Rattle.rt_trace.specs.Label.{items_of}
 use Rattle.rt_trace.specs.Text.{text, total_text, trace_text}
-use Rattle.rt_trace.specs.declared.item.Item.{Item}
 use Rattle.rt_words.specs.Ending.{calls_in}
 use Rattle.rt_words.specs.History.{part}
 use Rattle.rt_words.specs.declared.call.Entry.{Entry}
-use Rattle.rt_words.specs.Lines.{Row}
+use Rattle.rt_words.specs.Lines.{Row, Line as Caller}
 use Rattle.rt_live.specs.Account.{account_of, account_text}
-use Rattle.rt_live.specs.Interleaving.{interleaving}
+use Rattle.rt_live.specs.Interleaving.{looks}
 use Rattle.rt_live.specs.Ready.{irqs_of}
 use Rattle.rt_live.specs.Requests.{Request, request_of, turn_requests}
+use Rattle.rt_live.specs.Shares.{own_events}
 use Rattle.rt_live.specs.declared.account.AccountRow.{AccountRow}
 use Rattle.rt_live.specs.declared.share.Share.{Share}
-use Rattle.rt_live.specs.declared.share.Share.TheVariants.{First, Second}
-use Rattle.rt_dual.specs.Course.{Place, IsCourse, first_place, second_place, turns, first_events, second_events}
-use Rattle.rt_dual.specs.Doing.{HasPaired}
+use Rattle.rt_dual.specs.Course.{Place, IsCourse, turns, first_events, second_events, course_events}
 use Rattle.rt_dual.specs.Forwarded.{forward}
 use Rattle.rt_dual.specs.Output.{IsPairText, account, core_text, course_text}
-use Rattle.rt_dual.specs.Inside.Both.{IsBefore, AreBefore, HasEnded, HaveEnded, IsWritten, front}
+use Rattle.rt_dual.specs.Inside.Both.{HasRun, HaveRun, IsWritten, front}
 use Rattle.rt_dual.specs.declared.making.Both.{Both}
 use Rattle.rt_dual.specs.declared.making.Side.{Side}
 use Rattle.rt_dual.proofs.Beforehand.{own_calls, rows_irqs}
 
--- what a fresh core shows is the trace of its image
-module _ (m : Machine) (fresh : IsFresh m) (es : List Event) where
-  fresh_items : shown_items m es ≡ trace m.image es
-  fresh_items =
-      ap (λ k. items_of k (labels m.image m.core es)) fresh.steps
-      ∙ ap (λ (c : Core). items_of 0 (labels m.image c es)) fresh.core
+-- the lines of a fresh core, with the total, are the text of the trace of its image
+fresh_text : (m n : Machine) (es : List Event) → IsFresh m → Leads es m n → lines_of m es ++ total_text n.steps
+    ≡ trace_text m.image.names (record { items = trace m.image es; total = Some (steps es) })
+fresh_text m n es fresh run =
+    let put : ℕ → Core → List ℕ = λ k c. flat_map (text m.image.names) (items_of k (labels m.image c es)) in
+    ap (λ k. lines_of m es ++ total_text k) (let e : n.steps ≡ steps es = omega (arith, run.steps, fresh.steps) in e)
+    ∙ ap (λ k. put k m.core ++ total_text (steps es)) fresh.steps
+    ∙ ap (λ c. put 0 c ++ total_text (steps es)) fresh.core
+    ∙ ap (λ t. put 0 (reset m.image) ++ t) (sym (append-nil (total_text (steps es))))
 
-  -- and its lines with the total are the text of the trace
-  fresh_text : (n : Machine) → Leads es m n → lines_of m es ++ total_text n.steps
-      ≡ trace_text m.image.names (record { items = trace m.image es; total = Some (steps es) })
-  fresh_text n run =
-      ap (λ k. lines_of m es ++ total_text k) (let e : n.steps ≡ steps es = omega (arith, run.steps, fresh.steps) in e)
-      ∙ ap (λ (is : List Item). flat_map (text m.image.names) is ++ total_text (steps es)) fresh_items
-      ∙ ap (λ t. flat_map (text m.image.names) (trace m.image es) ++ t) (sym (append-nil (total_text (steps es))))
+-- one of the cores, which has ended on its side
+module _ {place : Place} {share : Share} {head : List ℕ} {row : Row} {other : Image} {script : List Line}
+    {m n : Machine} {side : Side} (run : HasRun place share head row other script m n side) (history : List Entry) where
+  abbrev events : List Event
+  events = own_events share script
 
--- one of the cores, with its side before and behind its run
-module _ (place : Place) (share : Share) (head : List ℕ) (row : Row) (other : Image) (es : List Event) (m n : Machine)
-    (side side' : Side) (fresh : IsFresh m) (before : IsBefore place share head row m.image other side)
-    (ended : HasEnded es m n side side') (history : List Entry) where
-  abbrev asks : (ℕ → Option ℕ) → ℕ → ℕ → Core → List Request
-  asks route here there core = turn_requests route here there m.image core (turns es) ended.ends.found
+  abbrev found : List (List ℕ)
+  found = run.ended.ends.found
 
-  pub is_course : part history place.line ≡ side'.line.value.calls
-      → IsCourse place m.image other.names es ended.ends.found history
-  is_course own = record {
-    bits = before.bits;
-    many = ended.ends.many;
-    whole = ended.ends.whole;
-    declared = ended.ends.declared;
-    called =
-        ap (map request_of) (own
-        ∙ own_calls place share head row m.image other side side' before es m n ended)
-        ∙ ended.ends.asked
-        ∙ ap (λ (r : ℕ → Option ℕ). asks r side.line.value.here side.line.value.there m.core)
-        (λ i post. before.routes post i)
-        ∙ ap (λ k. asks (forward m.image other.names) k side.line.value.there m.core) before.line.here
-        ∙ ap (λ k. asks (forward m.image other.names) place.here k m.core) before.line.there
-        ∙ ap (asks (forward m.image other.names) place.here place.there) fresh.core;
-  }
+  abbrev asks : (ℕ → Option ℕ) → ℕ → ℕ → Share → Core → List Request
+  asks route here there own core =
+      turn_requests route here there m.image core (turns (own_events own script)) found
+
+  pub is_course : part history place.line ≡ side.line.value.calls
+      → IsCourse place m.image other.names events found history
+  is_course own =
+      let line : Caller = run.old.line.value in
+      let by : Share = run.old.role.share in
+      record {
+        bits = run.before.at.bits;
+        many = run.ended.ends.many ∙ ap (λ s. looks (turns (own_events s script))) run.before.shares;
+        whole = run.ended.ends.whole;
+        declared = run.ended.ends.declared;
+        called =
+            ap (map request_of) (own ∙ own_calls run)
+            ∙ run.ended.ends.asked
+            ∙ ap (λ (r : ℕ → Option ℕ). asks r line.here line.there by m.core) (λ i post. run.before.routes post i)
+            ∙ ap (λ k. asks (forward m.image other.names) k line.there by m.core) run.before.at.placed.here
+            ∙ ap (λ k. asks (forward m.image other.names) place.here k by m.core) run.before.at.placed.there
+            ∙ ap (λ s. asks (forward m.image other.names) place.here place.there s m.core) run.before.shares
+            ∙ ap (asks (forward m.image other.names) place.here place.there share) run.fresh.core;
+      }
+
+  pub leads : Leads (course_events events found) m n
+  leads =
+      subst (λ s. Leads (course_events (own_events s script) found) m n) run.before.shares run.ended.ends.leads
 
   -- and its text
   pub core_written : (left : List ℕ) (rows : List AccountRow)
-      → rows ≡ account_of place.here (irqs_of side'.rows.items) (calls_in history) left
-      → side'.front.items ++ (side'.trace.bytes.items ++ account_text m.image.names rows)
-      ≡ core_text head m.image es ended.ends.found (account place.here m.image history left)
+      → rows ≡ account_of place.here (irqs_of side.rows.items) (calls_in history) left
+      → side.text.bytes.items ++ account_text m.image.names rows
+      ≡ core_text head m.image events found (account place.here m.image history left)
   core_written left rows are =
-      let told : List ℕ = course_text m.image es ended.ends.found in
-      ap (λ f. f ++ (side'.trace.bytes.items ++ account_text m.image.names rows)) (ended.front ∙ before.front)
-      ∙ ap (λ t. front head m.image ++ (t ++ account_text m.image.names rows))
-      (ended.ends.wrote
-      ∙ ap (λ x. x ++ (lines_of m (interleaving (turns es) ended.ends.found) ++ total_text n.steps)) before.kept
-      ∙ fresh_text m fresh (interleaving (turns es) ended.ends.found) n ended.ends.leads)
+      let told : List ℕ = course_text m.image events found in
+      ap (λ t. t ++ account_text m.image.names rows)
+      (run.ended.ends.wrote
+      ∙ ap (λ x. x ++ (lines_of m (course_events (own_events run.old.role.share script) found) ++ total_text n.steps))
+      run.before.text
+      ∙ ap (λ s. front head m.image ++ (lines_of m (course_events (own_events s script) found) ++ total_text n.steps))
+      run.before.shares
+      ∙ ap (λ t. front head m.image ++ t) (fresh_text m n (course_events events found) run.fresh leads))
+      ∙ append_assoc (front head m.image) told (account_text m.image.names rows)
       ∙ ap (λ rs. front head m.image ++ (told ++ account_text m.image.names rs))
-      (are
-      ∙ ap (λ irqs. account_of place.here irqs (calls_in history) left)
-      (rows_irqs place share head row m.image other side side' before es m n ended))
+      (are ∙ ap (λ irqs. account_of place.here irqs (calls_in history) left) (rows_irqs run))
       ∙ sym (append_assoc (front head m.image) told (account place.here m.image history left))
 
 -- both of them
-abbrev pub pair_text : (script : List Line) (a a' b b' : Machine) (old new : Both) (bytes : List ℕ) → IsFresh a
-    → IsFresh b → AreBefore a.image b.image old → HaveEnded script a a' b b' old new
-    → IsWritten a.image b.image new bytes → IsPairText a.image b.image script bytes
-pair_text script a a' b b' old new bytes fresh_a fresh_b before ended written =
+pub two_texts : {x x' y y' : List ℕ} → x ≡ x' → y ≡ y' → x ++ y ≡ x' ++ y'
+two_texts one two = cc
+
+abbrev pub pair_text : {script : List Line} {a a' b b' : Machine} {both : Both} {bytes : List ℕ}
+    → HaveRun script a a' b b' both → IsWritten a.image b.image both bytes → IsPairText a.image b.image script bytes
+pair_text run written =
     let are = written.are in
     record {
-      one = ended.one.ends.found;
-      two = ended.two.ends.found;
+      one = run.one.ended.ends.found;
+      two = run.two.ended.ends.found;
       history = are.history;
       left = are.left;
       legal = are.legal;
-      is_one =
-          is_course first_place First (codes "core 1\n") old.words b.image (first_events script) a a' old.first
-          new.first fresh_a before.one ended.one are.history are.first;
-      is_two =
-          is_course second_place Second (codes "core 2\n") old.words a.image (second_events script) b b' old.second
-          new.second fresh_b before.two ended.two are.history are.second;
+      is_one = is_course run.one are.history are.first;
+      is_two = is_course run.two are.history are.second;
       others = are.others;
       written =
           written.written
-          ∙ ap (λ t. t ++ (new.second.front.items ++ (new.second.trace.bytes.items
-          ++ account_text b.image.names written.two)))
-          (core_written first_place First (codes "core 1\n") old.words b.image (first_events script) a a' old.first
-          new.first fresh_a before.one ended.one are.history are.left written.one are.one_rows)
-          ∙ ap (λ t. core_text (codes "core 1\n") a.image (first_events script) ended.one.ends.found
-          (account 0 a.image are.history are.left) ++ t)
-          (core_written second_place Second (codes "core 2\n") old.words a.image (second_events script) b b'
-          old.second new.second fresh_b before.two ended.two are.history are.left written.two are.two_rows);
+          ∙ two_texts (core_written run.one are.history are.left written.one are.one_rows)
+          (core_written run.two are.history are.left written.two are.two_rows);
     }
 
--- and each core has done the events of its trace in it
-pub has_paired : (script : List Line) (a a' b b' : Machine) (old new : Both) (bytes : List ℕ) → IsFresh a → IsFresh b
-    → AreBefore a.image b.image old → HaveEnded script a a' b b' old new → IsWritten a.image b.image new bytes
-    → (x y : List ℕ) → Took x y bytes → HasPaired script a a' b b' x y
-has_paired script a a' b b' old new bytes fresh_a fresh_b before ended written x y took = record {
-  bytes = bytes;
-  is = pair_text script a a' b b' old new bytes fresh_a fresh_b before ended written;
-  took = took;
-  one_leads = ended.one.ends.leads;
-  two_leads = ended.two.ends.leads;
-}
-
--- the text of a core, part by part
-pub same_text : (f f' t t' : List ℕ) (n n' : Names) (rows : List AccountRow) → f ≡ f' → t ≡ t' → n ≡ n'
-    → f ++ (t ++ account_text n rows) ≡ f' ++ (t' ++ account_text n' rows)
-same_text f f' t t' n n' rows front_is trace_is names_are =
-    ap (λ x. x ++ (t ++ account_text n rows)) front_is
-    ∙ ap (λ x. f' ++ (x ++ account_text n rows)) trace_is
-    ∙ ap (λ (m : Names). f' ++ (t' ++ account_text m rows)) names_are
-
--- what is so where a result is no error
-pub where_ok : {T E : Type 0} (r : Result T E) (P : Type 0) → is_err r ≡ false → OnOk r P → P
-where_ok (Ok x) P fine h = h
-where_ok (Err e) P fine h = absurd (false≢true (sym fine))
+-- what is written when both have ended is such a text, and each core has done the events of its trace there
+pub finished : {script lines : List Line} {a a' b b' : Machine} {both : Both} {first second : Image} {bytes : List ℕ}
+    → HaveRun lines a a' b b' both → lines ≡ script → first ≡ a'.image → second ≡ b'.image
+    → IsWritten first second both bytes
+    → (is : IsPairText a.image b.image script bytes)
+    × Leads (course_events (first_events script) is.one) a a'
+    × Leads (course_events (second_events script) is.two) b b'
+finished {script = script} {a = a} {a' = a'} {b = b} {b' = b'} {both = both} {second = second} {bytes = bytes} run same
+    one two written =
+    let now : HaveRun script a a' b b' both = subst (λ s. HaveRun s a a' b b' both) same run in
+    let are : IsWritten a.image b.image both bytes =
+    subst (λ i. IsWritten a.image i both bytes) (two ∙ (leads now.two []).image)
+    (subst (λ i. IsWritten i second both bytes) (one ∙ (leads now.one []).image) written) in
+    (pair_text now are, leads now.one [], leads now.two [])

@@ -1,5 +1,5 @@
 -- Turns of which the first events were done.
-use Rattle.std.proofs.Common.{◌≡◌, ℕ, zero, suc, ◌+◌, ◌-◌, ◌<◌, ◌≤◌, inl, inr, List, [], ◌∷◌, ◌++◌, length, Option}
+use Rattle.std.proofs.Common.{◌≡◌, ℕ, zero, suc, ◌+◌, ◌-◌, ◌≤◌, inl, inr, List, [], ◌∷◌, ◌++◌, length, Option}
 use Rattle.std.proofs.Common.{refl, ap, sym, subst, ◌∙◌, append_assoc, arith, Result, Ok, Err, OnOk, OnErr}
 use Rattle.std.specs.List.{AllByRecursion}
 use Rattle.std.proofs.lemmas.List.{append-nil, length-append, length-replicate}
@@ -7,7 +7,6 @@ use Rattle.rt_lemmas.proofs.Membership.{all_append}
 use Rattle.rt_ids.specs.Event.{Event}
 use Rattle.rt_ids.specs.Names.{Names}
 use Rattle.rt_core.specs.Machine.{Machine}
-use Rattle.rt_run.specs.Sending.{EndsInItem}
 use Rattle.rt_run.proofs.Advancing.{stands_still}
 use Rattle.rt_run.proofs.Sent.{breaks_end}
 use Rattle.rt_lines.specs.Operand.{IsDeclared}
@@ -76,60 +75,44 @@ module _ (route : ℕ → Option ℕ) (ts : List Turn) (k l : Caller) (a b : Mac
 
   module _ (x y : List ℕ) where
     module _ (cut : Stops route ts k l a b x y) where
-      came : List Event
-      came = cut.breaks.done ++ cut.breaks.last ∷ []
-
-      all_parts : interleaving ts cut.found ++ look_arrivals cut.last ≡ came ++ cut.breaks.rest
-      unfolding came
-      all_parts = cut.breaks.parts ∙ sym (append_assoc cut.breaks.done (cut.breaks.last ∷ []) cut.breaks.rest)
-
-      ends : EndsInItem came a
-      unfolding came
-      ends = breaks_end (interleaving ts cut.found ++ look_arrivals cut.last) a b x y cut.breaks
-
-      at_end : cut.last ≡ [] → length cut.found ≤ looks ts → HasBegun ts a b
-      unfolding came
-      at_end none most = record {
-        found = cut.found;
-        few = most;
-        whole = cut.whole;
-        declared = cut.declared;
-        done = record {
-          done = came;
-          rest = cut.breaks.rest;
-          parts =
-              sym (append-nil (interleaving ts cut.found))
-              ∙ sym (ap (λ ws. interleaving ts cut.found ++ look_arrivals ws) none) ∙ all_parts;
-          leads = cut.breaks.leads;
-        };
-        stops = inr (inl ends);
-      }
-
-      in_midst : length cut.found < looks ts → HasBegun ts a b
-      unfolding came
-      in_midst less =
-          let more = interleaving_finished ts cut.found [] cut.last (zeros (16 - length cut.last)) less in
+      -- with these looks behind those that were whole
+      begun : (more : List (List ℕ)) (rest : List Event) → length cut.found + length more ≤ looks ts
+          → AllByRecursion IsWholeLook more → AllByRecursion (FindsDeclared a.image.names) more
+          → interleaving ts (cut.found ++ more) ≡ (interleaving ts cut.found ++ look_arrivals cut.last) ++ rest
+          → HasBegun ts a b
+      begun more rest few whole declared parts =
+          let came : List Event = cut.breaks.done ++ cut.breaks.last ∷ [] in
           record {
-            found = cut.found ++ padded_look cut.last ∷ [];
-            few = omega (arith, length-append cut.found (padded_look cut.last ∷ []), less);
-            whole =
-                all_append IsWholeLook cut.found (padded_look cut.last ∷ []) cut.whole
-                (padded_whole cut.last cut.short, tt);
-            declared =
-                all_append (FindsDeclared a.image.names) cut.found (padded_look cut.last ∷ []) cut.declared
-                (padded_declared a.image.names cut.last cut.last_declared, tt);
+            found = cut.found ++ more;
+            few = omega (arith, length-append cut.found more, few);
+            whole = all_append IsWholeLook cut.found more cut.whole whole;
+            declared = all_append (FindsDeclared a.image.names) cut.found more cut.declared declared;
             done = record {
               done = came;
-              rest = cut.breaks.rest ++ more.0;
-              parts = more.1 ∙ ap (λ es. es ++ more.0) all_parts ∙ append_assoc came cut.breaks.rest more.0;
+              rest = cut.breaks.rest ++ rest;
+              parts =
+                  parts
+                  ∙ ap (λ es. es ++ rest)
+                  (cut.breaks.parts ∙ sym (append_assoc cut.breaks.done (cut.breaks.last ∷ []) cut.breaks.rest))
+                  ∙ append_assoc came cut.breaks.rest rest;
               leads = cut.breaks.leads;
             };
-            stops = inr (inl ends);
+            stops = inr (inl (breaks_end (interleaving ts cut.found ++ look_arrivals cut.last) a b x y cut.breaks));
           }
 
       -- a fault came in the turns
       stopped : HasBegun ts a b
-      stopped = elim cut.few [ inl less ↦ in_midst less | inr most ↦ at_end most.0 most.1 ]
+      stopped = elim cut.few [
+        | inl less ↦
+            let more = interleaving_finished ts cut.found [] cut.last (zeros (16 - length cut.last)) less in
+            begun (padded_look cut.last ∷ []) more.0 (omega (arith, less)) (padded_whole cut.last cut.short, tt)
+            (padded_declared a.image.names cut.last cut.last_declared, tt) more.1
+        | inr most ↦
+            begun [] [] (omega (arith, most.1)) tt tt
+            (ap (interleaving ts) (append-nil cut.found) ∙ sym (append-nil (interleaving ts cut.found))
+            ∙ ap (λ ws. interleaving ts cut.found ++ look_arrivals ws) (sym most.0)
+            ∙ sym (append-nil (interleaving ts cut.found ++ look_arrivals cut.last)))
+      ]
 
     -- or behind them
     early_begun : EndsEarly route ts k l a b x y → HasBegun ts a b

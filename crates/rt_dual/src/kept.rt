@@ -1,31 +1,17 @@
-ghost use Rattle.std.specs.Prelude.{◌≡◌, ◌++◌, ℕ, ◌<◌, ◌≤◌, [], length, take, IfOk, OnOk, OnErr};
+ghost use Rattle.std.specs.Prelude.{◌≡◌, ◌++◌, ℕ, ◌<◌, ◌≤◌, length, take, IfOk, OnOk, OnErr};
 ghost use Rattle.rt_outside.specs.Bytes.{Took};
 ghost use Rattle.rt_outside.specs.Faults.{HasCause};
 ghost use Rattle.rt_outside.specs.Memory.{next_fault};
 
 use rt_outside::{Failed, Sink};
-use std::alloc::Global;
 
-/// The bytes of a trace, which is kept in memory until both cores have ended. As a sink it fails where memory is wanted
+/// The text of a core, which is kept in memory until both cores have ended. As a sink it fails where memory is wanted
 /// and not there.
 #[derive(Drop)]
 pub struct Kept {
     pub bytes: Vec<u8>,
     /// How often memory was not there; stands still at its type's end.
     pub failed: u64,
-}
-
-impl Kept {
-    /// No bytes, and no want of memory yet.
-    pub fn new(alloc: Global) -> Kept
-        ensures empty { result.bytes.items ≡ [] }
-        ensures quiet { result.failed ≡ 0 }
-    {
-        Kept {
-            bytes: Vec::new(alloc),
-            failed: 0,
-        }
-    }
 }
 
 impl Sink for Kept {

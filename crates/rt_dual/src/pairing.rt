@@ -78,9 +78,9 @@ pub fn pair<R: Threads + Sync, K: Sink, G: Gate + Sync>(
     let Ok(mut both) = both_of(alloc, first.image(), second.image()) else {
         return Err(LiveFail::NoMemory);
     };
-    if run_both(rt, first, second, lines, &mut both, gate).is_err() {
+    let Ok(()) = run_both(rt, first, second, lines, &mut both, gate) else {
         return Err(LiveFail::NoMemory);
-    }
+    };
     match put_both(both, first.image(), second.image(), out) {
         Ok(()) => Ok(()),
         Err(_) => Err(LiveFail::Fault),
@@ -106,24 +106,16 @@ fn put_both<K: Sink>(both: Both, first: &Image, second: &Image, out: &mut K) -> 
     let Side {
         line,
         role: _,
-        front,
-        trace,
+        text,
         rows,
     } = left;
     let Side {
         line: far_line,
         role: _,
-        front: far_front,
-        trace: far_trace,
+        text: far_text,
         rows: far_rows,
     } = right;
     let accounts = accounts_of(words, line, far_line, rows, far_rows);
-    put_core(out, &front, &trace.bytes, &accounts.0, &first.names)?;
-    put_core(
-        out,
-        &far_front,
-        &far_trace.bytes,
-        &accounts.1,
-        &second.names,
-    )
+    put_core(out, &text, &accounts.0, first)?;
+    put_core(out, &far_text, &accounts.1, second)
 }

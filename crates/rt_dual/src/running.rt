@@ -1,14 +1,13 @@
 // Both cores run beside each other.
-ghost use Rattle.std.specs.Prelude.{◌≡◌, ◌+◌, OnOk};
+ghost use Rattle.std.specs.Prelude.{◌≡◌, OnOk};
 ghost use Rattle.std.specs.Thread.{IsSync};
 ghost use Rattle.rt_code.specs.Lines.{HasLines};
 ghost use Rattle.rt_core.specs.Machine.{IsFresh};
-ghost use Rattle.rt_script.specs.Script.{IsScript, HasNames, count};
-ghost use Rattle.rt_live.specs.Able.{CanGo};
-ghost use Rattle.rt_live.specs.Shares.{HasOwnNames, own_events};
+ghost use Rattle.rt_script.specs.Script.{IsScript, HasNames};
+ghost use Rattle.rt_live.specs.Shares.{own_events};
 ghost use Rattle.rt_dual.specs.Course.{first_events, second_events, turns};
 ghost use Rattle.rt_dual.specs.Output.{HasBegun};
-ghost use Rattle.rt_dual.specs.Inside.Both.{AreBefore, HasEnded, HaveEnded, leads_by};
+ghost use Rattle.rt_dual.specs.Inside.Both.{AreBefore, CanRun, HasEnded, HaveRun};
 
 use crate::making::{Both, Side};
 use rt_core::Core;
@@ -31,10 +30,8 @@ fn run_side<G: Gate>(
     script: &[Line],
     gate: &G,
 ) -> Result<(), Failed>
-    requires can { CanGo (count script.now + 1) (leads_by side.old.role.routes) core.old side.old.line.value words.now }
-    requires declared { HasOwnNames side.old.role.share core.old.image.names script.now }
-    ensures ok { OnOk result
-        (HasEnded (own_events side.old.role.share script.now) core.old core.new side.old side.new) }
+    requires can { CanRun script.now core.old side.old words.now }
+    ensures ok { OnOk result (HasEnded script.now core.old core.new side.old side.new) }
     ensures begun { HasBegun (turns (own_events side.old.role.share script.now)) core.old core.new }
 {
     run_turns(
@@ -43,7 +40,7 @@ fn run_side<G: Gate>(
         words,
         &side.role,
         script,
-        &mut side.trace,
+        &mut side.text,
         gate,
     )
 }
@@ -60,37 +57,27 @@ fn beside<R: Threads + Sync, G: Gate + Sync>(
     script: &[Line],
     gate: &G,
 ) -> (Result<(), Failed>, Result<(), Failed>)
-    requires first_can { CanGo (count script.now + 1) (leads_by left.old.role.routes) first.old left.old.line.value
-        words.now }
-    requires second_can { CanGo (count script.now + 1) (leads_by right.old.role.routes) second.old
-        right.old.line.value words.now }
-    requires first_declared { HasOwnNames left.old.role.share first.old.image.names script.now }
-    requires second_declared { HasOwnNames right.old.role.share second.old.image.names script.now }
-    ensures first_ok { OnOk result.0
-        (HasEnded (own_events left.old.role.share script.now) first.old first.new left.old left.new) }
+    requires first_can { CanRun script.now first.old left.old words.now }
+    requires second_can { CanRun script.now second.old right.old words.now }
+    ensures first_ok { OnOk result.0 (HasEnded script.now first.old first.new left.old left.new) }
     ensures first_begun { HasBegun (turns (own_events left.old.role.share script.now)) first.old first.new }
-    ensures second_ok { OnOk result.1
-        (HasEnded (own_events right.old.role.share script.now) second.old second.new right.old right.new) }
+    ensures second_ok { OnOk result.1 (HasEnded script.now second.old second.new right.old right.new) }
     ensures second_begun { HasBegun (turns (own_events right.old.role.share script.now)) second.old second.new }
 {
     join_mut(
         rt,
         &mut || -> Result<(), Failed>
             requires sync { IsSync G.row }
-            requires can { CanGo (count script.now + 1) (leads_by left.now.role.routes) first.now left.now.line.value
-                words.now }
-            requires declared { HasOwnNames left.now.role.share first.now.image.names script.now }
-            ensures ok { OnOk result (HasEnded (own_events left.entry.now.role.share script.entry.now)
-                first.entry.now first.exit.now left.entry.now left.exit.now) }
+            requires can { CanRun script.now first.now left.now words.now }
+            ensures ok { OnOk result (HasEnded script.entry.now first.entry.now first.exit.now
+                left.entry.now left.exit.now) }
             ensures begun { HasBegun (turns (own_events left.entry.now.role.share script.entry.now))
                 first.entry.now first.exit.now }
         { run_side(first, left, words, script, gate) },
         &mut || -> Result<(), Failed>
-            requires can { CanGo (count script.now + 1) (leads_by right.now.role.routes) second.now
-                right.now.line.value words.now }
-            requires declared { HasOwnNames right.now.role.share second.now.image.names script.now }
-            ensures ok { OnOk result (HasEnded (own_events right.entry.now.role.share script.entry.now)
-                second.entry.now second.exit.now right.entry.now right.exit.now) }
+            requires can { CanRun script.now second.now right.now words.now }
+            ensures ok { OnOk result (HasEnded script.entry.now second.entry.now second.exit.now
+                right.entry.now right.exit.now) }
             ensures begun { HasBegun (turns (own_events right.entry.now.role.share script.entry.now))
                 second.entry.now second.exit.now }
         { run_side(second, right, words, script, gate) },
@@ -114,7 +101,7 @@ pub(crate) fn run_both<R: Threads + Sync, G: Gate + Sync>(
     requires before { AreBefore first.old.image second.old.image both.old }
     requires script { IsScript script.now }
     requires declared { HasNames first.old.image.names script.now }
-    ensures ok { OnOk result (HaveEnded script.now first.old first.new second.old second.new both.old both.new) }
+    ensures ok { OnOk result (HaveRun script.now first.old first.new second.old second.new both.new) }
     ensures first_begun { HasBegun (turns (first_events script.now)) first.old first.new }
     ensures second_begun { HasBegun (turns (second_events script.now)) second.old second.new }
 {

@@ -1,10 +1,9 @@
 -- What is made for both cores of a pair, and what is known when both have ended.
-use Rattle.std.specs.Prelude.{◌≡◌, ◌≢◌, ◌↔◌, ◌<◌, ℕ, ◌++◌, List, [], ◌∷◌, length, map, codes, slice_index_or, Option}
-use Rattle.std.specs.Prelude.{None, Contains, ◌^◌}
+use Rattle.std.specs.Prelude.{◌≡◌, ◌≢◌, ◌↔◌, ◌+◌, ◌<◌, ℕ, ◌++◌, List, [], ◌∷◌, length, map, codes, slice_index_or}
+use Rattle.std.specs.Prelude.{Option, None, Contains, ◌^◌}
 use Rattle.std.specs.List.{AllByRecursion}
 use Rattle.rt_code.specs.Image.{Image}
-use Rattle.rt_core.specs.Machine.{Machine}
-use Rattle.rt_ids.specs.Event.{Event}
+use Rattle.rt_core.specs.Machine.{Machine, IsFresh}
 use Rattle.rt_ids.specs.declared.limits.TheConstants.{IRQ_NUMBERS}
 use Rattle.rt_listing.specs.Listing.{listing}
 use Rattle.rt_listing.specs.Numbers.{HasTypedNumbers}
@@ -16,14 +15,17 @@ use Rattle.rt_words.specs.Row.{bit_in_row}
 use Rattle.rt_words.specs.declared.call.Call.{Call}
 use Rattle.rt_words.specs.declared.call.Entry.{Entry}
 use Rattle.rt_words.specs.declared.row.TheConstants.{ROW_WORDS}
+use Rattle.rt_live.specs.Able.{CanGo}
 use Rattle.rt_live.specs.Account.{account_of, account_text, declared_irqs, empty_row}
 use Rattle.rt_live.specs.Ready.{IsCounted, irqs_of}
+use Rattle.rt_live.specs.Shares.{HasOwnNames, own_events}
 use Rattle.rt_live.specs.Written.{EndsWhole}
 use Rattle.rt_live.specs.declared.account.AccountRow.{AccountRow}
 use Rattle.rt_live.specs.declared.share.Share.{Share}
 use Rattle.rt_live.specs.declared.share.Share.TheVariants.{First, Second}
+use Rattle.rt_script.specs.Script.{count as length_of}
 use Rattle.rt_script.specs.declared.line.Line.{Line}
-use Rattle.rt_dual.specs.Course.{Place, first_place, second_place, turns, first_events, second_events}
+use Rattle.rt_dual.specs.Course.{Place, first_place, second_place, turns}
 use Rattle.rt_dual.specs.Forwarded.{forward}
 use Rattle.rt_dual.specs.declared.making.Both.{Both}
 use Rattle.rt_dual.specs.declared.making.Side.{Side}
@@ -44,47 +46,63 @@ pub record IsPlaced (place : Place) (row : Row) (line : Caller) : Type 0 where
   pub here : line.here ≡ place.here
   pub there : line.there ≡ place.there
 
+-- of a core's bits in these words those of these interrupts are set, and no other
+abbrev pub HasBits : ℕ → List ℕ → List ℕ → Type 0
+HasBits core may irqs = (irq : ℕ) → irq < 512 → IsPending may (bit_in_row core irq) ↔ Contains irqs irq
+
+-- a core with this image, its line, which has made no call, and the rows of its account, which count nothing yet, have
+-- this place in these words
+pub record HasPlace (place : Place) (row : Row) (img : Image) (line : Caller) (account : List AccountRow) : Type 0
+  where
+    pub placed : IsPlaced place row line
+    pub unused : line.calls ≡ []
+    pub may : HasBits place.here row.may (declared_irqs img.names)
+    pub rows : account ≡ map empty_row (declared_irqs img.names)
+    pub bits : AllByRecursion (λ irq. irq < IRQ_NUMBERS) (declared_irqs img.names)
+
 -- what is made for a core, before its first event
 pub record IsBefore (place : Place) (share : Share) (head : List ℕ) (row : Row) (img other : Image) (side : Side)
     : Type 0 where
-  pub line : IsPlaced place row side.line.value
-  pub unused : side.line.value.calls ≡ []
+  pub at : HasPlace place row img side.line.value side.rows.items
   pub shares : side.role.share ≡ share
   pub routes : (irq : ℕ) → leads_by side.role.routes irq ≡ forward img other.names irq
-  pub front : side.front.items ≡ front head img
+  pub text : side.text.bytes.items ≡ front head img
   -- the listing in it is of this image alone
   pub numbers : HasTypedNumbers img
-  pub kept : side.trace.bytes.items ≡ []
-  pub rows : side.rows.items ≡ map empty_row (declared_irqs img.names)
-  pub bits : AllByRecursion (λ irq. irq < IRQ_NUMBERS) (declared_irqs img.names)
 
--- the bits of the declared interrupts of both applications
-abbrev pub bits_of_both : List ℕ → List ℕ → List ℕ
-bits_of_both first second = map (bit_in_row 0) first ++ map (bit_in_row 1) second
-
--- Both are so. The words have the bits of the declared interrupts of both, and the first core's line made the second's
--- and no other.
+-- Both are so, and the first core's line made the second's and no other.
 pub record AreBefore (first second : Image) (both : Both) : Type 0 where
   pub one : IsBefore first_place First (codes "core 1\n") both.words first second both.first
   pub two : IsBefore second_place Second (codes "core 2\n") both.words second first both.second
   pub many : count both.words ≡ ROW_WORDS
-  pub may : (bit : ℕ) → IsPending both.words.may bit
-      ↔ Contains (bits_of_both (declared_irqs first.names) (declared_irqs second.names)) bit
   pub made : both.first.line.value.made ≡ 254 ∷ []
   pub gathered : both.first.line.value.gathered ≡ []
 
--- a core has done its events, and of its side its line and its trace have changed
-pub record HasEnded (events : List Event) (m n : Machine) (old new : Side) : Type 0 where
-  pub ends : EndsWhole (leads_by old.role.routes) (turns events) old.line.value new.line.value m n
-      old.trace.bytes.items new.trace.bytes.items
-  pub front : new.front.items ≡ old.front.items
+-- a core can do its events of a script on its side
+pub record CanRun (script : List Line) (m : Machine) (side : Side) (row : Row) : Type 0 where
+  pub can : CanGo (length_of script + 1) (leads_by side.role.routes) m side.line.value row
+  pub declared : HasOwnNames side.role.share m.image.names script
+
+-- a core has done its events of a script, and of its side its line and its text have changed
+pub record HasEnded (script : List Line) (m n : Machine) (old new : Side) : Type 0 where
+  pub ends : EndsWhole (leads_by old.role.routes) (turns (own_events old.role.share script)) old.line.value
+      new.line.value m n old.text.bytes.items new.text.bytes.items
   pub rows : new.rows.items ≡ old.rows.items
 
+-- what was made for a core, which has done its events since
+pub record HasRun (place : Place) (share : Share) (head : List ℕ) (row : Row) (other : Image) (script : List Line)
+    (m n : Machine) (side : Side) : Type 0 where
+  pub fresh : IsFresh m
+  pub old : Side
+  pub before : IsBefore place share head row m.image other old
+  pub ended : HasEnded script m n old side
+
 -- both cores have ended
-pub record HaveEnded (script : List Line) (a a' b b' : Machine) (old new : Both) : Type 0 where
-  pub words : new.words ≡ old.words
-  pub one : HasEnded (first_events script) a a' old.first new.first
-  pub two : HasEnded (second_events script) b b' old.second new.second
+pub record HaveRun (script : List Line) (a a' b b' : Machine) (both : Both) : Type 0 where
+  pub one : HasRun first_place First (codes "core 1\n") both.words b.image script a a' both.first
+  pub two : HasRun second_place Second (codes "core 2\n") both.words a.image script b b' both.second
+  pub made : both.first.line.value.made ≡ 254 ∷ []
+  pub gathered : both.first.line.value.gathered ≡ []
 
 -- The words can be closed, which these lines called, the first of them having made the second alone. Their calls can be
 -- counted in these rows.
@@ -121,5 +139,5 @@ pub record IsWritten (first second : Image) (both : Both) (bytes : List ℕ) : T
   pub are : AreAccounts both.first.line.value.calls both.second.line.value.calls
       (irqs_of both.first.rows.items) (irqs_of both.second.rows.items) one two
   pub written : bytes
-      ≡ (both.first.front.items ++ (both.first.trace.bytes.items ++ account_text first.names one))
-      ++ (both.second.front.items ++ (both.second.trace.bytes.items ++ account_text second.names two))
+      ≡ (both.first.text.bytes.items ++ account_text first.names one)
+      ++ (both.second.text.bytes.items ++ account_text second.names two)

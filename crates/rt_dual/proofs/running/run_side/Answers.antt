@@ -8,5 +8,5 @@ pub returns-clause-begun : goal.returns-clause-begun
 returns-clause-begun g c =
     let side = c.args.side.now in
     has_begun (leads_by side.role.routes) (turns (own_events side.role.share c.args.script.now)) c.deref_mut.result.now
-    c.run_turns.new.line c.args.core.now c.run_turns.new.core side.trace.bytes.items c.run_turns.new.out.bytes.items
+    c.run_turns.new.line c.args.core.now c.run_turns.new.core side.text.bytes.items c.run_turns.new.out.bytes.items
     c.run_turns.result c.run_turns.ensures.ok c.run_turns.ensures.err
