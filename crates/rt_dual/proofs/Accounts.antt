@@ -23,19 +23,21 @@ told {place = place} {line = line} placed tally is =
     (subst (λ n. IsTally line.here n line.calls tally) placed.there is)
 
 -- the rows of both cores, their lines, and what the second counted
-module _ {row : Row} {first second : Line} {ones twos : List AccountRow} (can : CanClose row first second ones twos)
+module _ {row : Row} {first second : Line} {ones twos : List AccountRow} (closes : CanClose row first second ones twos)
     {near beyond : Line} (is_near : near ≡ first) (is_beyond : beyond ≡ second) (far : Tally)
     (is_far : IsTally beyond.here beyond.there beyond.calls far) where
+  can : CanClose row near beyond ones twos
+  can =
+      subst (λ (l : Line). CanClose row l beyond ones twos) (sym is_near)
+      (subst (λ (l : Line). CanClose row first l ones twos) (sym is_beyond) closes)
+
   abbrev part : Part
-  part = record { line = 254; calls = second.calls }
+  part = record { line = 254; calls = beyond.calls }
 
   -- rows that counted nothing count what it did, and there is room for more
   module _ (core : ℕ) (rows : List AccountRow) (none : AllByRecursion (IsCounted core []) rows) where
     counted : AllByRecursion (IsCounted core (part ∷ [])) (map (with_counts core 1 0 far) rows)
-    counted =
-        all_counted core 1 0 [] part far
-        (told {place = second_place} can.second_line far
-        (subst (λ (l : Line). IsTally l.here l.there l.calls far) is_beyond is_far)) rows none
+    counted = all_counted core 1 0 [] part far (told {place = second_place} can.second_line far is_far) rows none
 
     pub more : AllByRecursion HasRoom (map (with_counts core 1 0 far) rows)
     more =
@@ -43,32 +45,17 @@ module _ {row : Row} {first second : Line} {ones twos : List AccountRow} (can : 
         (omega (arith, can.few, sum_by-cons (λ (p : Part). length p.calls) part [])) counted
 
   -- the first line has taken it in
-  module _ {then : Line} (is_taken : then ≡ record near {
+  module _ {then : Line} (is_then : then ≡ record near {
     gathered = record { line = beyond.number; calls = beyond.calls } ∷ near.gathered;
     since = length near.calls;
   }) where
-    is_then : then ≡ record first {
-      gathered = record { line = second.number; calls = second.calls } ∷ first.gathered;
-      since = length first.calls;
-    }
-    is_then =
-        is_taken
-        ∙ ap (λ (l : Line). record l {
-          gathered = record { line = beyond.number; calls = beyond.calls } ∷ l.gathered;
-          since = length l.calls;
-        }) is_near
-        ∙ ap (λ (l : Line). record first {
-          gathered = record { line = l.number; calls = l.calls } ∷ first.gathered;
-          since = length first.calls;
-        }) is_beyond
-
     made : then.made ≡ 254 ∷ []
     made = ap (λ (l : Line). l.made) is_then ∙ can.made
 
     gathered : then.gathered ≡ part ∷ []
     gathered =
         ap (λ (l : Line). l.gathered) is_then
-        ∙ ap (λ n. record { line = n; calls = second.calls } ∷ first.gathered) can.second_line.number
+        ∙ ap (λ n. record { line = n; calls = beyond.calls } ∷ near.gathered) can.second_line.number
         ∙ ap (λ (ps : List Part). part ∷ ps) can.gathered
 
     pub all_gathered : AllGathered then.made then.gathered
@@ -102,8 +89,10 @@ module _ {row : Row} {first second : Line} {ones twos : List AccountRow} (can : 
         history = h.history;
         left = bits;
         legal = h.legal;
-        first = h.own ∙ ap (λ (l : Line). l.calls) is_then;
-        second = h.gathered part (subst (λ (ps : List Part). Contains ps part) (sym gathered) (contains_here part []));
+        first = h.own ∙ ap (λ (l : Line). l.calls) is_then ∙ ap (λ (l : Line). l.calls) is_near;
+        second =
+            h.gathered part (subst (λ (ps : List Part). Contains ps part) (sym gathered) (contains_here part []))
+            ∙ ap (λ (l : Line). l.calls) is_beyond;
         others = λ number ne other.
             h.unmade number ne (λ there.
             elim (contains_cases 254 [] number (subst (λ (ns : List ℕ). Contains ns number) made there)) [

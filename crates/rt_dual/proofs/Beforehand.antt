@@ -122,12 +122,8 @@ module _ {place : Place} {share : Share} {head : List ℕ} {row : Row} {m : Mach
 -- a new line stands in its place
 pub new_placed : (place : Place) (row : Row) (line : Caller) (made : List ℕ)
     → line ≡ record (new_line row place.line place.here place.there) { made = made } → IsPlaced place row line
-new_placed place row line made is = record {
-  words = ap (λ (l : Caller). l.words) is;
-  number = ap (λ (l : Caller). l.number) is;
-  here = ap (λ (l : Caller). l.here) is;
-  there = ap (λ (l : Caller). l.there) is;
-}
+new_placed place row line made is =
+    subst (IsPlaced place row) (sym is) (record { words = refl; number = refl; here = refl; there = refl })
 
 -- the interrupts of empty rows
 pub irqs_empty : (irqs : List ℕ) → irqs_of (map empty_row irqs) ≡ irqs
@@ -156,12 +152,10 @@ have_run {old = old} fresh_a fresh_b before one two = record {
 module _ {place : Place} {share : Share} {head : List ℕ} {row : Row} {other : Image} {script : List Line}
     {m n : Machine} {side : Side} (run : HasRun place share head row other script m n side) where
   still_placed : IsPlaced place row side.line.value
-  still_placed = record {
-    words = ap (λ (l : Caller). l.words) run.ended.ends.same ∙ run.before.at.placed.words;
-    number = ap (λ (l : Caller). l.number) run.ended.ends.same ∙ run.before.at.placed.number;
-    here = ap (λ (l : Caller). l.here) run.ended.ends.same ∙ run.before.at.placed.here;
-    there = ap (λ (l : Caller). l.there) run.ended.ends.same ∙ run.before.at.placed.there;
-  }
+  still_placed =
+      let at = run.before.at.placed in
+      subst (IsPlaced place row) (sym run.ended.ends.same)
+      (record { words = at.words; number = at.number; here = at.here; there = at.there })
 
   pub rows_irqs : irqs_of side.rows.items ≡ declared_irqs m.image.names
   rows_irqs = ap irqs_of (run.ended.rows ∙ run.before.at.rows) ∙ irqs_empty (declared_irqs m.image.names)
