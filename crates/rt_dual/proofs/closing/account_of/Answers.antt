@@ -1,19 +1,8 @@
-use Rattle.std.proofs.Common.{List, length, drop, map, ap, sym, subst, ◌∙◌}
-use Rattle.std.specs.List.{AllByRecursion}
+use Rattle.std.proofs.Common.{List, length, drop, map, ap, ◌∙◌}
 use Rattle.std.proofs.lemmas.List.{take_at}
-use Rattle.rt_live.specs.Account.{HasRoom, settled_row, with_counts}
+use Rattle.rt_live.specs.Account.{settled_row, with_counts}
 use Rattle.rt_live.specs.declared.account.AccountRow.{AccountRow}
 use Rattle.rt_dual.proofs.closing.account_of.Goals as goal
-
-pub enter_left-requires-clause-room : goal.enter_left-requires-clause-room
-enter_left-requires-clause-room c =
-    let rows = c.args.rows in
-    let counted : List AccountRow = c.add_counts.new.rows in
-    subst (AllByRecursion HasRoom)
-    (sym (c.deref_mut-2.ensures.value
-    ∙ take_at counted (drop (length counted) rows.items) rows.len (c.add_counts.auto.rows ∙ c.deref_mut.ensures.len)
-    ∙ c.add_counts.ensures
-    ∙ ap (map (with_counts c.args.core 1 0 c.args.far.now)) c.deref_mut.ensures.value)) c.requires.more
 
 pub returns : goal.returns
 returns c =
