@@ -43,7 +43,7 @@ use Rattle.rt_top.specs.Kinds.{Kind, kinds_of, IsOfKind, IsRefusedBy, IsRefusedA
 use Rattle.rt_top.specs.Kinds as kind
 use Rattle.rt_top.specs.Outputs.{Says, IsAudited, TellsDeepest, TellsTimes}
 use Rattle.rt_top.specs.Outputs as outputs
-use Rattle.rt_top.specs.Verified.{SaysImage, TellsImage, RefusesListing}
+use Rattle.rt_top.specs.Verified.{SaysImage, TellsImage}
 use Rattle.rt_top.specs.Verified as verified
 use Rattle.rt_top.specs.Defined.{Inputs, Writes, Defined, refused, output}
 
