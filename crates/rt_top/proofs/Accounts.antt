@@ -4,12 +4,11 @@ use Rattle.std.proofs.Common.{map}
 use Rattle.std.proofs.Common.{flat_map, codes, decimal, Option, Some, None, option_map, unwrap_or, refl, sym}
 use Rattle.std.proofs.Common.{arith, length-append}
 use Rattle.std.specs.List.{AllByRecursion}
-use Rattle.std.proofs.lemmas.List.{length-map}
 use Rattle.rt_lemmas.proofs.Lists.{find_has, flat_map-map}
 use Rattle.rt_ids.specs.Names.{Names, AreNames}
 use Rattle.rt_ids.specs.Naming.{irq_named, irq_name}
 use Rattle.rt_ids.specs.Word.{IsName}
-use Rattle.rt_live.specs.Account.{account_text, counts_of, declared_irqs}
+use Rattle.rt_live.specs.Account.{account_text, counts_of}
 use Rattle.rt_live.specs.declared.account.AccountRow.{AccountRow}
 use Rattle.rt_load.proofs.Lengths.{decimal_few}
 use Rattle.rt_trace.specs.Reading.{is_account}
@@ -74,26 +73,14 @@ line_few names row are =
       length-append (codes "account") (spaced_text (irq_name names row.irq ∷ map decimal (counts_of row))),
     )
 
-lines_few : (names : Names) (rows : List AccountRow) → AreNames names
+pub account_few : (names : Names) (rows : List AccountRow) → AreNames names
     → length (flat_map fed (account_lines names rows)) ≤ 301 * length rows
-lines_few names [] are = omega arith
-lines_few names (row ∷ rows) are =
+account_few names [] are = omega arith
+account_few names (row ∷ rows) are =
     omega (
       arith,
       line_few names row are,
-      lines_few names rows are,
+      account_few names rows are,
       length-append (account_line names row) (10 ∷ []),
       length-append (fed (account_line names row)) (flat_map fed (account_lines names rows)),
-    )
-
--- the account of the declared interrupts
-pub account_brief : (names : Names) (f : ℕ → AccountRow) → AreNames names
-    → length (flat_map fed (account_lines names (map f (declared_irqs names)))) ≤ 100000
-account_brief names f are =
-    omega (
-      arith,
-      lines_few names (map f (declared_irqs names)) are,
-      length-map (declared_irqs names) f,
-      length-map names.irqs (λ (irq : List ℕ × ℕ). irq.1),
-      are.few_irqs,
     )

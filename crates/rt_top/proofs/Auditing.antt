@@ -1,5 +1,5 @@
 -- How an auditor goes on by a line, and how it ends.
-use Rattle.std.proofs.Common.{◌≡◌, ℕ, suc, ◌+◌, ◌<◌, ◌≤◌, ◌^◌, ◌==◌, true, false, if◌then◌else◌, List, [], ◌∷◌}
+use Rattle.std.proofs.Common.{◌≡◌, ℕ, suc, ◌+◌, ◌≤◌, ◌==◌, true, false, if◌then◌else◌, List, [], ◌∷◌}
 use Rattle.std.proofs.Common.{◌++◌, length, Option, Some, None, Ok, Err, refl, sym, ap}
 use Rattle.std.proofs.Common.{subst, ◌∙◌, arith, append_assoc, append-nil, length-append}
 use Rattle.rt_ids.specs.Names.{Names}
@@ -13,7 +13,7 @@ use Rattle.rt_app.specs.Names.{names_of}
 use Rattle.rt_app.specs.Tree.{App}
 use Rattle.rt_app.specs.View.{app_of}
 use Rattle.rt_baker.specs.Audit.{IsVerdict}
-use Rattle.rt_baker.specs.Judge.{HasJudged, MayTake}
+use Rattle.rt_baker.specs.Judge.{HasJudged}
 use Rattle.rt_baker.specs.declared.judge.Judge.{Judge}
 use Rattle.rt_baker.specs.declared.verdict.Verdict.{Verdict}
 use Rattle.rt_baker_moves.specs.declared.machine.Machine.{Machine}
@@ -27,11 +27,11 @@ use Rattle.rt_trace.specs.declared.refusal.TraceRefused.{TraceRefused}
 use Rattle.rt_trace.proofs.Stepping.{line_passed, line_read, line_wrong, refused_so}
 use Rattle.rt_top.specs.Inside.Auditor.{Goes, Refuses, Stands, HasAudited, IsJudgedText}
 
-module _ (app : App) (names : Names) (ls : List (List ℕ)) (line : List ℕ) (old new : TraceReader) where
+module _ {app : App} {names : Names} {ls : List (List ℕ)} {old : TraceReader} (line : List ℕ) where
   -- a line that tells no item
-  pub goes_silent : (judge : Judge) → line_told names old.phase line ≡ Ok (new.phase, None)
+  pub goes_silent : {new : TraceReader} {judge : Judge} → line_told names old.phase line ≡ Ok (new.phase, None)
       → Goes app names ls old judge → Goes app names (ls ++ line ∷ []) new judge
-  goes_silent judge reads g = record {
+  goes_silent {new = new} reads g = record {
     items = g.items;
     few = omega (arith, g.few, length-append ls (line ∷ []));
     read =
@@ -40,10 +40,11 @@ module _ (app : App) (names : Names) (ls : List (List ℕ)) (line : List ℕ) (o
   }
 
   -- and one that tells an item
-  pub goes_on : (item : Item) (before after : Judge) → line_told names old.phase line ≡ Ok (new.phase, Some item)
+  pub goes_on : {new : TraceReader} {before after : Judge} (item : Item)
+      → line_told names old.phase line ≡ Ok (new.phase, Some item)
       → ((items : List Item) → HasJudged app items before → HasJudged app (items ++ item ∷ []) after)
       → Goes app names ls old before → Goes app names (ls ++ line ∷ []) new after
-  goes_on item before after reads judges g = record {
+  goes_on {new = new} item reads judges g = record {
     items = g.items ++ item ∷ [];
     few = omega (arith, g.few, length-append g.items (item ∷ []), length-append ls (line ∷ []));
     read =
@@ -53,10 +54,10 @@ module _ (app : App) (names : Names) (ls : List (List ℕ)) (line : List ℕ) (o
   }
 
   -- a line that is wrong
-  pub line_refuses : (judge : Judge) (number : ℕ) (refusal : TraceRefused) → suc (length ls) ≡ number
+  pub line_refuses : {judge : Judge} (number : ℕ) (refusal : TraceRefused) → suc (length ls) ≡ number
       → (w : Wrong) × (line_told names old.phase line ≡ Err w) × (refusal ≡ refusal_of w number)
       → Goes app names ls old judge → Refuses names (ls ++ line ∷ []) refusal
-  line_refuses judge number refusal counted (w, told, says) g = λ text behind short parts.
+  line_refuses number refusal counted (w, told, says) g = λ text behind short parts.
       refused_so names text (suc (length ls)) w refusal (record {
         short = short;
         before = ls;
@@ -97,23 +98,13 @@ few_lines text =
       count_by-le-length (λ b. b == 10) text,
     )
 
--- there are so few lines that another item may come
-pub may_take : (app : App) (names : Names) (ls : List (List ℕ)) (reader : TraceReader) (judge : Judge) (number : ℕ)
-    → suc (length ls) ≡ number → number < 2 ^ 32 → Goes app names ls reader judge → MayTake app judge
-may_take app names ls reader judge number counted small g = record {
-  items = g.items;
-  judged = g.judged;
-  few = omega (arith, g.few, counted, small);
-}
-
 some_same : (a b : App) → Some a ≡ Some b → a ≡ b
 some_same a b e = cc
 
 -- behind all lines of a text
-module _ (chosen : Option App) (names : Names) (machine : Machine) (reader : TraceReader) (judge : Judge)
-    (refusing : Option TraceRefused) (app : App) (text : List ℕ) (is : chosen ≡ Some app)
-    (short : length text ≤ TRACE_BYTES)
-    (h : HasAudited chosen names machine reader judge refusing (lines text)) where
+module _ {chosen : Option App} {names : Names} {machine : Machine} {reader : TraceReader} {judge : Judge}
+    {refusing : Option TraceRefused} {app : App} (text : List ℕ) (is : chosen ≡ Some app)
+    (short : length text ≤ TRACE_BYTES) (h : HasAudited chosen names machine reader judge refusing (lines text)) where
   same_app : app_of machine.code.now.app.now ≡ app
   same_app = some_same (app_of machine.code.now.app.now) app (sym h.chose ∙ is)
 
@@ -122,18 +113,12 @@ module _ (chosen : Option App) (names : Names) (machine : Machine) (reader : Tra
 
   pub end_wrong : (refusal : TraceRefused) → refusing ≡ Some refusal → IsRefused (names_of app) text refusal
   end_wrong refusal wrong =
-      let refuses : Refuses names (lines text) refusal =
-      subst (λ (r : Option TraceRefused). Stands (app_of machine.code.now.app.now) names (lines text) reader judge r)
-      wrong
-      h.stands in
+      let refuses = rw wrong at h.stands in
       subst (λ (n : Names). IsRefused n text refusal) same_names
       (refuses text [] short (sym (append-nil (lines text))))
 
   goes : refusing ≡ None → Goes (app_of machine.code.now.app.now) names (lines text) reader judge
-  goes none =
-      subst (λ (r : Option TraceRefused). Stands (app_of machine.code.now.app.now) names (lines text) reader judge r)
-      none
-      h.stands
+  goes none = rw none at h.stands
 
   pub end_unended : refusing ≡ None → (count : ℕ) (refusal : TraceRefused) → length (lines text) ≡ count
       → (w : Wrong) × (missing reader.phase ≡ Some w) × (refusal ≡ refusal_of w (count + 1))

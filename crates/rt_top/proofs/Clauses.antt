@@ -1,35 +1,31 @@
 -- From how a command was conducted to the clauses of the top call.
-use Rattle.std.proofs.Common.{◌≡◌, ℕ, zero, suc, ◌<◌, ◌≤◌, ◌⊎◌, List, inl, inr, subst, arith}
+use Rattle.std.proofs.Common.{◌≡◌, ℕ, zero, suc, ◌<◌, ◌≤◌, ◌⊎◌, List, length, Option, Some, inl, inr, subst, arith}
 use Rattle.rt_ids.specs.declared.status.Status.{Status}
 use Rattle.rt_ids.specs.declared.status.Status.TheVariants as status
-use Rattle.rt_top.specs.Words.{Command, Names, IsCommand}
+use Rattle.rt_top.specs.Words.{Command, Names}
 use Rattle.rt_top.specs.Kinds.{Kind, kinds_of}
 use Rattle.rt_top.specs.Defined.{Inputs}
 use Rattle.rt_top.specs.Inside.Decides.{Conducts}
 use Rattle.rt_top.specs.Inside.Meant.{command_word}
-use Rattle.rt_top.specs.Inside.Using.{Use, Unread, Failed, Sources, No, Then, Reading, Stopped, AreRead}
+use Rattle.rt_top.specs.Inside.Using.{Use, Unread, Failed, Sources, No, Then, AreUnread, AreRead}
 use Rattle.rt_top.specs.declared.command.Command as code
+use Rattle.rt_top.specs.declared.reply.Reply.{Reply}
+use Rattle.rt_top.specs.declared.reply.Reply.TheVariants as reply
 use Rattle.rt_top.proofs.CommandWords.{one_command}
 use Rattle.rt_top.proofs.Using.{failed_at, Did, behind}
-use Rattle.rt_top.specs.Inside.Using.{AreUnread}
-use Rattle.std.proofs.Common.{length}
 
 -- the words name one command, so this is the one that was conducted
-pub conducted : (words : List (List ℕ)) (c : code.Command) → Names words (command_word c) → (t : Inputs)
-    (sources : Sources) (before after : List ℕ) (fb fa : ℕ) (result : Status)
+pub conducted : {t : Inputs} {sources : Sources} {before after : List ℕ} {fb fa : ℕ} {result : Status}
+    (words : List (List ℕ)) (c : code.Command) → Names words (command_word c)
     → Conducts (command_word c) (kinds_of (command_word c)) t sources before after fb fa result → (e : Command)
     → Names words e → Conducts e (kinds_of e) t sources before after fb fa result
-conducted words c named t sources before after fb fa result k e named_so =
+conducted {t} {sources} {before} {after} {fb} {fa} {result} words c named k e named_so =
     subst (λ x. Conducts x (kinds_of x) t sources before after fb fa result)
     (one_command words (command_word c) e named named_so) k
 
--- words that name a command
-pub no_words : (words : List (List ℕ)) → (IsCommand words → ⊥) → {A : Type 0} → (c : Command) → Names words c → A
-no_words words none c named = absurd (none (c, named))
-
 -- of three sources one failed, and those behind it were not come to
-module _ (kinds : List Kind) (first a b d : List ℕ) (DA DB DD : ℕ → Use → Type 0) (end : Reading)
-    (read : AreRead kinds first (Then a DA (Then b DB (Then d DD No))) end) (is : end ≡ Stopped status.Read)
+module _ (kinds : List Kind) (first a b d : List ℕ) (DA DB DD : ℕ → Use → Type 0) (end : Option Reply)
+    (read : AreRead kinds first (Then a DA (Then b DB (Then d DD No))) end) (is : end ≡ Some (reply.Stop status.Read))
     (FA FB FD : Type 0) (fa : (limit : ℕ) → DA limit Failed → FA) (fb : (limit : ℕ) → DB limit Failed → FB)
     (fd : (limit : ℕ) → DD limit Failed → FD) where
   pub one_failed : ((1 ≤ length kinds) × FA × DB 0 Unread × DD 0 Unread) ⊎ ((2 ≤ length kinds) × FB × DD 0 Unread)

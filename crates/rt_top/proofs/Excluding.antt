@@ -1,7 +1,8 @@
 -- A text is refused or is read, not both, and the status that is due is one.
-use Rattle.std.proofs.Common.{◌≡◌, ℕ, List, [], ◌∷◌, inl, inr, refl, sym, ap, subst, ◌∙◌, arith}
+use Rattle.std.proofs.Common.{◌≡◌, ◌⊎◌, ℕ, true, List, [], ◌∷◌, inl, inr, refl, sym, ap, subst, ◌∙◌, arith}
 use Rattle.rt_ids.specs.Names.{Names}
 use Rattle.rt_ids.specs.declared.status.Status.{Status}
+use Rattle.rt_ids.specs.declared.status.Status.TheVariants as status
 use Rattle.rt_ast.specs.Tree as tree
 use Rattle.rt_grammar.specs.Text.{IsText}
 use Rattle.rt_parse.proofs.WholeOnly.{text_only}
@@ -9,7 +10,7 @@ use Rattle.rt_parse.proofs.WholeRefused.{text_not_refused}
 use Rattle.rt_app.specs.Names.{names_of}
 use Rattle.rt_app.specs.Tree.{App}
 use Rattle.rt_app.specs.Violation.{IsFirst}
-use Rattle.rt_baker.specs.Audit.{IsVerdict}
+use Rattle.rt_baker.specs.Audit.{IsVerdict, IsRight}
 use Rattle.rt_baker.specs.declared.verdict.Verdict.{Verdict}
 use Rattle.rt_baker.specs.declared.verdict.Verdict.TheVariants as judged
 use Rattle.rt_build.specs.Accepted.{tree_violations, IsApplication}
@@ -23,7 +24,7 @@ use Rattle.rt_load.specs.declared.refusal.LoadRefused.TheVariants as in_image
 use Rattle.rt_load.proofs.OneWay as listings
 use Rattle.rt_points.specs.Checked.{IsChecked}
 use Rattle.rt_resolve.specs.Resolved.{resolved_app}
-use Rattle.rt_app.specs.Forms.{has_response_times}
+use Rattle.rt_app.specs.Forms.{has_response_times, has_deepest_script}
 use Rattle.rt_rta.specs.Text as limits
 use Rattle.rt_rta.specs.declared.limits.Limit.{Limit}
 use Rattle.rt_rta.specs.declared.refusal.LimitsRefused.{LimitsRefused}
@@ -103,52 +104,61 @@ trace_read names more line shown (in_trace.UnknownName n) is met says =
     (read_one_way (trace.trace_reader names)).not_both more is.reached n trace_wrong.Name is.read met
 trace_read names more line shown in_trace.NoMemory is met says = says
 
--- a trace is judged in one way
-one_verdict : (app : App) (shown : Trace) (v w : Verdict) (a b : Status) (x y : List ℕ) → IsVerdict app shown v
-    → IsVerdict app shown w
-    → Says shown v a x → Says shown w b y → a ≡ b
-one_verdict app shown judged.Yes judged.Yes a b x y is other s t = s.0 ∙ sym t.0
-one_verdict app shown judged.Yes (judged.No n) a b x y is other s t = absurd (other.not_judged is.judged)
-one_verdict app shown (judged.No m) judged.Yes a b x y is other s t = absurd (is.not_judged other.judged)
-one_verdict app shown (judged.No m) (judged.No n) a b x y is other s t = s.0 ∙ sym t.0
+-- a status with which a command replies; the others say why the program stopped, or that there is no command
+abbrev pub IsReplied : Status → Type 0
+IsReplied status.Usage = ⊥
+IsReplied status.Read = ⊥
+IsReplied status.Write = ⊥
+IsReplied status.Memory = ⊥
+IsReplied other = Unit {0}
 
-audited_once : (text more : List ℕ) (a b : Status) (x y : List ℕ) → IsAudited text more a x → IsAudited text more b y
-    → a ≡ b
-audited_once text more a b x y one other =
+-- two statuses of what is due: commands reply with them, and they are one
+abbrev AreDue : Status → Status → Type 0
+AreDue a b = IsReplied a × (a ≡ b)
+
+due_as : (told a b : Status) → IsReplied told → a ≡ told → b ≡ told → AreDue a b
+due_as told a b replied is other = (subst IsReplied (sym is) replied, is ∙ sym other)
+
+-- the status says whether this is so
+abbrev SaysWhether : Type 0 → Status → Type 0
+SaysWhether P ended = ((ended ≡ status.Done) × P) ⊎ ((ended ≡ status.No) × ¬ P)
+
+whether_once : (P : Type 0) (a b : Status) → SaysWhether P a → SaysWhether P b → AreDue a b
+whether_once P a b (inl (is, p)) (inl (other, q)) = due_as status.Done a b tt is other
+whether_once P a b (inl (is, p)) (inr (other, not)) = absurd (not p)
+whether_once P a b (inr (is, not)) (inl (other, q)) = absurd (not q)
+whether_once P a b (inr (is, not)) (inr (other, none)) = due_as status.No a b tt is other
+
+judged_so : (app : App) (shown : Trace) (v : Verdict) (ended : Status) (bytes : List ℕ) → IsVerdict app shown v
+    → Says shown v ended bytes → SaysWhether (IsRight app shown) ended
+judged_so app shown judged.Yes ended bytes is s = inl (s.0, is)
+judged_so app shown (judged.No n) ended bytes is s = inr (s.0, λ (r : IsRight app shown). is.not_judged r.judged)
+
+deepened_so : (app : App) (ended : Status) (bytes : List ℕ) → TellsDeepest app ended bytes
+    → SaysWhether (has_deepest_script app ≡ true) ended
+deepened_so app ended bytes (outputs.reaches_bound bytes' form is) = inl (refl, form)
+deepened_so app ended bytes (outputs.no_script form) = inr (refl, λ e. absurd cc)
+
+timed_so : (app : App) (ls : List Limit) (ended : Status) (bytes : List ℕ) → TellsTimes app ls ended bytes
+    → SaysWhether (has_response_times app ≡ true) ended
+timed_so app ls ended bytes (outputs.responds rows form are hold) = inl (refl, form)
+timed_so app ls ended bytes (outputs.no_times form) = inr (refl, λ e. absurd cc)
+
+imaged_so : (image : Image) (ended : Status) (line : List ℕ) → TellsImage image ended line
+    → SaysWhether (IsChecked image) ended
+imaged_so image ended line (verified.is_safe checked safe) = inl (refl, checked)
+imaged_so image ended line (verified.breaks rule least) =
+    inr (refl, λ (checked : IsChecked image). least.broken (checked least.rule))
+
+audited_so : (text more : List ℕ) (a b : Status) (x y : List ℕ) → IsAudited text more a x → IsAudited text more b y
+    → AreDue a b
+audited_so text more a b x y one other =
     let app : other.app ≡ one.app = application_only text other.app one.app other.of_text one.of_text in
     let read = subst (λ p. trace.IsTraceText (names_of p) more other.trace) app other.read in
     let same : other.trace ≡ one.trace = one_trace (names_of one.app) more other.trace one.trace read one.read in
-    let is = subst (λ t. IsVerdict one.app t other.verdict) same
-    (subst (λ p. IsVerdict p other.trace other.verdict) app other.is) in
-    let says = subst (λ t. Says t other.verdict b y) same other.says in
-    one_verdict one.app one.trace one.verdict other.verdict a b x y one.is is one.says says
-
--- an application is of a form or is not
-deepened_once : (app : App) (a b : Status) (x y : List ℕ) → TellsDeepest app a x → TellsDeepest app b y → a ≡ b
-deepened_once app a b x y (outputs.reaches_bound one form is) (outputs.reaches_bound other form' is') = refl
-deepened_once app a b x y (outputs.reaches_bound one form is) (outputs.no_script form') = absurd cc
-deepened_once app a b x y (outputs.no_script form) (outputs.reaches_bound other form' is') = absurd cc
-deepened_once app a b x y (outputs.no_script form) (outputs.no_script form') = refl
-
-timed_once : (app app' : App) → app' ≡ app → (ls ls' : List Limit) (a b : Status) (x y : List ℕ) → TellsTimes app ls a x
-    → TellsTimes app' ls' b y → a ≡ b
-timed_once app app' same ls ls' a b x y (outputs.responds rows form are hold)
-    (outputs.responds rows' form' are' hold') = refl
-timed_once app app' same ls ls' a b x y (outputs.responds rows form are hold) (outputs.no_times form') =
-    let e = ap has_response_times same in absurd cc
-timed_once app app' same ls ls' a b x y (outputs.no_times form) (outputs.responds rows' form' are' hold') =
-    let e = ap has_response_times same in absurd cc
-timed_once app app' same ls ls' a b x y (outputs.no_times form) (outputs.no_times form') = refl
-
--- a listing is of one image, which is safe or is not
-told_once : (image image' : Image) → image' ≡ image → (a b : Status) (x y : List ℕ) → TellsImage image a x
-    → TellsImage image' b y → a ≡ b
-told_once image image' same a b x y (verified.is_safe checked safe) (verified.is_safe checked' safe') = refl
-told_once image image' same a b x y (verified.is_safe checked safe) (verified.breaks rule least) =
-    let other = subst IsChecked (sym same) checked in absurd (least.broken (other least.rule))
-told_once image image' same a b x y (verified.breaks rule least) (verified.is_safe checked safe) =
-    let other = subst IsChecked same checked in absurd (least.broken (other least.rule))
-told_once image image' same a b x y (verified.breaks rule least) (verified.breaks rule' least') = refl
+    whether_once (IsRight one.app one.trace) a b (judged_so one.app one.trace one.verdict a x one.is one.says)
+    (subst (λ t. SaysWhether (IsRight one.app t) b) same (subst (λ p. SaysWhether (IsRight p other.trace) b) app
+    (judged_so other.app other.trace other.verdict b y other.is other.says)))
 
 -- what is the listing of an image is not refused
 image_read : (text line : List ℕ) (image : Image) (refusal : LoadRefused) → IsListingText text image
@@ -181,14 +191,14 @@ one_of_each kind.Listing first text ended line (image, is) (told, (refusal, met,
 
 -- a refusal has the status of its kind
 one_refusal : (k : Kind) (first text : List ℕ) (a b : Status) (x y : List ℕ) → IsRefusedBy k first text a x
-    → IsRefusedBy k first text b y → a ≡ b
-one_refusal kind.Tree first text a b x y r s = r.0 ∙ sym s.0
-one_refusal kind.Application first text a b x y r s = r.0 ∙ sym s.0
-one_refusal kind.OtherApplication first text a b x y r s = r.0 ∙ sym s.0
-one_refusal kind.Script first text a b x y r s = r.0 ∙ sym s.0
-one_refusal kind.Trace first text a b x y r s = r.0 ∙ sym s.0
-one_refusal kind.Limits first text a b x y r s = r.0 ∙ sym s.0
-one_refusal kind.Listing first text a b x y r s = r.0 ∙ sym s.0
+    → IsRefusedBy k first text b y → AreDue a b
+one_refusal kind.Tree first text a b x y r s = due_as status.App a b tt r.0 s.0
+one_refusal kind.Application first text a b x y r s = due_as status.App a b tt r.0 s.0
+one_refusal kind.OtherApplication first text a b x y r s = due_as status.App a b tt r.0 s.0
+one_refusal kind.Script first text a b x y r s = due_as status.Text a b tt r.0 s.0
+one_refusal kind.Trace first text a b x y r s = due_as status.Text a b tt r.0 s.0
+one_refusal kind.Limits first text a b x y r s = due_as status.Text a b tt r.0 s.0
+one_refusal kind.Listing first text a b x y r s = due_as status.Text a b tt r.0 s.0
 
 -- each text is of its kind
 abbrev AreOfKinds : List Kind → List ℕ → List (List ℕ) → Type 0
@@ -207,7 +217,7 @@ none_refused (k ∷ kinds) first (text ∷ texts) ended line are (inr r) =
 
 -- and the first that is has one status
 one_among : (kinds : List Kind) (first : List ℕ) (texts : List (List ℕ)) (a b : Status) (x y : List ℕ)
-    → IsRefusedAmong kinds first texts a x → IsRefusedAmong kinds first texts b y → a ≡ b
+    → IsRefusedAmong kinds first texts a x → IsRefusedAmong kinds first texts b y → AreDue a b
 one_among [] first texts a b x y r s = absurd r
 one_among (k ∷ kinds) first [] a b x y r s = absurd r
 one_among (k ∷ kinds) first (text ∷ texts) a b x y (inl r) (inl s) = one_refusal k first text a b x y r s
@@ -234,33 +244,44 @@ all_read Pair t ended bytes (is, w) = (
   ((w.second, w.is_second.of_text), ((w.first, w.is_first.of_text, w.script, w.read), tt)),
 )
 
-one_output : (c : Command) (t : Inputs) (a b : Status) (x y : List ℕ) → Writes c t a x → Writes c t b y → a ≡ b
-one_output Audit t a b x y w v = audited_once t.first t.second a b x y w v
-one_output Deepest t a b x y (app, is, tells) (app', is', tells') =
-    deepened_once app a b x y tells
-    (subst (λ p. TellsDeepest p b y) (application_only t.first app' app is' is) tells')
+one_output : (c : Command) (t : Inputs) (a b : Status) (x y : List ℕ) → Writes c t a x → Writes c t b y → AreDue a b
+one_output Audit t a b x y w v = audited_so t.first t.second a b x y w v
+one_output Deepest t a b x y (app, is, tells) (other, is', tells') =
+    whether_once (has_deepest_script app ≡ true) a b (deepened_so app a x tells)
+    (subst (λ p. SaysWhether (has_deepest_script p ≡ true) b) (application_only t.first other app is' is)
+    (deepened_so other b y tells'))
 one_output Times t a b x y w v =
-    timed_once w.app v.app (application_only t.first v.app w.app v.of_text w.of_text) w.limits v.limits a b x y w.tells
-    v.tells
-one_output Verify t a b x y (image, is, tells) (image', is', tells') =
-    told_once image image' (listings.read_one_way.one_image t.first image' image is' is) a b x y tells tells'
-one_output Run t a b x y w v = w.0 ∙ sym v.0
-one_output Check t a b x y w v = w.0 ∙ sym v.0
-one_output Fmt t a b x y w v = w.0 ∙ sym v.0
-one_output Build t a b x y w v = w.0 ∙ sym v.0
-one_output Live t a b x y w v = w.0 ∙ sym v.0
-one_output Pair t a b x y w v = w.0 ∙ sym v.0
-one_output (Soak number count workers) t a b x y w v = w.0 ∙ sym v.0
-one_output (Demo n) t a b x y w v = w.0 ∙ sym v.0
+    whether_once (has_response_times w.app ≡ true) a b (timed_so w.app w.limits a x w.tells)
+    (subst (λ p. SaysWhether (has_response_times p ≡ true) b) (application_only t.first v.app w.app v.of_text w.of_text)
+    (timed_so v.app v.limits b y v.tells))
+one_output Verify t a b x y (image, is, tells) (other, is', tells') =
+    whether_once (IsChecked image) a b (imaged_so image a x tells)
+    (subst (λ i. SaysWhether (IsChecked i) b) (listings.read_one_way.one_image t.first other image is' is)
+    (imaged_so other b y tells'))
+one_output Run t a b x y w v = due_as status.Done a b tt w.0 v.0
+one_output Check t a b x y w v = due_as status.Done a b tt w.0 v.0
+one_output Fmt t a b x y w v = due_as status.Done a b tt w.0 v.0
+one_output Build t a b x y w v = due_as status.Done a b tt w.0 v.0
+one_output Live t a b x y w v = due_as status.Done a b tt w.0 v.0
+one_output Pair t a b x y w v = due_as status.Done a b tt w.0 v.0
+one_output (Soak number count workers) t a b x y w v = due_as status.Done a b tt w.0 v.0
+one_output (Demo n) t a b x y w v = due_as status.Done a b tt w.0 v.0
 
--- what is due has one status
-pub one_due : (c : Command) (t : Inputs) (a b : Status) (x y : List ℕ) → Defined c t a x → Defined c t b y → a ≡ b
-one_due c t a b x y (refused one line r) (refused other line' s) =
+-- what is due has one status, with which commands reply
+both_due : (c : Command) (t : Inputs) (a b : Status) (x y : List ℕ) → Defined c t a x → Defined c t b y → AreDue a b
+both_due c t a b x y (refused one line r) (refused other line' s) =
     one_among (kinds_of c) t.first (t.first ∷ t.second ∷ t.third ∷ []) one other line line' r s
-one_due c t a b x y (refused one line r) (output other bytes w) =
+both_due c t a b x y (refused one line r) (output other bytes w) =
     absurd (none_refused (kinds_of c) t.first (t.first ∷ t.second ∷ t.third ∷ []) one line (all_read c t other bytes w)
     r)
-one_due c t a b x y (output one bytes w) (refused other line s) =
+both_due c t a b x y (output one bytes w) (refused other line s) =
     absurd (none_refused (kinds_of c) t.first (t.first ∷ t.second ∷ t.third ∷ []) other line (all_read c t one bytes w)
     s)
-one_due c t a b x y (output one bytes w) (output other bytes' v) = one_output c t one other bytes bytes' w v
+both_due c t a b x y (output one bytes w) (output other bytes' v) = one_output c t one other bytes bytes' w v
+
+pub one_due : (c : Command) (t : Inputs) (a b : Status) (x y : List ℕ) → Defined c t a x → Defined c t b y → a ≡ b
+one_due c t a b x y d e = (both_due c t a b x y d e).1
+
+pub replied : (c : Command) (t : Inputs) (ended : Status) (bytes : List ℕ) → Defined c t ended bytes
+    → IsReplied ended
+replied c t ended bytes d = (both_due c t ended ended bytes bytes d d).0

@@ -1,5 +1,5 @@
 -- What follows from a reply.
-use Rattle.std.proofs.Common.{◌≡◌, ℕ, List, Result, Ok, Err, IfOk, OnErr, Vec, Global, refl, sym, subst}
+use Rattle.std.proofs.Common.{◌≡◌, List, ℕ, Result, Ok, Err, IfOk, OnErr, Vec, Global, refl, sym, subst}
 use Rattle.rt_ids.specs.declared.status.Status.{Status}
 use Rattle.rt_ids.specs.declared.status.Status.TheVariants as status
 use Rattle.rt_top.specs.Inside.Decides.{Tells}
@@ -7,17 +7,18 @@ use Rattle.rt_top.specs.Inside.Replies.{Replies}
 use Rattle.rt_top.specs.declared.reply.Reply.{Reply}
 use Rattle.rt_top.specs.declared.reply.Reply.TheVariants as reply
 
--- a reply with one status
-pub tells_as : (told : Status) (P : List ℕ → Type 0) (Q : Status → List ℕ → Type 0)
-    → ((bytes : List ℕ) → P bytes → Q told bytes) → (r : Reply) → Tells told P r → Replies Q r
-tells_as told P Q means (reply.Write ended text) (is, p) = subst (λ s. Q s text.items) (sym is) (means text.items p)
-tells_as told P Q means (reply.Stop ended) is = is
+-- a reply of which more is known
+pub replies_as : {P Q : Status → List ℕ → Type 0} (r : Reply) → Replies P r
+    → ((ended : Status) (bytes : List ℕ) → P ended bytes → Q ended bytes) → Replies Q r
+replies_as (reply.Write ended text) p means = means ended text.items p
+replies_as (reply.Stop ended) is means = is
 
--- and with one text
+-- and of one status and text
 pub line_tells : (told : Status) (line : List ℕ) (Q : Status → List ℕ → Type 0) → Q told line → (r : Reply)
     → Tells told (λ bytes. bytes ≡ line) r → Replies Q r
-line_tells told line Q q r tells =
-    tells_as told (λ bytes. bytes ≡ line) Q (λ bytes is. subst (Q told) (sym is) q) r tells
+line_tells told line Q q (reply.Write ended text) (is, says) =
+    subst (λ s. Q s text.items) (sym is) (subst (Q told) (sym says) q)
+line_tells told line Q q (reply.Stop ended) is = is
 
 -- the reply of a text that was made
 pub made_tells : {E : Type 0} (wanted : Status) (P : List ℕ → Type 0) (made : Result (Vec ℕ Global) E)

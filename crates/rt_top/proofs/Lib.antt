@@ -7,11 +7,8 @@ mod Ending
 mod Excluding
 mod Using
 mod Giving
-mod Refused
-mod Listed
 mod Ran
 mod Auditing
-mod Pairing
 mod Happening
 mod Accounts
 mod Audits

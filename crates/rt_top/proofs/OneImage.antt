@@ -1,5 +1,5 @@
 -- What is written of an application shows the image that `build` makes.
-use Rattle.std.proofs.Common.{◌≡◌, ℕ, List, ◌++◌, codes, sym, ap, subst, ◌∙◌, append_assoc}
+use Rattle.std.proofs.Common.{◌≡◌, ℕ, List, ◌++◌, codes, refl, sym, ap, subst, ◌∙◌}
 use Rattle.rt_app.specs.Names.{names_of}
 use Rattle.rt_app.specs.Tree.{App}
 use Rattle.rt_build.specs.Built.{IsBuilt}
@@ -16,7 +16,7 @@ use Rattle.rt_soak.specs.Soak.{irqs_of, soak_summary}
 use Rattle.rt_top.specs.OneImage.{OneListingIsBuilt, OneRunIsWritten, OneSoakIsWritten, IsListingThenTrace}
 use Rattle.rt_top.specs.OneImage.{RunsShowTheListing, LivesShowTheListing, PairsShowTheListings}
 use Rattle.rt_top.specs.Outputs.{IsGoodImage, IsListed}
-use Rattle.rt_top.specs.Inside.Replies.{run_text}
+use Rattle.rt_top.specs.Inside.Started.{run_text}
 use Rattle.rt_top.proofs.Excluding.{application_only}
 use Rattle.rt_top.proofs.Writings.{pair_parts}
 
@@ -82,18 +82,11 @@ pub pairs_show : PairsShowTheListings
 pairs_show text more last first second bytes l m p = record {
   one = _;
   two = _;
-  parts = pair_parts p.first p.first_image p.is_first.good p.is_first.numbers last p.script p.read p.second
-      p.second_image p.is_second.good p.is_second.numbers bytes p.written;
+  parts = pair_parts p.first_image p.second_image p.script bytes p.written;
   of_first = shows text first
       (course_text p.first_image (first_events p.script) p.written.one
-      ++ account 0 p.first_image p.written.history p.written.left) l p.first p.first_image p.is_first _
-      (append_assoc (listing p.first_image ++ codes "trace\n")
-      (course_text p.first_image (first_events p.script) p.written.one)
-      (account 0 p.first_image p.written.history p.written.left));
+      ++ account 0 p.first_image p.written.history p.written.left) l p.first p.first_image p.is_first _ refl;
   of_second = shows more second
       (course_text p.second_image (second_events p.script) p.written.two
-      ++ account 1 p.second_image p.written.history p.written.left) m p.second p.second_image p.is_second _
-      (append_assoc (listing p.second_image ++ codes "trace\n")
-      (course_text p.second_image (second_events p.script) p.written.two)
-      (account 1 p.second_image p.written.history p.written.left));
+      ++ account 1 p.second_image p.written.history p.written.left) m p.second p.second_image p.is_second _ refl;
 }

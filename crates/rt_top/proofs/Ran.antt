@@ -1,44 +1,25 @@
--- The answer of a run.
-use Rattle.std.proofs.Common.{◌≡◌, ℕ, List, ◌++◌, codes, inl, inr, refl, ap}
+-- How a command ends that writes what comes before a trace, and then what an image shows.
+use Rattle.std.proofs.Common.{ℕ, List, ◌++◌, inl, inr, refl}
+use Rattle.rt_ids.specs.declared.status.Status.{Status}
 use Rattle.rt_ids.specs.declared.status.Status.TheVariants as status
 use Rattle.rt_outside.specs.Bytes.{Took, TookPrefix}
 use Rattle.rt_outside.specs.Faults.{Rose}
-use Rattle.rt_code.specs.Image.{Image}
-use Rattle.rt_listing.specs.Listing.{listing}
-use Rattle.rt_listing.specs.Numbers.{HasTypedNumbers}
-use Rattle.rt_live.specs.Output.{IsLiveText}
-use Rattle.rt_run.specs.Written.{text_of}
-use Rattle.rt_script.specs.declared.line.Line.{Line}
+use Rattle.rt_run.proofs.Taking.{took_on, part_more, part_on}
 use Rattle.rt_top.specs.Inside.Decides.{EndsAs}
-use Rattle.rt_top.specs.Inside.Replies.{WantsMemory, run_text}
-use Rattle.rt_top.specs.Inside.Started.{ShowsRun, ShowsLive}
 
--- what stands in front of a trace, and the trace, are the text of a run
-pub run_bytes : (image : Image) (asked : List Line) (front : List ℕ) → front ≡ listing image ++ codes "trace\n"
-    → front ++ text_of image asked ≡ run_text image asked
-run_bytes image asked front is = ap (λ l. l ++ text_of image asked) is
+module _ (P : Status → List ℕ → Type 0) (front shown : List ℕ) (is : P status.Done (front ++ shown))
+    (before mid after : List ℕ) (fb fa : ℕ) where
+  -- all was written
+  pub all_ends : Took before mid front → Took mid after shown → EndsAs P before after fb fa status.Done
+  all_ends first rest =
+      inl (status.Done, front ++ shown, is, inl (refl, took_on before mid after front shown first rest))
 
--- a run was written, or the sink failed
-module _ (image : Image) (asked : List Line) (numbers : HasTypedNumbers image) (bytes : List ℕ)
-    (same : bytes ≡ run_text image asked) (before after : List ℕ) (fb fa : ℕ) where
-  pub whole_ends : Took before after bytes → EndsAs (ShowsRun image asked) WantsMemory before after fb fa status.Done
-  whole_ends took = inl (status.Done, bytes, (refl, numbers, same), inl (refl, took))
+  -- the sink failed in what is shown, or before it
+  pub part_ends : Rose fb fa → Took before mid front → TookPrefix mid after shown
+      → EndsAs P before after fb fa status.Write
+  part_ends rose first rest =
+      inl (status.Done, front ++ shown, is, inr (refl, rose, part_on before mid after front shown first rest))
 
-  pub part_ends : Rose fb fa → TookPrefix before after bytes
-      → EndsAs (ShowsRun image asked) WantsMemory before after fb fa status.Write
-  part_ends rose part = inl (status.Done, bytes, (refl, numbers, same), inr (refl, rose, part))
-
--- what `live` shows was written behind what stands in front of it, or the sink failed
-module _ (image : Image) (asked : List Line) (numbers : HasTypedNumbers image) (front : List ℕ)
-    (is : front ≡ listing image ++ codes "trace\n") (before after : List ℕ) (fb fa : ℕ) where
-  shows : (shown : List ℕ) → IsLiveText image asked shown → ShowsLive image asked status.Done (front ++ shown)
-  shows shown live = (refl, numbers, shown, live, ap (λ l. l ++ shown) is)
-
-  pub live_ends : (shown : List ℕ) × IsLiveText image asked shown × Took before after (front ++ shown)
-      → EndsAs (ShowsLive image asked) WantsMemory before after fb fa status.Done
-  live_ends (shown, live, took) = inl (status.Done, front ++ shown, shows shown live, inl (refl, took))
-
-  pub live_stops : Rose fb fa → (shown : List ℕ) × IsLiveText image asked shown
-      × TookPrefix before after (front ++ shown)
-      → EndsAs (ShowsLive image asked) WantsMemory before after fb fa status.Write
-  live_stops rose (shown, live, part) = inl (status.Done, front ++ shown, shows shown live, inr (refl, rose, part))
+  pub front_ends : Rose fb fa → TookPrefix before after front → EndsAs P before after fb fa status.Write
+  front_ends rose part =
+      inl (status.Done, front ++ shown, is, inr (refl, rose, part_more before after front shown part))

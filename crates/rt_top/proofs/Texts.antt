@@ -1,6 +1,6 @@
 -- What is read of a source: its bytes, a tree, an application, and texts over an application's names.
-use Rattle.std.proofs.Common.{◌≡◌, ℕ, ◌+◌, ◌≤◌, List, ◌++◌, length, codes, Option, Result, Ok, Err, IfOk, IfErr, Vec, vec_len}
-use Rattle.std.proofs.Common.{Global, inl, inr, refl, sym, ap, subst, arith}
+use Rattle.std.proofs.Common.{◌≡◌, ℕ, ◌+◌, ◌≤◌, List, ◌++◌, length, codes, Option, Result, Ok, Err, IfOk, IfErr, Vec}
+use Rattle.std.proofs.Common.{vec_len, Global, inl, inr, refl, sym, ap, subst, arith}
 use Rattle.rt_ids.specs.declared.status.Status.TheVariants as status
 use Rattle.rt_ast.specs.Tree as tree
 use Rattle.rt_grammar.specs.Text.{IsText}
@@ -13,7 +13,7 @@ use Rattle.rt_top.specs.Kinds as kind
 use Rattle.rt_top.specs.Reads.{given_by, IsReadWithin}
 use Rattle.rt_top.specs.Refusal.{RefusesText, RefusesApplication}
 use Rattle.rt_top.specs.Inside.Decides.{Tells, IsBrokenBy}
-use Rattle.rt_top.specs.Inside.Pairing.{IsOfSecond}
+use Rattle.rt_top.specs.Inside.Replies.{IsOfSecond}
 use Rattle.rt_top.specs.Inside.Using.{Use, Whole, Left, Reads, IsNotRead, refusal, stop}
 use Rattle.rt_top.specs.declared.reply.Reply.{Reply}
 use Rattle.rt_top.proofs.Conducting.{refusal_reads}

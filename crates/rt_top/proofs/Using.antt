@@ -1,13 +1,16 @@
--- What follows from how the texts of a command were read: which sources it did not come to, which it read whole, and why
--- it stops.
+-- What follows from how the texts of a command were read: which sources it did not come to, which it read whole, and
+-- why it stops.
 use Rattle.std.proofs.Common.{◌≡◌, ℕ, zero, suc, ◌<◌, ◌≤◌, ◌⊎◌, List, [], ◌∷◌, length, Option, Some}
 use Rattle.std.proofs.Common.{take, slice_get, inl, inr, refl, subst, arith}
 use Rattle.rt_ids.specs.declared.status.Status.{Status}
 use Rattle.rt_ids.specs.declared.status.Status.TheVariants as status
 use Rattle.rt_outside.specs.Bytes.{Past}
 use Rattle.rt_top.specs.Kinds.{Kind, most_bytes, IsRefusedAmong}
-use Rattle.rt_top.specs.Inside.Using.{Use, Unread, Whole, Failed, Left, HasUse, Sources, No, Then, AreUnread}
-use Rattle.rt_top.specs.Inside.Using.{Reading, Done, Refused, Stopped, AreRead}
+use Rattle.rt_top.specs.Inside.Replies.{Gives}
+use Rattle.rt_top.specs.Inside.Using.{Use, Unread, Whole, Failed, Left, HasUse, Sources, No, Then, AreUnread, AreRead}
+use Rattle.rt_top.specs.Inside.Using.{for_memory, at_fault, IsNotRead, refusal, stop}
+use Rattle.rt_top.specs.declared.reply.Reply.{Reply}
+use Rattle.rt_top.specs.declared.reply.Reply.TheVariants as reply
 use Rattle.rt_top.proofs.Excluding.{one_of_each}
 
 -- what the sources gave, how many they are, those behind so many, and what was done with the one behind so many
@@ -40,7 +43,7 @@ did_unread zero (Then gave Does more) u = u.0
 did_unread (suc n) (Then gave Does more) u = did_unread n more u.1
 
 -- the sources that a command does not come to
-pub skipped : (n : ℕ) (kinds : List Kind) (first : List ℕ) (sources : Sources) (end : Reading)
+pub skipped : (n : ℕ) (kinds : List Kind) (first : List ℕ) (sources : Sources) (end : Option Reply)
     → AreRead kinds first sources end
     → (length kinds ≤ n)
     ⊎ ((ended : Status) × (line : List ℕ) × IsRefusedAmong (take n kinds) first (gaves sources) ended line)
@@ -55,57 +58,43 @@ skipped (suc n) (k ∷ kinds) first (Then gave Does more) end (inl (whole, is, r
     absurd (one_of_each k first gave ended line is r)
 skipped (suc n) (k ∷ kinds) first (Then gave Does more) end (inl (whole, is, read)) (inr (ended, line, inr r)) =
     skipped n kinds first more end read (inr (ended, line, r.1))
-skipped (suc n) (k ∷ kinds) first (Then gave Does more) end (inr (inl (whole, unread, r))) skips =
-    unread_behind n more unread
-skipped (suc n) (k ∷ kinds) first (Then gave Does more) end (inr (inr (inl (failed, unread, is)))) skips =
-    unread_behind n more unread
-skipped (suc n) (k ∷ kinds) first (Then gave Does more) end (inr (inr (inr (left, unread, is)))) skips =
+skipped (suc n) (k ∷ kinds) first (Then gave Does more) end (inr (r, is, none, unread)) skips =
     unread_behind n more unread
 
 -- the sources that it comes to, where the program does not stop
-pub read_whole : (n : ℕ) (kinds : List Kind) (first : List ℕ) (sources : Sources) (end : Reading) (k : Kind)
+pub read_whole : (n : ℕ) (kinds : List Kind) (first : List ℕ) (sources : Sources) (end : Option Reply) (k : Kind)
     → AreRead kinds first sources end → slice_get kinds n ≡ Some k
     → ((ended : Status) (line : List ℕ) → IsRefusedAmong (take n kinds) first (gaves sources) ended line → ⊥)
-    → ((ended : Status) → end ≡ Stopped ended → ⊥) → Did n sources (most_bytes k) Whole
+    → ((ended : Status) → end ≡ Some (reply.Stop ended) → ⊥) → Did n sources (most_bytes k) Whole
 read_whole n [] first sources end k read is passed alive = absurd cc
 read_whole n (j ∷ kinds) first No end k read is passed alive = absurd read
 read_whole zero (j ∷ kinds) first (Then gave Does more) end k (inl (whole, of, read)) is passed alive =
     let same : j ≡ k = cc in subst (λ x. Does (most_bytes x) Whole) same whole
 read_whole (suc n) (j ∷ kinds) first (Then gave Does more) end k (inl (whole, of, read)) is passed alive =
     read_whole n kinds first more end k read is (λ ended line r. passed ended line (inr (of, r))) alive
-read_whole zero (j ∷ kinds) first (Then gave Does more) end k (inr (inl (whole, unread, r))) is passed alive =
-    let same : j ≡ k = cc in subst (λ x. Does (most_bytes x) Whole) same whole
-read_whole (suc n) (j ∷ kinds) first (Then gave Does more) (Refused ended line) k (inr (inl (whole, unread, r))) is
-    passed alive = absurd (passed ended line (inl r))
-read_whole (suc n) (j ∷ kinds) first (Then gave Does more) Done k (inr (inl (whole, unread, r))) is passed alive =
-    absurd r
-read_whole (suc n) (j ∷ kinds) first (Then gave Does more) (Stopped ended) k (inr (inl (whole, unread, r))) is passed
-    alive = absurd r
-read_whole n (j ∷ kinds) first (Then gave Does more) end k (inr (inr (inl (failed, unread, stops)))) is passed alive =
-    absurd (alive status.Read stops)
-read_whole n (j ∷ kinds) first (Then gave Does more) end k (inr (inr (inr (left, unread, stops)))) is passed alive =
-    absurd (alive status.Memory stops)
+read_whole n (j ∷ kinds) first (Then gave Does more) end k (inr (r, ends, stop ended stops, unread)) is passed alive =
+    absurd (alive ended ends)
+read_whole zero (j ∷ kinds) first (Then gave Does more) end k (inr (r, ends, refusal ended line whole by, unread)) is
+    passed alive = let same : j ≡ k = cc in subst (λ x. Does (most_bytes x) Whole) same whole
+read_whole (suc n) (j ∷ kinds) first (Then gave Does more) end k (inr (r, ends, refusal ended line whole by, unread))
+    is passed alive = absurd (passed ended line.items (inl by))
 
 -- what was done with a source; only one that failed stops the program so
-pub did : (n : ℕ) (kinds : List Kind) (first : List ℕ) (sources : Sources) (end : Reading)
+pub did : (n : ℕ) (kinds : List Kind) (first : List ℕ) (sources : Sources) (end : Option Reply)
     → AreRead kinds first sources end
-    → (limit : ℕ) × (how : Use) × Did n sources limit how × (how ≡ Failed → end ≡ Stopped status.Read)
+    → (limit : ℕ) × (how : Use) × Did n sources limit how × (how ≡ Failed → end ≡ Some (reply.Stop status.Read))
 did n [] first sources end read = (0, Unread, did_unread n sources read.0, λ e. absurd cc)
 did n (k ∷ kinds) first No end read = absurd read
 did zero (k ∷ kinds) first (Then gave Does more) end (inl (whole, is, read)) =
     (most_bytes k, Whole, whole, λ e. absurd cc)
-did zero (k ∷ kinds) first (Then gave Does more) end (inr (inl (whole, unread, r))) =
+did zero (k ∷ kinds) first (Then gave Does more) end (inr (r, is, refusal ended line whole by, unread)) =
     (most_bytes k, Whole, whole, λ e. absurd cc)
-did zero (k ∷ kinds) first (Then gave Does more) end (inr (inr (inl (failed, unread, is)))) =
+did zero (k ∷ kinds) first (Then gave Does more) end (inr (r, is, stop ended (at_fault failed), unread)) =
     (most_bytes k, Failed, failed, λ e. is)
-did zero (k ∷ kinds) first (Then gave Does more) end (inr (inr (inr (left, unread, is)))) =
+did zero (k ∷ kinds) first (Then gave Does more) end (inr (r, is, stop ended (for_memory left), unread)) =
     (most_bytes k, Left, left, λ e. absurd cc)
 did (suc n) (k ∷ kinds) first (Then gave Does more) end (inl (whole, is, read)) = did n kinds first more end read
-did (suc n) (k ∷ kinds) first (Then gave Does more) end (inr (inl (whole, unread, r))) =
-    (0, Unread, did_unread n more unread, λ e. absurd cc)
-did (suc n) (k ∷ kinds) first (Then gave Does more) end (inr (inr (inl (failed, unread, is)))) =
-    (0, Unread, did_unread n more unread, λ e. absurd cc)
-did (suc n) (k ∷ kinds) first (Then gave Does more) end (inr (inr (inr (left, unread, is)))) =
+did (suc n) (k ∷ kinds) first (Then gave Does more) end (inr (r, is, none, unread)) =
     (0, Unread, did_unread n more unread, λ e. absurd cc)
 
 -- a count of faults did not change, or this is so
@@ -118,8 +107,8 @@ quiet past left faults old new limit Failed P u told = inr (told refl)
 quiet past left faults old new limit Left P u told = inl u
 
 -- where a source failed, it is one that the command has a text in, and none behind it was come to
-pub failed_at : (kinds : List Kind) (first : List ℕ) (sources : Sources) (end : Reading)
-    → AreRead kinds first sources end → end ≡ Stopped status.Read
+pub failed_at : (kinds : List Kind) (first : List ℕ) (sources : Sources) (end : Option Reply)
+    → AreRead kinds first sources end → end ≡ Some (reply.Stop status.Read)
     → (n limit : ℕ) × (n < length kinds) × (n < count sources) × Did n sources limit Failed
     × AreUnread (behind (suc n) sources)
 failed_at [] first sources end read is = let e = read.1 in absurd cc
@@ -127,53 +116,33 @@ failed_at (k ∷ kinds) first No end read is = absurd read
 failed_at (k ∷ kinds) first (Then gave Does more) end (inl (whole, of, read)) is =
     let (n, limit, within, there, failed, unread) = failed_at kinds first more end read is in
     (suc n, limit, omega (arith, within), omega (arith, there), failed, unread)
-failed_at (k ∷ kinds) first (Then gave Does more) Done (inr (inl (whole, unread, r))) is = absurd r
-failed_at (k ∷ kinds) first (Then gave Does more) (Refused ended line) (inr (inl (whole, unread, r))) is = absurd cc
-failed_at (k ∷ kinds) first (Then gave Does more) (Stopped ended) (inr (inl (whole, unread, r))) is = absurd r
-failed_at (k ∷ kinds) first (Then gave Does more) end (inr (inr (inl (failed, unread, stops)))) is =
+failed_at (k ∷ kinds) first (Then gave Does more) end (inr (r, ends, refusal ended line whole by, unread)) is =
+    absurd cc
+failed_at (k ∷ kinds) first (Then gave Does more) end (inr (r, ends, stop ended (at_fault failed), unread)) is =
     (0, most_bytes k, omega arith, omega arith, failed, unread)
-failed_at (k ∷ kinds) first (Then gave Does more) end (inr (inr (inr (left, unread, stops)))) is = absurd cc
+failed_at (k ∷ kinds) first (Then gave Does more) end (inr (r, ends, stop ended (for_memory left), unread)) is =
+    absurd cc
 
--- where one text is refused, it is so among all
-pub refused_among : (kinds : List Kind) (first : List ℕ) (sources : Sources) (ended : Status) (line : List ℕ)
-    → AreRead kinds first sources (Refused ended line) → IsRefusedAmong kinds first (gaves sources) ended line
-refused_among [] first sources ended line read = let e = read.1 in absurd cc
-refused_among (k ∷ kinds) first No ended line read = absurd read
-refused_among (k ∷ kinds) first (Then gave Does more) ended line (inl (whole, is, read)) =
-    inr (is, refused_among kinds first more ended line read)
-refused_among (k ∷ kinds) first (Then gave Does more) ended line (inr (inl (whole, unread, r))) = inl r
-refused_among (k ∷ kinds) first (Then gave Does more) ended line (inr (inr (inl (failed, unread, is)))) = absurd cc
-refused_among (k ∷ kinds) first (Then gave Does more) ended line (inr (inr (inr (left, unread, is)))) = absurd cc
+-- a reply in place of an output: a text is refused, and those before it are not, or the program stops
+abbrev pub EndedBy : List Kind → List ℕ → List (List ℕ) → Reply → Type 0
+EndedBy kinds first texts r =
+    Gives (IsRefusedAmong kinds first texts) (λ ended. (ended ≡ status.Memory) ⊎ (ended ≡ status.Read)) r
 
--- the program stops since a source failed, or for memory
-pub stopped_for : (kinds : List Kind) (first : List ℕ) (sources : Sources) (ended : Status)
-    → AreRead kinds first sources (Stopped ended) → (ended ≡ status.Memory) ⊎ (ended ≡ status.Read)
-stopped_for [] first sources ended read = let e = read.1 in absurd cc
-stopped_for (k ∷ kinds) first No ended read = absurd read
-stopped_for (k ∷ kinds) first (Then gave Does more) ended (inl (whole, is, read)) =
-    stopped_for kinds first more ended read
-stopped_for (k ∷ kinds) first (Then gave Does more) ended (inr (inl (whole, unread, r))) = absurd r
-stopped_for (k ∷ kinds) first (Then gave Does more) ended (inr (inr (inl (failed, unread, is)))) = inr cc
-stopped_for (k ∷ kinds) first (Then gave Does more) ended (inr (inr (inr (left, unread, is)))) = inl cc
+ended_here : (k : Kind) (kinds : List Kind) (first gave : List ℕ) (Does : ℕ → Use → Type 0) (texts : List (List ℕ))
+    (r : Reply) → IsNotRead k first gave Does r → EndedBy (k ∷ kinds) first (gave ∷ texts) r
+ended_here k kinds first gave Does texts r (refusal ended line whole by) = inl by
+ended_here k kinds first gave Does texts r (stop ended (for_memory left)) = inl refl
+ended_here k kinds first gave Does texts r (stop ended (at_fault failed)) = inr refl
 
--- more sources that were not come to
-abbrev pub both : Sources → Sources → Sources
-both No more = more
-both (Then gave Does rest) more = Then gave Does (both rest more)
-
-unread_both : (sources more : Sources) → AreUnread sources → AreUnread more → AreUnread (both sources more)
-unread_both No more none u = u
-unread_both (Then gave Does rest) more none u = (none.0, unread_both rest more none.1 u)
-
-pub with_more : (kinds : List Kind) (first : List ℕ) (sources more : Sources) (end : Reading) → AreUnread more
-    → AreRead kinds first sources end → AreRead kinds first (both sources more) end
-with_more [] first sources more end u read = (unread_both sources more read.0 u, read.1)
-with_more (k ∷ kinds) first No more end u read = absurd read
-with_more (k ∷ kinds) first (Then gave Does rest) more end u (inl (whole, is, read)) =
-    inl (whole, is, with_more kinds first rest more end u read)
-with_more (k ∷ kinds) first (Then gave Does rest) more end u (inr (inl (whole, none, r))) =
-    inr (inl (whole, unread_both rest more none u, r))
-with_more (k ∷ kinds) first (Then gave Does rest) more end u (inr (inr (inl (failed, none, is)))) =
-    inr (inr (inl (failed, unread_both rest more none u, is)))
-with_more (k ∷ kinds) first (Then gave Does rest) more end u (inr (inr (inr (left, none, is)))) =
-    inr (inr (inr (left, unread_both rest more none u, is)))
+pub ended_by : (kinds : List Kind) (first : List ℕ) (sources : Sources) (r : Reply)
+    → AreRead kinds first sources (Some r) → EndedBy kinds first (gaves sources) r
+ended_by [] first sources r read = let e = read.1 in absurd cc
+ended_by (k ∷ kinds) first No r read = absurd read
+ended_by (k ∷ kinds) first (Then gave Does more) (reply.Write ended text) (inl (whole, is, read)) =
+    inr (is, ended_by kinds first more (reply.Write ended text) read)
+ended_by (k ∷ kinds) first (Then gave Does more) (reply.Stop ended) (inl (whole, is, read)) =
+    ended_by kinds first more (reply.Stop ended) read
+ended_by (k ∷ kinds) first (Then gave Does more) r (inr (q, is, none, unread)) =
+    let same : q ≡ r = cc in
+    subst (EndedBy (k ∷ kinds) first (gave ∷ gaves more)) same
+    (ended_here k kinds first gave Does (gaves more) q none)

@@ -5,4 +5,3 @@ pub mod Decides
 pub mod Auditor
 pub mod Meant
 pub mod Started
-pub mod Pairing

@@ -1,5 +1,5 @@
--- What a command reads: texts of these kinds, one of each of its sources, in this order. A kind has a bound on the bytes
--- of its texts, and a text is of its kind or is refused, not both (`OneOfEachKind`).
+-- What a command reads: texts of these kinds, one of each of its sources, in this order. A kind has a bound on the
+-- bytes of its texts, and a text is of its kind or is refused, not both (`OneOfEachKind`).
 use Rattle.std.specs.Prelude.{◌≡◌, ◌⊎◌, ℕ, List, [], ◌∷◌}
 use Rattle.rt_ids.specs.declared.limits.TheConstants.{TEXT_BYTES, SCRIPT_BYTES, TRACE_BYTES}
 use Rattle.rt_ids.specs.declared.status.Status.{Status}
@@ -71,7 +71,8 @@ IsOfKind Script first text =
     (app : App) × IsApplication first app × (asked : List Line) × IsScriptText (names_of app) text asked
 IsOfKind Trace first text =
     (app : App) × IsApplication first app × (shown : read.Trace) × IsTraceText (names_of app) text shown
-IsOfKind Limits first text = (app : App) × IsApplication first app × (limits : List Limit) × IsLimitsText app text limits
+IsOfKind Limits first text =
+    (app : App) × IsApplication first app × (limits : List Limit) × IsLimitsText app text limits
 IsOfKind Listing first text = (image : Image) × IsListingText text image
 
 -- the text is none of the kind, and is refused with this status and this line

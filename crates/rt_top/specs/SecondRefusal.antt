@@ -14,39 +14,27 @@ use Rattle.rt_trace.specs.Reading as trace
 use Rattle.rt_trace.specs.declared.refusal.TraceRefused.{TraceRefused}
 use Rattle.rt_trace.specs.declared.refusal.TraceRefused.TheVariants as in_trace
 
--- the line of a script's line with a number
-abbrev pub script_line : ℕ → List ℕ → List ℕ
-script_line number words = codes "script:" ++ decimal number ++ words
-
 -- the line for the refusal of a script
 abbrev pub SaysScript : ScriptRefused → List ℕ → Type 0
-SaysScript in_script.TooLong line = line ≡ script_line 1 (codes " 1 too long\n")
-SaysScript (in_script.BadLine n) line = line ≡ script_line n (codes " 2 bad line\n")
-SaysScript (in_script.UnknownInterrupt n) line = line ≡ script_line n (codes " 3 unknown interrupt\n")
-SaysScript (in_script.TooManyEvents n) line = line ≡ script_line n (codes " 4 too many events\n")
-SaysScript (in_script.TooManyDevices n) line = line ≡ script_line n (codes " 5 too many devices\n")
+SaysScript in_script.TooLong line = line ≡ codes "script:" ++ decimal 1 ++ codes " 1 too long\n"
+SaysScript (in_script.BadLine n) line = line ≡ codes "script:" ++ decimal n ++ codes " 2 bad line\n"
+SaysScript (in_script.UnknownInterrupt n) line = line ≡ codes "script:" ++ decimal n ++ codes " 3 unknown interrupt\n"
+SaysScript (in_script.TooManyEvents n) line = line ≡ codes "script:" ++ decimal n ++ codes " 4 too many events\n"
+SaysScript (in_script.TooManyDevices n) line = line ≡ codes "script:" ++ decimal n ++ codes " 5 too many devices\n"
 SaysScript in_script.NoMemory line = ⊥
-
--- the line of a trace's line with a number
-abbrev pub trace_line : ℕ → List ℕ → List ℕ
-trace_line number words = codes "trace:" ++ decimal number ++ words
 
 -- the line for the refusal of a trace
 abbrev pub SaysTrace : TraceRefused → List ℕ → Type 0
-SaysTrace in_trace.TooLong line = line ≡ trace_line 1 (codes " 1 too long\n")
-SaysTrace (in_trace.BadLine n) line = line ≡ trace_line n (codes " 2 bad line\n")
-SaysTrace (in_trace.UnknownName n) line = line ≡ trace_line n (codes " 3 unknown name\n")
+SaysTrace in_trace.TooLong line = line ≡ codes "trace:" ++ decimal 1 ++ codes " 1 too long\n"
+SaysTrace (in_trace.BadLine n) line = line ≡ codes "trace:" ++ decimal n ++ codes " 2 bad line\n"
+SaysTrace (in_trace.UnknownName n) line = line ≡ codes "trace:" ++ decimal n ++ codes " 3 unknown name\n"
 SaysTrace in_trace.NoMemory line = ⊥
-
--- the line of a line of limits with a number
-abbrev pub limits_line : ℕ → List ℕ → List ℕ
-limits_line number words = codes "limits:" ++ decimal number ++ words
 
 -- the line for the refusal of limits
 abbrev pub SaysLimits : LimitsRefused → List ℕ → Type 0
-SaysLimits in_limits.TooLong line = line ≡ limits_line 1 (codes " 1 too long\n")
-SaysLimits (in_limits.BadLine n) line = line ≡ limits_line n (codes " 2 bad line\n")
-SaysLimits (in_limits.UnknownInterrupt n) line = line ≡ limits_line n (codes " 3 unknown interrupt\n")
+SaysLimits in_limits.TooLong line = line ≡ codes "limits:" ++ decimal 1 ++ codes " 1 too long\n"
+SaysLimits (in_limits.BadLine n) line = line ≡ codes "limits:" ++ decimal n ++ codes " 2 bad line\n"
+SaysLimits (in_limits.UnknownInterrupt n) line = line ≡ codes "limits:" ++ decimal n ++ codes " 3 unknown interrupt\n"
 SaysLimits in_limits.NoMemory line = ⊥
 
 -- the line refuses a text over the application of another text: the refusal is the text's, and the line says it

@@ -10,15 +10,11 @@ use Rattle.rt_load.specs.declared.refusal.LoadRefused.TheVariants as in_image
 use Rattle.rt_points.specs.Checked.{IsChecked, IsLeastBroken}
 use Rattle.rt_safe.specs.Safe.{IsSafe}
 
--- the line of a listing's line with a number
-abbrev pub image_line : ℕ → List ℕ → List ℕ
-image_line number words = codes "image:" ++ decimal number ++ words
-
 -- the line for the refusal of a text that is no listing; want of memory refuses nothing
 abbrev pub SaysImage : LoadRefused → List ℕ → Type 0
-SaysImage in_image.TooLong line = line ≡ image_line 1 (codes " 1 too long\n")
-SaysImage (in_image.BadLine n) line = line ≡ image_line n (codes " 2 bad line\n")
-SaysImage (in_image.UnknownName n) line = line ≡ image_line n (codes " 3 unknown name\n")
+SaysImage in_image.TooLong line = line ≡ codes "image:" ++ decimal 1 ++ codes " 1 too long\n"
+SaysImage (in_image.BadLine n) line = line ≡ codes "image:" ++ decimal n ++ codes " 2 bad line\n"
+SaysImage (in_image.UnknownName n) line = line ≡ codes "image:" ++ decimal n ++ codes " 3 unknown name\n"
 SaysImage in_image.NoMemory line = ⊥
 
 -- the status and the line for an image

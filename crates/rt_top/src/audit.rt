@@ -1,4 +1,4 @@
-ghost use Rattle.std.specs.Prelude.{◌≡◌, ℕ, List, [], ◌∷◌, Some};
+ghost use Rattle.std.specs.Prelude.{◌≡◌, ℕ, List, Some};
 ghost use Rattle.rt_app.specs.Accepted.{IsAccepted};
 ghost use Rattle.rt_app.specs.Names.{names_of};
 ghost use Rattle.rt_app.specs.View.{app_of};
@@ -9,8 +9,8 @@ ghost use Rattle.rt_top.specs.Kinds as kind;
 ghost use Rattle.rt_top.specs.Defined.{inputs};
 ghost use Rattle.rt_top.specs.Reads.{given_by};
 ghost use Rattle.rt_top.specs.Inside.Auditor.{IsJudgedText};
-ghost use Rattle.rt_top.specs.Inside.Decides.{Answers};
-ghost use Rattle.rt_top.specs.Inside.Using.{HasUse, No, Reads, Then};
+ghost use Rattle.rt_top.specs.Inside.Decides.{AnswersOne};
+ghost use Rattle.rt_top.specs.Inside.Using.{HasUse, Reads};
 
 use crate::auditor::{Auditor, Chosen};
 use crate::reply::{Reply, refuse_trace, reply_number};
@@ -31,8 +31,8 @@ pub(crate) fn audit<S: Source>(alloc: Global, app: &App, source: &mut S) -> Repl
     requires { IsAccepted (app_of app.now) }
     ensures { (first third : List ℕ) → IsApplication first (app_of app.now) →
         let gave = given_by S.past source.old source.new in
-        Answers word.Audit (kind.Trace ∷ []) (inputs first gave third)
-        (Then gave (HasUse S.past S.left S.faults source.old source.new) No) result }
+        AnswersOne word.Audit kind.Trace (inputs first gave third) gave
+        (HasUse S.past S.left S.faults source.old source.new) result }
 {
     match judge_source(alloc, app, source) {
         Ok((Verdict::Yes, items)) => reply_number(alloc, Status::Done, b"yes ", items, b"\n"),

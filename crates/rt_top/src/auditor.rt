@@ -29,6 +29,7 @@ impl Chosen for Brand {
 }
 
 /// Judges a trace line by line while it is read. It keeps neither the text nor the items.
+#[derive(Drop)]
 pub(crate) struct Auditor<'a, A> {
     names: &'a Names,
     machine: &'a Machine<'a>,
@@ -37,19 +38,6 @@ pub(crate) struct Auditor<'a, A> {
     /// Why the lines are no trace, once one is wrong. Those after it are passed over.
     refused: Option<TraceRefused>,
     of: PhantomData<A>,
-}
-
-impl<A> Drop for Auditor<'_, A> {
-    fn drop(self) {
-        let Auditor {
-            names: _,
-            machine: _,
-            reader: _,
-            judge: _,
-            refused: _,
-            of: _,
-        } = self;
-    }
 }
 
 impl<'a, A: Chosen> Auditor<'a, A> {

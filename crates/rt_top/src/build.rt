@@ -21,7 +21,7 @@ pub(crate) fn build(alloc: Global, app: &App) -> Reply
 
 /// The listing of its image.
 fn build_text(alloc: Global, app: &App) -> Result<Vec<u8>, NoMemory>
-    requires accepted { IsAccepted (app_of app.now) }
+    requires { IsAccepted (app_of app.now) }
     ensures { IfOk result (λ text. Lists (app_of app.now) text.items) }
 {
     let image = rt_build::build(alloc, app)?;

@@ -1,10 +1,10 @@
-ghost use Rattle.std.specs.Prelude.{◌≡◌, ℕ, List, [], ◌∷◌};
+ghost use Rattle.std.specs.Prelude.{◌≡◌, ℕ, List, ◌∷◌, drop};
 ghost use Rattle.rt_app.specs.Accepted.{IsAccepted};
 ghost use Rattle.rt_app.specs.View.{app_of};
 ghost use Rattle.rt_build.specs.Accepted.{IsApplication};
 ghost use Rattle.rt_top.specs.Defined.{inputs};
 ghost use Rattle.rt_top.specs.Kinds as kind;
-ghost use Rattle.rt_top.specs.Kinds.{kinds_of, Kind};
+ghost use Rattle.rt_top.specs.Kinds.{kinds_of};
 ghost use Rattle.rt_top.specs.Reads.{given_by};
 ghost use Rattle.rt_top.specs.Inside.Decides.{Conducts};
 ghost use Rattle.rt_top.specs.Inside.Meant.{command_word, IsInRange};
@@ -86,12 +86,12 @@ fn decide_of<R: Threads + Sync, B: Source, C: Source, K: Sink + Send, G: Gate + 
 ) -> Status
     requires range { IsInRange (command_word command) }
     requires accepted { IsAccepted (app_of app.now) }
-    requires of_application { (kinds : List Kind) × (kinds_of (command_word command) ≡ kind.Application ∷ kinds) }
-    ensures { (first : List ℕ) (kinds : List Kind) → IsApplication first (app_of app.now) →
-        kinds_of (command_word command) ≡ kind.Application ∷ kinds →
+    requires of_application { let kinds = kinds_of (command_word command) in
+        kinds ≡ kind.Application ∷ drop 1 kinds }
+    ensures { (first : List ℕ) → IsApplication first (app_of app.now) →
         let b = given_by B.past second.old second.new in
         let c = given_by C.past third.old third.new in
-        Conducts (command_word command) kinds (inputs first b c)
+        Conducts (command_word command) (drop 1 (kinds_of (command_word command))) (inputs first b c)
         (Then b (HasUse B.past B.left B.faults second.old second.new)
         (Then c (HasUse C.past C.left C.faults third.old third.new) No))
         (K.taken out.old) (K.taken out.new) (K.faults out.old) (K.faults out.new) result }

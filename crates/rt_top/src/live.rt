@@ -1,24 +1,17 @@
-ghost use Rattle.std.specs.Prelude.{◌≡◌, ◌⊎◌, ◌++◌, ℕ, List, [], ◌∷◌, OnOk, OnErr};
-ghost use Rattle.std.specs.List.{AllByRecursion};
+ghost use Rattle.std.specs.Prelude.{◌≡◌, ◌⊎◌, ℕ, List};
 ghost use Rattle.rt_app.specs.Accepted.{IsAccepted};
 ghost use Rattle.rt_app.specs.View.{app_of};
 ghost use Rattle.rt_build.specs.Accepted.{IsApplication};
-ghost use Rattle.rt_outside.specs.Bytes.{Took, TookPrefix};
-ghost use Rattle.rt_outside.specs.Faults.{HasCause};
 ghost use Rattle.rt_code.specs.Lines.{HasLines};
 ghost use Rattle.rt_core.specs.Machine.{IsFresh};
-ghost use Rattle.rt_live.specs.Account.{declared_irqs};
-ghost use Rattle.rt_live.specs.Output.{IsLiveText};
-ghost use Rattle.rt_live.specs.Ready.{IsNumbered, irqs_of};
-ghost use Rattle.rt_script.specs.Script.{IsScript, HasNames};
+ghost use Rattle.rt_script.specs.Script.{HasNames};
 ghost use Rattle.rt_top.specs.Words as word;
 ghost use Rattle.rt_top.specs.Kinds as kind;
 ghost use Rattle.rt_top.specs.Defined.{inputs};
 ghost use Rattle.rt_top.specs.Reads.{given_by};
-ghost use Rattle.rt_top.specs.Inside.Decides.{Conducts, EndsAs};
-ghost use Rattle.rt_top.specs.Inside.Replies.{WantsMemory};
+ghost use Rattle.rt_top.specs.Inside.Decides.{ConductsOne, EndsAs};
 ghost use Rattle.rt_top.specs.Inside.Started.{ShowsLive};
-ghost use Rattle.rt_top.specs.Inside.Using.{HasUse, No, Then};
+ghost use Rattle.rt_top.specs.Inside.Using.{HasUse};
 
 use crate::reply::finish;
 use crate::run::heading;
@@ -28,7 +21,7 @@ use rt_core::Core;
 use rt_devices::Gate;
 use rt_ids::Status;
 use rt_live::{Ready, run_beside};
-use rt_outside::{Failed, Sink, Source, put_all};
+use rt_outside::{Sink, Source, put_all};
 use rt_script::Script;
 use std::alloc::Global;
 use std::thread::Threads;
@@ -45,11 +38,12 @@ pub(crate) fn live<R: Threads + Sync, S: Source, K: Sink + Send, G: Gate + Sync>
     gate: &G,
 ) -> Status
     requires { IsAccepted (app_of app.now) }
-    ensures { (first third : List ℕ) → IsApplication first (app_of app.now) →
+    ensures ends { (first third : List ℕ) → IsApplication first (app_of app.now) →
         let gave = given_by S.past source.old source.new in
-        Conducts word.Live (kind.Script ∷ []) (inputs first gave third)
-        (Then gave (HasUse S.past S.left S.faults source.old source.new) No)
+        ConductsOne word.Live kind.Script (inputs first gave third) gave
+        (HasUse S.past S.left S.faults source.old source.new)
         (K.taken out.old) (K.taken out.new) (K.faults out.old) (K.faults out.new) result }
+    ensures heard { (K.faults out.new ≡ K.faults out.old) ⊎ (result ≡ Status.Write) }
 {
     match start(alloc, app, source) {
         Ok((mut core, script)) => run_live(rt, alloc, &mut core, &script, out, gate),
@@ -70,7 +64,7 @@ fn run_live<R: Threads + Sync, K: Sink + Send, G: Gate + Sync>(
     requires fresh { IsFresh core.old }
     requires lines { HasLines core.old.image }
     requires names { HasNames core.old.image.names script.now }
-    ensures ends { EndsAs (ShowsLive core.old.image script.now) WantsMemory
+    ensures ends { EndsAs (ShowsLive core.old.image script.now)
         (K.taken out.old) (K.taken out.new) (K.faults out.old) (K.faults out.new) result }
     ensures heard { (K.faults out.new ≡ K.faults out.old) ⊎ (result ≡ Status.Write) }
 {
@@ -80,35 +74,11 @@ fn run_live<R: Threads + Sync, K: Sink + Send, G: Gate + Sync>(
     let Ok(ready) = Ready::of(alloc, core, script) else {
         return Status::Memory;
     };
-    match put_live(rt, core, ready, &front, out, gate) {
-        Ok(()) => Status::Done,
+    match put_all(out, &front) {
+        Ok(()) => match run_beside(ready, rt, core, out, gate) {
+            Ok(()) => Status::Done,
+            Err(_) => Status::Write,
+        },
         Err(_) => Status::Write,
     }
-}
-
-/// Writes what comes before a trace, and then the trace of the core's image and the account while it runs beside
-/// the devices.
-fn put_live<R: Threads + Sync, K: Sink + Send, G: Gate + Sync>(
-    rt: &R,
-    core: &mut Core,
-    ready: Ready<'_>,
-    front: &[u8],
-    out: &mut K,
-    gate: &G,
-) -> Result<(), Failed>
-    requires fresh { IsFresh core.old }
-    requires lines { HasLines core.old.image }
-    requires script { IsScript ready.script }
-    requires numbered { AllByRecursion IsNumbered ready.script }
-    requires rows { irqs_of ready.rows ≡ declared_irqs core.old.image.names }
-    requires unused { ready.line.calls ≡ [] }
-    ensures ok { OnOk result ((shown : List ℕ) × IsLiveText core.old.image ready.entry.script shown
-        × Took (K.taken out.old) (K.taken out.new) (front.now ++ shown)) }
-    ensures err { OnErr result ((shown : List ℕ) × IsLiveText core.old.image ready.entry.script shown
-        × TookPrefix (K.taken out.old) (K.taken out.new) (front.now ++ shown)) }
-    ensures cause { HasCause (K.faults out.old) (K.faults out.new) result }
-    ensures quiet { OnOk result (K.faults out.new ≡ K.faults out.old) }
-{
-    put_all(out, front)?;
-    run_beside(ready, rt, core, out, gate)
 }

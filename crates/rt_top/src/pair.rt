@@ -10,8 +10,7 @@ ghost use Rattle.rt_top.specs.Kinds as kind;
 ghost use Rattle.rt_top.specs.Defined.{inputs};
 ghost use Rattle.rt_top.specs.Reads.{given_by};
 ghost use Rattle.rt_top.specs.Inside.Decides.{Conducts, EndsAs};
-ghost use Rattle.rt_top.specs.Inside.Replies.{WantsMemory};
-ghost use Rattle.rt_top.specs.Inside.Pairing.{ShowsPair};
+ghost use Rattle.rt_top.specs.Inside.Started.{ShowsPair};
 ghost use Rattle.rt_top.specs.Inside.Using.{HasUse, No, Then};
 
 use crate::reading::read_other;
@@ -50,31 +49,10 @@ pub(crate) fn pair<R: Threads + Sync, B: Source, C: Source, K: Sink, G: Gate + S
         (K.taken out.old) (K.taken out.new) (K.faults out.old) (K.faults out.new) result }
 {
     match read_other(alloc, second) {
-        Ok(other) => pair_with(rt, alloc, app, &other, third, out, gate),
-        Err(reply) => finish(out, &reply),
-    }
-}
-
-/// Runs the application under the script of a source beside another.
-fn pair_with<R: Threads + Sync, S: Source, K: Sink, G: Gate + Sync>(
-    rt: &R,
-    alloc: Global,
-    app: &App,
-    other: &App,
-    source: &mut S,
-    out: &mut K,
-    gate: &G,
-) -> Status
-    requires first { IsAccepted (app_of app.now) }
-    requires second { IsAccepted (app_of other.now) }
-    ensures { (first second : List ℕ) → IsApplication first (app_of app.now) → IsApplication second (app_of other.now) →
-        let gave = given_by S.past source.old source.new in
-        Conducts word.Pair (kind.Script ∷ []) (inputs first second gave)
-        (Then gave (HasUse S.past S.left S.faults source.old source.new) No)
-        (K.taken out.old) (K.taken out.new) (K.faults out.old) (K.faults out.new) result }
-{
-    match start(alloc, app, source) {
-        Ok((mut core, script)) => run_pair(rt, alloc, &mut core, other, &script, out, gate),
+        Ok(other) => match start(alloc, app, third) {
+            Ok((mut core, script)) => run_pair(rt, alloc, &mut core, &other, &script, out, gate),
+            Err(reply) => finish(out, &reply),
+        },
         Err(reply) => finish(out, &reply),
     }
 }
@@ -93,7 +71,7 @@ fn run_pair<R: Threads + Sync, K: Sink, G: Gate + Sync>(
     requires lines { HasLines core.old.image }
     requires names { HasNames core.old.image.names script.now }
     requires accepted { IsAccepted (app_of other.now) }
-    ensures ends { EndsAs (ShowsPair core.old.image (app_of other.now) script.now) WantsMemory
+    ensures ends { EndsAs (ShowsPair core.old.image (app_of other.now) script.now)
         (K.taken out.old) (K.taken out.new) (K.faults out.old) (K.faults out.new) result }
     ensures heard { (K.faults out.new ≡ K.faults out.old) ⊎ (result ≡ Status.Write) }
 {

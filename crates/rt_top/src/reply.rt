@@ -1,11 +1,10 @@
 ghost use Rattle.std.specs.Prelude.{◌≡◌, ◌⊎◌, ◌++◌, codes, decimal, IfOk, OnErr};
 ghost use Rattle.rt_top.specs.Refusal.{refusal_line};
-ghost use Rattle.rt_top.specs.SecondRefusal.{script_line, SaysScript, trace_line, SaysTrace};
-ghost use Rattle.rt_top.specs.SecondRefusal.{limits_line, SaysLimits};
-ghost use Rattle.rt_top.specs.Verified.{image_line, SaysImage};
+ghost use Rattle.rt_top.specs.SecondRefusal.{SaysScript, SaysTrace, SaysLimits};
+ghost use Rattle.rt_top.specs.Verified.{SaysImage};
 ghost use Rattle.rt_top.specs.Ends.{Wrote};
 ghost use Rattle.rt_top.specs.Inside.Decides.{Tells, Finishes};
-ghost use Rattle.rt_top.specs.Inside.Pairing.{IsOfSecond};
+ghost use Rattle.rt_top.specs.Inside.Replies.{IsOfSecond};
 ghost use Rattle.rt_ids.specs.declared.status.Status.TheVariants as status;
 
 use crate::refusal::refusal_line;
@@ -120,7 +119,7 @@ pub(crate) fn refuse_script(alloc: Global, refusal: ScriptRefused) -> Reply
 
 /// The reply that a line of a script is refused in these words.
 fn script_line(alloc: Global, line: u32, words: &[u8]) -> Reply
-    ensures { Tells status.Text (λ bytes. bytes ≡ script_line line words.now) result }
+    ensures { Tells status.Text (λ bytes. bytes ≡ codes "script:" ++ decimal line ++ words.now) result }
 {
     reply_number(alloc, Status::Text, b"script:", u64::from(line), words)
 }
@@ -139,7 +138,7 @@ pub(crate) fn refuse_trace(alloc: Global, refusal: TraceRefused) -> Reply
 
 /// The reply that a line of a trace is refused in these words.
 fn trace_line(alloc: Global, line: u32, words: &[u8]) -> Reply
-    ensures { Tells status.Text (λ bytes. bytes ≡ trace_line line words.now) result }
+    ensures { Tells status.Text (λ bytes. bytes ≡ codes "trace:" ++ decimal line ++ words.now) result }
 {
     reply_number(alloc, Status::Text, b"trace:", u64::from(line), words)
 }
@@ -162,7 +161,7 @@ pub(crate) fn refuse_limits(alloc: Global, refusal: LimitsRefused) -> Reply
 
 /// The reply that a line of limits is refused in these words.
 fn limits_line(alloc: Global, line: u32, words: &[u8]) -> Reply
-    ensures { Tells status.Text (λ bytes. bytes ≡ limits_line line words.now) result }
+    ensures { Tells status.Text (λ bytes. bytes ≡ codes "limits:" ++ decimal line ++ words.now) result }
 {
     reply_number(alloc, Status::Text, b"limits:", u64::from(line), words)
 }
@@ -181,7 +180,7 @@ pub(crate) fn refuse_image(alloc: Global, refusal: LoadRefused) -> Reply
 
 /// The reply that a line of a listing is refused in these words.
 fn image_line(alloc: Global, line: u64, words: &[u8]) -> Reply
-    ensures { Tells status.Text (λ bytes. bytes ≡ image_line line words.now) result }
+    ensures { Tells status.Text (λ bytes. bytes ≡ codes "image:" ++ decimal line ++ words.now) result }
 {
     reply_number(alloc, Status::Text, b"image:", line, words)
 }

@@ -1,23 +1,17 @@
-ghost use Rattle.std.specs.Prelude.{◌≡◌, ◌⊎◌, ◌++◌, ℕ, List, [], ◌∷◌, codes, IfOk, OnOk, OnErr};
+ghost use Rattle.std.specs.Prelude.{◌≡◌, ◌⊎◌, ℕ, List, IfOk};
 ghost use Rattle.rt_app.specs.Accepted.{IsAccepted};
 ghost use Rattle.rt_app.specs.View.{app_of};
 ghost use Rattle.rt_build.specs.Accepted.{IsApplication};
-ghost use Rattle.rt_outside.specs.Bytes.{Took, TookPrefix};
-ghost use Rattle.rt_outside.specs.Faults.{HasCause};
 ghost use Rattle.rt_code.specs.Lines.{HasLines};
 ghost use Rattle.rt_core.specs.Machine.{IsFresh};
-ghost use Rattle.rt_listing.specs.Listing.{listing};
-ghost use Rattle.rt_listing.specs.Numbers.{HasTypedNumbers};
 ghost use Rattle.rt_script.specs.Script.{HasNames};
-ghost use Rattle.rt_run.specs.Written.{text_of};
 ghost use Rattle.rt_top.specs.Words as word;
 ghost use Rattle.rt_top.specs.Kinds as kind;
 ghost use Rattle.rt_top.specs.Defined.{inputs};
 ghost use Rattle.rt_top.specs.Reads.{given_by};
-ghost use Rattle.rt_top.specs.Inside.Decides.{Conducts, EndsAs};
-ghost use Rattle.rt_top.specs.Inside.Replies.{WantsMemory};
-ghost use Rattle.rt_top.specs.Inside.Started.{ShowsRun};
-ghost use Rattle.rt_top.specs.Inside.Using.{HasUse, No, Then};
+ghost use Rattle.rt_top.specs.Inside.Decides.{ConductsOne, EndsAs};
+ghost use Rattle.rt_top.specs.Inside.Started.{IsHeading, ShowsRun};
+ghost use Rattle.rt_top.specs.Inside.Using.{HasUse};
 
 use crate::reply::finish;
 use crate::start::start;
@@ -26,7 +20,7 @@ use rt_code::Image;
 use rt_core::Core;
 use rt_ids::{NoMemory, Status, push_bytes};
 use rt_listing::listing;
-use rt_outside::{Failed, Sink, Source, put_all};
+use rt_outside::{Sink, Source, put_all};
 use rt_script::Script;
 use std::alloc::Global;
 
@@ -39,11 +33,12 @@ pub(crate) fn run<S: Source, K: Sink>(
     out: &mut K,
 ) -> Status
     requires { IsAccepted (app_of app.now) }
-    ensures { (first third : List ℕ) → IsApplication first (app_of app.now) →
+    ensures ends { (first third : List ℕ) → IsApplication first (app_of app.now) →
         let gave = given_by S.past source.old source.new in
-        Conducts word.Run (kind.Script ∷ []) (inputs first gave third)
-        (Then gave (HasUse S.past S.left S.faults source.old source.new) No)
+        ConductsOne word.Run kind.Script (inputs first gave third) gave
+        (HasUse S.past S.left S.faults source.old source.new)
         (K.taken out.old) (K.taken out.new) (K.faults out.old) (K.faults out.new) result }
+    ensures heard { (K.faults out.new ≡ K.faults out.old) ⊎ (result ≡ Status.Write) }
 {
     match start(alloc, app, source) {
         Ok((mut core, script)) => run_script(alloc, &mut core, &script, out),
@@ -56,46 +51,27 @@ fn run_script<K: Sink>(alloc: Global, core: &mut Core, script: &Script, out: &mu
     requires fresh { IsFresh core.old }
     requires lines { HasLines core.old.image }
     requires names { HasNames core.old.image.names script.now }
-    ensures ends { EndsAs (ShowsRun core.old.image script.now) WantsMemory
+    ensures ends { EndsAs (ShowsRun core.old.image script.now)
         (K.taken out.old) (K.taken out.new) (K.faults out.old) (K.faults out.new) result }
     ensures heard { (K.faults out.new ≡ K.faults out.old) ⊎ (result ≡ Status.Write) }
 {
     let Ok(front) = heading(alloc, core.image()) else {
         return Status::Memory;
     };
-    match put_run(core, script, &front, out) {
-        Ok(()) => Status::Done,
+    match put_all(out, &front) {
+        Ok(()) => match rt_run::run_script(core, script, out) {
+            Ok(()) => Status::Done,
+            Err(_) => Status::Write,
+        },
         Err(_) => Status::Write,
     }
 }
 
 /// The listing of an image, with the line that comes before a trace.
 pub(crate) fn heading(alloc: Global, image: &Image) -> Result<Vec<u8>, NoMemory>
-    ensures text { IfOk result (λ text. text.items ≡ listing image.now ++ codes "trace\n") }
-    ensures numbers { IfOk result (λ _. HasTypedNumbers image.now) }
+    ensures { IfOk result (λ text. IsHeading image.now text.items) }
 {
     let mut text = listing(alloc, image)?;
     push_bytes(&mut text, b"trace\n")?;
     Ok(text)
-}
-
-/// Writes what comes before a trace, and then the trace of the core's image under a script while it runs.
-fn put_run<K: Sink>(
-    core: &mut Core,
-    script: &Script,
-    front: &[u8],
-    out: &mut K,
-) -> Result<(), Failed>
-    requires fresh { IsFresh core.old }
-    requires lines { HasLines core.old.image }
-    requires names { HasNames core.old.image.names script.now }
-    ensures ok { OnOk result
-        (Took (K.taken out.old) (K.taken out.new) (front.now ++ text_of core.old.image script.now)) }
-    ensures err { OnErr result
-        (TookPrefix (K.taken out.old) (K.taken out.new) (front.now ++ text_of core.old.image script.now)) }
-    ensures cause { HasCause (K.faults out.old) (K.faults out.new) result }
-    ensures quiet { OnOk result (K.faults out.new ≡ K.faults out.old) }
-{
-    put_all(out, front)?;
-    rt_run::run_script(core, script, out)
 }

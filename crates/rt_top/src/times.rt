@@ -1,4 +1,4 @@
-ghost use Rattle.std.specs.Prelude.{◌≡◌, ℕ, List, [], ◌∷◌, true, IfOk};
+ghost use Rattle.std.specs.Prelude.{◌≡◌, ℕ, List, true, IfOk};
 ghost use Rattle.rt_app.specs.View.{app_of};
 ghost use Rattle.rt_app.specs.Accepted.{IsAccepted};
 ghost use Rattle.rt_app.specs.Forms.{has_response_times};
@@ -13,9 +13,9 @@ ghost use Rattle.rt_top.specs.Kinds as kind;
 ghost use Rattle.rt_top.specs.Defined.{inputs};
 ghost use Rattle.rt_top.specs.Outputs.{TellsTimes};
 ghost use Rattle.rt_top.specs.Reads.{given_by};
-ghost use Rattle.rt_top.specs.Inside.Decides.{Answers};
+ghost use Rattle.rt_top.specs.Inside.Decides.{AnswersOne};
 ghost use Rattle.rt_top.specs.Inside.Replies.{Replies};
-ghost use Rattle.rt_top.specs.Inside.Using.{HasUse, No, Reads, Then};
+ghost use Rattle.rt_top.specs.Inside.Using.{HasUse, Reads};
 
 use crate::reading::read_within;
 use crate::reply::{NOT_OF_FORM, Reply, line, refuse_limits, reply_of_text};
@@ -33,8 +33,8 @@ pub(crate) fn times<S: Source>(alloc: Global, app: &App, source: &mut S) -> Repl
     requires { IsAccepted (app_of app.now) }
     ensures { (first third : List ℕ) → IsApplication first (app_of app.now) →
         let gave = given_by S.past source.old source.new in
-        Answers word.Times (kind.Limits ∷ []) (inputs first gave third)
-        (Then gave (HasUse S.past S.left S.faults source.old source.new) No) result }
+        AnswersOne word.Times kind.Limits (inputs first gave third) gave
+        (HasUse S.past S.left S.faults source.old source.new) result }
 {
     match read_limits_of(alloc, app, source) {
         Ok(limits) => times_reply(alloc, app, &limits),

@@ -1,4 +1,4 @@
-ghost use Rattle.std.specs.Prelude.{ℕ, List, [], ◌∷◌, IfOk};
+ghost use Rattle.std.specs.Prelude.{ℕ, List, IfOk};
 ghost use Rattle.rt_load.specs.Loadable.{IsLoadable};
 ghost use Rattle.rt_load.specs.Reading.{IsListingText};
 ghost use Rattle.rt_top.specs.Kinds as kind;
@@ -6,9 +6,9 @@ ghost use Rattle.rt_top.specs.Words as word;
 ghost use Rattle.rt_top.specs.Defined.{inputs};
 ghost use Rattle.rt_top.specs.Reads.{given_by};
 ghost use Rattle.rt_top.specs.Verified.{TellsImage};
-ghost use Rattle.rt_top.specs.Inside.Decides.{Answers};
+ghost use Rattle.rt_top.specs.Inside.Decides.{AnswersOne};
 ghost use Rattle.rt_top.specs.Inside.Replies.{Replies};
-ghost use Rattle.rt_top.specs.Inside.Using.{HasUse, No, Reads, Then};
+ghost use Rattle.rt_top.specs.Inside.Using.{HasUse, Reads};
 
 use crate::reading::read_within;
 use crate::reply::{Reply, line, refuse_image, reply_number};
@@ -22,8 +22,8 @@ use std::alloc::Global;
 /// least rule that it breaks.
 pub(crate) fn verify<S: Source>(alloc: Global, source: &mut S) -> Reply
     ensures { (second third : List ℕ) → let gave = given_by S.past source.old source.new in
-        Answers word.Verify (kind.Listing ∷ []) (inputs gave second third)
-        (Then gave (HasUse S.past S.left S.faults source.old source.new) No) result }
+        AnswersOne word.Verify kind.Listing (inputs gave second third) gave
+        (HasUse S.past S.left S.faults source.old source.new) result }
 {
     match read_listing(alloc, source) {
         Ok(image) => image_reply(alloc, &image),

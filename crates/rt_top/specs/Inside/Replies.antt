@@ -2,10 +2,6 @@
 use Rattle.std.specs.Prelude.{◌≡◌, ℕ, List, ◌++◌, codes}
 use Rattle.rt_ids.specs.declared.status.Status.{Status}
 use Rattle.rt_ids.specs.declared.status.Status.TheVariants as status
-use Rattle.rt_code.specs.Image.{Image}
-use Rattle.rt_listing.specs.Listing.{listing}
-use Rattle.rt_script.specs.declared.line.Line.{Line}
-use Rattle.rt_run.specs.Written.{text_of}
 use Rattle.rt_top.specs.declared.reply.Reply.{Reply}
 use Rattle.rt_top.specs.declared.reply.Reply.TheVariants as reply
 
@@ -22,6 +18,8 @@ WantsMemory ended = ended ≡ status.Memory
 abbrev pub Replies : (Status → List ℕ → Type 0) → Reply → Type 0
 Replies Said r = Gives Said WantsMemory r
 
--- the listing of the image, and its trace under the script
-abbrev pub run_text : Image → List Line → List ℕ
-run_text image asked = listing image ++ codes "trace\n" ++ text_of image asked
+-- the reply about a second application that is this one about a first, with a word in front; or memory was wanted
+abbrev pub IsOfSecond : Reply → Reply → Type 0
+IsOfSecond (reply.Write ended text) r =
+    Replies (λ status bytes. (status ≡ ended) × (bytes ≡ codes "second " ++ text.items)) r
+IsOfSecond (reply.Stop ended) r = r ≡ reply.Stop ended

@@ -39,32 +39,6 @@ abbrev pub AreUnread : Sources → Type 0
 AreUnread No = Unit {0}
 AreUnread (Then gave Does more) = Does 0 Unread × AreUnread more
 
--- how the reading of a command's texts ends
-pub data Reading : Type 0 where
-  -- each is of its kind
-  Done : Reading
-  -- one is refused, with this status and line
-  Refused : (ended : Status) → (line : List ℕ) → Reading
-  -- a source failed, or memory was wanted
-  Stopped : (ended : Status) → Reading
-
--- one text was read and is refused
-abbrev pub EndsRefused : Kind → List ℕ → List ℕ → Reading → Type 0
-EndsRefused kind first text Done = ⊥
-EndsRefused kind first text (Refused ended line) = IsRefusedBy kind first text ended line
-EndsRefused kind first text (Stopped ended) = ⊥
-
--- The sources were read for texts of these kinds: each up to the first whose text is refused, which fails, or for which
--- memory is wanted. Those behind it were not come to, nor any that the command has no text in.
-abbrev pub AreRead : List Kind → List ℕ → Sources → Reading → Type 0
-AreRead [] first sources end = AreUnread sources × (end ≡ Done)
-AreRead (kind ∷ kinds) first No end = ⊥
-AreRead (kind ∷ kinds) first (Then gave Does more) end =
-    (Does (most_bytes kind) Whole × IsOfKind kind first gave × AreRead kinds first more end)
-    ⊎ (Does (most_bytes kind) Whole × AreUnread more × EndsRefused kind first gave end)
-    ⊎ (Does (most_bytes kind) Failed × AreUnread more × (end ≡ Stopped status.Read))
-    ⊎ (Does (most_bytes kind) Left × AreUnread more × (end ≡ Stopped status.Memory))
-
 -- why the program stops while a source is read: memory was wanted, or the source failed
 pub data Stops (limit : ℕ) (Does : ℕ → Use → Type 0) : Status → Type 0 where
   for_memory : Does limit Left → Stops limit Does status.Memory
@@ -75,6 +49,15 @@ pub data IsNotRead (kind : Kind) (first gave : List ℕ) (Does : ℕ → Use →
   refusal : (ended : Status) (line : Vec ℕ Global) → Does (most_bytes kind) Whole
       → IsRefusedBy kind first gave ended line.items → IsNotRead kind first gave Does (reply.Write ended line)
   stop : (ended : Status) → Stops (most_bytes kind) Does ended → IsNotRead kind first gave Does (reply.Stop ended)
+
+-- The sources were read for texts of these kinds: each up to the first from which no text of its kind was read, and
+-- with the reply to that, if there is one. Those behind it were not come to, nor any that the command has no text in.
+abbrev pub AreRead : List Kind → List ℕ → Sources → Option Reply → Type 0
+AreRead [] first sources end = AreUnread sources × (end ≡ None)
+AreRead (kind ∷ kinds) first No end = ⊥
+AreRead (kind ∷ kinds) first (Then gave Does more) end =
+    (Does (most_bytes kind) Whole × IsOfKind kind first gave × AreRead kinds first more end)
+    ⊎ ((r : Reply) × (end ≡ Some r) × IsNotRead kind first gave Does r × AreUnread more)
 
 -- One text of the kind was read from the source, of which this is so; or none was.
 abbrev pub Reads : {T : Type 0} → Kind → List ℕ → List ℕ → (ℕ → Use → Type 0) → (T → Type 0) → Result T Reply → Type 0

@@ -1,6 +1,5 @@
 use Rattle.std.proofs.Common.{refl, sym, arith}
 use Rattle.rt_app.specs.View.{app_of}
-use Rattle.rt_ids.specs.declared.limits.TheConstants.{TRACE_BYTES}
 use Rattle.rt_ids.specs.declared.status.Status.TheVariants as status
 use Rattle.rt_trace.specs.declared.refusal.TraceRefused.TheVariants as in_trace
 use Rattle.rt_top.specs.Kinds as kind
@@ -8,7 +7,7 @@ use Rattle.rt_top.specs.Reads.{given_by}
 use Rattle.rt_top.specs.SecondRefusal.{SaysTrace}
 use Rattle.rt_top.specs.Inside.Using.{for_memory, at_fault, stop}
 use Rattle.rt_top.proofs.Auditing.{few_lines}
-use Rattle.rt_top.proofs.Conducting.{refusal_reads}
+use Rattle.rt_top.proofs.Conducting.{refusal_reads, refused_over}
 use Rattle.rt_top.proofs.Texts.{long_within, whole_within}
 use Rattle.rt_top.proofs.audit.judge_lines.Goals as goal
 
@@ -19,24 +18,13 @@ end-requires-clause-few g c =
 
 pub returns-in-Err-TooLong : goal.returns-in-Err-TooLong
 returns-in-Err-TooLong g c first is =
-    let gave = given_by g.S.Source.past c.args.source.now c.read_lines.new.source in
+    let app = app_of c.args.machine.now.code.now.app.now in
     let long = (rw c.in-Err-TooLong.field-0-is at c.in-Err-TooLong.ensures.too_long) refl in
     let quiet = (rw c.in-Err-TooLong.field-0-is at c.in-Err-TooLong.ensures.quiet) (λ e. absurd cc) in
-    refusal_reads kind.Trace first gave _ (
-      long_within TRACE_BYTES g.S.Source.past g.S.Source.left c.args.source.now c.read_lines.new.source
-          c.read_lines.ensures.given long,
-      quiet,
-    ) quiet status.Text (SaysTrace in_trace.TooLong)
-    (λ line says. (
-      refl,
-      record {
-        app = app_of c.args.machine.now.code.now.app.now;
-        of_text = is;
-        refusal = in_trace.TooLong;
-        refused = omega (arith, long);
-        says = says;
-      },
-    )) c.refuse_trace.result c.refuse_trace.ensures
+    refusal_reads kind.Trace first _ _ (long_within _ _ _ _ _ c.read_lines.ensures.given long, quiet) quiet status.Text
+    (SaysTrace in_trace.TooLong)
+    (λ line says. (refl, refused_over app is in_trace.TooLong (omega (arith, long)) says)) c.refuse_trace.result
+    c.refuse_trace.ensures
 
 pub returns-in-Err-Fault : goal.returns-in-Err-Fault
 returns-in-Err-Fault g c first is =
@@ -44,43 +32,26 @@ returns-in-Err-Fault g c first is =
 
 pub returns-in-Err-NoMemory : goal.returns-in-Err-NoMemory
 returns-in-Err-NoMemory g c first is =
-    stop status.Memory (for_memory ((rw c.in-Err-NoMemory.field-0-is at c.in-Err-NoMemory.ensures.quiet) (λ e. absurd cc)))
+    let quiet = (rw c.in-Err-NoMemory.field-0-is at c.in-Err-NoMemory.ensures.quiet) (λ e. absurd cc) in
+    stop status.Memory (for_memory quiet)
 
 pub returns-in-Ok-end : goal.returns-in-Ok-end
 returns-in-Ok-end g c first is =
-    let app = app_of c.args.machine.now.code.now.app.now in
-    let gave = given_by g.S.Source.past c.args.source.now c.read_lines.new.source in (
-      (
-        whole_within TRACE_BYTES g.S.Source.past g.S.Source.left c.args.source.now c.read_lines.new.source
-            c.read_lines.ensures.given c.in-Ok-read_lines.ensures.ended c.in-Ok-read_lines.ensures.within,
-        c.read_lines.ensures.quiet (λ e. absurd cc),
-      ),
-      c.in-Ok-end.ensures app gave c.requires.chosen c.in-Ok-read_lines.ensures.within
-          (sym c.in-Ok-read_lines.ensures.handed.0) c.in-Ok-read_lines.ensures.handed.1,
+    let lines = c.in-Ok-read_lines.ensures in (
+      (whole_within _ _ _ _ _ c.read_lines.ensures.given lines.ended lines.within,
+          c.read_lines.ensures.quiet (λ e. absurd cc)),
+      c.in-Ok-end.ensures _ _ c.requires.chosen lines.within (sym lines.handed.0) lines.handed.1,
     )
 
 pub returns : goal.returns
 returns g c first is =
-    let app = app_of c.args.machine.now.code.now.app.now in
-    let gave = given_by g.S.Source.past c.args.source.now c.read_lines.new.source in
+    let lines = c.in-Ok-read_lines.ensures in
     let quiet = c.read_lines.ensures.quiet (λ e. absurd cc) in
-    refusal_reads kind.Trace first gave _ (
-      whole_within TRACE_BYTES g.S.Source.past g.S.Source.left c.args.source.now c.read_lines.new.source
-          c.read_lines.ensures.given c.in-Ok-read_lines.ensures.ended c.in-Ok-read_lines.ensures.within,
-      quiet,
-    )
-    quiet status.Text (SaysTrace c.in-Err.refusal)
-    (λ line says. (
-      refl,
-      record {
-        app = app;
-        of_text = is;
-        refusal = c.in-Err.refusal;
-        refused = c.in-Err.ensures app gave c.requires.chosen c.in-Ok-read_lines.ensures.within
-            (sym c.in-Ok-read_lines.ensures.handed.0) c.in-Ok-read_lines.ensures.handed.1;
-        says = says;
-      },
-    )) c.refuse_trace-in-Err.result c.refuse_trace-in-Err.ensures
+    let refused = c.in-Err.ensures _ _ c.requires.chosen lines.within (sym lines.handed.0) lines.handed.1 in
+    refusal_reads kind.Trace first _ _
+    (whole_within _ _ _ _ _ c.read_lines.ensures.given lines.ended lines.within, quiet) quiet status.Text
+    (SaysTrace c.in-Err.refusal) (λ line says. (refl, refused_over _ is c.in-Err.refusal refused says))
+    c.refuse_trace-in-Err.result c.refuse_trace-in-Err.ensures
 
 pub returns-in_default : goal.returns-in_default
 returns-in_default g c first is = stop status.Memory (for_memory refl)

@@ -1,31 +1,37 @@
-use Rattle.std.proofs.Common.{◌++◌, codes, refl, ap, subst, ◌∙◌}
-use Rattle.rt_code.specs.Image.{Image}
-use Rattle.rt_listing.specs.Listing.{listing}
-use Rattle.rt_listing.specs.Numbers.{HasTypedNumbers}
+use Rattle.std.proofs.Common.{◌++◌, refl, sym, ap, subst}
+use Rattle.rt_outside.specs.Faults.{Rose}
 use Rattle.rt_run.specs.Written.{text_of}
-use Rattle.rt_top.proofs.Ran.{run_bytes, whole_ends, part_ends}
+use Rattle.rt_top.specs.Inside.Started.{IsHeading, ShowsRun}
+use Rattle.rt_top.proofs.Ran.{all_ends, part_ends, front_ends}
 use Rattle.rt_top.proofs.run.run_script.Goals as goal
 
-pub returns-in-Ok-put_run-clause-ends : goal.returns-in-Ok-put_run-clause-ends
-returns-in-Ok-put_run-clause-ends g c =
+pub returns-in-Ok-run_script-clause-ends : goal.returns-in-Ok-run_script-clause-ends
+returns-in-Ok-run_script-clause-ends g c =
     let image = c.args.core.now.image in
-    let script = c.args.script.now in
-    let front = c.deref.ensures.value ∙ c.in-Ok.ensures.text
-    ∙ ap (λ (i : Image). listing i ++ codes "trace\n") c.image.ensures in
-    whole_ends image script (subst HasTypedNumbers c.image.ensures c.in-Ok.ensures.numbers)
-    (c.deref.result.now ++ text_of image script)
-    (run_bytes image script c.deref.result.now front)
-    (g.K.Sink.taken c.args.out.now) (g.K.Sink.taken c.put_run.new.out) (g.K.Sink.faults c.args.out.now)
-    (g.K.Sink.faults c.put_run.new.out) c.in-Ok-put_run.ensures.ok
+    let front = c.deref.result.now in
+    let head = subst (λ i. IsHeading i front) c.image.ensures (subst (IsHeading c.image.result.now)
+    (sym c.deref.ensures.value) c.in-Ok.ensures) in
+    let shown = text_of image c.args.script.now in
+    all_ends (ShowsRun image c.args.script.now) front shown (refl, head.numbers, ap (λ l. l ++ shown) head.is)
+    _ _ _ _ _ c.in-Ok-put_all.ensures.ok c.in-Ok-run_script.ensures.ok
+
+pub returns-in-Ok-put_all-clause-ends : goal.returns-in-Ok-put_all-clause-ends
+returns-in-Ok-put_all-clause-ends g c =
+    let image = c.args.core.now.image in
+    let front = c.deref.result.now in
+    let head = subst (λ i. IsHeading i front) c.image.ensures (subst (IsHeading c.image.result.now)
+    (sym c.deref.ensures.value) c.in-Ok.ensures) in
+    let shown = text_of image c.args.script.now in
+    part_ends (ShowsRun image c.args.script.now) front shown (refl, head.numbers, ap (λ l. l ++ shown) head.is)
+    _ _ _ _ _ (subst (λ n. Rose n (g.K.Sink.faults c.run_script.new.out)) c.in-Ok-put_all.ensures.quiet
+    (c.in-Err-run_script.ensures.cause.failed refl)) c.in-Ok-put_all.ensures.ok c.in-Err-run_script.ensures.err
 
 pub returns-clause-ends : goal.returns-clause-ends
 returns-clause-ends g c =
     let image = c.args.core.now.image in
-    let script = c.args.script.now in
-    let front = c.deref.ensures.value ∙ c.in-Ok.ensures.text
-    ∙ ap (λ (i : Image). listing i ++ codes "trace\n") c.image.ensures in
-    part_ends image script (subst HasTypedNumbers c.image.ensures c.in-Ok.ensures.numbers)
-    (c.deref.result.now ++ text_of image script)
-    (run_bytes image script c.deref.result.now front)
-    (g.K.Sink.taken c.args.out.now) (g.K.Sink.taken c.put_run.new.out) (g.K.Sink.faults c.args.out.now)
-    (g.K.Sink.faults c.put_run.new.out) (c.in-Err.ensures.cause.failed refl) c.in-Err.ensures.err
+    let front = c.deref.result.now in
+    let head = subst (λ i. IsHeading i front) c.image.ensures (subst (IsHeading c.image.result.now)
+    (sym c.deref.ensures.value) c.in-Ok.ensures) in
+    let shown = text_of image c.args.script.now in
+    front_ends (ShowsRun image c.args.script.now) front shown (refl, head.numbers, ap (λ l. l ++ shown) head.is)
+    _ (g.K.Sink.taken c.put_all.new.sink) _ _ _ (c.in-Err.ensures.cause.failed refl) c.in-Err.ensures.err

@@ -4,47 +4,29 @@ use Rattle.rt_ids.specs.declared.status.Status.TheVariants as status
 use Rattle.rt_rta.specs.Text.{IsRefused, too_long}
 use Rattle.rt_rta.specs.declared.refusal.LimitsRefused.TheVariants as in_limits
 use Rattle.rt_top.specs.Kinds as kind
-use Rattle.rt_top.specs.Reads.{given_by}
 use Rattle.rt_top.specs.SecondRefusal.{SaysLimits}
 use Rattle.rt_top.specs.Inside.Using.{stop}
-use Rattle.rt_top.proofs.Conducting.{refusal_reads}
+use Rattle.rt_top.proofs.Conducting.{refusal_reads, refused_over}
 use Rattle.rt_top.proofs.times.read_limits_of.Goals as goal
 
 pub returns-in-Ok-None-clause-reads : goal.returns-in-Ok-None-clause-reads
 returns-in-Ok-None-clause-reads g c first is =
-    let gave = given_by g.S.Source.past c.args.source.now c.read_within.new.source in
+    let app = app_of c.args.app.now in
     let read = rw c.in-Ok-None.field-0-is at c.in-Ok-None.ensures in
-    refusal_reads kind.Limits first gave _ read.0 read.0.1 status.Text (SaysLimits in_limits.TooLong)
-    (λ line says. (
-      refl,
-      record {
-        app = app_of c.args.app.now;
-        of_text = is;
-        refusal = in_limits.TooLong;
-        refused = too_long read.1;
-        says = says;
-      },
-    ))
-    c.refuse_limits.result c.refuse_limits.ensures
+    refusal_reads kind.Limits first _ _ read.0 read.0.1 status.Text (SaysLimits in_limits.TooLong)
+    (λ line says. (refl, refused_over app is in_limits.TooLong (too_long read.1) says)) c.refuse_limits.result
+    c.refuse_limits.ensures
 
 pub returns-in-Err-clause-reads : goal.returns-in-Err-clause-reads
 returns-in-Err-clause-reads g c first is = stop c.in-Err.status c.in-Err.ensures
 
 pub returns-clause-reads : goal.returns-clause-reads
 returns-clause-reads g c first is =
-    let gave = given_by g.S.Source.past c.args.source.now c.read_within.new.source in
+    let app = app_of c.args.app.now in
     let read = rw c.in-Ok-Some.field-0-is at c.in-Ok-Some.ensures in
     let refusal = c.in-Err-read_limits.refusal in
-    refusal_reads kind.Limits first gave _ read.0 read.0.1 status.Text (SaysLimits refusal)
-    (λ line says. (
-      refl,
-      record {
-        app = app_of c.args.app.now;
-        of_text = is;
-        refusal = refusal;
-        refused = subst (λ m. IsRefused (app_of c.args.app.now) m refusal) (c.deref.ensures.value ∙ read.1)
-            c.in-Err-read_limits.ensures.refused;
-        says = says;
-      },
-    ))
-    c.refuse_limits-in-Err-read_limits.result c.refuse_limits-in-Err-read_limits.ensures
+    let refused = subst (λ m. IsRefused app m refusal) (c.deref.ensures.value ∙ read.1)
+    c.in-Err-read_limits.ensures.refused in
+    refusal_reads kind.Limits first _ _ read.0 read.0.1 status.Text (SaysLimits refusal)
+    (λ line says. (refl, refused_over app is refusal refused says)) c.refuse_limits-in-Err-read_limits.result
+    c.refuse_limits-in-Err-read_limits.ensures

@@ -3,7 +3,6 @@ use Rattle.rt_ids.specs.declared.status.Status.TheVariants as status
 use Rattle.rt_load.specs.Reading.{IsRefused}
 use Rattle.rt_load.specs.declared.refusal.LoadRefused.TheVariants as in_image
 use Rattle.rt_top.specs.Kinds as kind
-use Rattle.rt_top.specs.Reads.{given_by}
 use Rattle.rt_top.specs.Verified.{SaysImage}
 use Rattle.rt_top.specs.Inside.Using.{stop}
 use Rattle.rt_top.proofs.Conducting.{refusal_reads}
@@ -11,9 +10,8 @@ use Rattle.rt_top.proofs.verify.read_listing.Goals as goal
 
 pub returns-in-Ok-None-clause-reads : goal.returns-in-Ok-None-clause-reads
 returns-in-Ok-None-clause-reads g c =
-    let gave = given_by g.S.Source.past c.args.source.now c.read_within.new.source in
     let read = rw c.in-Ok-None.field-0-is at c.in-Ok-None.ensures in
-    refusal_reads kind.Listing gave gave _ read.0 read.0.1 status.Text (SaysImage in_image.TooLong)
+    refusal_reads kind.Listing _ _ _ read.0 read.0.1 status.Text (SaysImage in_image.TooLong)
     (λ line says. (refl, (in_image.TooLong, read.1, says))) c.refuse_image.result c.refuse_image.ensures
 
 pub returns-in-Err-clause-reads : goal.returns-in-Err-clause-reads
@@ -21,10 +19,8 @@ returns-in-Err-clause-reads g c = stop c.in-Err.status c.in-Err.ensures
 
 pub returns-clause-reads : goal.returns-clause-reads
 returns-clause-reads g c =
-    let gave = given_by g.S.Source.past c.args.source.now c.read_within.new.source in
     let read = rw c.in-Ok-Some.field-0-is at c.in-Ok-Some.ensures in
     let refusal = c.in-Err-load.refusal in
     let refused = subst (λ m. IsRefused m refusal) (c.deref.ensures.value ∙ read.1) c.in-Err-load.ensures.refused in
-    refusal_reads kind.Listing gave gave _ read.0 read.0.1 status.Text (SaysImage refusal)
-    (λ line says. (refl, (refusal, refused, says))) c.refuse_image-in-Err-load.result
-    c.refuse_image-in-Err-load.ensures
+    refusal_reads kind.Listing _ _ _ read.0 read.0.1 status.Text (SaysImage refusal)
+    (λ line says. (refl, (refusal, refused, says))) c.refuse_image-in-Err-load.result c.refuse_image-in-Err-load.ensures
