@@ -1,8 +1,6 @@
 -- The lines of an account: a reader of traces passes over them, and they are few and short.
-use Rattle.std.proofs.Common.{◌≡◌, ℕ, ◌*◌, ◌≤◌, ◌==◌, true, List, [], ◌∷◌, ◌++◌, length}
-use Rattle.std.proofs.Common.{map}
-use Rattle.std.proofs.Common.{flat_map, codes, decimal, Option, Some, None, option_map, unwrap_or, refl, sym}
-use Rattle.std.proofs.Common.{arith, length-append}
+use Rattle.std.proofs.Common.{◌≡◌, ℕ, ◌*◌, ◌≤◌, ◌==◌, true, List, [], ◌∷◌, ◌++◌, length, map, flat_map, codes, decimal}
+use Rattle.std.proofs.Common.{Option, Some, None, option_map, unwrap_or, refl, sym, arith, length-append}
 use Rattle.std.specs.List.{AllByRecursion}
 use Rattle.rt_lemmas.proofs.Lists.{find_has, flat_map-map}
 use Rattle.rt_ids.specs.Names.{Names, AreNames}

@@ -1,5 +1,4 @@
--- What `run`, `live` and `pair` write is a text that an audit judges right: it is short, it is read as the trace of its
--- image, and that is a run.
+-- What `run`, `live` and `pair` write is judged right: it is short, and it is read as the trace of its image, a run.
 use Rattle.std.proofs.Common.{◌≡◌, ℕ, ◌+◌, ◌<◌, ◌≤◌, ◌^◌, List, [], ◌++◌, length, flat_map, codes, Option, Some}
 use Rattle.std.proofs.Common.{None, refl, ap, sym, subst, ◌∙◌, arith, length-append}
 use Rattle.std.specs.List.{AllByRecursion}

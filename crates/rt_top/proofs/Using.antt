@@ -1,5 +1,4 @@
--- What follows from how the texts of a command were read: which sources it did not come to, which it read whole, and
--- why it stops.
+-- What follows from how a command's texts were read: which sources it did not come to or read whole, why it stops.
 use Rattle.std.proofs.Common.{◌≡◌, ℕ, zero, suc, ◌<◌, ◌≤◌, ◌⊎◌, List, [], ◌∷◌, length, Option, Some}
 use Rattle.std.proofs.Common.{take, slice_get, inl, inr, refl, subst, arith}
 use Rattle.rt_ids.specs.declared.status.Status.{Status}

@@ -12,7 +12,7 @@ use Rattle.rt_dual.specs.Course.{first_events, second_events, course_events}
 use Rattle.rt_dual.specs.Output.{IsPairText, core_text, course_text, account}
 use Rattle.rt_dual.proofs.Found.{pair_row}
 use Rattle.rt_listing.specs.Listing.{listing}
-use Rattle.rt_live.specs.Account.{account_text, declared_irqs}
+use Rattle.rt_live.specs.Account.{declared_irqs}
 use Rattle.rt_live.specs.Interleaving.{turns, interleaving}
 use Rattle.rt_live.specs.Output.{IsLiveText}
 use Rattle.rt_live.specs.declared.account.AccountRow.{AccountRow}
@@ -24,7 +24,7 @@ use Rattle.rt_script.specs.declared.line.Line.{Line}
 use Rattle.rt_top.specs.Inside.Started.{run_text}
 use Rattle.rt_top.specs.Outputs.{IsGoodImage}
 use Rattle.rt_top.proofs.Audits.{IsTold, told}
-use Rattle.rt_top.proofs.Happening.{Happens, run_happens, live_happens, first_happens, second_happens}
+use Rattle.rt_top.proofs.Happening.{run_happens, live_happens, first_happens, second_happens}
 
 -- an account has a row for each declared interrupt
 rows_few : (image : Image) (f : ℕ → AccountRow) → length (map f (declared_irqs image.names)) ≤ length image.names.irqs

@@ -24,8 +24,7 @@ use rt_trace::TraceRefused;
 use std::alloc::Global;
 use std::marker::Brand;
 
-/// `audit APP TRACE`: whether the trace is a run of Baker's machine on the application, and if not, its first wrong
-/// item.
+/// `audit APP TRACE`: whether the trace is a run of Baker's machine on the application, else its first wrong item.
 #[inline(never)]
 pub(crate) fn audit<S: Source>(alloc: Global, app: &App, source: &mut S) -> Reply
     requires { IsAccepted (app_of app.now) }

@@ -46,7 +46,6 @@ pub(crate) enum Command {
 }
 
 /// The command that the words name, None where they name none.
-
 pub(crate) fn command_of(words: &[&str]) -> Option<Command>
     ensures some { IfSome result (λ c. Names (texts words.now) (command_word c)) }
     ensures none { IfNone result (¬ IsCommand (texts words.now)) }

@@ -26,8 +26,7 @@ use rt_script::Script;
 use std::alloc::Global;
 use std::thread::Threads;
 
-/// `live APP SCRIPT`: the listing of the application's image, and that image's trace beside the devices of the script,
-/// with their account.
+/// `live APP SCRIPT`: the listing of the application's image, its trace beside the script's devices, and their account.
 #[inline(never)]
 pub(crate) fn live<R: Threads + Sync, S: Source, K: Sink + Send, G: Gate + Sync>(
     rt: &R,

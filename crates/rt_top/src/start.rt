@@ -24,8 +24,7 @@ use rt_script::{Script, ScriptRefused, read_script};
 use rt_sim::prepare;
 use std::alloc::Global;
 
-/// What a command starts from that runs an application under a script: a core with the application's image, and the
-/// script of a source.
+/// What a run under a script starts from: a core with the application's image, and the script of a source.
 pub(crate) fn start<S: Source>(
     alloc: Global,
     app: &App,

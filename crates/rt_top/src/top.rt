@@ -38,37 +38,9 @@ pub fn rtic<R: Threads + Sync, A: Source, B: Source, C: Source, K: Sink + Send, 
     out: &mut K,
     gate: &G,
 ) -> Status
-    // With an answer all that is defined for the texts that were given was written, and nothing else.
-    //
-    // At `Done`, `build` has written the listing of an image of the application, and `run` that and the image's trace
-    // on the model of an ARMv7-M core under the script's events. No other good image of the application has this
-    // listing. Of that image they promise: for every list of events in which only declared interrupts arrive, and with
-    // a monotonic of fewer than 2^31 ticks and armings, its trace is a run of Baker's machine on the application and
-    // shows just these events, sections are exclusive, no lock is found taken, interrupts and messages wait for lower
-    // jobs within the bounds that `check` prints, the stack keeps within its bound, no job hangs, nothing traps, and
-    // each cell of memory is touched only by a job that owns it. What `run` has written is such a trace.
-    //
-    // `audit` takes every accepted application, and judges a trace, whatever made it. With `yes N` and `Done` the
-    // trace, of N items, is a run of Baker's machine on the application with each depth within the stack bound, so
-    // sections were exclusive, no lock was found taken, and waiting kept within its bound. Also every spawn was full
-    // exactly where the capacity was out, messages started first in, first out, fired in order and not before their
-    // instant, and ready and due messages were served; of `run` and `build` likewise for each such list of events. With
-    // `no N` and `No` it is none, and N is the number of the first item that is wrong, from 1, or one more than there
-    // are items where only the total is.
-    //
-    // `verify` takes the listing of any image, whatever made it, and no application. With `yes` and `Done` the image
-    // keeps the seven rules, and it is safe: for every list of events that a core may be given, nothing traps, the
-    // stack stays in the image's region, sections are exclusive, no lock is found taken, and outside `init` each cell
-    // for which owners contend is touched inside its one section alone. With `no K` and `No`, K is the least of the
-    // rules that the image breaks. A text that is no listing is refused at its first wrong line with `Text`.
-    //
-    // `times` takes limits on requests. At `Done` each line has the response time of a priority, and in every run of
-    // every image of the application whose requests keep the limits each of them is served within it. Where requests
-    // come during `init`, limits are kept from its end, and those requests are served within it from there.
-    //
-    // `pair` takes two applications and a script over the names of the first. At `Done` it has written, for each of two
-    // cores, the listing of an image of its application, and that image's trace beside the other core, with an account
-    // of the other core's requests; of each image all holds that `run` promises of its own.
+    // With an answer all that is defined for the texts that were given was written, and nothing else. What is defined
+    // is in specs/Outputs.antt, Verified.antt and Paired.antt: of an image that it is good (`Good` of `rt_sim`), so for
+    // every list of events a run of Baker's machine within its bounds. docs/VERIFICATION.md tells it in words.
     ensures answered { (c : Command) → Names (texts words.now) c → IsAnswer result →
         let t = inputs (given_by A.past app.old app.new) (given_by B.past second.old second.new)
         (given_by C.past third.old third.new) in

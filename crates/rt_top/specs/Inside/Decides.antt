@@ -1,5 +1,4 @@
--- What a command replies, and how it ends: with what is due, written as far as the sink took it, or why the program
--- stops.
+-- What a command replies, and how it ends: with what is due, as far as the sink took it, or why the program stops.
 use Rattle.std.specs.Prelude.{◌≡◌, ℕ, ◌⊎◌, List, [], Option, Some, None}
 use Rattle.rt_ids.specs.declared.refusal.Fault.{Fault}
 use Rattle.rt_ids.specs.declared.status.Status.{Status}

@@ -38,8 +38,10 @@ returns-in-Err-NoMemory g c first is =
 pub returns-in-Ok-end : goal.returns-in-Ok-end
 returns-in-Ok-end g c first is =
     let lines = c.in-Ok-read_lines.ensures in (
-      (whole_within _ _ _ _ _ c.read_lines.ensures.given lines.ended lines.within,
-          c.read_lines.ensures.quiet (λ e. absurd cc)),
+      (
+        whole_within _ _ _ _ _ c.read_lines.ensures.given lines.ended lines.within,
+        c.read_lines.ensures.quiet (λ e. absurd cc),
+      ),
       c.in-Ok-end.ensures _ _ c.requires.chosen lines.within (sym lines.handed.0) lines.handed.1,
     )
 

@@ -1,4 +1,4 @@
-use Rattle.std.proofs.Common.{◌≡◌, List, ℕ, Result, Ok, Err, IfOk, Vec, Global}
+use Rattle.std.proofs.Common.{◌≡◌, ℕ, Result, Ok, Err, IfOk, Vec, Global}
 use Rattle.rt_app.specs.Tree.{App}
 use Rattle.rt_app.specs.View.{app_of}
 use Rattle.rt_code.specs.Image.{Image}
