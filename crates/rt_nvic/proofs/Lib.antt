@@ -1,14 +1,10 @@
 pub mod Arriving
 pub mod Choosing
 pub mod Precedence
-pub mod Least
 pub mod Taking
-pub mod Growing
-pub mod ReadyBits
-pub mod Scanning
+pub mod Tournament
 pub mod OneBit
 pub mod Fitting
 pub mod Pending
 pub mod Flags
 pub mod Lowest
-pub mod Filling

@@ -3,7 +3,6 @@ use Rattle.std.proofs.Common.{◌≡◌, ◌≢◌, ℕ, ◌-◌, ◌*◌, ◌/�
 use Rattle.std.proofs.Common.{sym, ap, ◌∙◌, arith, w32, get_or-set_same, get_or-set_other}
 use Rattle.std.specs.Int.{bit_at}
 use Rattle.std.proofs.lemmas.Nat.Bits.{bit_at_set_same, bit_at_set_other, bit_at_clear_same, bit_at_clear_other}
-use lib.Bits.{and_le_l}
 use native.Mathlib.Decide.{ℕ_discrete}
 use Rattle.rt_ids.specs.Arrivals.{bit_of}
 
@@ -50,23 +49,3 @@ pub clear_other : (words : List ℕ) (i number other : ℕ) → i ≡ number / 3
     ≡ bit_of words other
 clear_other words i number other e l ne = elsewhere words i _ number other e l ne
     (λ j low differs. bit_at_clear_other w32 (get_or words i 0) (number % 32) (omega arith) j low differs)
-
--- the words beside it
-pub words_beside : (words : List ℕ) (i n number k : ℕ) → i ≡ number / 32 → k ≢ number / 32
-    → get_or (set words i n) k 0 ≡ get_or words k 0
-words_beside words i n number k e ne = get_or-set_other words i k n 0 (λ same. ne (same ∙ e))
-
-clear_keeps_by : (words : List ℕ) (i m k : ℕ) → Dec (k ≡ i) → i < length words → get_or words k 0 ≡ 0
-    → get_or (set words i (bit_and (get_or words i 0) m)) k 0 ≡ 0
-clear_keeps_by words i m k (yes e) l none =
-    let zero : get_or words i 0 ≡ 0 = ap (λ (j : ℕ). get_or words j 0) (sym e) ∙ none in
-    let same = ap (λ (j : ℕ). get_or (set words i (bit_and (get_or words i 0) m)) j 0) e
-    ∙ get_or-set_same words i (bit_and (get_or words i 0) m) 0 l in
-    let less = and_le_l (get_or words i 0) m in
-    omega arith
-clear_keeps_by words i m k (no ne) l none = get_or-set_other words i k (bit_and (get_or words i 0) m) 0 ne ∙ none
-
--- a word of 0 stays where bits are cleared
-pub clear_keeps : (words : List ℕ) (i m k : ℕ) → i < length words → get_or words k 0 ≡ 0
-    → get_or (set words i (bit_and (get_or words i 0) m)) k 0 ≡ 0
-clear_keeps words i m k = clear_keeps_by words i m k (ℕ_discrete k i)

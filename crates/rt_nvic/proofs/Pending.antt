@@ -4,7 +4,6 @@ use Rattle.std.proofs.Common.{true, false, List, [], ◌∷◌, length, get_or, 
 use Rattle.std.proofs.Common.{add-one, length-set, get_or-set_same, get_or-set_other}
 use Rattle.std.specs.Int.{bit_at}
 use Rattle.std.proofs.lemmas.Bool.Decides.{nat_tests}
-use Rattle.std.proofs.lemmas.Nat.Bits.{shr_and_one}
 use Rattle.rt_lemmas.proofs.Bools.{with_false}
 use native.Mathlib.Decide.{ℕ_discrete}
 use Rattle.rt_ids.specs.Arrivals.{arrivals, arrivals_below, pending_with, holds}
@@ -47,7 +46,7 @@ each_at : (k bits bit irq : ℕ) (pending : List Bool) → bit < 32 → irq < le
     → get_or (pending_with (arrivals_below k bits (bit + 1)) pending) irq false
     ≡ (get_or pending irq false || holds_below (bit_at bits) k (bit + 1) irq)
 each_at k bits bit irq pending low inside h e =
-    let set_at = pended_set k bits bit pending (shr_and_one bits bit ∙ h) in
+    let set_at = pended_set k bits bit pending h in
     let long = length-pended (arrivals_below k bits bit) pending in
     let there : 32 * k + bit < length (pending_with (arrivals_below k bits bit) pending) = omega arith in
     ap (λ (l : List Bool). get_or l irq false) set_at
@@ -62,7 +61,7 @@ each_past : (k bits bit irq : ℕ) (pending : List Bool) → bit < 32 → bit_at
     → get_or (pending_with (arrivals_below k bits (bit + 1)) pending) irq false
     ≡ (get_or pending irq false || holds_below (bit_at bits) k (bit + 1) irq)
 each_past k bits bit irq pending low h ne before =
-    ap (λ (l : List Bool). get_or l irq false) (pended_set k bits bit pending (shr_and_one bits bit ∙ h))
+    ap (λ (l : List Bool). get_or l irq false) (pended_set k bits bit pending h)
     ∙ get_or-set_other (pending_with (arrivals_below k bits bit) pending) (32 * k + bit) irq true false ne
     ∙ before
     ∙ ap (λ (b : Bool). get_or pending irq false || b) (sym (past_bit (bit_at bits) k bit irq low ne))
@@ -73,8 +72,7 @@ each_clear : (k bits bit irq : ℕ) (pending : List Bool) → bit_at bits bit �
     → get_or (pending_with (arrivals_below k bits (bit + 1)) pending) irq false
     ≡ (get_or pending irq false || holds_below (bit_at bits) k (bit + 1) irq)
 each_clear k bits bit irq pending h before =
-    ap (λ (l : List Bool). get_or l irq false) (pended_clear k bits bit pending
-    (λ e. h (sym (shr_and_one bits bit) ∙ e)))
+    ap (λ (l : List Bool). get_or l irq false) (pended_clear k bits bit pending h)
     ∙ before
     ∙ ap (λ (b : Bool). get_or pending irq false || b) (sym (at_clear_bit (bit_at bits) k bit irq h))
 

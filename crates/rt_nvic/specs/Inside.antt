@@ -1,6 +1,5 @@
 -- What private contracts and the invariant of the controller speak of.
 pub mod First
 pub mod Bits
-pub mod Filled
-pub mod Best
+pub mod Keys
 pub mod Fields

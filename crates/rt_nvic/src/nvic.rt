@@ -6,10 +6,9 @@ ghost use Rattle.rt_nvic.specs.declared.sizes.TheConstants.{ACTIVE};
 ghost use Rattle.rt_nvic.specs.Nvic as spec;
 ghost use Rattle.rt_ids.specs.Arrivals.{arrivals, pending_with, holds};
 
-use crate::best::{Best, NO_BEST};
 use crate::bits::{clear_bit, has_bit, set_bit};
-use crate::ready::Ready;
-use crate::sizes::{ACTIVE, NUMBERS, WORDS};
+use crate::keys::{key, set_key};
+use crate::sizes::{ACTIVE, LEAVES, NO_KEY, NODES, NUMBERS, WORDS};
 use rt_ids::Irq;
 use rt_ids::limits::{IRQ_NUMBERS, THREAD_VALUE};
 use std::marker::Model;
@@ -26,10 +25,8 @@ pub struct Nvic {
     active: [Irq; ACTIVE],
     /// From 0, where the array is full, to `ACTIVE`, where none is active.
     top: usize,
-    /// The bits of those that are pending and enabled.
-    ready: Ready,
-    /// Of these the one that is taken first.
-    best: Best,
+    /// The tournament of those that are pending and enabled.
+    nodes: [u32; NODES],
 }
 
 impl Model for Nvic {
@@ -46,7 +43,7 @@ impl Model for Nvic {
       active = drop n.top n.active;
     } };
 
-    ghost invariant = { λ n. IsKept n.priorities n.pending n.active n.top n.ready n.best };
+    ghost invariant = { λ n. IsKept n.priorities n.pending n.active n.top n.nodes };
 }
 
 impl Nvic {
@@ -63,8 +60,7 @@ impl Nvic {
             pending: [0; WORDS],
             active: [irq; ACTIVE],
             top: ACTIVE,
-            ready: Ready::none(),
-            best: NO_BEST,
+            nodes: [NO_KEY; NODES],
         }
     }
 
@@ -74,8 +70,8 @@ impl Nvic {
     {
         let number = irq.get();
         self.priorities[usize::from(number)] = Some(prio);
-        self.ready.set(number, has_bit(&self.pending, number));
-        self.best = Best::of(&self.priorities, &self.ready);
+        let key = key(number, Some(prio), has_bit(&self.pending, number));
+        set_key(&mut self.nodes, number, key);
     }
 
     /// Sets the interrupts pending whose bits this word holds: bit b of word k is interrupt 32 * k + b.
@@ -87,10 +83,12 @@ impl Nvic {
     {
         // The clauses need the lengths, which are known where a field is used.
         let _ = &self.top;
-        for bit in 0..32 {
-            if (bits >> bit) & 1 == 1 {
-                self.post_number(32 * u16::from(k) + bit);
-            }
+        let word = u64::from(bits);
+        let mut from: u16 = 0;
+        while word >> from != 0 {
+            let bit = from + (word >> from).trailing_zeros() as u16;
+            self.post_number(32 * u16::from(k) + bit);
+            from = bit + 1;
         }
     }
 
@@ -100,10 +98,9 @@ impl Nvic {
         ensures { self.new ≡ record self.old { pending = slice_set self.old.pending irq true } }
     {
         let number = irq.get();
-        set_bit(&mut self.pending, number, true);
-        let priority = self.priorities[usize::from(number)];
-        self.ready.set(number, priority.is_some());
-        self.best = self.best.with(irq, priority);
+        set_bit(&mut self.pending, number);
+        let key = key(number, self.priorities[usize::from(number)], true);
+        set_key(&mut self.nodes, number, key);
     }
 
     /// Sets the interrupt of a number pending.
@@ -137,8 +134,10 @@ impl Nvic {
         ensures none { IfNone result ((irq : ℕ) → ¬ spec.IsReady self.now exec irq) }
         ensures sizes { spec.IsSized self.now }
     {
-        if self.best.value < exec {
-            self.best.irq
+        let first = self.nodes[1];
+        let limit = u32::from(exec) * LEAVES;
+        if first < limit {
+            Irq::new((first % LEAVES) as u16)
         } else {
             None
         }
@@ -155,10 +154,9 @@ impl Nvic {
     {
         let number = irq.get();
         clear_bit(&mut self.pending, number);
-        self.ready.clear(number);
+        set_key(&mut self.nodes, number, NO_KEY);
         self.top -= 1;
         self.active[self.top] = irq;
-        self.best = Best::of(&self.priorities, &self.ready);
     }
 
     /// Returns from the interrupt that was taken last.
@@ -179,8 +177,7 @@ impl Nvic {
     {
         self.pending = [0; WORDS];
         self.top = ACTIVE;
-        self.ready = Ready::none();
-        self.best = Best::of(&self.priorities, &self.ready);
+        self.nodes = [NO_KEY; NODES];
     }
 
     /// The interrupt that was taken last, and None where none is active.

@@ -10,5 +10,11 @@ pub const WORDS: usize = 16;
 /// Interrupts that may be active at once: one for each priority value where 7 bits are implemented.
 pub const ACTIVE: usize = 128;
 
-/// The limit of a priority value where no interrupt is ready: no execution priority is above it.
-pub const NONE_READY: u16 = u16::MAX;
+/// Leaves of the tournament: a power of two, with one for each number.
+pub const LEAVES: u32 = 512;
+
+/// Nodes of the tournament: its leaves, those above them, and node 0, which is none of it.
+pub const NODES: usize = 1024;
+
+/// The key of an interrupt that is not ready: it is above that of every one that is.
+pub const NO_KEY: u32 = u32::MAX;

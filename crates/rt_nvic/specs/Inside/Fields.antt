@@ -1,11 +1,9 @@
 -- What the fields of a controller keep.
 use Rattle.std.specs.Prelude.{◌≡◌, ℕ, ◌≤◌, List, length, Option}
 use Rattle.rt_ids.specs.declared.limits.TheConstants.{IRQ_NUMBERS}
-use Rattle.rt_nvic.specs.declared.best.Best.{Best}
-use Rattle.rt_nvic.specs.declared.sizes.TheConstants.{ACTIVE, WORDS}
-use Rattle.rt_nvic.specs.Inside.First.{controller_of}
-use Rattle.rt_nvic.specs.Inside.Bits.{flags, AreReady}
-use Rattle.rt_nvic.specs.Inside.Best.{IsBest}
+use Rattle.rt_nvic.specs.declared.sizes.TheConstants.{ACTIVE, NODES, WORDS}
+use Rattle.rt_nvic.specs.Inside.Bits.{flags}
+use Rattle.rt_nvic.specs.Inside.Keys.{HasKeys, IsTournament}
 
 -- an entry for each number, a word for each 32 of them, and an entry for each interrupt that may be active
 pub record IsFixed (priorities : List (Option ℕ)) (pending : List ℕ) (active : List ℕ) (top : ℕ) : Type 0 where
@@ -14,9 +12,10 @@ pub record IsFixed (priorities : List (Option ℕ)) (pending : List ℕ) (active
   pub active_long : length active ≡ ACTIVE
   pub top_within : top ≤ ACTIVE
 
--- and the bits and the best of those that are ready
-pub record IsKept (priorities : List (Option ℕ)) (pending : List ℕ) (active : List ℕ) (top : ℕ) (words : List ℕ)
-    (kept : Best) : Type 0 where
+-- and a tournament of the keys of those that are ready
+pub record IsKept (priorities : List (Option ℕ)) (pending : List ℕ) (active : List ℕ) (top : ℕ) (nodes : List ℕ)
+    : Type 0 where
   pub fixed : IsFixed priorities pending active top
-  pub ready : AreReady priorities (flags pending) words
-  pub best : IsBest (controller_of priorities (flags pending)) kept
+  pub nodes_long : length nodes ≡ NODES
+  pub tournament : IsTournament nodes
+  pub keys : HasKeys priorities (flags pending) nodes

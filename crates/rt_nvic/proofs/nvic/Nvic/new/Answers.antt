@@ -1,21 +1,19 @@
-use Rattle.std.proofs.Common.{ℕ, ◌≤◌, Bool, false, List, drop, length, replicate, Option, None, sym, ap, subst, ◌∙◌}
-use Rattle.std.proofs.Common.{arith, drop_of_length-le}
+use Rattle.std.proofs.Common.{ℕ, ◌≤◌, Bool, false, List, drop, length, replicate, Option, None, ap, ◌∙◌, arith}
+use Rattle.std.proofs.Common.{drop_of_length-le}
 use Rattle.std.proofs.lemmas.List.{length-replicate}
 use Rattle.rt_ids.specs.declared.limits.TheConstants.{IRQ_NUMBERS}
 use Rattle.rt_nvic.specs.Nvic.{Nvic}
-use Rattle.rt_nvic.specs.Inside.Fields.{IsKept}
-use Rattle.rt_nvic.specs.declared.sizes.TheConstants.{ACTIVE, NONE_READY, WORDS}
+use Rattle.rt_nvic.specs.declared.sizes.TheConstants.{ACTIVE}
 use Rattle.rt_nvic.proofs.Flags.{flags_none}
-use Rattle.rt_nvic.proofs.Taking.{kept_at_first}
+use Rattle.rt_nvic.proofs.Taking.{kept_cleared}
 use Rattle.rt_nvic.proofs.nvic.Nvic.new.Goals as goal
 
 pub invariant_of-result : goal.invariant_of-result
 invariant_of-result c =
     let none : List (Option ℕ) = replicate IRQ_NUMBERS None in
     let active : List ℕ = replicate ACTIVE c.in-Some.irq in
-    let Kept : List ℕ → Type 0 = λ words. IsKept none (replicate WORDS 0) active ACTIVE words
-    (record { irq = None; value = NONE_READY }) in
-    subst Kept (sym c.none.ensures) (kept_at_first active (length-replicate ACTIVE c.in-Some.irq))
+    kept_cleared none active (length-replicate {A = Option ℕ} IRQ_NUMBERS None)
+    (length-replicate ACTIVE c.in-Some.irq)
 
 pub returns : goal.returns
 returns c =

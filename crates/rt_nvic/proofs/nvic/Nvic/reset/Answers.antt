@@ -1,28 +1,15 @@
-use Rattle.std.proofs.Common.{ℕ, ◌≤◌, Bool, false, List, [], drop, length, replicate, sym, ap, subst, ◌∙◌}
-use Rattle.std.proofs.Common.{arith, drop_of_length-le}
+use Rattle.std.proofs.Common.{ℕ, ◌≤◌, Bool, false, List, [], drop, length, replicate, ap, ◌∙◌, arith, drop_of_length-le}
 use Rattle.rt_ids.specs.declared.limits.TheConstants.{IRQ_NUMBERS}
 use Rattle.rt_nvic.specs.Nvic.{Nvic}
-use Rattle.rt_nvic.specs.Inside.Best.{IsBestOf}
-use Rattle.rt_nvic.specs.Inside.Bits.{AreNumbers}
-use Rattle.rt_nvic.specs.Inside.Fields.{IsKept}
-use Rattle.rt_nvic.specs.declared.sizes.TheConstants.{ACTIVE, WORDS}
+use Rattle.rt_nvic.specs.declared.sizes.TheConstants.{ACTIVE}
 use Rattle.rt_nvic.proofs.Flags.{flags_none}
-use Rattle.rt_nvic.proofs.Taking.{kept_cleared, none_set}
+use Rattle.rt_nvic.proofs.Taking.{kept_cleared}
 use Rattle.rt_nvic.proofs.nvic.Nvic.reset.Goals as goal
-
-pub of-self-inside-requires-clause-within : goal.of-self-inside-requires-clause-within
-of-self-inside-requires-clause-within c = subst AreNumbers (sym c.none-self-inside.ensures) none_set
 
 pub invariant_of-self : goal.invariant_of-self
 invariant_of-self c =
-    let is = c.self.inside in
     let fixed = c.self.invariant.fixed in
-    let best = c.of-self-inside.result in
-    let chosen = subst (λ (words : List ℕ). IsBestOf is.priorities words IRQ_NUMBERS best) c.none-self-inside.ensures
-    c.of-self-inside.ensures in
-    subst (λ (words : List ℕ). IsKept is.priorities (replicate WORDS 0) is.active ACTIVE words best)
-    (sym c.none-self-inside.ensures)
-    (kept_cleared is.priorities is.active best fixed.priorities_long fixed.active_long chosen)
+    kept_cleared c.self.inside.priorities c.self.inside.active fixed.priorities_long fixed.active_long
 
 pub returns : goal.returns
 returns c =
