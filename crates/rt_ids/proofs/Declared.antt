@@ -1,18 +1,18 @@
 -- A name more, where it is not yet declared; and names that are looked up in the maps that keep them.
 use Rattle.std.proofs.Common.{◌≡◌, ℕ, zero, suc, ◌<◌, inl, inr, Bool, true, false, cond, ◌||◌, ◌==◌, List, [], ◌∷◌}
 use Rattle.std.proofs.Common.{◌++◌, length, map, take, find, position, bytes_eq, slice_get, Option, None, Some, is_some}
-use Rattle.std.proofs.Common.{refl, sym, ap, subst, ◌∙◌, arith}
+use Rattle.std.proofs.Common.{refl, sym, ap, subst, ◌∙◌, arith, get_or-set_same, get_or-set_other}
+use Rattle.std.proofs.Common.{slice_index_or, unwrap_or}
 use Rattle.std.specs.List.{list_any}
 use Rattle.std.specs.Prelude.{Vec}
 use Rattle.std.specs.Global.{Global}
 use Rattle.indexmap.specs.IndexMap.{insert_entry}
 use Rattle.indexmap.specs.IndexSet.{insert_key}
-use Rattle.rt_ids.specs.Inside.Kept.{text, kept_names}
+use Rattle.rt_ids.specs.Inside.Kept.{text, kept_names, AreFirsts, with_first}
 use Rattle.std.specs.Map.{lookup}
 use Rattle.std.specs.Option.{option_map, option_and_then}
-use Rattle.std.proofs.lemmas.Bool.{false≢true}
+use Rattle.std.proofs.lemmas.Bool.{false≢true, eqb-true, eqb-false}
 use Rattle.std.proofs.lemmas.List.{length-append, map_push, take-map}
-use Rattle.std.proofs.lemmas.Simd.{map-map}
 use Rattle.std.proofs.lemmas.Option.{same_Some, none-some, slice_get-map}
 use Rattle.std.proofs.lemmas.Slice.Eq.{bytes_eq-Decides}
 use Rattle.rt_ids.specs.declared.limits.TheConstants.{IRQS, TASKS, SHARED}
@@ -20,7 +20,7 @@ use Rattle.rt_ids.specs.Lists.{AreDifferent}
 use Rattle.rt_ids.specs.Names.{Names, AreNames, irq_of, task_of, resource_of, with_irq, with_task, with_resource}
 use Rattle.rt_ids.specs.Word.{IsName}
 use Rattle.rt_ids.proofs.Lists.{list_any-map, position-map, find_by_position, is_some-position, is_some-find}
-use Rattle.rt_ids.proofs.Lists.{none_from_is_some, all_push, index_pushed, index_taken}
+use Rattle.rt_ids.proofs.Lists.{none_from_is_some, all_push, index_pushed, index_taken, or_last, position_pushed}
 
 -- a name that no test finds stands at no index
 nowhere : (names : List (List ℕ)) (name : List ℕ) → list_any (bytes_eq name) names ≡ false → (i : ℕ) → slice_get names i
@@ -158,35 +158,68 @@ looked_up test (irq ∷ irqs) = by (looked_up test irqs) (test (text irq.0))
     by rest true = refl
     by rest false = rest
 
--- the first interrupt of a number stands at the first index of the number among all numbers
+-- the first interrupt of a number stands at the first index of the number
 module _ (irqs : List (Vec ℕ Global × ℕ)) (number : ℕ) where
   abbrev seen_irq : Vec ℕ Global × ℕ → List ℕ × ℕ
   seen_irq irq = (text irq.0, irq.1)
 
+  abbrev first_place : Option ℕ
+  first_place = position (λ irq. irq.1 == number) irqs
+
   abbrev numbered : Option (List ℕ × ℕ)
   numbered = find (λ irq. irq.1 == number) (map seen_irq irqs)
 
-  by_index : numbered ≡ option_and_then (slice_get (map seen_irq irqs))
-      (position (λ n. n == number) (map (λ irq. irq.1) irqs))
+  by_index : numbered ≡ option_and_then (slice_get (map seen_irq irqs)) first_place
   by_index =
-      let second : List ℕ × ℕ → ℕ = λ irq. irq.1 in
-      let same : map second (map seen_irq irqs) ≡ map (λ irq. irq.1) irqs = map-map second seen_irq irqs in
-      find_by_position (λ irq. second irq == number) (map seen_irq irqs)
-      ∙ ap (option_and_then (slice_get (map seen_irq irqs)))
-      (sym (position-map second (λ n. n == number) (map seen_irq irqs)) ∙ ap (position (λ n. n == number)) same)
+      find_by_position (λ irq. irq.1 == number) (map seen_irq irqs)
+      ∙ ap (option_and_then (slice_get (map seen_irq irqs))) (position-map seen_irq (λ irq. irq.1 == number) irqs)
 
-  pub irq_found : (index : ℕ) (name : Vec ℕ Global) (n : ℕ) → position (λ n. n == number) (map (λ irq. irq.1) irqs)
-      ≡ Some index → slice_get irqs index ≡ Some (name, n)
-      → option_map (λ irq. irq.0) numbered ≡ Some (text name)
-  irq_found index name n at there =
+  pub irq_found : (index : ℕ) → first_place ≡ Some index → option_map (λ irq. irq.0) numbered
+      ≡ option_map (λ irq. text irq.0) (slice_get irqs index)
+  irq_found index at =
       ap (option_map (λ irq. irq.0))
-      (by_index ∙ ap (option_and_then (slice_get (map seen_irq irqs))) at ∙ slice_get-map seen_irq irqs index
-      ∙ ap (option_map seen_irq) there)
+      (by_index ∙ ap (option_and_then (slice_get (map seen_irq irqs))) at ∙ slice_get-map seen_irq irqs index)
+      ∙ by (slice_get irqs index)
+    where
+      by : (o : Option (Vec ℕ Global × ℕ)) → option_map (λ (irq : List ℕ × ℕ). irq.0) (option_map seen_irq o)
+          ≡ option_map (λ irq. text irq.0) o
+      by None = refl
+      by (Some irq) = refl
 
-  pub irq_missing : position (λ n. n == number) (map (λ irq. irq.1) irqs) ≡ None → option_map (λ irq. irq.0) numbered
-      ≡ None
+  pub irq_missing : first_place ≡ None → option_map (λ irq. irq.0) numbered ≡ None
   irq_missing none = ap (option_map (λ irq. irq.0)) (by_index ∙ ap (option_and_then (slice_get (map seen_irq irqs)))
       none)
+
+-- a table of first indices stays one where an interrupt goes last
+module _ (firsts : List (Option ℕ)) (irqs : List (Vec ℕ Global × ℕ)) (are : AreFirsts firsts irqs) (v : Vec ℕ Global)
+    (number : ℕ) (room : number < length firsts) where
+  pub firsts_pushed : AreFirsts (with_first firsts number (length irqs)) (irqs ++ (v, number) ∷ [])
+  firsts_pushed k =
+      by (number == k) refl ∙ sym (position_pushed (λ irq. irq.1 == k) irqs (v, number))
+    where
+      new : List (Option ℕ)
+      new = with_first firsts number (length irqs)
+
+      last : (o : Option ℕ) → Some (unwrap_or o (length irqs)) ≡ or_last o true (length irqs)
+      last None = refl
+      last (Some i) = refl
+
+      other : (o : Option ℕ) → o ≡ or_last o false (length irqs)
+      other None = refl
+      other (Some i) = refl
+
+      by : (b : Bool) → (number == k) ≡ b → slice_index_or new k None
+          ≡ or_last (position (λ irq. irq.1 == k) irqs) b (length irqs)
+      by true same =
+          let e : number ≡ k = eqb-true number k same in
+          ap (λ n. slice_index_or new n None) (sym e)
+          ∙ get_or-set_same firsts number (Some (unwrap_or (slice_index_or firsts number None) (length irqs))) None room
+          ∙ last (slice_index_or firsts number None)
+          ∙ ap (λ o. or_last o true (length irqs)) (ap (λ n. slice_index_or firsts n None) e ∙ are k)
+      by false differ =
+          get_or-set_other firsts number k (Some (unwrap_or (slice_index_or firsts number None) (length irqs))) None
+          (λ e. eqb-false number k differ (sym e))
+          ∙ are k ∙ other (position (λ irq. irq.1 == k) irqs)
 
 abbrev same_text : Vec ℕ Global → Vec ℕ Global → Bool
 same_text a b = bytes_eq (text a) (text b)
@@ -216,6 +249,13 @@ module _ (v : Vec ℕ Global) where
 module _ (irqs : List (Vec ℕ Global × ℕ)) (tasks shared : List (Vec ℕ Global)) (self : Names)
     (view_is : kept_names irqs tasks shared ≡ self) (are : AreNames (kept_names irqs tasks shared))
     (v : Vec ℕ Global) (name : List ℕ) (is : v.items ≡ name) (named : IsName name) where
+  pub irq_last : (number : ℕ) (new : List (Vec ℕ Global × ℕ)) → new ≡ insert_entry same_text irqs v number
+      → irq_of self name ≡ None → new ≡ irqs ++ (v, number) ∷ []
+  irq_last number new at none =
+      let unknown : irq_of (kept_names irqs tasks shared) (text v) ≡ None =
+      ap (λ names. irq_of names (text v)) view_is ∙ ap (irq_of self) is ∙ none in
+      at ∙ entry_last v irqs number (new_irq (kept_names irqs tasks shared) (text v) unknown)
+
   pub irq_kept : (number : ℕ) (new : List (Vec ℕ Global × ℕ)) → new ≡ insert_entry same_text irqs v number
       → irq_of self name ≡ None → length self.irqs < IRQS
       → (kept_names new tasks shared ≡ with_irq self name number) × AreNames (kept_names new tasks shared)
@@ -225,9 +265,7 @@ module _ (irqs : List (Vec ℕ Global × ℕ)) (tasks shared : List (Vec ℕ Glo
       ap (λ names. irq_of names (text v)) view_is ∙ ap (irq_of self) is ∙ none in
       let fits : length (map view irqs) < IRQS = subst (λ (names : Names). length names.irqs < IRQS) (sym view_is)
       room in
-      let last : new ≡ irqs ++ (v, number) ∷ [] = at ∙ entry_last v irqs number
-      (new_irq (kept_names irqs tasks shared) (text v) unknown) in
-      let grown : map view new ≡ map view irqs ++ (text v, number) ∷ [] = ap (map view) last
+      let grown : map view new ≡ map view irqs ++ (text v, number) ∷ [] = ap (map view) (irq_last number new at none)
       ∙ map_push view irqs (v, number) in
       let whole : kept_names new tasks shared ≡ with_irq (kept_names irqs tasks shared) (text v) number =
       ap (λ es. record { irqs = es; tasks = map text tasks; shared = map text shared }) grown in (

@@ -26,6 +26,32 @@ pub list_any-map : {A B : Type 0} (f : A → B) (p : B → Bool) (xs : List A) �
 list_any-map f p [] = refl
 list_any-map f p (x ∷ xs) = ap (λ b. p (f x) || b) (list_any-map f p xs)
 
+-- with one thing more behind, what is found first is what was, or that thing
+abbrev pub or_last : Option ℕ → Bool → ℕ → Option ℕ
+or_last (Some i) here n = Some i
+or_last None here n = cond here (Some n) None
+
+from_pushed : {X : Type 0} (test : X → Bool) (n : ℕ) (xs : List X) (x : X) → position_from test n (xs ++ x ∷ [])
+    ≡ or_last (position_from test n xs) (test x) (n + length xs)
+from_pushed test n [] x = let e : n ≡ n + 0 = omega arith in ap (λ k. cond (test x) (Some k) None) e
+from_pushed test n (y ∷ xs) x = by (from_pushed test (n + 1) xs x) (test y)
+  where
+    by : position_from test (n + 1) (xs ++ x ∷ []) ≡ or_last (position_from test (n + 1) xs) (test x)
+        (n + 1 + length xs) → (b : Bool)
+        → cond b (Some n) (position_from test (n + 1) (xs ++ x ∷ []))
+        ≡ or_last (cond b (Some n) (position_from test (n + 1) xs)) (test x) (n + suc (length xs))
+    by rest true = refl
+    by rest false = let e : n + 1 + length xs ≡ n + suc (length xs) = omega arith in
+        rest ∙ ap (or_last (position_from test (n + 1) xs) (test x)) e
+
+pub position_pushed : {X : Type 0} (test : X → Bool) (xs : List X) (x : X) → position test (xs ++ x ∷ [])
+    ≡ or_last (position test xs) (test x) (length xs)
+position_pushed test xs x =
+    let e : 0 + length xs ≡ length xs = omega arith in
+    position_from-zero test (xs ++ x ∷ []) ∙ from_pushed test 0 xs x
+    ∙ ap (or_last (position_from test 0 xs) (test x)) e
+    ∙ ap (λ o. or_last o (test x) (length xs)) (sym (position_from-zero test xs))
+
 -- whether a thing is found is whether there is one
 some_from : {X : Type 0} (test : X → Bool) (n : ℕ) (xs : List X) → is_some (position_from test n xs) ≡ list_any test xs
 some_from test n [] = refl

@@ -1,9 +1,10 @@
-ghost use Rattle.std.specs.Prelude.{◌≡◌, ◌<◌, ◌==◌, [], None, length, position, slice_get, option_map, IfOk, OnOk};
+ghost use Rattle.std.specs.Prelude.{◌≡◌, ℕ, ◌<◌, [], None, length, slice_get, slice_index_or, option_map, IfOk, OnOk};
 ghost use Rattle.std.specs.Prelude.{OnErr};
 ghost use Rattle.rt_ids.specs.declared.limits.TheConstants.{IRQS, TASKS, SHARED};
 ghost use Rattle.rt_ids.specs.Names.{AreNames, no_names, irq_of, task_of, resource_of, with_irq, with_task};
 ghost use Rattle.rt_ids.specs.Names.{with_resource};
 ghost use Rattle.rt_ids.specs.Naming as naming;
+ghost use Rattle.rt_ids.specs.Inside.Kept.{with_first};
 ghost use Rattle.rt_ids.specs.Word.{IsName};
 
 use crate::ids::{ResId, TaskId};
@@ -17,25 +18,28 @@ use std::marker::Model;
 /// names, none of them stands in it twice, and it is no longer than the limits allow.
 pub struct Names {
     irqs: IndexMap<Vec<u8>, Irq>,
+    /// By interrupt number, the index of the first declared interrupt of this number. Behind the end there is none.
+    firsts: Vec<Option<u8>>,
     tasks: IndexSet<Vec<u8>>,
     shared: IndexSet<Vec<u8>>,
 }
 
 impl Model for Names {
-    ghost use Rattle.rt_ids.specs.Names.{Names, AreNames};
-    ghost use Rattle.rt_ids.specs.Inside.Kept.{kept_names};
+    ghost use Rattle.rt_ids.specs.Names.{Names};
+    ghost use Rattle.rt_ids.specs.Inside.Kept.{kept_names, AreKept};
 
     ghost Value = { Names };
 
     ghost view = { λ names. kept_names names.irqs.entries names.tasks.keys names.shared.keys };
 
-    ghost invariant = { λ names. AreNames (kept_names names.irqs.entries names.tasks.keys names.shared.keys) };
+    ghost invariant = { λ names. AreKept names.irqs.entries names.firsts.items names.tasks.keys names.shared.keys };
 }
 
 impl Drop for Names {
     fn drop(self) {
         let Names {
             irqs: _,
+            firsts: _,
             tasks: _,
             shared: _,
         } = self;
@@ -49,6 +53,7 @@ impl Names {
     {
         Names {
             irqs: IndexMap::new(alloc),
+            firsts: Vec::new(alloc),
             tasks: IndexSet::new(alloc),
             shared: IndexSet::new(alloc),
         }
@@ -62,7 +67,11 @@ impl Names {
         ensures added { OnOk result (self.new ≡ with_irq self.old name.now number) }
         ensures unchanged { OnErr result (self.new ≡ self.old) }
     {
-        self.irqs.insert(Vec::from_slice(alloc, name)?, number)?;
+        let name = Vec::from_slice(alloc, name)?;
+        make_room(&mut self.firsts, number)?;
+        let index = self.irqs.len() as u8;
+        self.irqs.insert(name, number)?;
+        put_first(&mut self.firsts, number, index);
         Ok(())
     }
 
@@ -175,8 +184,8 @@ impl Names {
     pub fn irq_name(&self, number: Irq) -> Option<&[u8]>
         ensures { option_map (λ name. name.now) result ≡ option_map (λ irq. irq.0) (naming.irq_named self.now number) }
     {
-        let index = index_of(self.irqs.values().as_slice(), number)?;
-        let (name, _) = self.irqs.get_index(index)?;
+        let index = first_of(&self.firsts, number)?;
+        let (name, _) = self.irqs.get_index(usize::from(index))?;
         Some(name.as_slice())
     }
 
@@ -192,11 +201,34 @@ impl Names {
     }
 }
 
-/// The first index of an interrupt.
-fn index_of(irqs: &[Irq], irq: Irq) -> Option<usize>
-    ensures { result ≡ position (λ n. n == irq) irqs.now }
+/// The index that a table has for a number.
+fn first_of(firsts: &[Option<u8>], number: Irq) -> Option<u8>
+    ensures { result ≡ slice_index_or firsts.now number None }
 {
-    irqs.iter().position(|n| *n == irq)
+    firsts.get(usize::from(number.get())).copied().flatten()
+}
+
+/// Makes room in a table for a number. What it has stays.
+fn make_room(firsts: &mut Vec<Option<u8>>, number: Irq) -> Result<(), NoMemory>
+    ensures room { OnOk result (number < length firsts.new.items) }
+    ensures stays { (k : ℕ) → slice_index_or firsts.new.items k None ≡ slice_index_or firsts.old.items k None }
+{
+    let length = usize::from(number.get()) + 1;
+    if firsts.len() < length {
+        firsts.resize(length, None)?;
+    }
+    Ok(())
+}
+
+/// Puts an index into a table for a number, where it has none.
+fn put_first(firsts: &mut Vec<Option<u8>>, number: Irq, index: u8)
+    requires { number < length firsts.old.items }
+    ensures { firsts.new.items ≡ with_first firsts.old.items number index }
+{
+    let row = usize::from(number.get());
+    if firsts[row].is_none() {
+        firsts[row] = Some(index);
+    }
 }
 
 /// Declares the same interrupts.
