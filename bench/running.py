@@ -1,6 +1,6 @@
 #!/usr/bin/env python3
-"""Prints the times of `rtic run` beside a plain simulator, of `rtic audit` beside `wc -w` and a plain reader, and the
-memory of both as their input grows.
+"""Prints the times of `rtic run` beside a plain simulator, also where the served interrupts are declared last, of
+`rtic audit` beside `wc -w` and a plain reader, and the memory of both as their input grows.
 
     python3 running.py PROGRAM SIMULATOR READER FOLDER
 
@@ -22,6 +22,8 @@ LAST = 495
 # Interrupts that are pended at once. Their names are short: a script has a megabyte at most.
 CROWD = [f"{letter}{digit}" for letter in "ABCDEF" for digit in range(10)]
 MEGABYTE = 1 << 20
+# The run with interrupts and the thread, where the interrupts that are served are declared last.
+LATE = "busy, served last"
 
 BODIES = """\
 idle(shared = [low], local = [turns]) { lock low { turns = turns + low; } }
@@ -85,17 +87,19 @@ task t3(priority = 1, capacity = 16) with a {}
 TICK = "pend ARM\nstep 797\ntick 1\n"
 
 
-def interrupts(names, irqs, last):
-    """So many declared interrupts up to the last number, these among them: they take the first numbers or the last."""
+def interrupts(names, irqs, last, come_last=False):
+    """So many declared interrupts up to the last number, these among them: they take the first numbers or the last, and
+    are declared before all others or behind them."""
     first = last + 1 - irqs
     served = range(first, first + len(names)) if first == 0 else range(last + 1 - len(names), last + 1)
     rows = [f"{name} = {number}" for name, number in zip(names, served)]
-    rows += [f"X{n} = {n}" for n in range(first, last + 1) if n not in served]
-    return f"interrupts {{ {', '.join(rows)} }}\n"
+    others = [f"X{n} = {n}" for n in range(first, last + 1) if n not in served]
+    return f"interrupts {{ {', '.join(others + rows if come_last else rows + others)} }}\n"
 
 
 def application(irqs, last, name):
-    """So many declared interrupts, of which a few are served; with `waiting` the thread waits."""
+    """So many declared interrupts, of which a few are served; with `waiting` the thread waits, and with `busy, served
+    last` those that are served are declared last."""
     if name == "messages":
         declared = interrupts(["SLOW", "FAST", "HIGH", "LOW"], irqs, last)
         return f"app bench(bits = 4, dispatchers = [HIGH, LOW]);\n{declared}{MESSAGES}"
@@ -108,7 +112,7 @@ def application(irqs, last, name):
         ]
         return f"app bench(bits = 4);\n{interrupts(CROWD, irqs, last)}{''.join(tasks)}"
     bodies = BODIES[BODIES.index("task") :] if name == "waiting" else BODIES
-    declared = interrupts(["SLOW", "FAST"], irqs, last)
+    declared = interrupts(["SLOW", "FAST"], irqs, last, name == LATE)
     return f"app bench(bits = 4);\n{declared}shared {{ low = 1, high = 2 }}\nlocal {{ turns = 0 }}\n{bodies}"
 
 
@@ -132,6 +136,7 @@ def takes(program, folder, last):
 
 
 def measure_run(program, simulator, folder, irqs, last, name, script):
+    """Prints a line, and returns the seconds."""
     app = write(folder, "app", application(irqs, last, name))
     events = write(folder, "script", script)
     listing = output([program, "build", app], os.path.join(folder, "listing"))
@@ -146,6 +151,7 @@ def measure_run(program, simulator, folder, irqs, last, name, script):
         f"{seconds / other:.2f} times a plain simulator ({other * 1000:.0f} ms); {peak(words, folder)} KiB "
         f"for {os.path.getsize(ours) // 1024} KiB of output"
     )
+    return seconds
 
 
 def measure_memory(program, folder):
@@ -234,7 +240,10 @@ def main(program, simulator, reader, folder):
         if takes(program, folder, last):
             measure_run(program, simulator, folder, irqs, last, "waiting", f"step {EVENTS}\n")
             measure_run(program, simulator, folder, irqs, last, "spinning", f"step {EVENTS}\n")
-            measure_run(program, simulator, folder, irqs, last, "busy", busy)
+            first = measure_run(program, simulator, folder, irqs, last, "busy", busy)
+            if irqs > 2:
+                late = measure_run(program, simulator, folder, irqs, last, LATE, busy)
+                print(f"a run whose served interrupts are declared last takes {late / first:.2f} times the other")
     for irqs, last in (4, 3), (240, 239), (240, LAST):
         if takes(program, folder, last):
             measure_run(program, simulator, folder, irqs, last, "messages", messages)
