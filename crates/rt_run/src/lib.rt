@@ -10,5 +10,5 @@ pub mod writing;
 
 pub use numbers::numbers_fit;
 pub use script::run_script;
-pub use sending::{send_pend, send_step, send_tick};
+pub use sending::{send_pend, send_tick};
 pub use writing::put_end;
