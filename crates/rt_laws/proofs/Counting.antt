@@ -15,7 +15,7 @@ use Rattle.rt_laws.specs.ByItems.{after_all}
 use Rattle.rt_laws.specs.Observer.{Observer}
 use Rattle.rt_laws.specs.Counts.{AreWithin, CountsRiseByOne}
 use Rattle.rt_laws.proofs.Fine.{SameQueues}
-use Rattle.rt_laws.proofs.Keeping.{run_well}
+use Rattle.rt_laws.proofs.Keeping.{labels_well}
 use Rattle.rt_laws.proofs.OneAction.{first_queues, by_one_action}
 use Rattle.rt_laws.proofs.Well.{StateWell}
 
@@ -112,7 +112,7 @@ pub counts_rise_by_one : CountsRiseByOne
 counts_rise_by_one = record {
   start = first_within;
   one = λ app accepted labels runs label n within.
-      let behind = run_well app accepted labels runs in
+      let behind = labels_well app accepted labels runs in
       rises app accepted (after_all app (first app) labels) behind.0 behind.1 n within label;
   silent = λ app s n within. silent_within n s within s.jobs;
 }

@@ -25,7 +25,7 @@ use Rattle.rt_laws.specs.Observer.{Seen}
 use Rattle.rt_laws.specs.Instants.{ArmsLast, MovesLast, FiresFirst, EqualInstantsFireInOrder}
 use Rattle.rt_laws.proofs.Fine.{Queued, IsFine, held_after, queued_effect, effect_same, reached_same}
 use Rattle.rt_laws.proofs.Well.{NextKept, AllKept, StackWell}
-use Rattle.rt_laws.proofs.Keeping.{run_well}
+use Rattle.rt_laws.proofs.Keeping.{labels_well}
 
 -- what an item says of the states before and behind it
 abbrev GoesLast : State → State → What → Type 0
@@ -182,11 +182,11 @@ pub equal_instants_fire_in_order : EqualInstantsFireInOrder
 equal_instants_fire_in_order = record {
   arm = λ app accepted labels runs t i may.
       let s : State = after_all app (first app) labels in
-      let behind = run_well app accepted labels runs in
+      let behind = labels_well app accepted labels runs in
       gives_last app s behind.1.queued s.jobs behind.0.jobs behind.1.stack behind.1.order (what.Arm t i) may.1;
   move = λ app accepted labels runs t h i may.
       let s : State = after_all app (first app) labels in
-      let behind = run_well app accepted labels runs in
+      let behind = labels_well app accepted labels runs in
       gives_last app s behind.1.queued s.jobs behind.0.jobs behind.1.stack behind.1.order (what.Move t h i) may.1;
   fire = fires_first;
 }

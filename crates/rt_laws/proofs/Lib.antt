@@ -19,6 +19,7 @@ pub mod Steps
 pub mod Happens
 pub mod OneAction
 pub mod Armings
+pub mod Beside
 pub mod Free
 pub mod Waiting
 pub mod Serving

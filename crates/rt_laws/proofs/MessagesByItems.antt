@@ -20,20 +20,21 @@ use Rattle.rt_app.specs.Sending.{capacity_of}
 use Rattle.rt_laws.specs.State.{Role, Init, Idle, Waiting, Serving, Job, State, first}
 use Rattle.rt_laws.specs.Giving.{next_instant, is_due, return_item, next_item, item_given}
 use Rattle.rt_laws.specs.Allowed.{May, after}
-use Rattle.rt_laws.specs.Run.{RunsOn}
 use Rattle.rt_laws.specs.Observer.{Observer, first_sight, sees}
 use Rattle.rt_laws.specs.Places.{Hand, hands_behind, arming_count}
 use Rattle.rt_laws.specs.MessagesByItems.{whats, TaskCounts, task_counts, still_armed, AgreeByCount, StartFirst}
 use Rattle.rt_laws.specs.MessagesByItems.{IsArmedStill}
 use Rattle.rt_laws.specs.MessagesByItems.{MayComeBehind, MessagesByItems}
+use Rattle.rt_laws.specs.DeviceWords.{WithWords, One, Puts, things, state_after_put, RunsBeside}
 use Rattle.rt_laws.proofs.Fine.{Queued}
 use Rattle.rt_laws.proofs.Well.{NextKept, AllKept, StateWell}
 use Rattle.rt_laws.proofs.Happens.{first_well}
+use Rattle.rt_laws.proofs.Beside.{put_well}
 use Rattle.rt_laws.proofs.Keeping.{next_well}
 use Rattle.rt_laws.proofs.Hands.{InTransit}
 use Rattle.rt_laws.proofs.ItemCounts.{Whereabouts, whereabouts, Agrees}
 use Rattle.rt_laws.proofs.Told.{unargued, told_armed, count_map, least_told, handle_told}
-use Rattle.rt_laws.proofs.Placed.{ticks, Kept, Placed, told_behind, next_placed, first_placed}
+use Rattle.rt_laws.proofs.Placed.{ticks, Kept, Placed, told_behind, next_placed, put_placed, first_placed}
 
 -- where the counts of a task agree with where its places are, and no more are out than there are
 module _ (c : TaskCounts) (w : Whereabouts) (is : Agrees c w) (places : ℕ) (few : w.out ≤ places) where
@@ -202,14 +203,21 @@ module _ (app : App) (accepted : IsAccepted app) where
   comes_at s v well ws hands placed w may =
       comes_given app ws placed.transits s placed.kept placed.time s.jobs well.order w may.1
 
-  from_here : (labels : List Label) (n : ℕ) (s : State) (v : Observer) → StateWell app s v → (ws : List What)
-      (hands : List Hand) → Placed app ws hands s → RunsOn app s labels → FromHere app ws (items_of n labels)
+  from_here : (moves : List (WithWords Label)) (n : ℕ) (s : State) (v : Observer) → StateWell app s v
+      → (ws : List What) (hands : List Hand) → Placed app ws hands s → RunsBeside app s moves
+      → FromHere app ws (items_of n (things moves))
   from_here [] n s v well ws hands placed runs = no_more app ws (here_at s v well ws hands placed)
-  from_here (label ∷ labels) n s v well ws hands placed runs = by label runs.0 (λ m.
-      from_here labels m (after app s label) (sees app v label) (next_well app accepted s v label well runs.0)
+  from_here (Puts local word ∷ moves) n s v well ws hands placed runs =
+      from_here moves n (state_after_put local word s) v (put_well app s v local word well) ws hands
+      (put_placed app accepted s local word ws hands placed) runs.1
+  from_here (One label ∷ moves) n s v well ws hands placed runs = by label runs.0 (λ m.
+      from_here moves m (after app s label) (sees app v label) (next_well app accepted s v label well runs.0)
       (told_behind ws label) (hands_behind hands label)
       (next_placed app accepted s v label well ws hands placed runs.0) runs.1)
     where
+      labels : List Label
+      labels = things moves
+
       here : Here app ws
       here = here_at s v well ws hands placed
 
@@ -226,9 +234,9 @@ module _ (app : App) (accepted : IsAccepted app) where
       by (Stepped (Some w)) may behind = one_more app ws here (record { step = n; what = w }) (items_of (suc n) labels)
           (comes_at s v well ws hands placed w may) (behind (suc n))
 
-  pub messages_by_items : (labels : List Label) → RunsOn app (first app) labels
-      → MessagesByItems app (items_of 0 labels)
-  messages_by_items labels runs =
-      let all = from_here labels 0 (first app) (first_sight app) (first_well app accepted) [] (None ∷ [])
+  pub messages_by_items : (moves : List (WithWords Label)) → RunsBeside app (first app) moves
+      → MessagesByItems app (items_of 0 (things moves))
+  messages_by_items moves runs =
+      let all = from_here moves 0 (first app) (first_sight app) (first_well app accepted) [] (None ∷ [])
       (first_placed app accepted) runs in
       record { counts = all.counts; starts = all.starts; comes = all.comes }

@@ -7,6 +7,7 @@ use Rattle.std.proofs.Math.Pow.{pow_mono}
 use Rattle.std.specs.List.{list_any}
 use Rattle.std.proofs.lemmas.Bool.{cases_lt, eqb-true, leb-true, le-leb}
 use Rattle.std.proofs.lemmas.Option.{same_Some, none-some}
+use Rattle.std.proofs.lemmas.List.{length-map}
 use Rattle.std.proofs.lemmas.List.Elements.{Contains-append_left, Contains-append_right}
 use Rattle.rt_lemmas.proofs.Bools.{and_parts, true_and_false}
 use Rattle.rt_lemmas.proofs.Membership.{all_at, any_passes, contains_here}
@@ -38,32 +39,58 @@ use Rattle.rt_laws.specs.ByItems.{after_all}
 use Rattle.rt_laws.specs.Observer.{Seen, Observer, first_sight, sees, sees_all}
 use Rattle.rt_laws.specs.Served.{HasAllToDo}
 use Rattle.rt_laws.specs.Instants.{state_delays}
-use Rattle.rt_laws.specs.MessagesWaiting.{is_start_at, is_ready_at, ready_after, up_to, WaitsOnce, ReadyWaitsOnce}
-use Rattle.rt_laws.specs.MessagesWaiting.{IsDueAs, MessagesWaitOnce}
+use Rattle.rt_laws.specs.MessagesWaiting.{is_start_at, is_ready_at, ready_after, up_to, WaitsOnce, LastWaitsOnce}
+use Rattle.rt_laws.specs.MessagesWaiting.{ReadyWaitsOnce, IsDueAs, MessagesWaitOnce}
+use Rattle.rt_laws.specs.DeviceWords.{WithWords, One, Puts, ones, things, state_after_put, RunsBeside, after_moves}
+use Rattle.rt_laws.specs.LawsBeside.{CountsReadyBeside, DueWaitsOnceBeside}
 use Rattle.rt_laws.proofs.Fine.{OfLevel, IsFine}
 use Rattle.rt_laws.proofs.Well.{IsAbove, StackWell, StateWell}
 use Rattle.rt_laws.proofs.Order.{some_ceiling}
 use Rattle.rt_laws.proofs.Pending.{priority_is}
 use Rattle.rt_laws.proofs.Happens.{first_well}
+use Rattle.rt_laws.proofs.Beside.{things_ones, ones_append, take_ones, Parts, parts_of, put_well, runs_ones, after_ones}
+use Rattle.rt_laws.proofs.Beside.{moves_append, moves_front, moves_behind}
 use Rattle.rt_laws.proofs.Waiting.{IsWanted, WantedUntil, wanted_below, wanted_pending, waits_once, in_range}
 use Rattle.rt_laws.proofs.Keeping.{next_well, well_after}
 use Rattle.rt_laws.proofs.ItemCounts.{one_if}
 use Rattle.rt_laws.proofs.Counted.{level_of}
 use Rattle.rt_laws.proofs.Dispatchers.{dispatcher_served, timer_served}
-use Rattle.rt_laws.proofs.ByItems.{runs_front, runs_behind, after_append}
 use Rattle.rt_laws.proofs.ReadyServed as level
 use Rattle.rt_laws.proofs.ReadyRuns as level_runs
 use Rattle.rt_laws.proofs.TimerServed as timer
 use Rattle.rt_laws.proofs.TimerRuns as timer_runs
 use Rattle.rt_laws.proofs.ReadyCounted.{many, next_shown, ready_counted}
 
+-- labels and words, up to the n-th label that passes
+abbrev cut_at : (Label → Bool) → ℕ → List (WithWords Label) → List (WithWords Label)
+cut_at passes n [] = []
+cut_at passes zero (One label ∷ moves) = []
+cut_at passes (suc n) (One label ∷ moves) =
+    One label ∷ cut_at passes (if passes label then n else suc n) moves
+cut_at passes n (Puts local word ∷ moves) = Puts local word ∷ cut_at passes n moves
+
+-- its labels are those up to there
+things_cut : (passes : Label → Bool) (n : ℕ) (moves : List (WithWords Label))
+    → things (cut_at passes n moves) ≡ up_to passes n (things moves)
+things_cut passes zero [] = refl
+things_cut passes (suc n) [] = refl
+things_cut passes zero (One label ∷ moves) = refl
+things_cut passes (suc n) (One label ∷ moves) =
+    ap (λ ls. label ∷ ls) (things_cut passes (if passes label then n else suc n) moves)
+things_cut passes zero (Puts local word ∷ moves) = things_cut passes zero moves
+things_cut passes (suc n) (Puts local word ∷ moves) = things_cut passes (suc n) moves
+
 -- what runs up to a label
-up_to_on : (app : App) (passes : Label → Bool) (labels : List Label) (n : ℕ) (s : State) → RunsOn app s labels
-    → RunsOn app s (up_to passes n labels)
-up_to_on app passes [] n s runs = tt
-up_to_on app passes (label ∷ labels) zero s runs = tt
-up_to_on app passes (label ∷ labels) (suc n) s runs =
-    (runs.0, up_to_on app passes labels (if passes label then n else suc n) (after app s label) runs.1)
+cut_runs : (app : App) (passes : Label → Bool) (moves : List (WithWords Label)) (n : ℕ) (s : State)
+    → RunsBeside app s moves → RunsBeside app s (cut_at passes n moves)
+cut_runs app passes [] n s runs = tt
+cut_runs app passes (One label ∷ moves) zero s runs = tt
+cut_runs app passes (One label ∷ moves) (suc n) s runs =
+    (runs.0, cut_runs app passes moves (if passes label then n else suc n) (after app s label) runs.1)
+cut_runs app passes (Puts local word ∷ moves) zero s runs =
+    (runs.0, cut_runs app passes moves zero (state_after_put local word s) runs.1)
+cut_runs app passes (Puts local word ∷ moves) (suc n) s runs =
+    (runs.0, cut_runs app passes moves (suc n) (state_after_put local word s) runs.1)
 
 -- the priority of an interrupt, of which a job of the stack has all to do, is not above the system ceiling
 serving_ceiling : (app : App) (js : List Job) (vs : List Seen) (irq : ℕ) (handler : Handler) → StackWell app js vs
@@ -178,14 +205,20 @@ module _ (app : App) (accepted : IsAccepted app) where
     as_many n a b r less moves = omega arith
 
     -- and so up to the start of the last of them
-    level_until : (labels : List Label) (n : ℕ) (s : State) (v : Observer) → StateWell app s v
-        → level.KeepsState app p s → RunsOn app s labels → n ≤ many app p s.values
-        → WantedUntil app p (λ label. false) s (up_to (is_start_at app p) n labels)
+    level_until : (moves : List (WithWords Label)) (n : ℕ) (s : State) (v : Observer) → StateWell app s v
+        → level.KeepsState app p s → RunsBeside app s moves → n ≤ many app p s.values
+        → WantedUntil app p (λ label. false) s (cut_at (is_start_at app p) n moves)
     level_until [] n s v well keeps runs less = tt
-    level_until (label ∷ labels) zero s v well keeps runs less = tt
-    level_until (label ∷ labels) (suc n) s v well keeps runs less = λ goes_on. (
+    level_until (Puts local word ∷ moves) zero s v well keeps runs less =
+        level_until moves zero (state_after_put local word s) v (put_well app s v local word well)
+        (level_runs.put_kept app accepted p of_level s local word keeps) runs.1 less
+    level_until (Puts local word ∷ moves) (suc n) s v well keeps runs less =
+        level_until moves (suc n) (state_after_put local word s) v (put_well app s v local word well)
+        (level_runs.put_kept app accepted p of_level s local word keeps) runs.1 less
+    level_until (One label ∷ moves) zero s v well keeps runs less = tt
+    level_until (One label ∷ moves) (suc n) s v well keeps runs less = λ goes_on. (
       level_wanted s v well keeps (λ none. let no_one = ap (λ ms. length ms) none in absurd (omega arith)),
-      level_until labels (if is_start_at app p label then n else suc n) (after app s label) (sees app v label)
+      level_until moves (if is_start_at app p label then n else suc n) (after app s label) (sees app v label)
           (next_well app accepted s v label well runs.0)
           (level_runs.next_kept app accepted p of_level s v label well keeps runs.0) runs.1
           (left (is_start_at app p label) (next_shown app p accepted s v label well runs.0)),
@@ -199,53 +232,95 @@ module _ (app : App) (accepted : IsAccepted app) where
         left false moves = as_many n (many app p s.values) (many app p (after app s label).values)
             (one_if (is_ready_at app p label)) less moves
 
-    last_waits : (front behind : List Label) → RunsOn app (first app) (front ++ behind) → (n : ℕ)
-        → n ≡ ready_after app p front → WaitsOnce app p front (up_to (is_start_at app p) n behind)
+    last_waits : (front behind : List (WithWords Label)) → RunsBeside app (first app) (front ++ behind) → (n : ℕ)
+        → n ≡ ready_after app p (things front)
+        → WaitsOnce app p (things front) (up_to (is_start_at app p) n (things behind))
     last_waits front behind runs n many_are =
-        waits_once app accepted p (subst (λ q. 0 < q) one.2 range.0) (λ label. false)
-        (up_to (is_start_at app p) n behind)
-        (after_all app (first app) front) (sees_all app (first_sight app) front) well
-        (up_to_on app (is_start_at app p) behind n (after_all app (first app) front) later)
-        (level_until behind n (after_all app (first app) front) (sees_all app (first_sight app) front) well
+        subst (WaitsOnce app p (things front)) (things_cut (is_start_at app p) n behind)
+        (waits_once app accepted p (subst (λ q. 0 < q) one.2 range.0) (λ label. false)
+        (cut_at (is_start_at app p) n behind) here sight well (cut_runs app (is_start_at app p) behind n here later)
+        (level_until behind n here sight well
         (level_runs.all_served app accepted p of_level front (first app) (first_sight app) (first_well app accepted)
         (level_runs.first_kept app accepted p of_level) before) later
         (subst (λ k. n ≤ k) (many_are ∙ ready_counted app p accepted front before) (le_refl n)))
-        (subst (λ q. q ≤ 2 ^ app.bits) one.2 range.1)
+        (subst (λ q. q ≤ 2 ^ app.bits) one.2 range.1))
       where
+        here : State
+        here = after_moves app (first app) front
+
+        sight : Observer
+        sight = sees_all app (first_sight app) (things front)
+
         range : (1 ≤ one.0.priority) × (one.0.priority ≤ 2 ^ app.bits)
         range = in_range app accepted (dispatcher_number app p) one.0 one.1
 
-        before : RunsOn app (first app) front
-        before = runs_front app front behind (first app) runs
+        before : RunsBeside app (first app) front
+        before = moves_front app front behind (first app) runs
 
-        later : RunsOn app (after_all app (first app) front) behind
-        later = runs_behind app front behind (first app) runs
+        later : RunsBeside app here behind
+        later = moves_behind app front behind (first app) runs
 
-        well : StateWell app (after_all app (first app) front) (sees_all app (first_sight app) front)
+        well : StateWell app here sight
         well = well_after app accepted front (first app) (first_sight app) (first_well app accepted) before
 
-  ready_waits : (labels : List Label) → RunsOn app (first app) labels → ReadyWaitsOnce app labels
-  ready_waits labels runs front behind t is =
-      last_waits (task_priority app t) known (front ++ label ∷ []) behind all
-      (ready_after app (task_priority app t) (front ++ label ∷ [])) refl
+  -- a state in which a label comes
+  record Comes (label : Label) : Type 0 where
+    state : State
+    sight : Observer
+    well : StateWell app state sight
+    may : May app state label
+
+  -- a label comes, behind words alone
+  comes_behind : (moves : List (WithWords Label)) (label : Label) → things moves ≡ label ∷ [] → (s : State)
+      (v : Observer) → StateWell app s v → RunsBeside app s moves → Comes label
+  comes_behind [] label is s v well runs = cc
+  comes_behind (One other ∷ moves) label is s v well runs =
+      let same : other ≡ label = cc in
+      record { state = s; sight = v; well = well; may = subst (May app s) same runs.0 }
+  comes_behind (Puts local word ∷ moves) label is s v well runs =
+      comes_behind moves label is (state_after_put local word s) v (put_well app s v local word well) runs.1
+
+  pub ready_waits_beside : (moves : List (WithWords Label)) → RunsBeside app (first app) moves
+      → ReadyWaitsOnce app (things moves)
+  ready_waits_beside moves runs front behind t is =
+      subst (λ ls. LastWaitsOnce app p ls behind) parts.front_is
+      (subst (λ ls. WaitsOnce app p (things parts.before)
+      (up_to (is_start_at app p) (ready_after app p (things parts.before)) ls)) parts.behind_is
+      (last_waits p known parts.before parts.later all (ready_after app p (things parts.before)) refl))
     where
+      p : ℕ
+      p = task_priority app t
+
       label : Label
       label = Stepped (Some (what.Ready t))
 
-      all : RunsOn app (first app) ((front ++ label ∷ []) ++ behind)
-      all = subst (RunsOn app (first app)) is runs
+      parts : Parts moves (front ++ label ∷ []) behind
+      parts = parts_of moves (front ++ label ∷ []) behind is
 
-      until : RunsOn app (first app) (front ++ label ∷ [])
-      until = runs_front app (front ++ label ∷ []) behind (first app) all
+      inner : Parts parts.before front (label ∷ [])
+      inner = parts_of parts.before front (label ∷ []) parts.front_is
 
-      known : Contains (levels app) (task_priority app t)
-      known =
-          let well = well_after app accepted front (first app) (first_sight app) (first_well app accepted)
-          (runs_front app front (label ∷ []) (first app) until) in
-          let may : May app (after_all app (first app) front) label =
-          (runs_behind app front (label ∷ []) (first app) until).0 in
-          ready_level (after_all app (first app) front) (after_all app (first app) front).jobs
-          (sees_all app (first_sight app) front).jobs t well.stack may.1
+      all : RunsBeside app (first app) (parts.before ++ parts.later)
+      all = subst (RunsBeside app (first app)) parts.is runs
+
+      until : RunsBeside app (first app) (inner.before ++ inner.later)
+      until = subst (RunsBeside app (first app)) inner.is (moves_front app parts.before parts.later (first app) all)
+
+      come : Comes label
+      come = comes_behind inner.later label inner.behind_is (after_moves app (first app) inner.before)
+          (sees_all app (first_sight app) (things inner.before))
+          (well_after app accepted inner.before (first app) (first_sight app) (first_well app accepted)
+          (moves_front app inner.before inner.later (first app) until))
+          (moves_behind app inner.before inner.later (first app) until)
+
+      known : Contains (levels app) p
+      known = ready_level come.state come.state.jobs come.sight.jobs t come.well.stack come.may.1
+
+  pub ready_counted_beside : (moves : List (WithWords Label)) → RunsBeside app (first app) moves
+      → CountsReadyBeside app moves
+  ready_counted_beside moves runs p front behind is =
+      ready_counted app p accepted front
+      (moves_front app front behind (first app) (subst (RunsBeside app (first app)) is runs))
 
 -- where one of the armed messages is due, the next is
 some_due : (all : List Armed) (a : Armed) (time i : ℕ) → slice_get all i ≡ Some a → a.instant ≤ time
@@ -296,53 +371,97 @@ module _ (app : App) (accepted : IsAccepted app) (mono : Mono) (timed : app.mono
       go (timer.Begins there) =
           wanted_begun app mono.priority (timer_number app) clock.0 clock.1 clock.2 s v well Times there
 
-  timer_until : (handle : ℕ) (labels : List Label) (s : State) (v : Observer) → StateWell app s v
-      → timer.KeepsState app s → RunsOn app s labels
-      → ((n : ℕ) → n < length labels → IsDueAs handle (after_all app s (take n labels)))
-      → WantedUntil app mono.priority (λ label. false) s labels
+  timer_until : (handle : ℕ) (moves : List (WithWords Label)) (s : State) (v : Observer) → StateWell app s v
+      → timer.KeepsState app s → RunsBeside app s moves
+      → ((n : ℕ) → n < length moves → IsDueAs handle (after_moves app s (take n moves)))
+      → WantedUntil app mono.priority (λ label. false) s moves
   timer_until handle [] s v well kept runs due = tt
-  timer_until handle (label ∷ labels) s v well kept runs due = λ goes_on. (
+  timer_until handle (Puts local word ∷ moves) s v well kept runs due =
+      timer_until handle moves (state_after_put local word s) v (put_well app s v local word well)
+      (timer_runs.put_kept app accepted mono timed s local word kept) runs.1 (λ n less. due (suc n) (omega arith))
+  timer_until handle (One label ∷ moves) s v well kept runs due = λ goes_on. (
     let now = due 0 (omega arith) in
         timer_wanted s v well kept (some_due (state_delays s) now.message s.time now.armed.0 now.armed.1 now.due),
-    timer_until handle labels (after app s label) (sees app v label) (next_well app accepted s v label well runs.0)
+    timer_until handle moves (after app s label) (sees app v label) (next_well app accepted s v label well runs.0)
         (timer_runs.next_kept app accepted mono timed s v label well kept runs.0) runs.1
         (λ n less. due (suc n) (omega arith)),
   )
 
-  due_waits : (labels : List Label) → RunsOn app (first app) labels → (handle : ℕ) (front between behind : List Label)
-      → labels ≡ front ++ (between ++ behind)
-      → ((n : ℕ) → n < length between → IsDueAs handle (after_all app (first app) (front ++ take n between)))
-      → WaitsOnce app mono.priority front between
-  due_waits labels runs handle front between behind is due =
-      waits_once app accepted mono.priority (subst (λ q. 0 < q) clock.2 range.0) (λ label. false) between
-      (after_all app (first app) front) (sees_all app (first_sight app) front) well later
-      (timer_until handle between (after_all app (first app) front) (sees_all app (first_sight app) front) well
+  due_waits : (moves : List (WithWords Label)) → RunsBeside app (first app) moves → (handle : ℕ)
+      (front between behind : List (WithWords Label)) → moves ≡ front ++ (between ++ behind)
+      → ((n : ℕ) → n < length between → IsDueAs handle (after_moves app (first app) (front ++ take n between)))
+      → WaitsOnce app mono.priority (things front) (things between)
+  due_waits moves runs handle front between behind is due =
+      waits_once app accepted mono.priority (subst (λ q. 0 < q) clock.2 range.0) (λ label. false) between here sight
+      well later
+      (timer_until handle between here sight well
       (timer_runs.all_served app accepted mono timed front (first app) (first_sight app) (first_well app accepted)
       (timer_runs.first_kept app accepted mono timed) before) later
-      (λ n less. subst (IsDueAs handle) (after_append app front (take n between) (first app)) (due n less)))
+      (λ n less. subst (IsDueAs handle) (moves_append app front (take n between) (first app)) (due n less)))
       (subst (λ q. q ≤ 2 ^ app.bits) clock.2 range.1)
     where
+      here : State
+      here = after_moves app (first app) front
+
+      sight : Observer
+      sight = sees_all app (first_sight app) (things front)
+
       range : (1 ≤ clock.0.priority) × (clock.0.priority ≤ 2 ^ app.bits)
       range = in_range app accepted (timer_number app) clock.0 clock.1
 
-      all : RunsOn app (first app) (front ++ (between ++ behind))
-      all = subst (RunsOn app (first app)) is runs
+      all : RunsBeside app (first app) (front ++ (between ++ behind))
+      all = subst (RunsBeside app (first app)) is runs
 
-      before : RunsOn app (first app) front
-      before = runs_front app front (between ++ behind) (first app) all
+      before : RunsBeside app (first app) front
+      before = moves_front app front (between ++ behind) (first app) all
 
-      later : RunsOn app (after_all app (first app) front) between
-      later = runs_front app between behind (after_all app (first app) front)
-          (runs_behind app front (between ++ behind) (first app) all)
+      later : RunsBeside app here between
+      later = moves_front app between behind here (moves_behind app front (between ++ behind) (first app) all)
 
-      well : StateWell app (after_all app (first app) front) (sees_all app (first_sight app) front)
+      well : StateWell app here sight
       well = well_after app accepted front (first app) (first_sight app) (first_well app accepted) before
 
-pub messages_wait_once : (app : App) → IsAccepted app → (labels : List Label) → RunsOn app (first app) labels
-    → MessagesWaitOnce app labels
-messages_wait_once app accepted labels runs = record {
-  counted = λ p front behind is. ready_counted app p accepted front
-      (runs_front app front behind (first app) (subst (RunsOn app (first app)) is runs));
-  ready = ready_waits app accepted labels runs;
-  due = λ mono timed. due_waits app accepted mono timed labels runs;
-}
+pub due_waits_beside : (app : App) → IsAccepted app → (moves : List (WithWords Label))
+    → RunsBeside app (first app) moves → DueWaitsOnceBeside app moves
+due_waits_beside app accepted moves runs mono timed = due_waits app accepted mono timed moves runs
+
+-- without words
+module _ (app : App) (accepted : IsAccepted app) (labels : List Label) (runs : RunsOn app (first app) labels) where
+  alone : RunsBeside app (first app) (ones labels)
+  alone = runs_ones app labels (first app) runs
+
+  counted_alone : (p : ℕ) (front behind : List Label) → labels ≡ front ++ behind
+      → ready_after app p front ≡ many app p (after_all app (first app) front).values
+  counted_alone p front behind is =
+      subst (λ s. ready_after app p front ≡ many app p s.values) (after_ones app front (first app))
+      (subst (λ ls. ready_after app p ls ≡ many app p (after_moves app (first app) (ones front)).values)
+      (things_ones front)
+      (ready_counted_beside app accepted (ones labels) alone p (ones front) (ones behind)
+      (ap ones is ∙ ones_append front behind)))
+
+  due_alone : (mono : Mono) → app.mono ≡ Some mono → (handle : ℕ) (front between behind : List Label)
+      → labels ≡ front ++ (between ++ behind)
+      → ((n : ℕ) → n < length between → IsDueAs handle (after_all app (first app) (front ++ take n between)))
+      → WaitsOnce app mono.priority front between
+  due_alone mono timed handle front between behind is due =
+      subst (λ ls. WaitsOnce app mono.priority ls between) (things_ones front)
+      (subst (WaitsOnce app mono.priority (things (ones front))) (things_ones between)
+      (due_waits app accepted mono timed (ones labels) alone handle (ones front) (ones between) (ones behind)
+      (ap ones is ∙ ones_append front (between ++ behind)
+      ∙ ap (λ ms. ones front ++ ms) (ones_append between behind))
+      (λ n less. subst (IsDueAs handle) (same n) (due n (subst (λ k. n < k) (length-map between One) less)))))
+    where
+      same : (n : ℕ) → after_all app (first app) (front ++ take n between)
+          ≡ after_moves app (first app) (ones front ++ take n (ones between))
+      same n =
+          sym (after_ones app (front ++ take n between) (first app))
+          ∙ ap (after_moves app (first app))
+          (ones_append front (take n between) ∙ ap (λ ms. ones front ++ ms) (sym (take_ones n between)))
+
+  pub messages_wait_once : MessagesWaitOnce app labels
+  messages_wait_once = record {
+    counted = counted_alone;
+    ready = subst (ReadyWaitsOnce app) (things_ones labels)
+        (ready_waits_beside app accepted (ones labels) alone);
+    due = due_alone;
+  }

@@ -26,17 +26,17 @@ use Rattle.rt_laws.specs.Preemption.{candidate}
 use Rattle.rt_laws.specs.Giving.{next_instant, is_due, return_item, item_of, next_item, item_given}
 use Rattle.rt_laws.specs.Acting.{job_after_step, state_after_pend, idle_job, answer, state_after_doing}
 use Rattle.rt_laws.specs.Allowed.{MayStep, May, state_after_start, state_after_silence, state_after_item, after}
-use Rattle.rt_laws.specs.Run.{RunsOn}
-use Rattle.rt_laws.specs.ByItems.{after_all}
 use Rattle.rt_laws.specs.Observer.{Seen, Observer, first_sight, sees}
 use Rattle.rt_laws.specs.Places.{Hand, hands_behind, hands_from, in_transit, arming_count, ready_of, CountsPlaces}
 use Rattle.rt_laws.specs.MessagesByItems.{is_tick}
+use Rattle.rt_laws.specs.DeviceWords.{WithWords, One, Puts, things, state_after_put, RunsBeside, after_moves}
 use Rattle.rt_laws.proofs.Fine.{SameQueues, Queued, IsFine, held_after, first_queued, queued_effect, effect_same}
 use Rattle.rt_laws.proofs.Fine.{reached_same}
 use Rattle.rt_laws.proofs.FineHandlers.{init_fine, idle_fine, services_fine}
 use Rattle.rt_laws.proofs.Well.{NextKept, AllKept, StackWell, StateWell}
 use Rattle.rt_laws.proofs.Pending.{starts_above}
 use Rattle.rt_laws.proofs.Happens.{first_well}
+use Rattle.rt_laws.proofs.Beside.{put_well}
 use Rattle.rt_laws.proofs.Keeping.{next_well}
 use Rattle.rt_laws.proofs.Hands.{InTransit, Bare, hand_of, transit_then, Fits, init_fits, idle_fits, handler_fits}
 use Rattle.rt_laws.proofs.ItemCounts.{one_if, IsElse}
@@ -327,21 +327,34 @@ module _ (app : App) (accepted : IsAccepted app) where
     time = refl;
   }
 
-  all_placed : (labels : List Label) (s : State) (v : Observer) → StateWell app s v → (ws : List What)
-      (hands : List Hand) → Placed app ws hands s → RunsOn app s labels
-      → Placed app (told_after ws labels) (hands_from hands labels) (after_all app s labels)
-  all_placed [] s v well ws hands placed runs = placed
-  all_placed (label ∷ labels) s v well ws hands placed runs =
-      all_placed labels (after app s label) (sees app v label) (next_well app accepted s v label well runs.0)
-      (told_behind ws label) (hands_behind hands label) (next_placed s v label well ws hands placed runs.0) runs.1
+  -- a word changes neither hands nor queues
+  pub put_placed : (s : State) (n word : ℕ) (ws : List What) (hands : List Hand) → Placed app ws hands s
+      → Placed app ws hands (state_after_put n word s)
+  put_placed s n word ws hands placed = record {
+    transits = placed.transits;
+    are = placed.are;
+    fits = placed.fits;
+    kept = kept_same app ws placed.transits s.values (state_after_put n word s).values (λ x queue. refl) placed.kept;
+    time = placed.time;
+  }
 
-  pub places_counted : (labels : List Label) → RunsOn app (first app) labels
-      → CountsPlaces app labels (after_all app (first app) labels)
-  places_counted labels runs =
+  all_placed : (moves : List (WithWords Label)) (s : State) (v : Observer) → StateWell app s v → (ws : List What)
+      (hands : List Hand) → Placed app ws hands s → RunsBeside app s moves
+      → Placed app (told_after ws (things moves)) (hands_from hands (things moves)) (after_moves app s moves)
+  all_placed [] s v well ws hands placed runs = placed
+  all_placed (One label ∷ moves) s v well ws hands placed runs =
+      all_placed moves (after app s label) (sees app v label) (next_well app accepted s v label well runs.0)
+      (told_behind ws label) (hands_behind hands label) (next_placed s v label well ws hands placed runs.0) runs.1
+  all_placed (Puts n word ∷ moves) s v well ws hands placed runs =
+      all_placed moves (state_after_put n word s) v (put_well app s v n word well) ws hands
+      (put_placed s n word ws hands placed) runs.1
+
+  pub places_counted : (moves : List (WithWords Label)) → RunsBeside app (first app) moves
+      → CountsPlaces app (things moves) (after_moves app (first app) moves)
+  places_counted moves runs =
       let placed =
-      all_placed labels (first app) (first_sight app) (first_well app accepted) [] (None ∷ []) first_placed runs in
-      subst (λ us. (t : ℕ) → number ((after_all app (first app) labels).values (Guarded (section.Free t)))
-      ≡ in_transit t us + arming_count t (after_all app (first app) labels).values
-      + ready_of app t (after_all app (first app) labels).values) (sym placed.are)
-      (places_are_counted app (told_after [] labels) placed.transits (after_all app (first app) labels).values
-      placed.kept.counted)
+      all_placed moves (first app) (first_sight app) (first_well app accepted) [] (None ∷ []) first_placed runs in
+      let s : State = after_moves app (first app) moves in
+      subst (λ us. (t : ℕ) → number (s.values (Guarded (section.Free t)))
+      ≡ in_transit t us + arming_count t s.values + ready_of app t s.values) (sym placed.are)
+      (places_are_counted app (told_after [] (things moves)) placed.transits s.values placed.kept.counted)

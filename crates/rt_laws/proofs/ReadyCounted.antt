@@ -27,15 +27,15 @@ use Rattle.rt_laws.specs.State.{Role, Init, Idle, Serving, Job, State, reached_v
 use Rattle.rt_laws.specs.Giving.{next_instant, is_due, return_item, next_item, item_given}
 use Rattle.rt_laws.specs.Acting.{job_after_step, state_after_pend, idle_job, answer, state_after_doing}
 use Rattle.rt_laws.specs.Allowed.{May, state_after_start, state_after_silence, state_after_item, after}
-use Rattle.rt_laws.specs.Run.{RunsOn}
-use Rattle.rt_laws.specs.ByItems.{after_all}
 use Rattle.rt_laws.specs.Observer.{Seen, Observer, first_sight, sees}
 use Rattle.rt_laws.specs.MessagesWaiting.{is_ready_at, is_start_at, ready_after}
+use Rattle.rt_laws.specs.DeviceWords.{WithWords, One, Puts, things, state_after_put, RunsBeside, after_moves}
 use Rattle.rt_laws.proofs.Fine.{OfLevel, Queued, IsFine, held_after, first_queued, queued_effect, effect_same}
 use Rattle.rt_laws.proofs.Fine.{reached_same}
 use Rattle.rt_laws.proofs.FineHandlers.{init_fine, idle_fine, services_fine}
 use Rattle.rt_laws.proofs.Well.{NextKept, AllKept, StackWell, StateWell}
 use Rattle.rt_laws.proofs.Happens.{first_well}
+use Rattle.rt_laws.proofs.Beside.{put_well}
 use Rattle.rt_laws.proofs.Keeping.{next_well}
 use Rattle.rt_laws.proofs.ItemCounts.{one_if}
 use Rattle.rt_laws.proofs.Counted.{level_of}
@@ -213,23 +213,31 @@ module _ (app : App) (p : ℕ) where
     next_shown s v (Stepped (Some w)) well may =
         gives_shown accepted s well.queued s.jobs v.jobs well.stack well.order w may.1
 
-    -- so many are ready behind labels
-    all_shown : (labels : List Label) (s : State) (v : Observer) → StateWell app s v → RunsOn app s labels
-        → many (after_all app s labels).values + count_by (is_start_at app p) labels
-        ≡ many s.values + count_by (is_ready_at app p) labels
+    -- so many are ready behind labels and words
+    all_shown : (moves : List (WithWords Label)) (s : State) (v : Observer) → StateWell app s v → RunsBeside app s moves
+        → many (after_moves app s moves).values + count_by (is_start_at app p) (things moves)
+        ≡ many s.values + count_by (is_ready_at app p) (things moves)
     all_shown [] s v well runs = refl
-    all_shown (label ∷ labels) s v well runs =
+    all_shown (Puts n word ∷ moves) s v well runs =
+        all_shown moves (state_after_put n word s) v (put_well app s v n word well) runs.1
+    all_shown (One label ∷ moves) s v well runs =
         let here = next_shown s v label well runs.0 in
-        let behind = all_shown labels (after app s label) (sees app v label)
+        let behind = all_shown moves (after app s label) (sees app v label)
         (next_well app accepted s v label well runs.0) runs.1 in
         let started = sum_by-cons (λ l. one_if (is_start_at app p l)) label labels in
         let readied = sum_by-cons (λ l. one_if (is_ready_at app p l)) label labels in
-        added (many s.values) (many (after app s label).values) (many (after_all app s (label ∷ labels)).values)
+        added (many s.values) (many (after app s label).values) (many last.values)
         (one_if (is_start_at app p label)) (one_if (is_ready_at app p label)) (count_by (is_start_at app p) labels)
         (count_by (is_ready_at app p) labels) here behind
-        (ap (λ n. many (after_all app s (label ∷ labels)).values + n) started)
+        (ap (λ n. many last.values + n) started)
         (ap (λ n. many s.values + n) readied)
       where
+        labels : List Label
+        labels = things moves
+
+        last : State
+        last = after_moves app (after app s label) moves
+
         added : (a b c x y m n : ℕ) → b + x ≡ a + y → c + m ≡ b + n
             → c + count_by (is_start_at app p) (label ∷ labels) ≡ c + (x + m)
             → a + count_by (is_ready_at app p) (label ∷ labels) ≡ a + (y + n)
@@ -242,9 +250,9 @@ module _ (app : App) (p : ℕ) where
         (init_fine app accepted 0 (first_values app) (first_queued app)) queue tt)
 
     -- the law
-    pub ready_counted : (labels : List Label) → RunsOn app (first app) labels
-        → ready_after app p labels ≡ many (after_all app (first app) labels).values
-    ready_counted labels runs =
-        let all = all_shown labels (first app) (first_sight app) (first_well app accepted) runs in
+    pub ready_counted : (moves : List (WithWords Label)) → RunsBeside app (first app) moves
+        → ready_after app p (things moves) ≡ many (after_moves app (first app) moves).values
+    ready_counted moves runs =
+        let all = all_shown moves (first app) (first_sight app) (first_well app accepted) runs in
         let none = none_first in
         omega (arith, all, none)

@@ -26,16 +26,16 @@ use Rattle.rt_laws.specs.Preemption.{system_ceiling, candidate}
 use Rattle.rt_laws.specs.Giving.{item_given}
 use Rattle.rt_laws.specs.Acting.{job_after_step}
 use Rattle.rt_laws.specs.Allowed.{MayStep, May, state_after_start, state_after_silence, state_after_item, after}
-use Rattle.rt_laws.specs.Run.{RunsOn}
-use Rattle.rt_laws.specs.ByItems.{after_all}
 use Rattle.rt_laws.specs.Observer.{Seen, Observer, first_sight, sees}
 use Rattle.rt_laws.specs.Served.{IsOpen, ServesReady}
+use Rattle.rt_laws.specs.DeviceWords.{WithWords, One, Puts, state_after_put, RunsBeside, after_moves}
 use Rattle.rt_laws.proofs.Order.{some_ceiling}
 use Rattle.rt_laws.proofs.Pending.{priority_is, starts_above, still_beside}
 use Rattle.rt_laws.proofs.Fine.{first_queued, IsFine, Queued, reached_same}
 use Rattle.rt_laws.proofs.FineHandlers.{init_fine, services_fine}
 use Rattle.rt_laws.proofs.Well.{AllKept, StackWell, StateWell}
 use Rattle.rt_laws.proofs.Happens.{first_well}
+use Rattle.rt_laws.proofs.Beside.{put_well}
 use Rattle.rt_laws.proofs.Keeping.{next_well}
 use Rattle.rt_laws.proofs.Dispatchers.{dispatcher_serves, dispatcher_small}
 use Rattle.rt_laws.proofs.Readying.{init_serves, handler_serves}
@@ -175,16 +175,34 @@ module _ (app : App) (accepted : IsAccepted app) (p : ℕ) (of_level : Contains 
   next_kept s v (Stepped (Some w)) well keeps may =
       given_kept s s.jobs v.jobs well.stack well.queued well.order may.0.step w may.1 keeps
 
-  pub all_served : (labels : List Label) (s : State) (v : Observer) → StateWell app s v → KeepsState app p s
-      → RunsOn app s labels → KeepsState app p (after_all app s labels)
-  all_served [] s v well keeps runs = keeps
-  all_served (label ∷ labels) s v well keeps runs =
-      all_served labels (after app s label) (sees app v label) (next_well app accepted s v label well runs.0)
-      (next_kept s v label well keeps runs.0) runs.1
+  -- a word changes no queue
+  pub put_kept : (s : State) (n word : ℕ) → KeepsState app p s → KeepsState app p (state_after_put n word s)
+  put_kept s n word keeps = record {
+    long = keeps.long;
+    all = all_kept app p s.pending s.pending s.values (state_after_put n word s).values s.jobs
+        (λ there. ((λ yet. yet), refl)) keeps.all;
+    served = go keeps.served;
+  }
+    where
+      go : LevelServed app p s.pending s.values s.jobs
+          → LevelServed app p s.pending (state_after_put n word s).values s.jobs
+      go (Open there) = Open there
+      go (Nothing none) = Nothing none
+      go (Posted yet) = Posted yet
+      go (Begins there) = Begins there
 
-pub ready_served : (app : App) → IsAccepted app → (labels : List Label) → RunsOn app (first app) labels
-    → ServesReady app (after_all app (first app) labels)
-ready_served app accepted labels runs p of_level =
-    keeps_level app p (after_all app (first app) labels)
-    (all_served app accepted p of_level labels (first app) (first_sight app) (first_well app accepted)
+  pub all_served : (moves : List (WithWords Label)) (s : State) (v : Observer) → StateWell app s v
+      → KeepsState app p s → RunsBeside app s moves → KeepsState app p (after_moves app s moves)
+  all_served [] s v well keeps runs = keeps
+  all_served (One label ∷ moves) s v well keeps runs =
+      all_served moves (after app s label) (sees app v label) (next_well app accepted s v label well runs.0)
+      (next_kept s v label well keeps runs.0) runs.1
+  all_served (Puts n word ∷ moves) s v well keeps runs =
+      all_served moves (state_after_put n word s) v (put_well app s v n word well) (put_kept s n word keeps) runs.1
+
+pub ready_served : (app : App) → IsAccepted app → (moves : List (WithWords Label)) → RunsBeside app (first app) moves
+    → ServesReady app (after_moves app (first app) moves)
+ready_served app accepted moves runs p of_level =
+    keeps_level app p (after_moves app (first app) moves)
+    (all_served app accepted p of_level moves (first app) (first_sight app) (first_well app accepted)
     (first_kept app accepted p of_level) runs)

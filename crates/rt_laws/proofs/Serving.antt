@@ -11,13 +11,14 @@ use Rattle.rt_laws.specs.Services.{priority_of}
 use Rattle.rt_laws.specs.State.{Role, Serving, Job, State}
 use Rattle.rt_laws.specs.Preemption.{system_ceiling}
 use Rattle.rt_laws.specs.Allowed.{May, after}
-use Rattle.rt_laws.specs.Run.{RunsOn}
 use Rattle.rt_laws.specs.Observer.{Seen, Observer, sees}
 use Rattle.rt_laws.specs.Waiting.{stepper, steppers, lower, is_return, ServesWell}
+use Rattle.rt_laws.specs.DeviceWords.{WithWords, One, Puts, things, state_after_put, RunsBeside}
 use Rattle.rt_laws.proofs.Well.{alone_at_bottom, IsAbove, StackWell, StateWell, IsThread, Changes, GoesOn, Restarts}
 use Rattle.rt_laws.proofs.Well.{ComesBack}
 use Rattle.rt_laws.proofs.Pending.{starts_above}
 use Rattle.rt_laws.proofs.Happens.{Happens, Quietly, ByTake, ByStep, happens, after_well}
+use Rattle.rt_laws.proofs.Beside.{put_well}
 use Rattle.rt_laws.proofs.Waiting.{steppers_on, steppers_ended, not_lower, first_of}
 
 -- the handling of an interrupt stands in the stack, and what stands on it has no lower priority
@@ -75,14 +76,19 @@ module _ (app : App) (accepted : IsAccepted app) (irq : ℕ) where
   abbrev serving : Observer → List Label → List Seen
   serving v labels = lower p (steppers app (is_return irq) v labels)
 
-  serves : (labels : List Label) (s : State) (v : Observer) → StateWell app s v → RunsOn app s labels → Up irq p s.jobs
-      → serving v labels ≡ []
+  serves : (moves : List (WithWords Label)) (s : State) (v : Observer) → StateWell app s v → RunsBeside app s moves
+      → Up irq p s.jobs → serving v (things moves) ≡ []
   serves [] s v well runs up = refl
-  serves (label ∷ labels) s v well runs up =
+  serves (Puts n word ∷ moves) s v well runs up =
+      serves moves (state_after_put n word s) v (put_well app s v n word well) runs.1 up
+  serves (One label ∷ moves) s v well runs up =
       let comes = happens app accepted s v well label runs.0 in
-      by comes (serves labels (after app s label) (sees app v label)
+      by comes (serves moves (after app s label) (sees app v label)
       (after_well app accepted s v well label comes) runs.1)
     where
+      labels : List Label
+      labels = things moves
+
       by : Happens app s v label (after app s label) (sees app v label)
           → (Up irq p (after app s label).jobs → serving (sees app v label) labels ≡ [])
           → serving v (label ∷ labels) ≡ []
@@ -112,12 +118,12 @@ module _ (app : App) (accepted : IsAccepted app) (irq : ℕ) where
               (sees app v label).jobs step.above up_here return goes_on step.led.moves)
 
 module _ (app : App) (accepted : IsAccepted app) where
-  pub serves_well : (s : State) (v : Observer) (label : Label) (labels : List Label) → StateWell app s v
-      → May app s label → RunsOn app (after app s label) labels → ServesWell app v label labels
-  serves_well s v (Stepped (Some (what.Take irq depth))) labels well may runs =
+  pub serves_well : (s : State) (v : Observer) (label : Label) (moves : List (WithWords Label)) → StateWell app s v
+      → May app s label → RunsBeside app (after app s label) moves → ServesWell app v label (things moves)
+  serves_well s v (Stepped (Some (what.Take irq depth))) moves well may runs =
       let label : Label = Stepped (Some (what.Take irq depth)) in
       let comes = happens app accepted s v well label may in
-      serves app accepted irq labels (after app s label) (sees app v label)
+      serves app accepted irq moves (after app s label) (sees app v label)
       (after_well app accepted s v well label comes) runs (started comes)
     where
       started : Happens app s v (Stepped (Some (what.Take irq depth)))
@@ -130,4 +136,4 @@ module _ (app : App) (accepted : IsAccepted app) where
           subst (Up irq (priority_of app irq)) (sym jobs) (inl (role ∙ ap Serving (sym same)))
       started (ByStep shown step steps no_take return) =
           absurd (true_and_false (irq == irq) (eq-eqb irq irq refl) (no_take irq))
-  serves_well s v label labels well may runs = tt
+  serves_well s v label moves well may runs = tt

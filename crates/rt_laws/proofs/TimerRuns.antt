@@ -26,16 +26,16 @@ use Rattle.rt_laws.specs.Preemption.{system_ceiling, candidate}
 use Rattle.rt_laws.specs.Giving.{is_due, item_given}
 use Rattle.rt_laws.specs.Acting.{job_after_step}
 use Rattle.rt_laws.specs.Allowed.{MayStep, May, state_after_start, state_after_silence, state_after_item, after}
-use Rattle.rt_laws.specs.Run.{RunsOn}
-use Rattle.rt_laws.specs.ByItems.{after_all}
 use Rattle.rt_laws.specs.Observer.{Seen, Observer, first_sight, sees}
 use Rattle.rt_laws.specs.Served.{IsOpen, ServesDue}
+use Rattle.rt_laws.specs.DeviceWords.{WithWords, One, Puts, state_after_put, RunsBeside, after_moves}
 use Rattle.rt_laws.proofs.Order.{some_ceiling}
 use Rattle.rt_laws.proofs.Pending.{priority_is, starts_above, still_beside}
 use Rattle.rt_laws.proofs.Fine.{first_queued, IsFine, Queued, reached_same}
 use Rattle.rt_laws.proofs.FineHandlers.{init_fine, services_fine}
 use Rattle.rt_laws.proofs.Well.{AllKept, StackWell, StateWell}
 use Rattle.rt_laws.proofs.Happens.{first_well}
+use Rattle.rt_laws.proofs.Beside.{put_well}
 use Rattle.rt_laws.proofs.Keeping.{next_well}
 use Rattle.rt_laws.proofs.Dispatchers.{timer_serves, timer_small}
 use Rattle.rt_laws.proofs.Timing.{init_serves, handler_serves}
@@ -206,17 +206,38 @@ module _ (app : App) (accepted : IsAccepted app) (mono : Mono) (timed : app.mono
       given_kept s s.jobs v.jobs well.stack well.queued well.order may.0.not_owing may.0.step w may.1 kept.keeps
       kept.owed
 
-  pub all_served : (labels : List Label) (s : State) (v : Observer) → StateWell app s v → KeepsState app s
-      → RunsOn app s labels → KeepsState app (after_all app s labels)
-  all_served [] s v well kept runs = kept
-  all_served (label ∷ labels) s v well kept runs =
-      all_served labels (after app s label) (sees app v label) (next_well app accepted s v label well runs.0)
-      (next_kept s v label well kept runs.0) runs.1
+  -- a word changes no queue
+  pub put_kept : (s : State) (n word : ℕ) → KeepsState app s → KeepsState app (state_after_put n word s)
+  put_kept s n word kept = record {
+    owed = kept.owed;
+    keeps = record {
+      long = kept.keeps.long;
+      all = all_kept app s.pending s.pending s.alarm s.alarm s.values (state_after_put n word s).values s.jobs
+          (λ there. set_kept app s.pending s.pending s.alarm s.values (state_after_put n word s).values
+          (λ yet. yet) refl) kept.keeps.all;
+      served = go kept.keeps.served;
+    };
+  }
+    where
+      go : QueueServed app s.pending s.alarm s.values s.jobs
+          → QueueServed app s.pending s.alarm (state_after_put n word s).values s.jobs
+      go (Open there) = Open there
+      go (Ready set) = Ready set
+      go (Begins there) = Begins there
 
-pub due_served : (app : App) → IsAccepted app → (labels : List Label) → RunsOn app (first app) labels
-    → ServesDue app (after_all app (first app) labels)
-due_served app accepted labels runs mono timed =
-    keeps_due app (after_all app (first app) labels)
-    (all_served app accepted mono timed labels (first app) (first_sight app) (first_well app accepted)
+  pub all_served : (moves : List (WithWords Label)) (s : State) (v : Observer) → StateWell app s v → KeepsState app s
+      → RunsBeside app s moves → KeepsState app (after_moves app s moves)
+  all_served [] s v well kept runs = kept
+  all_served (One label ∷ moves) s v well kept runs =
+      all_served moves (after app s label) (sees app v label) (next_well app accepted s v label well runs.0)
+      (next_kept s v label well kept runs.0) runs.1
+  all_served (Puts n word ∷ moves) s v well kept runs =
+      all_served moves (state_after_put n word s) v (put_well app s v n word well) (put_kept s n word kept) runs.1
+
+pub due_served : (app : App) → IsAccepted app → (moves : List (WithWords Label)) → RunsBeside app (first app) moves
+    → ServesDue app (after_moves app (first app) moves)
+due_served app accepted moves runs mono timed =
+    keeps_due app (after_moves app (first app) moves)
+    (all_served app accepted mono timed moves (first app) (first_sight app) (first_well app accepted)
     (first_kept app accepted mono timed) runs)
     mono timed

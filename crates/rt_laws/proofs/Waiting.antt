@@ -19,14 +19,15 @@ use Rattle.rt_laws.specs.Services.{service_at, priority_of, timer_number}
 use Rattle.rt_laws.specs.State.{Role, Init, Idle, Waiting, Serving, Job, State}
 use Rattle.rt_laws.specs.Preemption.{system_ceiling, greatest_ceiling, candidate}
 use Rattle.rt_laws.specs.Allowed.{May, after}
-use Rattle.rt_laws.specs.Run.{RunsOn}
 use Rattle.rt_laws.specs.Observer.{Seen, Observer, sees}
 use Rattle.rt_laws.specs.Waiting.{stepper, steppers, lower, is_take, outermost, LieInOneSection, is_pending}
+use Rattle.rt_laws.specs.DeviceWords.{WithWords, One, Puts, things, state_after_put, RunsBeside}
 use Rattle.rt_laws.proofs.Outermost.{none_outermost, below_outermost, both_outermost, outermost_all, Behind}
 use Rattle.rt_laws.proofs.Well.{most_left, alone_at_bottom, JobWell, IsAbove, StackWell, StateWell, IsThread, Changes}
 use Rattle.rt_laws.proofs.Well.{GoesOn, Restarts, ComesBack}
 use Rattle.rt_laws.proofs.Pending.{still_set, still_beside, held_off, goes_first, starts_above}
 use Rattle.rt_laws.proofs.Happens.{Happens, Quietly, ByTake, ByStep, happens, after_well}
+use Rattle.rt_laws.proofs.Beside.{put_well}
 
 -- Down to the first job below a priority: no section of it holds the priority off, or the outermost that does was
 -- entered in this step and has at most so many steps left.
@@ -229,10 +230,11 @@ pub record IsWanted (app : App) (p : ℕ) (s : State) : Type 0 where
   pub first : s.owing ≡ false → (irq : ℕ) → candidate app s ≡ Some irq → p ≤ priority_of app irq
 
 -- it waits at each moment of these labels, up to the one that ends them
-abbrev pub WantedUntil : App → ℕ → (Label → Bool) → State → List Label → Type 0
+abbrev pub WantedUntil : App → ℕ → (Label → Bool) → State → List (WithWords Label) → Type 0
 WantedUntil app p ends s [] = Unit {0}
-WantedUntil app p ends s (label ∷ labels) =
-    ends label ≡ false → IsWanted app p s × WantedUntil app p ends (after app s label) labels
+WantedUntil app p ends s (One label ∷ moves) =
+    ends label ≡ false → IsWanted app p s × WantedUntil app p ends (after app s label) moves
+WantedUntil app p ends s (Puts n word ∷ moves) = WantedUntil app p ends (state_after_put n word s) moves
 
 -- a priority waits that the system ceiling reaches
 pub wanted_below : (app : App) (p : ℕ) (s : State) → p ≤ system_ceiling app s.jobs → IsWanted app p s
@@ -274,16 +276,21 @@ module _ (app : App) (accepted : IsAccepted app) (p : ℕ) (positive : 0 < p) (e
       → Lie app p entered left (seen ∷ steps)
   lie_more left seen steps is some lie = let few = lie.1 in ((is, lie.0), omega arith)
 
-  waits : (labels : List Label) (s : State) (v : Observer) (left : ℕ) → StateWell app s v → RunsOn app s labels
-      → WantedUntil app p ends s labels → Low app p entered left s.jobs v.jobs
-      → Lie app p entered left (waiting v labels)
+  waits : (moves : List (WithWords Label)) (s : State) (v : Observer) (left : ℕ) → StateWell app s v
+      → RunsBeside app s moves → WantedUntil app p ends s moves → Low app p entered left s.jobs v.jobs
+      → Lie app p entered left (waiting v (things moves))
   waits [] s v left well runs wanted low = (tt, omega arith)
-  waits (label ∷ labels) s v left well runs wanted low =
+  waits (Puts n word ∷ moves) s v left well runs wanted low =
+      waits moves (state_after_put n word s) v left (put_well app s v n word well) runs.1 wanted low
+  waits (One label ∷ moves) s v left well runs wanted low =
       let comes = happens app accepted s v well label runs.0 in
       one (ends label) refl comes
-      (λ goes_on left. waits labels (after app s label) (sees app v label) left
+      (λ goes_on left. waits moves (after app s label) (sees app v label) left
       (after_well app accepted s v well label comes) runs.1 (wanted goes_on).1)
     where
+      labels : List Label
+      labels = things moves
+
       by : ends label ≡ false → Happens app s v label (after app s label) (sees app v label)
           → Follows labels (after app s label) (sees app v label)
           → Lie app p entered left (waiting v (label ∷ labels))
@@ -343,13 +350,13 @@ module _ (app : App) (accepted : IsAccepted app) (p : ℕ) (positive : 0 < p) (e
   fewer [] less = inl refl
   fewer (seen ∷ steps) less = inr (omega arith)
 
-  pub waits_once : (labels : List Label) (s : State) (v : Observer) → StateWell app s v → RunsOn app s labels
-      → WantedUntil app p ends s labels → p ≤ 2 ^ app.bits
-      → LieInOneSection app p (lower p (steppers app ends v labels))
-  waits_once labels s v well runs wanted top =
+  pub waits_once : (moves : List (WithWords Label)) (s : State) (v : Observer) → StateWell app s v
+      → RunsBeside app s moves → WantedUntil app p ends s moves → p ≤ 2 ^ app.bits
+      → LieInOneSection app p (lower p (steppers app ends v (things moves)))
+  waits_once moves s v well runs wanted top =
       let start = low_start app p positive s.jobs v.jobs well.stack top in
-      let lie = waits app accepted p positive ends start.0 labels s v (most_left app p) well runs wanted start.1 in
-      record { entered = start.0; inside = lie.0; few = fewer (lower p (steppers app ends v labels)) lie.1 }
+      let lie = waits app accepted p positive ends start.0 moves s v (most_left app p) well runs wanted start.1 in
+      record { entered = start.0; inside = lie.0; few = fewer (lower p (steppers app ends v (things moves))) lie.1 }
 
 module _ (app : App) (accepted : IsAccepted app) (irq : ℕ) (x : Service) (served : service_at app irq ≡ Some x) where
   abbrev p : ℕ
@@ -361,20 +368,23 @@ module _ (app : App) (accepted : IsAccepted app) (irq : ℕ) (x : Service) (serv
       × (s.priority ≤ 2 ^ app.bits))
       _ (services app) x (accepted_are_sound app accepted).served served in (h.1, h.2)
 
-  wanted_until : (labels : List Label) (s : State) (v : Observer) → StateWell app s v → RunsOn app s labels
-      → is_pending v irq ≡ true → WantedUntil app p (is_take irq) s labels
+  wanted_until : (moves : List (WithWords Label)) (s : State) (v : Observer) → StateWell app s v
+      → RunsBeside app s moves → is_pending v irq ≡ true → WantedUntil app p (is_take irq) s moves
   wanted_until [] s v well runs pending = tt
-  wanted_until (label ∷ labels) s v well runs pending = λ goes_on. (
+  wanted_until (Puts n word ∷ moves) s v well runs pending =
+      wanted_until moves (state_after_put n word s) v (put_well app s v n word well) runs.1 pending
+  wanted_until (One label ∷ moves) s v well runs pending = λ goes_on. (
     wanted_pending app s irq x served (ap (λ ps. slice_index_or ps irq false) (sym well.pending) ∙ pending),
-    wanted_until labels (after app s label) (sees app v label)
+    wanted_until moves (after app s label) (sees app v label)
         (after_well app accepted s v well label (happens app accepted s v well label runs.0)) runs.1
         (pending_stays app irq v label
         (λ j d is same. true_and_false (is_take irq label) (ap (is_take irq) is ∙ eq-eqb j irq same) goes_on)
         pending),
   )
 
-  pub waits_well : (labels : List Label) (s : State) (v : Observer) → StateWell app s v → RunsOn app s labels
-      → is_pending v irq ≡ true → LieInOneSection app p (lower p (steppers app (is_take irq) v labels))
-  waits_well labels s v well runs pending =
-      waits_once app accepted p in_range.0 (is_take irq) labels s v well runs
-      (wanted_until labels s v well runs pending) in_range.1
+  pub waits_well : (moves : List (WithWords Label)) (s : State) (v : Observer) → StateWell app s v
+      → RunsBeside app s moves → is_pending v irq ≡ true
+      → LieInOneSection app p (lower p (steppers app (is_take irq) v (things moves)))
+  waits_well moves s v well runs pending =
+      waits_once app accepted p in_range.0 (is_take irq) moves s v well runs
+      (wanted_until moves s v well runs pending) in_range.1

@@ -22,3 +22,5 @@ pub mod Messages
 pub mod Unspent
 pub mod Counts
 pub mod Laws
+pub mod DeviceWords
+pub mod LawsBeside

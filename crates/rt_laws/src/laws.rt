@@ -4,6 +4,7 @@ ghost use Rattle.rt_laws.specs.Durations.{StepsTakeTime, TicksAreFew, WaitsAreSh
 ghost use Rattle.rt_laws.specs.Instants.{EqualInstantsFireInOrder};
 ghost use Rattle.rt_laws.specs.Messages.{RunsKeepMessages};
 ghost use Rattle.rt_laws.specs.Laws.{JudgedTracesKeepLaws, RunsKeepLaws, TheHighestRuns};
+ghost use Rattle.rt_laws.specs.LawsBeside.{RunsBesideKeepLaws, RunsBesideKeepMessages};
 ghost use Rattle.rt_laws.specs.Preemption.{CandidateIsHighest};
 ghost use Rattle.rt_laws.specs.Silent.{SilentStepsByCost};
 
@@ -19,6 +20,12 @@ pub fn candidates_are_highest()
 /// that is left is the one that the running job entered last, and no job returns, and no body ends, inside a section.
 pub fn runs_keep_laws()
     ensures { RunsKeepLaws }
+{}
+
+/// Every run beside devices keeps these laws too, where a device may put a word into a local resource that no started
+/// job may use.
+pub fn runs_beside_keep_laws()
+    ensures { RunsBesideKeepLaws }
 {}
 
 /// Every trace that is judged right keeps these laws too.
@@ -59,6 +66,12 @@ pub fn fronts_are_runs()
 /// moment at which it is due until it fires, in fewer steps than the waiting bound, if in any.
 pub fn runs_keep_messages()
     ensures { RunsKeepMessages }
+{}
+
+/// All that holds of the messages of a run holds beside devices too, where a device may put a word into a local resource
+/// that no started job may use.
+pub fn runs_beside_keep_messages()
+    ensures { RunsBesideKeepMessages }
 {}
 
 /// Messages of one instant fire in the order in which they were last armed or moved.

@@ -6,7 +6,7 @@ pub mod laws;
 
 pub use laws::{
     candidates_are_highest, counts_rise_by_one, equal_instants_fire_in_order, fronts_are_runs,
-    judged_traces_keep_laws, runs_are_by_items, runs_keep_laws, runs_keep_messages,
-    silent_steps_are_told_by_cost, steps_take_time, the_highest_runs, ticks_are_few,
-    waits_are_short_in_time,
+    judged_traces_keep_laws, runs_are_by_items, runs_beside_keep_laws, runs_beside_keep_messages,
+    runs_keep_laws, runs_keep_messages, silent_steps_are_told_by_cost, steps_take_time,
+    the_highest_runs, ticks_are_few, waits_are_short_in_time,
 };
