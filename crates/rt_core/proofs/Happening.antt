@@ -1,10 +1,11 @@
 -- The equations of a step and of events.
-use Rattle.std.proofs.Common.{◌≡◌, List, [], ◌∷◌, ◌++◌, append_assoc, Bool, false, if◌then◌else◌, Option, Some, None}
+use Rattle.std.proofs.Common.{◌≡◌, List, [], ◌∷◌, ◌++◌, append_assoc, Bool, true, false, if◌then◌else◌, Option, Some, None}
 use Rattle.std.proofs.Common.{option_map, slice_get, refl, sym, ap, ◌∙◌}
 use Rattle.std.proofs.lemmas.Option.{none-some}
 use Rattle.rt_ids.specs.Event.{Event}
 use Rattle.rt_code.specs.Image.{Image}
 use Rattle.rt_code.specs.declared.image.IrqRow.{IrqRow}
+use Rattle.rt_code.specs.declared.instr.Instr.TheVariants as instr
 use Rattle.rt_trace.specs.declared.item.What.{What}
 use Rattle.rt_core.specs.Core.{Core}
 use Rattle.rt_core.specs.Laws.{HappensByEvent, StepsByCause}
@@ -59,6 +60,15 @@ pub instruction_steps : (img : Image) (c : Core) → c.stopped ≡ false → opt
     → step img c ≡ settle (run img c (slice_get img.code c.processor.address))
 instruction_steps img c h none = step_is img c ∙ ap (step_by img c) h
     ∙ ap (λ o. settle (attempt img c o)) (none_picked (pick img c) none)
+
+-- the step of a core that waits
+pub waiting_steps : (img : Image) (c : Core) → slice_get img.code c.processor.address ≡ Some (instr.Wait, None)
+    → option_map (λ row. row.number) (pick img c) ≡ None → step img c ≡ (c, None)
+waiting_steps img c at none = by c.stopped refl
+  where
+    by : (stopped : Bool) → c.stopped ≡ stopped → step img c ≡ (c, None)
+    by true h = steps_by_cause.stopped img c h
+    by false h = instruction_steps img c h none ∙ ap (λ o. settle (run img c o)) at
 
 -- the core after more events
 pub core_after-append : (img : Image) (c : Core) (es fs : List Event) → core_after img c (es ++ fs)

@@ -21,4 +21,3 @@ pub mod Showing
 pub mod Room
 mod Leading
 pub mod Standing
-pub mod Following

@@ -1,8 +1,8 @@
 -- Core steps one after another, up to one that gives an item.
-use Rattle.std.proofs.Common.{◌≡◌, ℕ, zero, suc, ◌+◌, ◌-◌, ◌<◌, ◌≤◌, List, [], ◌∷◌, ◌++◌, replicate, Result, Option}
+use Rattle.std.proofs.Common.{◌≡◌, ℕ, suc, ◌+◌, ◌-◌, ◌<◌, ◌≤◌, List, [], ◌∷◌, ◌++◌, replicate, Result, Option}
 use Rattle.std.proofs.Common.{Some, None, refl, ap, sym, subst, ◌∙◌, append_assoc, arith}
-use Rattle.std.proofs.lemmas.List.{append-nil, replicate_more, replicate-append-replicate}
-use Rattle.rt_ids.specs.Event.{Event, Step}
+use Rattle.std.proofs.lemmas.List.{append-nil, replicate-append-replicate}
+use Rattle.rt_ids.specs.Event.{Step}
 use Rattle.rt_code.specs.Image.{Image}
 use Rattle.rt_code.specs.declared.processor.Request.{Request}
 use Rattle.rt_code.specs.declared.processor.Trap.{Trap}
@@ -11,7 +11,7 @@ use Rattle.rt_trace.specs.declared.item.What.{What}
 use Rattle.rt_core.specs.Core.{Core}
 use Rattle.rt_core.specs.Machine.{Machine}
 use Rattle.rt_core.specs.Outcome.{settle}
-use Rattle.rt_core.specs.Reaching.{Reaches, StepsToItem, label_of_item}
+use Rattle.rt_core.specs.Reaching.{Reaches, and_the_last, label_of_item}
 use Rattle.rt_core.specs.Stepping.{step}
 use Rattle.rt_core.specs.Trace.{happen, core_after, labels}
 use Rattle.rt_core.specs.Inside.Begun.{outcome_of_rest}
@@ -23,55 +23,64 @@ unfolding core_after labels
 none_done img c = record { silent = 0; count = refl; core = refl; shows = refl }
 
 -- one step
-core_one : (img : Image) (c d : Core) (shown : Option What) → step img c ≡ (d, shown) → core_after img c (Step ∷ []) ≡ d
-unfolding core_after happen
-core_one img c d shown is = ap (λ s. s.0) is
+pub one_step : (img : Image) (c d : Core) (shown : Option What) → step img c ≡ (d, shown) → Reaches img c d 1 shown
+unfolding core_after labels happen
+one_step img c d None is = record {
+  silent = 1;
+  count = refl;
+  core = sym (ap (λ s. s.0) is);
+  shows = ap (λ (s : Core × Option What). Stepped s.1 ∷ []) is;
+}
+one_step img c d (Some w) is = record {
+  silent = 0;
+  count = refl;
+  core = sym (ap (λ s. s.0) is);
+  shows = ap (λ (s : Core × Option What). Stepped s.1 ∷ []) is;
+}
 
-shows_one : (img : Image) (c d : Core) (shown : Option What) → step img c ≡ (d, shown) → labels img c (Step ∷ [])
-    ≡ Stepped shown ∷ []
-unfolding labels happen
-shows_one img c d shown is = ap (λ (s : Core × Option What). Stepped s.1 ∷ []) is
-
--- one more step behind silent ones
-pub one_more : (img : Image) (a b d : Core) (n : ℕ) (shown : Option What) → Reaches img a b n None → step img b
-    ≡ (d, shown) → Reaches img a d (n + 1) shown
-one_more img a b d n shown first is = by shown is
+-- steps behind silent ones
+pub further : (img : Image) (a b d : Core) (n m : ℕ) (shown : Option What) → Reaches img a b n None
+    → Reaches img b d m shown → Reaches img a d (n + m) shown
+further img a b d n m shown first second = record {
+  silent = first.silent + second.silent;
+  count = count_is shown second.count;
+  core =
+      second.core ∙ ap (λ c. core_after img c (replicate m Step)) first.core
+      ∙ sym (core_after-append img a (replicate n Step) (replicate m Step))
+      ∙ ap (core_after img a) (replicate-append-replicate n m Step);
+  shows =
+      ap (labels img a) (sym (replicate-append-replicate n m Step))
+      ∙ labels-append img a (replicate n Step) (replicate m Step)
+      ∙ ap (λ ls. ls ++ labels img (core_after img a (replicate n Step)) (replicate m Step))
+      (first.shows ∙ append-nil (replicate first.silent (Stepped None)))
+      ∙ ap (λ c. replicate first.silent (Stepped None) ++ labels img c (replicate m Step)) (sym first.core)
+      ∙ ap (λ ls. replicate first.silent (Stepped None) ++ ls) second.shows
+      ∙ sym (append_assoc (replicate first.silent (Stepped None)) (replicate second.silent (Stepped None))
+      (label_of_item shown))
+      ∙ ap (λ ls. ls ++ label_of_item shown)
+      (replicate-append-replicate first.silent second.silent (Stepped None));
+}
   where
-    core_is : (shown : Option What) → step img b ≡ (d, shown) → d ≡ core_after img a (replicate (n + 1) Step)
-    core_is shown is =
-        sym (core_one img b d shown is)
-        ∙ ap (λ c. core_after img c (Step ∷ [])) first.core
-        ∙ sym (core_after-append img a (replicate n Step) (Step ∷ []))
-        ∙ ap (core_after img a) (replicate_more n Step)
-
-    shows_is : (shown : Option What) → step img b ≡ (d, shown)
-        → labels img a (replicate (n + 1) Step) ≡ replicate first.silent (Stepped None) ++ Stepped shown ∷ []
-    shows_is shown is =
-        ap (labels img a) (sym (replicate_more n Step))
-        ∙ labels-append img a (replicate n Step) (Step ∷ [])
-        ∙ ap (λ ls. ls ++ labels img (core_after img a (replicate n Step)) (Step ∷ []))
-        (first.shows ∙ append-nil (replicate first.silent (Stepped None)))
-        ∙ ap (λ c. replicate first.silent (Stepped None) ++ labels img c (Step ∷ [])) (sym first.core)
-        ∙ ap (λ ls. replicate first.silent (Stepped None) ++ ls) (shows_one img b d shown is)
-
-    by : (shown : Option What) → step img b ≡ (d, shown) → Reaches img a d (n + 1) shown
-    by None is = record {
-      silent = first.silent + 1;
-      count = ap (λ k. k + 1) first.count;
-      core = core_is None is;
-      shows = shows_is None is ∙ replicate_more first.silent (Stepped None)
-          ∙ sym (append-nil (replicate (first.silent + 1) (Stepped None)));
-    }
-    by (Some w) is = record {
-      silent = first.silent;
-      count = let e : n + 1 ≡ suc first.silent = omega (arith, first.count) in e;
-      core = core_is (Some w) is;
-      shows = shows_is (Some w) is;
-    }
+    count_is : (shown : Option What) → m ≡ and_the_last second.silent shown
+        → n + m ≡ and_the_last (first.silent + second.silent) shown
+    count_is None is = let e : n + m ≡ first.silent + second.silent = omega (arith, first.count, is) in e
+    count_is (Some w) is = let e : n + m ≡ suc (first.silent + second.silent) = omega (arith, first.count, is) in e
 
 -- no step has been done
 pub none_yet : (img : Image) (c : Core) (left : ℕ) → Reaches img c c (left - left) None
 none_yet img c left = subst (λ n. Reaches img c c n None) (let e : 0 ≡ left - left = omega arith in e) (none_done img c)
+
+-- some of those that are left
+pub some_of_left : (old now : Machine) (d : Core) (shown : Option What) (most left fewer : ℕ)
+    → Reaches old.image old.core now.core (most - left) None
+    → now ≡ record old { core = now.core } → left ≤ most → fewer ≤ left
+    → Reaches now.image now.core d (left - fewer) shown
+    → Reaches old.image old.core d (most - fewer) shown
+some_of_left old now d shown most left fewer first rest within down second =
+    subst (λ n. Reaches old.image old.core d n shown)
+    (let e : most - left + (left - fewer) ≡ most - fewer = omega (arith, within, down) in e)
+    (further old.image old.core now.core d (most - left) (left - fewer) shown first
+    (subst (λ (m : Machine). Reaches m.image now.core d (left - fewer) shown) rest second))
 
 -- one of those that are left
 pub one_of_left : (old now : Machine) (d : Core) (shown : Option What) (most left : ℕ)
@@ -79,10 +88,9 @@ pub one_of_left : (old now : Machine) (d : Core) (shown : Option What) (most lef
     → now ≡ record old { core = now.core } → step now.image now.core ≡ (d, shown) → left ≤ most → 0 < left
     → Reaches old.image old.core d (most - (left - 1)) shown
 one_of_left old now d shown most left first rest is within some =
-    subst (λ n. Reaches old.image old.core d n shown) (let e : most - left + 1 ≡ most - (left - 1) =
-    omega (arith, within, some) in e)
-    (one_more old.image old.core now.core d (most - left) shown first
-    (ap (λ (m : Machine). step m.image now.core) (sym rest) ∙ is))
+    some_of_left old now d shown most left (left - 1) first rest within (omega arith)
+    (subst (λ n. Reaches now.image now.core d n shown) (let e : 1 ≡ left - (left - 1) = omega (arith, some) in e)
+    (one_step now.image now.core d shown is))
 
 -- a step that began and was completed
 pub completed : (now mid : Machine) (d : Core) (shown : Option What) (begun : Begun) (came : Result Request Trap)
@@ -110,34 +118,22 @@ abbrev first_shown : List Label → Option What
 first_shown (Stepped shown ∷ ls) = shown
 first_shown ls = None
 
-machine : (old new : Machine) (done : ℕ) → done ≡ 1 → new.image ≡ old.image → new.core
-    ≡ core_after old.image old.core (replicate done Step)
-    → new.steps ≡ old.steps + done → new ≡ record old { core = (step old.image old.core).0; steps = suc old.steps }
-unfolding core_after happen
-machine old new done one image core steps =
-    let core_is : new.core ≡ (step old.image old.core).0 = core
-    ∙ ap (λ n. core_after old.image old.core (replicate n Step)) one in
-    let steps_is : new.steps ≡ suc old.steps = omega (arith, steps, one) in
-    ap (λ (img : Image). record { image = img; core = new.core; steps = new.steps }) image
-    ∙ ap (λ (c : Core). record { image = old.image; core = c; steps = new.steps }) core_is
-    ∙ ap (λ n. record { image = old.image; core = (step old.image old.core).0; steps = n }) steps_is
-
--- steps up to the first item, at most one
-pub at_most_one : (old new : Machine) (shown : Option What) → StepsToItem 1 old new shown
-    → (shown ≡ (step old.image old.core).1)
-    × (new ≡ record old { core = (step old.image old.core).0; steps = suc old.steps })
+-- where one step was done, the core is what it leaves, and it shows what the step gives
+pub one_done : (img : Image) (old new : Core) (done : ℕ) (shown : Option What) → Reaches img old new done shown
+    → done ≡ 1 → step img old ≡ (new, shown)
 unfolding core_after labels happen
-at_most_one old new None goes =
-    let one : goes.done ≡ 1 = goes.all refl in
-    let silent : goes.reaches.silent ≡ 1 = sym goes.reaches.count ∙ one in
-    let shows : labels old.image old.core (Step ∷ []) ≡ Stepped None ∷ [] =
-    ap (λ n. labels old.image old.core (replicate n Step)) (sym one) ∙ goes.reaches.shows
-    ∙ ap (λ n. replicate n (Stepped None) ++ []) silent in
-    (sym (ap first_shown shows), machine old new goes.done one goes.image goes.reaches.core goes.steps)
-at_most_one old new (Some w) goes =
-    let one : goes.done ≡ 1 = omega (arith, goes.within, goes.reaches.count) in
-    let silent : goes.reaches.silent ≡ 0 = omega (arith, one, goes.reaches.count) in
-    let shows : labels old.image old.core (Step ∷ []) ≡ Stepped (Some w) ∷ [] =
-    ap (λ n. labels old.image old.core (replicate n Step)) (sym one) ∙ goes.reaches.shows
-    ∙ ap (λ n. replicate n (Stepped None) ++ Stepped (Some w) ∷ []) silent in
-    (sym (ap first_shown shows), machine old new goes.done one goes.image goes.reaches.core goes.steps)
+one_done img old new done shown goes one =
+    ap (λ c. (c, (step img old).1)) (sym core_is) ∙ ap (λ w. (new, w)) (shown_is shown goes one)
+  where
+    core_is : new ≡ (step img old).0
+    core_is = goes.core ∙ ap (λ n. core_after img old (replicate n Step)) one
+
+    shown_is : (shown : Option What) → Reaches img old new done shown → done ≡ 1 → (step img old).1 ≡ shown
+    shown_is None goes one =
+        let silent : goes.silent ≡ 1 = sym goes.count ∙ one in
+        ap first_shown (ap (λ n. labels img old (replicate n Step)) (sym one) ∙ goes.shows
+        ∙ ap (λ n. replicate n (Stepped None) ++ []) silent)
+    shown_is (Some w) goes one =
+        let silent : goes.silent ≡ 0 = omega (arith, one, goes.count) in
+        ap first_shown (ap (λ n. labels img old (replicate n Step)) (sym one) ∙ goes.shows
+        ∙ ap (λ n. replicate n (Stepped None) ++ Stepped (Some w) ∷ []) silent)

@@ -1,5 +1,5 @@
-ghost use Rattle.std.specs.Prelude.{◌≡◌, ◌≢◌, ℕ, suc, ◌+◌, ◌-◌, ◌<◌, ◌≤◌, ◌^◌, Some, None, option_map, slice_get};
-ghost use Rattle.std.specs.Prelude.{Ok, IfOk, IfErr, OnErr};
+ghost use Rattle.std.specs.Prelude.{◌≡◌, ◌≢◌, ℕ, suc, ◌+◌, ◌-◌, ◌<◌, ◌≤◌, ◌^◌, true, Option, Some, None, option_map};
+ghost use Rattle.std.specs.Prelude.{slice_get, Ok, IfOk, IfErr, OnErr};
 ghost use Rattle.rt_code.specs.Effect.{effect};
 ghost use Rattle.rt_code.specs.Processor.{Traps, Leads};
 ghost use Rattle.rt_code.specs.declared.processor.Request.TheVariants as request;
@@ -330,15 +330,15 @@ impl Core {
 
     /// What came of the instruction at a code address, with its note, as a step.
     #[inline(never)]
-    fn conclude(&mut self, came: Result<Request, Trap>, address: u32) -> Option<What>
-        requires { (row from : ℕ) → came ≡ Ok (request.Call row from)
+    fn conclude(&mut self, came: &Result<Request, Trap>, address: u32) -> Option<What>
+        requires { (row from : ℕ) → came.now ≡ Ok (request.Call row from)
             → self.old.core.processor.address + 1 < 2 ^ 32 }
         ensures settled { settle (stepping.go_on self.old.image self.old.core (note_at self.old.image address)
-            (effect_of self.old.core.processor came)) ≡ (self.new.core, result) }
+            (effect_of self.old.core.processor came.now)) ≡ (self.new.core, result) }
         ensures rest { self.new ≡ record self.old { core = self.new.core } }
     {
         let note = self.note_at(address);
-        let came = self.finish(came, note);
+        let came = self.finish(*came, note);
         self.settle(came)
     }
 
@@ -404,9 +404,60 @@ impl Core {
         self.go(came)
     }
 
+    /// Silent core steps, and behind them one that is begun and not done, at most as many steps as are left. It counts
+    /// down those that are left, writes the code address at which the last of them began and what its instruction
+    /// answered, and leaves the number of steps in the core as it was.
+    #[inline(never)]
+    fn advance(
+        &mut self,
+        left: &mut u32,
+        address: &mut u32,
+        came: &mut Result<Request, Trap>,
+    ) -> Begun
+        ensures reached { (after : spec.Core) (shown : Option What)
+            → settle (outcome_of_rest self.new.image self.new.core address.new result came.new) ≡ (after, shown)
+            → Reaches self.old.image self.old.core after (left.old - left.new) shown }
+        ensures within { left.new ≤ left.old }
+        ensures fewer { 0 < left.old → left.new < left.old }
+        ensures all { result ≡ Begun.Silent → left.new ≡ 0 }
+        ensures entry { (irq : ℕ) → result ≡ Begun.Entry irq
+            → option_map (λ row. row.number) (priority.pick self.new.image self.new.core) ≡ Some irq }
+        ensures next { result ≡ Begun.Asked → (row from : ℕ) → came.new ≡ Ok (request.Call row from)
+            → self.new.core.processor.address + 1 < 2 ^ 32 }
+        ensures rest { self.new ≡ record self.old { core = self.new.core } }
+    {
+        while *left > 0 {
+            *left -= 1;
+            *address = self.registers.address;
+            let begun = self.begin(came);
+            if !matches!(begun, Begun::Silent) {
+                return begun;
+            }
+        }
+        Begun::Silent
+    }
+
+    /// Core steps up to the first that is not silent, at most as many as are left, which it counts down. It answers the
+    /// item of the last of them, where it gives one.
+    #[inline(always)]
+    fn go_some(&mut self, left: &mut u32) -> Option<What>
+        ensures reached { Reaches self.old.image self.old.core self.new.core (left.old - left.new) result }
+        ensures within { left.new ≤ left.old }
+        ensures fewer { 0 < left.old → left.new < left.old }
+        ensures rest { self.new ≡ record self.old { core = self.new.core } }
+    {
+        let mut address = 0;
+        let mut came = Ok(Request::Nothing);
+        match self.advance(left, &mut address, &mut came) {
+            Begun::Silent => None,
+            Begun::Entry(irq) => self.take(irq),
+            Begun::Noted => self.tell(address),
+            Begun::Asked => self.conclude(&came, address),
+        }
+    }
+
     /// Core steps up to the first that gives an item, at most as many as are left. It counts down those that are left,
     /// and leaves their number in the core as it was.
-    #[inline(always)]
     fn go_to_item(&mut self, left: &mut u32) -> Option<What>
         ensures reached { Reaches self.old.image self.old.core self.new.core (left.old - left.new) result }
         ensures within { left.new ≤ left.old }
@@ -414,31 +465,9 @@ impl Core {
         ensures rest { self.new ≡ record self.old { core = self.new.core } }
     {
         while *left > 0 {
-            let address = self.registers.address;
-            let mut came = Ok(Request::Nothing);
-            match self.begin(&mut came) {
-                Begun::Silent => *left -= 1,
-                Begun::Entry(irq) => {
-                    *left -= 1;
-                    let shown = self.take(irq);
-                    if shown.is_some() {
-                        return shown;
-                    }
-                }
-                Begun::Noted => {
-                    *left -= 1;
-                    let shown = self.tell(address);
-                    if shown.is_some() {
-                        return shown;
-                    }
-                }
-                Begun::Asked => {
-                    *left -= 1;
-                    let shown = self.conclude(came, address);
-                    if shown.is_some() {
-                        return shown;
-                    }
-                }
+            let shown = self.go_some(left);
+            if shown.is_some() {
+                return shown;
             }
         }
         None
@@ -457,9 +486,22 @@ impl Core {
         shown
     }
 
+    /// Whether the core waits for an interrupt: it is at a `wait` without a note, and none is to be taken. Its step is
+    /// silent then and changes nothing.
+    #[inline(always)]
+    fn waits(&self) -> bool
+        ensures { result ≡ true → stepping.step self.now.image self.now.core ≡ (self.now.core, None) }
+    {
+        matches!(
+            self.program.line(self.registers.address),
+            Some((Instr::Wait, None))
+        ) && self.irq_to_take().is_none()
+    }
+
     /// One core step: the entry of the interrupt that is to be taken, else one instruction. It answers the item that
     /// the step gives, and None where it gives none. A trap gives its item and stops the core, and every later step is
     /// silent.
+    #[inline(always)]
     pub fn step(&mut self) -> Option<What>
         requires { self.old.steps < 2 ^ 31 }
         ensures item { result ≡ (stepping.step self.old.image self.old.core).1 }
@@ -468,6 +510,11 @@ impl Core {
           steps = suc self.old.steps;
         } }
     {
-        self.steps_to_item(1)
+        self.steps += 1;
+        if self.waits() {
+            return None;
+        }
+        let mut left = 1;
+        self.go_some(&mut left)
     }
 }
