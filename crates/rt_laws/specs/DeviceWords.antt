@@ -1,6 +1,6 @@
--- Runs beside devices. Between the labels of a run a device may put a word into a local resource, as hardware hands over
--- a received byte, a pin or a conversion. A local resource belongs to one body (the RTIC 1 book, local resources), and a
--- word is put where no started job may use the resource, so it is what the body finds when it starts. All else of
+-- Runs beside devices. Between the labels of a run a device may put a word into a local resource, as hardware hands
+-- over a received byte, a pin or a conversion. A local resource belongs to one body (the RTIC 1 book, local resources),
+-- and a word is put where no started job may use the resource, so it is what the body finds when it starts. All else of
 -- Baker's machine is as without devices. That devices write words between labels is this project's own; a real device
 -- has a register, which the body reads.
 use Rattle.std.specs.Prelude.{◌≡◌, ℕ, ◌^◌, ◌<◌, false, List, [], ◌∷◌, length, map, take}

@@ -68,8 +68,8 @@ pub fn runs_keep_messages()
     ensures { RunsKeepMessages }
 {}
 
-/// All that holds of the messages of a run holds beside devices too, where a device may put a word into a local resource
-/// that no started job may use.
+/// All that holds of the messages of a run holds beside devices too, where a device may put a word into a local
+/// resource that no started job may use.
 pub fn runs_beside_keep_messages()
     ensures { RunsBesideKeepMessages }
 {}

@@ -2,8 +2,9 @@
 -- count. Ticks and armings of events are no more than the events.
 use Rattle.std.proofs.Common.{◌≡◌, ℕ, zero, suc, ◌+◌, ◌≤◌, ◌<◌, ◌^◌, Bool, true, false, cond, nat_le, if◌then◌else◌}
 use Rattle.std.proofs.Common.{List, [], ◌∷◌, ◌++◌, length, take, count_by, slice_set, Option, Some, None}
-use Rattle.std.proofs.Common.{refl, ap, arith}
-use Rattle.std.proofs.lemmas.List.Sums.{sum_by-cons, sum_by-take-le}
+use Rattle.std.proofs.Common.{refl, ap, ◌∙◌, arith}
+use Rattle.std.proofs.lemmas.List.{length-map}
+use Rattle.std.proofs.lemmas.List.Sums.{sum_by-cons}
 use Rattle.rt_lemmas.proofs.Lists.{find_has}
 use Rattle.rt_ids.specs.Content.{Values, timer_content}
 use Rattle.rt_ids.specs.Event.{Event, Arrive, Tick, Step}
@@ -32,12 +33,16 @@ use Rattle.rt_laws.specs.Giving.{item_of, next_item, item_given, next_instant, i
 use Rattle.rt_laws.specs.Acting.{job_after_step, state_after_pend, idle_job, answer, state_after_doing}
 use Rattle.rt_laws.specs.Allowed.{May, state_after_start, state_after_silence, state_after_item, after}
 use Rattle.rt_laws.specs.Observer.{Seen, Observer}
+use Rattle.rt_laws.specs.DeviceWords.{WithWords, One, Puts, ones, things}
 use Rattle.rt_laws.proofs.Armings.{armings}
+use Rattle.rt_laws.proofs.Beside.{things_ones, things_behind}
 use Rattle.rt_laws.proofs.Fine.{SameQueues, Queued, IsFine, held_after, queued_effect, effect_same, reached_same}
 use Rattle.rt_laws.proofs.FineHandlers.{idle_fine, services_fine}
 use Rattle.rt_laws.proofs.Well.{NextKept, AllKept, StackWell, StateWell}
 use Rattle.rt_sim.specs.Good.{is_tick_event, is_arming, CountsFit, CountsOfFewFit}
+use Rattle.rt_sim.specs.Beside.{core_after_put, labels_beside, shown_beside, CountsFitBeside}
 use Rattle.rt_sim.proofs.Fitting.{Fits}
+use Rattle.rt_sim.proofs.Wordless.{shown_ones}
 
 -- how many armings the item of a step shows
 abbrev pub arming_in : Option What → ℕ
@@ -80,10 +85,10 @@ one_arming (Stepped (Some w)) = either (is_arming w)
     either true = omega arith
     either false = omega arith
 
-module _ (img : Image) where
-  -- the ticks and the armings of events
-  abbrev pub counted : Core → List Event → ℕ
-  counted c events = count_by is_tick_event events + armed (labels img c events)
+module _ (app : App) (img : Image) where
+  -- the ticks and the armings of events, between which words may come
+  abbrev pub counted : Core → List (WithWords Event) → ℕ
+  counted c moves = count_by is_tick_event (things moves) + armed (things (labels_beside app img c moves))
 
   ring_arms_none : (c : Core) (o : Option Alarm) → armed (ring c o).1 ≡ 0
   ring_arms_none c None = refl
@@ -102,57 +107,73 @@ module _ (img : Image) where
   one_count c Step = let one = one_arming (Stepped (step img c).1) in omega (arith, one)
 
   -- one event more in front
-  pub counted_more : (c : Core) (e : Event) (events : List Event) → counted c (e ∷ events)
-      ≡ cond (is_tick_event e) 1 0 + armed (happen img c e).1 + counted (happen img c e).0 events
-  unfolding labels
-  counted_more c e events =
-      let ticks = sum_by-cons (λ (e : Event). cond (is_tick_event e) 1 0) e events in
-      let arms = armed-append (happen img c e).1 (labels img (happen img c e).0 events) in
+  pub counted_more : (c : Core) (e : Event) (moves : List (WithWords Event)) → counted c (One e ∷ moves)
+      ≡ cond (is_tick_event e) 1 0 + armed (happen img c e).1 + counted (happen img c e).0 moves
+  counted_more c e moves =
+      let ticks = sum_by-cons (λ (e : Event). cond (is_tick_event e) 1 0) e (things moves) in
+      let rest : List (WithWords Label) = labels_beside app img (happen img c e).0 moves in
+      let arms = ap armed (things_behind (happen img c e).1 rest) ∙ armed-append (happen img c e).1 (things rest) in
       omega (arith, ticks, arms)
 
-  counted_few : (events : List Event) (c : Core) → counted c events ≤ length events
-  unfolding labels
+  counted_few : (moves : List (WithWords Event)) (c : Core) → counted c moves ≤ length moves
   counted_few [] c = omega arith
-  counted_few (e ∷ events) c =
-      let more = counted_more c e events in
+  counted_few (One e ∷ moves) c =
+      let more = counted_more c e moves in
       let one = one_count c e in
-      let rest = counted_few events (happen img c e).0 in
+      let rest = counted_few moves (happen img c e).0 in
       omega (arith, more, one, rest)
+  counted_few (Puts n word ∷ moves) c =
+      let rest = counted_few moves (core_after_put app n word c) in omega (arith, rest)
 
-  armed_front : (events : List Event) (c : Core) (n : ℕ)
-      → armed (labels img c (take n events)) ≤ armed (labels img c events)
-  unfolding labels
-  armed_front events c zero = omega arith
-  armed_front [] c (suc n) = omega arith
-  armed_front (e ∷ events) c (suc n) =
-      let rest = armed_front events (happen img c e).0 n in
-      let whole = armed-append (happen img c e).1 (labels img (happen img c e).0 events) in
-      let front = armed-append (happen img c e).1 (labels img (happen img c e).0 (take n events)) in
+  -- those of a front are no more
+  counted_front : (moves : List (WithWords Event)) (c : Core) (n : ℕ) → counted c (take n moves) ≤ counted c moves
+  counted_front moves c zero = omega arith
+  counted_front [] c (suc n) = omega arith
+  counted_front (One e ∷ moves) c (suc n) =
+      let rest = counted_front moves (happen img c e).0 n in
+      let whole = counted_more c e moves in
+      let front = counted_more c e (take n moves) in
       omega (arith, rest, whole, front)
+  counted_front (Puts local word ∷ moves) c (suc n) = counted_front moves (core_after_put app local word c) n
 
-module _ (app : App) (img : Image) (events : List Event) where
+module _ (app : App) (img : Image) (moves : List (WithWords Event)) where
   -- counted by the items, and by the labels
-  pub counts_fit : CountsFit app img events → Fits app (counted img (reset img) events)
+  pub counts_fit : CountsFitBeside app img moves → Fits app (counted app img (reset img) moves)
   counts_fit fit mono is =
-      let same = armed_items 0 (labels img (reset img) events) in
+      let same = armed_items 0 (things (shown_beside app img moves)) in
       let few = fit mono is in
       omega (arith, same, few)
+
+  -- those of a front fit too
+  pub front_fits : (n : ℕ) → CountsFitBeside app img moves → CountsFitBeside app img (take n moves)
+  front_fits n fit mono is =
+      let same = armed_items 0 (things (shown_beside app img moves)) in
+      let front = armed_items 0 (things (shown_beside app img (take n moves))) in
+      let less = counted_front app img moves (reset img) n in
+      let few = fit mono is in
+      omega (arith, same, front, less, few)
+
+-- events without words
+module _ (app : App) (img : Image) (events : List Event) where
+  same_ticks : count_by is_tick_event (things (ones events)) ≡ count_by is_tick_event events
+  same_ticks = ap (count_by is_tick_event) (things_ones events)
+
+  pub fits_ones : CountsFit app img events → CountsFitBeside app img (ones events)
+  fits_ones fit mono is =
+      let ticks = same_ticks in
+      let items = ap (λ ls. count_by (λ (item : Item). is_arming item.what) (items_of 0 ls))
+      (shown_ones app img events (reset img)) in
+      let few = fit mono is in
+      omega (arith, ticks, items, few)
 
   pub counts_of_few : length events < 2 ^ 31 → CountsFit app img events
   counts_of_few few mono is =
       let same = armed_items 0 (labels img (reset img) events) in
-      let within = counted_few img events (reset img) in
-      omega (arith, same, few, within)
-
-  -- those of a front fit too
-  pub front_fits : (n : ℕ) → CountsFit app img events → CountsFit app img (take n events)
-  front_fits n fit mono is =
-      let same = armed_items 0 (labels img (reset img) events) in
-      let front = armed_items 0 (labels img (reset img) (take n events)) in
-      let arms = armed_front img events (reset img) n in
-      let ticks = sum_by-take-le (λ (e : Event). cond (is_tick_event e) 1 0) events n in
-      let few = fit mono is in
-      omega (arith, same, front, arms, ticks, few)
+      let shown = ap armed (shown_ones app img events (reset img)) in
+      let ticks = same_ticks in
+      let long = length-map events One in
+      let within = counted_few app img (ones events) (reset img) in
+      omega (arith, same, shown, ticks, long, few, within)
 
 pub counts_of_few_fit : CountsOfFewFit
 counts_of_few_fit app img events few = counts_of_few app img events few

@@ -1,4 +1,4 @@
--- Every image of an accepted application is good.
+-- Every image of an accepted application is good, and is so beside devices.
 use Rattle.std.proofs.Common.{◌≡◌, ℕ, suc, ◌<◌, ◌≤◌, Bool, true, false, if◌then◌else◌, List, [], ◌∷◌}
 use Rattle.std.proofs.Common.{length, take, slice_get, Option, Some, None, refl, sym, ap, subst, ◌∙◌, arith}
 use Rattle.std.specs.List.{AllByRecursion}
@@ -25,31 +25,38 @@ use Rattle.rt_code.specs.Cells.{cell_named, resource_cell}
 use Rattle.rt_code.specs.Image.{Image}
 use Rattle.rt_core.specs.Access.{access}
 use Rattle.rt_core.specs.Core.{Core, reset, depth}
-use Rattle.rt_core.specs.Trace.{labels}
+use Rattle.rt_core.specs.Trace.{core_after, labels}
 use Rattle.rt_core.proofs.Showing.{shows_its_events}
 use Rattle.rt_laws.specs.State.{Role, Init, Idle, Waiting, Serving, Job, State, first}
 use Rattle.rt_laws.specs.Giving.{gives, item_given, item_of, next_item, return_item, next_instant, is_due}
 use Rattle.rt_laws.specs.Allowed.{May, after}
-use Rattle.rt_laws.specs.Run.{RunsOn}
 use Rattle.rt_laws.specs.Observer.{Observer, first_sight, sees_all}
+use Rattle.rt_laws.specs.Properties.{KeepsLaws}
+use Rattle.rt_laws.specs.DeviceWords.{WithWords, One, Puts, ones, things, state_after_put, RunsBeside}
+use Rattle.rt_laws.proofs.Beside.{things_ones, take_ones}
 use Rattle.rt_laws.proofs.Well.{StateWell}
 use Rattle.rt_laws.proofs.Happens.{first_well}
-use Rattle.rt_laws.proofs.Keeping.{runs_keep_laws}
-use Rattle.rt_laws.proofs.AllMoments.{runs_keep_messages}
-use Rattle.rt_sim.specs.Guarded.{IsGuarded}
-use Rattle.rt_sim.specs.Owned.{IsOwned, AccessesAreOwned}
+use Rattle.rt_laws.proofs.Keeping.{runs_beside_keep_laws, well_after}
+use Rattle.rt_laws.proofs.AllMoments.{runs_beside_keep_messages, runs_keep_messages}
+use Rattle.rt_sim.specs.Guarded.{IsGuarded, AccessesAreGuarded}
+use Rattle.rt_sim.specs.Owned.{IsOwned, NoneIsShared, AccessesAreOwned}
+use Rattle.rt_sim.specs.Whereabouts.{AreMoved}
 use Rattle.rt_sim.specs.Good.{AreDeclared, CountsFit, RunsWell, ImagesAreGood}
+use Rattle.rt_sim.specs.Beside.{core_beside, shown_beside, CountsFitBeside, WordsAreFree, AccessIsGuardedBeside}
+use Rattle.rt_sim.specs.Beside.{AccessIsOwnedBeside, RunsWellBeside, ImagesAreGoodBeside}
 use Rattle.rt_sim.specs.Inside.Coupling.{Coupling, whereabouts_of}
+use Rattle.rt_sim.specs.Inside.States.{state_of}
 use Rattle.rt_sim.proofs.Access.{access_is_guarded}
 use Rattle.rt_sim.proofs.OwnedAccess.{access_is_owned, places_once}
-use Rattle.rt_sim.proofs.Armed.{front_fits}
+use Rattle.rt_sim.proofs.Armed.{front_fits, fits_ones}
 use Rattle.rt_sim.proofs.Bodies.{init_respects}
 use Rattle.rt_sim.proofs.Depth.{depth_within}
-use Rattle.rt_sim.proofs.Reached.{front_declared, places_at_reset, reached_by, reached_fits}
-use Rattle.rt_sim.proofs.Running.{well_after}
+use Rattle.rt_sim.proofs.Reached.{front_declared, front_free, places_at_reset, ReachedBeside, reached_beside}
+use Rattle.rt_sim.proofs.Reached.{reached_fits, reached_by}
 use Rattle.rt_sim.proofs.Starting.{at_reset}
 use Rattle.rt_sim.proofs.Unshared.{none_is_shared}
-use Rattle.rt_sim.proofs.Unspent.{leaves_steps}
+use Rattle.rt_sim.proofs.Unspent.{leaves_steps, images_leave_steps}
+use Rattle.rt_sim.proofs.Wordless.{shown_ones, core_ones, none_put}
 
 -- Baker's machine never traps
 not_trap : (s : State) (role : Role) (rest : Doing Values) (k : ℕ) → next_item s role rest ≡ Some (what.Trap k) → ⊥
@@ -97,15 +104,16 @@ module _ (app : App) where
   no_reason s (what.Trap k) may = absurd (gives_no_trap s k may.1)
   no_reason s _ may = tt
 
-  no_traps : (labels : List Label) (s : State) (n : ℕ) → RunsOn app s labels
-      → AllByRecursion (λ item. IsNoTrap item.what) (items_of n labels)
+  no_traps : (moves : List (WithWords Label)) (s : State) (n : ℕ) → RunsBeside app s moves
+      → AllByRecursion (λ item. IsNoTrap item.what) (items_of n (things moves))
   no_traps [] s n runs = tt
-  no_traps (Arrived irq ∷ labels) s n runs = (tt, no_traps labels (after app s (Arrived irq)) n runs.1)
-  no_traps (Ticked ∷ labels) s n runs = (tt, no_traps labels (after app s Ticked) n runs.1)
-  no_traps (Rang ∷ labels) s n runs = (tt, no_traps labels (after app s Rang) n runs.1)
-  no_traps (Stepped None ∷ labels) s n runs = no_traps labels (after app s (Stepped None)) (suc n) runs.1
-  no_traps (Stepped (Some w) ∷ labels) s n runs =
-      (no_reason s w runs.0, no_traps labels (after app s (Stepped (Some w))) (suc n) runs.1)
+  no_traps (Puts local word ∷ moves) s n runs = no_traps moves (state_after_put local word s) n runs.1
+  no_traps (One (Arrived irq) ∷ moves) s n runs = (tt, no_traps moves (after app s (Arrived irq)) n runs.1)
+  no_traps (One Ticked ∷ moves) s n runs = (tt, no_traps moves (after app s Ticked) n runs.1)
+  no_traps (One Rang ∷ moves) s n runs = (tt, no_traps moves (after app s Rang) n runs.1)
+  no_traps (One (Stepped None) ∷ moves) s n runs = no_traps moves (after app s (Stepped None)) (suc n) runs.1
+  no_traps (One (Stepped (Some w)) ∷ moves) s n runs =
+      (no_reason s w runs.0, no_traps moves (after app s (Stepped (Some w))) (suc n) runs.1)
 
 module _ (app : App) (img : Image) (accepted : IsAccepted app) (is_image : IsImageOf app img) where
   abbrev pub sound : IsSound app
@@ -125,60 +133,130 @@ module _ (app : App) (img : Image) (accepted : IsAccepted app) (is_image : IsIma
       named_within None at is = absurd (none-some cell is)
       named_within (Some name) at is = omega (arith, declared, slice_get_within img.names.shared r name at)
 
-  -- the access after these events is owned
-  access_owned : (events : List Event) → CountsFit app img events → AreDeclared app events
-      → AccessesAreOwned app img events
-  access_owned events fit declared =
-      let part = reached_by app img accepted is_image events fit declared in
-      let m : Coupling = part.agrees.coupling in
-      let well = well_after app accepted (labels img (reset img) events) (first app) (first_sight app)
-      (first_well app accepted) part.runs in
-      let v : Observer = sees_all app (first_sight app) (labels img (reset img) events) in
-      record {
-        before = places_at_reset app img accepted is_image;
-        now = whereabouts_of m;
-        at_reset = at_reset app img accepted sound is_image (init_respects app accepted sound);
-        moved = part.agrees.places;
-        once = places_once app img is_image.at.idle cell_is m part.agrees.invariant;
-        owned = subst (λ (c : Core). IsOwned app v.jobs (whereabouts_of m) (access img c)) (sym part.agrees.core)
-            (access_is_owned app img is_image.at.idle cell_is m part.agrees.invariant v
-            (subst (λ s. StateWell app s v) part.agrees.state well)
-            (reached_fits app img accepted is_image events fit declared));
-        unshared = none_is_shared app img is_image.at.idle m part.agrees.invariant v.jobs
-            (subst (λ s. StateWell app s v) part.agrees.state well).stack;
-      }
+  -- behind events and words
+  module _ (moves : List (WithWords Event)) (fit : CountsFitBeside app img moves)
+      (declared : AreDeclared app (things moves)) (free : WordsAreFree app img moves) where
+    abbrev part : ReachedBeside app img accepted is_image moves
+    part = reached_beside app img accepted is_image moves fit declared free
 
-  runs_well : (events : List Event) → CountsFit app img events → AreDeclared app events → RunsWell app img events
-  runs_well events fit declared =
-      let whole = reached_by app img accepted is_image events fit declared in
+    abbrev m : Coupling
+    m = part.agrees.coupling
+
+    abbrev v : Observer
+    v = sees_all app (first_sight app) (things (shown_beside app img moves))
+
+    well : StateWell app (state_of m) v
+    well = subst (λ s. StateWell app s v) part.agrees.state
+        (well_after app accepted (shown_beside app img moves) (first app) (first_sight app) (first_well app accepted)
+        part.runs)
+
+    -- the next access is owned
+    access_owned : AccessIsOwnedBeside app img moves
+    access_owned = record {
+      before = places_at_reset app img accepted is_image;
+      now = whereabouts_of m;
+      at_reset = at_reset app img accepted sound is_image (init_respects app accepted sound);
+      moved = part.agrees.places;
+      once = places_once app img is_image.at.idle cell_is m part.agrees.invariant;
+      owned = subst (λ (c : Core). IsOwned app v.jobs (whereabouts_of m) (access img c)) (sym part.agrees.core)
+          (access_is_owned app img is_image.at.idle cell_is m part.agrees.invariant v well
+          (reached_fits app img accepted is_image moves fit declared free));
+      unshared = none_is_shared app img is_image.at.idle m part.agrees.invariant v.jobs well.stack;
+    }
+
+    -- and guarded
+    access_guarded : AccessIsGuardedBeside app img moves
+    access_guarded =
+        subst (λ (c : Core). IsGuarded app img v.jobs (access img c)) (sym part.agrees.core)
+        (access_is_guarded app img is_image.at.idle cell_is m part.agrees.invariant v well
+        (reached_fits app img accepted is_image moves fit declared free))
+
+    -- and the stack is within the bound
+    stack_fits : depth img (core_beside app img (reset img) moves) ≤ stack_bytes app
+    stack_fits =
+        subst (λ (c : Core). depth img c ≤ stack_bytes app) (sym part.agrees.core)
+        (depth_within app img is_image.at.idle is_image.tables.fpu accepted.limits.most_bits m part.agrees.invariant)
+
+  pub runs_well_beside : (moves : List (WithWords Event)) → CountsFitBeside app img moves
+      → AreDeclared app (things moves) → WordsAreFree app img moves → RunsWellBeside app img moves
+  runs_well_beside moves fit declared free =
+      let whole = reached_beside app img accepted is_image moves fit declared free in
       record {
         runs = whole.runs;
         counts = whole.counts;
-        shows = shows_its_events img events;
-        laws = runs_keep_laws app accepted (labels img (reset img) events) whole.runs;
-        messages = runs_keep_messages app accepted (labels img (reset img) events) whole.runs;
-        unspent = leaves_steps app img accepted is_image events fit declared;
-        stack_within = λ n.
-            let part = reached_by app img accepted is_image (take n events) (front_fits app img events n fit)
-            (front_declared app events n declared) in
-            subst (λ (c : Core). depth img c ≤ stack_bytes app) (sym part.agrees.core)
-            (depth_within app img is_image.at.idle is_image.tables.fpu accepted.limits.most_bits part.agrees.coupling
-            part.agrees.invariant);
-        no_trap = no_traps app (labels img (reset img) events) (first app) 0 whole.runs;
-        guarded = λ n.
-            let front : List Event = take n events in
-            let fitting = front_fits app img events n fit in
-            let part = reached_by app img accepted is_image front fitting (front_declared app events n declared) in
-            let well = well_after app accepted (labels img (reset img) front) (first app) (first_sight app)
-            (first_well app accepted) part.runs in
-            let v : Observer = sees_all app (first_sight app) (labels img (reset img) front) in
-            subst (λ (c : Core). IsGuarded app img v.jobs (access img c)) (sym part.agrees.core)
-            (access_is_guarded app img is_image.at.idle cell_is part.agrees.coupling part.agrees.invariant v
-            (subst (λ s. StateWell app s v) part.agrees.state well)
-            (reached_fits app img accepted is_image front fitting (front_declared app events n declared)));
-        owned = λ n. access_owned (take n events) (front_fits app img events n fit)
-            (front_declared app events n declared);
+        laws = runs_beside_keep_laws app accepted (shown_beside app img moves) whole.runs;
+        messages = runs_beside_keep_messages app accepted (shown_beside app img moves) whole.runs;
+        unspent = leaves_steps app img accepted is_image moves fit declared free;
+        stack_within = λ n. stack_fits (take n moves) (front_fits app img moves n fit)
+            (front_declared app moves n declared) (front_free app img moves n free);
+        no_trap = no_traps app (shown_beside app img moves) (first app) 0 whole.runs;
+        guarded = λ n. access_guarded (take n moves) (front_fits app img moves n fit)
+            (front_declared app moves n declared) (front_free app img moves n free);
+        owned = λ n. access_owned (take n moves) (front_fits app img moves n fit)
+            (front_declared app moves n declared) (front_free app img moves n free);
       }
+
+  -- without words
+  module _ (events : List Event) (fit : CountsFit app img events) (declared : AreDeclared app events) where
+    beside : RunsWellBeside app img (ones events)
+    beside = runs_well_beside (ones events) (fits_ones app img events fit)
+        (subst (AreDeclared app) (sym (things_ones events)) declared) (none_put app img events)
+
+    core_at : (n : ℕ)
+        → core_beside app img (reset img) (take n (ones events)) ≡ core_after img (reset img) (take n events)
+    core_at n =
+        ap (core_beside app img (reset img)) (take_ones n events) ∙ core_ones app img (take n events) (reset img)
+
+    shown_at : (n : ℕ) → things (shown_beside app img (take n (ones events))) ≡ labels img (reset img) (take n events)
+    shown_at n =
+        ap (λ ms. things (shown_beside app img ms)) (take_ones n events)
+        ∙ shown_ones app img (take n events) (reset img)
+
+    guarded_at : (n : ℕ) → AccessesAreGuarded app img (take n events)
+    guarded_at n =
+        subst (λ ls. IsGuarded app img (sees_all app (first_sight app) ls).jobs
+        (access img (core_after img (reset img) (take n events)))) (shown_at n)
+        (subst (λ (c : Core). IsGuarded app img
+        (sees_all app (first_sight app) (things (shown_beside app img (take n (ones events))))).jobs (access img c))
+        (core_at n) (beside.guarded n))
+
+    owned_at : (n : ℕ) → AccessesAreOwned app img (take n events)
+    owned_at n =
+        let there = beside.owned n in
+        record {
+          before = there.before;
+          now = there.now;
+          at_reset = there.at_reset;
+          moved = subst (λ ls. AreMoved ls there.before there.now) (shown_at n) there.moved;
+          once = there.once;
+          owned = subst (λ ls. IsOwned app (sees_all app (first_sight app) ls).jobs there.now
+              (access img (core_after img (reset img) (take n events)))) (shown_at n)
+              (subst (λ (c : Core). IsOwned app
+              (sees_all app (first_sight app) (things (shown_beside app img (take n (ones events))))).jobs there.now
+              (access img c)) (core_at n) there.owned);
+          unshared = subst (λ ls. NoneIsShared app (sees_all app (first_sight app) ls).jobs there.now) (shown_at n)
+              there.unshared;
+        }
+
+    runs_well : RunsWell app img events
+    runs_well =
+        let whole = reached_by app img accepted is_image events fit declared in
+        let shown = shown_ones app img events (reset img) in
+        record {
+          runs = whole.runs;
+          counts = whole.counts;
+          shows = shows_its_events img events;
+          laws = subst (KeepsLaws app) shown beside.laws;
+          messages = runs_keep_messages app accepted (labels img (reset img) events) whole.runs;
+          unspent = images_leave_steps app img accepted is_image events fit declared;
+          stack_within = λ n. subst (λ (c : Core). depth img c ≤ stack_bytes app) (core_at n) (beside.stack_within n);
+          no_trap = subst (λ ls. AllByRecursion (λ item. IsNoTrap item.what) (items_of 0 ls)) shown beside.no_trap;
+          guarded = guarded_at;
+          owned = owned_at;
+        }
+
+pub images_are_good_beside : ImagesAreGoodBeside
+images_are_good_beside app img accepted is_image = runs_well_beside app img accepted is_image
 
 pub images_are_good : ImagesAreGood
 images_are_good app img accepted is_image = record {

@@ -1,5 +1,7 @@
 pub mod Counting
 pub mod Others
+pub mod Putting
+pub mod Wordless
 pub mod ExecutionPriority
 pub mod Plain
 pub mod Acts

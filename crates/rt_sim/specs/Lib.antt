@@ -4,4 +4,5 @@ pub mod Whereabouts
 pub mod Owned
 pub mod Good
 pub mod Unspent
+pub mod Beside
 pub mod Responding

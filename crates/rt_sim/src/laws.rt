@@ -1,3 +1,4 @@
+ghost use Rattle.rt_sim.specs.Beside.{ImagesAreGoodBeside};
 ghost use Rattle.rt_sim.specs.Good.{CountsOfFewFit, ImagesAreGood};
 ghost use Rattle.rt_sim.specs.Responding.{ImagesRespond, ImagesRespondOnceInitEnds};
 ghost use Rattle.rt_sim.specs.Unspent.{ImagesLeaveSteps};
@@ -9,6 +10,12 @@ ghost use Rattle.rt_sim.specs.Unspent.{ImagesLeaveSteps};
 /// each access to a shared resource is made where it may be.
 pub fn images_are_good()
     ensures { ImagesAreGood }
+{}
+
+/// All that holds of a good image holds beside devices too, which may put words between events into the cells of local
+/// resources that no started job may use: Baker's machine takes the same words, whatever they are.
+pub fn images_are_good_beside()
+    ensures { ImagesAreGoodBeside }
 {}
 
 /// Ticks and armings of fewer than 2^31 events are fewer than 2^31: each event is one tick or shows one arming at most.

@@ -7,7 +7,7 @@ pub mod laws;
 pub mod machine;
 
 pub use laws::{
-    counts_of_few_fit, images_are_good, images_leave_steps, images_respond,
+    counts_of_few_fit, images_are_good, images_are_good_beside, images_leave_steps, images_respond,
     images_respond_once_init_ends,
 };
 pub use machine::prepare;

@@ -5,12 +5,12 @@ use Rattle.rt_ids.specs.Location.{Location}
 use Rattle.rt_ids.specs.Content.{Values}
 use Rattle.rt_ids.specs.Entry.{Entry}
 use Rattle.rt_ids.specs.Doing.{Doing}
-use Rattle.rt_ids.specs.Storage.{Runner, Starting, AtPriority}
 use Rattle.rt_ids.specs.declared.ids.Section.{Section}
 use Rattle.rt_code.specs.Owning.{OpenSection, Configuration}
 use Rattle.rt_code.specs.declared.image.BodyRow.{BodyRow}
 use Rattle.rt_core.specs.declared.alarm.Alarm.{Alarm}
-use Rattle.rt_laws.specs.State.{Role, Init, Serving, Job}
+use Rattle.rt_laws.specs.State.{Role, Serving, Job}
+pub use Rattle.rt_laws.specs.DeviceWords.{runner_of}
 use Rattle.rt_sim.specs.Whereabouts.{Whereabouts}
 
 -- a started job, and where its code is: in the running frame, or in the one that was interrupted
@@ -50,11 +50,6 @@ pub record Coupling : Type 0 where
   -- the places of the messages in each queue
   pub queues : Location → List Entry
   pub values : Values
-
--- who runs a job's code, as code that stands knows it
-abbrev pub runner_of : Role → ℕ → Runner
-runner_of Init priority = Starting
-runner_of role priority = AtPriority priority
 
 -- the interrupt that a job handles
 abbrev pub irq_of : Role → ℕ
