@@ -1,5 +1,5 @@
-// A plain interpreter of crates/bench_core's two images, for bench/run: `interpreter thread N` and `interpreter handler
-// N`. It has the machine's instructions that need no tables, one pending interrupt, and no proofs.
+// A plain interpreter of crates/bench_core's two images, for bench/run: `interpreter thread N`, `interpreter handler N`
+// and `interpreter waiting N`. It has the machine's instructions that need no tables, one pending interrupt, and no proofs.
 use std::env;
 use std::hint::black_box;
 use std::mem;
@@ -178,7 +178,11 @@ const HANDLER: [Instr; 11] = [
 fn main() {
     let words: Vec<String> = env::args().skip(1).collect();
     let steps: u32 = words[1].parse().expect("a number of steps");
-    let (code, ready) = if words[0] == "thread" { (&THREAD[..], None) } else { (&HANDLER[..], Some(16)) };
+    let (code, ready) = match words[0].as_str() {
+        "thread" => (&THREAD[..], None),
+        "handler" => (&HANDLER[..], Some(16)),
+        _ => (&HANDLER[..], None),
+    };
     let mut core = black_box(Core {
         code: code.iter().map(|instr| (*instr, None)).collect(),
         slots: vec![0; 4],

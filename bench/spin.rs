@@ -1,6 +1,6 @@
-// The steps of crates/bench_core's two images as plain Rust, for bench/run: `spin thread N` and `spin handler N`. A
-// step is one instruction of the image; the first of `handler` are the end of the thread's code, the entry and the
-// handler's first.
+// The steps of crates/bench_core's two images as plain Rust, for bench/run: `spin thread N`, `spin handler N` and `spin
+// waiting N`. A step is one instruction of the image; the first of `handler` are the end of the thread's code, the entry
+// and the handler's first. One that waits is counted, and does nothing.
 use std::env;
 use std::hint::black_box;
 
@@ -59,12 +59,20 @@ fn handler(steps: u32) -> Shown {
     shown
 }
 
+fn waiting(steps: u32) -> Shown {
+    for step in 0..steps {
+        black_box(step);
+    }
+    Shown { items: 0, values: 0 }
+}
+
 fn main() {
     let words: Vec<String> = env::args().skip(1).collect();
     let steps: u32 = words[1].parse().expect("a number of steps");
     let (shown, stack) = match words[0].as_str() {
         "thread" => (thread(steps), 16),
-        _ => (handler(steps), 64),
+        "handler" => (handler(steps), 64),
+        _ => (waiting(steps), 16),
     };
     println!("steps {steps}, items {}, values {}, stack {stack}", shown.items, shown.values);
 }

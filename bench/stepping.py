@@ -3,10 +3,10 @@
 
     python3 stepping.py SPIN INTERPRETER STRAIGHT
 
-SPIN is crates/bench_core, INTERPRETER and STRAIGHT are bench/interpreter.rs and bench/spin.rs. A thread spins, or a
-handler does arithmetic, with so many declared interrupts; with `pended` the one of the number 1 is not enabled, and
-pending throughout. What the three write is compared. Times are processor time, in the median of five turns of the
-three.
+SPIN is crates/bench_core, INTERPRETER and STRAIGHT are bench/interpreter.rs and bench/spin.rs. A thread spins, a
+handler does arithmetic, or the thread waits, with so many declared interrupts; with `pended` the one of the number 1 is
+not enabled, and pending throughout. What the three write is compared. Times are processor time, in the median of five
+turns of the three.
 """
 
 import subprocess
@@ -37,7 +37,7 @@ def measure(spin, interpreter, straight, code, irqs):
 
 
 def main(*programs):
-    for code in "thread", "handler":
+    for code in "thread", "handler", "waiting":
         for irqs in IRQS:
             measure(*programs, code, irqs)
 

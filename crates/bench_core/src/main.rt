@@ -1,6 +1,6 @@
 // Runs a core for so many steps on a small image with so many declared interrupts, and prints what it showed: `thread N
-// I` spins in the thread, `handler N I` in a handler that does arithmetic. With `pended` behind it the interrupt 1 is
-// not enabled, and pending throughout. bench/run times it.
+// I` spins in the thread, `handler N I` in a handler that does arithmetic, and `waiting N I` waits for an interrupt. With
+// `pended` behind it the interrupt 1 is not enabled, and pending throughout. bench/run times it.
 #![tactic(auto)]
 
 ghost use Rattle.std.specs.Prelude.{◌≡◌, ◌<◌, ◌^◌, IfSome};
@@ -19,14 +19,17 @@ use spin::spin;
 use std::alloc::Global;
 use std::env;
 
-const USAGE: &str =
-    "usage: bench_core thread STEPS INTERRUPTS [pended] | bench_core handler STEPS INTERRUPTS [pended]";
+const USAGE: &str = "usage: bench_core thread|handler|waiting STEPS INTERRUPTS [pended]";
 
-/// What spins.
+/// What a core does.
 #[derive(Clone, Copy)]
 enum Code {
+    /// The thread spins.
     Thread,
+    /// A handler spins.
     Handler,
+    /// The thread waits.
+    Waiting,
 }
 
 /// What is asked for.
@@ -38,11 +41,12 @@ struct Request {
     irqs: Irqs,
 }
 
-/// What spins, by its word.
+/// What a core does, by its word.
 fn code_of(word: &str) -> Option<Code> {
     match word {
         "thread" => Some(Code::Thread),
         "handler" => Some(Code::Handler),
+        "waiting" => Some(Code::Waiting),
         _ => None,
     }
 }
@@ -87,7 +91,7 @@ fn request_of(words: &[String]) -> Option<Request>
 fn image(alloc: Global, request: Request) -> Result<Image, NoMemory> {
     match request.code {
         Code::Thread => images::thread(alloc, request.irqs),
-        Code::Handler => images::handler(alloc, request.irqs),
+        Code::Handler | Code::Waiting => images::handler(alloc, request.irqs),
     }
 }
 
