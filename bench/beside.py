@@ -26,12 +26,14 @@ device 2 pend SLOW {0}
 device 3 pend FAST {0}
 step {1}
 """
-APPLICATION = """\
+HEAD = """\
 app bench(bits = 4);
 interrupts { SLOW = 3, FAST = 40 }
 shared { low = 1, high = 2 }
 local { turns = 0 }
-idle(shared = [low], local = [turns]) { lock low { turns = turns + low; } }
+"""
+IDLE = "idle(shared = [low], local = [turns]) { lock low { turns = turns + low; } }\n"
+TASKS = """\
 task slow(binds = SLOW, priority = 1, shared = [low, high]) {
     lock low {
         low = 1;
@@ -69,8 +71,9 @@ def end_of(output):
     return total, rows
 
 
-def measure_live(program, peer, folder, pends, steps):
-    app = write(folder, "app", APPLICATION)
+def measure_live(program, peer, folder, pends, steps, idle):
+    """Prints a line: the thread has this body, or waits where there is none."""
+    app = write(folder, "app", HEAD + idle + TASKS)
     script = write(folder, "script", DEVICES.format(pends, steps))
     listing = listing_of(program, folder, app)
     ours, plain = [program, "live", app, script], [peer, "live", listing, script]
@@ -78,7 +81,7 @@ def measure_live(program, peer, folder, pends, steps):
         sys.exit("beside.py: the peer's total or account is another one")
     seconds, other = processor(TURNS, ours, plain)
     print(
-        f"live, 4 devices of {pends} pends, {2 * steps} steps: {seconds * 1000:.0f} ms, "
+        f"live, {'busy' if idle else 'waiting'}, 4 devices of {pends} pends, {2 * steps} steps: {seconds * 1000:.0f} ms, "
         f"{seconds / other:.2f} times a plain program ({other * 1000:.0f} ms)"
     )
 
@@ -107,8 +110,9 @@ def measure_soak(program, peer, folder):
 
 
 def main(program, peer, folder):
-    measure_live(program, peer, folder, 10_000, 480_000)
-    measure_live(program, peer, folder, 100_000, 300_000)
+    measure_live(program, peer, folder, 10_000, 480_000, IDLE)
+    measure_live(program, peer, folder, 100_000, 300_000, IDLE)
+    measure_live(program, peer, folder, 10_000, 480_000, "")
     measure_soak(program, peer, folder)
 
 
