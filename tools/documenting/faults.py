@@ -137,6 +137,19 @@ def links_amiss(page):
             yield number, f"no heading {target}"
 
 
+def hops_amiss(page):
+    """Functions of a walk through the code, under a heading with `hop by hop`, that none of the files before calls."""
+    walks, files = False, []
+    for number, part in page.parts():
+        if part.startswith("#"):
+            walks, files = "hop by hop" in part, []
+        for name, path in PLACED.findall(part) if walks else ():
+            called = re.compile(rf"(?<!fn ){name}(?:::<[^()]*>)?\(")
+            if files and not any(called.search(tree.text_of(file)) for file in files):
+                yield number, f"no hop before it calls `{name}`"
+            files += tree.matching(path)
+
+
 def numbers_amiss(page):
     """Counts that are not those of the tree."""
     for number, line in enumerate(page.lines, 1):
@@ -161,7 +174,7 @@ def forms_amiss(page):
             yield 0, f"'{word}' {times} times, where {most} is the most"
 
 
-KINDS = (paths_amiss, names_amiss, lines_amiss, rows_amiss, links_amiss, numbers_amiss, forms_amiss)
+KINDS = (paths_amiss, names_amiss, lines_amiss, rows_amiss, links_amiss, hops_amiss, numbers_amiss, forms_amiss)
 
 
 def faults_of(page):

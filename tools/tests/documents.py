@@ -21,6 +21,8 @@ PLANTED = {
     "By `images_are_good` (`crates/rt_sim/src/laws.rt:1`) it holds.\n": "not 1",
     "By `images_are_bad` (`crates/rt_sim/src/laws.rt:1`) it holds.\n": "has no `images_are_bad`",
     "| Name | File | Words |\n|---|---|---|\n| `Good` | `rt_sim/specs/Guarded.antt` | no |\n": "is not declared in",
+    "## All, hop by hop\n\n1. `main` (`crates/rtic/src/main.rt`) begins.\n2. `parse` (`crates/rt_parse/src/text.rt`)"
+    " reads.\n": "no hop before it calls `parse`",
     "It has 3 crates.\n": "in the tree",
     "It has 3 wrong bodies.\n": "in the tree",
     "There are 3 files of definitions.\n": "in the tree",
