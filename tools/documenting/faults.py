@@ -19,6 +19,8 @@ MADE = {
 }
 ELSEWHERE = {"reschedule_at", "unsafe", "runtimepath", "IK"}
 OUTSIDE = re.compile(r"(?<![\w.])/(?:work|opt|tmp|home|root|usr)/\w|\bproxy\.|\bregistry\.|\bpypi\b")
+# what a reader has time for: pages of docs/, and their words with those of README
+MOST_PAGES, MOST_WORDS = 15, 42_000
 WIDTH, SPARED, WORDS_A_TIME = 120, {"stand": r"\bstand(?:s|ing)?\b", "behind": r"\bbehind\b"}, 300
 
 
@@ -180,6 +182,16 @@ KINDS = (paths_amiss, names_amiss, lines_amiss, rows_amiss, links_amiss, hops_am
 def faults_of(page):
     """All faults of a document, in the order of its lines."""
     return sorted({fault for kind in KINDS for fault in kind(page)})
+
+
+def too_much(pages):
+    """What README and the pages of docs/ have too much of, taken together."""
+    read = [page for page in pages if page.path == "README.md" or page.path.startswith("docs/")]
+    words, count = sum(len(page.text.split()) for page in read), len(read) - 1
+    if count > MOST_PAGES:
+        yield f"docs: {count} pages, where {MOST_PAGES} are the most"
+    if words > MOST_WORDS:
+        yield f"README and docs: {words} words, where {MOST_WORDS} are the most"
 
 
 def written(page):

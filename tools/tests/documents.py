@@ -7,7 +7,7 @@ TOOLS = os.path.dirname(os.path.dirname(os.path.abspath(__file__)))
 sys.dont_write_bytecode = True
 sys.path.insert(0, TOOLS)
 
-from documenting.faults import faults_of, written
+from documenting.faults import MOST_PAGES, MOST_WORDS, faults_of, too_much, written
 from documenting.page import Page
 
 COMMAND = os.path.join(TOOLS, "documents")
@@ -50,6 +50,9 @@ def main():
     wrong += "It has 3 files of definitions, and 3 lines of definitions.\n"
     if faults_of(Page("README.md", written(Page("README.md", wrong)))):
         faults.append("what `write` writes is not right")
+    many = [Page("README.md", "word " * MOST_WORDS), *(Page(f"docs/{number}.md", "") for number in range(MOST_PAGES))]
+    if list(too_much(many)) or len(list(too_much([*many, Page("docs/MORE.md", "word")]))) != 2:
+        faults.append("too many pages or words are not seen, or are seen where there are as many as may be")
     for fault in faults:
         print(f"documents: {fault}")
     print(f"documents: {len(PLANTED)} planted faults tried", flush=True)
