@@ -1,5 +1,5 @@
 """What is shown of the name or word under the cursor: its declaration, and the numbers of `check`."""
-from explaining.tree import CALLS, Call
+from explaining.tree import Call
 from explaining.tokens import Token
 
 from .sentences import TOLD

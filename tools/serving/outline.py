@@ -1,7 +1,7 @@
 """The symbols of a document, as an editor lists them: the declarations, and what is declared inside them."""
 
 # the kinds of the protocol
-MODULE, EVENT, VARIABLE, CONSTANT, FUNCTION, METHOD, OBJECT = 2, 24, 13, 14, 12, 6, 19
+MODULE, EVENT, VARIABLE, CONSTANT, FUNCTION, OBJECT = 2, 24, 13, 14, 12, 19
 
 
 def symbol(text, kind, detail, token, start=None, stop=None, children=()):

@@ -2,8 +2,6 @@
 import sys
 import traceback
 
-from explaining.tokens import WORDS
-
 from . import renaming
 from .answers import Asked
 from .completing import completions

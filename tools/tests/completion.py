@@ -17,7 +17,7 @@ COMPLETION = TOOLS.parent / "completion"
 sys.dont_write_bytecode = True
 sys.path.insert(0, str(TOOLS))
 
-from documenting.usage import ENDINGS, of_usage, part_of_help
+from documenting.usage import ENDINGS, of_usage
 
 FOLDER, OTHER = "sub", "text.c"
 OPTIONS = ["--help", "--version", "-h"]

@@ -10,7 +10,7 @@ from .history import History
 from .reading import read_file, read_output
 from .report import read_report
 from .summary import summary
-from .told import DONE, NOT_READ, NOT_WRITTEN, USAGE, Told
+from .told import DONE, NOT_WRITTEN, USAGE, Told
 
 USAGE_LINE = ("usage: view RUN [CHECK] [--html FILE | --vcd FILE | --wires FILE | --trace-events FILE |\n"
               "                         --text [STEPS]]\n"

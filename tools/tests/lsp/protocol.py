@@ -3,10 +3,9 @@ import json
 import os
 import random
 import signal
-import subprocess
 
 from client import LONGEST, Client, place
-from reading import ROOT, applied, cases, offset, place as place_in
+from reading import ROOT, applied, cases, place as place_in
 
 PARSE_ERROR, INVALID_REQUEST, METHOD_NOT_FOUND, INVALID_PARAMS = -32700, -32600, -32601, -32602
 NOT_INITIALIZED, CANCELLED = -32002, -32800
