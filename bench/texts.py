@@ -9,6 +9,10 @@
     python3 texts.py operands N          the same, with an operator in front of some of them
     python3 texts.py nested N            N blocks inside each other
     python3 texts.py statements N        a body of N statements
+    python3 texts.py locks N             N blocks inside each other, all but the first of locks, round the deepest
+                                         expression
+    python3 texts.py ways N              the same with locks, choices and loops in turn, in `init`, `idle` and handlers
+    python3 texts.py messages N          the same round messages whose values are the deepest expressions
 """
 
 import sys
@@ -106,6 +110,56 @@ def statements(count):
     return idle("let x = 0; " + "x = x + 1; " * (count - 1))
 
 
+def deepest(value="1"):
+    """An expression of the greatest depth, 16, with as many open parentheses as may be, 64."""
+    opened = "".join("(1 + " if number % 4 == 0 and number < 60 else "(" for number in range(64))
+    return f"{opened}{value}{')' * 64}"
+
+
+def inside(count, kinds, inner):
+    """A block with blocks inside each other, so many with itself, of these kinds in turn, and something in the last."""
+    opened = [kinds[number % len(kinds)].format(number) for number in range(count - 1)]
+    return "{ " + "".join(f"{form} {{ " for form in opened) + inner + " }" * count
+
+
+def resources(count):
+    """The names of so many resources, as a list declares them and as a body lists them."""
+    names = [f"r{number}" for number in range(count)]
+    return ", ".join(f"{name} = 0" for name in names), ", ".join(names)
+
+
+def handlers(count, kinds):
+    """An application with two handlers that share all that is locked in them."""
+    declared, listed = resources(count - 1)
+    deep = inside(count, kinds, f"emit {deepest()};")
+    tasks = "".join(f"task t{number}(binds = I{number}, priority = {number}, shared = [{listed}]) {deep}\n"
+                    for number in (1, 2))
+    return f"app bench(bits = 4); interrupts {{ I1 = 3, I2 = 5 }} shared {{ {declared} }}\n", deep, listed, tasks
+
+
+def locks(count):
+    head, _deep, _listed, tasks = handlers(count, ["lock r{0}"])
+    return head + tasks
+
+
+def ways(count):
+    head, deep, listed, tasks = handlers(count, ["lock r{0}", f"if {deepest('2')}", "for i{0} in 0..2"])
+    alone = inside(count, [f"if {deepest('3')}", "for i{0} in 0..2"], f"emit {deepest()};")
+    return f"{head}init {alone}\nidle(shared = [{listed}]) {deep}\n{tasks}"
+
+
+def messages(count):
+    declared, listed = resources(count - 1)
+    values = ", ".join(deepest(value) for value in "1234")
+    inner = (f"let h = spawn_after({deepest()}) late({values}); let y = cancel late({deepest()}); "
+             f"let x = reschedule_after({deepest()}) late({deepest()}); let z = spawn late({values});")
+    body = inside(count, ["lock r{0}", f"if {deepest('2')}", "for i{0} in 0..2"], inner)
+    return (f"app bench(bits = 4, dispatchers = [I2]); interrupts {{ I1 = 3, I2 = 5, I3 = 7 }}\n"
+            f"monotonic(binds = I3, priority = 3); shared {{ {declared} }}\n"
+            f"task early(binds = I1, priority = 2, shared = [{listed}]) {body}\n"
+            f"task late(priority = 1, capacity = 2, shared = [{listed}]) with a, b, c, d {body}\n")
+
+
 if __name__ == "__main__":
-    kinds = [natural, hardware, dense, variables, parentheses, operands, nested, statements]
+    kinds = [natural, hardware, dense, variables, parentheses, operands, nested, statements, locks, ways, messages]
     sys.stdout.write({kind.__name__: kind for kind in kinds}[sys.argv[1]](int(sys.argv[2])))
