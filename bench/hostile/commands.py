@@ -125,6 +125,11 @@ def fixed(output):
     return kept
 
 
+def named(words, commands):
+    """Those of some commands that have one of these words; all, where none is given."""
+    return [command for command in commands if not words or command.word in words]
+
+
 def built(starter, chosen=COMMANDS):
     """The commands that the program knows, ready, and the words of the others."""
     ready = [Ready(command, starter) for command in chosen]

@@ -78,9 +78,9 @@ def least_for_usage(starter):
     return high
 
 
-def sweep_space(starter, told):
+def sweep_space(starter, told, chosen=LARGE):
     """The address space of each command on a large application, from the least at which the usage line is written."""
-    commands, _unknown = built(starter, LARGE)
+    commands, _unknown = built(starter, chosen)
     least = least_for_usage(starter)
     told.says(f"address space: the usage line needs {least} KiB")
     for ready in commands:

@@ -35,7 +35,9 @@ def reads(reader, count, kept):
 
 def closed_later(commands, starter, told):
     """A pipe that is closed after so many bytes of a long run: what was taken is a beginning of the output."""
-    run = next(ready for ready in commands if ready.command.word == "run")
+    run = next((ready for ready in commands if ready.command.word == "run"), None)
+    if not run:
+        return
     words = ["run", run.words[1], starter.write("long", LONG)]
     whole = starter.ended(words)
     for count in TAKEN:

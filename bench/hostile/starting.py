@@ -159,6 +159,19 @@ class Reads(Preloaded):
         return ended, reads, before
 
 
+class Writes(Preloaded):
+    """Writes of standard output, which move so many bytes at most; one of them fails."""
+
+    def __init__(self, starter):
+        super().__init__(starter, "writes", "WRITES", 3)
+
+    def ended(self, words, most, number=0):
+        """Starts the program while each write moves `most` bytes at most, where that is not 0, and the one of a number,
+        from 1, fails; answers how it ended, and how many writes there were."""
+        ended, (_most, _number, writes) = self.started(words, most, number)
+        return ended, writes
+
+
 class Told:
     """What is said, and how many differences."""
 

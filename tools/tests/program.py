@@ -1,11 +1,11 @@
 #!/usr/bin/env python3
 """Runs the program itself with words, files and standard output: rows of the tables of commands, words that are no
-text, texts and an output that fail, reads and memory that a library in front of the C library's disturbs, and each
-command in little stack.
+text, texts and an output that fail, reads, writes and memory that a library in front of the C library's disturbs, and
+each command in little stack.
 
 The program is the one that the other tests of the tools try: that of RTIC, or the proved one where ./build or the gate
-has made it; without one nothing is run, and without gcc no read or growth is disturbed, and this says so. The parts are
-those of bench/faults, which goes through all growths, and through texts made by chance."""
+has made it; without one nothing is run, and without gcc no read, write or growth is disturbed, and this says so. The
+parts are those of bench/faults, which goes through all growths, and through texts made by chance."""
 import os
 import shutil
 import sys
@@ -19,6 +19,7 @@ import memory
 import outside
 import reads
 import tables
+import writes
 from explaining.program import asked_program
 from starting import Growths, Starter, Told, with_little_stack
 
@@ -65,9 +66,10 @@ def try_all(starter, told):
     if shutil.which("gcc"):
         no_memory(known, starter, told)
         reads.disturb_all(known, starter, told)
+        writes.disturb_all(known, starter, told)
         missing += unseen(starter, DISTURBED)
     else:
-        told.says("program: skipped in part: gcc is not there, so no read and no growth is disturbed")
+        told.says("program: skipped in part: gcc is not there, so no read, write or growth is disturbed")
     if unknown or missing:
         told.differs(f"commands that are not known: {unknown}; statuses that were not seen: {missing}")
 
