@@ -29,6 +29,8 @@ def image_line(number, lines, line, front, ended, size, table):
         said.cause = "words are separated by one space, with none before the first or after the last"
     elif number == 2 and (cause := rows.cause_of(lines, line, ended)):
         said.cause, said.helps = cause[0], list(cause[1:])
+        if meant := rows.meant(source):
+            said.helps.insert(0, f"write `{meant}`")
     return said
 
 

@@ -1,7 +1,7 @@
 """Refused lines of limits texts: which word, and what is due."""
 import re
 
-from .scripts import HASH, NUMERAL, Line, similar, words_with_places
+from .scripts import HASH, NUMERAL, Line, similar, words_with_places, write
 from .table import Phrase
 
 NAME = re.compile(r"[A-Za-z_][A-Za-z0-9_]*")
@@ -18,6 +18,7 @@ def limits_line(app, number, source, lines, size, table):
         unknown(app, said, words[1], table)
     else:
         bad_line(said, words, lines, table)
+        write(said, ("every I N",), {"I": [task.binds.text for task in app.tasks if task.binds]})
     if said.cause is None:
         said.cause, said.helps = table.cause("limits 2"), [table.mending("limits 2")]
     return said

@@ -5,6 +5,7 @@ The forms are those of docs/LANGUAGE.md, "Listings", and docs/MACHINE.md, "Instr
 import re
 
 from .listing import OPERATIONS
+from .meant import ANY, line_of
 from .tokens import nearest
 
 ORDER = ("image", "cell", "irq", "body", "code")
@@ -40,6 +41,16 @@ def cause_of(lines, line, ended):
         return other_line(source, words[0])
     found = out_of_place(lines[: line - 1], words) or ill_formed(source, words)
     return found or (None if ended or line < len(lines) else ("the last line lacks its line feed",))
+
+
+def meant(source):
+    """The line of a form that was meant by one of none, or None; its note stays as it is."""
+    front, mark, note = source.partition(";")
+    forms = [f"{word} {form}" for word in FORMS for form in FORMS[word] if word != "image"]
+    if "code" in source:
+        forms = [f"code N {word} {form}".strip() for word, form in INSTRUCTIONS.items()]
+    found = line_of(front.strip(), forms, {"NAME": ANY, "T": ANY, "I": ANY})
+    return f"{found} ;{note}" if found and mark and note.startswith(" ") else found
 
 
 def of_kind(lines, word):

@@ -2,6 +2,7 @@
 import difflib
 import re
 
+from .meant import line_of
 from .table import Phrase
 
 FORMS = {
@@ -18,6 +19,7 @@ NUMERAL = re.compile(r"[0-9]+")
 SECTION = re.compile(r"(free|ready|timer)\.")
 WORDS = ("step", "tick", "pend", "device")
 NUMBERS = ("V", "H", "DEPTH", "K")
+LINES = ("step N", "tick N", "pend I", "pend I N", "device DEVICE pend I", "device DEVICE pend I N")
 ROWS = ("image", "cell", "irq", "body", "code")
 
 
@@ -61,6 +63,7 @@ def script_line(app, number, source, lines, size, table):
         said.helps = [table.mending("script 1")]
     elif number == 2:
         bad_line(app, said, words, table)
+        write(said, LINES, {"I": [row[0].text for row in app.interrupts]})
     elif number == 3:
         unknown_interrupt(app, said, words[words.index("pend") + 1], table)
     elif number == 4:
@@ -71,6 +74,13 @@ def script_line(app, number, source, lines, size, table):
         said.at(words[1], table.cause("script 5", A=Phrase(words[1])))
         said.helps = [table.mending("script 5")]
     return said
+
+
+def write(said, forms, names):
+    """The line that was meant comes first of the helps, where it is known."""
+    if meant := line_of(said.source, forms, names):
+        said.helps = [f"write `{meant}`"] + [one for one in said.helps if one != f"write `{meant}`"
+                                             and not one.endswith("write a line for each")]
 
 
 def events_of(line):
@@ -196,7 +206,31 @@ def trace_line(app, number, source, lines, line, table):
         unknown_in_trace(app, said, source.split(" "), table)
     else:
         bad_item(app, said, lines, line, table)
+        if not any(re.fullmatch(r"total \d+", one) for one in lines[: line - 1]):
+            write(said, items(), names_in(app))
     return said
+
+
+def names_in(app):
+    """The names that stand for the letters of a trace's forms."""
+    software = [task.name.text for task in app.tasks if task.is_software]
+    sections = [row[0].text for row in app.shared] + [f"free.{name}" for name in software]
+    sections += [f"ready.{level}" for level in app.levels()] + ["timer.0"] * bool(app.monotonic)
+    bodies = [task.name.text for task in app.tasks if not task.is_software]
+    ended = software + bodies + ["init", "idle"]
+    return {"I": [row[0].text for row in app.interrupts], "T": software, "X": sections, "E": ended}
+
+
+def items():
+    """The forms of a trace's lines, with their numbers of values."""
+    for word, form in FORMS.items():
+        if word == "start":
+            yield from (f"N start T{' V' * count}" for count in range(5))
+        elif word == "leave":
+            yield from ("N leave X", "N leave X V")
+        else:
+            yield f"N {word} {'E' if word == 'end' else form}".strip()
+    yield "total N"
 
 
 def bad_item(app, said, lines, line, table):
