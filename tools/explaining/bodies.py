@@ -103,15 +103,15 @@ def split_name(syntax, found):
         whole = f"{syntax.token.text}_{behind[1]}"
     elif last and (behind := re.match(rf"{PARTED}([A-Za-z]\w*)", syntax.text[syntax.at :], re.ASCII)):
         whole = f"{last.text}_{behind[1]}" if f"{last.text}_{behind[1]}" in WORDS else whole
-    if whole in WORDS:
-        return f"`{whole}` is one word"
+    joined = "".join(token.text for token in syntax.rest[:2])
+    if whole in WORDS or joined in found:
+        return f"`{whole if whole in WORDS else joined}` is one word"
     if last is None or last.kind not in ("name", "word") or syntax.token.kind not in ("name", "word", "number"):
         return None
-    named, tokens = syntax.named, syntax.front + syntax.rest
-    names = {behind.text for token, behind in zip(tokens, tokens[1:]) if token.text in ("let", "with", "for")}
-    names |= {*named.tasks, *named.interrupts, *named.resources, *WORDS}
+    tokens = syntax.front + syntax.rest
+    names = {behind.text for token, behind in zip(tokens, tokens[1:]) if behind.kind == "name" and token.text != "app"}
     whole = [last.text + sign + syntax.token.text for sign in ("", "_")]
-    return next((f"`{name}` is one word" for name in whole if name in names), None)
+    return next((f"`{name}` is one word" for name in whole if name in names | WORDS), None)
 
 
 def no_let(syntax):

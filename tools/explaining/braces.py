@@ -21,6 +21,8 @@ def unclosed(syntax, found):
         return None
     first, word = opened[-1], syntax.token.text
     line = place_of(syntax.text, first.at)[0]
+    if word in ("shared", "local") and is_balanced(syntax):
+        return f"`{word} {{ .. }}` comes before all bodies, and a body lists what it uses in its head: `{word} = [..]`"
     if word in BODIES and is_balanced(syntax):
         return f"`{word}` comes outside all other bodies: close the `{first.text}` of line {line} before it"
     told = f"the `{first.text}` of line {line} is not closed"

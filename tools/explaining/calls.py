@@ -6,6 +6,8 @@ from .tokens import between, nearest
 CALL_WORDS = ("spawn", "spawn_after", "cancel", "reschedule_after", "emit", "pend", "lock")
 NO_WORDS = ("spawn_at", "reschedule_at", "unlock", "unpend", "clock")
 WITHDRAWS = ("unpend", "clear", "unset")
+STARTS = re.compile(r"send|put|post|push|give|notify|signal|queue|start|run|call|wake|resume|trigger|pend|raise", re.I)
+ENDS = re.compile(r"stop|cancel|abort|kill|withdraw|clear|suspend|delete", re.I)
 NEARLY, SURELY = 0.75, 0.85
 FEW = 4
 
@@ -89,9 +91,45 @@ def called(syntax, found):
         return f"`{name}` is a hardware task: `pend {interrupt};` makes it run"
     values = ".." if syntax.token.text == "(" and syntax.rest[1:2] and syntax.rest[1].text != ")" else ""
     if first[-1:] in ([";"], ["{"], ["}"]):
-        return f"`{name}` is a task: `spawn {name}({values});` sends it a message"
+        withdrawn = f", and `cancel {name}(h);` withdraws one" * (name in syntax.named.armed)
+        return f"`{name}` is a task: `spawn {name}({values});` sends it a message{withdrawn}"
     answer = first[1] if first[:1] == ["let"] and first[2:] == ["="] else "sent"
     return f"`{name}` is a task: `let {answer} = spawn {name}({values});` sends it a message"
+
+
+def sent_by_sign(syntax, found):
+    """A task with a sign behind it that sends in other languages: `t <- a`, `t << a`, `t ! a`; or with a method."""
+    if len(syntax.front) < 2 or syntax.front[-2].text not in (";", "{", "}", "=") or syntax.front[-1].kind != "name":
+        return None
+    name, method = syntax.front[-1].text, re.match(r"\. ([A-Za-z_]\w*) \(", syntax.behind)
+    if name not in syntax.named.tasks or not re.match(r"< -|<<|! \w", syntax.behind) and not method:
+        return None
+    interrupt = syntax.named.tasks[name]
+    if method and (method[1] in CALL_WORDS or interrupt and not STARTS.search(method[1])):
+        return None
+    if interrupt:
+        return f"`{name}` is a hardware task: `pend {interrupt};` makes it run"
+    if method and ENDS.search(method[1]):
+        return f"`{name}` is a task: `cancel {name}(h);` withdraws its message with the handle h"
+    return f"`{name}` is a task: `spawn {name}(..);` sends it a message"
+
+
+def is_known(syntax, name):
+    """Whether a resource, a task, or a variable or an argument before the place has this name."""
+    rows = zip(syntax.front, syntax.front[1:])
+    own = {behind.text for token, behind in rows if token.text in ("let", "with", "for", ",")}
+    return name in own or name in syntax.named.resources or name in syntax.named.tasks
+
+
+def method(syntax):
+    """A method of what is one number, or of what is nothing here."""
+    found = re.match(r"\. ([A-Za-z_]\w*) \(", syntax.behind)
+    if not found or not syntax.front or syntax.front[-1].kind not in ("name", "number"):
+        return None
+    name = syntax.front[-1].text
+    if syntax.front[-1].kind == "name" and not is_known(syntax, name):
+        return f"nothing is called `{name}` here, and there are no methods: a body has numbers, and `emit N;` shows one"
+    return f"there are no methods: `{name}` is one number, and what `{found[1]}` calculates is written out"
 
 
 def unknown_word(syntax, found):
@@ -100,6 +138,8 @@ def unknown_word(syntax, found):
         return None
     word, name = syntax.front[-1].text.lower(), syntax.token.text
     behind = syntax.rest[1].text if len(syntax.rest) > 1 else ""
+    if name in syntax.named.software and behind == "(" and (ENDS.search(word) or word in ("del", "drop", "remove")):
+        return f"`{name}` is a task: `cancel {name}(h);` withdraws its message with the handle h"
     if name in syntax.named.software and behind == "(" and not nearest(word, ("spawn", "cancel"), SURELY):
         return f"`{name}` is a task: `spawn {name}(..);` sends it a message"
     if name in syntax.named.interrupts and behind in (";", "}") and word not in WITHDRAWS and not nearest(
@@ -119,5 +159,8 @@ def nearly(syntax, found):
     if word in syntax.named.tasks or word in NO_WORDS:
         return None
     words = CALL_WORDS if first != "=" else CALL_WORDS[:4]
+    for one in ("spawn", "cancel"):
+        if word.removeprefix(one) in syntax.named.tasks:
+            return f"a blank comes between two words: `{one} {word.removeprefix(one)}`"
     near = nearest(word.lower(), words, NEARLY)
     return f"`{word}` is no word of the language: `{near}` is" if near else None

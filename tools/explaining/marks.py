@@ -124,6 +124,12 @@ def no_operand(syntax, found):
     return None
 
 
+def cut_off(syntax, found):
+    """An operator, and behind it the end of the expression."""
+    is_end = syntax.token.text in (";", ")", "{", "}", ",", "]")
+    return left_out(syntax, found) if is_end and syntax.front and syntax.front[-1].text in OPERATORS else None
+
+
 def left_out(syntax, found):
     """A value or a name that is missing between two signs or words."""
     if not syntax.front:
@@ -133,13 +139,14 @@ def left_out(syntax, found):
         return f"a number is due here, and `{syntax.token.text}` is a name"
     if syntax.token.kind not in ("sign", "end"):
         return None
-    if syntax.token.text == "=" and "let" in found:
+    if syntax.token.text == "=" and "a name" in found and len(found) > 1 and "a number" not in found:
         return "a name is missing before `=`"
     if {"a name", "a number", "("} <= found and "let" not in found:
         return f"a value is missing between `{before}` and `{syntax.token.text}`" if syntax.token.text else None
     if found == {"a number"}:
         return f"a number is missing after `{before}`"
-    return f"a name is missing after `{before}`" if found == {"a name"} and syntax.token.text == "=" else None
+    is_end = syntax.token.text in ("=", ";", ",", ")", "]", "{", "}")
+    return f"a name is missing after `{before}`" if found == {"a name"} and is_end else None
 
 
 def no_statement(syntax, found):
@@ -156,13 +163,16 @@ def no_statement(syntax, found):
 
 
 def ended_early(syntax, found):
-    """A statement where the body has ended, because a brace too many closes it."""
+    """A statement where no body is open, because a brace too many closes it, or the head of a body is missing."""
     if syntax.depth or "task" not in found or not syntax.front or syntax.front[-1].text != "}":
+        return None
+    texts = [token.text for token in syntax.front + syntax.rest]
+    if texts.count("}") <= texts.count("{"):
         return None
     behind = syntax.rest[1].text if len(syntax.rest) > 1 else ""
     if syntax.token.text in ("let", "if", "for", "lock", "emit", "pend", "spawn") or behind == "=":
         line = place_of(syntax.text, syntax.front[-1].at)[0]
-        return f"the body ends with the `}}` of line {line}: a `}}` before it is one too many"
+        return f"no body is open here: a `}}` of line {line} or before is one too many, or a head is missing"
     return None
 
 
@@ -184,9 +194,8 @@ def no_operator(syntax, found):
 
 
 def unopened(syntax, found):
-    """A parenthesis that closes none, with more of the expression after it."""
-    behind = syntax.rest[1].text if len(syntax.rest) > 1 else ""
-    if syntax.token.text == ")" and "+" in found and behind in OPERATORS:
+    """A parenthesis that closes none, behind an expression."""
+    if syntax.token.text == ")" and "+" in found and ")" not in found:
         return "this `)` has no `(`: one is missing before it, or it is one too many"
     return None
 
@@ -248,7 +257,7 @@ def pasted(syntax, found):
 def prose(syntax, found):
     """A line of words without signs, where a declaration or a statement is due: a comment that has no mark."""
     at = syntax.at
-    if "task" in found and re.match(r"\{[^;={}()]*\}|\(\*", syntax.text[at:]):
+    if "task" in found and re.match(r"\{[^;={}()]*[A-Za-z][^;={}()]*\}|\(\*", syntax.text[at:]):
         return COMMENT
     if found == {"="} and syntax.begins_line:
         at = syntax.front[-1].at
@@ -258,7 +267,7 @@ def prose(syntax, found):
     line = syntax.text[at:].split("\n", 1)[0].strip("; \t\r").removesuffix("//").strip()
     if syntax.text[start:at].strip() or not re.fullmatch(r"[A-Za-z][A-Za-z0-9 ,.'-]*", line):
         return None
-    return COMMENT if len(line.split()) >= WORDS_OF_PROSE else None
+    return COMMENT if len(re.findall(r"[A-Za-z]+", line)) >= WORDS_OF_PROSE else None
 
 
 def in_brackets(syntax, found):

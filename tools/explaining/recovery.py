@@ -9,9 +9,10 @@ import re
 
 from .pieces import STARTS, pieces_of
 from .refusals import refusal_of
-from .texts import PUT, sign_at
+from .signs import sign_at
 from .tokens import WORDS, Token, tokens_of
 
+PUT = (";", ",", ")", "]", "}", "{", "=", "(")
 OTHERS = ("==", "=", ",", ";", "..", "0", "!=")
 ENDS = ("{", "}", ";")
 MOST_IN_A_PIECE = 4
@@ -98,7 +99,7 @@ class Recovery:
             size = sign_at(self.patched.text, at)[1]
             blank = re.compile(r"\s|$").search(self.patched.text, at).start()
             return [[(at, at + size, "")], [(at, at + size, "=")], [(at, blank, "")]]
-        ways = [[(at, at, f"{sign} ")] for sign in PUT + ["z0", "0", "= 0"]]
+        ways = [[(at, at, f"{sign} ")] for sign in (*PUT, "z0", "0", "= 0")]
         if token.kind == "end" or any(one.start == at for one in self.pieces):
             return ways
         near = difflib.get_close_matches(token.text.lower(), sorted(WORDS), 2, NEARLY) if token.kind == "name" else []

@@ -42,7 +42,7 @@ class Telling:
             self.report.picture(text, at, 1)
             self.report.sentences([("cause", cause), ("help", mending)])
         elif number == 2:
-            label, mending, length = texts.foreign(texts.Syntax(text, at), self.table)
+            label, mending, length = texts.foreign(texts.Syntax(text, at), self.program, self.table)
             self.report.picture(text, at, length, label)
             self.report.say("help", mending)
         elif number == 3:

@@ -3,16 +3,22 @@ import functools
 import re
 
 from .bodies import endless, handed, no_let, other_option, outside, split_name, values_in_head
-from .calls import Named, called, nearly, unknown_word, without_handle, without_task
-from .habits import FOREIGN, SYNTAX, looked_up
-from .marks import comma_for_end, ended_early, glued, grouped, in_brackets, last_comma, left_out, lettered, lone_number
-from .marks import merge_marks, no_comma, no_operand, no_operator, no_statement, open_parentheses, other_end, pasted
-from .marks import prose, stroke, typed, unclosed_list, unnamed_option, unopened
 from .braces import unclosed
+from .calls import Named, called, is_known, method, nearly, sent_by_sign, unknown_word
+from .calls import without_handle, without_task
+from .expected import may_stand
+from .foreign import FOREIGN, FOREIGN_GUESSES
+from .habits import GLUED, GUESSES, OTHER_TEXTS, SYNTAX, VALUES, looked_up
+from .heads import lone_block, named_otherwise, no_item, outside_head, spawned_nothing, typed_values
+from .heads import without_parentheses
+from .marks import comma_for_end, cut_off, ended_early, glued, grouped, in_brackets, last_comma, left_out, lettered
+from .marks import lone_number, merge_marks, no_comma, no_operand, no_operator, no_statement, open_parentheses
+from .marks import other_end, pasted, prose, stroke, typed, unclosed_list, unnamed_option, unopened
+from .mending import TAKEN, Mending
 from .pieces import pieces_of
 from .signs import is_hidden, sign_at, sign_help
 from .table import Phrase
-from .tokens import WORDS, Token, nearest, offset_of, place_of, skipped_bytes, tokens_of
+from .tokens import NAME, WORDS, Token, nearest, place_of, skipped_bytes, tokens_of
 
 AROUND = 400
 DIGITS = 30
@@ -35,7 +41,6 @@ FORMS = {
     "spawn": "`spawn t(a, b);`", "spawn_after": "`spawn_after(100) t(a, b);`", "cancel": "`cancel t(h);`",
     "reschedule_after": "`reschedule_after(100) t(h);`",
 }
-PUT = [";", ",", ")", "]", "}", "{", "=", "("]
 ORDER = (
     "the declarations come in this order: `app`, `interrupts`, `monotonic`, `shared`, `local`, `init`, `idle`, tasks"
 )
@@ -78,6 +83,11 @@ class Syntax:
         start = self.text.rfind("\n", 0, self.front[-1].at) + 1
         return not self.text[start : self.front[-1].at].strip()
 
+    @property
+    def is_glued(self):
+        """Whether a name begins at the place, directly behind a number."""
+        return bool(self.front) and self.front[-1].kind == "number" and self.front[-1].end == self.at
+
     @functools.cached_property
     def rest(self):
         """The tokens from the place on."""
@@ -92,44 +102,44 @@ class Syntax:
 def too_long(text, table):
     """The cause and the mending of a text that is too long."""
     cause = table.cause("E01", A=Phrase(f"{len(text):,}"))
-    sentence = looked_up(SYNTAX[:3], "", " ".join(token.text for token in list(tokens_of(text[:AROUND]))[:2]))
+    sentence = looked_up(OTHER_TEXTS, "", " ".join(token.text for token in list(tokens_of(text[:AROUND]))[:2]))
     return cause, sentence or table.mending("E01", M=Phrase(f"{skipped_bytes(text):,}"))
 
 
-def foreign(syntax, table):
+def foreign(syntax, program, table):
     """The label, the help and the length of a byte that no token begins with."""
     sign, size = sign_at(syntax.text, syntax.at)
     if sign is None or sign < " " or sign == "\x7f":
         return f"no token begins with the byte {ord(syntax.text[syntax.at])}", table.mending("E02"), 1
     label = f"no token begins with {f'U+{ord(sign):04X}' if is_hidden(sign) else f'`{sign}`'}"
-    return label, foreign_help(sign, syntax, size, table), size
+    return label, foreign_help(sign, syntax, size, program, table), size
 
 
-def foreign_help(sign, syntax, size, table):
+def foreign_help(sign, syntax, size, program, table):
     """How to mend a byte that no token begins with."""
     help_ = pasted(syntax, None) or sign_help(sign, syntax, size) or no_let(syntax)
-    return help_ or looked_up(FOREIGN, syntax.before, syntax.behind) or table.mending("E02")
+    help_ = help_ or sent_by_sign(syntax, None) or looked_up(FOREIGN, syntax.before, syntax.behind) or method(syntax)
+    if not help_ and size == 1 and program.answers:
+        found = may_stand(program, syntax.text[: syntax.at]) or set()
+        mending = Mending(syntax, found, program)
+        help_ = mending.slip(syntax, found) or sign == ":" and mending.whole(syntax, found)
+    return help_ or looked_up(FOREIGN_GUESSES, syntax.before, syntax.behind) or table.mending("E02")
 
 
 def syntax_help(syntax, found, program, table):
     """How to mend a fault of syntax: a habit, a sign that is missing, or a change that makes `fmt` take the text."""
-    help_ = None
-    for one in (without_task, without_handle, called, unknown_word, nearly):
-        help_ = help_ or one(syntax, found)
-    for one in (again, pasted, merge_marks, unclosed_list, stroke, grouped, unopened, lettered, unnamed_option,
-                values_in_head, endless, handed, other_option, lone_number, prose, comma_for_end):
-        help_ = help_ or one(syntax, found)
-    help_ = help_ or looked_up(SYNTAX, syntax.before, syntax.behind)
-    for one in (returns, unclosed, split_name, misspelt, declared, twice, no_comma, missing, no_name, chained,
-                no_interrupts, last_comma, open_parentheses):
-        help_ = help_ or one(syntax, found)
-    for one in (glued, typed, in_brackets, no_operand, no_operator, ended_early):
-        help_ = help_ or one(syntax, found)
-    if not help_ and found:
-        help_ = repaired(syntax, found, program)
-    for one in (other_end, left_out, no_statement, outside, form):
-        help_ = help_ or one(syntax, found)
-    return help_
+    mending = Mending(syntax, found, program)
+    ways = [*OF_CALLS, *OF_MARKS, *[habits_of(GLUED)] * syntax.is_glued, habits_of(SYNTAX)]
+    ways += [*[habits_of(VALUES)] * syntax.in_body, *OF_PLACE]
+    if found:
+        ways += [functools.partial(one, mending) for one in (missing, other_type, no_end, no_first)] + [mending.slip]
+    ways += [habits_of(GUESSES), *IN_DOUBT] + [mending.rest] * bool(found) + [*LAST]
+    return next(filter(None, (way(syntax, found) for way in ways)), None)
+
+
+def habits_of(rows):
+    """What the first row of a table says that fits."""
+    return lambda syntax, found: looked_up(rows, syntax.before, syntax.behind)
 
 
 def form(syntax, found):
@@ -159,11 +169,26 @@ def misspelt(syntax, found):
         name, words = syntax.front[-1], STATEMENTS + ("else",) * (first == "}")
         if not syntax.in_body or first not in (";", "{", "}"):
             words = ("lock_free",) if not syntax.in_body else ()
-    if name.kind != "name":
+    if name.kind != "name" or syntax.in_body and name is not syntax.token and is_known(syntax, name.text):
+        return None
+    if glue := grown(syntax, name.text, words):
+        return glue
+    is_assigned = len(syntax.rest) > 1 and syntax.rest[1].text == "=" and is_known(syntax, syntax.token.text)
+    if found == {"="} and syntax.in_body and is_assigned:
         return None
     ratio = OF_ONE if len(found) == 1 and len(name.text) >= SHORT else OF_MANY
     near = nearest(name.text.lower(), words, ratio)
     return f"`{name.text}` is no word of the language: `{near}` is" if near else None
+
+
+def grown(syntax, name, words):
+    """A word of the language and a name behind it without a blank."""
+    known = {*syntax.named.tasks, *syntax.named.interrupts, *syntax.named.resources}
+    for word in words:
+        rest = name.removeprefix(word)
+        if rest != name and (rest in known or word == "task" and NAME.fullmatch(rest) and len(rest) >= SHORT):
+            return f"a blank comes between two words: `{word} {rest}`"
+    return None
 
 
 def declared(syntax, found):
@@ -190,18 +215,43 @@ def twice(syntax, found):
     return None
 
 
-def missing(syntax, found):
+def missing(mending, syntax, found):
     """A semicolon that is forgotten: what comes begins a line, or a statement, or ends the block."""
     if ";" not in found or not syntax.front or syntax.token.kind not in ("word", "name", "sign"):
         return None
+    best = mending.rows[0][1] if mending.rows else None
+    if best == TAKEN and not mending.takes(";", TAKEN):
+        return None
     last = syntax.front[-1]
     new_line = "\n" in syntax.text[last.end : syntax.at]
+    if not mending.takes(";") and not new_line and syntax.token.text in CALLS:
+        return None
     if syntax.token.kind == "word" or syntax.token.text == "}" or new_line and syntax.token.kind == "name":
         line, between = place_of(syntax.text, last.at)[0], syntax.text[last.end : syntax.at]
         comment = between.split("\n", 1)[0].strip().startswith("//") and ";" in between
         hidden = "; what follows `//` is a comment" * comment
         return f"a `;` is missing after `{last.text}` in line {line}{hidden}"
     return None
+
+
+def other_type(mending, syntax, found):
+    """A type, or another word, before the name of a row, without which the program takes the text."""
+    told = typed(syntax, found)
+    return told if told and mending.takes_without(syntax.front[-1]) else None
+
+
+def no_end(mending, syntax, found):
+    """An operator, and behind it the end of the expression, which is not one sign too much."""
+    told = cut_off(syntax, found)
+    return told if told and not mending.takes_less() else None
+
+
+def no_first(mending, syntax, found):
+    """An operator where an expression begins, which the program takes the text without."""
+    before, sign = syntax.front[-1].text if syntax.front else "", syntax.token.text
+    if not no_operand(syntax, found) or not mending.rows or not mending.rows[0][0].told == f"with `{sign}` taken out":
+        return None
+    return f"a value is missing between `{before}` and `{sign}`, or `{sign}` is one too many"
 
 
 def again(syntax, found):
@@ -216,6 +266,8 @@ def no_name(syntax, found):
     if "a name" not in found or {"let", "("} & found:
         return None
     behind = syntax.rest[1].text if len(syntax.rest) > 1 else ""
+    if syntax.token.text == "in" and syntax.front[-1].text == "for":
+        return "a name is missing after `for`: a loop is `for i in 0..8 { .. }`"
     if syntax.token.kind == "word" and syntax.front[-1].text == "let" and behind != "=":
         value = f": `let x = {syntax.token.text} ..;`" if syntax.token.text in CALLS + ("now",) else ""
         return f"a name is missing after `let`{value}"
@@ -233,46 +285,12 @@ def chained(syntax, found):
 
 
 def no_interrupts(syntax, found):
-    if found == {"app"} and syntax.token.kind == "name":
+    if found == {"app"} and syntax.token.kind == "name" and [token.text for token in syntax.rest[1:2]] != ["app"]:
         return "the first declaration is `app a(bits = 4);`, with the name of the application"
     if found == {"interrupts"} and any(token.text == "interrupts" for token in syntax.rest):
         return ORDER if syntax.token.text in DECLARED else None
     if found == {"interrupts"}:
         return "each application declares its interrupts, `interrupts {}` where it has none"
-    return None
-
-
-def refused_then(syntax, text, output):
-    """What is said of a change after which a rule is broken: of an unknown name, or in the declaration or the task."""
-    found = re.match(r"(\d+):(\d+) (E\d\d [^\n]*)", output)
-    if not found:
-        return ""
-    at = offset_of(text, int(found[1]), int(found[2]))
-    piece = next(piece for piece in reversed(pieces_of(text)) if piece.start <= at)
-    is_near = piece.start <= syntax.at < piece.stop or found[3].startswith("E05")
-    return f", and then line {found[1]} is refused: {found[3]}" * is_near
-
-
-def repaired(syntax, found, program):
-    """One sign put in or the token taken out, where the whole text is then one of the grammar; or where the declaration
-    or the task is read then, and the next refusal is in another one."""
-    front, rest = syntax.text[: syntax.at], syntax.text[syntax.at :]
-    put = [sign for sign in PUT if sign in found and (sign != "=" or not syntax.begins_unknown)]
-    texts = [f"{front}{sign} {rest}" for sign in put]
-    if syntax.token.kind != "end":
-        texts.append(f"{front} {syntax.text[syntax.token.end :]}")
-    told_ways = [f"with `{sign}` put before it" for sign in put] + [f"with `{syntax.token.text}` taken out"]
-    answers = program.formats(texts)
-    read = [(told_way, text) for told_way, text, (status, _) in zip(told_ways, texts, answers) if status == 0]
-    judged = [(told_way, text, *program.ask("check", program.file("repaired", text))) for told_way, text in read]
-    if judged:
-        told_way, text, _, output = min(judged, key=lambda row: row[2])
-        return f"{told_way} the whole text is read{refused_then(syntax, text, output)}"
-    stop = next((piece.stop for piece in pieces_of(syntax.text) if piece.start <= syntax.at < piece.stop), 0)
-    for told_way, text, (_, output) in zip(told_ways, texts, answers):
-        line, column = (int(word) for word in re.match(r"(\d+):(\d+) ", output).groups())
-        if offset_of(text, line, column) > stop + len(text) - len(syntax.text):
-            return f"{told_way} the text is read as far as line {line}"
     return None
 
 
@@ -288,3 +306,19 @@ def limit(syntax, which, table):
     else:
         number = len(token.text) if which == "name" else token.value if token.kind == "number" else 0
     return table.cause(f"E04 {which}", A=Phrase(f"{number:,}")), table.mending(f"E04 {which}")
+
+
+# The ways to help, in the order in which they are asked. What begins a call, and marks that are other ones:
+OF_CALLS = (without_task, without_handle, called, sent_by_sign, unknown_word, nearly, spawned_nothing)
+OF_MARKS = (
+    again, pasted, merge_marks, unclosed_list, stroke, grouped, unopened, lettered, unnamed_option, values_in_head,
+    ended_early, endless, handed, other_option, named_otherwise, typed_values, without_parentheses, lone_number, prose,
+    comma_for_end,
+)
+# what the place tells, before the program tries changes; and what is likely where it takes none that goes little far
+OF_PLACE = (
+    returns, outside_head, unclosed, split_name, misspelt, declared, twice, no_comma, chained, no_interrupts,
+    last_comma, no_item, open_parentheses, glued, in_brackets,
+)
+IN_DOUBT = (no_name, typed, no_operand, no_operator, left_out, outside)
+LAST = (other_end, lone_block, no_statement, form)
