@@ -1,40 +1,33 @@
 -- What a device does, part after part.
-use Rattle.std.proofs.Common.{◌≡◌, ℕ, zero, suc, ◌+◌, ◌-◌, ◌^◌, ◌<◌, ◌≤◌, Bool, cond, List, [], ◌∷◌, ◌++◌}
-use Rattle.std.proofs.Common.{length, take, drop, min, count_by, map, replicate, get_or, Option, Some, refl, ap}
-use Rattle.std.proofs.Common.{sym, subst, ◌∙◌, append_assoc, arith}
+use Rattle.std.proofs.Common.{◌≡◌, ℕ, ◌+◌, ◌<◌, ◌≤◌, List, [], ◌∷◌, ◌++◌, length, take, drop, map, replicate, get_or}
+use Rattle.std.proofs.Common.{Option, Some, refl, ap, sym, subst, ◌∙◌, append_assoc, arith}
 use Rattle.std.proofs.lemmas.List.{append-nil, map-append, length-map, length-append, length-replicate}
 use Rattle.std.proofs.lemmas.List.{take-append-drop, replicate-append-replicate}
-use Rattle.std.proofs.lemmas.List.Sums.{sum_by-append}
 use Rattle.std.proofs.lemmas.Grind.{flat_map-append}
 use Rattle.rt_lemmas.proofs.Lists.{flat_map_next}
 use Rattle.rt_words.specs.declared.call.Call.{Call}
+use Rattle.rt_words.specs.declared.call.Call.TheVariants.{Pend}
+use Rattle.rt_words.specs.declared.call.Pended.{Pended}
 use Rattle.rt_words.specs.Lines.{Line}
 use Rattle.rt_words.specs.Row.{bit_in_row}
 use Rattle.rt_devices.specs.declared.device.Device.{Device}
-use Rattle.rt_devices.specs.Work.{requests, interrupt_asked, is_raised, is_merged, saturating_count, Works}
-
-counted-add : (from m n : ℕ) → saturating_count from (m + n) ≡ saturating_count (saturating_count from m) n
-counted-add from m zero = let e : m + 0 ≡ m = omega arith in ap (saturating_count from) e
-counted-add from m (suc n) =
-    let e : m + suc n ≡ suc (m + n) = omega arith in
-    ap (saturating_count from) e ∙ ap (λ k. min (k + 1) (2 ^ 64 - 1)) (counted-add from m n)
-
-counted-append : (test : Call → Bool) (from : ℕ) (cs ds : List Call)
-    → saturating_count from (count_by test (cs ++ ds)) ≡ saturating_count (saturating_count from (count_by test cs))
-    (count_by test ds)
-counted-append test from cs ds =
-    ap (saturating_count from) (sum_by-append (λ c. cond (test c) 1 0) cs ds)
-    ∙ counted-add from (count_by test cs) (count_by test ds)
+use Rattle.rt_devices.specs.Work.{requests, interrupt_asked, Works}
 
 pub works_none : (a : Device) → Works [] a a
 works_none a = record {
   calls = [];
   asked = refl;
-  line = ap (λ (cs : List Call). record a.line { calls = cs }) (sym (append-nil a.line.calls));
-  raised = refl;
-  merged = refl;
-  number = refl;
-  script = refl;
+  same = ap (λ (cs : List Call). record a { line = record a.line { calls = cs } }) (sym (append-nil a.line.calls));
+}
+
+-- one pend
+pub works_one : (a : Device) (line : Line) (irq : ℕ) (answer : Pended)
+    → line ≡ record a.line { calls = a.line.calls ++ Pend (bit_in_row a.line.there irq) answer ∷ [] }
+    → Works (irq ∷ []) a (record a { line = line })
+works_one a line irq answer is = record {
+  calls = Pend (bit_in_row a.line.there irq) answer ∷ [];
+  asked = refl;
+  same = ap (λ (l : Line). record a { line = l }) is;
 }
 
 -- one part after another
@@ -43,21 +36,14 @@ works_on irqs more a b c p q = record {
   calls = p.calls ++ q.calls;
   asked =
       let asks : ℕ → ℕ → Option ℕ = λ core irq. Some (bit_in_row core irq) in
-      let same : b.line.there ≡ a.line.there = ap (λ (l : Line). l.there) p.line in
       map-append interrupt_asked p.calls q.calls
-      ∙ (λ i. p.asked i ++ (q.asked ∙ ap (λ (core : ℕ). map (asks core) more) same) i)
+      ∙ (λ i. p.asked i ++ (q.asked ∙ ap (λ (d : Device). map (asks d.line.there) more) p.same) i)
       ∙ sym (map-append (asks a.line.there) irqs more);
-  line =
-      q.line ∙ ap (λ (l : Line). record l { calls = l.calls ++ q.calls }) p.line
-      ∙ ap (λ (cs : List Call). record a.line { calls = cs }) (append_assoc a.line.calls p.calls q.calls);
-  raised =
-      q.raised ∙ ap (λ n. saturating_count n (count_by is_raised q.calls)) p.raised
-      ∙ sym (counted-append is_raised a.raised p.calls q.calls);
-  merged =
-      q.merged ∙ ap (λ n. saturating_count n (count_by is_merged q.calls)) p.merged
-      ∙ sym (counted-append is_merged a.merged p.calls q.calls);
-  number = q.number ∙ p.number;
-  script = q.script ∙ p.script;
+  same =
+      q.same
+      ∙ ap (λ (d : Device). record d { line = record d.line { calls = d.line.calls ++ q.calls } }) p.same
+      ∙ ap (λ (cs : List Call). record a { line = record a.line { calls = cs } })
+      (append_assoc a.line.calls p.calls q.calls);
 }
 
 -- the line has so many calls more
@@ -66,7 +52,7 @@ pub calls_length : (irqs : List ℕ) (a b : Device) → Works irqs a b
 calls_length irqs a b p =
     omega (
       arith,
-      ap (λ (l : Line). length l.calls) p.line,
+      ap (λ (d : Device). length d.line.calls) p.same,
       length-append a.line.calls p.calls,
       length-map p.calls interrupt_asked,
       length-map irqs (λ (irq : ℕ). Some (bit_in_row a.line.there irq)),
@@ -96,7 +82,7 @@ module _ (a b : Device) (i : ℕ) (entry : ℕ × ℕ) (below : i < length a.scr
   requests_more : requests (take (i + 1) script) ≡ requests (take i script) ++ replicate entry.1 entry.0
   requests_more =
       flat_map_next (λ (e : ℕ × ℕ). replicate e.1 e.0) script i entry below
-      (found ∙ ap (λ (s : List (ℕ × ℕ)). get_or s i entry) works.script)
+      (found ∙ ap (λ (d : Device). get_or d.script.items i entry) works.same)
 
   pub requests_grow : length (requests (take (i + 1) script)) ≡ length (requests (take i script)) + entry.1
   requests_grow =

@@ -6,7 +6,7 @@ ghost use Rattle.rt_devices.specs.Work.{requests, Works};
 
 use crate::gate::Gate;
 use rt_ids::Irq;
-use rt_words::{Line, Pended, Words};
+use rt_words::{Line, Words};
 
 /// A device, which pends interrupts in a thread of its own, by its line of the pending words.
 #[derive(Drop)]
@@ -17,26 +17,9 @@ pub struct Device {
     pub number: u8,
     /// The interrupts that it pends, each so many times, in order.
     pub script: Vec<(Irq, u32)>,
-    /// How many of its pends were answered `Raised`; stands still at its type's end.
-    pub raised: u64,
-    /// How many of its pends were answered `Merged`; stands still at its type's end.
-    pub merged: u64,
 }
 
 impl Device {
-    // Pends an interrupt, and counts the answer.
-    fn pend(&mut self, words: &Words, irq: Irq)
-        requires words { self.old.line.words ≡ words.now }
-        requires may { IsPending words.now.may (bit_in_row self.old.line.there irq) }
-        requires room { length self.old.line.calls < 2 ^ 32 - 1 }
-        ensures { Works (irq ∷ []) self.old self.new }
-    {
-        match self.line.pend(words, irq) {
-            Pended::Raised => self.raised = self.raised.saturating_add(1),
-            Pended::Merged => self.merged = self.merged.saturating_add(1),
-        }
-    }
-
     // Pends an interrupt so many times. The first of these is pend `first` of this device, from 0. The gate is told of
     // each pend by its number; no clause says so, since a gate's calls leave nothing that a clause could name.
     fn pend_often<G: Gate>(&mut self, words: &Words, gate: &G, irq: Irq, count: u32, first: u64)
@@ -48,7 +31,7 @@ impl Device {
     {
         for done in 0..count {
             gate.before_pend(self.number, first + u64::from(done));
-            self.pend(words, irq);
+            self.line.pend(words, irq);
         }
     }
 

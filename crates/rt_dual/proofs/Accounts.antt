@@ -1,26 +1,28 @@
 -- What the lines of both cores counted, as the rows of their accounts have it.
-use Rattle.std.proofs.Common.{◌≡◌, ℕ, List, [], ◌∷◌, map, length, Contains, inl, inr, ap, sym, subst, ◌∙◌, arith}
+use Rattle.std.proofs.Common.{◌≡◌, ◌<◌, ℕ, List, [], ◌∷◌, map, length, Contains, inl, inr, ap, sym, subst, ◌∙◌, arith}
 use Rattle.std.specs.List.{AllByRecursion}
-use Rattle.std.proofs.lemmas.List.Sums.{sum_by-cons}
-use Rattle.rt_lemmas.proofs.Membership.{contains_here, contains_cases, contains_none}
+use Rattle.rt_ids.specs.declared.limits.TheConstants.{IRQ_NUMBERS}
+use Rattle.rt_lemmas.proofs.Membership.{all_weaker, contains_here, contains_cases, contains_none}
 use Rattle.rt_words.specs.Account.{IsTally}
 use Rattle.rt_words.specs.Ending.{AllGathered, OneHistory, calls_in}
-use Rattle.rt_words.specs.Lines.{Row, Line, numbers}
+use Rattle.rt_words.specs.Lines.{Row, Line}
 use Rattle.rt_words.specs.declared.tally.Tally.{Tally}
 use Rattle.rt_words.specs.declared.view.Part.{Part}
-use Rattle.rt_live.specs.Account.{HasRoom, account_of, settled_row, with_counts}
-use Rattle.rt_live.specs.Ready.{IsCounted, irqs_of}
+use Rattle.rt_live.specs.Account.{HasRoom, account_of, counted_row, settled_row, with_counts}
+use Rattle.rt_live.specs.Ready.{irqs_of}
 use Rattle.rt_live.specs.declared.account.AccountRow.{AccountRow}
-use Rattle.rt_live.proofs.Tallied.{all_counted, counts_fit, rows_settled, same_irqs}
-use Rattle.rt_dual.specs.Course.{Place, second_place}
-use Rattle.rt_dual.specs.Inside.Both.{IsPlaced, CanClose, AreAccounts}
+use Rattle.rt_live.proofs.Tallied.{all_counted, counts_fit, rows_settled}
+use Rattle.rt_dual.specs.Course.{first_place}
+use Rattle.rt_dual.specs.Inside.Both.{AreAccounts, AreEmpty, CanClose, placed_line}
 
--- what the tally of a line in this place counts
-told : {place : Place} {row : Row} {line : Line} → IsPlaced place row line → (tally : Tally)
-    → IsTally line.here line.there line.calls tally → IsTally place.here place.there line.calls tally
-told {place = place} {line = line} placed tally is =
-    subst (λ n. IsTally n place.there line.calls tally) placed.here
-    (subst (λ n. IsTally line.here n line.calls tally) placed.there is)
+-- rows that count nothing have room for what a line did
+pub room_for : (core : ℕ) (rows : List AccountRow) → AreEmpty rows → AllByRecursion HasRoom rows
+room_for core rows none =
+    subst (AllByRecursion HasRoom) (sym none.empty) (counts_fit core [] tt (omega arith) (irqs_of rows))
+
+low_irqs : (rows : List AccountRow) → AreEmpty rows → AllByRecursion (λ irq. irq < 512) (irqs_of rows)
+low_irqs rows none =
+    all_weaker (λ irq. irq < IRQ_NUMBERS) (λ irq. irq < 512) (λ irq is. omega (arith, is)) (irqs_of rows) none.bits
 
 -- the rows of both cores, their lines, and what the second counted
 module _ {row : Row} {first second : Line} {ones twos : List AccountRow} (closes : CanClose row first second ones twos)
@@ -35,50 +37,54 @@ module _ {row : Row} {first second : Line} {ones twos : List AccountRow} (closes
   part = record { line = 254; calls = beyond.calls }
 
   -- rows that counted nothing count what it did, and there is room for more
-  module _ (core : ℕ) (rows : List AccountRow) (none : AllByRecursion (IsCounted core []) rows) where
-    counted : AllByRecursion (IsCounted core (part ∷ [])) (map (with_counts core 1 0 far) rows)
-    counted = all_counted core 1 0 [] part far (told {place = second_place} can.second_line far is_far) rows none
+  module _ (core : ℕ) (rows : List AccountRow) (none : AreEmpty rows) where
+    counted : map (with_counts core 1 0 far) rows ≡ map (counted_row core (part ∷ [])) (irqs_of rows)
+    counted =
+        ap (map (with_counts core 1 0 far)) none.empty
+        ∙ all_counted core 1 0 [] part far
+        (subst (λ (l : Line). IsTally l.here l.there beyond.calls far) can.second_line is_far) (irqs_of rows)
+        (low_irqs rows none)
 
     pub more : AllByRecursion HasRoom (map (with_counts core 1 0 far) rows)
     more =
-        counts_fit core (part ∷ []) (map (with_counts core 1 0 far) rows)
-        (omega (arith, can.few, sum_by-cons (λ (p : Part). length p.calls) part [])) counted
+        subst (AllByRecursion HasRoom) (sym counted)
+        (counts_fit core (part ∷ []) (can.few, tt) (omega arith) (irqs_of rows))
 
   -- the first line has taken it in
   module _ {then : Line} (is_then : then ≡ record near {
     gathered = record { line = beyond.number; calls = beyond.calls } ∷ near.gathered;
     since = length near.calls;
   }) where
-    made : then.made ≡ 254 ∷ []
-    made = ap (λ (l : Line). l.made) is_then ∙ can.made
-
-    gathered : then.gathered ≡ part ∷ []
-    gathered =
-        ap (λ (l : Line). l.gathered) is_then
-        ∙ ap (λ n. record { line = n; calls = beyond.calls } ∷ near.gathered) can.second_line.number
-        ∙ ap (λ (ps : List Part). part ∷ ps) can.gathered
+    then_is : then ≡ record (placed_line first_place row (254 ∷ []) near.calls) {
+      gathered = part ∷ [];
+      since = length near.calls;
+    }
+    then_is =
+        is_then
+        ∙ ap (λ (l : Line). record l {
+          gathered = record { line = beyond.number; calls = beyond.calls } ∷ l.gathered;
+          since = length near.calls;
+        }) can.first_line
+        ∙ ap (λ n. record (placed_line first_place row (254 ∷ []) near.calls) {
+          gathered = record { line = n; calls = beyond.calls } ∷ [];
+          since = length near.calls;
+        }) (ap (λ (l : Line). l.number) can.second_line)
 
     pub all_gathered : AllGathered then.made then.gathered
-    all_gathered number there =
-        subst (λ (ps : List Part). Contains (numbers ps) number) (sym gathered)
-        (subst (λ (ns : List ℕ). Contains ns number) made there)
+    all_gathered = subst (λ (l : Line). AllGathered l.made l.gathered) (sym then_is) (λ number there. there)
 
     module _ (bits : List ℕ) (h : OneHistory then bits) (own : Tally)
         (is_own : IsTally then.here then.there then.calls own) where
-      counts : IsTally 0 1 then.calls own
-      counts =
-          subst (λ n. IsTally n 1 then.calls own) (ap (λ (l : Line). l.here) is_then ∙ can.first_line.here)
-          (subst (λ n. IsTally then.here n then.calls own)
-          (ap (λ (l : Line). l.there) is_then ∙ can.first_line.there) is_own)
-
-      settled : (core : ℕ) (rows : List AccountRow) → AllByRecursion (IsCounted core []) rows
+      settled : (core : ℕ) (rows : List AccountRow) → AreEmpty rows
           → map (settled_row core bits) (map (with_counts core 0 1 own) (map (with_counts core 1 0 far) rows))
           ≡ account_of core (irqs_of rows) (calls_in h.history) bits
       settled core rows none =
-          rows_settled core 0 1 then bits h own counts (map (with_counts core 1 0 far) rows)
-          (subst (λ (ps : List Part). AllByRecursion (IsCounted core ps) (map (with_counts core 1 0 far) rows))
-          (sym gathered) (counted core rows none))
-          ∙ ap (λ irqs. account_of core irqs (calls_in h.history) bits) (same_irqs core 1 0 far rows)
+          ap (λ rs. map (settled_row core bits) (map (with_counts core 0 1 own) rs))
+          (counted core rows none
+          ∙ ap (λ ps. map (counted_row core ps) (irqs_of rows)) (sym (ap (λ (l : Line). l.gathered) then_is)))
+          ∙ rows_settled core 0 1 then bits h own
+          (subst (λ (l : Line). IsTally l.here l.there then.calls own) then_is is_own) (irqs_of rows)
+          (low_irqs rows none)
 
       -- so the rows with what both counted and what is left are the accounts
       pub are_accounts : {one two : List AccountRow}
@@ -91,14 +97,15 @@ module _ {row : Row} {first second : Line} {ones twos : List AccountRow} (closes
         legal = h.legal;
         first = h.own ∙ ap (λ (l : Line). l.calls) is_then ∙ ap (λ (l : Line). l.calls) is_near;
         second =
-            h.gathered part (subst (λ (ps : List Part). Contains ps part) (sym gathered) (contains_here part []))
+            h.gathered part
+            (subst (λ (l : Line). Contains l.gathered part) (sym then_is) (contains_here part []))
             ∙ ap (λ (l : Line). l.calls) is_beyond;
         others = λ number ne other.
             h.unmade number ne (λ there.
-            elim (contains_cases 254 [] number (subst (λ (ns : List ℕ). Contains ns number) made there)) [
+            elim (contains_cases 254 [] number (subst (λ (l : Line). Contains l.made number) then_is there)) [
               | inl same ↦ other (sym same)
               | inr none ↦ contains_none number none
             ]);
-        one_rows = one_is ∙ settled 0 ones can.one_counted;
-        two_rows = two_is ∙ settled 1 twos can.two_counted;
+        one_rows = one_is ∙ settled 0 ones can.one_empty;
+        two_rows = two_is ∙ settled 1 twos can.two_empty;
       }

@@ -1,17 +1,15 @@
 -- What is written of two cores that have ended is a text that the definitions allow.
-use Rattle.std.proofs.Common.{◌≡◌, ℕ, List, [], ◌++◌, map, flat_map, Option, Some, sym, ap, subst, ◌∙◌}
-use Rattle.std.proofs.Common.{append_assoc, arith}
-use Rattle.std.proofs.lemmas.List.{append-nil}
-use Rattle.rt_ids.specs.Event.{Event, steps}
+use Rattle.std.proofs.Common.{◌≡◌, ℕ, List, [], ◌++◌, map, Option, sym, ap, subst, ◌∙◌}
+use Rattle.std.proofs.Common.{append_assoc}
+use Rattle.rt_ids.specs.Event.{Event}
 use Rattle.rt_code.specs.Image.{Image}
-use Rattle.rt_core.specs.Core.{Core, reset}
-use Rattle.rt_core.specs.Machine.{Machine, IsFresh}
-use Rattle.rt_core.specs.Trace.{labels, trace}
+use Rattle.rt_core.specs.Core.{Core}
+use Rattle.rt_core.specs.Machine.{Machine}
 use Rattle.rt_run.specs.Done.{Leads}
 use Rattle.rt_run.specs.Sending.{lines_of}
+use Rattle.rt_run.proofs.Taking.{took_on}
 use Rattle.rt_script.specs.declared.line.Line.{Line}
-use Rattle.rt_trace.specs.Label.{items_of}
-use Rattle.rt_trace.specs.Text.{text, total_text, trace_text}
+use Rattle.rt_trace.specs.Text.{total_text}
 use Rattle.rt_words.specs.Ending.{calls_in}
 use Rattle.rt_words.specs.History.{part}
 use Rattle.rt_words.specs.declared.call.Entry.{Entry}
@@ -29,26 +27,18 @@ use Rattle.rt_dual.specs.Output.{IsPairText, account, core_text, course_text}
 use Rattle.rt_dual.specs.Inside.Both.{HasRun, HaveRun, IsWritten, front}
 use Rattle.rt_dual.specs.declared.making.Both.{Both}
 use Rattle.rt_dual.specs.declared.making.Side.{Side}
-use Rattle.rt_dual.proofs.Beforehand.{own_calls, rows_irqs}
-
--- the lines of a fresh core, with the total, are the text of the trace of its image
-fresh_text : (m n : Machine) (es : List Event) → IsFresh m → Leads es m n → lines_of m es ++ total_text n.steps
-    ≡ trace_text m.image.names (record { items = trace m.image es; total = Some (steps es) })
-fresh_text m n es fresh run =
-    let put : ℕ → Core → List ℕ = λ k c. flat_map (text m.image.names) (items_of k (labels m.image c es)) in
-    ap (λ k. lines_of m es ++ total_text k) (let e : n.steps ≡ steps es = omega (arith, run.steps, fresh.steps) in e)
-    ∙ ap (λ k. put k m.core ++ total_text (steps es)) fresh.steps
-    ∙ ap (λ c. put 0 c ++ total_text (steps es)) fresh.core
-    ∙ ap (λ t. put 0 (reset m.image) ++ t) (sym (append-nil (total_text (steps es))))
+use Rattle.rt_live.proofs.Ended.{fresh_text}
+use Rattle.rt_dual.proofs.Beforehand.{own_calls, rows_irqs, woven}
 
 -- one of the cores, which has ended on its side
-module _ {place : Place} {share : Share} {head : List ℕ} {row : Row} {other : Image} {script : List Line}
-    {m n : Machine} {side : Side} (run : HasRun place share head row other script m n side) (history : List Entry) where
+module _ {place : Place} {made : List ℕ} {share : Share} {head : List ℕ} {row : Row} {other : Image}
+    {script : List Line} {m n : Machine} {side : Side} (run : HasRun place made share head row other script m n side)
+    (history : List Entry) where
   abbrev events : List Event
   events = own_events share script
 
   abbrev found : List (List ℕ)
-  found = run.ended.ends.found
+  found = (woven run).found
 
   abbrev asks : (ℕ → Option ℕ) → ℕ → ℕ → Share → Core → List Request
   asks route here there own core =
@@ -60,23 +50,25 @@ module _ {place : Place} {share : Share} {head : List ℕ} {row : Row} {other : 
       let line : Caller = run.old.line.value in
       let by : Share = run.old.role.share in
       record {
-        bits = run.before.at.bits;
-        many = run.ended.ends.many ∙ ap (λ s. looks (turns (own_events s script))) run.before.shares;
-        whole = run.ended.ends.whole;
-        declared = run.ended.ends.declared;
+        bits = run.before.bits;
+        many = (woven run).many ∙ ap (λ s. looks (turns (own_events s script))) run.before.shares;
+        whole = (woven run).whole;
+        declared = (woven run).declared;
         called =
             ap (map request_of) (own ∙ own_calls run)
-            ∙ run.ended.ends.asked
+            ∙ (woven run).asked
             ∙ ap (λ (r : ℕ → Option ℕ). asks r line.here line.there by m.core) (λ i post. run.before.routes post i)
-            ∙ ap (λ k. asks (forward m.image other.names) k line.there by m.core) run.before.at.placed.here
-            ∙ ap (λ k. asks (forward m.image other.names) place.here k by m.core) run.before.at.placed.there
+            ∙ ap (λ k. asks (forward m.image other.names) k line.there by m.core) (ap (λ
+            (l : Caller). l.here) run.before.line)
+            ∙ ap (λ k. asks (forward m.image other.names) place.here k by m.core) (ap (λ
+            (l : Caller). l.there) run.before.line)
             ∙ ap (λ s. asks (forward m.image other.names) place.here place.there s m.core) run.before.shares
             ∙ ap (asks (forward m.image other.names) place.here place.there share) run.fresh.core;
       }
 
   pub leads : Leads (course_events events found) m n
   leads =
-      subst (λ s. Leads (course_events (own_events s script) found) m n) run.before.shares run.ended.ends.leads
+      subst (λ s. Leads (course_events (own_events s script) found) m n) run.before.shares (woven run).sends.leads
 
   -- and its text
   pub core_written : (left : List ℕ) (rows : List AccountRow)
@@ -86,7 +78,9 @@ module _ {place : Place} {share : Share} {head : List ℕ} {row : Row} {other : 
   core_written left rows are =
       let told : List ℕ = course_text m.image events found in
       ap (λ t. t ++ account_text m.image.names rows)
-      (run.ended.ends.wrote
+      (took_on run.old.text.bytes.items run.ended.ends.shown side.text.bytes.items
+      (lines_of m (course_events (own_events run.old.role.share script) found)) (total_text n.steps)
+      (woven run).sends.took run.ended.ends.total
       ∙ ap (λ x. x ++ (lines_of m (course_events (own_events run.old.role.share script) found) ++ total_text n.steps))
       run.before.text
       ∙ ap (λ s. front head m.image ++ (lines_of m (course_events (own_events s script) found) ++ total_text n.steps))
@@ -106,8 +100,8 @@ abbrev pub pair_text : {script : List Line} {a a' b b' : Machine} {both : Both} 
 pair_text run written =
     let are = written.are in
     record {
-      one = run.one.ended.ends.found;
-      two = run.two.ended.ends.found;
+      one = (woven run.one).found;
+      two = (woven run.two).found;
       history = are.history;
       left = are.left;
       legal = are.legal;

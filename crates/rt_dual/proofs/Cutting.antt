@@ -7,16 +7,16 @@ use Rattle.rt_lemmas.proofs.Membership.{all_append}
 use Rattle.rt_ids.specs.Event.{Event}
 use Rattle.rt_ids.specs.Names.{Names}
 use Rattle.rt_core.specs.Machine.{Machine}
-use Rattle.rt_run.proofs.Advancing.{stands_still}
 use Rattle.rt_run.proofs.Sent.{breaks_end}
 use Rattle.rt_lines.specs.Operand.{IsDeclared}
 use Rattle.rt_words.specs.Lines.{Line as Caller}
 use Rattle.rt_live.specs.Interleaving.{Turn, looks, arrivals_from, look_arrivals, interleaving}
-use Rattle.rt_live.specs.Going.{IsWholeLook, FindsDeclared, Stops, Ends}
+use Rattle.rt_live.specs.Going.{IsWholeLook, FindsDeclared, Goes, Stops}
 use Rattle.rt_live.specs.Written.{EndsWhole, EndsEarly}
 use Rattle.rt_live.proofs.Looking.{zero_arrives}
 use Rattle.rt_live.proofs.Woven.{found_on, interleaving_finished}
 use Rattle.rt_live.proofs.Onward.{zeros}
+use Rattle.rt_live.proofs.Weaving.{IsCut, cut_of, weave}
 use Rattle.rt_dual.specs.Output.{HasBegun}
 
 -- words of 0 behind those of a look that was cut make it whole
@@ -45,81 +45,74 @@ padded_declared names words declared =
     ∙ ap (λ is. arrivals_from 0 words ++ is) (zeros_arrive (0 + length words) (16 - length words))
     ∙ append-nil (arrivals_from 0 words))) declared
 
--- nothing was done
-pub none_begun : (ts : List Turn) (m : Machine) → HasBegun ts m m
-none_begun ts m = record {
-  found = [];
-  few = omega arith;
-  whole = tt;
-  declared = tt;
-  done = record { done = []; rest = interleaving ts []; parts = refl; leads = stands_still m };
-  stops = inl refl;
-}
-
-module _ (route : ℕ → Option ℕ) (ts : List Turn) (k l : Caller) (a b : Machine) where
+module _ (route : ℕ → Option ℕ) (ts : List Turn) (k l : Caller) (a b : Machine) (x y : List ℕ) where
   -- all was done
-  all_begun : (written : List (List ℕ) → Type 0) → Ends route ts k l a b written → HasBegun ts a b
-  all_begun written run = record {
-    found = run.found;
-    few = omega (arith, run.many);
-    whole = run.whole;
-    declared = run.declared;
-    done = record {
-      done = interleaving ts run.found;
-      rest = [];
-      parts = sym (append-nil (interleaving ts run.found));
-      leads = run.leads;
-    };
-    stops = inr (inr (refl, run.many));
-  }
+  all_begun : {z : List ℕ} → Goes route ts k l a b x z → HasBegun ts a b
+  all_begun run =
+      let w = weave run in
+      record {
+        found = w.found;
+        few = omega (arith, w.many);
+        whole = w.whole;
+        declared = w.declared;
+        done = record {
+          done = interleaving ts w.found;
+          rest = [];
+          parts = sym (append-nil (interleaving ts w.found));
+          leads = w.sends.leads;
+        };
+        stops = inr (refl, w.many);
+      }
 
-  module _ (x y : List ℕ) where
-    module _ (cut : Stops route ts k l a b x y) where
-      -- with these looks behind those that were whole
-      begun : (more : List (List ℕ)) (rest : List Event) → length cut.found + length more ≤ looks ts
-          → AllByRecursion IsWholeLook more → AllByRecursion (FindsDeclared a.image.names) more
-          → interleaving ts (cut.found ++ more) ≡ (interleaving ts cut.found ++ look_arrivals cut.last) ++ rest
-          → HasBegun ts a b
-      begun more rest few whole declared parts =
-          let came : List Event = cut.breaks.done ++ cut.breaks.last ∷ [] in
-          record {
-            found = cut.found ++ more;
-            few = omega (arith, length-append cut.found more, few);
-            whole = all_append IsWholeLook cut.found more cut.whole whole;
-            declared = all_append (FindsDeclared a.image.names) cut.found more cut.declared declared;
-            done = record {
-              done = came;
-              rest = cut.breaks.rest ++ rest;
-              parts =
-                  parts
-                  ∙ ap (λ es. es ++ rest)
-                  (cut.breaks.parts ∙ sym (append_assoc cut.breaks.done (cut.breaks.last ∷ []) cut.breaks.rest))
-                  ∙ append_assoc came cut.breaks.rest rest;
-              leads = cut.breaks.leads;
-            };
-            stops = inr (inl (breaks_end (interleaving ts cut.found ++ look_arrivals cut.last) a b x y cut.breaks));
-          }
+  module _ (stops : Stops route ts k l a b x y) where
+    abbrev cut : IsCut route ts k l a b x y
+    cut = cut_of stops
 
-      -- a fault came in the turns
-      stopped : HasBegun ts a b
-      stopped = elim cut.few [
-        | inl less ↦
-            let more = interleaving_finished ts cut.found [] cut.last (zeros (16 - length cut.last)) less in
-            begun (padded_look cut.last ∷ []) more.0 (omega (arith, less)) (padded_whole cut.last cut.short, tt)
-            (padded_declared a.image.names cut.last cut.last_declared, tt) more.1
-        | inr most ↦
-            begun [] [] (omega (arith, most.1)) tt tt
-            (ap (interleaving ts) (append-nil cut.found) ∙ sym (append-nil (interleaving ts cut.found))
-            ∙ ap (λ ws. interleaving ts cut.found ++ look_arrivals ws) (sym most.0)
-            ∙ sym (append-nil (interleaving ts cut.found ++ look_arrivals cut.last)))
-      ]
+    -- with these looks behind those that were whole
+    begun : (more : List (List ℕ)) (rest : List Event) → length cut.found + length more ≤ looks ts
+        → AllByRecursion IsWholeLook more → AllByRecursion (FindsDeclared a.image.names) more
+        → interleaving ts (cut.found ++ more) ≡ (interleaving ts cut.found ++ look_arrivals cut.last) ++ rest
+        → HasBegun ts a b
+    begun more rest few whole declared parts =
+        let came : List Event = cut.breaks.done ++ cut.breaks.last ∷ [] in
+        record {
+          found = cut.found ++ more;
+          few = omega (arith, length-append cut.found more, few);
+          whole = all_append IsWholeLook cut.found more cut.whole whole;
+          declared = all_append (FindsDeclared a.image.names) cut.found more cut.declared declared;
+          done = record {
+            done = came;
+            rest = cut.breaks.rest ++ rest;
+            parts =
+                parts
+                ∙ ap (λ es. es ++ rest)
+                (cut.breaks.parts ∙ sym (append_assoc cut.breaks.done (cut.breaks.last ∷ []) cut.breaks.rest))
+                ∙ append_assoc came cut.breaks.rest rest;
+            leads = cut.breaks.leads;
+          };
+          stops = inl (breaks_end (interleaving ts cut.found ++ look_arrivals cut.last) a b x y cut.breaks);
+        }
 
-    -- or behind them
-    early_begun : EndsEarly route ts k l a b x y → HasBegun ts a b
-    early_begun early = elim early [ inl cut ↦ stopped cut | inr run ↦ all_begun _ run ]
+    -- a fault came in the turns
+    stopped : HasBegun ts a b
+    stopped = elim cut.few [
+      | inl less ↦
+          let more = interleaving_finished ts cut.found [] cut.last (zeros (16 - length cut.last)) less in
+          begun (padded_look cut.last ∷ []) more.0 (omega (arith, less)) (padded_whole cut.last cut.short, tt)
+          (padded_declared a.image.names cut.last cut.last_declared, tt) more.1
+      | inr most ↦
+          begun [] [] (omega (arith, most.1)) tt tt
+          (ap (interleaving ts) (append-nil cut.found) ∙ sym (append-nil (interleaving ts cut.found))
+          ∙ ap (λ ws. interleaving ts cut.found ++ look_arrivals ws) (sym most.0)
+          ∙ sym (append-nil (interleaving ts cut.found ++ look_arrivals cut.last)))
+    ]
 
-    -- whichever it was
-    pub has_begun : {T E : Type 0} (r : Result T E) → OnOk r (EndsWhole route ts k l a b x y)
-        → OnErr r (EndsEarly route ts k l a b x y) → HasBegun ts a b
-    has_begun (Ok v) whole early = all_begun _ whole
-    has_begun (Err e) whole early = early_begun early
+  -- or behind them
+  early_begun : EndsEarly route ts k l a b x y → HasBegun ts a b
+  early_begun early = elim early [ inl cut ↦ stopped cut | inr ends ↦ all_begun ends.goes ]
+
+  -- whichever it was
+  pub has_begun : {T E : Type 0} (r : Result T E) → OnOk r (EndsWhole route ts k l a b x y)
+      → OnErr r (EndsEarly route ts k l a b x y) → HasBegun ts a b
+  has_begun (Ok v) whole early = all_begun whole.goes
+  has_begun (Err e) whole early = early_begun early

@@ -27,12 +27,13 @@ use Rattle.rt_words.proofs.Counting.{one_if}
 use Rattle.rt_words.proofs.Found.{few_found_there, part_counts}
 use Rattle.rt_live.specs.Account.{row_of}
 use Rattle.rt_live.specs.Going.{IsWholeLook}
-use Rattle.rt_live.specs.Interleaving.{looks, last_turns, arrivals_from, look_arrivals, look_calls_from}
+use Rattle.rt_live.specs.Interleaving.{Turn, Happens, Looks, looks, last_turns, arrivals_from, look_arrivals}
+use Rattle.rt_live.specs.Interleaving.{look_calls_from}
 use Rattle.rt_live.specs.Requests.{Request, Pends as Asks, Latches, request_of, routed, look_requests, post_requests}
-use Rattle.rt_live.specs.Requests.{turn_requests}
-use Rattle.rt_live.specs.Shares.{both_line_events}
+use Rattle.rt_live.specs.Requests.{step_item, turn_requests}
+use Rattle.rt_live.specs.Shares.{own_line_events}
 use Rattle.rt_live.specs.declared.account.AccountRow.{AccountRow}
-use Rattle.rt_live.specs.declared.share.Share.TheVariants.{First}
+use Rattle.rt_live.specs.declared.share.Share.TheVariants.{First, Second}
 use Rattle.rt_live.proofs.Found.{found_irqs, woven_all, woven_weight, named_events, own_turns_named, own_weight}
 use Rattle.rt_live.proofs.Found.{replicated_events}
 use Rattle.rt_live.proofs.Turning.{own_length}
@@ -46,6 +47,18 @@ use Rattle.rt_dual.proofs.Posted.{Within}
 -- the words of a core
 abbrev is_of : ℕ → ℕ → Bool
 is_of core word = word / 16 == core
+
+-- how many core steps are among turns
+abbrev steps_of : List Turn → ℕ
+steps_of [] = 0
+steps_of (Happens Step ∷ ts) = suc (steps_of ts)
+steps_of (t ∷ ts) = steps_of ts
+
+own_steps : (es : List Event) → steps_of (turns es) ≡ steps es
+own_steps [] = refl
+own_steps (Step ∷ es) = ap suc (own_steps es)
+own_steps (Tick ∷ es) = own_steps es
+own_steps (Arrive irq ∷ es) = own_steps es
 
 -- requests that find bits in the words of a core, and that ask for pends there
 module _ (core : ℕ) where
@@ -124,63 +137,54 @@ module _ (core : ℕ) where
       one true = omega arith
       one false = omega arith
 
-  module _ (route : ℕ → Option ℕ) (here there : ℕ) (img : Image) where
-    abbrev asks : Core → List Event → List (List ℕ) → List Request
-    asks c es found = turn_requests route here there img c (turns es) found
-
-    abbrev shown : Core → List ℕ → Option What
-    shown c ws = (step img (core_after img c (look_arrivals ws))).1
-
-    few_asks : (c : Core) (es : List Event) (found : List (List ℕ)) → sum asked_of (asks c es found) ≤ steps es
-    few_asks c [] [] = omega arith
-    few_asks c [] (ws ∷ found) =
-        omega (arith, sum_on asked_of (look_requests here ws) [], looked_asked (word_in_row here 0) ws)
-    few_asks c (Arrive irq ∷ es) found = few_asks (core_after img c (Arrive irq ∷ [])) es found
-    few_asks c (Tick ∷ es) found = few_asks (core_after img c (Tick ∷ [])) es found
-    few_asks c (Step ∷ es) [] = omega arith
-    few_asks c (Step ∷ es) (ws ∷ found) =
-        let d : Core = core_after img c (look_arrivals ws ++ Step ∷ []) in
-        let look : List Request = look_requests here ws in
-        let posts : List Request = post_requests route there (shown c ws) in
-        omega (
-          arith,
-          sum_on asked_of look (posts ++ asks d es found),
-          sum_on asked_of posts (asks d es found),
-          looked_asked (word_in_row here 0) ws,
-          posted asked_of 1 one_asked route there (shown c ws),
-          few_asks d es found,
-        )
+  few_asks : (route : ℕ → Option ℕ) (here there : ℕ) (img : Image) (c : Core) (ts : List Turn) (found : List (List ℕ))
+      → sum asked_of (turn_requests route here there img c ts found) ≤ steps_of ts
+  few_asks route here there img c [] found = omega arith
+  few_asks route here there img c (Happens (Arrive irq) ∷ ts) found =
+      few_asks route here there img (core_after img c (Arrive irq ∷ [])) ts found
+  few_asks route here there img c (Happens Tick ∷ ts) found =
+      few_asks route here there img (core_after img c (Tick ∷ [])) ts found
+  few_asks route here there img c (Happens Step ∷ ts) found =
+      let d : Core = core_after img c (Step ∷ []) in
+      omega (
+        arith,
+        sum_on asked_of (post_requests route there (step img c).1) (turn_requests route here there img d ts found),
+        posted asked_of 1 one_asked route there (step img c).1,
+        few_asks route here there img d ts found,
+      )
+  few_asks route here there img c (Looks ∷ ts) [] = omega arith
+  few_asks route here there img c (Looks ∷ ts) (ws ∷ found) =
+      let d : Core = core_after img c (look_arrivals ws) in
+      omega (
+        arith,
+        sum_on asked_of (look_requests here ws) (turn_requests route here there img d ts found),
+        looked_asked (word_in_row here 0) ws,
+        few_asks route here there img d ts found,
+      )
 
   -- all that the looks of the core itself find
-  all_found : (route : ℕ → Option ℕ) (there : ℕ) (img : Image) (c : Core) (es : List Event) (found : List (List ℕ))
-      → length found ≡ looks (turns es) → AllByRecursion IsWholeLook found
-      → length (found_irqs found) ≡ sum found_of (turn_requests route core there img c (turns es) found)
-  all_found route there img c [] [] many whole = absurd (omega (arith, many))
-  all_found route there img c [] (ws ∷ []) many whole =
+  all_found : (route : ℕ → Option ℕ) (there : ℕ) (img : Image) (c : Core) (ts : List Turn) (found : List (List ℕ))
+      → length found ≡ looks ts → AllByRecursion IsWholeLook found
+      → length (found_irqs found) ≡ sum found_of (turn_requests route core there img c ts found)
+  all_found route there img c [] [] many whole = refl
+  all_found route there img c [] (ws ∷ found) many whole = absurd (omega (arith, many))
+  all_found route there img c (Happens e ∷ ts) found many whole =
+      let d : Core = core_after img c (e ∷ []) in
       omega (
         arith,
-        sum_on found_of (look_requests core ws) [],
-        whole_found ws whole.0,
-        length-append (arrivals_from 0 ws) [],
+        sum_on found_of (post_requests route there (step_item img c e)) (turn_requests route core there img d ts found),
+        posted found_of 0 (λ bit. omega arith) route there (step_item img c e),
+        all_found route there img d ts found many whole,
       )
-  all_found route there img c [] (ws ∷ vs ∷ found) many whole = absurd (omega (arith, many))
-  all_found route there img c (Arrive irq ∷ es) found many whole =
-      all_found route there img (core_after img c (Arrive irq ∷ [])) es found many whole
-  all_found route there img c (Tick ∷ es) found many whole =
-      all_found route there img (core_after img c (Tick ∷ [])) es found many whole
-  all_found route there img c (Step ∷ es) [] many whole = absurd (omega (arith, many))
-  all_found route there img c (Step ∷ es) (ws ∷ found) many whole =
-      let d : Core = core_after img c (look_arrivals ws ++ Step ∷ []) in
-      let look : List Request = look_requests core ws in
-      let posts : List Request = post_requests route there (shown route core there img c ws) in
+  all_found route there img c (Looks ∷ ts) [] many whole = absurd (omega (arith, many))
+  all_found route there img c (Looks ∷ ts) (ws ∷ found) many whole =
+      let d : Core = core_after img c (look_arrivals ws) in
       omega (
         arith,
-        sum_on found_of look (posts ++ turn_requests route core there img d (turns es) found),
-        sum_on found_of posts (turn_requests route core there img d (turns es) found),
+        sum_on found_of (look_requests core ws) (turn_requests route core there img d ts found),
         whole_found ws whole.0,
-        posted found_of 0 (λ bit. omega arith) route there (shown route core there img c ws),
         length-append (arrivals_from 0 ws) (found_irqs found),
-        all_found route there img d es found (omega (arith, many)) whole.1,
+        all_found route there img d ts found (omega (arith, many)) whole.1,
       )
 
   -- pends there, as calls that pass a test
@@ -208,16 +212,16 @@ module _ (core : ℕ) where
 second_all : (P : ℕ → Type 0) (script : List Line) → AllByRecursion (Arrives P) (second_events script)
 second_all P [] = tt
 second_all P (line ∷ script) =
-    all_append (Arrives P) (both_line_events line) (second_events script) (one line) (second_all P script)
+    all_append (Arrives P) (own_line_events Second line) (second_events script) (one line) (second_all P script)
   where
-    one : (l : Line) → AllByRecursion (Arrives P) (both_line_events l)
+    one : (l : Line) → AllByRecursion (Arrives P) (own_line_events Second l)
     one (Steps n) = replicated_events P n Step tt
     one (Ticks n) = replicated_events P n Tick tt
     one (Pends irq n) = tt
     one (Device d irq n) = tt
 
 -- no more than to the first
-some_or_none : (line : Line) → (both_line_events line ≡ line_events line) ⊎ (both_line_events line ≡ [])
+some_or_none : (line : Line) → (own_line_events Second line ≡ line_events line) ⊎ (own_line_events Second line ≡ [])
 some_or_none (Steps n) = inl refl
 some_or_none (Ticks n) = inl refl
 some_or_none (Pends irq n) = inr refl
@@ -228,7 +232,7 @@ second_fewer : (f : List Event → ℕ) → ((xs ys : List Event) → f (xs ++ y
 second_fewer f on [] = omega arith
 second_fewer f on (line ∷ script) =
     let all = on (line_events line) (first_events script) in
-    let own = on (both_line_events line) (second_events script) in
+    let own = on (own_line_events Second line) (second_events script) in
     let rest = second_fewer f on script in
     elim (some_or_none line) [
       | inl same ↦ omega (arith, all, own, rest, ap f same)
@@ -271,7 +275,7 @@ module _ (first second : Image) (script : List Line) (bytes : List ℕ) (p : IsP
         let others : List Call = part p.history far.line in
         omega (
           arith,
-          all_found core (forward img other.names) place.there img (reset img) es found is.many is.whole,
+          all_found core (forward img other.names) place.there img (reset img) (turns es) found is.many is.whole,
           ap (sum core (found_of core)) is.called,
           calls_found core own,
           part_counts (found_there (is_of core)) (all_found_there (is_of core)) refl (λ c calls. refl) p.history
@@ -285,7 +289,8 @@ module _ (first second : Image) (script : List Line) (bytes : List ℕ) (p : IsP
           asked_counts core others,
           calls_asked core others,
           ap (sum core (asked_of core)) beyond.called,
-          few_asks core (forward other img.names) far.here far.there other (reset other) fs seen,
+          few_asks core (forward other img.names) far.here far.there other (reset other) (turns fs) seen,
+          own_steps fs,
         )
 
     -- and all that comes is little, where the events of both cores are no more than the first core's

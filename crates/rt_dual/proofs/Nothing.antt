@@ -2,11 +2,10 @@
 use Rattle.std.proofs.Common.{◌≡◌, ℕ, zero, suc, List, [], ◌∷◌, ◌++◌, map, length, replicate, set}
 use Rattle.std.proofs.Common.{Option, Some, None, refl, ap, sym, subst, ◌∙◌, append_assoc, arith}
 use Rattle.std.specs.List.{AllByRecursion}
-use Rattle.std.proofs.lemmas.List.{append-nil}
 use native.Mathlib.Decide.{ℕ_discrete}
-use Rattle.rt_lemmas.proofs.Lists.{all_front, all_behind, all_map, all_both}
+use Rattle.rt_lemmas.proofs.Lists.{all_map, all_both}
 use Rattle.rt_lemmas.proofs.Membership.{all_append, all_weaker}
-use Rattle.rt_ids.specs.Event.{Event, Arrive, Tick, Step, steps}
+use Rattle.rt_ids.specs.Event.{Event, Arrive, Tick, Step}
 use Rattle.rt_ids.specs.Names.{Names}
 use Rattle.rt_code.specs.Image.{Image}
 use Rattle.rt_core.specs.Core.{Core, reset}
@@ -28,7 +27,8 @@ use Rattle.rt_words.proofs.Bits.{zeros}
 use Rattle.rt_words.proofs.Found.{part_all}
 use Rattle.rt_live.specs.Going.{IsWholeLook}
 use Rattle.rt_live.specs.History.{IsEmptyLook}
-use Rattle.rt_live.specs.Interleaving.{Happens, looks, arrivals_from, look_arrivals, look_calls_from, interleaving}
+use Rattle.rt_live.specs.Interleaving.{Turn, Happens, Looks, looks, arrivals_from, look_arrivals, look_calls_from}
+use Rattle.rt_live.specs.Interleaving.{interleaving}
 use Rattle.rt_live.specs.Requests.{Request, Pends, Latches, request_of, routed, look_requests, turn_requests}
 use Rattle.rt_dual.specs.Course.{Place, IsCourse, first_events, second_events, turns}
 use Rattle.rt_dual.specs.Forwarded.{forward}
@@ -55,23 +55,33 @@ nothing_arrives : (here : ℕ) (words : List ℕ) → AllByRecursion IsEmpty (lo
 nothing_arrives here words all =
     ap (map Arrive) (ap (arrivals_from 0) (empty_words _ words all) ∙ zeros_arrive 0 (length words))
 
--- so events that come with such looks are those events alone
-alone : (here : ℕ) (es : List Event) (found : List (List ℕ)) → length found ≡ steps es
-    → AllByRecursion (λ ws. AllByRecursion IsEmpty (look_requests here ws)) found
-    → interleaving (map Happens es) found ≡ es
-alone here [] found many all = refl
-alone here (Tick ∷ es) found many all = ap (λ us. Tick ∷ us) (alone here es found many all)
-alone here (Arrive irq ∷ es) found many all = ap (λ us. Arrive irq ∷ us) (alone here es found many all)
-alone here (Step ∷ es) [] many all = absurd (omega (arith, many))
-alone here (Step ∷ es) (ws ∷ found) many all =
-    ap (λ us. us ++ Step ∷ interleaving (map Happens es) found) (nothing_arrives here ws all.0)
-    ∙ ap (λ us. Step ∷ us) (alone here es found (omega (arith, many)) all.1)
+-- the events among turns
+abbrev events_of : List Turn → List Event
+events_of [] = []
+events_of (Looks ∷ ts) = events_of ts
+events_of (Happens e ∷ ts) = e ∷ events_of ts
 
-looks_of : (es : List Event) → looks (map Happens es) ≡ steps es
-looks_of [] = refl
-looks_of (Tick ∷ es) = looks_of es
-looks_of (Arrive irq ∷ es) = looks_of es
-looks_of (Step ∷ es) = ap suc (looks_of es)
+events_on : (ts us : List Turn) → events_of (ts ++ us) ≡ events_of ts ++ events_of us
+events_on [] us = refl
+events_on (Looks ∷ ts) us = events_on ts us
+events_on (Happens e ∷ ts) us = ap (λ es. e ∷ es) (events_on ts us)
+
+own_events_of : (es : List Event) → events_of (turns es) ≡ es
+own_events_of [] = refl
+own_events_of (Step ∷ es) = ap (λ us. Step ∷ us) (own_events_of es)
+own_events_of (Tick ∷ es) = ap (λ us. Tick ∷ us) (own_events_of es)
+own_events_of (Arrive irq ∷ es) = ap (λ us. Arrive irq ∷ us) (own_events_of es)
+
+-- with such looks turns come to their events alone
+alone : (here : ℕ) (ts : List Turn) (found : List (List ℕ)) → length found ≡ looks ts
+    → AllByRecursion (λ ws. AllByRecursion IsEmpty (look_requests here ws)) found
+    → interleaving ts found ≡ events_of ts
+alone here [] found many all = refl
+alone here (Happens e ∷ ts) found many all = ap (λ us. e ∷ us) (alone here ts found many all)
+alone here (Looks ∷ ts) [] many all = absurd (omega (arith, many))
+alone here (Looks ∷ ts) (ws ∷ found) many all =
+    ap (λ us. us ++ interleaving ts found) (nothing_arrives here ws all.0)
+    ∙ alone here ts found (omega (arith, many)) all.1
 
 -- what holds of all items holds of what a step among the labels shows
 step_among : (P : What → Type 0) (n : ℕ) (front rest : List Label) (shown : What)
@@ -119,21 +129,16 @@ module _ {place : Place} {img : Image} {other : Names} {events : List Event} {fo
   none_pended silent front rest bit answer same all =
       let route : ℕ → Option ℕ = forward img other in
       let p = precede is front rest bit answer same in
-      let asked : List Request = turn_requests route place.here place.there img (reset img) (map Happens p.earlier)
-      p.seen in
-      let look : List Request = look_requests place.here p.words in
-      let made : AllByRecursion IsEmpty (asked ++ look) =
+      let made : AllByRecursion IsEmpty (turn_requests route place.here place.there img (reset img) p.earlier p.seen) =
       subst (AllByRecursion IsEmpty) p.made_parts (empty_part front all) in
-      let own : interleaving (map Happens p.earlier) p.seen ++ look_arrivals p.words ≡ p.earlier =
-      ap (λ es. interleaving (map Happens p.earlier) p.seen ++ es)
-      (nothing_arrives place.here p.words (all_behind IsEmpty asked look made))
-      ∙ append-nil (interleaving (map Happens p.earlier) p.seen)
-      ∙ alone place.here p.earlier p.seen p.many
-      (looks_in route place.here place.there img IsEmpty (reset img) (map Happens p.earlier) p.seen
-      (p.many ∙ sym (looks_of p.earlier)) (all_front IsEmpty asked look made)) in
+      let own : interleaving p.earlier p.seen ≡ events_of p.earlier =
+      alone place.here p.earlier p.seen p.many
+      (looks_in route place.here place.there img IsEmpty (reset img) p.earlier p.seen p.many made) in
+      let parts : events ≡ events_of p.earlier ++ Step ∷ events_of p.later =
+      sym (own_events_of events) ∙ ap events_of p.parts ∙ events_on p.earlier (Happens Step ∷ p.later) in
       let nowhere : routed route (Some (what.Post p.post)) ≡ None =
-      shown_after (λ w. routed route (Some w) ≡ None) img (reset img) 0 p.earlier p.later (what.Post p.post)
-      (subst (λ es. PostsNothing img other es) p.parts silent)
+      shown_after (λ w. routed route (Some w) ≡ None) img (reset img) 0 (events_of p.earlier) (events_of p.later)
+      (what.Post p.post) (subst (λ es. PostsNothing img other es) parts silent)
       (ap (λ es. (step img (core_after img (reset img) es)).1) (sym own) ∙ p.shows) in
       let leads : route p.post ≡ Some p.irq = p.leads in
       absurd (cc)

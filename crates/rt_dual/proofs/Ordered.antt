@@ -103,7 +103,7 @@ module _ {place : Place} {img : Image} {other : Names} {events : List Event} {fo
 
   pub precede : LooksPrecedePosts place img other events found history
   precede before behind bit answer same =
-      posted (forward img other) place.here place.there img (reset img) events found
+      posted (forward img other) place.here place.there img (reset img) (turns events) found
       (map request_of (part before place.line)) (map request_of (part behind place.line)) bit
       (asked_at before behind (Pend bit answer) same)
 

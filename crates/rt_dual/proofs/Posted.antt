@@ -3,10 +3,9 @@ use Rattle.std.proofs.Common.{◌≡◌, ℕ, suc, ◌+◌, ◌*◌, ◌<◌, �
 use Rattle.std.proofs.Common.{Option, Some, None, option_to_list, refl, ap, sym, subst, ◌∙◌, append_assoc, arith}
 use Rattle.std.proofs.Common.{length-append}
 use Rattle.std.specs.List.{AllByRecursion}
-use Rattle.std.proofs.lemmas.List.{append-nil}
 use Rattle.rt_lemmas.proofs.Lists.{all_front, all_behind}
 use Rattle.rt_lemmas.proofs.Membership.{all_append}
-use Rattle.rt_ids.specs.Event.{Event, Arrive, Tick, Step, steps}
+use Rattle.rt_ids.specs.Event.{Event, Arrive, Tick, Step}
 use Rattle.rt_code.specs.Image.{Image}
 use Rattle.rt_core.specs.Core.{Core}
 use Rattle.rt_core.specs.Stepping.{step}
@@ -18,8 +17,7 @@ use Rattle.rt_words.specs.Row.{bit_in_row, word_in_row}
 use Rattle.rt_live.specs.Going.{IsWholeLook}
 use Rattle.rt_live.specs.Interleaving.{Turn, Happens, Looks, looks, look_arrivals, look_calls_from, interleaving}
 use Rattle.rt_live.specs.Requests.{Request, Pends, Latches, request_of, routed, look_requests, post_requests}
-use Rattle.rt_live.specs.Requests.{turn_requests}
-use Rattle.rt_dual.specs.Course.{turns}
+use Rattle.rt_live.specs.Requests.{step_item, turn_requests}
 use Rattle.rt_dual.specs.Laws.{IsPosted}
 
 -- an element of two lists stands in the first or in the second
@@ -78,10 +76,6 @@ module _ (route : ℕ → Option ℕ) (here there : ℕ) (img : Image) where
   abbrev asks : Core → List Turn → List (List ℕ) → List Request
   asks c ts found = turn_requests route here there img c ts found
 
-  -- what a step shows behind a look
-  abbrev shown : Core → List ℕ → Option What
-  shown c ws = (step img (core_after img c (look_arrivals ws))).1
-
   module _ (low : (post irq : ℕ) → route post ≡ Some irq → irq < 512) where
     look_within : (k : ℕ) (words : List ℕ) → 16 * here ≤ k → k + length words ≤ 16 * here + 16
         → AllByRecursion (Within here there) (map request_of (look_calls_from k words))
@@ -108,16 +102,10 @@ module _ (route : ℕ → Option ℕ) (here there : ℕ) (img : Image) where
     pub asks_within : (c : Core) (ts : List Turn) (found : List (List ℕ)) → AllByRecursion IsWholeLook found
         → AllByRecursion (Within here there) (asks c ts found)
     asks_within c [] found whole = tt
-    asks_within c (Happens Tick ∷ ts) found whole = asks_within (core_after img c (Tick ∷ [])) ts found whole
-    asks_within c (Happens (Arrive irq) ∷ ts) found whole =
-        asks_within (core_after img c (Arrive irq ∷ [])) ts found whole
-    asks_within c (Happens Step ∷ ts) [] whole = tt
-    asks_within c (Happens Step ∷ ts) (ws ∷ found) whole =
-        let d : Core = core_after img c (look_arrivals ws ++ Step ∷ []) in
-        all_append (Within here there) (look_requests here ws)
-        (post_requests route there (shown c ws) ++ asks d ts found) (whole_within ws whole.0)
-        (all_append (Within here there) (post_requests route there (shown c ws)) (asks d ts found)
-        (post_within (shown c ws)) (asks_within d ts found whole.1))
+    asks_within c (Happens e ∷ ts) found whole =
+        let d : Core = core_after img c (e ∷ []) in
+        all_append (Within here there) (post_requests route there (step_item img c e)) (asks d ts found)
+        (post_within (step_item img c e)) (asks_within d ts found whole)
     asks_within c (Looks ∷ ts) [] whole = tt
     asks_within c (Looks ∷ ts) (ws ∷ found) whole =
         let d : Core = core_after img c (look_arrivals ws) in
@@ -129,18 +117,10 @@ module _ (route : ℕ → Option ℕ) (here there : ℕ) (img : Image) where
       → AllByRecursion P (asks c ts found) → AllByRecursion (λ ws. AllByRecursion P (look_requests here ws)) found
   looks_in P c ts [] many all = tt
   looks_in P c [] (ws ∷ found) many all = absurd (omega (arith, many))
-  looks_in P c (Happens Tick ∷ ts) (ws ∷ found) many all =
-      looks_in P (core_after img c (Tick ∷ [])) ts (ws ∷ found) many all
-  looks_in P c (Happens (Arrive irq) ∷ ts) (ws ∷ found) many all =
-      looks_in P (core_after img c (Arrive irq ∷ [])) ts (ws ∷ found) many all
-  looks_in P c (Happens Step ∷ ts) (ws ∷ found) many all =
-      let d : Core = core_after img c (look_arrivals ws ++ Step ∷ []) in
-      let look : List Request = look_requests here ws in
-      let posts : List Request = post_requests route there (shown c ws) in (
-        all_front P look (posts ++ asks d ts found) all,
-        looks_in P d ts found (omega (arith, many))
-            (all_behind P posts (asks d ts found) (all_behind P look (posts ++ asks d ts found) all)),
-      )
+  looks_in P c (Happens e ∷ ts) (ws ∷ found) many all =
+      let d : Core = core_after img c (e ∷ []) in
+      looks_in P d ts (ws ∷ found) many
+      (all_behind P (post_requests route there (step_item img c e)) (asks d ts (ws ∷ found)) all)
   looks_in P c (Looks ∷ ts) (ws ∷ found) many all =
       let d : Core = core_after img c (look_arrivals ws) in
       let look : List Request = look_requests here ws in (
@@ -148,8 +128,8 @@ module _ (route : ℕ → Option ℕ) (here there : ℕ) (img : Image) where
         looks_in P d ts found (omega (arith, many)) (all_behind P look (asks d ts found) all),
       )
 
-  abbrev Posts : Core → List Event → List (List ℕ) → List Request → ℕ → Type 0
-  Posts c es found front bit = IsPosted route here there img c es found front bit
+  abbrev Posts : Core → List Turn → List (List ℕ) → List Request → ℕ → Type 0
+  Posts c ts found front bit = IsPosted route here there img c ts found front bit
 
   -- a pend of a step is what it shows
   posted_here : (shown : Option What) (front more : List Request) (bit : ℕ)
@@ -171,88 +151,81 @@ module _ (route : ℕ → Option ℕ) (here there : ℕ) (img : Image) where
           (refl, (post.0, irq, post.1, post.2, at))
       by (Some irq) is (r ∷ rs) eq = absurd (none_in rs more (Pends bit) (ap (drop 1) eq))
 
-  -- an event that comes before others with these looks, by which this happens and this is asked for
-  module _ (c : Core) (e : Event) (looked : List (List ℕ)) (came : List Event) (asked : List Request)
-      (many : (us : List Event) → length looked + steps us ≡ steps (e ∷ us))
-      (woven : (us : List Event) (fs : List (List ℕ))
-      → interleaving (map Happens (e ∷ us)) (looked ++ fs) ≡ came ++ interleaving (map Happens us) fs)
-      (asks_on : (us : List Event) (fs : List (List ℕ)) → asks c (map Happens (e ∷ us)) (looked ++ fs)
-      ≡ asked ++ asks (core_after img c came) (map Happens us) fs) where
-    behind : (es : List Event) (found : List (List ℕ)) (front : List Request) (bit : ℕ)
-        → Posts (core_after img c came) es found front bit → Posts c (e ∷ es) (looked ++ found) (asked ++ front) bit
-    behind es found front bit p = record {
-      earlier = e ∷ p.earlier;
+  -- a turn that comes before others with these looks, by which this happens and this is asked for
+  module _ (c : Core) (t : Turn) (looked : List (List ℕ)) (came : List Event) (asked : List Request)
+      (many : (ts : List Turn) → length looked + looks ts ≡ looks (t ∷ ts))
+      (woven : (ts : List Turn) (fs : List (List ℕ)) → interleaving (t ∷ ts)
+      (looked ++ fs) ≡ came ++ interleaving ts fs)
+      (asks_on : (ts : List Turn) (fs : List (List ℕ)) → asks c (t ∷ ts) (looked ++ fs)
+      ≡ asked ++ asks (core_after img c came) ts fs) where
+    behind : (ts : List Turn) (found : List (List ℕ)) (front : List Request) (bit : ℕ)
+        → Posts (core_after img c came) ts found front bit → Posts c (t ∷ ts) (looked ++ found) (asked ++ front) bit
+    behind ts found front bit p = record {
+      earlier = t ∷ p.earlier;
       later = p.later;
-      parts = ap (λ us. e ∷ us) p.parts;
+      parts = ap (λ us. t ∷ us) p.parts;
       seen = looked ++ p.seen;
-      words = p.words;
       unseen = p.unseen;
-      found_parts = ap (λ fs. looked ++ fs) p.found_parts ∙ sym (append_assoc looked p.seen (p.words ∷ p.unseen));
+      found_parts = ap (λ fs. looked ++ fs) p.found_parts ∙ sym (append_assoc looked p.seen p.unseen);
       many = omega (arith, length-append looked p.seen, p.many, many p.earlier);
-      made_parts =
-          ap (λ rs. asked ++ rs) p.made_parts
-          ∙ sym (append_assoc asked (asks (core_after img c came) (map Happens p.earlier) p.seen)
-          (look_requests here p.words))
-          ∙ ap (λ rs. rs ++ look_requests here p.words) (sym (asks_on p.earlier p.seen));
+      made_parts = ap (λ rs. asked ++ rs) p.made_parts ∙ sym (asks_on p.earlier p.seen);
       post = p.post;
       irq = p.irq;
       shows =
-          ap (λ es. (step img (core_after img c (es ++ look_arrivals p.words))).1) (woven p.earlier p.seen)
-          ∙ ap (λ es. (step img (core_after img c es)).1)
-          (append_assoc came (interleaving (map Happens p.earlier) p.seen) (look_arrivals p.words))
-          ∙ ap (λ (d : Core). (step img d).1)
-          (core_after-append img c came (interleaving (map Happens p.earlier) p.seen ++ look_arrivals p.words))
+          ap (λ es. (step img (core_after img c es)).1) (woven p.earlier p.seen)
+          ∙ ap (λ (d : Core). (step img d).1) (core_after-append img c came (interleaving p.earlier p.seen))
           ∙ p.shows;
       leads = p.leads;
       is = p.is;
     }
 
-  -- each pend among what the events of a core ask for
-  pub posted : (c : Core) (es : List Event) (found : List (List ℕ)) (front rest : List Request) (bit : ℕ)
-      → front ++ Pends bit ∷ rest ≡ asks c (turns es) found → Posts c es found front bit
-  posted c [] [] front rest bit same = absurd (none_in front rest (Pends bit) same)
-  posted c [] (ws ∷ found) front rest bit same =
-      elim (split_at front rest (look_requests here ws) [] (Pends bit) same) [
-        | inl looked ↦ absurd (no_pend here ws front looked.0 bit looked.1)
-        | inr past ↦ absurd (none_in past.0 rest (Pends bit) past.2)
-      ]
-  posted c (Tick ∷ es) found front rest bit same =
-      behind c Tick [] (Tick ∷ []) [] (λ us. omega arith) (λ us fs. refl) (λ us fs. refl) es found front bit
-      (posted (core_after img c (Tick ∷ [])) es found front rest bit same)
-  posted c (Arrive irq ∷ es) found front rest bit same =
-      behind c (Arrive irq) [] (Arrive irq ∷ []) [] (λ us. omega arith) (λ us fs. refl) (λ us fs. refl) es found front
-      bit (posted (core_after img c (Arrive irq ∷ [])) es found front rest bit same)
-  posted c (Step ∷ es) [] front rest bit same = absurd (none_in front rest (Pends bit) same)
-  posted c (Step ∷ es) (ws ∷ found) front rest bit same =
+  nothing_yet : (c : Core) → core_after img c [] ≡ c
+  unfolding core_after
+  nothing_yet c = refl
+
+  -- each pend among what turns ask for
+  pub posted : (c : Core) (ts : List Turn) (found : List (List ℕ)) (front rest : List Request) (bit : ℕ)
+      → front ++ Pends bit ∷ rest ≡ asks c ts found → Posts c ts found front bit
+  posted c [] found front rest bit same = absurd (none_in front rest (Pends bit) same)
+  posted c (Looks ∷ ts) [] front rest bit same = absurd (none_in front rest (Pends bit) same)
+  posted c (Looks ∷ ts) (ws ∷ found) front rest bit same =
       let look : List Request = look_requests here ws in
-      let posts : List Request = post_requests route there (shown c ws) in
-      let d : Core = core_after img c (look_arrivals ws ++ Step ∷ []) in
-      elim (split_at front rest look (posts ++ asks d (turns es) found) (Pends bit) same) [
+      let d : Core = core_after img c (look_arrivals ws) in
+      elim (split_at front rest look (asks d ts found) (Pends bit) same) [
         | inl looked ↦ absurd (no_pend here ws front looked.0 bit looked.1)
-        | inr past ↦ elim (split_at past.0 rest posts (asks d (turns es) found) (Pends bit) past.2) [
-          | inl now ↦ let p = posted_here (shown c ws) past.0 now.0 bit (sym now.1) in
-              record {
-                earlier = [];
-                later = es;
-                parts = refl;
-                seen = [];
-                words = ws;
-                unseen = found;
-                found_parts = refl;
-                many = refl;
-                made_parts = past.1 ∙ ap (λ rs. look ++ rs) p.0 ∙ append-nil look;
-                post = p.1.0;
-                irq = p.1.1;
-                shows = p.1.2;
-                leads = p.1.3;
-                is = p.1.4;
-              }
-          | inr then ↦
-              subst (λ rs. Posts c (Step ∷ es) (ws ∷ found) rs bit)
-              (append_assoc look posts then.0 ∙ ap (λ rs. look ++ rs) (sym then.1) ∙ sym past.1)
-              (behind c Step (ws ∷ []) (look_arrivals ws ++ Step ∷ []) (look ++ posts) (λ us. omega arith)
-              (λ us fs. sym (append_assoc (look_arrivals ws) (Step ∷ []) (interleaving (map Happens us) fs)))
-              (λ us fs. sym (append_assoc look posts (asks d (map Happens us) fs))) es found then.0 bit
-              (posted d es found then.0 rest bit then.2))
-        ]
+        | inr past ↦
+            subst (λ rs. Posts c (Looks ∷ ts) (ws ∷ found) rs bit) (sym past.1)
+            (behind c Looks (ws ∷ []) (look_arrivals ws) look (λ us. omega arith) (λ us fs. refl) (λ us fs. refl) ts
+            found past.0 bit (posted d ts found past.0 rest bit past.2))
+      ]
+  posted c (Happens Tick ∷ ts) found front rest bit same =
+      behind c (Happens Tick) [] (Tick ∷ []) [] (λ us. omega arith) (λ us fs. refl) (λ us fs. refl) ts found front bit
+      (posted (core_after img c (Tick ∷ [])) ts found front rest bit same)
+  posted c (Happens (Arrive irq) ∷ ts) found front rest bit same =
+      behind c (Happens (Arrive irq)) [] (Arrive irq ∷ []) [] (λ us. omega arith) (λ us fs. refl) (λ us fs. refl) ts
+      found front bit (posted (core_after img c (Arrive irq ∷ [])) ts found front rest bit same)
+  posted c (Happens Step ∷ ts) found front rest bit same =
+      let posts : List Request = post_requests route there (step img c).1 in
+      let d : Core = core_after img c (Step ∷ []) in
+      elim (split_at front rest posts (asks d ts found) (Pends bit) same) [
+        | inl at ↦ let p = posted_here (step img c).1 front at.0 bit (sym at.1) in
+            record {
+              earlier = [];
+              later = ts;
+              parts = refl;
+              seen = [];
+              unseen = found;
+              found_parts = refl;
+              many = refl;
+              made_parts = p.0;
+              post = p.1.0;
+              irq = p.1.1;
+              shows = ap (λ (d : Core). (step img d).1) (nothing_yet c) ∙ p.1.2;
+              leads = p.1.3;
+              is = p.1.4;
+            }
+        | inr past ↦
+            subst (λ rs. Posts c (Happens Step ∷ ts) found rs bit) (sym past.1)
+            (behind c (Happens Step) [] (Step ∷ []) posts (λ us. omega arith) (λ us fs. refl) (λ us fs. refl) ts found
+            past.0 bit (posted d ts found past.0 rest bit past.2))
       ]

@@ -17,7 +17,7 @@ use Rattle.rt_words.specs.History.{part}
 use Rattle.rt_words.specs.declared.call.Entry.{Entry}
 use Rattle.rt_live.specs.Account.{declared_irqs}
 use Rattle.rt_live.specs.Going.{IsWholeLook, FindsDeclared}
-use Rattle.rt_live.specs.Interleaving.{Turn, Happens, looks, last_turns, interleaving}
+use Rattle.rt_live.specs.Interleaving.{Turn, looks, last_turns, interleaving, with_looks}
 use Rattle.rt_live.specs.Requests.{request_of, turn_requests}
 use Rattle.rt_live.specs.Shares.{own_events}
 use Rattle.rt_live.specs.declared.share.Share.TheVariants.{First, Second}
@@ -33,7 +33,7 @@ second_events script = own_events Second script
 
 -- what is done on a core's side: its events, each step behind a look, and one look behind the last of them
 abbrev pub turns : List Event → List Turn
-turns events = map Happens events ++ last_turns 0
+turns events = with_looks events ++ last_turns 0
 
 -- the place of a core in the row: the number that the row has for it, that of the other core, and that of its line
 pub record Place : Type 0 where

@@ -3,7 +3,7 @@
 use Rattle.std.specs.Prelude.{◌≡◌, ℕ, ◌+◌, ◌*◌, ◌<◌, List, ◌∷◌, ◌++◌, map, length, Option, Some, None, Contains}
 use Rattle.std.specs.Int.{bit_at}
 use Rattle.std.specs.List.{AllByRecursion}
-use Rattle.rt_ids.specs.Event.{Event, Step, steps}
+use Rattle.rt_ids.specs.Event.{Event, Step}
 use Rattle.rt_ids.specs.Names.{Names}
 use Rattle.rt_code.specs.Image.{Image}
 use Rattle.rt_core.specs.Core.{Core, reset}
@@ -18,9 +18,9 @@ use Rattle.rt_words.specs.declared.call.Pended.TheVariants.{Raised}
 use Rattle.rt_words.specs.declared.call.Call.TheVariants.{Pend, Latch}
 use Rattle.rt_words.specs.declared.call.Entry.{Entry}
 use Rattle.rt_live.specs.History.{IsEmptyLook}
-use Rattle.rt_live.specs.Interleaving.{Happens, look_arrivals, interleaving}
-use Rattle.rt_live.specs.Requests.{Request, request_of, look_requests, turn_requests, routed}
-use Rattle.rt_dual.specs.Course.{Place, first_place, second_place, first_events, second_events}
+use Rattle.rt_live.specs.Interleaving.{Turn, Happens, looks, interleaving}
+use Rattle.rt_live.specs.Requests.{Request, request_of, turn_requests, routed}
+use Rattle.rt_dual.specs.Course.{Place, first_place, second_place, first_events, second_events, turns}
 use Rattle.rt_dual.specs.Forwarded.{forward}
 use Rattle.rt_dual.specs.Output.{IsPairText}
 
@@ -31,26 +31,23 @@ LooksFindPosts near far history =
     → history ≡ before ++ record { line = near.line; call = Latch word found } ∷ behind
     → bit < 32 → bit_at found bit ≡ 1 → Contains (part before far.line) (Pend (32 * word + bit) Raised)
 
--- A core with this image is in this state before these events, its looks find these words, and it has made these
--- requests when it pends this bit. They are those of the events before a step, each step of them behind its look, and
--- of the look that belongs to the step. By what these looks found, and by nothing that is found later, the step shows
--- the post that leads to the bit.
-pub record IsPosted (route : ℕ → Option ℕ) (here there : ℕ) (img : Image) (c : Core) (events : List Event)
+-- A core with this image is in this state before these turns, its looks find these words, and it has made these
+-- requests when it pends this bit. They are those of the turns before a step, the look that belongs to it among them.
+-- By what the looks among these found, and by nothing that is found later, the step shows the post that leads to the
+-- bit.
+pub record IsPosted (route : ℕ → Option ℕ) (here there : ℕ) (img : Image) (c : Core) (ts : List Turn)
     (found : List (List ℕ)) (made : List Request) (bit : ℕ) : Type 0 where
-  pub earlier : List Event
-  pub later : List Event
-  pub parts : events ≡ earlier ++ Step ∷ later
+  pub earlier : List Turn
+  pub later : List Turn
+  pub parts : ts ≡ earlier ++ Happens Step ∷ later
   pub seen : List (List ℕ)
-  pub words : List ℕ
   pub unseen : List (List ℕ)
-  pub found_parts : found ≡ seen ++ words ∷ unseen
-  pub many : length seen ≡ steps earlier
-  pub made_parts : made
-      ≡ turn_requests route here there img c (map Happens earlier) seen ++ look_requests here words
+  pub found_parts : found ≡ seen ++ unseen
+  pub many : length seen ≡ looks earlier
+  pub made_parts : made ≡ turn_requests route here there img c earlier seen
   pub post : ℕ
   pub irq : ℕ
-  pub shows : (step img (core_after img c (interleaving (map Happens earlier) seen ++ look_arrivals words))).1
-      ≡ Some (what.Post post)
+  pub shows : (step img (core_after img c (interleaving earlier seen))).1 ≡ Some (what.Post post)
   pub leads : route post ≡ Some irq
   pub is : bit ≡ bit_in_row there irq
 
@@ -60,7 +57,7 @@ abbrev pub LooksPrecedePosts : Place → Image → Names → List Event → List
 LooksPrecedePosts place img other events found history =
     (before behind : List Entry) (bit : ℕ) (answer : Pended)
     → history ≡ before ++ record { line = place.line; call = Pend bit answer } ∷ behind
-    → IsPosted (forward img other) place.here place.there img (reset img) events found
+    → IsPosted (forward img other) place.here place.there img (reset img) (turns events) found
     (map request_of (part before place.line)) bit
 
 -- of both cores

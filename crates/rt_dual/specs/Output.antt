@@ -61,12 +61,11 @@ pub record TookPart (first second : Image) (script : List Line) (before after : 
 
 -- The core has done the first of the events of these turns and no others, for words that its looks may find: no more
 -- looks than the turns have, each of a word of each number, with the bits of declared interrupts alone. It stopped
--- where memory was wanted for a line: nothing has happened to it, or the last event that it has done shows an item, or
--- all turns are done.
+-- where memory was wanted for a line, so that the last event that it has done shows an item, or all turns are done.
 pub record HasBegun (ts : List Turn) (old new : Machine) : Type 0 where
   pub found : List (List ℕ)
   pub few : length found ≤ looks ts
   pub whole : AllByRecursion IsWholeLook found
   pub declared : AllByRecursion (FindsDeclared old.image.names) found
   pub done : HasDone (interleaving ts found) old new
-  pub stops : (new ≡ old) ⊎ (EndsInItem done.done old ⊎ ((done.rest ≡ []) × (length found ≡ looks ts)))
+  pub stops : EndsInItem done.done old ⊎ ((done.rest ≡ []) × (length found ≡ looks ts))

@@ -1,13 +1,14 @@
 // What is made for two cores before they run.
-ghost use Rattle.std.specs.Prelude.{◌≡◌, ◌<◌, ◌∷◌, [], IfOk, OnOk};
+ghost use Rattle.std.specs.Prelude.{◌≡◌, ℕ, ◌<◌, ◌∷◌, [], IfOk, OnOk};
 ghost use Rattle.std.specs.List.{AllByRecursion};
 ghost use Rattle.rt_ids.specs.declared.limits.TheConstants.{IRQ_NUMBERS};
 ghost use Rattle.rt_listing.specs.Numbers.{HasTypedNumbers};
-ghost use Rattle.rt_words.specs.Lines.{Row, count, new_line};
+ghost use Rattle.rt_words.specs.Lines.{count, new_line};
 ghost use Rattle.rt_words.specs.declared.row.TheConstants.{ROW_WORDS};
-ghost use Rattle.rt_live.specs.Ready.{irqs_of};
-ghost use Rattle.rt_dual.specs.Course.{Place};
-ghost use Rattle.rt_dual.specs.Inside.Both.{AreBefore, HasBits, HasPlace, IsBefore, front};
+ghost use Rattle.rt_live.specs.Account.{declared_irqs};
+ghost use Rattle.rt_live.specs.Ready.{HasBits, irqs_of};
+ghost use Rattle.rt_dual.specs.Forwarded.{forward};
+ghost use Rattle.rt_dual.specs.Inside.Both.{AreBefore, front, leads_by};
 
 use crate::kept::Kept;
 use crate::routes::{Table, table_of};
@@ -69,11 +70,14 @@ fn side_of(
     line: Box<Line>,
     rows: Vec<AccountRow>,
 ) -> Result<Side, NoMemory>
+    requires { AllByRecursion (λ irq. irq < IRQ_NUMBERS) (declared_irqs image.now.names) }
     ensures line { IfOk result (λ side. side.line.value ≡ line.value) }
     ensures rows { IfOk result (λ side. side.rows.items ≡ rows.items) }
-    ensures before { IfOk result (λ side. (place : Place) (row : Row)
-        → HasPlace place row image.now side.line.value side.rows.items
-        → IsBefore place share head.now row image.now other.now side) }
+    ensures shares { IfOk result (λ side. side.role.share ≡ share) }
+    ensures routes { IfOk result (λ side. (irq : ℕ)
+        → leads_by side.role.routes irq ≡ forward image.now other.now.names irq) }
+    ensures text { IfOk result (λ side. side.text.bytes.items ≡ front head.now image.now) }
+    ensures numbers { IfOk result (λ _. HasTypedNumbers image.now) }
 {
     let routes = table_of(alloc, image, &other.names)?;
     let text = front_of(alloc, head, image)?;

@@ -1,4 +1,4 @@
-ghost use Rattle.std.specs.Prelude.{◌≡◌, [], ℕ, List, OnOk, OnErr, IsErrOf};
+ghost use Rattle.std.specs.Prelude.{◌≡◌, ◌⊎◌, [], ℕ, List, OnOk, OnErr, IsErrOf};
 ghost use Rattle.rt_code.specs.Lines.{HasLines};
 ghost use Rattle.rt_core.specs.Machine.{IsFresh};
 ghost use Rattle.rt_listing.specs.Numbers.{HasTypedNumbers};
@@ -61,10 +61,12 @@ pub fn pair<R: Threads + Sync, K: Sink, G: Gate + Sync>(
     ensures fault { IsErrOf result LiveFail.Fault → Rose (K.faults out.old) (K.faults out.new) }
     ensures quiet { ¬ IsErrOf result LiveFail.Fault → K.faults out.new ≡ K.faults out.old }
 
-    // After either refusal, as behind a whole run, each core has done the first of its events and no others, for words
-    // of declared interrupts. Where memory is not there it has not gone on behind the line that wanted it.
-    ensures first_begun { HasBegun (turns (first_events script.now)) first.old first.new }
-    ensures second_begun { HasBegun (turns (second_events script.now)) second.old second.new }
+    // Where memory is not there neither core has run, or both have: each has then done the first of its events and no
+    // others, for whole looks of declared bits, and has not gone on behind the line that wanted it.
+    ensures alike { IsErrOf result LiveFail.NoMemory →
+        ((first.new ≡ first.old) × (second.new ≡ second.old))
+        ⊎ (HasBegun (turns (first_events script.now)) first.old first.new
+        × HasBegun (turns (second_events script.now)) second.old second.new) }
 
     // Behind a whole run each core has done all the events of its trace that was taken.
     ensures all { OnOk result

@@ -1,7 +1,8 @@
 -- What looks find under a script: requests of its devices, each at most once.
-use Rattle.std.proofs.Common.{◌≡◌, ℕ, zero, suc, ◌+◌, ◌≤◌, ◌==◌, Bool, true, false, cond, List, [], ◌∷◌, ◌++◌, length}
-use Rattle.std.proofs.Common.{map, flat_map, replicate, count_by, sum_by, Some, refl, ap, sym, subst, arith}
-use Rattle.std.proofs.Common.{length-append, drop}
+use Rattle.std.proofs.Common.{◌≡◌, ℕ, zero, suc, ◌+◌, ◌≤◌, ◌==◌, Bool, true, false, cond, if◌then◌else◌, List, []}
+use Rattle.std.proofs.Common.{◌∷◌, ◌++◌, length, map, flat_map, replicate, count_by, sum_by, Some, refl, ap, sym, subst}
+use Rattle.std.proofs.Common.{arith}
+use Rattle.std.proofs.Common.{append-nil, length-append, drop}
 use Rattle.std.specs.List.{AllByRecursion}
 use Rattle.std.proofs.lemmas.List.{length-replicate}
 use Rattle.std.proofs.lemmas.List.Sums.{sum_by-cons}
@@ -31,8 +32,13 @@ use Rattle.rt_live.specs.History.{IsHistory, line_asks}
 use Rattle.rt_live.specs.Output.{IsLiveText}
 use Rattle.rt_live.specs.declared.account.AccountRow.{AccountRow}
 use Rattle.rt_live.specs.Interleaving.{Turn, Happens, Looks, turns, arrivals_from, look_arrivals, look_calls_from}
-use Rattle.rt_live.specs.Interleaving.{look_calls, interleaving}
+use Rattle.rt_live.specs.Interleaving.{look_calls, interleaving, last_turns, with_looks}
+use Rattle.rt_live.specs.Shares.{takes, own_line_events, own_events}
+use Rattle.rt_live.specs.declared.share.Share.{Share}
+use Rattle.rt_live.specs.declared.share.Share.TheVariants.{BesideDevices}
+use Rattle.rt_live.proofs.Ended.{events_beside}
 use Rattle.rt_live.proofs.Looking.{arriving_all}
+use Rattle.rt_live.proofs.Woven.{repeated_steps}
 use Rattle.rt_live.proofs.Requested.{asks_that, all_pended}
 use Rattle.rt_live.proofs.Requesting.{all_replicate}
 
@@ -60,17 +66,7 @@ module _ (P : ℕ → Type 0) where
   pub woven_all : (ts : List Turn) (found : List (List ℕ)) → AllByRecursion (TurnArrives P) ts
       → AllByRecursion P (found_irqs found) → AllByRecursion (Arrives P) (interleaving ts found)
   woven_all [] found all is = tt
-  woven_all (Happens Tick ∷ ts) found all is = (tt, woven_all ts found all.1 is)
-  woven_all (Happens (Arrive irq) ∷ ts) found all is = (all.0, woven_all ts found all.1 is)
-  woven_all (Happens Step ∷ ts) [] all is = tt
-  woven_all (Happens Step ∷ ts) (words ∷ found) all is =
-      all_append (Arrives P) (look_arrivals words) (Step ∷ interleaving ts found)
-      (arrived_all (arrivals_from 0 words)
-      (all_front P (arrivals_from 0 words) (found_irqs found) is)) (
-        tt,
-        woven_all ts found all.1
-            (all_behind P (arrivals_from 0 words) (found_irqs found) is),
-      )
+  woven_all (Happens event ∷ ts) found all is = (all.0, woven_all ts found all.1 is)
   woven_all (Looks ∷ ts) [] all is = tt
   woven_all (Looks ∷ ts) (words ∷ found) all is =
       all_append (Arrives P) (look_arrivals words) (interleaving ts found)
@@ -116,17 +112,8 @@ arrived_weight (irq ∷ irqs) = omega (arith, arrived_weight irqs)
 pub woven_weight : (ts : List Turn) (found : List (List ℕ)) → weight (interleaving ts found) ≤ turns_weight ts
     + length (found_irqs found)
 woven_weight [] found = omega arith
-woven_weight (Happens Tick ∷ ts) found = omega (arith, woven_weight ts found)
-woven_weight (Happens (Arrive irq) ∷ ts) found = omega (arith, woven_weight ts found)
-woven_weight (Happens Step ∷ ts) [] = omega arith
-woven_weight (Happens Step ∷ ts) (words ∷ found) =
-    omega (
-      arith,
-      weight_append (look_arrivals words) (Step ∷ interleaving ts found),
-      arrived_weight (arrivals_from 0 words),
-      length-append (arrivals_from 0 words) (found_irqs found),
-      woven_weight ts found,
-    )
+woven_weight (Happens event ∷ ts) found =
+    omega (arith, weight_append (event ∷ []) (interleaving ts found), woven_weight ts found)
 woven_weight (Looks ∷ ts) [] = omega arith
 woven_weight (Looks ∷ ts) (words ∷ found) =
     omega (
@@ -210,13 +197,6 @@ own_few (line ∷ script) =
 pub replicated_events : (P : ℕ → Type 0) (n : ℕ) (e : Event) → Arrives P e → AllByRecursion (Arrives P) (replicate n e)
 replicated_events P n e is = all_replicate (Arrives P) n e is
 
-own_line : (names : Names) (line : Line) → HasName names line
-    → AllByRecursion (Arrives (Named names)) (core_line_events line)
-own_line names (Steps n) has = replicated_events (Named names) n Step tt
-own_line names (Ticks n) has = replicated_events (Named names) n Tick tt
-own_line names (Pends irq n) has = replicated_events (Named names) n (Arrive irq) has
-own_line names (Device d irq n) has = tt
-
 any_line : (names : Names) (line : Line) → HasName names line
     → AllByRecursion (Arrives (Named names)) (line_events line)
 any_line names (Steps n) has = replicated_events (Named names) n Step tt
@@ -224,14 +204,7 @@ any_line names (Ticks n) has = replicated_events (Named names) n Tick tt
 any_line names (Pends irq n) has = replicated_events (Named names) n (Arrive irq) has
 any_line names (Device d irq n) has = replicated_events (Named names) n (Arrive irq) has
 
-own_named : (names : Names) (script : List Line) → HasNames names script
-    → AllByRecursion (Arrives (Named names)) (core_events script)
-own_named names script named =
-    all_flat_map (Arrives (Named names)) core_line_events script
-    (all_weaker (HasName names) (λ line. AllByRecursion (Arrives (Named names)) (core_line_events line))
-    (own_line names) script named)
-
--- and so do all its lines
+-- so do all lines, and those that come to a core
 pub named_events : (names : Names) (script : List Line) → HasNames names script
     → AllByRecursion (Arrives (Named names)) (events script)
 named_events names script named =
@@ -239,24 +212,30 @@ named_events names script named =
     (all_weaker (HasName names) (λ line. AllByRecursion (Arrives (Named names)) (line_events line))
     (any_line names) script named)
 
+pub own_named : (share : Share) (names : Names) (script : List Line) → HasNames names script
+    → AllByRecursion (Arrives (Named names)) (own_events share script)
+own_named share names script named =
+    all_flat_map (Arrives (Named names)) (own_line_events share) script
+    (all_weaker (HasName names) (λ line. AllByRecursion (Arrives (Named names)) (own_line_events share line))
+    (λ line has. by (line_events line) (any_line names line has) (takes share line)) script named)
+  where
+    by : (es : List Event) → AllByRecursion (Arrives (Named names)) es → (b : Bool)
+        → AllByRecursion (Arrives (Named names)) (if b then es else [])
+    by es all true = all
+    by es all false = tt
+
 pub own_turns_named : (P : ℕ → Type 0) (es : List Event) (ts : List Turn) → AllByRecursion (Arrives P) es
-    → AllByRecursion (TurnArrives P) ts → AllByRecursion (TurnArrives P) (map Happens es ++ ts)
+    → AllByRecursion (TurnArrives P) ts → AllByRecursion (TurnArrives P) (with_looks es ++ ts)
 own_turns_named P [] ts all more = more
-own_turns_named P (e ∷ es) ts all more = (all.0, own_turns_named P es ts all.1 more)
+own_turns_named P (Step ∷ es) ts all more = (tt, (all.0, own_turns_named P es ts all.1 more))
+own_turns_named P (Tick ∷ es) ts all more = (all.0, own_turns_named P es ts all.1 more)
+own_turns_named P (Arrive irq ∷ es) ts all more = (all.0, own_turns_named P es ts all.1 more)
 
-added_named : (P : ℕ → Type 0) (n : ℕ) → AllByRecursion (TurnArrives P) (replicate n (Happens Step))
-added_named P zero = tt
-added_named P (suc n) = (tt, added_named P n)
-
-pub own_weight : (es : List Event) (ts : List Turn) → turns_weight (map Happens es ++ ts) ≡ weight es + turns_weight ts
+pub own_weight : (es : List Event) (ts : List Turn) → turns_weight (with_looks es ++ ts) ≡ weight es + turns_weight ts
 own_weight [] ts = omega arith
 own_weight (Arrive irq ∷ es) ts = omega (arith, own_weight es ts)
 own_weight (Tick ∷ es) ts = omega (arith, own_weight es ts)
 own_weight (Step ∷ es) ts = omega (arith, own_weight es ts)
-
-added_weight : (n : ℕ) → turns_weight (replicate n (Happens Step)) ≡ n
-added_weight zero = refl
-added_weight (suc n) = omega (arith, added_weight n)
 
 module _ (names : Names) (script : List Line) (found : List (List ℕ)) (history : List Entry)
     (is : IsHistory script found history) (scripted : IsScript script) (named : HasNames names script) where
@@ -310,19 +289,29 @@ module _ (names : Names) (script : List Line) (found : List (List ℕ)) (history
   -- each event of the run is of a declared interrupt
   pub events_named : AllByRecursion (Arrives (Named names)) (interleaving (turns script) found)
   events_named =
+      let n : ℕ = steps (core_events script) in
       woven_all (Named names) (turns script) found
-      (own_turns_named (Named names) (core_events script)
-      (Looks ∷ replicate (steps (core_events script)) (Happens Step)) (own_named names script named)
-      (tt, added_named (Named names) (steps (core_events script)))) found_named
+      (own_turns_named (Named names) (core_events script) (last_turns n)
+      (subst (AllByRecursion (Arrives (Named names))) (events_beside script)
+      (own_named BesideDevices names script named)) (
+        tt,
+        subst (AllByRecursion (TurnArrives (Named names))) (append-nil (with_looks (replicate n Step)))
+            (own_turns_named (Named names) (replicate n Step) [] (replicated_events (Named names) n Step tt) tt),
+      )) found_named
 
   -- and they are few
   pub events_weigh : weight (interleaving (turns script) found) ≤ 2000000
   events_weigh =
+      let n : ℕ = steps (core_events script) in
       omega (
         arith,
         woven_weight (turns script) found,
-        own_weight (core_events script) (Looks ∷ replicate (steps (core_events script)) (Happens Step)),
-        added_weight (steps (core_events script)),
+        own_weight (core_events script) (last_turns n),
+        ap turns_weight (append-nil (with_looks (replicate n Step))),
+        own_weight (replicate n Step) [],
+        steps_weigh (replicate n Step),
+        repeated_steps n,
+        length-replicate n Step,
         steps_weigh (core_events script),
         own_few script,
         found_within,

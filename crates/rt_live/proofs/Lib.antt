@@ -1,5 +1,5 @@
 pub mod Woven
-pub mod Asking
+pub mod Weaving
 pub mod Turning
 pub mod Looking
 pub mod Ended
@@ -10,5 +10,4 @@ pub mod Onward
 pub mod Requesting
 pub mod Requested
 pub mod Outputs
-pub mod Closed
 pub mod Found

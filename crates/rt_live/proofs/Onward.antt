@@ -13,20 +13,20 @@ use Rattle.rt_words.specs.Object.{after}
 use Rattle.rt_words.specs.History.{LeavesWords, part, entries, IsLegal, CallsLast}
 use Rattle.rt_words.specs.declared.call.Entry.{Entry}
 use Rattle.rt_words.proofs.Bits.{zero_here, zero_below, zeros as zeros_at}
-use Rattle.rt_live.specs.Interleaving.{look_calls_from, Happens, Looks, looks, turns, look_calls, last_looks}
+use Rattle.rt_live.specs.Interleaving.{look_calls_from, last_turns, looks, turns, look_calls, last_looks, with_looks}
 use Rattle.rt_live.specs.Interleaving.{look_arrivals, interleaving}
 use Rattle.std.specs.List.{AllByRecursion}
 use Rattle.std.proofs.lemmas.List.{take-append-drop, drop-append-le, ext_get_or, nil_from_length}
 use Rattle.std.proofs.lemmas.List.Concat.{flat_map-append}
-use Rattle.rt_ids.specs.Event.{Event, Arrive, Tick, Step, steps}
+use Rattle.rt_ids.specs.Event.{Event, Step, steps}
 use Rattle.rt_script.specs.Script.{core_events, pends}
 use Rattle.rt_script.specs.declared.line.Line.{Line}
 use Rattle.rt_live.specs.Going.{IsWholeLook}
 use Rattle.rt_live.specs.History.{IsEmptyLook, IsHistory}
-use Rattle.rt_live.proofs.Woven.{looks-append, length-latches, interleaving_finished}
+use Rattle.rt_live.proofs.Woven.{looks-append, looks_own, repeated_steps, length-latches, cut_before}
+use Rattle.rt_live.proofs.Woven.{interleaving_finished}
 use Rattle.rt_lemmas.proofs.Membership.{all_append}
 use Rattle.rt_devices.specs.Work.{interrupt_asked}
-use Rattle.rt_live.proofs.Asking.{cut_before}
 
 -- a history, and one that goes on
 pub leads_on : (a b c : List ℕ) (front behind : List Entry) → LeavesWords a front b → LeavesWords b behind c
@@ -135,25 +135,16 @@ latches_on k (x ∷ xs) ys =
 abbrev entry_of_core : Call → Entry
 entry_of_core call = record { line = 255; call = call }
 
--- a look comes before each of the core's own steps
-pub looks_own : (es : List Event) → looks (map Happens es) ≡ steps es
-looks_own [] = refl
-looks_own (Step ∷ es) = ap suc (looks_own es)
-looks_own (Tick ∷ es) = looks_own es
-looks_own (Arrive irq ∷ es) = looks_own es
-
 pub all_looks : (script : List Line) → looks (turns script) ≡ suc (2 * steps (core_events script))
 all_looks script =
+    let es : List Event = core_events script in
     omega (
       arith,
-      looks-append (map Happens (core_events script)) (Looks ∷ replicate (steps (core_events script)) (Happens Step)),
-      looks_own (core_events script),
-      added (steps (core_events script)),
+      looks-append (with_looks es) (last_turns (steps es)),
+      looks_own es,
+      looks_own (replicate (steps es) Step),
+      repeated_steps (steps es),
     )
-  where
-    added : (n : ℕ) → looks (replicate n (Happens Step)) ≡ n
-    added zero = refl
-    added (suc n) = ap suc (added n)
 
 pub whole_behind : (n : ℕ) (found : List (List ℕ)) → AllByRecursion IsWholeLook found
     → AllByRecursion IsWholeLook (drop n found)

@@ -1,52 +1,58 @@
 -- What was written of a run is a text that `live` allows, or a beginning of one, by what the closed words tell.
 use Rattle.std.proofs.Common.{◌≡◌, ◌⊎◌, ℕ, ◌+◌, ◌<◌, ◌≤◌, List, [], ◌∷◌, ◌++◌, length, flat_map, replicate, inl, refl}
-use Rattle.std.proofs.Common.{sym, ap, subst, ◌∙◌, arith, append_assoc, ◌≢◌, ◌*◌, inr, map, drop, Contains, Some}
+use Rattle.std.proofs.Common.{sym, ap, subst, ◌∙◌, arith, append_assoc, ◌≢◌, inr, map, drop, Contains}
+use Rattle.std.proofs.Common.{Some, get_or}
 use Rattle.std.specs.List.{AllByRecursion}
+use Rattle.std.proofs.lemmas.List.{length-map}
 use Rattle.rt_ids.specs.Event.{Event, steps}
 use Rattle.rt_code.specs.Image.{Image}
 use Rattle.rt_core.specs.Core.{Core}
 use Rattle.rt_core.specs.Machine.{Machine, IsFresh}
 use Rattle.rt_core.specs.Trace.{core_after, labels, trace}
-use Rattle.rt_outside.specs.Bytes.{TookPrefix, Took, TookAtLeast}
+use Rattle.rt_outside.specs.Bytes.{TookPrefix, Took}
 use Rattle.rt_run.specs.Sending.{Breaks, lines_of}
 use Rattle.rt_run.proofs.Advancing.{lines_split}
 use Rattle.rt_run.proofs.Sent.{breaks_before}
 use Rattle.rt_run.proofs.Taking.{part_more, part_on, took_on}
-use Rattle.rt_script.specs.Script.{HasDeviceInRange, core_events, pends}
+use Rattle.rt_script.specs.Script.{HasDeviceInRange, HasName, IsScript, pends}
 use Rattle.rt_script.specs.declared.line.Line.{Line}
+use Rattle.rt_script.specs.declared.line.Line.TheVariants.{Steps, Ticks, Pends, Device as DeviceLine}
 use Rattle.rt_trace.specs.Label.{items_of}
 use Rattle.rt_trace.specs.Text.{text, total_text}
-use Rattle.rt_words.specs.Ending.{calls_in}
-use Rattle.rt_words.specs.declared.call.Entry.{Entry}
-use Rattle.rt_live.specs.Account.{account_of, account_text, declared_irqs}
-use Rattle.rt_live.specs.Going.{IsWholeLook, Ends}
-use Rattle.rt_words.specs.Account.{raised_count, merged_count}
-use Rattle.rt_words.specs.Row.{bit_in_row}
-use Rattle.rt_live.specs.History.{IsHistory, device_pends}
-use Rattle.rt_live.specs.Ready.{IsNumbered, Prepared, IsReady, IsCounted, core_line, irqs_of}
-use Rattle.rt_live.specs.Doing.{HasWrittenPart, HasLived, HasWritten}
-use Rattle.rt_live.specs.Output.{IsLiveText, IsBalanced}
-use Rattle.rt_live.specs.Interleaving.{looks, turns, look_arrivals, interleaving, look_calls}
-use Rattle.rt_live.specs.Written.{live_text, lines_and_total, EndsWhole, EndsEarly}
-use Rattle.rt_live.proofs.Onward.{IsCutHistory, Extends, extend, all_looks, closes_whole, zeros}
-use Rattle.rt_live.proofs.Readied.{bit_here}
-use Rattle.rt_live.proofs.Requesting.{devices_first, not_asked}
-use Rattle.rt_live.proofs.Requested.{all_counted, all_latched, nothing_pending}
-use Rattle.rt_lemmas.proofs.Membership.{all_has}
-use Rattle.rt_ids.specs.Names.{Names}
-use Rattle.rt_devices.specs.Work.{interrupt_asked}
-use Rattle.rt_devices.specs.declared.device.Device.{Device}
+use Rattle.rt_words.specs.Account.{IsTally, raised_count, merged_count}
+use Rattle.rt_words.specs.Ending.{AllGathered, OneHistory, calls_in}
 use Rattle.rt_words.specs.History.{CallsLast, part}
-use Rattle.rt_words.specs.Lines.{numbers}
+use Rattle.rt_words.specs.Lines.{Row, Line as Caller, numbers}
+use Rattle.rt_words.specs.Row.{bit_in_row}
 use Rattle.rt_words.specs.declared.call.Call.{Call}
+use Rattle.rt_words.specs.declared.call.Entry.{Entry}
+use Rattle.rt_words.specs.declared.tally.Tally.{Tally}
 use Rattle.rt_words.specs.declared.view.Part.{Part}
 use Rattle.rt_words.proofs.Lists.{dec_in, of_map}
-use Rattle.rt_live.specs.Closed.{Closes}
-use Rattle.rt_live.specs.Devices.{devices}
+use Rattle.rt_lemmas.proofs.Membership.{all_has, all_weaker}
+use Rattle.rt_ids.specs.Names.{Names}
+use Rattle.rt_ids.specs.declared.limits.TheConstants.{IRQ_NUMBERS}
+use Rattle.rt_devices.specs.Work.{interrupt_asked}
+use Rattle.rt_devices.specs.declared.device.Device.{Device}
+use Rattle.rt_live.specs.Account.{HasRoom, account_of, account_text, declared_irqs, settled_row, with_counts}
+use Rattle.rt_live.specs.Devices.{is_device}
+use Rattle.rt_live.specs.Doing.{HasWrittenPart, HasLived, HasWritten}
+use Rattle.rt_live.specs.Going.{IsWholeLook, Goes}
+use Rattle.rt_live.specs.History.{IsHistory, device_pends}
+use Rattle.rt_live.specs.Interleaving.{looks, turns, look_arrivals, interleaving, look_calls}
+use Rattle.rt_live.specs.Output.{IsLiveText, IsBalanced}
+use Rattle.rt_live.specs.Ready.{AreGathered, AreReady, HasMade, core_line}
 use Rattle.rt_live.specs.Requests.{no_route}
+use Rattle.rt_live.specs.Written.{live_text, EndsWhole, EndsEarly}
 use Rattle.rt_live.specs.declared.account.AccountRow.{AccountRow}
-use Rattle.rt_live.proofs.Ended.{text_is}
-use Rattle.rt_live.proofs.Asking.{ends_calls, stops_calls}
+use Rattle.rt_live.proofs.Ended.{cut_calls, fresh_text, woven_calls}
+use Rattle.rt_live.proofs.Made.{few_below}
+use Rattle.rt_live.proofs.Onward.{IsCutHistory, Extends, extend, all_looks, closes_whole, zeros}
+use Rattle.rt_live.proofs.Readied.{bit_here, declared_low, made_short}
+use Rattle.rt_live.proofs.Requested.{all_counted, all_latched, nothing_pending}
+use Rattle.rt_live.proofs.Requesting.{IsNumbered, devices_first, not_asked}
+use Rattle.rt_live.proofs.Tallied.{IsShort, counts_fit, rows_settled}
+use Rattle.rt_live.proofs.Weaving.{IsWoven, cut_of, weave}
 
 -- from reset, the lines of the first events begin those of all
 lines_begin : (m : Machine) (done behind : List Event) → IsFresh m
@@ -116,17 +122,6 @@ part_cut m next {script = script} {found = found} {last = last} x y fresh cut wh
       done = inl of_all;
     }
 
--- a text is allowed whatever comes: the devices may pend before the first look
-pub some_text : (image : Image) (script : List Line) → AllByRecursion HasDeviceInRange script
-    → AllByRecursion IsNumbered script
-    → (bytes : List ℕ) × IsLiveText image script bytes
-some_text image script ranges low =
-    let first = devices_first script ranges low in
-    let e : Extends script [] [] = extend first.2 tt (omega arith) (inl (omega (arith, all_looks script))) in (
-      live_text image script e.all ++ account_behind image e.history,
-      live_whole image script e.all e.history e.many e.whole e.is,
-    )
-
 -- the account of a history that is allowed
 pub balanced : (script : List Line) (found : List (List ℕ)) (history : List Entry) → IsHistory script found history
     → AllByRecursion HasDeviceInRange script → (irqs : List ℕ) → AllByRecursion (λ irq. irq < 512) irqs
@@ -143,167 +138,209 @@ balanced script found history is ranges (irq ∷ irqs) within = (
   balanced script found history is ranges irqs within.1,
 )
 
--- the run has ended: the lines of its devices were gathered, and it was closed with these rows
-module _ (ready : Prepared) (is : IsReady ready) (gone : ready.devices ≡ [])
-    (ranges : AllByRecursion HasDeviceInRange ready.script)
-    (rows : List AccountRow) (closed : Closes ready rows)
-    (early : ready.line.since ≤ 16 * steps (core_events ready.script)) where
-  -- each number of the history but the core's is a device's, with its pends
-  asked : (number : ℕ) → number ≢ 255
-      → map interrupt_asked (part closed.history number) ≡ map (λ irq. Some irq) (pends ready.script number)
-  asked number ne = elim (dec_in number (numbers ready.line.gathered)) [
-    | yes there ↦
-        let p = of_map (λ (q : Part). q.line) number ready.line.gathered there in
-        subst (λ k. map interrupt_asked (part closed.history k) ≡ map (λ irq. Some irq) (pends ready.script k)) p.1.1
-        (ap (map interrupt_asked) (closed.gathered p.0 p.1.0)
-        ∙ all_has _ ready.line.gathered p.0 is.gathered p.1.0)
-    | no out ↦
-        let named : numbers ready.line.gathered ≡ devices ready.script =
-        sym (ap (λ (ds : List Device). map (λ (d : Device). d.number) ds ++ numbers ready.line.gathered) gone)
-        ∙ is.each in
-        ap (map interrupt_asked) (closed.others number ne out)
-        ∙ ap (map (λ (irq : ℕ). Some irq))
-        (sym (not_asked number ready.script ranges
-        (λ there. out (subst (λ (ns : List ℕ). Contains ns number) (sym named) there))))
-  ]
+-- the run has ended, and its lines were gathered
+module _ {names : Names} {script : List Line} {row : Row} {line : Caller} {rows : List AccountRow}
+    (scripted : IsScript script) (gathered : AreGathered names script row line rows) where
+  pub all_gathered : AllGathered line.made line.gathered
+  all_gathered number made =
+      subst (λ (ns : List ℕ). Contains ns number) (sym gathered.each) (gathered.made number made)
 
-  cut_history : (found : List (List ℕ)) (last : List ℕ) → ready.line.calls ≡ flat_map look_calls (found ++ last ∷ [])
-      → IsCutHistory ready.script found last closed.left closed.history
-  cut_history found last latched =
-      record {
-        legal = closed.legal;
-        core = closed.core ∙ latched;
-        devices = asked;
-        since = ready.line.since;
-        within = omega (arith, is.behind, ap length latched);
-        early = early;
-        ended =
-            subst (λ (cs : List Call). CallsLast closed.history 255 (drop ready.line.since cs)) latched
-            (closed.ended gone);
-        behind = closed.behind;
-      }
+  -- there is room for the counts of the core's own line
+  pub rows_fit : AllByRecursion HasRoom rows
+  rows_fit =
+      subst (AllByRecursion HasRoom) (sym gathered.counted)
+      (counts_fit 0 line.gathered
+      (all_weaker (HasMade script) IsShort (made_short script scripted) line.gathered gathered.asked)
+      (omega (
+        arith,
+        sym (length-map line.gathered (λ (p : Part). p.line)) ∙ ap length gathered.each,
+        few_below (is_device script) 16,
+      ))
+      (declared_irqs names))
 
-  module _ (old next : Machine) (fresh : IsFresh old) where
-    -- all turns were done
-    module _ {says : List (List ℕ) → Type 0}
-        (all : Ends no_route (turns ready.script) (core_line ready.words [])
-        (core_line ready.words ready.line.calls) old next says) where
-      pub allowed : IsHistory ready.script all.found closed.history × (closed.left ≡ zeros 32)
-      allowed = closes_whole (cut_history all.found [] (ends_calls all)) all.whole all.many
+  -- the words were closed, and left these bits
+  module _ {bits : List ℕ} (h : OneHistory line bits) (behind : (k : ℕ) → 16 ≤ k → get_or bits k 0 ≡ 0) where
+    -- each number of the history but the core's is a device's, with its pends
+    asked : (number : ℕ) → number ≢ 255
+        → map interrupt_asked (part h.history number) ≡ map (λ irq. Some irq) (pends script number)
+    asked number ne = elim (dec_in number (numbers line.gathered)) [
+      | yes there ↦
+          let p = of_map (λ (q : Part). q.line) number line.gathered there in
+          subst (λ k. map interrupt_asked (part h.history k) ≡ map (λ irq. Some irq) (pends script k)) p.1.1
+          (ap (map interrupt_asked) (h.gathered p.0 p.1.0) ∙ all_has _ line.gathered p.0 gathered.asked p.1.0)
+      | no out ↦
+          ap (map interrupt_asked) (h.unmade number ne (λ made. out (all_gathered number made)))
+          ∙ ap (map (λ (irq : ℕ). Some irq))
+          (sym (not_asked number script scripted.devices
+          (λ there. out (subst (λ (ns : List ℕ). Contains ns number) (sym gathered.each) there))))
+    ]
 
-      -- the account is that of the history, with nothing left
-      account_is : rows ≡ account_of 0 (irqs_of ready.rows) (calls_in closed.history) (replicate 32 0)
-      account_is = closed.account ∙ ap (account_of 0 (irqs_of ready.rows) (calls_in closed.history)) allowed.1
-
-      -- the text of the run, with the account behind it
-      abbrev traced : List ℕ
-      traced = live_text old.image ready.script all.found
-
-      all_text : lines_and_total (turns ready.script) old next.steps all.found ≡ traced
-      all_text = text_is old next ready.script all.found fresh all.leads
-
-      abbrev whole_text : IsLiveText old.image ready.script (traced ++ account_behind old.image closed.history)
-      whole_text = live_whole old.image ready.script all.found closed.history all.many all.whole allowed.0
-
-      low : (rs : List AccountRow) → AllByRecursion (IsCounted 0 ready.line.gathered) rs
-          → AllByRecursion (λ irq. irq < 512) (irqs_of rs)
-      low [] counted = tt
-      low (row ∷ rs) counted =
-          let small : row.irq < 512 = omega (arith, counted.0.in_range) in (small, low rs counted.1)
-
-      -- each row counts all pends of its interrupt, and nothing is left
-      pub rows_balanced : AllByRecursion (IsBalanced ready.script) rows
-      rows_balanced =
-          subst (AllByRecursion (IsBalanced ready.script)) (sym account_is)
-          (balanced ready.script all.found closed.history allowed.0 ranges (irqs_of ready.rows)
-          (low ready.rows is.counted))
-
-      -- a fault came in the line of the total
-      total_part : (x y : List ℕ)
-          → TookAtLeast x y (lines_of old (interleaving (turns ready.script) all.found))
-          → TookPrefix x y (lines_and_total (turns ready.script) old next.steps all.found)
-          → HasWrittenPart ready.script old next x y
-      total_part x y least part =
-          let account : List ℕ = account_behind old.image closed.history in
-          record {
-            part = record {
-              bytes = traced ++ account;
-              is = whole_text;
-              took = part_more x y traced account (subst (TookPrefix x y) all_text part);
-            };
-            done = inr (all.leads, least);
-          }
-
-    -- what `go` tells of a fault
-    pub failed_part : (x y : List ℕ)
-        → EndsEarly no_route (turns ready.script) (core_line ready.words []) (core_line ready.words ready.line.calls)
-        old next x y → HasWrittenPart ready.script old next x y
-    failed_part x y (inl cut) =
-        part_cut old next x y fresh (cut_history cut.found cut.last (stops_calls cut)) cut.whole cut.short cut.few
-        cut.breaks
-    failed_part x y (inr all) = total_part all x y all.wrote.0 all.wrote.1
-
-    -- and of a whole run
-    module _ (irqs : irqs_of ready.rows ≡ declared_irqs old.image.names) (x y : List ℕ)
-        (all : EndsWhole no_route (turns ready.script) (core_line ready.words [])
-        (core_line ready.words ready.line.calls) old next x y) where
-      account_declared : rows
-          ≡ account_of 0 (declared_irqs old.image.names) (calls_in closed.history) (replicate 32 0)
-      account_declared = account_is all ∙ ap (λ ns. account_of 0 ns (calls_in closed.history) (replicate 32 0)) irqs
-
-      text_took : Took x y (traced all)
-      text_took = subst (Took x y) (all_text all) all.wrote
-
-      -- the trace was written
-      pub has_lived : HasLived ready.script old next x y rows
-      has_lived = record {
-        lives = record {
-          found = all.found;
-          many = all.many;
-          whole = all.whole;
-          history = closed.history;
-          is = (allowed all).0;
-          took = text_took;
-          account = account_declared;
-        };
-        leads = all.leads;
-      }
-
-      -- and the account behind it, or a beginning of it
-      module _ (names : Names) (named : names ≡ next.image.names) (z : List ℕ) where
-        account_same : account_text names rows ≡ account_behind old.image closed.history
-        account_same =
-            ap (λ (n : Names). account_text n rows) (named ∙ ap (λ (i : Image). i.names) all.leads.image)
-            ∙ ap (account_text old.image.names) account_declared
-
-        pub has_written : Took y z (account_text names rows) → HasWritten ready.script old next x z
-        has_written took = record {
-          bytes = traced all ++ account_behind old.image closed.history;
-          is = whole_text all;
-          took =
-              took_on x y z (traced all) (account_behind old.image closed.history) text_took
-              (subst (Took y z) account_same took);
-          leads = all.leads;
+    cut_history : (found : List (List ℕ)) (last : List ℕ) → line.calls ≡ flat_map look_calls (found ++ last ∷ [])
+        → IsCutHistory script found last bits h.history
+    cut_history found last latched =
+        record {
+          legal = h.legal;
+          core = h.own ∙ latched;
+          devices = asked;
+          since = line.since;
+          within = omega (arith, gathered.behind, ap length latched);
+          early = gathered.early;
+          ended =
+              subst (λ (cs : List Call). CallsLast h.history 255 (drop line.since cs)) latched h.last;
+          behind = behind;
         }
 
-        pub account_part : TookPrefix y z (account_text names rows) → HasWrittenPart ready.script old next x z
-        account_part part =
-            let lines : List ℕ = lines_of old (interleaving (turns ready.script) all.found) in
-            let total : List ℕ = total_text next.steps in
+    module _ {old next : Machine} (fresh : IsFresh old) where
+      -- all turns were done
+      module _ {x shown : List ℕ}
+          (run : Goes no_route (turns script) (core_line row []) (core_line row line.calls) old next x shown) where
+        abbrev all : IsWoven no_route (turns script) (core_line row []) (core_line row line.calls) old next x shown
+        all = weave run
+
+        allowed : IsHistory script all.found h.history × (bits ≡ zeros 32)
+        allowed = closes_whole (cut_history all.found [] (woven_calls all)) all.whole all.many
+
+        -- the text of the run, its lines, and the line of the total
+        abbrev told : List ℕ
+        told = live_text old.image script all.found
+
+        abbrev lines : List ℕ
+        lines = lines_of old (interleaving (turns script) all.found)
+
+        all_text : lines ++ total_text next.steps ≡ told
+        all_text = fresh_text old next (interleaving (turns script) all.found) fresh all.sends.leads
+
+        -- a fault came in the line of the total
+        total_part : (y : List ℕ) → TookPrefix shown y (total_text next.steps) → HasWrittenPart script old next x y
+        total_part y part =
+            let account : List ℕ = account_behind old.image h.history in
             record {
               part = record {
-                bytes = traced all ++ account_behind old.image closed.history;
-                is = whole_text all;
+                bytes = told ++ account;
+                is = live_whole old.image script all.found h.history all.many all.whole allowed.0;
                 took =
-                    part_on x y z (traced all) (account_behind old.image closed.history) text_took
-                    (subst (TookPrefix y z) account_same part);
+                    part_more x y told account
+                    (subst (TookPrefix x y) all_text
+                    (part_on x shown y lines (total_text next.steps) all.sends.took part));
               };
-              done = inr (
-                all.leads,
-                (
-                  total ++ part.0,
-                  subst (Took x z) (append_assoc lines total part.0)
-                      (took_on x y z (lines ++ total) part.0 all.wrote part.2),
-                ),
-              );
+              done = inr (all.sends.leads, (part.0, took_on x shown y lines part.0 all.sends.took part.2));
             }
+
+      pub failed_part : (x y : List ℕ)
+          → EndsEarly no_route (turns script) (core_line row []) (core_line row line.calls) old next x y
+          → HasWrittenPart script old next x y
+      failed_part x y (inl stops) =
+          let cut = cut_of stops in
+          part_cut old next x y fresh (cut_history cut.found cut.last (cut_calls cut)) cut.whole cut.short cut.few
+          cut.breaks
+      failed_part x y (inr ends) = total_part ends.goes y ends.total
+
+      -- the rows with what the core's own line counted, and with what is left, are the account
+      module _ (own : Tally) (told : IsTally line.here line.there line.calls own)
+          (low : AllByRecursion (λ irq. irq < IRQ_NUMBERS) (declared_irqs names)) (x y : List ℕ)
+          (ends : EndsWhole no_route (turns script) (core_line row []) (core_line row line.calls) old next x y) where
+        abbrev settled : List AccountRow
+        settled = map (settled_row 0 bits) (map (with_counts 0 0 0 own) rows)
+
+        small : AllByRecursion (λ irq. irq < 512) (declared_irqs names)
+        small =
+            all_weaker (λ irq. irq < IRQ_NUMBERS) (λ irq. irq < 512) (λ irq is. omega (arith, is)) (declared_irqs names)
+            low
+
+        account_is : settled ≡ account_of 0 (declared_irqs names) (calls_in h.history) (replicate 32 0)
+        account_is =
+            ap (λ (rs : List AccountRow). map (settled_row 0 bits) (map (with_counts 0 0 0 own) rs)) gathered.counted
+            ∙ rows_settled 0 0 0 line bits h own
+            (subst (λ (l : Caller). IsTally l.here l.there line.calls own) gathered.first told)
+            (declared_irqs names) small
+            ∙ ap (account_of 0 (declared_irqs names) (calls_in h.history)) (allowed ends.goes).1
+
+        -- each row counts all pends of its interrupt, and nothing is left
+        pub rows_balanced : AllByRecursion (IsBalanced script) settled
+        rows_balanced =
+            subst (AllByRecursion (IsBalanced script)) (sym account_is)
+            (balanced script (all ends.goes).found h.history (allowed ends.goes).0 scripted.devices
+            (declared_irqs names)
+            small)
+
+        pub has_lived : names ≡ old.image.names → HasLived script old next x y settled
+        has_lived named = record {
+          lives = record {
+            found = (all ends.goes).found;
+            many = (all ends.goes).many;
+            whole = (all ends.goes).whole;
+            history = h.history;
+            is = (allowed ends.goes).0;
+            took =
+                subst (Took x y) (all_text ends.goes)
+                (took_on x ends.shown y (lines ends.goes) (total_text next.steps)
+                (all ends.goes).sends.took ends.total);
+            account =
+                account_is
+                ∙ ap (λ (n : Names). account_of 0 (declared_irqs n) (calls_in h.history) (replicate 32 0)) named;
+          };
+          leads = (all ends.goes).sends.leads;
+        }
+
+-- a run that went whole, and the account behind its trace, or a beginning of it
+module _ {script : List Line} {old next : Machine} {x y : List ℕ} {rows : List AccountRow} (fresh : IsFresh old)
+    (run : HasLived script old next x y rows) (names : Names) (named : names ≡ old.image.names) (z : List ℕ) where
+  abbrev traced : List ℕ
+  traced = live_text old.image script run.lives.found
+
+  abbrev account : List ℕ
+  account = account_behind old.image run.lives.history
+
+  account_same : account_text names rows ≡ account
+  account_same = ap (λ (n : Names). account_text n rows) named ∙ ap (account_text old.image.names) run.lives.account
+
+  abbrev whole_text : IsLiveText old.image script (traced ++ account)
+  whole_text =
+      live_whole old.image script run.lives.found run.lives.history run.lives.many run.lives.whole run.lives.is
+
+  pub has_written : Took y z (account_text names rows) → HasWritten script old next x z
+  has_written took = record {
+    bytes = traced ++ account;
+    is = whole_text;
+    took = took_on x y z traced account run.lives.took (subst (Took y z) account_same took);
+    leads = run.leads;
+  }
+
+  pub account_part : TookPrefix y z (account_text names rows) → HasWrittenPart script old next x z
+  account_part cut =
+      let es : List Event = interleaving (turns script) run.lives.found in
+      let total : List ℕ = total_text next.steps in
+      record {
+        part = record {
+          bytes = traced ++ account;
+          is = whole_text;
+          took = part_on x y z traced account run.lives.took (subst (TookPrefix y z) account_same cut);
+        };
+        done = inr (
+          run.leads,
+          (
+            total ++ cut.0,
+            subst (Took x z) (append_assoc (lines_of old es) total cut.0)
+                (took_on x y z (lines_of old es ++ total) cut.0
+                (subst (Took x y) (sym (fresh_text old next es fresh run.leads)) run.lives.took) cut.2),
+          ),
+        );
+      }
+
+-- a text is allowed whatever comes: the devices may pend before the first look
+pub some_text : (image : Image) {script : List Line} {row : Row} {line : Caller} {waiting : List Device}
+    {rows : List AccountRow} → AreReady image.names script row line waiting rows
+    → (bytes : List ℕ) × IsLiveText image script bytes
+some_text image {script} ready =
+    let first = devices_first script ready.scripted.devices
+    (all_weaker (HasName image.names) IsNumbered numbered script ready.named) in
+    let e : Extends script [] [] = extend first.2 tt (omega arith) (inl (omega (arith, all_looks script))) in (
+      live_text image script e.all ++ account_behind image e.history,
+      live_whole image script e.all e.history e.many e.whole e.is,
+    )
+  where
+    numbered : (l : Line) → HasName image.names l → IsNumbered l
+    numbered (Steps n) has = tt
+    numbered (Ticks n) has = tt
+    numbered (Pends irq n) has = tt
+    numbered (DeviceLine d irq n) has = declared_low ready irq has

@@ -1,54 +1,47 @@
--- A run that is made ready, and stays so while devices work and their lines are gathered.
-use Rattle.std.proofs.Common.{◌≡◌, ℕ, zero, suc, ◌+◌, ◌*◌, ◌^◌, ◌<◌, ◌≤◌, ◌==◌, Bool, true, false, if◌then◌else◌}
+-- A run that is made ready, and what it is when its devices have worked and their lines are gathered.
+use Rattle.std.proofs.Common.{◌≡◌, ℕ, suc, ◌+◌, ◌*◌, ◌<◌, ◌≤◌, ◌==◌, Bool, true, false, if◌then◌else◌}
 use Rattle.std.proofs.Common.{List, [], ◌∷◌, ◌++◌, map, replicate, length, Contains, IsSome, Some}
 use Rattle.std.proofs.Common.{find, take, drop, inl, inr, refl, ap, sym, subst, ◌∙◌, arith, eq-eqb}
-use Rattle.std.specs.Prelude.{All, ◌↔◌}
-use Rattle.std.specs.List.{AllByRecursion, list_any}
+use Rattle.std.specs.Prelude.{All}
+use Rattle.std.specs.List.{AllByRecursion}
 use Rattle.std.proofs.lemmas.Bool.{eqb-true, false≢true}
-use Rattle.std.proofs.lemmas.List.{append-nil, take_all, drop_all, map-append, length-append, length-map}
-use Rattle.std.proofs.lemmas.List.{length-replicate}
-use Rattle.std.proofs.lemmas.List.Sums.{sum_by-cons, length-filter, count_by-le-length}
+use Rattle.std.proofs.lemmas.List.{length-append, length-map, length-replicate, take_at}
+use Rattle.std.proofs.lemmas.List.Elements.{All-from_recursion}
+use Rattle.std.proofs.lemmas.List.Sums.{sum_by-cons}
 use Rattle.rt_lemmas.proofs.Bools.{true_and_false}
 use Rattle.rt_lemmas.proofs.Lists.{all_map}
-use Rattle.rt_lemmas.proofs.Membership.{all_append, all_has, all_weaker}
+use Rattle.rt_lemmas.proofs.Membership.{all_flat_map, all_has, all_weaker}
 use Rattle.rt_lemmas.proofs.Membership.{contains_here, contains_there, contains_cases, contains_none}
-use Rattle.rt_ids.specs.Lists.{numbers_below}
+use Rattle.rt_ids.specs.Event.{steps}
 use Rattle.rt_ids.specs.Names.{Names}
-use Rattle.rt_ids.specs.declared.limits.TheConstants.{IRQ_NUMBERS, SCRIPT_EVENTS}
+use Rattle.rt_ids.specs.declared.limits.TheConstants.{IRQ_NUMBERS, DEVICES}
 use Rattle.rt_code.specs.Lines.{HasLines}
 use Rattle.rt_core.specs.Core.{Core as CoreState}
 use Rattle.rt_core.specs.Machine.{Machine, IsFresh}
-use Rattle.rt_run.specs.Writable.{IsWritable}
 use Rattle.rt_run.proofs.Known.{fresh_known}
 use Rattle.std.proofs.lemmas.Option.{none-some}
-use Rattle.rt_script.specs.Script.{IsScript, HasName, HasNames, count, pends, line_pends, count_of}
+use Rattle.rt_script.specs.Script.{IsScript, HasName, core_events, count, pends, line_pends, count_of}
 use Rattle.rt_script.specs.declared.line.Line.{Line}
 use Rattle.rt_script.specs.declared.line.Line.TheVariants.{Steps, Ticks, Pends, Device as DeviceLine}
 use Rattle.rt_devices.specs.Work.{requests, interrupt_asked, Works}
 use Rattle.rt_devices.specs.declared.device.Device.{Device}
 use Rattle.rt_lines.specs.Operand.{IsDeclared}
-use Rattle.rt_words.specs.Lines.{Row, Line as Caller, numbers, count as row_count}
-use Rattle.rt_words.specs.Row.{bit_in_row}
-use Rattle.rt_words.specs.Object.{IsPending, pending_bit}
+use Rattle.rt_words.specs.Lines.{Row, Line as Caller, numbers, new_line, count as row_count}
+use Rattle.rt_words.specs.Row.{bit_in_row, word_in_row}
+use Rattle.rt_words.specs.declared.row.TheConstants.{CORE_WORDS}
+use Rattle.rt_words.specs.Object.{IsPending}
 use Rattle.rt_words.specs.declared.view.Part.{Part}
-use Rattle.rt_live.specs.Account.{declared_irqs, empty_row}
-use Rattle.rt_live.specs.Devices.{devices, is_of_device}
+use Rattle.rt_live.specs.Account.{declared_irqs, counted_row, empty_row}
+use Rattle.rt_live.specs.Devices.{is_device, entries_of}
 use Rattle.rt_live.specs.Going.{IsSameLine}
-use Rattle.rt_live.specs.Ready.{Prepared, IsReady, IsBeside, IsWaiting, HasMade, PendsOneOf, IsCounted, irqs_of}
-use Rattle.rt_live.specs.Ready.{IsNumbered}
+use Rattle.rt_live.specs.Ready.{AreReady, AreGathered, HasBits, HasMade, IsBeside, IsWaiting, irqs_of, maker_line}
+use Rattle.rt_live.specs.Ready.{part_of}
 use Rattle.rt_live.specs.declared.account.AccountRow.{AccountRow}
 use Rattle.rt_live.specs.Able.{IsAble, CanGo}
 use Rattle.rt_live.specs.Requests.{no_route}
-use Rattle.rt_live.specs.Inside.Making.{MayPend, HasMadeLines}
-use Rattle.rt_live.specs.Gathering.{part_of, line_after_gathering}
-use Rattle.rt_live.specs.Inside.Working.{CanWork, AllWork, calls_gathered, calls_made}
-use Rattle.rt_live.proofs.Made.{alone_bits}
-use Rattle.rt_live.proofs.Tallied.{since_within}
-
--- a device that has made its pends of the script
-pub record HasEnded (row : Row) (script : List Line) (device : Device) : Type 0 where
-  pub beside : IsBeside row device
-  pub made : map interrupt_asked device.line.calls ≡ map (λ irq. Some irq) (pends script device.number)
+use Rattle.rt_live.specs.Inside.Working.{CanWork, AllWork}
+use Rattle.rt_live.proofs.Made.{entries_request, few_below}
+use Rattle.rt_live.proofs.Tallied.{IsShort, irqs_counted}
 
 abbrev device_numbers : List Device → List ℕ
 device_numbers ds = map (λ d. d.number) ds
@@ -63,100 +56,6 @@ bits_asked core none [] = refl
 bits_asked core none (irq ∷ irqs) =
     ap (λ n. Some n ∷ map (λ i. Some (bit_in_row core i)) irqs) (bit_here core irq none)
     ∙ ap (λ os. Some irq ∷ os) (bits_asked core none irqs)
-
-module _ (words : Row) (script : List Line) where
-  one_ended : (old new : Device) → Works (requests old.script.items) old new → IsWaiting words script old
-      → HasEnded words script new
-  one_ended old new works waits =
-      let calls : new.line.calls ≡ works.calls =
-      ap (λ l. l.calls) works.line ∙ ap (λ cs. cs ++ works.calls) waits.unused in
-      record {
-        beside = record {
-          words = ap (λ l. l.words) works.line ∙ waits.beside.words;
-          number = ap (λ l. l.number) works.line ∙ waits.beside.number ∙ sym works.number;
-          other = λ e. waits.beside.other (sym works.number ∙ e);
-          here = ap (λ l. l.here) works.line ∙ waits.beside.here;
-          there = ap (λ l. l.there) works.line ∙ waits.beside.there;
-        };
-        made =
-            ap (map interrupt_asked) calls ∙ works.asked
-            ∙ bits_asked old.line.there waits.beside.there (requests old.script.items)
-            ∙ ap (map (λ irq. Some irq)) (waits.asks ∙ ap (pends script) (sym works.number));
-      }
-
-  -- devices that waited and have worked have ended
-  pub all_ended : (old new : List Device) → length new ≡ length old → AllWork old new
-      → AllByRecursion (IsWaiting words script) old
-      → AllByRecursion (HasEnded words script) new × (device_numbers new ≡ device_numbers old)
-  all_ended [] [] same work waits = (tt, refl)
-  all_ended [] (y ∷ new) same work waits = absurd (omega (arith, same))
-  all_ended (x ∷ old) [] same work waits = absurd (omega (arith, same))
-  all_ended (x ∷ old) (y ∷ new) same work waits =
-      let first : Works (requests x.script.items) x y = work 0 x (omega arith) in
-      let rest = all_ended old new (omega (arith, same)) (λ i d within. work (suc i) d (omega (arith, within)))
-      waits.1 in (
-        (one_ended x y first waits.0, rest.0),
-        ap (λ n. n ∷ device_numbers new) first.number ∙ ap (λ ns. x.number ∷ ns) rest.1,
-      )
-
-  one_part : (d : Device) → HasEnded words script d → HasMade script (part_of d)
-  one_part d ended = ended.made ∙ ap (λ n. map (λ irq. Some irq) (pends script n)) (sym ended.beside.number)
-
-  part_numbers : (ds : List Device) → AllByRecursion (HasEnded words script) ds
-      → numbers (map part_of ds) ≡ device_numbers ds
-  part_numbers [] ended = refl
-  part_numbers (d ∷ ds) ended =
-      ap (λ n. n ∷ numbers (map part_of ds)) ended.0.beside.number ∙ ap (λ ns. d.number ∷ ns) (part_numbers ds ended.1)
-
-module _ (ready : Prepared) (is : IsReady ready) where
-  -- calls alone leave it ready
-  pub ready_calls : (line : Caller) → IsSameLine ready.line line → IsReady (record ready { line = line })
-  ready_calls line same =
-      subst (λ (l : Caller). IsReady (record ready { line = l })) (sym same.1) (record {
-        scripted = is.scripted;
-        core_words = is.core_words;
-        number = is.number;
-        here = is.here;
-        there = is.there;
-        many = is.many;
-        waiting = is.waiting;
-        gathered = is.gathered;
-        each = is.each;
-        made = is.made;
-        behind = omega (arith, is.behind, length-append ready.line.calls same.0);
-        may = is.may;
-        rows = is.rows;
-        counted = is.counted;
-      })
-
-  -- and so does the gathering of all lines, where the devices have worked
-  pub ready_gathered : (ended : List Device) → AllByRecursion (HasEnded ready.words ready.script) ended
-      → device_numbers ended ≡ device_numbers ready.devices → (rows : List AccountRow)
-      → AllByRecursion (IsCounted 0 (map part_of ended ++ ready.line.gathered)) rows
-      → irqs_of rows ≡ irqs_of ready.rows
-      → IsReady (record ready { line = line_after_gathering ended ready.line; devices = []; rows = rows })
-  ready_gathered ended have known rows counted irqs = record {
-    scripted = is.scripted;
-    core_words = is.core_words;
-    number = is.number;
-    here = is.here;
-    there = is.there;
-    many = is.many;
-    waiting = tt;
-    gathered =
-        all_append (HasMade ready.script) (map part_of ended) ready.line.gathered
-        (all_map part_of (HasEnded ready.words ready.script) (HasMade ready.script) (one_part ready.words ready.script)
-        ended have) is.gathered;
-    each =
-        map-append (λ (p : Part). p.line) (map part_of ended) ready.line.gathered
-        ∙ ap (λ ns. ns ++ numbers ready.line.gathered) (part_numbers ready.words ready.script ended have ∙ known)
-        ∙ is.each;
-    made = is.made;
-    behind = since_within ended ready.line is.behind;
-    may = λ irq. subst (λ is. IsPending ready.words.may irq ↔ Contains is irq) (sym irqs) (is.may irq);
-    rows = subst (λ is. AllByRecursion (PendsOneOf is) ready.script) (sym irqs) is.rows;
-    counted = counted;
-  }
 
 -- a device pends no more than the script has events
 line_pends_few : (number : ℕ) (line : Line) → length (line_pends number line) ≤ count_of line
@@ -180,35 +79,15 @@ pends_few number (line ∷ script) =
       sum_by-cons count_of line script,
     )
 
-one_can_work : (words : Row) (script : List Line) → IsScript script → (d : Device) → IsWaiting words script d
-    → CanWork words d
-one_can_work words script scripted d waits = record {
-  words = waits.beside.words;
-  may =
-      all_weaker (λ (e : ℕ × ℕ). IsPending words.may e.0)
-      (λ (e : ℕ × ℕ). IsPending words.may (bit_in_row d.line.there e.0))
-      (λ e may. ap (pending_bit words.may) (bit_here d.line.there e.0 waits.beside.there) ∙ may) d.script.items
-      waits.may;
-  room =
-      omega (
-        arith,
-        ap length waits.unused,
-        ap length waits.asks,
-        pends_few d.number script,
-        scripted.few,
-      );
-}
-
--- devices that wait can work
-pub can_work : (words : Row) (script : List Line) → IsScript script → (ds : List Device)
-    → AllByRecursion (IsWaiting words script) ds → All (CanWork words) ds
-can_work words script scripted ds waits =
-    each ds (all_weaker (IsWaiting words script) (CanWork words) (one_can_work words script scripted) ds waits)
-  where
-    each : (es : List Device) → AllByRecursion (CanWork words) es → All (CanWork words) es
-    each [] all k d within = absurd (omega (arith, within))
-    each (e ∷ es) all zero d within = all.0
-    each (e ∷ es) all (suc k) d within = each es all.1 k d (omega (arith, within))
+-- a line that made its device's pends made few calls
+pub made_short : (script : List Line) → IsScript script → (p : Part) → HasMade script p → IsShort p
+made_short script scripted p made =
+    omega (
+      arith,
+      sym (length-map p.calls interrupt_asked) ∙ ap length made ∙ length-map (pends script p.line) (λ irq. Some irq),
+      pends_few p.line script,
+      scripted.few,
+    )
 
 -- an interrupt of the table is declared
 declared_by : (irqs : List (List ℕ × ℕ)) (irq : ℕ) → Contains (map (λ i. i.1) irqs) irq
@@ -241,273 +120,219 @@ table_has (i ∷ irqs) irq is = by (table_has irqs irq) (i.1 == irq) refl is
         (contains_here i.1 (map (λ j. j.1) irqs))
     by rest false other there = contains_there i.1 (map (λ j. j.1) irqs) irq (rest there)
 
-line_named : (names : Names) (line : Line) → PendsOneOf (declared_irqs names) line → HasName names line
-line_named names (Steps n) is = tt
-line_named names (Ticks n) is = tt
-line_named names (Pends irq n) is = declared_at names irq is
-line_named names (DeviceLine d irq n) is = declared_at names irq is
+-- a device that has made its pends of the script
+pub record HasEnded (row : Row) (script : List Line) (device : Device) : Type 0 where
+  pub beside : IsBeside row device
+  pub made : HasMade script (part_of device)
 
-line_pending : (names : Names) (line : Line) → HasName names line → PendsOneOf (declared_irqs names) line
-line_pending names (Steps n) is = tt
-line_pending names (Ticks n) is = tt
-line_pending names (Pends irq n) is = table_has names.irqs irq is
-line_pending names (DeviceLine d irq n) is = table_has names.irqs irq is
+module _ (row : Row) (script : List Line) (scripted : IsScript script) where
+  one_ended : (old new : Device) → Works (requests old.script.items) old new → IsWaiting row script old
+      → HasEnded row script new × (new.number ≡ old.number)
+  one_ended old new works waits =
+      let number : ℕ = old.number in
+      let whole : new ≡ record old { line = record (new_line row number 0 0) { calls = works.calls } } =
+      works.same
+      ∙ ap (λ (l : Caller). record old { line = record l { calls = l.calls ++ works.calls } }) waits.line in
+      let made : HasMade script (record { line = number; calls = works.calls }) =
+      works.asked
+      ∙ bits_asked old.line.there (ap (λ (l : Caller). l.there) waits.line) (requests old.script.items)
+      ∙ ap (map (λ irq. Some irq)) (ap requests waits.asks ∙ entries_request number script) in (
+        subst (HasEnded row script) (sym whole) (record {
+          beside = record { low = waits.low; line = refl; few = made_short script scripted _ made };
+          made = made;
+        }),
+        ap (λ (d : Device). d.number) whole,
+      )
 
-module _ (ready : Prepared) (is : IsReady ready) (names : Names) (irqs : irqs_of ready.rows ≡ declared_irqs names) where
-  -- the script's interrupts are those of the image
-  pub names_ready : HasNames names ready.script
-  names_ready =
-      all_weaker (PendsOneOf (declared_irqs names)) (HasName names) (line_named names) ready.script
-      (subst (λ irqs. AllByRecursion (PendsOneOf irqs) ready.script) irqs is.rows)
+  -- devices that waited and have worked have ended
+  pub all_ended : (old new : List Device) → length new ≡ length old → AllWork old new
+      → AllByRecursion (IsWaiting row script) old
+      → AllByRecursion (HasEnded row script) new × (device_numbers new ≡ device_numbers old)
+  all_ended [] [] same work waits = (tt, refl)
+  all_ended [] (y ∷ new) same work waits = absurd (omega (arith, same))
+  all_ended (x ∷ old) [] same work waits = absurd (omega (arith, same))
+  all_ended (x ∷ old) (y ∷ new) same work waits =
+      let first = one_ended x y (work 0 x (omega arith)) waits.0 in
+      let rest = all_ended old new (omega (arith, same)) (λ i d within. work (suc i) d (omega (arith, within)))
+      waits.1 in ((first.0, rest.0), λ i. first.1 i ∷ rest.1 i)
 
-  in_range : AllByRecursion (λ irq. irq < IRQ_NUMBERS) (irqs_of ready.rows)
-  in_range =
-      all_map (λ (row : AccountRow). row.irq) (IsCounted 0 ready.line.gathered) (λ irq. irq < IRQ_NUMBERS)
-      (λ row counted. counted.in_range) ready.rows is.counted
+part_numbers : (ds : List Device) → numbers (map part_of ds) ≡ device_numbers ds
+part_numbers [] = refl
+part_numbers (d ∷ ds) = ap (λ ns. d.number ∷ ns) (part_numbers ds)
 
-  -- and so the core's turns can be done
-  pub able_ready : (m : Machine) → IsWritable m → m.image.names ≡ names → IsAble m ready.line ready.words
-  able_ready m writable named = record {
-    writable = writable;
-    words = is.core_words;
-    many = omega (arith, is.many, is.here);
-    may = λ irq low pending.
-        let there : Contains (irqs_of ready.rows) irq =
-        (is.may irq).0 (ap (pending_bit ready.words.may) (sym (bit_here ready.line.here irq is.here)) ∙ pending) in (
-          subst (λ (n : Names). IsDeclared n irq) (sym named)
-              (declared_at names irq (subst (λ is. Contains is irq) irqs there)),
-          all_has (λ i. i < IRQ_NUMBERS) (irqs_of ready.rows) irq in_range there,
+pub irqs_empty : (irqs : List ℕ) → irqs_of (map empty_row irqs) ≡ irqs
+irqs_empty irqs = irqs_counted 0 [] irqs
+
+-- what is ready for a core whose image has these names
+module _ {names : Names} {script : List Line} {row : Row} {line : Caller} {waiting : List Device}
+    {rows : List AccountRow} (ready : AreReady names script row line waiting rows) where
+  pub declared_low : (irq : ℕ) → IsDeclared names irq → irq < IRQ_NUMBERS
+  declared_low irq is =
+      all_has (λ n. n < IRQ_NUMBERS) (declared_irqs names) irq ready.in_range (table_has names.irqs irq is)
+
+  -- what a device is to pend may be pended
+  abbrev EntryMay : ℕ × ℕ → Type 0
+  EntryMay entry = IsPending row.may (bit_in_row 0 entry.0)
+
+  line_may : (number : ℕ) (l : Line) → HasName names l → AllByRecursion EntryMay (entries_of number l)
+  line_may number (Steps n) has = tt
+  line_may number (Ticks n) has = tt
+  line_may number (Pends irq n) has = tt
+  line_may number (DeviceLine d irq n) has = by (d == number)
+    where
+      by : (same : Bool) → AllByRecursion EntryMay (if same then (irq, n) ∷ [] else [])
+      by true = ((ready.may irq (omega (arith, declared_low irq has))).1 (table_has names.irqs irq has), tt)
+      by false = tt
+
+  one_can_work : (d : Device) → IsWaiting row script d → CanWork row d
+  one_can_work d waits = record {
+    words = ap (λ (l : Caller). l.words) waits.line;
+    may =
+        subst (λ (l : Caller). AllByRecursion (λ (e : ℕ × ℕ). IsPending row.may (bit_in_row l.there e.0))
+        d.script.items) (sym waits.line)
+        (subst (AllByRecursion EntryMay) (sym waits.asks)
+        (all_flat_map EntryMay (entries_of d.number) script
+        (all_weaker (HasName names) (λ l. AllByRecursion EntryMay (entries_of d.number l)) (line_may d.number) script
+        ready.named)));
+    room =
+        omega (
+          arith,
+          ap (λ (l : Caller). length l.calls) waits.line,
+          ap (λ es. length (requests es)) waits.asks,
+          ap length (entries_request d.number script),
+          pends_few d.number script,
+          ready.scripted.few,
         );
   }
 
-  -- those of the whole run
-  pub can_ready : (m : Machine) → IsFresh m → HasLines m.image → m.image.names ≡ names → ready.line.calls ≡ []
-      → CanGo (2 * count ready.script + 1) no_route m ready.line ready.words
-  can_ready m fresh lines named unused = record {
-    able = able_ready m (record { lines = lines; known = fresh_known m fresh }) named;
+  pub can_work : All (CanWork row) waiting
+  can_work =
+      All-from_recursion (CanWork row) waiting
+      (all_weaker (IsWaiting row script) (CanWork row) one_can_work waiting ready.waits)
+
+  pub rows_irqs : irqs_of rows ≡ declared_irqs names
+  rows_irqs = ap irqs_of ready.empty ∙ irqs_empty (declared_irqs names)
+
+  pub rows_empty : rows ≡ map empty_row (irqs_of rows)
+  rows_empty = ready.empty ∙ ap (map empty_row) (sym rows_irqs)
+
+  -- When the devices have worked, and the core has done its own lines, the lines of the devices are gathered.
+  module _ (ended : List Device) (worked : AllWork waiting ended × (length ended ≡ length waiting)) where
+    have_ended : AllByRecursion (HasEnded row script) ended × (device_numbers ended ≡ device_numbers waiting)
+    have_ended = all_ended row script ready.scripted waiting ended worked.1 worked.0 ready.waits
+
+    pub beside_ended : AllByRecursion (IsBeside row) ended
+    beside_ended =
+        all_weaker (HasEnded row script) (IsBeside row) (λ d is. is.beside) ended have_ended.0
+
+    pub few_ended : length ended ≤ DEVICES
+    few_ended =
+        omega (
+          arith,
+          worked.1,
+          ap length ready.each,
+          length-map waiting (λ (d : Device). d.number),
+          few_below (is_device script) DEVICES,
+        )
+
+    module _ {next : Caller} (same : IsSameLine line next) where
+      next_line : next ≡ record (maker_line row line.made) { calls = next.calls }
+      next_line =
+          same.1
+          ∙ ap (λ (l : Caller). record l { calls = line.calls ++ same.0 }) ready.first
+          ∙ ap (λ cs. record (maker_line row line.made) { calls = cs }) (sym (ap (λ (l : Caller). l.calls) same.1))
+
+      pub are_gathered : {later : Caller} {counted : List AccountRow}
+          → length next.calls ≤ 16 * steps (core_events script)
+          → later ≡ record next { gathered = map part_of ended; since = later.since }
+          → (next.since ≤ length next.calls → later.since ≤ length next.calls)
+          → counted ≡ map (counted_row 0 (map part_of ended)) (irqs_of rows)
+          → AreGathered names script row later counted
+      are_gathered {later} {counted} early is since told =
+          let within : later.since ≤ length next.calls =
+          since (omega (arith, ap (λ (l : Caller). l.since) next_line)) in
+          subst (λ (l : Caller). AreGathered names script row l counted)
+          (sym (is ∙ ap (λ (l : Caller). record l { gathered = map part_of ended; since = later.since }) next_line))
+          (record {
+            first = refl;
+            made = ready.made;
+            each = part_numbers ended ∙ have_ended.1 ∙ ready.each;
+            asked =
+                all_map part_of (HasEnded row script) (HasMade script) (λ d is. is.made) ended have_ended.0;
+            behind = within;
+            early = omega (arith, within, early);
+            counted = told ∙ ap (map (counted_row 0 (map part_of ended))) rows_irqs;
+          })
+
+-- devices that were lent as a slice and worked are written back
+pub written_back : (n : ℕ) {waiting lent : List Device} (ended : List Device) → lent ≡ waiting → length lent ≡ n
+    → length ended ≡ length lent → AllWork lent ended
+    → AllWork waiting (take n (ended ++ drop (length ended) waiting))
+    × (length (take n (ended ++ drop (length ended) waiting)) ≡ length waiting)
+written_back n {waiting} ended is long many worked =
+    subst (λ ds. AllWork waiting ds × (length ds ≡ length waiting))
+    (sym (take_at ended (drop (length ended) waiting) n (many ∙ long)))
+    (subst (λ ds. AllWork ds ended) is worked, many ∙ ap length is)
+
+-- what is gathered stays so while the line makes calls
+pub still_gathered : {names : Names} {script : List Line} {row : Row} {line next : Caller} {rows : List AccountRow}
+    → AreGathered names script row line rows → IsSameLine line next → AreGathered names script row next rows
+still_gathered {names} {script} {row} {line} {next} {rows} gathered same =
+    subst (λ (l : Caller). AreGathered names script row l rows) (sym same.1) (record {
+      first = ap (λ (l : Caller). record l { calls = line.calls ++ same.0 }) gathered.first;
+      made = gathered.made;
+      each = gathered.each;
+      asked = gathered.asked;
+      behind = omega (arith, gathered.behind, length-append line.calls same.0);
+      early = gathered.early;
+      counted = gathered.counted;
+    })
+
+-- a core that has had no event can do turns, where its bits of the words are those of its declared interrupts
+pub able_placed : {m : Machine} {line : Caller} {row : Row} → IsFresh m → HasLines m.image → line.words ≡ row
+    → word_in_row line.here CORE_WORDS ≤ row_count row → HasBits line.here row.may (declared_irqs m.image.names)
+    → AllByRecursion (λ irq. irq < IRQ_NUMBERS) (declared_irqs m.image.names) → IsAble m line row
+able_placed {m} fresh lines words many may in_range = record {
+  writable = record { lines = lines; known = fresh_known m fresh };
+  words = words;
+  many = many;
+  may = λ irq low pending.
+      let names = m.image.names in
+      let there : Contains (declared_irqs names) irq = (may irq (omega (arith, low))).0 pending in
+      (declared_at names irq there, all_has (λ i. i < IRQ_NUMBERS) (declared_irqs names) irq in_range there);
+}
+
+-- and the whole run, where all is ready
+module _ {m : Machine} {script : List Line} {row : Row} {line : Caller} {waiting : List Device} {rows : List AccountRow}
+    (fresh : IsFresh m) (lines : HasLines m.image)
+    (ready : AreReady m.image.names script row line waiting rows) where
+  pub can_ready : CanGo (2 * count script + 1) no_route m line row
+  can_ready = record {
+    able =
+        able_placed fresh lines (ap (λ (l : Caller). l.words) ready.first)
+        (omega (arith, ready.many, ap (λ (l : Caller). l.here) ready.first))
+        (subst (λ (l : Caller). HasBits l.here row.may (declared_irqs m.image.names)) (sym ready.first) ready.may)
+        ready.in_range;
     routed = λ posted irq e. absurd (none-some irq e);
-    few = omega (arith, fresh.steps, is.scripted.few);
-    early = omega (arith, ap (λ (c : CoreState). c.time) fresh.core, is.scripted.few);
-    room = omega (arith, ap length unused, is.scripted.few);
+    few = omega (arith, fresh.steps, ready.scripted.few);
+    early = omega (arith, ap (λ (c : CoreState). c.time) fresh.core, ready.scripted.few);
+    room = omega (arith, ap (λ (l : Caller). length l.calls) ready.first, ready.scripted.few);
   }
 
 -- gathering leaves the turns that can be done
-pub can_gathered : {n : ℕ} {m : Machine} {line : Caller} {row : Row} (ended : List Device) → CanGo n no_route m line row
-    → CanGo n no_route m (line_after_gathering ended line) row
-can_gathered ended can = record {
-  able = record {
-    writable = can.able.writable;
-    words = can.able.words;
-    many = can.able.many;
-    may = can.able.may;
-  };
-  routed = can.routed;
-  few = can.few;
-  early = can.early;
-  room = can.room;
-}
-
--- what is made is ready
-module _ (names : Names) (script : List Line) (named : HasNames names script) (shown : Names) (is_shown : shown ≡ names)
-    (rows : List AccountRow) (table : rows ≡ map empty_row (declared_irqs shown)) where
-  irqs_are : (irqs : List ℕ) → irqs_of (map empty_row irqs) ≡ irqs
-  irqs_are [] = refl
-  irqs_are (irq ∷ irqs) = ap (λ is. irq ∷ is) (irqs_are irqs)
-
-  pub rows_declared : irqs_of rows ≡ declared_irqs names
-  rows_declared = ap irqs_of table ∙ irqs_are (declared_irqs shown) ∙ ap declared_irqs is_shown
-
-  pub pends_rows : AllByRecursion (PendsOneOf (irqs_of rows)) script
-  pends_rows =
-      subst (λ irqs. AllByRecursion (PendsOneOf irqs) script) (sym rows_declared)
-      (all_weaker (HasName names) (PendsOneOf (declared_irqs names)) (line_pending names) script named)
-
-  module _ (lent : List AccountRow) (is_lent : lent ≡ rows)
-      (low : AllByRecursion (λ irq. irq < IRQ_NUMBERS) (irqs_of lent)) where
-    low_rows : AllByRecursion (λ irq. irq < IRQ_NUMBERS) (irqs_of rows)
-    low_rows = subst (λ (rs : List AccountRow). AllByRecursion (λ irq. irq < IRQ_NUMBERS) (irqs_of rs)) is_lent low
-
-    -- the devices' interrupts are among those that there are
-    pub all_numbered : AllByRecursion IsNumbered script
-    all_numbered = all_weaker (PendsOneOf (irqs_of rows)) IsNumbered line_numbered script pends_rows
-      where
-        line_numbered : (line : Line) → PendsOneOf (irqs_of rows) line → IsNumbered line
-        line_numbered (Steps n) there = tt
-        line_numbered (Ticks n) there = tt
-        line_numbered (Pends irq n) there = tt
-        line_numbered (DeviceLine d irq n) there = all_has (λ i. i < IRQ_NUMBERS) (irqs_of rows) irq low_rows there
-
-    counted_empty : (irqs : List ℕ) → AllByRecursion (λ irq. irq < IRQ_NUMBERS) (irqs_of (map empty_row irqs))
-        → AllByRecursion (IsCounted 0 []) (map empty_row irqs)
-    counted_empty [] low = tt
-    counted_empty (irq ∷ irqs) low =
-        (record { in_range = low.0; raised = refl; merged = refl; latched = refl }, counted_empty irqs low.1)
-
-    rows_counted : AllByRecursion (IsCounted 0 []) rows
-    rows_counted =
-        subst (AllByRecursion (IsCounted 0 [])) (sym table)
-        (counted_empty (declared_irqs shown)
-        (subst (λ (rs : List AccountRow). AllByRecursion (λ irq. irq < IRQ_NUMBERS) (irqs_of rs)) table low_rows))
-
-    module _ (words : Row) (bits : List ℕ) (same : words.may ≡ bits)
-        (are : (bit : ℕ) → IsPending bits bit ↔ Contains (map (bit_in_row 0) (irqs_of lent)) bit) where
-      may : (irq : ℕ) → IsPending words.may irq ↔ Contains (irqs_of rows) irq
-      may irq =
-          subst (λ (ws : List ℕ). IsPending ws irq ↔ Contains (irqs_of rows) irq) (sym same)
-          (subst (λ (rs : List AccountRow). IsPending bits irq ↔ Contains (irqs_of rs) irq) is_lent
-          (alone_bits bits (irqs_of lent) are irq))
-
-      line_may_pend : (line : Line) → PendsOneOf (irqs_of rows) line → MayPend words line
-      line_may_pend (Steps n) is = tt
-      line_may_pend (Ticks n) is = tt
-      line_may_pend (Pends irq n) is = tt
-      line_may_pend (DeviceLine d irq n) is = (may irq).1 is
-
-      pub all_may_pend : AllByRecursion (MayPend words) script
-      all_may_pend = all_weaker (PendsOneOf (irqs_of rows)) (MayPend words) line_may_pend script pends_rows
-
-      pub made_ready : (read : List Line) → read ≡ script → IsScript script → (line : Caller) (ds : List Device)
-          → row_count words ≡ 16 → HasMadeLines line (devices read) words → device_numbers ds ≡ devices read
-          → AllByRecursion (IsWaiting words read) ds
-          → IsReady (record { script = script; words = words; line = line; devices = ds; rows = rows })
-      made_ready read is_read scripted line ds many made known waits =
-          let has : HasMadeLines line (devices script) words =
-          subst (λ (ls : List Line). HasMadeLines line (devices ls) words) is_read made in
-          record {
-            scripted = scripted;
-            core_words = has.words;
-            number = has.number;
-            here = has.here;
-            there = has.there;
-            many = many;
-            waiting = subst (λ (ls : List Line). AllByRecursion (IsWaiting words ls) ds) is_read waits;
-            gathered = subst (AllByRecursion (HasMade script)) (sym has.gathered) tt;
-            each =
-                ap (λ ps. device_numbers ds ++ numbers ps) has.gathered ∙ append-nil (device_numbers ds) ∙ known
-                ∙ ap devices is_read;
-            made = has.made;
-            behind = omega (arith, has.since);
-            may = may;
-            rows = pends_rows;
-            counted = subst (λ ps. AllByRecursion (IsCounted 0 ps) rows) (sym has.gathered) rows_counted;
-          }
-
--- there is room for the counts of all lines
-module _ (script : List Line) (scripted : IsScript script) where
-  pub parts_few : (parts : List Part) → AllByRecursion (HasMade script) parts
-      → calls_gathered parts ≤ SCRIPT_EVENTS * length parts
-  parts_few [] made = omega arith
-  parts_few (p ∷ parts) made =
-      omega (
-        arith,
-        sum_by-cons (λ (q : Part). length q.calls) p parts,
-        part_length p made.0,
-        pends_few p.line script,
-        scripted.few,
-        parts_few parts made.1,
-      )
-    where
-      part_length : (q : Part) → HasMade script q → length q.calls ≡ length (pends script q.line)
-      part_length q is =
-          sym (length-map q.calls interrupt_asked) ∙ ap length is ∙ length-map (pends script q.line) (λ irq. Some irq)
-
-  ended_few : (words : Row) (ds : List Device) → AllByRecursion (HasEnded words script) ds
-      → calls_made ds ≤ SCRIPT_EVENTS * length ds
-  ended_few words [] ended = omega arith
-  ended_few words (d ∷ ds) ended =
-      omega (
-        arith,
-        sum_by-cons (λ (e : Device). length e.line.calls) d ds,
-        one_length d ended.0,
-        pends_few d.number script,
-        scripted.few,
-        ended_few words ds ended.1,
-      )
-    where
-      one_length : (e : Device) → HasEnded words script e → length e.line.calls ≡ length (pends script e.number)
-      one_length e is =
-          sym (length-map e.line.calls interrupt_asked) ∙ ap length is.made
-          ∙ length-map (pends script e.number) (λ irq. Some irq)
-
-length-below : (n : ℕ) → length (numbers_below n) ≡ n
-unfolding numbers_below
-length-below zero = refl
-length-below (suc n) = omega (arith, length-append (numbers_below n) (n ∷ []), length-below n)
-
-pub few_devices : (script : List Line) → length (devices script) ≤ 16
-few_devices script =
-    omega (
-      arith,
-      length-filter (λ number. list_any (is_of_device number) script) (numbers_below 16),
-      count_by-le-length (λ number. list_any (is_of_device number) script) (numbers_below 16),
-      length-below 16,
-    )
-
--- what is a slice again, written back
-pub taken_back : {A : Type 0} (xs ys : List A) (n : ℕ) → length xs ≡ length ys → n ≡ length ys
-    → take n (xs ++ drop (length xs) ys) ≡ xs
-taken_back xs ys n same all =
-    ap (λ m. take n (xs ++ drop m ys)) same ∙ ap (λ t. take n (xs ++ t)) (drop_all (length ys) ys (omega arith))
-    ∙ ap (take n) (append-nil xs) ∙ take_all n xs (omega (arith, same, all))
-
--- behind the devices' work, for which these were lent as a slice that is written back
-module _ (ready : Prepared) (is : IsReady ready) (line : Caller) (same : IsSameLine ready.line line) (n : ℕ)
-    (all : n ≡ length ready.devices) (lent ended : List Device) (is_lent : lent ≡ ready.devices)
-    (worked : AllWork lent ended) (as_many : length ended ≡ length lent) where
-  have_ended : AllByRecursion (HasEnded ready.words ready.script) ended
-      × (device_numbers ended ≡ device_numbers ready.devices)
-  have_ended =
-      all_ended ready.words ready.script ready.devices ended (as_many ∙ ap length is_lent)
-      (subst (λ (ds : List Device). AllWork ds ended) is_lent worked) is.waiting
-
-  written_back : take n (ended ++ drop (length ended) ready.devices) ≡ ended
-  written_back = taken_back ended ready.devices n (as_many ∙ ap length is_lent) all
-
-  -- with their lines gathered it is ready again
-  pub ready_again : (next : Caller)
-      → next ≡ line_after_gathering (take n (ended ++ drop (length ended) ready.devices)) line
-      → (rows : List AccountRow) → AllByRecursion (IsCounted 0 next.gathered) rows → irqs_of rows ≡ irqs_of ready.rows
-      → (m : ℕ) → length rows ≡ length ready.rows → m ≡ length ready.rows → (left : List Device) → left ≡ []
-      → IsReady (record ready {
-        line = next;
-        devices = left;
-        rows = take m (rows ++ drop (length rows) ready.rows);
-      })
-  ready_again next gathers rows counted irqs m same_rows all_rows left none =
-      let is_next : next ≡ line_after_gathering ended line =
-      gathers ∙ ap (λ (ds : List Device). line_after_gathering ds line) written_back in
-      let parts : next.gathered ≡ map part_of ended ++ line.gathered = ap (λ (l : Caller). l.gathered) is_next in
-      let is_so = ready_gathered (record ready { line = line }) (ready_calls ready is line same) ended have_ended.0
-      have_ended.1 rows (subst (λ ps. AllByRecursion (IsCounted 0 ps) rows) parts counted) irqs in
-      subst (λ (ds : List Device). IsReady (record ready {
-        line = next;
-        devices = ds;
-        rows = take m (rows ++ drop (length rows) ready.rows);
-      })) (sym none)
-      (subst (λ (rs : List AccountRow). IsReady (record ready { line = next; devices = []; rows = rs }))
-      (sym (taken_back rows ready.rows m same_rows all_rows))
-      (subst (λ (l : Caller). IsReady (record ready { line = l; devices = []; rows = rows })) (sym is_next) is_so))
-
-  pub beside_ended : AllByRecursion (IsBeside ready.words) (take n (ended ++ drop (length ended) ready.devices))
-  beside_ended =
-      subst (AllByRecursion (IsBeside ready.words)) (sym written_back)
-      (all_weaker (HasEnded ready.words ready.script) (IsBeside ready.words) (λ d ended. ended.beside) ended
-      have_ended.0)
-
-  pub room_ended : calls_gathered line.gathered
-      + calls_made (take n (ended ++ drop (length ended) ready.devices)) + 2 ^ 32 ≤ 2 ^ 64
-  room_ended =
-      omega (
-        arith,
-        ap calls_made written_back,
-        ap (λ (l : Caller). calls_gathered l.gathered) same.1,
-        parts_few ready.script is.scripted ready.line.gathered is.gathered,
-        ended_few ready.script is.scripted ready.words ended have_ended.0,
-        as_many,
-        ap length is_lent,
-        ap length is.each,
-        length-append (device_numbers ready.devices) (numbers ready.line.gathered),
-        length-map ready.devices (λ d. d.number),
-        length-map ready.line.gathered (λ p. p.line),
-        few_devices ready.script,
-      )
+pub can_gathered : {n : ℕ} {m : Machine} {line next : Caller} {row : Row} (parts : List Part)
+    → next ≡ record line { gathered = parts; since = next.since } → CanGo n no_route m line row
+    → CanGo n no_route m next row
+can_gathered {n} {m} {row = row} parts is can =
+    subst (λ (l : Caller). CanGo n no_route m l row) (sym is) (record {
+      able = record {
+        writable = can.able.writable;
+        words = can.able.words;
+        many = can.able.many;
+        may = can.able.may;
+      };
+      routed = can.routed;
+      few = can.few;
+      early = can.early;
+      room = can.room;
+    })

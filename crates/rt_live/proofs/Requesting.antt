@@ -1,15 +1,14 @@
 -- The history in which the devices pend one after another, and the core does not look; what a script asks of no device.
 use Rattle.std.proofs.Common.{◌≡◌, ℕ, zero, suc, ◌<◌, ◌≤◌, ◌==◌, Bool, true, false, cond, List, [], ◌∷◌, ◌++◌, map}
 use Rattle.std.proofs.Common.{filter, flat_map, replicate, Some, refl, sym, ap, ◌∙◌, arith, append-nil, ne_eqb, get_or}
-use Rattle.std.proofs.Common.{◌/◌, ◌%◌, ◌||◌, Contains, subst, ⊎_elim}
+use Rattle.std.proofs.Common.{◌/◌, ◌%◌, ◌||◌, Contains}
 use Rattle.std.proofs.lemmas.List.{get_or-set_other, map-append}
-use Rattle.std.proofs.lemmas.List.Elements.{filter-append, Contains-append_left, Contains-append_right}
+use Rattle.std.proofs.lemmas.List.Elements.{filter-append}
 use Rattle.std.proofs.lemmas.Nat.Bits.{bit_at-lt}
 use Rattle.std.specs.List.{AllByRecursion, list_any}
 use native.Mathlib.Decide.{ℕ_discrete, dec_lt}
 use Rattle.rt_devices.specs.Work.{interrupt_asked}
-use Rattle.rt_lemmas.proofs.Membership.{all_flat_map, all_weaker, contains_here, contains_there, contains_cases}
-use Rattle.rt_lemmas.proofs.Membership.{contains_none}
+use Rattle.rt_lemmas.proofs.Membership.{all_flat_map, all_weaker}
 use Rattle.rt_ids.specs.declared.limits.TheConstants.{IRQ_NUMBERS}
 use Rattle.rt_script.specs.Script.{HasDeviceInRange, pends, line_pends}
 use Rattle.rt_script.specs.declared.line.Line.{Line}
@@ -22,11 +21,10 @@ use Rattle.rt_words.specs.Object.{IsAnswered, after, pending_bit}
 use Rattle.rt_words.specs.History.{LeavesWords, part}
 use Rattle.rt_words.specs.declared.call.Entry.{Entry}
 use Rattle.rt_words.proofs.Bits.{zeros as zeros_at}
-use Rattle.rt_live.specs.Ready.{IsNumbered}
 use Rattle.rt_live.proofs.Onward.{zeros, IsCutHistory}
 use mathlib.Core.Logic.{dite}
-use Rattle.rt_ids.specs.Lists.{numbers_below}
-use Rattle.rt_live.specs.Devices.{devices, is_of_device}
+use Rattle.rt_live.specs.Devices.{devices, is_device, is_of_device}
+use Rattle.rt_live.proofs.Made.{among_those}
 
 pub all_replicate : {X : Type 0} (P : X → Type 0) (n : ℕ) (x : X) → P x → AllByRecursion P (replicate n x)
 all_replicate P zero x is = tt
@@ -134,6 +132,13 @@ answer_all (a ∷ asked) words low =
     by more (no clear) =
         with_answer more Raised (omega (arith, clear, bit_at-lt (get_or words (a.1 / 32) 0) (a.1 % 32)))
 
+-- the interrupt that a line has a device pend, if it has, is one of those that there are
+abbrev pub IsNumbered : Line → Type 0
+IsNumbered (Device d irq n) = irq < IRQ_NUMBERS
+IsNumbered (Steps n) = Unit {0}
+IsNumbered (Ticks n) = Unit {0}
+IsNumbered (Pends irq n) = Unit {0}
+
 line_numbered : (line : Line) → IsNumbered line → AllByRecursion (λ (a : ℕ × ℕ). a.1 < IRQ_NUMBERS) (asks line)
 line_numbered (Device d irq n) low = all_replicate (λ (a : ℕ × ℕ). a.1 < IRQ_NUMBERS) n (d, irq) low
 line_numbered (Steps n) low = tt
@@ -166,32 +171,6 @@ devices_first script ranges low =
       },
     )
 
-number_below : (n number : ℕ) → number < n → Contains (numbers_below n) number
-unfolding numbers_below
-number_below zero number within = absurd (omega (arith, within))
-number_below (suc n) number within =
-    dite (ℕ_discrete n number)
-    (λ e. Contains-append_right (numbers_below n) (n ∷ []) number
-    (subst (λ k. Contains (k ∷ []) number) (sym e) (contains_here number [])))
-    (λ ne. Contains-append_left (numbers_below n) (n ∷ []) number (number_below n number (omega (arith, within, ne))))
-
-passes_stays : (test : ℕ → Bool) (xs : List ℕ) (x : ℕ) → Contains xs x → test x ≡ true → Contains (filter test xs) x
-passes_stays test [] x is passes = absurd (contains_none x is)
-passes_stays test (y ∷ xs) x is passes =
-    let rest : List ℕ = filter test xs in
-    ⊎_elim (λ e.
-    let same : test y ≡ true = ap test e ∙ passes in
-    subst (λ (b : Bool). Contains (cond b (y ∷ rest) rest) x) (sym same)
-    (subst (λ z. Contains (z ∷ rest) x) (sym e) (contains_here x rest)))
-    (λ more.
-    let in_rest = passes_stays test xs x more passes in
-    kept (test y) in_rest)
-    (contains_cases y xs x is)
-  where
-    kept : (b : Bool) → Contains (filter test xs) x → Contains (cond b (y ∷ filter test xs) (filter test xs)) x
-    kept true more = contains_there y (filter test xs) x more
-    kept false more = more
-
 -- no line is one of the device
 none_pends : (number : ℕ) (script : List Line) → list_any (is_of_device number) script ≡ false → pends script number
     ≡ []
@@ -214,11 +193,9 @@ pub not_asked : (number : ℕ) (script : List Line) → AllByRecursion HasDevice
     → ¬ Contains (devices script) number → pends script number ≡ []
 not_asked number script ranges out =
     dite (dec_lt number 16)
-    (λ within. by (list_any (is_of_device number) script) refl within)
+    (λ within. by (is_device script number) refl within)
     (λ far. none_asked script number (omega (arith, far)) ranges)
   where
-    by : (b : Bool) → list_any (is_of_device number) script ≡ b → number < 16 → pends script number ≡ []
-    by true is within =
-        absurd (out (passes_stays (λ k. list_any (is_of_device k) script) (numbers_below 16) number
-        (number_below 16 number within) is))
+    by : (b : Bool) → is_device script number ≡ b → number < 16 → pends script number ≡ []
+    by true is within = absurd (out (among_those (is_device script) 16 number within is))
     by false is within = none_pends number script is

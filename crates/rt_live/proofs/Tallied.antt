@@ -1,56 +1,61 @@
 -- Rows that count what lines did, as these are gathered.
-use Rattle.std.proofs.Common.{◌≡◌, ◌≢◌, ℕ, ◌+◌, ◌/◌, ◌<◌, ◌≤◌, ◌^◌, ◌==◌, if◌then◌else◌, List, [], ◌∷◌, ◌++◌, map}
+use Rattle.std.proofs.Common.{◌≡◌, ◌≢◌, ℕ, ◌+◌, ◌*◌, ◌/◌, ◌<◌, ◌≤◌, ◌^◌, ◌==◌, if◌then◌else◌, List, [], ◌∷◌, ◌++◌, map}
 use Rattle.std.proofs.Common.{length, sum_by, slice_index, refl, ap, sym, subst, ◌∙◌, append_assoc, arith}
 use Rattle.std.proofs.Common.{zero, suc, take, drop, get_or, eq-eqb, ne_eqb, Bool, count_by}
 use Rattle.std.specs.List.{AllByRecursion}
-use Rattle.std.proofs.lemmas.List.{append-nil}
-use Rattle.std.proofs.lemmas.List.Sums.{sum_by-cons, sum_by-append, count_by-le-length}
+use Rattle.std.proofs.lemmas.List.{length-append, length-map}
+use Rattle.std.proofs.lemmas.List.Sums.{sum_by-cons, count_by-le-length}
 use mathlib.Core.Logic.{dite}
 use native.Mathlib.Decide.{ℕ_discrete}
 use Rattle.rt_lemmas.proofs.Lists.{all_map, all_behind}
-use Rattle.rt_lemmas.proofs.Membership.{all_at, all_weaker}
+use Rattle.rt_lemmas.proofs.Membership.{all_at}
 use Rattle.std.proofs.lemmas.Option.{slice_get-get_or}
 use Rattle.rt_devices.specs.declared.device.Device.{Device}
 use Rattle.rt_words.specs.Account.{IsTally, raised_count, merged_count, latched_count, raises, merges, latches}
 use Rattle.rt_words.specs.Ending.{OneHistory, calls_in}
-use Rattle.rt_words.specs.Lines.{Line}
+use Rattle.rt_words.specs.Lines.{Line, Row}
 use Rattle.rt_words.specs.Row.{bit_in_row}
 use Rattle.rt_words.specs.declared.call.Call.{Call}
 use Rattle.rt_words.specs.declared.tally.Tally.{Tally}
 use Rattle.rt_words.specs.Object.{pending_bit}
 use Rattle.rt_words.specs.declared.view.Part.{Part}
-use Rattle.rt_live.specs.Account.{HasRoom, with_counts, settled_row, row_of, account_of}
-use Rattle.rt_live.specs.Ready.{IsCounted, irqs_of}
+use Rattle.rt_live.specs.Account.{HasRoom, counted_row, with_counts, settled_row, account_of}
+use Rattle.rt_live.specs.Ready.{IsBeside, irqs_of, part_of}
 use Rattle.rt_live.specs.declared.account.AccountRow.{AccountRow}
-use Rattle.rt_live.specs.Gathering.{line_after_gathering, part_of, since_gathering}
-use Rattle.rt_live.specs.Inside.Working.{calls_gathered, calls_made}
 
--- how often gathered lines did it is no more than their calls
-times_below : (times : List Call → ℕ) → ((calls : List Call) → times calls ≤ length calls) → (parts : List Part)
-    → sum_by (λ p. times p.calls) parts ≤ calls_gathered parts
-times_below times below [] = omega arith
-times_below times below (p ∷ parts) =
+pub irqs_counted : (core : ℕ) (parts : List Part) (irqs : List ℕ) → irqs_of (map (counted_row core parts) irqs) ≡ irqs
+irqs_counted core parts [] = refl
+irqs_counted core parts (irq ∷ irqs) = ap (λ is. irq ∷ is) (irqs_counted core parts irqs)
+
+-- a line made few calls
+abbrev pub IsShort : Part → Type 0
+IsShort p = length p.calls < 2 ^ 32
+
+-- lines that made few calls did nothing often
+sum_few : (test : Call → Bool) (parts : List Part) → AllByRecursion IsShort parts
+    → sum_by (λ p. count_by test p.calls) parts ≤ 2 ^ 32 * length parts
+sum_few test [] short = omega arith
+sum_few test (p ∷ parts) short =
     omega (
       arith,
-      sum_by-cons (λ (q : Part). times q.calls) p parts,
-      sum_by-cons (λ (q : Part). length q.calls) p parts,
-      below p.calls,
-      times_below times below parts,
+      sum_by-cons (λ (q : Part). count_by test q.calls) p parts,
+      count_by-le-length test p.calls,
+      short.0,
+      sum_few test parts short.1,
     )
 
--- there is room for the counts of one line more
-pub counts_fit : (core : ℕ) (parts : List Part) (rows : List AccountRow) → calls_gathered parts + 2 ^ 32 ≤ 2 ^ 64
-    → AllByRecursion (IsCounted core parts) rows → AllByRecursion HasRoom rows
-counts_fit core parts rows room counted =
-    let fit : (test : Call → Bool) → sum_by (λ (p : Part). count_by test p.calls) parts + 2 ^ 32 ≤ 2 ^ 64 =
-    λ test. omega (arith, times_below (λ calls. count_by test calls) (count_by-le-length test) parts, room) in
-    all_weaker (IsCounted core parts) HasRoom
-    (λ row is. record {
-      raised = omega (arith, is.raised, fit (raises (bit_in_row core row.irq)));
-      merged = omega (arith, is.merged, fit (merges (bit_in_row core row.irq)));
-      latched = omega (arith, is.latched, fit (latches (bit_in_row core row.irq)));
-    })
-    rows counted
+-- so there is room for the counts of one line more
+pub counts_fit : (core : ℕ) (parts : List Part) → AllByRecursion IsShort parts → length parts ≤ 16 → (irqs : List ℕ)
+    → AllByRecursion HasRoom (map (counted_row core parts) irqs)
+counts_fit core parts short few [] = tt
+counts_fit core parts short few (irq ∷ irqs) = (
+  record {
+    raised = omega (arith, sum_few (raises (bit_in_row core irq)) parts short, few);
+    merged = omega (arith, sum_few (merges (bit_in_row core irq)) parts short, few);
+    latched = omega (arith, sum_few (latches (bit_in_row core irq)) parts short, few);
+  },
+  counts_fit core parts short few irqs,
+)
 
 -- of rows of which the first are changed the next is as it was
 unchanged_at : (f : AccountRow → AccountRow) (old : List AccountRow) (i : ℕ) (d : AccountRow) → i < length old
@@ -64,11 +69,6 @@ pub next_fits : (f : AccountRow → AccountRow) (rows old : List AccountRow) (i 
 next_fits f rows old i row within so_far fits =
     subst HasRoom (sym (ap (λ (rs : List AccountRow). get_or rs i row) so_far ∙ unchanged_at f old i row within))
     (all_at HasRoom old i (get_or old i row) fits (slice_get-get_or old i row within))
-
-pub same_irqs : (core here there : ℕ) (tally : Tally) (rows : List AccountRow)
-    → irqs_of (map (with_counts core here there tally) rows) ≡ irqs_of rows
-same_irqs core here there tally [] = refl
-same_irqs core here there tally (row ∷ rows) = ap (λ is. row.irq ∷ is) (same_irqs core here there tally rows)
 
 -- what a count of the core `own` is of an interrupt of this core, where nothing of another core is counted
 at_core : (core own irq count : ℕ) (times : ℕ → ℕ) → irq < 512 → count ≡ times (bit_in_row own irq)
@@ -103,129 +103,126 @@ module _ (core here there irq : ℕ) (calls : List Call) (tally : Tally) (is : I
 -- the rows count the gathered line too
 module _ (core here there : ℕ) (parts : List Part) (part : Part) (tally : Tally)
     (is : IsTally here there part.calls tally) where
-  one_counted : (row : AccountRow) → IsCounted core parts row
-      → IsCounted core (part ∷ parts) (with_counts core here there tally row)
-  one_counted row counted =
-      let bit : ℕ = bit_in_row core row.irq in
-      let low : row.irq < 512 = omega (arith, counted.in_range) in
-      record {
-        in_range = counted.in_range;
-        raised =
-            omega (
-              arith,
-              counted.raised,
-              raised_at core here there row.irq part.calls tally is low,
-              sum_by-cons (λ (q : Part). raised_count bit q.calls) part parts,
-            );
-        merged =
-            omega (
-              arith,
-              counted.merged,
-              merged_at core here there row.irq part.calls tally is low,
-              sum_by-cons (λ (q : Part). merged_count bit q.calls) part parts,
-            );
-        latched =
-            omega (
-              arith,
-              counted.latched,
-              latched_at core here there row.irq part.calls tally is low,
-              sum_by-cons (λ (q : Part). latched_count bit q.calls) part parts,
-            );
-      }
+  one_counted : (irq : ℕ) → irq < 512
+      → with_counts core here there tally (counted_row core parts irq) ≡ counted_row core (part ∷ parts) irq
+  one_counted irq low =
+      let bit : ℕ = bit_in_row core irq in
+      let old : AccountRow = counted_row core parts irq in
+      let row : AccountRow = with_counts core here there tally old in
+      let new : AccountRow = counted_row core (part ∷ parts) irq in
+      let r : row.raised ≡ new.raised =
+      ap (λ n. old.raised + n) (raised_at core here there irq part.calls tally is low)
+      ∙ omega (arith, sum_by-cons (λ (q : Part). raised_count bit q.calls) part parts) in
+      let m : row.merged ≡ new.merged =
+      ap (λ n. old.merged + n) (merged_at core here there irq part.calls tally is low)
+      ∙ omega (arith, sum_by-cons (λ (q : Part). merged_count bit q.calls) part parts) in
+      let l : row.latched ≡ new.latched =
+      ap (λ n. old.latched + n) (latched_at core here there irq part.calls tally is low)
+      ∙ omega (arith, sum_by-cons (λ (q : Part). latched_count bit q.calls) part parts) in
+      λ i. record { irq = irq; raised = r i; merged = m i; latched = l i; left = 0 }
 
-  pub all_counted : (rows : List AccountRow) → AllByRecursion (IsCounted core parts) rows
-      → AllByRecursion (IsCounted core (part ∷ parts)) (map (with_counts core here there tally) rows)
-  all_counted rows counted =
-      all_map (with_counts core here there tally) (IsCounted core parts) (IsCounted core (part ∷ parts)) one_counted
-      rows counted
+  pub all_counted : (irqs : List ℕ) → AllByRecursion (λ irq. irq < 512) irqs
+      → map (with_counts core here there tally) (map (counted_row core parts) irqs)
+      ≡ map (counted_row core (part ∷ parts)) irqs
+  all_counted [] low = refl
+  all_counted (irq ∷ irqs) low = λ i. one_counted irq low.0 i ∷ all_counted irqs low.1 i
 
 -- rows with what the first line did, and with what the words ended with, are the account of the history
 module _ (core here there : ℕ) (line : Line) (bits : List ℕ) (h : OneHistory line bits) (own : Tally)
     (is : IsTally here there line.calls own) where
-  row_settled : (row : AccountRow) → IsCounted core line.gathered row
-      → settled_row core bits (with_counts core here there own row) ≡ row_of core (calls_in h.history) bits row.irq
-  row_settled row counted =
-      let bit : ℕ = bit_in_row core row.irq in
-      let low : row.irq < 512 = omega (arith, counted.in_range) in
-      let calls : List Call = calls_in h.history in
-      let next : AccountRow = with_counts core here there own row in
-      let r : next.raised ≡ raised_count bit calls =
-      omega (arith, counted.raised, raised_at core here there row.irq line.calls own is low, h.raised bit) in
-      let m : next.merged ≡ merged_count bit calls =
-      omega (arith, counted.merged, merged_at core here there row.irq line.calls own is low, h.merged bit) in
-      let l : next.latched ≡ latched_count bit calls =
-      omega (arith, counted.latched, latched_at core here there row.irq line.calls own is low, h.latched bit) in
-      λ i. record { irq = row.irq; raised = r i; merged = m i; latched = l i; left = pending_bit bits bit }
+  abbrev own_part : Part
+  own_part = record { line = 255; calls = line.calls }
 
-  pub rows_settled : (rows : List AccountRow) → AllByRecursion (IsCounted core line.gathered) rows
-      → map (settled_row core bits) (map (with_counts core here there own) rows)
-      ≡ account_of core (irqs_of rows) (calls_in h.history) bits
-  rows_settled [] counted = refl
-  rows_settled (row ∷ rows) counted =
-      ap (λ (r : AccountRow). r ∷ map (settled_row core bits) (map (with_counts core here there own) rows))
-      (row_settled row counted.0)
-      ∙ ap (λ (rs : List AccountRow). row_of core (calls_in h.history) bits row.irq ∷ rs) (rows_settled rows counted.1)
+  abbrev all_parts : List Part
+  all_parts = own_part ∷ line.gathered
 
--- the last of these devices were gathered, and these are left
-pub record GathersLast (all left : List Device) (old new : Line) : Type 0 where
+  all_settled : (irqs : List ℕ) → map (settled_row core bits) (map (counted_row core all_parts) irqs)
+      ≡ account_of core irqs (calls_in h.history) bits
+  all_settled [] = refl
+  all_settled (irq ∷ irqs) =
+      let bit : ℕ = bit_in_row core irq in
+      let row : AccountRow = counted_row core all_parts irq in
+      let r : row.raised ≡ raised_count bit (calls_in h.history) =
+      sum_by-cons (λ (q : Part). raised_count bit q.calls) own_part line.gathered ∙ sym (h.raised bit) in
+      let m : row.merged ≡ merged_count bit (calls_in h.history) =
+      sum_by-cons (λ (q : Part). merged_count bit q.calls) own_part line.gathered ∙ sym (h.merged bit) in
+      let l : row.latched ≡ latched_count bit (calls_in h.history) =
+      sum_by-cons (λ (q : Part). latched_count bit q.calls) own_part line.gathered ∙ sym (h.latched bit) in
+      λ i.
+      record { irq = irq; raised = r i; merged = m i; latched = l i; left = pending_bit bits bit }
+      ∷ all_settled irqs i
+
+  pub rows_settled : (irqs : List ℕ) → AllByRecursion (λ irq. irq < 512) irqs
+      → map (settled_row core bits) (map (with_counts core here there own) (map (counted_row core line.gathered) irqs))
+      ≡ account_of core irqs (calls_in h.history) bits
+  rows_settled irqs low =
+      ap (map (settled_row core bits)) (all_counted core here there line.gathered own_part own is irqs low)
+      ∙ all_settled irqs
+
+-- the last of these devices were gathered, these are left, and the rows of these interrupts count what was gathered
+pub record GathersLast (all left : List Device) (old new : Line) (irqs : List ℕ) (rows : List AccountRow) : Type 0 where
   pub done : List Device
   pub parts : all ≡ left ++ done
-  pub line : new ≡ line_after_gathering done old
+  pub line : new ≡ record old { gathered = map part_of done; since = new.since }
+  pub since : old.since ≤ length old.calls → new.since ≤ length old.calls
+  pub counted : rows ≡ map (counted_row 0 (map part_of done)) irqs
 
-pub gathers_none : (all : List Device) (line : Line) → GathersLast all all line line
-gathers_none all line = record { done = []; parts = sym (append-nil all); line = refl }
-
--- the calls of what was gathered
-pub made_parts : (devices : List Device) (parts : List Part)
-    → calls_gathered (map part_of devices ++ parts) ≡ calls_made devices + calls_gathered parts
-made_parts [] parts = let e : calls_gathered parts ≡ 0 + calls_gathered parts = omega arith in e
-made_parts (d ∷ devices) parts =
-    omega (
-      arith,
-      sum_by-cons (λ (q : Part). length q.calls) (part_of d) (map part_of devices ++ parts),
-      sum_by-cons (λ (e : Device). length e.line.calls) d devices,
-      made_parts devices parts,
-    )
-
-module _ (all rest : List Device) (old new : Line) (left : List Device) (device : Device)
-    (gathers : GathersLast all left old new)
-    (popped : left ≡ rest ++ device ∷ []) where
+module _ (row : Row) (rest : List Device) (device : Device) {all left : List Device} {old new : Line} {irqs : List ℕ}
+    {rows : List AccountRow} (gathers : GathersLast all left old new irqs rows) (popped : left ≡ rest ++ device ∷ [])
+    (beside : AllByRecursion (IsBeside row) all) where
   whole : all ≡ rest ++ device ∷ gathers.done
   whole =
       gathers.parts ∙ ap (λ ds. ds ++ gathers.done) popped ∙ append_assoc rest (device ∷ []) gathers.done
 
-  -- one device more
-  pub gathers_more : (next : Line)
-      → next ≡ record new { gathered = part_of device ∷ new.gathered; since = length new.calls }
-      → GathersLast all rest old next
-  gathers_more next is = record {
-    done = device ∷ gathers.done;
-    parts = whole;
-    line =
-        is
-        ∙ ap (λ (l : Line). record l { gathered = part_of device ∷ l.gathered; since = length l.calls }) gathers.line;
-  }
+  abbrev from_here : AllByRecursion (IsBeside row) (device ∷ gathers.done)
+  from_here = all_behind (IsBeside row) rest (device ∷ gathers.done) (subst (AllByRecursion
+      (IsBeside row)) whole beside)
 
-  -- what is asked of all devices is asked of it
-  pub next_has : (P : Device → Type 0) → AllByRecursion P all → P device
-  next_has P each =
-      (all_behind P rest (device ∷ gathers.done) (subst (AllByRecursion P) whole each)).0
+  pub next_beside : IsBeside row device
+  next_beside = from_here.0
 
-  pub next_room : calls_gathered old.gathered + calls_made all + 2 ^ 32 ≤ 2 ^ 64
-      → calls_gathered new.gathered + length device.line.calls + 2 ^ 32 ≤ 2 ^ 64
-  next_room room =
-      omega (
+  pub next_room : length all ≤ 16 → AllByRecursion HasRoom rows
+  next_room few =
+      subst (AllByRecursion HasRoom) (sym gathers.counted)
+      (counts_fit 0 (map part_of gathers.done)
+      (all_map part_of (IsBeside row) IsShort (λ d is. is.few) gathers.done from_here.1)
+      (omega (
         arith,
-        room,
-        ap calls_made whole,
-        sum_by-append (λ (e : Device). length e.line.calls) rest (device ∷ gathers.done),
-        sum_by-cons (λ (e : Device). length e.line.calls) device gathers.done,
-        ap (λ (l : Line). calls_gathered l.gathered) gathers.line,
-        made_parts gathers.done old.gathered,
-      )
+        few,
+        ap length whole,
+        length-append rest (device ∷ gathers.done),
+        length-map gathers.done part_of,
+      )) irqs)
 
--- the line's last gathering is no later than its last call
-pub since_within : (devices : List Device) (line : Line) → line.since ≤ length line.calls
-    → since_gathering devices line ≤ length line.calls
-since_within [] line within = within
-since_within (d ∷ devices) line within = omega arith
+  -- one device more
+  pub gathers_more : (next : Line) (tally : Tally) (counts : List AccountRow) → AllByRecursion (λ irq. irq < 512) irqs
+      → next ≡ record new {
+        gathered = record { line = device.line.number; calls = device.line.calls } ∷ new.gathered;
+        since = length new.calls;
+      }
+      → IsTally device.line.here device.line.there device.line.calls tally
+      → counts ≡ map (with_counts 0 0 0 tally) rows → GathersLast all rest old next irqs counts
+  gathers_more next tally counts low is told added =
+      let line = next_beside.line in
+      let since : next.since ≡ length old.calls =
+      ap (λ (l : Line). l.since) is ∙ ap (λ (l : Line). length l.calls) gathers.line in
+      record {
+        done = device ∷ gathers.done;
+        parts = whole;
+        line =
+            is
+            ∙ ap (λ (l : Line). record l {
+              gathered = record { line = device.line.number; calls = device.line.calls } ∷ l.gathered;
+              since = length l.calls;
+            }) gathers.line
+            ∙ ap (λ n. record old {
+              gathered = record { line = n; calls = device.line.calls } ∷ map part_of gathers.done;
+              since = length old.calls;
+            }) (ap (λ (l : Line). l.number) line)
+            ∙ ap (λ n. record old { gathered = part_of device ∷ map part_of gathers.done; since = n }) (sym since);
+        since = λ _. omega (arith, since);
+        counted =
+            added ∙ ap (map (with_counts 0 0 0 tally)) gathers.counted
+            ∙ all_counted 0 0 0 (map part_of gathers.done) (part_of device) tally
+            (subst (λ (l : Line). IsTally l.here l.there device.line.calls tally) line told) irqs low;
+      }

@@ -1,8 +1,9 @@
--- On interleavings of turns that follow others or go on, and on how many steps, ticks and calls turns are.
-use Rattle.std.proofs.Common.{◌≡◌, ℕ, suc, ◌+◌, ◌*◌, ◌<◌, ◌≤◌, List, [], ◌∷◌, ◌++◌, map, flat_map, length, refl, ap}
-use Rattle.std.proofs.Common.{sym, ◌∙◌, append_assoc, arith}
+-- Lines that made more calls, interleavings of turns, and how many steps, ticks and calls turns are.
+use Rattle.std.proofs.Common.{◌≡◌, ℕ, zero, suc, ◌+◌, ◌*◌, ◌<◌, ◌≤◌, List, [], ◌∷◌, ◌++◌, map, flat_map, length, refl}
+use Rattle.std.proofs.Common.{ap, sym, ◌∙◌, append_assoc, append-nil, arith, replicate}
 use Rattle.std.specs.List.{AllByRecursion}
 use Rattle.std.proofs.lemmas.List.{length-append}
+use Rattle.std.proofs.lemmas.List.Concat.{flat_map-append}
 use Rattle.rt_ids.specs.Event.{Event, Arrive, Tick, Step, steps}
 use Rattle.rt_core.specs.Machine.{Machine}
 use Rattle.rt_core.specs.Trace.{labels}
@@ -10,52 +11,60 @@ use Rattle.rt_outside.specs.Bytes.{TookPrefix}
 use Rattle.rt_run.specs.Done.{Leads}
 use Rattle.rt_run.specs.Sending.{Breaks, lines_of}
 use Rattle.rt_run.proofs.Advancing.{steps-append}
-use Rattle.rt_run.proofs.Known.{ticks}
+use Rattle.rt_run.proofs.Known.{steps_below, ticks}
+use Rattle.rt_words.specs.Lines.{Line}
+use Rattle.rt_words.specs.declared.call.Call.{Call}
 use Rattle.rt_live.specs.Interleaving.{Turn, Happens, Looks, looks, arrivals_from, look_arrivals, look_calls_from}
-use Rattle.rt_live.specs.Interleaving.{look_calls, interleaving}
+use Rattle.rt_live.specs.Interleaving.{look_calls, interleaving, with_looks}
 use Rattle.rt_live.specs.Going.{IsWholeLook}
 use mathlib.Core.List.{map-append}
 use Rattle.rt_ids.specs.Arrivals.{arrivals}
 
+-- calls, and more of them
+abbrev pub line_with : Line → List Call → Line
+line_with line calls = record line { calls = line.calls ++ calls }
+
+pub same_line : (line : Line) → line ≡ line_with line []
+same_line line = ap (λ (cs : List Call). record line { calls = cs }) (sym (append-nil line.calls))
+
+pub line_on : (a b c : Line) (calls more : List Call) → b ≡ line_with a calls → c ≡ line_with b more
+    → c ≡ line_with a (calls ++ more)
+line_on a b c calls more first second =
+    second ∙ ap (λ (l : Line). line_with l more) first
+    ∙ ap (λ (cs : List Call). record a { calls = cs }) (append_assoc a.calls calls more)
+
+-- how many events are among turns
+abbrev pub happenings : List Turn → ℕ
+happenings [] = zero
+happenings (Looks ∷ ts) = happenings ts
+happenings (Happens event ∷ ts) = suc (happenings ts)
+
 pub looks-append : (ts us : List Turn) → looks (ts ++ us) ≡ looks ts + looks us
-looks-append [] us = let e : looks us ≡ 0 + looks us = omega arith in e
-looks-append (Looks ∷ ts) us = let e : suc (looks (ts ++ us)) ≡ suc (looks ts) + looks us =
-    omega (arith, looks-append ts us) in e
-looks-append (Happens Step ∷ ts) us = let e : suc (looks (ts ++ us)) ≡ suc (looks ts) + looks us =
-    omega (arith, looks-append ts us) in e
-looks-append (Happens Tick ∷ ts) us = looks-append ts us
-looks-append (Happens (Arrive irq) ∷ ts) us = looks-append ts us
+looks-append [] us = omega arith
+looks-append (Looks ∷ ts) us = omega (arith, looks-append ts us)
+looks-append (Happens event ∷ ts) us = looks-append ts us
 
--- as many looks as the first turns want
-pub interleaving_on : (ts us : List Turn) (found more : List (List ℕ)) → length found ≡ looks ts
-    → interleaving (ts ++ us) (found ++ more) ≡ interleaving ts found ++ interleaving us more
-interleaving_on [] us [] more many = refl
-interleaving_on [] us (ws ∷ found) more many = absurd (omega (arith, many))
-interleaving_on (Happens Tick ∷ ts) us found more many = ap (λ es. Tick ∷ es) (interleaving_on ts us found more many)
-interleaving_on (Happens (Arrive irq) ∷ ts) us found more many = ap (λ es. Arrive irq ∷ es)
-    (interleaving_on ts us found more many)
-interleaving_on (Happens Step ∷ ts) us [] more many = absurd (omega (arith, many))
-interleaving_on (Happens Step ∷ ts) us (ws ∷ found) more many =
-    ap (λ es. look_arrivals ws ++ Step ∷ es) (interleaving_on ts us found more (omega (arith, many)))
-    ∙ sym (append_assoc (look_arrivals ws) (Step ∷ interleaving ts found) (interleaving us more))
-interleaving_on (Looks ∷ ts) us [] more many = absurd (omega (arith, many))
-interleaving_on (Looks ∷ ts) us (ws ∷ found) more many =
-    ap (λ es. look_arrivals ws ++ es) (interleaving_on ts us found more (omega (arith, many)))
-    ∙ sym (append_assoc (look_arrivals ws) (interleaving ts found) (interleaving us more))
+pub happenings-append : (ts us : List Turn) → happenings (ts ++ us) ≡ happenings ts + happenings us
+happenings-append [] us = omega arith
+happenings-append (Looks ∷ ts) us = happenings-append ts us
+happenings-append (Happens event ∷ ts) us = omega (arith, happenings-append ts us)
 
--- fewer: what is behind never comes
-pub interleaving_short : (ts us : List Turn) (found : List (List ℕ)) → length found < looks ts
-    → interleaving (ts ++ us) found ≡ interleaving ts found
-interleaving_short [] us found few = absurd (omega (arith, few))
-interleaving_short (Happens Tick ∷ ts) us found few = ap (λ es. Tick ∷ es) (interleaving_short ts us found few)
-interleaving_short (Happens (Arrive irq) ∷ ts) us found few = ap (λ es. Arrive irq ∷ es)
-    (interleaving_short ts us found few)
-interleaving_short (Happens Step ∷ ts) us [] few = refl
-interleaving_short (Happens Step ∷ ts) us (ws ∷ found) few =
-    ap (λ es. look_arrivals ws ++ Step ∷ es) (interleaving_short ts us found (omega (arith, few)))
-interleaving_short (Looks ∷ ts) us [] few = refl
-interleaving_short (Looks ∷ ts) us (ws ∷ found) few =
-    ap (λ es. look_arrivals ws ++ es) (interleaving_short ts us found (omega (arith, few)))
+-- a look comes before each core step
+pub looks_own : (es : List Event) → looks (with_looks es) ≡ steps es
+looks_own [] = refl
+looks_own (Step ∷ es) = ap suc (looks_own es)
+looks_own (Tick ∷ es) = looks_own es
+looks_own (Arrive irq ∷ es) = looks_own es
+
+pub happenings_own : (es : List Event) → happenings (with_looks es) ≡ length es
+happenings_own [] = refl
+happenings_own (Step ∷ es) = ap suc (happenings_own es)
+happenings_own (Tick ∷ es) = ap suc (happenings_own es)
+happenings_own (Arrive irq ∷ es) = ap suc (happenings_own es)
+
+pub repeated_steps : (n : ℕ) → steps (replicate n Step) ≡ n
+repeated_steps zero = refl
+repeated_steps (suc n) = ap suc (repeated_steps n)
 
 pub no_steps : (irqs : List ℕ) → steps (map Arrive irqs) ≡ 0
 no_steps [] = refl
@@ -68,34 +77,23 @@ no_ticks (irq ∷ irqs) es = no_ticks irqs es
 pub steps_behind : (irqs : List ℕ) (es : List Event) → steps (map Arrive irqs ++ es) ≡ steps es
 steps_behind irqs es = omega (arith, steps-append (map Arrive irqs) es, no_steps irqs)
 
--- a turn is one core step at most, and one tick at most
-pub steps_woven : (ts : List Turn) (found : List (List ℕ)) → steps (interleaving ts found) ≤ length ts
+-- an event is one core step at most, and one tick at most
+pub steps_woven : (ts : List Turn) (found : List (List ℕ)) → steps (interleaving ts found) ≤ happenings ts
 steps_woven [] found = omega arith
-steps_woven (Happens Tick ∷ ts) found = omega (arith, steps_woven ts found)
-steps_woven (Happens (Arrive irq) ∷ ts) found = omega (arith, steps_woven ts found)
-steps_woven (Happens Step ∷ ts) [] = omega arith
-steps_woven (Happens Step ∷ ts) (ws ∷ found) =
-    omega (arith, steps_behind (arrivals_from 0 ws) (Step ∷ interleaving ts found), steps_woven ts found)
+steps_woven (Happens e ∷ ts) found =
+    omega (arith, steps-append (e ∷ []) (interleaving ts found), steps_below (e ∷ []), steps_woven ts found)
 steps_woven (Looks ∷ ts) [] = omega arith
-steps_woven (Looks ∷ ts) (ws ∷ found) = omega (
-  arith,
-  steps_behind (arrivals_from 0 ws) (interleaving ts found),
-  steps_woven ts found,
-)
+steps_woven (Looks ∷ ts) (ws ∷ found) =
+    omega (arith, steps_behind (arrivals_from 0 ws) (interleaving ts found), steps_woven ts found)
 
-pub ticks_woven : (ts : List Turn) (found : List (List ℕ)) → ticks (interleaving ts found) ≤ length ts
+pub ticks_woven : (ts : List Turn) (found : List (List ℕ)) → ticks (interleaving ts found) ≤ happenings ts
 ticks_woven [] found = omega arith
 ticks_woven (Happens Tick ∷ ts) found = omega (arith, ticks_woven ts found)
+ticks_woven (Happens Step ∷ ts) found = omega (arith, ticks_woven ts found)
 ticks_woven (Happens (Arrive irq) ∷ ts) found = omega (arith, ticks_woven ts found)
-ticks_woven (Happens Step ∷ ts) [] = omega arith
-ticks_woven (Happens Step ∷ ts) (ws ∷ found) =
-    omega (arith, no_ticks (arrivals_from 0 ws) (Step ∷ interleaving ts found), ticks_woven ts found)
 ticks_woven (Looks ∷ ts) [] = omega arith
-ticks_woven (Looks ∷ ts) (ws ∷ found) = omega (
-  arith,
-  no_ticks (arrivals_from 0 ws) (interleaving ts found),
-  ticks_woven ts found,
-)
+ticks_woven (Looks ∷ ts) (ws ∷ found) =
+    omega (arith, no_ticks (arrivals_from 0 ws) (interleaving ts found), ticks_woven ts found)
 
 pub length-latches : (k : ℕ) (words : List ℕ) → length (look_calls_from k words) ≡ length words
 length-latches k [] = refl
@@ -114,6 +112,11 @@ all_latches (ws ∷ found) whole =
       whole.0,
       all_latches found whole.1,
     ) in e
+
+-- looks of which the last latched no word
+pub cut_before : (found : List (List ℕ)) → flat_map look_calls (found ++ [] ∷ []) ≡ flat_map look_calls found
+cut_before found =
+    flat_map-append look_calls found ([] ∷ []) ∙ append-nil (flat_map look_calls found)
 
 -- a fault in the lines of one event
 pub at_event : (e : Event) (a b : Machine) (x y : List ℕ) → Leads (e ∷ []) a b → TookPrefix x y (lines_of a (e ∷ []))
@@ -142,17 +145,8 @@ interleaving_further (Looks ∷ ts) (f ∷ found) ws others few =
       ap (λ (t : List Event). look_arrivals f ++ t) rest.1
           ∙ sym (append_assoc (look_arrivals f) (interleaving ts found) (look_arrivals ws ++ rest.0)),
     )
-interleaving_further (Happens Step ∷ ts) [] ws others few = (Step ∷ interleaving ts others, refl)
-interleaving_further (Happens Step ∷ ts) (f ∷ found) ws others few =
-    let rest = interleaving_further ts found ws others (omega (arith, few)) in (
-      rest.0,
-      ap (λ (t : List Event). look_arrivals f ++ Step ∷ t) rest.1
-          ∙ sym (append_assoc (look_arrivals f) (Step ∷ interleaving ts found) (look_arrivals ws ++ rest.0)),
-    )
-interleaving_further (Happens Tick ∷ ts) found ws others few =
-    let rest = interleaving_further ts found ws others few in (rest.0, ap (λ (t : List Event). Tick ∷ t) rest.1)
-interleaving_further (Happens (Arrive irq) ∷ ts) found ws others few =
-    let rest = interleaving_further ts found ws others few in (rest.0, ap (λ (t : List Event). Arrive irq ∷ t) rest.1)
+interleaving_further (Happens e ∷ ts) found ws others few =
+    let rest = interleaving_further ts found ws others few in (rest.0, ap (λ (t : List Event). e ∷ t) rest.1)
 
 pub found_on : (k : ℕ) (xs ys : List ℕ) → arrivals_from k (xs ++ ys) ≡ arrivals_from k xs
     ++ arrivals_from (k + length xs) ys

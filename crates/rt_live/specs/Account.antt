@@ -3,7 +3,7 @@
 -- definitions count in a list of calls; the code adds up what each line counted by itself. Under `live` there is one
 -- core in the row, core 0.
 use Rattle.std.specs.Prelude.{ℕ, ◌+◌, ◌^◌, ◌≤◌, ◌==◌, if◌then◌else◌, List, [], ◌∷◌, ◌++◌, map, flat_map, codes}
-use Rattle.std.specs.Prelude.{decimal, slice_index}
+use Rattle.std.specs.Prelude.{decimal, slice_index, sum_by}
 use Rattle.rt_ids.specs.Names.{Names}
 use Rattle.rt_ids.specs.Naming.{irq_name}
 use Rattle.rt_lines.specs.Table.{spaced_text}
@@ -12,6 +12,7 @@ use Rattle.rt_words.specs.Object.{pending_bit}
 use Rattle.rt_words.specs.declared.call.Call.{Call}
 use Rattle.rt_words.specs.Row.{bit_in_row}
 use Rattle.rt_words.specs.declared.tally.Tally.{Tally}
+use Rattle.rt_words.specs.declared.view.Part.{Part}
 use Rattle.rt_live.specs.declared.account.AccountRow.{AccountRow}
 
 -- the row of an interrupt of a core of the row, over these calls and the words that they left
@@ -48,6 +49,17 @@ account_text names rows = flat_map (row_text names) rows
 -- a row of which nothing is counted yet
 abbrev pub empty_row : ℕ → AccountRow
 empty_row irq = record { irq = irq; raised = 0; merged = 0; latched = 0; left = 0 }
+
+-- the row of an interrupt of a core that counts what these gathered lines did, and not yet what is left
+abbrev pub counted_row : ℕ → List Part → ℕ → AccountRow
+counted_row core parts irq =
+    record {
+      irq = irq;
+      raised = sum_by (λ p. raised_count (bit_in_row core irq) p.calls) parts;
+      merged = sum_by (λ p. merged_count (bit_in_row core irq) p.calls) parts;
+      latched = sum_by (λ p. latched_count (bit_in_row core irq) p.calls) parts;
+      left = 0;
+    }
 
 -- there is room in a row for the counts of one line more
 pub record HasRoom (row : AccountRow) : Type 0 where

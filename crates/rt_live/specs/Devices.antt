@@ -1,7 +1,7 @@
 -- The devices of a script.
-use Rattle.std.specs.Prelude.{ℕ, ◌==◌, Bool, false, List, filter}
+use Rattle.std.specs.Prelude.{ℕ, ◌==◌, Bool, false, if◌then◌else◌, List, [], ◌∷◌, flat_map}
 use Rattle.std.specs.List.{list_any}
-use Rattle.rt_ids.specs.Lists.{numbers_below}
+use Rattle.rt_ids.specs.Lists.{those_below}
 use Rattle.rt_ids.specs.declared.limits.TheConstants.{DEVICES}
 use Rattle.rt_script.specs.declared.line.Line.{Line}
 use Rattle.rt_script.specs.declared.line.Line.TheVariants.{Steps, Ticks, Pends, Device}
@@ -13,6 +13,21 @@ is_of_device number (Steps n) = false
 is_of_device number (Ticks n) = false
 is_of_device number (Pends irq n) = false
 
+-- a script has lines of the device of this number
+abbrev pub is_device : List Line → ℕ → Bool
+is_device script number = list_any (is_of_device number) script
+
 -- the numbers of the devices that the lines name, rising
 abbrev pub devices : List Line → List ℕ
-devices script = filter (λ number. list_any (is_of_device number) script) (numbers_below DEVICES)
+devices script = those_below (is_device script) DEVICES
+
+-- what a line has the device of a number pend, with how often
+abbrev pub entries_of : ℕ → Line → List (ℕ × ℕ)
+entries_of number (Device d irq n) = if d == number then (irq, n) ∷ [] else []
+entries_of number (Steps n) = []
+entries_of number (Ticks n) = []
+entries_of number (Pends irq n) = []
+
+-- and all lines
+abbrev pub device_script : List Line → ℕ → List (ℕ × ℕ)
+device_script script number = flat_map (entries_of number) script

@@ -5,8 +5,8 @@
 -- they pended last arrives by it. Then come as many core steps again, each behind a look, which finds nothing. The
 -- lists say what happened, wherever the program kept it: it latches word by word and writes each event's lines as it
 -- happens.
-use Rattle.std.specs.Prelude.{ℕ, zero, suc, List, [], ◌∷◌, ◌++◌, map, drop, replicate}
-use Rattle.rt_ids.specs.Event.{Event, Arrive, Tick, Step, steps}
+use Rattle.std.specs.Prelude.{ℕ, zero, suc, List, [], ◌∷◌, ◌++◌, map, flat_map, drop, replicate}
+use Rattle.rt_ids.specs.Event.{Event, Arrive, Step, steps}
 use Rattle.rt_ids.specs.Arrivals.{arrivals}
 use Rattle.rt_script.specs.Script.{core_events}
 use Rattle.rt_script.specs.declared.line.Line.{Line}
@@ -15,36 +15,38 @@ use Rattle.rt_words.specs.declared.call.Call.TheVariants.{Latch}
 
 -- one thing that is done on the core's side
 pub data Turn : Type 0 where
-  -- an event of the core; a core step comes behind a look
+  -- an event of the core
   Happens : (event : Event) → Turn
-  -- a look without a core step
+  -- a look
   Looks : Turn
+
+-- what is done of an event: a core step comes behind a look
+abbrev pub event_turns : Event → List Turn
+event_turns Step = Looks ∷ Happens Step ∷ []
+event_turns event = Happens event ∷ []
+
+-- what is done of events
+abbrev pub with_looks : List Event → List Turn
+with_looks events = flat_map event_turns events
 
 -- a look alone, and so many core steps, each behind a look
 abbrev pub last_turns : ℕ → List Turn
-last_turns n = Looks ∷ replicate n (Happens Step)
+last_turns n = Looks ∷ with_looks (replicate n Step)
 
 -- what is done under a script
 abbrev pub turns : List Line → List Turn
-turns script = map Happens (core_events script) ++ last_turns (steps (core_events script))
+turns script = with_looks (core_events script) ++ last_turns (steps (core_events script))
 
 -- of what the looks found, what the looks behind the core's own lines found: the look alone, and those of the steps
 -- that are added
 abbrev pub last_looks : List Line → List (List ℕ) → List (List ℕ)
 last_looks script found = drop (steps (core_events script)) found
 
--- these turns so many times
-abbrev pub repeated_turns : ℕ → List Turn → List Turn
-repeated_turns zero ts = []
-repeated_turns (suc n) ts = ts ++ repeated_turns n ts
-
 -- how many looks are among them
 abbrev pub looks : List Turn → ℕ
 looks [] = zero
 looks (Looks ∷ ts) = suc (looks ts)
-looks (Happens Step ∷ ts) = suc (looks ts)
-looks (Happens Tick ∷ ts) = looks ts
-looks (Happens (Arrive irq) ∷ ts) = looks ts
+looks (Happens event ∷ ts) = looks ts
 
 -- the interrupts whose bits these words hold, the first of them being the word of this number
 abbrev pub arrivals_from : ℕ → List ℕ → List ℕ
@@ -64,13 +66,10 @@ look_calls_from k (word ∷ words) = Latch k word ∷ look_calls_from (suc k) wo
 abbrev pub look_calls : List ℕ → List Call
 look_calls words = look_calls_from 0 words
 
--- the events of these turns, whose looks found these words, one list of words for each look; a turn that wants a look
--- that is not there ends them
+-- the events of these turns, whose looks found these words, one list of words for each look; a look that is not there
+-- ends them
 abbrev pub interleaving : List Turn → List (List ℕ) → List Event
 interleaving [] found = []
-interleaving (Happens Tick ∷ ts) found = Tick ∷ interleaving ts found
-interleaving (Happens (Arrive irq) ∷ ts) found = Arrive irq ∷ interleaving ts found
-interleaving (Happens Step ∷ ts) [] = []
-interleaving (Happens Step ∷ ts) (words ∷ found) = look_arrivals words ++ Step ∷ interleaving ts found
+interleaving (Happens event ∷ ts) found = event ∷ interleaving ts found
 interleaving (Looks ∷ ts) [] = []
 interleaving (Looks ∷ ts) (words ∷ found) = look_arrivals words ++ interleaving ts found

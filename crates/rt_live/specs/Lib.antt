@@ -6,11 +6,9 @@ pub mod Constants
 pub mod Going
 pub mod Written
 pub mod Devices
-pub mod Gathering
 pub mod History
 pub mod Account
 pub mod Output
 pub mod Doing
 pub mod Ready
-pub mod Closed
 pub mod Inside

@@ -1,30 +1,28 @@
--- What is made ready for a run under `live`: the words, the core's line, and the devices with the lines that they call.
-use Rattle.std.specs.Prelude.{◌≡◌, ◌≢◌, ℕ, ◌<◌, ◌≤◌, List, [], ◌++◌, length, map, sum_by, Some, Contains, ◌↔◌}
+-- What is made ready for a run under `live`: the words, the core's line, and the devices with the lines that they call;
+-- and what is known when the lines of the devices are gathered.
+use Rattle.std.specs.Prelude.{◌≡◌, ◌↔◌, ℕ, ◌<◌, ◌≤◌, ◌*◌, ◌^◌, List, length, map, Some, Contains}
 use Rattle.std.specs.List.{AllByRecursion}
-use Rattle.rt_ids.specs.declared.limits.TheConstants.{IRQ_NUMBERS}
-use Rattle.rt_devices.specs.Work.{requests, interrupt_asked}
+use Rattle.rt_ids.specs.Event.{steps}
+use Rattle.rt_ids.specs.Names.{Names}
+use Rattle.rt_ids.specs.declared.limits.TheConstants.{IRQ_NUMBERS, DEVICES}
+use Rattle.rt_devices.specs.Work.{interrupt_asked}
 use Rattle.rt_devices.specs.declared.device.Device.{Device}
-use Rattle.rt_script.specs.Script.{IsScript, pends}
+use Rattle.rt_script.specs.Script.{IsScript, HasNames, core_events, pends}
 use Rattle.rt_script.specs.declared.line.Line.{Line}
-use Rattle.rt_script.specs.declared.line.Line.TheVariants.{Steps, Ticks, Pends, Device as DeviceLine}
-use Rattle.rt_words.specs.Account.{raised_count, merged_count, latched_count}
 use Rattle.rt_words.specs.Lines.{Row, Line as Caller, count, numbers, new_line}
 use Rattle.rt_words.specs.declared.call.Call.{Call}
 use Rattle.rt_words.specs.Row.{bit_in_row}
 use Rattle.rt_words.specs.declared.row.TheConstants.{CORE_WORDS}
 use Rattle.rt_words.specs.Object.{IsPending}
 use Rattle.rt_words.specs.declared.view.Part.{Part}
-use Rattle.rt_live.specs.Devices.{devices}
+use Rattle.rt_live.specs.Account.{declared_irqs, counted_row, empty_row}
+use Rattle.rt_live.specs.Devices.{devices, device_script}
 use Rattle.rt_live.specs.declared.account.AccountRow.{AccountRow}
+use Rattle.rt_live.specs.declared.ready.Ready.{Ready}
 
--- what contracts see of it: the lines of the script, which words they are, the core's line, which is the first, the
--- devices whose lines are not gathered, and the rows of the account
-pub record Prepared : Type 0 where
-  pub script : List Line
-  pub words : Row
-  pub line : Caller
-  pub devices : List Device
-  pub rows : List AccountRow
+-- the core's line of these words that has made the lines of these numbers and nothing else
+abbrev pub maker_line : Row → List ℕ → Caller
+maker_line words made = record (new_line words 255 0 0) { made = made }
 
 -- the core's line of these words that has made these calls, and has made and gathered no line
 abbrev pub core_line : Row → List Call → Caller
@@ -34,63 +32,59 @@ core_line words calls = record (new_line words 255 0 0) { calls = calls }
 abbrev pub irqs_of : List AccountRow → List ℕ
 irqs_of rows = map (λ row. row.irq) rows
 
--- a device's line is of these words, has the device's number, and has to do with core 0 alone
+-- of a core's bits in these words those of these interrupts are set, and no other
+abbrev pub HasBits : ℕ → List ℕ → List ℕ → Type 0
+HasBits core may irqs = (irq : ℕ) → irq < 512 → IsPending may (bit_in_row core irq) ↔ Contains irqs irq
+
+-- a device's line is of these words, has the device's number, has to do with core 0 alone, and has made few calls
 pub record IsBeside (row : Row) (device : Device) : Type 0 where
-  pub words : device.line.words ≡ row
-  pub number : device.line.number ≡ device.number
-  pub other : device.number ≢ 255
-  pub here : device.line.here ≡ 0
-  pub there : device.line.there ≡ 0
+  pub low : device.number < DEVICES
+  pub line : device.line ≡ record (new_line row device.number 0 0) { calls = device.line.calls }
+  pub few : length device.line.calls < 2 ^ 32
 
--- a device's line is so and has made no call, no answer is counted, and the device is to make its pends of the script
+-- a device is to make its pends of the script, by a line that has made no call
 pub record IsWaiting (row : Row) (script : List Line) (device : Device) : Type 0 where
-  pub beside : IsBeside row device
-  pub unused : device.line.calls ≡ []
-  pub none_raised : device.raised ≡ 0
-  pub none_merged : device.merged ≡ 0
-  pub asks : requests device.script.items ≡ pends script device.number
-  pub may : AllByRecursion (λ entry. IsPending row.may entry.0) device.script.items
+  pub low : device.number < DEVICES
+  pub line : device.line ≡ new_line row device.number 0 0
+  pub asks : device.script.items ≡ device_script script device.number
 
--- a gathered line has made the pends that the script has for its device, in order and no other
+-- Each device of the script is waiting, and the core's line has made no other line. The interrupts that may be pended
+-- are those that are declared, among them all that the script pends. The rows count nothing yet.
+pub record AreReady (names : Names) (script : List Line) (row : Row) (line : Caller) (waiting : List Device)
+    (rows : List AccountRow) : Type 0 where
+  pub scripted : IsScript script
+  pub named : HasNames names script
+  pub many : count row ≡ CORE_WORDS
+  pub may : HasBits 0 row.may (declared_irqs names)
+  pub in_range : AllByRecursion (λ irq. irq < IRQ_NUMBERS) (declared_irqs names)
+  pub first : line ≡ maker_line row line.made
+  pub made : (number : ℕ) → Contains line.made number → Contains (devices script) number
+  pub waits : AllByRecursion (IsWaiting row script) waiting
+  pub each : map (λ device. device.number) waiting ≡ devices script
+  pub empty : rows ≡ map empty_row (declared_irqs names)
+
+-- all of it, for a core whose image has these names
+abbrev pub IsReady : Names → Ready → Type 0
+IsReady names ready =
+    AreReady names ready.script.now ready.words ready.line ready.devices.items ready.rows.items
+
+-- a device's line, as it is gathered
+abbrev pub part_of : Device → Part
+part_of device = record { line = device.number; calls = device.line.calls }
+
+-- a line has made the pends that the script has for the device of its number, in order and no other
 abbrev pub HasMade : List Line → Part → Type 0
 HasMade script p = map interrupt_asked p.calls ≡ map (λ irq. Some irq) (pends script p.line)
 
--- a line of the script pends one of these interrupts, if it pends one
-abbrev pub PendsOneOf : List ℕ → Line → Type 0
-PendsOneOf irqs (Pends irq n) = Contains irqs irq
-PendsOneOf irqs (DeviceLine d irq n) = Contains irqs irq
-PendsOneOf irqs (Steps n) = Unit {0}
-PendsOneOf irqs (Ticks n) = Unit {0}
-
--- the interrupt that a line has a device pend, if it has, is one of those that there are
-abbrev pub IsNumbered : Line → Type 0
-IsNumbered (DeviceLine d irq n) = irq < IRQ_NUMBERS
-IsNumbered (Steps n) = Unit {0}
-IsNumbered (Ticks n) = Unit {0}
-IsNumbered (Pends irq n) = Unit {0}
-
--- a row of this core counts how often its interrupt, of which there is one, was raised, merged and latched by these
--- lines
-pub record IsCounted (core : ℕ) (parts : List Part) (row : AccountRow) : Type 0 where
-  pub in_range : row.irq < IRQ_NUMBERS
-  pub raised : row.raised ≡ sum_by (λ p. raised_count (bit_in_row core row.irq) p.calls) parts
-  pub merged : row.merged ≡ sum_by (λ p. merged_count (bit_in_row core row.irq) p.calls) parts
-  pub latched : row.latched ≡ sum_by (λ p. latched_count (bit_in_row core row.irq) p.calls) parts
-
--- Each device of the script is either waiting, or gathered with its pends; no other line was made. The interrupts that
--- may be pended are those of the rows, among them all that the script pends. The rows count what was gathered.
-pub record IsReady (ready : Prepared) : Type 0 where
-  pub scripted : IsScript ready.script
-  pub core_words : ready.line.words ≡ ready.words
-  pub number : ready.line.number ≡ 255
-  pub here : ready.line.here ≡ 0
-  pub there : ready.line.there ≡ 0
-  pub many : count ready.words ≡ CORE_WORDS
-  pub waiting : AllByRecursion (IsWaiting ready.words ready.script) ready.devices
-  pub gathered : AllByRecursion (HasMade ready.script) ready.line.gathered
-  pub each : map (λ device. device.number) ready.devices ++ numbers ready.line.gathered ≡ devices ready.script
-  pub made : (number : ℕ) → Contains ready.line.made number ↔ Contains (devices ready.script) number
-  pub behind : ready.line.since ≤ length ready.line.calls
-  pub may : (irq : ℕ) → IsPending ready.words.may irq ↔ Contains (irqs_of ready.rows) irq
-  pub rows : AllByRecursion (PendsOneOf (irqs_of ready.rows)) ready.script
-  pub counted : AllByRecursion (IsCounted 0 ready.line.gathered) ready.rows
+-- The lines of all devices of the script are gathered, each with its pends, and the rows count them. That came before
+-- the look alone: the core's line had no more calls then than the latches of the looks of the core's own lines.
+pub record AreGathered (names : Names) (script : List Line) (row : Row) (line : Caller) (rows : List AccountRow)
+    : Type 0 where
+  pub first : line
+      ≡ record (maker_line row line.made) { calls = line.calls; gathered = line.gathered; since = line.since }
+  pub made : (number : ℕ) → Contains line.made number → Contains (devices script) number
+  pub each : numbers line.gathered ≡ devices script
+  pub asked : AllByRecursion (HasMade script) line.gathered
+  pub behind : line.since ≤ length line.calls
+  pub early : line.since ≤ CORE_WORDS * steps (core_events script)
+  pub counted : rows ≡ map (counted_row 0 line.gathered) (declared_irqs names)

@@ -2,8 +2,9 @@
 -- each word of the line's own core, from word 0 up. Behind a step that shows a post, the line pends the interrupt of
 -- another core that the post leads to, where it leads to one. So a post is pended behind the look that belongs to its
 -- step, and before the next look of its core. This is this project's own.
-use Rattle.std.specs.Prelude.{ℕ, List, [], ◌∷◌, ◌++◌, map, option_to_list, Option, Some, None}
-use Rattle.rt_ids.specs.Event.{Arrive, Tick, Step}
+use Rattle.std.specs.Prelude.{ℕ, zero, suc, ◌+◌, ◌-◌, ◌^◌, List, [], ◌∷◌, ◌++◌, map, min, option_to_list, Option, Some}
+use Rattle.std.specs.Prelude.{None}
+use Rattle.rt_ids.specs.Event.{Event, Step}
 use Rattle.rt_code.specs.Image.{Image}
 use Rattle.rt_core.specs.Core.{Core}
 use Rattle.rt_core.specs.Stepping.{step}
@@ -37,6 +38,11 @@ routed route None = None
 routed route (Some (what.Post irq)) = route irq
 routed route (Some shown) = None
 
+-- a count that rises by one so many times, and stands still at its type's end
+abbrev pub saturating_count : ℕ → ℕ → ℕ
+saturating_count from zero = from
+saturating_count from (suc times) = min (saturating_count from times + 1) (2 ^ 64 - 1)
+
 -- the latches of a look at the words of this core that found these
 abbrev pub look_requests : ℕ → List ℕ → List Request
 look_requests here words = map request_of (look_calls_from (word_in_row here 0) words)
@@ -45,20 +51,19 @@ look_requests here words = map request_of (look_calls_from (word_in_row here 0) 
 abbrev pub post_requests : (ℕ → Option ℕ) → ℕ → Option What → List Request
 post_requests route there shown = map (λ irq. Pends (bit_in_row there irq)) (option_to_list (routed route shown))
 
+-- the item by which an event of a core in this state may lead to another core: what a core step shows
+abbrev pub step_item : Image → Core → Event → Option What
+step_item img c Step = (step img c).1
+step_item img c event = None
+
 -- What the line of a core asks for while these turns are done, whose looks found these words, one list of words for
 -- each look. It latches words of the core `here`, and pends interrupts of the core `there`. The core with this image is
--- in this state before them. A turn that wants a look that is not there ends them.
+-- in this state before them. A look that is not there ends them.
 abbrev pub turn_requests : (ℕ → Option ℕ) → ℕ → ℕ → Image → Core → List Turn → List (List ℕ) → List Request
 turn_requests route here there img c [] found = []
-turn_requests route here there img c (Happens Tick ∷ ts) found =
-    turn_requests route here there img (core_after img c (Tick ∷ [])) ts found
-turn_requests route here there img c (Happens (Arrive irq) ∷ ts) found =
-    turn_requests route here there img (core_after img c (Arrive irq ∷ [])) ts found
-turn_requests route here there img c (Happens Step ∷ ts) [] = []
-turn_requests route here there img c (Happens Step ∷ ts) (words ∷ found) =
-    look_requests here words
-    ++ (post_requests route there (step img (core_after img c (look_arrivals words))).1
-    ++ turn_requests route here there img (core_after img c (look_arrivals words ++ Step ∷ [])) ts found)
+turn_requests route here there img c (Happens event ∷ ts) found =
+    post_requests route there (step_item img c event)
+    ++ turn_requests route here there img (core_after img c (event ∷ [])) ts found
 turn_requests route here there img c (Looks ∷ ts) [] = []
 turn_requests route here there img c (Looks ∷ ts) (words ∷ found) =
     look_requests here words

@@ -1,18 +1,23 @@
 // The core's own lines and the devices, side by side, and the end of the run.
-ghost use Rattle.std.specs.Prelude.{◌≡◌, ◌+◌, ◌*◌, All, OnOk, OnErr};
+ghost use Rattle.std.specs.Prelude.{◌≡◌, ◌+◌, ◌*◌, [], All, OnOk, OnErr};
 ghost use Rattle.std.specs.Thread.{IsSync};
+ghost use Rattle.rt_code.specs.Lines.{HasLines};
+ghost use Rattle.rt_core.specs.Machine.{IsFresh};
 ghost use Rattle.rt_outside.specs.Faults.{HasCause};
 ghost use Rattle.rt_script.specs.Script.{count, HasNames};
 ghost use Rattle.rt_live.specs.Able.{CanGo};
 ghost use Rattle.rt_live.specs.Going.{Goes, Stops, IsSameLine};
-ghost use Rattle.rt_live.specs.Interleaving.{last_turns};
+ghost use Rattle.rt_live.specs.Interleaving.{last_turns, turns};
+ghost use Rattle.rt_live.specs.Ready.{AreReady, AreGathered, core_line};
 ghost use Rattle.rt_live.specs.Requests.{no_route};
 ghost use Rattle.rt_live.specs.Shares.{own_turns};
 ghost use Rattle.rt_live.specs.Written.{EndsWhole, EndsEarly};
 ghost use Rattle.rt_live.specs.Inside.Working.{CanWork, AllWork};
 ghost use Rattle.rt_live.specs.declared.share.Share.TheVariants.{BesideDevices};
 
+use crate::account::AccountRow;
 use crate::ending::end;
+use crate::gathering::gather_all;
 use crate::routes::{NoRoutes, Role};
 use crate::share::Share;
 use crate::turns::{Between, own_lines};
@@ -25,56 +30,15 @@ use rt_words::{Line, Words};
 use std::marker::Sync;
 use std::thread::{Threads, for_each_mut, join_mut};
 
-/// Each device makes the pends of its script, in a thread of its own where one can be made.
-fn work_all<R: Threads + Sync, G: Gate + Sync>(
-    rt: &R,
-    words: &Words,
-    gate: &G,
-    devices: &mut [Device],
-)
-    requires { All (CanWork words.now) devices.old }
-    ensures { AllWork devices.old devices.new }
-{
-    for_each_mut(
-        rt,
-        devices,
-        usize::from(DEVICES),
-        &|_, device| { device.work(words, gate) },
-    );
-}
-
 /// The part of a core that runs alone, beside devices.
 const ALONE: Role<NoRoutes> = Role {
     share: Share::BesideDevices,
     routes: NoRoutes,
 };
 
-/// The core does the script's own lines.
-fn go_alone<K: Sink, G: Gate>(
-    core: &mut Core,
-    line: &mut Line,
-    words: &Words,
-    script: &[Asked],
-    out: &mut K,
-    gate: &G,
-) -> Result<(), Failed>
-    requires can { CanGo (count script.now) no_route core.old line.old words.now }
-    requires declared { HasNames core.old.image.names script.now }
-    ensures ok { OnOk result (Goes no_route (own_turns BesideDevices script.now) line.old line.new core.old core.new
-        (K.taken out.old) (K.taken out.new)) }
-    ensures err { OnErr result (Stops no_route (own_turns BesideDevices script.now) line.old line.new
-        core.old core.new (K.taken out.old) (K.taken out.new)) }
-    ensures same { IsSameLine line.old line.new }
-    ensures cause { HasCause (K.faults out.old) (K.faults out.new) result }
-    ensures quiet { OnOk result (K.faults out.new ≡ K.faults out.old) }
-{
-    let mut between = Between::new();
-    own_lines(core, line, words, &ALONE, script, out, &mut between, gate)
-}
-
 /// The core looks once more, makes as many core steps again as there were, each behind a look, and the line of the
 /// total goes out.
-pub(crate) fn end_alone<K: Sink, G: Gate>(
+fn end_alone<K: Sink, G: Gate>(
     core: &mut Core,
     line: &mut Line,
     words: &Words,
@@ -96,7 +60,7 @@ pub(crate) fn end_alone<K: Sink, G: Gate>(
 }
 
 /// The core does the script's own lines while the devices make their pends. It ends when all of them have ended.
-pub(crate) fn beside<R: Threads + Sync, K: Sink, G: Gate + Sync>(
+fn beside<R: Threads + Sync, K: Sink, G: Gate + Sync>(
     rt: &R,
     core: &mut Core,
     line: &mut Line,
@@ -123,7 +87,14 @@ pub(crate) fn beside<R: Threads + Sync, K: Sink, G: Gate + Sync>(
         &mut ||
             requires { IsSync R.row × IsSync G.row × All (CanWork words.now) devices.now }
             ensures { AllWork devices.entry.now devices.exit.now }
-        { work_all(rt, words, gate, devices) },
+        {
+            for_each_mut(
+                rt,
+                devices,
+                usize::from(DEVICES),
+                &|_, device| { device.work(words, gate) },
+            )
+        },
         &mut || -> Result<(), Failed>
             requires can { CanGo (count script.now) no_route core.now line.now words.now }
             requires declared { HasNames core.now.image.names script.now }
@@ -134,7 +105,47 @@ pub(crate) fn beside<R: Threads + Sync, K: Sink, G: Gate + Sync>(
             ensures same { IsSameLine line.entry.now line.exit.now }
             ensures cause { HasCause (K.faults out.entry.now) (K.faults out.exit.now) result }
             ensures quiet { OnOk result (K.faults out.exit.now ≡ K.faults out.entry.now) }
-        { go_alone(core, line, words, script, out, gate) },
+        {
+            let mut between = Between::new();
+            own_lines(core, line, words, &ALONE, script, out, &mut between, gate)
+        },
     );
     done
+}
+
+/// The core does the script's own lines while the devices make their pends. Then the lines of the devices are gathered,
+/// and the core goes on to its end.
+pub(crate) fn go<R: Threads + Sync, K: Sink, G: Gate + Sync>(
+    rt: &R,
+    core: &mut Core,
+    line: &mut Line,
+    words: &Words,
+    script: &[Asked],
+    mut devices: Vec<Device>,
+    rows: &mut [AccountRow],
+    out: &mut K,
+    gate: &G,
+) -> Result<(), Failed>
+    requires fresh { IsFresh core.old }
+    requires lines { HasLines core.old.image }
+    requires ready { AreReady core.old.image.names script.now words.now line.old devices.items rows.old }
+
+    // The core's line made the calls of the turns, and no other: the latches of the looks. What was written is the
+    // trace of the interleaving with just what these looks found, and its total.
+    ensures ok { OnOk result (EndsWhole no_route (turns script.now) (core_line words.now [])
+        (core_line words.now line.new.calls) core.old core.new (K.taken out.old) (K.taken out.new)) }
+
+    // A fault came in the turns, and the last look may be cut, or it came in the line of the total.
+    ensures err { OnErr result (EndsEarly no_route (turns script.now) (core_line words.now [])
+        (core_line words.now line.new.calls) core.old core.new (K.taken out.old) (K.taken out.new)) }
+
+    // Either way each device has made its pends, and its line is gathered.
+    ensures gathered { AreGathered core.old.image.names script.now words.now line.new rows.new }
+    ensures cause { HasCause (K.faults out.old) (K.faults out.new) result }
+    ensures quiet { OnOk result (K.faults out.new ≡ K.faults out.old) }
+{
+    let done = beside(rt, core, line, words, script, out, gate, &mut devices);
+    gather_all(line, words, devices, rows);
+    done?;
+    end_alone(core, line, words, out, gate)
 }

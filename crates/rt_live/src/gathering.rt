@@ -1,10 +1,9 @@
 // Lines of devices that have ended, gathered into the account.
-ghost use Rattle.std.specs.Prelude.{◌≡◌, ◌≢◌, ◌+◌, ◌^◌, ◌<◌, ◌≤◌, [], ◌∷◌, length, map};
+ghost use Rattle.std.specs.Prelude.{◌≡◌, ◌<◌, ◌≤◌, [], length, map};
 ghost use Rattle.std.specs.List.{AllByRecursion};
-ghost use Rattle.rt_live.specs.Account.{HasRoom, with_counts};
-ghost use Rattle.rt_live.specs.Ready.{IsBeside, IsCounted, irqs_of};
-ghost use Rattle.rt_live.specs.Gathering.{line_after_gathering, part_of};
-ghost use Rattle.rt_live.specs.Inside.Working.{calls_gathered, calls_made};
+ghost use Rattle.rt_ids.specs.declared.limits.TheConstants.{DEVICES, IRQ_NUMBERS};
+ghost use Rattle.rt_live.specs.Account.{HasRoom, counted_row, empty_row, with_counts};
+ghost use Rattle.rt_live.specs.Ready.{IsBeside, irqs_of, part_of};
 
 use crate::account::AccountRow;
 use rt_devices::Device;
@@ -36,49 +35,32 @@ fn add_row(row: &mut AccountRow, core: u8, tally: &Tally, here: u8, there: u8)
     }
 }
 
-/// Gathers the line of a device.
-fn gather_line(line: &mut Line, words: &Words, device: Device, rows: &mut [AccountRow])
-    requires first { line.old.number ≡ 255 }
-    requires core { line.old.words ≡ words.now }
-    requires device { IsBeside words.now device }
-    requires room { calls_gathered line.old.gathered + length device.line.calls + 2 ^ 32 ≤ 2 ^ 64 }
-    requires counted { AllByRecursion (IsCounted 0 line.old.gathered) rows.old }
-    ensures line { line.new ≡ record line.old {
-      gathered = part_of device ∷ line.old.gathered;
-      since = length line.old.calls;
-    } }
-    ensures counted { AllByRecursion (IsCounted 0 line.new.gathered) rows.new }
-    ensures irqs { irqs_of rows.new ≡ irqs_of rows.old }
-{
-    let Device {
-        line: own,
-        number: _,
-        script: _,
-        raised: _,
-        merged: _,
-    } = device;
-    let tally = line.gather(words, own);
-    add_counts(rows, 0, &tally, 0, 0);
-}
-
-/// Gathers the lines of all devices, the last first.
+/// Gathers the lines of all devices, the last first, into rows that count nothing yet.
 pub(crate) fn gather_all(
     line: &mut Line,
     words: &Words,
-    devices: &mut Vec<Device>,
+    mut devices: Vec<Device>,
     rows: &mut [AccountRow],
 )
     requires first { line.old.number ≡ 255 }
     requires core { line.old.words ≡ words.now }
-    requires devices { AllByRecursion (IsBeside words.now) devices.old.items }
-    requires room { calls_gathered line.old.gathered + calls_made devices.old.items + 2 ^ 32 ≤ 2 ^ 64 }
-    requires counted { AllByRecursion (IsCounted 0 line.old.gathered) rows.old }
-    ensures line { line.new ≡ line_after_gathering devices.old.items line.old }
-    ensures devices { devices.new.items ≡ [] }
-    ensures counted { AllByRecursion (IsCounted 0 line.new.gathered) rows.new }
-    ensures irqs { irqs_of rows.new ≡ irqs_of rows.old }
+    requires none { line.old.gathered ≡ [] }
+    requires devices { AllByRecursion (IsBeside words.now) devices.items }
+    requires few { length devices.items ≤ DEVICES }
+    requires empty { rows.old ≡ map empty_row (irqs_of rows.old) }
+    requires in_range { AllByRecursion (λ irq. irq < IRQ_NUMBERS) (irqs_of rows.old) }
+    ensures line { line.new
+        ≡ record line.old { gathered = map part_of devices.items; since = line.new.since } }
+    ensures since { line.old.since ≤ length line.old.calls → line.new.since ≤ length line.old.calls }
+    ensures rows { rows.new ≡ map (counted_row 0 (map part_of devices.items)) (irqs_of rows.old) }
 {
     while let Some(device) = devices.pop() {
-        gather_line(line, words, device, rows);
+        let Device {
+            line: own,
+            number: _,
+            script: _,
+        } = device;
+        let tally = line.gather(words, own);
+        add_counts(rows, 0, &tally, 0, 0);
     }
 }

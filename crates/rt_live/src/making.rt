@@ -1,16 +1,12 @@
 // What a run is made of: the rows of the account, the interrupts that may be pended, and the devices of the script.
-ghost use Rattle.std.specs.Prelude.{◌≡◌, ◌≢◌, ℕ, List, ◌<◌, ◌↔◌, ◌∷◌, ◌++◌, length, map, flat_map, Contains};
-ghost use Rattle.std.specs.Prelude.{IfOk, OnOk};
-ghost use Rattle.std.specs.List.{AllByRecursion, list_any};
-ghost use Rattle.rt_ids.specs.declared.limits.TheConstants.{IRQ_NUMBERS};
+ghost use Rattle.std.specs.Prelude.{◌≡◌, ◌≢◌, ℕ, List, ◌/◌, ◌<◌, ◌∷◌, ◌++◌, map, Contains, IfOk, OnOk};
+ghost use Rattle.std.specs.List.{AllByRecursion};
+ghost use Rattle.rt_ids.specs.declared.limits.TheConstants.{DEVICES, IRQ_NUMBERS};
 ghost use Rattle.rt_words.specs.Lines.{new_line};
-ghost use Rattle.rt_words.specs.Row.{bit_in_row};
-ghost use Rattle.rt_words.specs.Object.{IsPending};
-ghost use Rattle.rt_live.specs.Devices.{devices, is_of_device};
+ghost use Rattle.rt_words.specs.Object.{pending_bit};
+ghost use Rattle.rt_live.specs.Devices.{devices, device_script, is_device};
 ghost use Rattle.rt_live.specs.Account.{declared_irqs, empty_row};
-ghost use Rattle.rt_live.specs.Ready.{IsWaiting, irqs_of};
-ghost use Rattle.rt_live.specs.Inside.Making.{MayPend, HasMadeLines};
-ghost use Rattle.rt_live.specs.Inside.Working.{entries_of};
+ghost use Rattle.rt_live.specs.Ready.{HasBits, IsWaiting, irqs_of, maker_line};
 
 use crate::account::AccountRow;
 use crate::row_bits;
@@ -45,8 +41,9 @@ pub fn rows_of(alloc: Global, names: &Names) -> Result<Vec<AccountRow>, NoMemory
 /// Adds the bits of a core's interrupts, of which these are the rows.
 pub fn add_bits(may: &mut [u32; 32], core: u8, rows: &[AccountRow])
     requires core { core < 2 }
-    ensures may { (before : List ℕ) → ((bit : ℕ) → IsPending may.old bit ↔ Contains before bit)
-        → (bit : ℕ) → IsPending may.new bit ↔ Contains (before ++ map (bit_in_row core) (irqs_of rows.now)) bit }
+    ensures own { (before : List ℕ) → HasBits core may.old before
+        → HasBits core may.new (before ++ irqs_of rows.now) }
+    ensures other { (bit : ℕ) → bit / 512 ≢ core → pending_bit may.new bit ≡ pending_bit may.old bit }
     ensures in_range { AllByRecursion (λ irq. irq < IRQ_NUMBERS) (irqs_of rows.now) }
 {
     for row in rows {
@@ -57,14 +54,14 @@ pub fn add_bits(may: &mut [u32; 32], core: u8, rows: &[AccountRow])
 
 /// Whether a line is one of the device of a number.
 fn names_device(lines: &[Line], number: u8) -> bool
-    ensures { result ≡ list_any (is_of_device number) lines.now }
+    ensures { result ≡ is_device lines.now number }
 {
     lines.iter().any(|line| matches!(line, Line::Device(device, _, _) if *device == number))
 }
 
 /// What the device of a number pends, in order.
-fn device_script(alloc: Global, lines: &[Line], number: u8) -> Result<Vec<(Irq, u32)>, NoMemory>
-    ensures { IfOk result (λ script. script.items ≡ flat_map (entries_of number) lines.now) }
+fn script_of(alloc: Global, lines: &[Line], number: u8) -> Result<Vec<(Irq, u32)>, NoMemory>
+    ensures { IfOk result (λ script. script.items ≡ device_script lines.now number) }
 {
     let mut script = Vec::new(alloc);
     for line in lines {
@@ -85,25 +82,19 @@ fn device_of(
     lines: &[Line],
     number: u8,
 ) -> Result<Device, NoMemory>
-    requires first { line.old.number ≡ 255 }
-    requires words { line.old.words ≡ words.now }
-    requires other { number ≢ 255 }
+    requires line { line.old ≡ maker_line words.now line.old.made }
+    requires low { number < DEVICES }
     requires new { ¬ Contains line.old.made number }
-    requires may { AllByRecursion (MayPend words.now) lines.now }
-    ensures device { IfOk result (λ device. IsWaiting words.now lines.now device × (device.number ≡ number)) }
-    ensures line { OnOk result (line.new ≡ record line.old {
-      made = number ∷ line.old.made;
-      since = length line.old.calls;
-    }) }
+    ensures number { IfOk result (λ device. device.number ≡ number) }
+    ensures waiting { IfOk result (IsWaiting words.now lines.now) }
+    ensures line { OnOk result (line.new ≡ maker_line words.now (number ∷ line.old.made)) }
 {
-    let script = device_script(alloc, lines, number)?;
+    let script = script_of(alloc, lines, number)?;
     let own = line.split(words, number, 0, 0);
     Ok(Device {
         line: own,
         number,
         script,
-        raised: 0,
-        merged: 0,
     })
 }
 
@@ -114,11 +105,11 @@ pub(crate) fn devices_of(
     line: &mut Caller,
     lines: &[Line],
 ) -> Result<Vec<Device>, NoMemory>
-    requires unused { line.old ≡ new_line words.now 255 0 0 }
-    requires may { AllByRecursion (MayPend words.now) lines.now }
+    requires { line.old ≡ new_line words.now 255 0 0 }
     ensures devices { IfOk result (λ made. map (λ device. device.number) made.items ≡ devices lines.now) }
     ensures waiting { IfOk result (λ made. AllByRecursion (IsWaiting words.now lines.now) made.items) }
-    ensures line { OnOk result (HasMadeLines line.new (devices lines.now) words.now) }
+    ensures line { OnOk result (line.new ≡ maker_line words.now line.new.made) }
+    ensures made { OnOk result ((number : ℕ) → Contains line.new.made number → Contains (devices lines.now) number) }
 {
     let mut made = Vec::new(alloc);
     for number in 0..DEVICES {

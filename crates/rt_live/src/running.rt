@@ -5,10 +5,9 @@ ghost use Rattle.rt_core.specs.Machine.{IsFresh};
 ghost use Rattle.rt_outside.specs.Bytes.{Took};
 ghost use Rattle.rt_outside.specs.Faults.{Rose, HasCause};
 ghost use Rattle.rt_script.specs.Script.{HasNames};
-ghost use Rattle.rt_live.specs.Account.{declared_irqs};
 ghost use Rattle.rt_live.specs.Doing.{HasLived, HasWritten, HasWrittenPart};
 ghost use Rattle.rt_live.specs.Output.{IsLiveText, Lives, TookPart, IsBalanced};
-ghost use Rattle.rt_live.specs.Ready.{irqs_of};
+ghost use Rattle.rt_live.specs.Ready.{IsReady};
 
 use crate::account::{Account, put_account};
 use crate::ready::Ready;
@@ -64,22 +63,19 @@ pub fn live<R: Threads + Sync, K: Sink + Send, G: Gate + Sync>(
         HasWrittenPart script.now core.old core.new (K.taken out.old) (K.taken out.new) }
     ensures untouched { IsErrOf result LiveFail.NoMemory → core.new ≡ core.old }
 {
-    let _events = script.lines();
-    let Ok(mut ready) = Ready::of(alloc, core, script) else {
+    let Ok(ready) = Ready::of(alloc, core, script) else {
         return Err(LiveFail::NoMemory);
     };
-    let went = ready.go(rt, core, out, gate);
-    let account = ready.close();
-    match went {
-        Ok(()) => Ok(account),
-        Err(_) => Err(LiveFail::Fault),
+    match ready.run(rt, core, out, gate) {
+        (Ok(()), account) => Ok(account),
+        (Err(_), _) => Err(LiveFail::Fault),
     }
 }
 
 /// Runs a core to which no event has come beside the devices of what was made ready for it, and writes the trace of the
 /// core's image, line by line as it happens, its total of core steps, and the account. It takes no memory.
 pub fn run_beside<R: Threads + Sync, K: Sink + Send, G: Gate + Sync>(
-    mut ready: Ready<'_>,
+    ready: Ready<'_>,
     rt: &R,
     core: &mut Core,
     out: &mut K,
@@ -87,25 +83,23 @@ pub fn run_beside<R: Threads + Sync, K: Sink + Send, G: Gate + Sync>(
 ) -> Result<(), Failed>
     requires fresh { IsFresh core.old }
     requires lines { HasLines core.old.image }
-    requires rows { irqs_of ready.rows ≡ declared_irqs core.old.image.names }
-    requires unused { ready.line.calls ≡ [] }
-    ensures ok { OnOk result ((bytes : List ℕ) × IsLiveText core.old.image ready.entry.script bytes
+    requires ready { IsReady core.old.image.names ready }
+    ensures ok { OnOk result ((bytes : List ℕ) × IsLiveText core.old.image ready.entry.script.now bytes
         × Took (K.taken out.old) (K.taken out.new) bytes) }
 
     // At a fault a beginning was taken of a text that could have been written.
-    ensures err { OnErr result (TookPart core.old.image ready.entry.script (K.taken out.old) (K.taken out.new)) }
+    ensures err { OnErr result
+        (TookPart core.old.image ready.entry.script.now (K.taken out.old) (K.taken out.new)) }
     ensures cause { HasCause (K.faults out.old) (K.faults out.new) result }
     ensures quiet { OnOk result (K.faults out.new ≡ K.faults out.old) }
 
     // The core has done the events of the trace that was taken, at a fault those up to it.
     ensures all { OnOk result
-        (HasWritten ready.entry.script core.old core.new (K.taken out.old) (K.taken out.new)) }
+        (HasWritten ready.entry.script.now core.old core.new (K.taken out.old) (K.taken out.new)) }
     ensures begun { OnErr result
-        (HasWrittenPart ready.entry.script core.old core.new (K.taken out.old) (K.taken out.new)) }
+        (HasWrittenPart ready.entry.script.now core.old core.new (K.taken out.old) (K.taken out.new)) }
 {
-    let _events = ready.script.lines();
-    let went = ready.go(rt, core, out, gate);
-    let account = ready.close();
+    let (went, account) = ready.run(rt, core, out, gate);
     went?;
     put_account(&account, &core.image().names, out)
 }

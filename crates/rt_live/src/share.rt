@@ -1,5 +1,7 @@
 ghost use Rattle.std.specs.Prelude.{◌≡◌};
-ghost use Rattle.rt_live.specs.Shares.{takes_pends, takes_devices};
+ghost use Rattle.rt_live.specs.Shares.{takes};
+
+use rt_script::Line;
 
 /// Which events of a script come to a core.
 #[derive(Clone, Copy, Debug, PartialEq, Eq)]
@@ -13,25 +15,14 @@ pub enum Share {
 }
 
 impl Share {
-    /// Whether the core gets the requests of the script itself.
-    pub(crate) fn takes_pends(self) -> bool
-        ensures { result ≡ takes_pends self }
+    /// Whether the events of a line come to the core.
+    pub(crate) fn takes(self, asked: &Line) -> bool
+        ensures { result ≡ takes self asked.now }
     {
-        match self {
-            Share::BesideDevices => true,
-            Share::First => true,
-            Share::Second => false,
-        }
-    }
-
-    /// Whether the core gets the requests of the devices.
-    pub(crate) fn takes_devices(self) -> bool
-        ensures { result ≡ takes_devices self }
-    {
-        match self {
-            Share::BesideDevices => false,
-            Share::First => true,
-            Share::Second => false,
+        match (self, asked) {
+            (Share::BesideDevices | Share::Second, Line::Device(..)) => false,
+            (Share::Second, Line::Pends(..)) => false,
+            _ => true,
         }
     }
 

@@ -1,20 +1,18 @@
 // Turns of a core of a row: looks at its words, the events of a script that are its own, and what its posts lead to.
 ghost use Rattle.std.specs.Prelude.{◌≡◌, ◌+◌, ◌-◌, ◌*◌, ◌^◌, ◌<◌, ◌==◌, [], ◌∷◌, length, map, replicate, OnOk, OnErr};
-ghost use Rattle.std.specs.Prelude.{true, if◌then◌else◌};
+ghost use Rattle.std.specs.Prelude.{if◌then◌else◌};
 ghost use Rattle.std.specs.Int.{bit_at};
 ghost use Rattle.rt_ids.specs.Arrivals.{arrivals};
 ghost use Rattle.rt_ids.specs.Event.{Arrive, Step};
-ghost use Rattle.rt_lines.specs.Operand.{IsDeclared};
 ghost use Rattle.rt_outside.specs.Faults.{HasCause};
 ghost use Rattle.rt_run.specs.Sending.{Sends, Breaks};
 ghost use Rattle.rt_run.specs.Writable.{IsWritable};
-ghost use Rattle.rt_script.specs.Script.{count, count_of};
+ghost use Rattle.rt_script.specs.Script.{HasName, count, count_of};
 ghost use Rattle.rt_live.specs.Able.{IsAble, CanGo, BitsMayArrive, MayArrive, MayRoute};
-ghost use Rattle.rt_live.specs.Going.{Goes, Stops};
-ghost use Rattle.rt_live.specs.Interleaving.{Happens, Looks, repeated_turns};
-ghost use Rattle.rt_live.specs.Shares.{HasOwnName, HasOwnNames, own_turn, own_turns, request_events};
+ghost use Rattle.rt_live.specs.Going.{Finds, FindsPart, Goes, Posts, Stops};
+ghost use Rattle.rt_live.specs.Interleaving.{event_turns, last_turns, with_looks};
+ghost use Rattle.rt_live.specs.Shares.{HasOwnName, HasOwnNames, event_of, own_line_events, own_turns};
 ghost use Rattle.rt_live.specs.Requests as spec;
-ghost use Rattle.rt_live.specs.Inside.Looking.{Finds, FindsPart, Posts};
 
 use crate::routes::{Role, Routes};
 use crate::share::Share;
@@ -161,7 +159,9 @@ fn forward<G: Gate, T: Routes>(
     requires words { line.old.words ≡ words.now }
     requires may { MayRoute (T.leads role.now.routes) line.old.there words.now }
     requires room { length line.old.calls < 2 ^ 32 - 1 }
-    ensures { Posts (T.leads role.now.routes) shown.now line.old line.new }
+    ensures posts { Posts (T.leads role.now.routes) shown.now line.old line.new }
+    ensures counted { forwarded.new ≡ spec.saturating_count forwarded.old
+        (length (spec.post_requests (T.leads role.now.routes) line.old.there shown.now)) }
 {
     let Some(irq) = routed(&role.routes, shown) else {
         return;
@@ -190,10 +190,10 @@ fn step<K: Sink, G: Gate, T: Routes>(
 ) -> Result<(), Failed>
     requires can { CanGo 1 (T.leads role.now.routes) core.old line.old words.now }
     requires empty { between.old.held ≡ [] }
-    ensures ok { OnOk result (Goes (T.leads role.now.routes) (Happens Step ∷ []) line.old line.new core.old core.new
+    ensures ok { OnOk result (Goes (T.leads role.now.routes) (event_turns Step) line.old line.new core.old core.new
         (K.taken out.old) (K.taken out.new)) }
     ensures none_held { OnOk result (between.new.held ≡ []) }
-    ensures err { OnErr result (Stops (T.leads role.now.routes) (Happens Step ∷ []) line.old line.new core.old core.new
+    ensures err { OnErr result (Stops (T.leads role.now.routes) (event_turns Step) line.old line.new core.old core.new
         (K.taken out.old) (K.taken out.new)) }
     ensures cause { HasCause (K.faults out.old) (K.faults out.new) result }
     ensures quiet { OnOk result (K.faults out.new ≡ K.faults out.old) }
@@ -205,32 +205,7 @@ fn step<K: Sink, G: Gate, T: Routes>(
     Ok(())
 }
 
-/// A request of the script, where the core gets it.
-fn request<K: Sink>(
-    core: &mut Core,
-    own: bool,
-    irq: Irq,
-    out: &mut K,
-    held: &mut LineBuffer,
-) -> Result<(), Failed>
-    requires writable { IsWritable core.old }
-    requires few { core.old.steps < 2 ^ 31 }
-    requires declared { own ≡ true → IsDeclared core.old.image.names irq }
-    requires empty { held.old ≡ [] }
-    ensures ok { OnOk result (Sends (request_events own irq) core.old core.new (K.taken out.old) (K.taken out.new)) }
-    ensures none_held { OnOk result (held.new ≡ []) }
-    ensures err { OnErr result (Breaks (request_events own irq) core.old core.new
-        (K.taken out.old) (K.taken out.new)) }
-    ensures cause { HasCause (K.faults out.old) (K.faults out.new) result }
-    ensures quiet { OnOk result (K.faults out.new ≡ K.faults out.old) }
-{
-    if own {
-        return send_pend(core, irq, out, held);
-    }
-    Ok(())
-}
-
-/// One of the events that a line of the script counts, as far as it is this core's.
+/// One of the events that a line of the script counts.
 fn turn<K: Sink, G: Gate, T: Routes>(
     core: &mut Core,
     line: &mut Line,
@@ -242,31 +217,54 @@ fn turn<K: Sink, G: Gate, T: Routes>(
     gate: &G,
 ) -> Result<(), Failed>
     requires can { CanGo 1 (T.leads role.now.routes) core.old line.old words.now }
-    requires declared { HasOwnName role.now.share core.old.image.names asked.now }
+    requires declared { HasName core.old.image.names asked.now }
     requires empty { between.old.held ≡ [] }
-    ensures ok { OnOk result (Goes (T.leads role.now.routes) (own_turn role.now.share asked.now) line.old line.new
-        core.old core.new (K.taken out.old) (K.taken out.new)) }
+    ensures ok { OnOk result (Goes (T.leads role.now.routes) (event_turns (event_of asked.now))
+        line.old line.new core.old core.new (K.taken out.old) (K.taken out.new)) }
     ensures none_held { OnOk result (between.new.held ≡ []) }
-    ensures err { OnErr result (Stops (T.leads role.now.routes) (own_turn role.now.share asked.now) line.old line.new
-        core.old core.new (K.taken out.old) (K.taken out.new)) }
+    ensures err { OnErr result (Stops (T.leads role.now.routes) (event_turns (event_of asked.now))
+        line.old line.new core.old core.new (K.taken out.old) (K.taken out.new)) }
     ensures cause { HasCause (K.faults out.old) (K.faults out.new) result }
     ensures quiet { OnOk result (K.faults out.new ≡ K.faults out.old) }
 {
     match asked {
         Asked::Steps(_) => step(core, line, words, role, out, between, gate),
         Asked::Ticks(_) => send_tick(core, out, &mut between.held),
-        Asked::Pends(irq, _) => {
-            let own = role.share.takes_pends();
-            request(core, own, *irq, out, &mut between.held)
-        }
-        Asked::Device(_, irq, _) => {
-            let own = role.share.takes_devices();
-            request(core, own, *irq, out, &mut between.held)
-        }
+        Asked::Pends(irq, _) => send_pend(core, *irq, out, &mut between.held),
+        Asked::Device(_, irq, _) => send_pend(core, *irq, out, &mut between.held),
     }
 }
 
-/// The events of a line of the script.
+/// The event that a line of the script counts, so many times.
+fn repeat<K: Sink, G: Gate, T: Routes>(
+    core: &mut Core,
+    line: &mut Line,
+    words: &Words,
+    role: &Role<T>,
+    asked: &Asked,
+    times: u64,
+    out: &mut K,
+    between: &mut Between,
+    gate: &G,
+) -> Result<(), Failed>
+    requires can { CanGo times (T.leads role.now.routes) core.old line.old words.now }
+    requires declared { HasName core.old.image.names asked.now }
+    requires empty { between.old.held ≡ [] }
+    ensures ok { OnOk result (Goes (T.leads role.now.routes) (with_looks (replicate times (event_of asked.now)))
+        line.old line.new core.old core.new (K.taken out.old) (K.taken out.new)) }
+    ensures none_held { OnOk result (between.new.held ≡ []) }
+    ensures err { OnErr result (Stops (T.leads role.now.routes) (with_looks (replicate times (event_of asked.now)))
+        line.old line.new core.old core.new (K.taken out.old) (K.taken out.new)) }
+    ensures cause { HasCause (K.faults out.old) (K.faults out.new) result }
+    ensures quiet { OnOk result (K.faults out.new ≡ K.faults out.old) }
+{
+    for _done in 0..times {
+        turn(core, line, words, role, asked, out, between, gate)?;
+    }
+    Ok(())
+}
+
+/// The events of a line of the script, where they come to the core.
 fn own_line<K: Sink, G: Gate, T: Routes>(
     core: &mut Core,
     line: &mut Line,
@@ -280,20 +278,19 @@ fn own_line<K: Sink, G: Gate, T: Routes>(
     requires can { CanGo (count_of asked.now) (T.leads role.now.routes) core.old line.old words.now }
     requires declared { HasOwnName role.now.share core.old.image.names asked.now }
     requires empty { between.old.held ≡ [] }
-    ensures ok { OnOk result (Goes (T.leads role.now.routes)
-        (repeated_turns (count_of asked.now) (own_turn role.now.share asked.now)) line.old line.new core.old core.new
-        (K.taken out.old) (K.taken out.new)) }
+    ensures ok { OnOk result (Goes (T.leads role.now.routes) (with_looks (own_line_events role.now.share asked.now))
+        line.old line.new core.old core.new (K.taken out.old) (K.taken out.new)) }
     ensures none_held { OnOk result (between.new.held ≡ []) }
-    ensures err { OnErr result (Stops (T.leads role.now.routes)
-        (repeated_turns (count_of asked.now) (own_turn role.now.share asked.now)) line.old line.new core.old core.new
-        (K.taken out.old) (K.taken out.new)) }
+    ensures err { OnErr result (Stops (T.leads role.now.routes) (with_looks (own_line_events role.now.share asked.now))
+        line.old line.new core.old core.new (K.taken out.old) (K.taken out.new)) }
     ensures cause { HasCause (K.faults out.old) (K.faults out.new) result }
     ensures quiet { OnOk result (K.faults out.new ≡ K.faults out.old) }
 {
-    for _done in 0..asked.count() {
-        turn(core, line, words, role, asked, out, between, gate)?;
+    if !role.share.takes(asked) {
+        return Ok(());
     }
-    Ok(())
+    let times = u64::from(asked.count());
+    repeat(core, line, words, role, asked, times, out, between, gate)
 }
 
 /// The events of a script that are the core's own, in order; each core step comes behind a look.
@@ -310,11 +307,11 @@ pub(crate) fn own_lines<K: Sink, G: Gate, T: Routes>(
     requires can { CanGo (count script.now) (T.leads role.now.routes) core.old line.old words.now }
     requires declared { HasOwnNames role.now.share core.old.image.names script.now }
     requires empty { between.old.held ≡ [] }
-    ensures ok { OnOk result (Goes (T.leads role.now.routes) (own_turns role.now.share script.now) line.old line.new
-        core.old core.new (K.taken out.old) (K.taken out.new)) }
+    ensures ok { OnOk result (Goes (T.leads role.now.routes) (own_turns role.now.share script.now)
+        line.old line.new core.old core.new (K.taken out.old) (K.taken out.new)) }
     ensures none_held { OnOk result (between.new.held ≡ []) }
-    ensures err { OnErr result (Stops (T.leads role.now.routes) (own_turns role.now.share script.now) line.old line.new
-        core.old core.new (K.taken out.old) (K.taken out.new)) }
+    ensures err { OnErr result (Stops (T.leads role.now.routes) (own_turns role.now.share script.now)
+        line.old line.new core.old core.new (K.taken out.old) (K.taken out.new)) }
     ensures cause { HasCause (K.faults out.old) (K.faults out.new) result }
     ensures quiet { OnOk result (K.faults out.new ≡ K.faults out.old) }
 {
@@ -337,17 +334,15 @@ pub(crate) fn last_turns<K: Sink, G: Gate, T: Routes>(
 ) -> Result<(), Failed>
     requires can { CanGo (steps + 1) (T.leads role.now.routes) core.old line.old words.now }
     requires empty { between.old.held ≡ [] }
-    ensures ok { OnOk result (Goes (T.leads role.now.routes) (Looks ∷ replicate steps (Happens Step)) line.old line.new
-        core.old core.new (K.taken out.old) (K.taken out.new)) }
+    ensures ok { OnOk result (Goes (T.leads role.now.routes) (last_turns steps) line.old line.new core.old core.new
+        (K.taken out.old) (K.taken out.new)) }
     ensures none_held { OnOk result (between.new.held ≡ []) }
-    ensures err { OnErr result (Stops (T.leads role.now.routes) (Looks ∷ replicate steps (Happens Step)) line.old
-        line.new core.old core.new (K.taken out.old) (K.taken out.new)) }
+    ensures err { OnErr result (Stops (T.leads role.now.routes) (last_turns steps) line.old line.new core.old core.new
+        (K.taken out.old) (K.taken out.new)) }
     ensures cause { HasCause (K.faults out.old) (K.faults out.new) result }
     ensures quiet { OnOk result (K.faults out.new ≡ K.faults out.old) }
 {
     look(core, line, words, out, &mut between.held)?;
-    for _done in 0..steps {
-        step(core, line, words, role, out, between, gate)?;
-    }
-    Ok(())
+    let one = Asked::Steps(1);
+    repeat(core, line, words, role, &one, steps, out, between, gate)
 }

@@ -1,6 +1,6 @@
 -- What is made for both cores of a pair, and what is known when both have ended.
-use Rattle.std.specs.Prelude.{◌≡◌, ◌≢◌, ◌↔◌, ◌+◌, ◌<◌, ℕ, ◌++◌, List, [], ◌∷◌, length, map, codes, slice_index_or}
-use Rattle.std.specs.Prelude.{Option, None, Contains, ◌^◌}
+use Rattle.std.specs.Prelude.{◌≡◌, ◌≢◌, ◌+◌, ◌<◌, ◌^◌, ℕ, ◌++◌, List, [], ◌∷◌, length, map, codes, slice_index_or}
+use Rattle.std.specs.Prelude.{Option, None}
 use Rattle.std.specs.List.{AllByRecursion}
 use Rattle.rt_code.specs.Image.{Image}
 use Rattle.rt_core.specs.Machine.{Machine, IsFresh}
@@ -9,15 +9,13 @@ use Rattle.rt_listing.specs.Listing.{listing}
 use Rattle.rt_listing.specs.Numbers.{HasTypedNumbers}
 use Rattle.rt_words.specs.Ending.{calls_in}
 use Rattle.rt_words.specs.History.{IsLegal, part}
-use Rattle.rt_words.specs.Lines.{Row, Line as Caller, count}
-use Rattle.rt_words.specs.Object.{IsPending}
-use Rattle.rt_words.specs.Row.{bit_in_row}
+use Rattle.rt_words.specs.Lines.{Row, Line as Caller, count, new_line}
 use Rattle.rt_words.specs.declared.call.Call.{Call}
 use Rattle.rt_words.specs.declared.call.Entry.{Entry}
 use Rattle.rt_words.specs.declared.row.TheConstants.{ROW_WORDS}
 use Rattle.rt_live.specs.Able.{CanGo}
 use Rattle.rt_live.specs.Account.{account_of, account_text, declared_irqs, empty_row}
-use Rattle.rt_live.specs.Ready.{IsCounted, irqs_of}
+use Rattle.rt_live.specs.Ready.{HasBits, irqs_of}
 use Rattle.rt_live.specs.Shares.{HasOwnNames, own_events}
 use Rattle.rt_live.specs.Written.{EndsWhole}
 use Rattle.rt_live.specs.declared.account.AccountRow.{AccountRow}
@@ -39,31 +37,19 @@ front head img = head ++ listing img ++ codes "trace\n"
 abbrev pub leads_by : Table → ℕ → Option ℕ
 leads_by table irq = slice_index_or table.places.items irq None
 
--- the line is of these words, and stands in this place
-pub record IsPlaced (place : Place) (row : Row) (line : Caller) : Type 0 where
-  pub words : line.words ≡ row
-  pub number : line.number ≡ place.line
-  pub here : line.here ≡ place.here
-  pub there : line.there ≡ place.there
+-- the line of a core in this place, which has made the lines of these numbers and these calls
+abbrev pub placed_line : Place → Row → List ℕ → List Call → Caller
+placed_line place row made calls =
+    record (new_line row place.line place.here place.there) { made = made; calls = calls }
 
--- of a core's bits in these words those of these interrupts are set, and no other
-abbrev pub HasBits : ℕ → List ℕ → List ℕ → Type 0
-HasBits core may irqs = (irq : ℕ) → irq < 512 → IsPending may (bit_in_row core irq) ↔ Contains irqs irq
-
--- a core with this image, its line, which has made no call, and the rows of its account, which count nothing yet, have
--- this place in these words
-pub record HasPlace (place : Place) (row : Row) (img : Image) (line : Caller) (account : List AccountRow) : Type 0
-  where
-    pub placed : IsPlaced place row line
-    pub unused : line.calls ≡ []
-    pub may : HasBits place.here row.may (declared_irqs img.names)
-    pub rows : account ≡ map empty_row (declared_irqs img.names)
-    pub bits : AllByRecursion (λ irq. irq < IRQ_NUMBERS) (declared_irqs img.names)
-
--- what is made for a core, before its first event
-pub record IsBefore (place : Place) (share : Share) (head : List ℕ) (row : Row) (img other : Image) (side : Side)
-    : Type 0 where
-  pub at : HasPlace place row img side.line.value side.rows.items
+-- What is made for a core, before its first event. Its line has made these lines and called nothing. Of its bits those
+-- of its declared interrupts are set, and the rows of its account count nothing.
+pub record IsBefore (place : Place) (made : List ℕ) (share : Share) (head : List ℕ) (row : Row) (img other : Image)
+    (side : Side) : Type 0 where
+  pub may : HasBits place.here row.may (declared_irqs img.names)
+  pub bits : AllByRecursion (λ irq. irq < IRQ_NUMBERS) (declared_irqs img.names)
+  pub rows : side.rows.items ≡ map empty_row (declared_irqs img.names)
+  pub line : side.line.value ≡ placed_line place row made []
   pub shares : side.role.share ≡ share
   pub routes : (irq : ℕ) → leads_by side.role.routes irq ≡ forward img other.names irq
   pub text : side.text.bytes.items ≡ front head img
@@ -72,11 +58,9 @@ pub record IsBefore (place : Place) (share : Share) (head : List ℕ) (row : Row
 
 -- Both are so, and the first core's line made the second's and no other.
 pub record AreBefore (first second : Image) (both : Both) : Type 0 where
-  pub one : IsBefore first_place First (codes "core 1\n") both.words first second both.first
-  pub two : IsBefore second_place Second (codes "core 2\n") both.words second first both.second
+  pub one : IsBefore first_place (254 ∷ []) First (codes "core 1\n") both.words first second both.first
+  pub two : IsBefore second_place [] Second (codes "core 2\n") both.words second first both.second
   pub many : count both.words ≡ ROW_WORDS
-  pub made : both.first.line.value.made ≡ 254 ∷ []
-  pub gathered : both.first.line.value.gathered ≡ []
 
 -- a core can do its events of a script on its side
 pub record CanRun (script : List Line) (m : Machine) (side : Side) (row : Row) : Type 0 where
@@ -90,30 +74,32 @@ pub record HasEnded (script : List Line) (m n : Machine) (old new : Side) : Type
   pub rows : new.rows.items ≡ old.rows.items
 
 -- what was made for a core, which has done its events since
-pub record HasRun (place : Place) (share : Share) (head : List ℕ) (row : Row) (other : Image) (script : List Line)
+pub record HasRun (place : Place) (made : List ℕ) (share : Share) (head : List ℕ) (row : Row) (other : Image)
+    (script : List Line)
     (m n : Machine) (side : Side) : Type 0 where
   pub fresh : IsFresh m
   pub old : Side
-  pub before : IsBefore place share head row m.image other old
+  pub before : IsBefore place made share head row m.image other old
   pub ended : HasEnded script m n old side
 
 -- both cores have ended
 pub record HaveRun (script : List Line) (a a' b b' : Machine) (both : Both) : Type 0 where
-  pub one : HasRun first_place First (codes "core 1\n") both.words b.image script a a' both.first
-  pub two : HasRun second_place Second (codes "core 2\n") both.words a.image script b b' both.second
-  pub made : both.first.line.value.made ≡ 254 ∷ []
-  pub gathered : both.first.line.value.gathered ≡ []
+  pub one : HasRun first_place (254 ∷ []) First (codes "core 1\n") both.words b.image script a a' both.first
+  pub two : HasRun second_place [] Second (codes "core 2\n") both.words a.image script b b' both.second
+
+-- These rows count nothing, and there are their interrupts.
+pub record AreEmpty (rows : List AccountRow) : Type 0 where
+  pub empty : rows ≡ map empty_row (irqs_of rows)
+  pub bits : AllByRecursion (λ irq. irq < IRQ_NUMBERS) (irqs_of rows)
 
 -- The words can be closed, which these lines called, the first of them having made the second alone. Their calls can be
 -- counted in these rows.
 pub record CanClose (row : Row) (first second : Caller) (one two : List AccountRow) : Type 0 where
-  pub first_line : IsPlaced first_place row first
-  pub second_line : IsPlaced second_place row second
-  pub made : first.made ≡ 254 ∷ []
-  pub gathered : first.gathered ≡ []
+  pub first_line : first ≡ placed_line first_place row (254 ∷ []) first.calls
+  pub second_line : second ≡ placed_line second_place row [] second.calls
   pub few : length second.calls < 2 ^ 32
-  pub one_counted : AllByRecursion (IsCounted 0 []) one
-  pub two_counted : AllByRecursion (IsCounted 1 []) two
+  pub one_empty : AreEmpty one
+  pub two_empty : AreEmpty two
 
 -- the words of both cores can be closed
 abbrev pub CanWrite : Both → Type 0

@@ -1,16 +1,8 @@
 use Rattle.std.proofs.Common.{sym, subst}
 use Rattle.rt_script.specs.Script.{IsScript}
-use Rattle.rt_dual.specs.Course.{turns, first_events, second_events}
 use Rattle.rt_dual.proofs.Beforehand.{can_write}
 use Rattle.rt_dual.proofs.Coursing.{finished}
-use Rattle.rt_dual.proofs.Cutting.{none_begun}
 use Rattle.rt_dual.proofs.pairing.pair.Goals as goal
-
-pub returns-in_default-clause-first_begun : goal.returns-in_default-clause-first_begun
-returns-in_default-clause-first_begun g c = none_begun (turns (first_events c.args.script.now)) c.args.first.now
-
-pub returns-in_default-clause-second_begun : goal.returns-in_default-clause-second_begun
-returns-in_default-clause-second_begun g c = none_begun (turns (second_events c.args.script.now)) c.args.second.now
 
 pub put_both-requires : goal.put_both-requires
 put_both-requires g c =

@@ -1,18 +1,19 @@
 use Rattle.std.proofs.Common.{arith}
-use Rattle.rt_dual.proofs.Beforehand.{can_run, have_run, second_names}
+use Rattle.rt_dual.proofs.Beforehand.{can_run, have_run, first_names, second_names}
 use Rattle.rt_dual.proofs.running.run_both.Goals as goal
 
 pub beside-ends-requires-clause-first_can : goal.beside-ends-requires-clause-first_can
 beside-ends-requires-clause-first_can g c = λ _ _.
     let before = c.requires.before in
-    can_run c.requires.first_fresh c.requires.first_lines before.one (omega arith) before.many before.two.at.may
-    before.two.at.bits c.args.script.now c.requires.script c.requires.declared
+    can_run c.requires.first_fresh c.requires.first_lines before.one (omega arith) before.many before.two.may
+    before.two.bits c.args.script.now c.requires.script
+    (first_names c.args.first.now.image.names c.args.script.now c.requires.declared)
 
 pub beside-ends-requires-clause-second_can : goal.beside-ends-requires-clause-second_can
 beside-ends-requires-clause-second_can g c = λ _ _.
     let before = c.requires.before in
-    can_run c.requires.second_fresh c.requires.second_lines before.two (omega arith) before.many before.one.at.may
-    before.one.at.bits c.args.script.now c.requires.script
+    can_run c.requires.second_fresh c.requires.second_lines before.two (omega arith) before.many before.one.may
+    before.one.bits c.args.script.now c.requires.script
     (second_names c.args.second.now.image.names c.args.script.now)
 
 pub returns-in-Ok-Ok-clause-ok : goal.returns-in-Ok-Ok-clause-ok

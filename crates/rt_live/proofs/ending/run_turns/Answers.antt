@@ -4,8 +4,9 @@ use Rattle.rt_lemmas.proofs.Results.{on_err_from}
 use Rattle.rt_run.proofs.Taking.{cause_on}
 use Rattle.rt_script.specs.Script.{count}
 use Rattle.rt_live.specs.Interleaving.{last_turns}
-use Rattle.rt_live.proofs.Ended.{whole_on, early_on}
-use Rattle.rt_live.proofs.Turning.{own_turns_length, can_fewer, can_on, stops_before}
+use Rattle.rt_live.specs.Shares.{own_events}
+use Rattle.rt_live.proofs.Ended.{ends_on, early_on}
+use Rattle.rt_live.proofs.Turning.{own_length, can_fewer, can_behind, stops_before}
 use Rattle.rt_live.proofs.ending.run_turns.Goals as goal
 
 pub own_lines-requires-clause-can : goal.own_lines-requires-clause-can
@@ -19,19 +20,20 @@ returns-in_err-own_lines-clause-err g c =
 
 pub end-requires-clause-can : goal.end-requires-clause-can
 end-requires-clause-can g c =
-    can_on c.in_ok-own_lines.ensures.ok (0 + 1) c.requires.can
-    (omega (arith, own_turns_length c.args.role.now.share c.args.script.now))
+    let share = c.args.role.now.share in
+    can_behind (own_events share c.args.script.now) c.in_ok-own_lines.ensures.ok (0 + 1) c.requires.can
+    (omega (arith, own_length share c.args.script.now))
 
 pub returns-clause-ok : goal.returns-clause-ok
 returns-clause-ok g c =
     on_ok_weaker c.end.result
-    (whole_on c.in_ok-own_lines.ensures.ok (last_turns 0) c.end.new.line c.end.new.core _)
+    (λ last. ends_on c.in_ok-own_lines.ensures.ok last)
     c.end.ensures.ok
 
 pub returns-clause-err : goal.returns-clause-err
 returns-clause-err g c =
     on_err_weaker c.end.result
-    (early_on c.in_ok-own_lines.ensures.ok (last_turns 0) c.end.new.line c.end.new.core _)
+    (λ early. early_on c.in_ok-own_lines.ensures.ok early)
     c.end.ensures.err
 
 pub returns-clause-cause : goal.returns-clause-cause

@@ -1,36 +1,49 @@
-use Rattle.std.proofs.Common.{refl, ap, ◌∙◌}
+use Rattle.std.proofs.Common.{◌<◌, sym, ap, ◌∙◌, append-nil, arith}
+use Rattle.rt_lemmas.proofs.Membership.{all_weaker}
+use Rattle.rt_ids.specs.declared.limits.TheConstants.{IRQ_NUMBERS}
 use Rattle.rt_words.specs.Lines.{Line}
-use Rattle.rt_live.proofs.Tallied.{gathers_none, gathers_more, next_has, next_room}
-use Rattle.rt_live.specs.Ready.{IsBeside}
+use Rattle.rt_live.specs.Ready.{irqs_of}
+use Rattle.rt_live.proofs.Tallied.{gathers_more, next_beside, next_room}
 use Rattle.rt_live.proofs.gathering.gather_all.Goals as goal
 
 pub loop-device-init : goal.loop-device-init
-loop-device-init c =
-    record { run = gathers_none c.args.devices.now.items c.args.line.now; counted = c.requires.counted; irqs = refl }
+loop-device-init c = record {
+  done = _;
+  parts = sym (append-nil c.args.devices.items);
+  line = ap (λ ps. record c.args.line.now { gathered = ps }) c.requires.none;
+  since = λ within. within;
+  counted = c.requires.empty;
+}
 
-pub gather_line-requires-clause-first : goal.gather_line-requires-clause-first
-gather_line-requires-clause-first c =
-    ap (λ (l : Line). l.number) c.loop-device.invariant.run.line ∙ c.requires.first
+pub gather-tally-requires-clause-first : goal.gather-tally-requires-clause-first
+gather-tally-requires-clause-first c = ap (λ (l : Line). l.number) c.loop-device.invariant.line ∙ c.requires.first
 
-pub gather_line-requires-clause-core : goal.gather_line-requires-clause-core
-gather_line-requires-clause-core c =
-    ap (λ (l : Line). l.words) c.loop-device.invariant.run.line ∙ c.requires.core
+pub gather-tally-requires-clause-words : goal.gather-tally-requires-clause-words
+gather-tally-requires-clause-words c = ap (λ (l : Line). l.words) c.loop-device.invariant.line ∙ c.requires.core
 
-pub gather_line-requires-clause-device : goal.gather_line-requires-clause-device
-gather_line-requires-clause-device c =
-    next_has c.args.devices.now.items _ c.args.line.now _ _ c.in-Some.device c.loop-device.invariant.run
-    c.in-Some.ensures.items (IsBeside c.args.words.now) c.requires.devices
+pub gather-tally-requires-clause-line : goal.gather-tally-requires-clause-line
+gather-tally-requires-clause-line c =
+    ap (λ (l : Line). l.words)
+    (next_beside c.args.words.now _ c.in-Some.device c.loop-device.invariant c.in-Some.ensures.items
+    c.requires.devices).line
 
-pub gather_line-requires-clause-room : goal.gather_line-requires-clause-room
-gather_line-requires-clause-room c =
-    next_room c.args.devices.now.items _ c.args.line.now _ _ c.in-Some.device c.loop-device.invariant.run
-    c.in-Some.ensures.items c.requires.room
+pub gather-tally-requires-clause-other : goal.gather-tally-requires-clause-other
+gather-tally-requires-clause-other c = λ is.
+    let beside = next_beside c.args.words.now _ c.in-Some.device c.loop-device.invariant c.in-Some.ensures.items
+    c.requires.devices in
+    absurd (omega (arith, is, ap (λ (l : Line). l.number) beside.line, beside.low))
+
+pub add_counts-requires : goal.add_counts-requires
+add_counts-requires c =
+    record {
+      room = next_room c.args.words.now _ c.in-Some.device c.loop-device.invariant c.in-Some.ensures.items
+          c.requires.devices c.requires.few;
+    }
 
 pub loop-device-preserved : goal.loop-device-preserved
-loop-device-preserved c = record {
-  run =
-      gathers_more c.args.devices.now.items _ c.args.line.now _ _ c.in-Some.device c.loop-device.invariant.run
-      c.in-Some.ensures.items _ c.gather_line.ensures.line;
-  counted = c.gather_line.ensures.counted;
-  irqs = c.gather_line.ensures.irqs ∙ c.loop-device.invariant.irqs;
-}
+loop-device-preserved c =
+    let irqs = irqs_of c.args.rows.now in
+    gathers_more c.args.words.now _ c.in-Some.device c.loop-device.invariant c.in-Some.ensures.items c.requires.devices
+    _ c.gather-tally.result _
+    (all_weaker (λ irq. irq < IRQ_NUMBERS) (λ irq. irq < 512) (λ irq is. omega (arith, is)) irqs c.requires.in_range)
+    c.gather-tally.ensures.maker c.gather-tally.ensures.tally c.add_counts.ensures

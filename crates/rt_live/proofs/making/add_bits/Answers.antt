@@ -1,49 +1,53 @@
-use Rattle.std.proofs.Common.{ℕ, ◌/◌, ◌<◌, ◌++◌, List, length, map, Contains, sym, subst, ◌∙◌, arith, length-set}
-use Rattle.std.proofs.Common.{[], append-nil}
-use Rattle.std.specs.Prelude.{◌↔◌}
+use Rattle.std.proofs.Common.{◌≡◌, ℕ, ◌+◌, ◌/◌, ◌<◌, ◌++◌, ◌∷◌, [], List, length, take, refl, ap, sym, subst, ◌∙◌}
+use Rattle.std.proofs.Common.{arith}
+use Rattle.std.proofs.Common.{length-set, append-nil, append_assoc}
 use Rattle.std.specs.List.{AllByRecursion}
 use Rattle.std.proofs.lemmas.List.{take_all}
+use Rattle.rt_lemmas.proofs.Lists.{map_next}
+use Rattle.rt_lemmas.proofs.Membership.{all_append}
 use Rattle.rt_ids.specs.declared.limits.TheConstants.{IRQ_NUMBERS}
-use Rattle.rt_words.specs.Object.{IsPending}
-use Rattle.rt_words.specs.Row.{bit_in_row}
-use Rattle.rt_live.specs.Ready.{irqs_of}
+use Rattle.rt_live.specs.Ready.{HasBits, irqs_of}
 use Rattle.rt_live.specs.declared.account.AccountRow.{AccountRow}
-use Rattle.rt_live.proofs.Made.{bits_step, range_step}
+use Rattle.rt_live.proofs.Made.{bits_more, other_stays}
 use Rattle.rt_live.proofs.making.add_bits.Goals as goal
 
 pub loop-row-init : goal.loop-row-init
 loop-row-init c = record {
   long = c.told-may;
-  may = λ before are bit. subst (λ bs. IsPending c.args.may.now bit ↔ Contains bs bit) (sym (append-nil before))
-      (are bit);
+  own = λ before has. subst (HasBits c.args.core c.args.may.now) (sym (append-nil before)) has;
+  other = λ bit far. refl;
   in_range = tt;
 }
 
 pub loop-row-preserved : goal.loop-row-preserved
 loop-row-preserved c =
     let words = c.loop-row.may in
-    let rows = c.args.rows.now in
     let core = c.args.core in
     let i = c.loop-row.row-index in
     let row = c.row-item.result in
     let n = c.bit_in_row-bit.result in
-    let within : i < length rows = omega arith in
-    let fits : n / 32 < length words = omega (arith, c.bit_in_row-bit.ensures.within, c.loop-row.invariant.long) in
+    let bit = c.bit_in_row-bit.ensures in
+    let before = c.loop-row.invariant in
+    let rows : List ℕ = irqs_of (take i c.args.rows.now) in
+    let fits : n / 32 < length words = omega (arith, bit.within, before.long) in
+    let more : irqs_of (take (i + 1) c.args.rows.now) ≡ rows ++ row.irq ∷ [] =
+    map_next (λ (r : AccountRow). r.irq) c.args.rows.now i row (omega arith) c.row-item.is in
     record {
-      long = length-set words (n / 32) _ ∙ c.loop-row.invariant.long;
-      may = λ before are.
-          bits_step words before core rows i row within c.row-item.is n c.bit_in_row-bit.ensures.is fits
-          (c.loop-row.invariant.may before are);
+      long = length-set words (n / 32) _ ∙ before.long;
+      own = λ irqs has.
+          subst (HasBits core _) (append_assoc irqs rows (row.irq ∷ []) ∙ ap (λ is. irqs ++ is) (sym more))
+          (bits_more words n fits core row.irq (irqs ++ rows) bit.is (before.own irqs has));
+      other = λ b far.
+          other_stays words n fits b (λ e. far (omega (arith, e, bit.is, bit.numbered))) ∙ before.other b far;
       in_range =
-          range_step words [] core rows i row within c.row-item.is c.bit_in_row-bit.ensures.numbered
-          c.loop-row.invariant.in_range;
+          subst (AllByRecursion (λ irq. irq < IRQ_NUMBERS)) (sym more)
+          (all_append (λ irq. irq < IRQ_NUMBERS) rows (row.irq ∷ []) before.in_range (bit.numbered, tt));
     }
 
-pub returns-clause-may : goal.returns-clause-may
-returns-clause-may c = λ before are.
-    subst (λ (rows : List AccountRow). (bit : ℕ) → IsPending c.loop-row.may bit
-    ↔ Contains (before ++ map (bit_in_row c.args.core) (irqs_of rows)) bit)
-    (take_all c.loop-row.row-index c.args.rows.now (omega arith)) (c.loop-row.invariant.may before are)
+pub returns-clause-own : goal.returns-clause-own
+returns-clause-own c = λ before has.
+    subst (λ (rows : List AccountRow). HasBits c.args.core c.loop-row.may (before ++ irqs_of rows))
+    (take_all c.loop-row.row-index c.args.rows.now (omega arith)) (c.loop-row.invariant.own before has)
 
 pub returns-clause-in_range : goal.returns-clause-in_range
 returns-clause-in_range c =

@@ -1,30 +1,14 @@
-use Rattle.std.proofs.Common.{refl, ap, sym, subst, ◌∙◌}
-use Rattle.std.specs.List.{AllByRecursion}
-use Rattle.rt_devices.specs.Work.{requests}
+use Rattle.std.proofs.Common.{◌∷◌, length, ap, ◌∙◌}
 use Rattle.rt_words.specs.Lines.{Line}
-use Rattle.rt_words.specs.Object.{IsPending}
-use Rattle.rt_live.proofs.Made.{entries_request, entries_may}
 use Rattle.rt_live.proofs.making.device_of.Goals as goal
 
-pub returns-clause-device : goal.returns-clause-device
-returns-clause-device c =
-    let line = c.split-own.ensures.line in
-    let entries = c.in_ok-script.ensures in (
-      record {
-        beside = record {
-          words = ap (λ (l : Line). l.words) line;
-          number = ap (λ (l : Line). l.number) line;
-          other = c.requires.other;
-          here = ap (λ (l : Line). l.here) line;
-          there = ap (λ (l : Line). l.there) line;
-        };
-        unused = ap (λ (l : Line). l.calls) line;
-        none_raised = refl;
-        none_merged = refl;
-        asks = ap requests entries ∙ entries_request c.args.number c.args.lines.now;
-        may =
-            subst (AllByRecursion (λ entry. IsPending c.args.words.now.may entry.0)) (sym entries)
-            (entries_may c.args.words.now c.args.number c.args.lines.now c.requires.may);
-      },
-      refl,
-    )
+pub returns-clause-waiting : goal.returns-clause-waiting
+returns-clause-waiting c =
+    record { low = c.requires.low; line = c.split-own.ensures.line; asks = c.in_ok-script.ensures }
+
+pub returns-clause-line : goal.returns-clause-line
+returns-clause-line c =
+    let number = c.args.number in
+    let made = c.args.line.now.made in
+    c.split-own.ensures.maker
+    ∙ ap (λ (l : Line). record l { made = number ∷ made; since = length l.calls }) c.requires.line

@@ -1,5 +1,5 @@
 use Rattle.std.proofs.Common.{◌≡◌, []}
-use Rattle.rt_live.specs.Inside.Looking.{Finds}
+use Rattle.rt_live.specs.Going.{Finds}
 use Rattle.rt_live.proofs.turns.look.Given as goal
 
 abbrev pub invariant-loop-k : goal.invariant-loop-k

@@ -6,17 +6,14 @@ use Rattle.rt_lemmas.proofs.Results.{on_err_from}
 use Rattle.rt_code.specs.Image.{Image}
 use Rattle.rt_script.specs.Script.{count_of}
 use Rattle.rt_script.specs.declared.line.Line.{Line as Asked}
-use Rattle.rt_live.specs.Going.{Goes}
-use Rattle.rt_live.specs.Shares.{HasOwnName, own_turns}
-use Rattle.rt_live.proofs.Turning.{goes_none, can_on, own_room, own_line_more, own_line_cut}
+use Rattle.rt_live.specs.Going.{Goes, no_turn}
+use Rattle.rt_live.specs.Shares.{HasOwnName, own_events, own_turns}
+use Rattle.rt_live.proofs.Turning.{can_behind, own_room, own_line_more, own_line_cut}
+use Rattle.rt_live.proofs.Weaving.{weave}
 use Rattle.rt_live.proofs.turns.own_lines.Goals as goal
 
 pub loop-asked-init : goal.loop-asked-init
-loop-asked-init g c = record {
-  run = goes_none (g.T.Routes.leads c.args.role.now.routes) c.args.line.now c.args.core.now _;
-  none_held = c.requires.empty;
-  quiet = refl;
-}
+loop-asked-init g c = record { run = no_turn; none_held = c.requires.empty; quiet = refl }
 
 pub own_line-requires-clause-can : goal.own_line-requires-clause-can
 own_line-requires-clause-can g c =
@@ -24,7 +21,8 @@ own_line-requires-clause-can g c =
     let i = c.loop-asked.asked-index in
     let at : i < length script = omega arith in
     let share = c.args.role.now.share in
-    can_on c.loop-asked.invariant.run (count_of c.asked-item.result) c.requires.can
+    can_behind (own_events share (take i script)) c.loop-asked.invariant.run
+    (count_of c.asked-item.result) c.requires.can
     (own_room share script i c.asked-item.result at c.asked-item.is)
 
 pub own_line-requires-clause-declared : goal.own_line-requires-clause-declared
@@ -38,7 +36,7 @@ own_line-requires-clause-declared g c =
     let named : HasOwnName share names (get_or script i line) =
     all_at (HasOwnName share names) script i (get_or script i line) c.requires.declared
     (slice_get-get_or script i line at) in
-    subst (λ (img : Image). HasOwnName share img.names line) (sym c.loop-asked.invariant.run.leads.image)
+    subst (λ (img : Image). HasOwnName share img.names line) (sym (weave c.loop-asked.invariant.run).sends.leads.image)
     (subst (HasOwnName share names) (sym c.asked-item.is) named)
 
 pub returns-in_err-own_line-clause-err : goal.returns-in_err-own_line-clause-err

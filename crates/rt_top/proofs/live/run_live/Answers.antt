@@ -41,7 +41,7 @@ returns-clause-ends g c =
     (sym c.deref.ensures.value) c.in-Ok.ensures) in
     let ready = c.in-Ok-of in
     let (shown, live) = subst (λ (asked : List Line). (shown : List ℕ) × IsLiveText image asked shown)
-    ready.ensures.script (some_text image ready.ready.script ready.ensures.read.devices ready.ensures.numbered) in
+    ready.ensures.script (some_text image ready.ensures.ready) in
     front_ends (ShowsLive image c.args.script.now) front shown
     (refl, head.numbers, shown, live, ap (λ l. l ++ shown) head.is) _ (g.K.Sink.taken c.put_all.new.sink) _ _ _
     (c.in-Err.ensures.cause.failed refl) c.in-Err.ensures.err
