@@ -1,6 +1,7 @@
 -- The one that is taken first is one alone, and it is the one of the least key.
-use Rattle.std.proofs.Common.{◌≡◌, ◌≢◌, ℕ, ◌+◌, ◌*◌, ◌%◌, ◌<◌, ◌≤◌, ◌^◌, min, ◌⊎◌, inl, inr, Bool, true, false, List, length, length-set}
-use Rattle.std.proofs.Common.{get_or, set, replicate, Option, Some, None, unwrap_or, IsSome, IfSome, refl}
+use Rattle.std.proofs.Common.{◌≡◌, ◌≢◌, ℕ, ◌+◌, ◌*◌, ◌%◌, ◌<◌, ◌≤◌, ◌^◌, min, ◌⊎◌, inl, inr, Bool, true, false, List}
+use Rattle.std.proofs.Common.{length, length-set}
+use Rattle.std.proofs.Common.{get_or, set, replicate, Option, Some, None, unwrap_or, IsSome, refl}
 use Rattle.std.proofs.Common.{sym, ap, subst, ◌∙◌, ⊎_elim, arith, get_or-set_same, get_or-set_other}
 use Rattle.std.proofs.lemmas.Bool.{cases_lt}
 use Rattle.std.proofs.lemmas.List.{get_or-replicate, length-replicate}
@@ -57,10 +58,6 @@ low_enabled number (Some value) p h = refl
 by_keys : (a b i j : ℕ) → a * LEAVES + i ≤ b * LEAVES + j → i < LEAVES → j < LEAVES → (a < b) ⊎ ((a ≡ b) × (i ≤ j))
 by_keys a b i j l x y = ⊎_elim (λ less. inl less) (λ more. inr (omega arith, omega arith)) (cases_lt a b)
 
-is_it : (o : Option ℕ) (number : ℕ) → IsSome o → IfSome o (λ irq. irq ≡ number) → o ≡ Some number
-is_it None number some at = cc
-is_it (Some irq) number some at = ap Some at
-
 module _ (n : Nvic) (exec : ℕ) (nodes : List ℕ) (sizes : IsSized n) (small : exec < 2 ^ 16) (is : IsTournament nodes)
     (keys : HasKeys n.priorities n.pending nodes) where
   key_of : (irq : ℕ) → irq < LEAVES → IsReady n exec irq → leaf nodes irq ≡ value_of n irq * LEAVES + irq
@@ -98,22 +95,29 @@ module _ (n : Nvic) (exec : ℕ) (nodes : List ℕ) (sizes : IsSized n) (small :
       let higher = r.higher in
       omega arith)
 
-  one_at : (irq : ℕ) (o : Option ℕ) → irq < LEAVES → leaf nodes irq ≡ get_or nodes 1 0
-      → get_or nodes 1 0 < exec * LEAVES → (get_or nodes 1 0 % LEAVES < IRQ_NUMBERS → IsSome o)
-      → IfSome o (λ irq. irq ≡ get_or nodes 1 0 % LEAVES) → o ≡ picked_irq n exec
-  one_at irq o l same h some at =
+  number_at : (irq : ℕ) → irq < LEAVES → leaf nodes irq ≡ get_or nodes 1 0 → get_or nodes 1 0 < exec * LEAVES
+      → get_or nodes 1 0 % LEAVES < IRQ_NUMBERS
+  number_at irq l same h =
+      let r = ready_of irq l (omega arith) in
+      let here = key_of irq l r in
+      let low = number_of_ready n exec irq sizes r in
+      omega arith
+
+  -- the number in the first key, where it is low enough, is one of an interrupt
+  pub number_of_first : get_or nodes 1 0 < exec * LEAVES → get_or nodes 1 0 % LEAVES < IRQ_NUMBERS
+  number_of_first h = let first = key_of_first nodes is in number_at first.number first.within first.same h
+
+  one_at : (irq : ℕ) → irq < LEAVES → leaf nodes irq ≡ get_or nodes 1 0 → get_or nodes 1 0 < exec * LEAVES
+      → Some (get_or nodes 1 0 % LEAVES) ≡ picked_irq n exec
+  one_at irq l same h =
       let r = ready_of irq l (omega arith) in
       let here = key_of irq l r in
       let low = number_of_ready n exec irq sizes r in
       let number : get_or nodes 1 0 % LEAVES ≡ irq = omega arith in
-      is_it o (get_or nodes 1 0 % LEAVES) (some (omega arith)) at
-      ∙ ap Some number
-      ∙ chosen_from n exec (Some irq) (first_of irq l same r)
+      ap Some number ∙ chosen_from n exec (Some irq) (first_of irq l same r)
 
-  pub one_of : (o : Option ℕ) → get_or nodes 1 0 < exec * LEAVES
-      → (get_or nodes 1 0 % LEAVES < IRQ_NUMBERS → IsSome o) → IfSome o (λ irq. irq ≡ get_or nodes 1 0 % LEAVES) → o ≡ picked_irq n exec
-  one_of o h some at =
-      let first = key_of_first nodes is in one_at first.number o first.within first.same h some at
+  pub one_of : get_or nodes 1 0 < exec * LEAVES → Some (get_or nodes 1 0 % LEAVES) ≡ picked_irq n exec
+  one_of h = let first = key_of_first nodes is in one_at first.number first.within first.same h
 
 -- the keys of the interrupts, where one changed
 
@@ -168,10 +172,13 @@ module _ (priorities : List (Option ℕ)) (pending active : List ℕ) (top : ℕ
   keys_of : HasKeys n.priorities n.pending nodes
   keys_of = let P : Nvic → Type 0 = λ n. HasKeys n.priorities n.pending nodes in subst P e is.keys
 
-  pub then_picked : (exec : ℕ) (o : Option ℕ) → exec < 2 ^ 16 → get_or nodes 1 0 < exec * LEAVES
-      → (get_or nodes 1 0 % LEAVES < IRQ_NUMBERS → IsSome o) → IfSome o (λ irq. irq ≡ get_or nodes 1 0 % LEAVES)
-      → o ≡ picked_irq n exec
-  then_picked exec o small h some at = one_of n exec nodes sizes_of small is.tournament keys_of o h some at
+  pub then_within : (exec : ℕ) → exec < 2 ^ 16 → get_or nodes 1 0 < exec * LEAVES
+      → get_or nodes 1 0 % LEAVES < IRQ_NUMBERS
+  then_within exec small h = number_of_first n exec nodes sizes_of small is.tournament keys_of h
+
+  pub then_picked : (exec : ℕ) → exec < 2 ^ 16 → get_or nodes 1 0 < exec * LEAVES
+      → Some (get_or nodes 1 0 % LEAVES) ≡ picked_irq n exec
+  then_picked exec small h = one_of n exec nodes sizes_of small is.tournament keys_of h
 
   pub none_picked : (exec : ℕ) → exec < 2 ^ 16 → exec * LEAVES ≤ get_or nodes 1 0 → None ≡ picked_irq n exec
   none_picked exec small h = none_of n exec nodes sizes_of small is.tournament keys_of h

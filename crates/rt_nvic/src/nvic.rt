@@ -136,11 +136,13 @@ impl Nvic {
     {
         let first = self.nodes[1];
         let limit = u32::from(exec) * LEAVES;
-        if first < limit {
-            Irq::new((first % LEAVES) as u16)
-        } else {
-            None
+        if first >= limit {
+            return None;
         }
+        let Some(irq) = Irq::new((first % LEAVES) as u16) else {
+            unreachable!()
+        };
+        Some(irq)
     }
 
     /// Enters an interrupt: it is pending no more, and active.
