@@ -1,5 +1,5 @@
 -- Core steps one after another, up to one that gives an item.
-use Rattle.std.proofs.Common.{◌≡◌, ℕ, suc, ◌+◌, ◌-◌, ◌<◌, ◌≤◌, List, [], ◌∷◌, ◌++◌, replicate, Result, Option}
+use Rattle.std.proofs.Common.{◌≡◌, ℕ, zero, suc, ◌+◌, ◌-◌, ◌<◌, ◌≤◌, List, [], ◌∷◌, ◌++◌, replicate, Result, Option}
 use Rattle.std.proofs.Common.{Some, None, refl, ap, sym, subst, ◌∙◌, append_assoc, arith}
 use Rattle.std.proofs.lemmas.List.{append-nil, replicate-append-replicate}
 use Rattle.rt_ids.specs.Event.{Step}
@@ -65,6 +65,13 @@ further img a b d n m shown first second = record {
         → n + m ≡ and_the_last (first.silent + second.silent) shown
     count_is None is = let e : n + m ≡ first.silent + second.silent = omega (arith, first.count, is) in e
     count_is (Some w) is = let e : n + m ≡ suc (first.silent + second.silent) = omega (arith, first.count, is) in e
+
+-- a core that stays as it is, in silence, does so for so many steps
+pub stays : (img : Image) (c : Core) (n : ℕ) → step img c ≡ (c, None) → Reaches img c c n None
+stays img c zero is = none_done img c
+stays img c (suc n) is =
+    subst (λ m. Reaches img c c m None) (let e : 1 + n ≡ suc n = omega arith in e)
+    (further img c c c 1 n None (one_step img c c None is) (stays img c n is))
 
 -- no step has been done
 pub none_yet : (img : Image) (c : Core) (left : ℕ) → Reaches img c c (left - left) None

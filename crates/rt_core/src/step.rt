@@ -22,6 +22,9 @@ use rt_trace::{Args, What};
 /// The number of the first external interrupt's exception.
 const FIRST_EXCEPTION: u32 = 16;
 
+/// The steps that are taken before the core looks whether it waits.
+const STEPS_AT_ONCE: u32 = 64;
+
 /// How far a core step has come.
 #[derive(Clone, Copy)]
 enum Begun {
@@ -456,8 +459,20 @@ impl Core {
         }
     }
 
+    /// Whether the core waits for an interrupt: it is at a `wait` without a note, and none is to be taken. Its step is
+    /// silent then and changes nothing.
+    #[inline(always)]
+    fn waits(&self) -> bool
+        ensures { result ≡ true → stepping.step self.now.image self.now.core ≡ (self.now.core, None) }
+    {
+        matches!(
+            self.program.line(self.registers.address),
+            Some((Instr::Wait, None))
+        ) && self.irq_to_take().is_none()
+    }
+
     /// Core steps up to the first that gives an item, at most as many as are left. It counts down those that are left,
-    /// and leaves their number in the core as it was.
+    /// and leaves their number in the core as it was. Where the core waits, all that are left are done at once.
     fn go_to_item(&mut self, left: &mut u32) -> Option<What>
         ensures reached { Reaches self.old.image self.old.core self.new.core (left.old - left.new) result }
         ensures within { left.new ≤ left.old }
@@ -465,7 +480,14 @@ impl Core {
         ensures rest { self.new ≡ record self.old { core = self.new.core } }
     {
         while *left > 0 {
-            let shown = self.go_some(left);
+            if self.waits() {
+                *left = 0;
+                return None;
+            }
+            let most = (*left).min(STEPS_AT_ONCE);
+            let mut some = most;
+            let shown = self.go_some(&mut some);
+            *left -= most - some;
             if shown.is_some() {
                 return shown;
             }
@@ -484,18 +506,6 @@ impl Core {
         let shown = self.go_to_item(&mut left);
         self.steps += u64::from(most - left);
         shown
-    }
-
-    /// Whether the core waits for an interrupt: it is at a `wait` without a note, and none is to be taken. Its step is
-    /// silent then and changes nothing.
-    #[inline(always)]
-    fn waits(&self) -> bool
-        ensures { result ≡ true → stepping.step self.now.image self.now.core ≡ (self.now.core, None) }
-    {
-        matches!(
-            self.program.line(self.registers.address),
-            Some((Instr::Wait, None))
-        ) && self.irq_to_take().is_none()
     }
 
     /// One core step: the entry of the interrupt that is to be taken, else one instruction. It answers the item that
