@@ -58,6 +58,7 @@ pub(crate) fn pair<R: Threads + Sync, B: Source, C: Source, K: Sink, G: Gate + S
 }
 
 /// Runs a core under a script beside one of another application. It wants no memory after the first byte.
+#[inline(never)]
 fn run_pair<R: Threads + Sync, K: Sink, G: Gate + Sync>(
     rt: &R,
     alloc: Global,
