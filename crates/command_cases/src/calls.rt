@@ -1,7 +1,6 @@
 // Calls of the crates below the program that the program does not make: it comes to their answers in parts, because it
 // reads a trace line by line, and wants no memory once it has written. Each is made on the texts of a table of
 // commands, and answers what that table says.
-ghost use Rattle.std.specs.Prelude.{◌≡◌};
 ghost use Rattle.rt_app.specs.Accepted.{IsAccepted};
 ghost use Rattle.rt_app.specs.View.{app_of};
 ghost use Rattle.rt_code.specs.Lines.{HasLines};

@@ -1,5 +1,5 @@
 ghost use Rattle.std.specs.Prelude.{◌≡◌, ◌<◌, ◌≤◌, ◌++◌, slice_set};
-ghost use Rattle.rt_stack.specs.Region.{Fits, used_words, top, below};
+ghost use Rattle.rt_stack.specs.Region.{used_words, top, below};
 
 use crate::equal::assert_same;
 use rt_stack::Region;

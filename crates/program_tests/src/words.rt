@@ -1,6 +1,6 @@
 // Pending words: one line, and two threads.
 
-ghost use Rattle.std.specs.Prelude.{◌≡◌, ◌≢◌, ℕ, ◌+◌, ◌-◌, ◌^◌, ◌<◌, [], length};
+ghost use Rattle.std.specs.Prelude.{◌≡◌, ℕ, ◌+◌, ◌-◌, ◌^◌, ◌<◌, length};
 ghost use Rattle.rt_words.specs.Object.{IsPending};
 ghost use Rattle.rt_words.specs.Row.{bit_in_row, word_in_row};
 ghost use Rattle.rt_words.specs.Lines.{count, new_line};

@@ -27,12 +27,6 @@ pub armed_in_heap : (instant arming : Entry → ℕ) (n : ℕ) (heap entries : L
 armed_in_heap instant arming n heap entries is i e there =
     counted_at entries e (subst (λ k. 0 < k) (is.alike e) (counted heap i e there))
 
-pub heap_of_armed : (instant arming : Entry → ℕ) (n : ℕ) (heap entries : List Entry)
-    → IsArranged instant arming n heap entries → (j : ℕ) (e : Entry) → slice_get entries j ≡ Some e
-    → (i : ℕ) × (slice_get heap i ≡ Some e)
-heap_of_armed instant arming n heap entries is j e there =
-    counted_at heap e (subst (λ k. 0 < k) (sym (is.alike e)) (counted entries j e there))
-
 pub arranged_alike : (instant arming after_instant after_arming : Entry → ℕ) (n : ℕ) (heap entries : List Entry)
     → AreAlike instant after_instant entries → AreAlike arming after_arming entries
     → IsArranged instant arming n heap entries → IsArranged after_instant after_arming n heap entries

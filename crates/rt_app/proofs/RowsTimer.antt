@@ -1,5 +1,5 @@
 -- A worked example: where a person laid the timer queue of an application with a monotonic.
-use Rattle.std.proofs.Common.{◌≡◌, ◌+◌, List, ℕ, [], ◌∷◌, drop, length, refl, codes, false, Some, None}
+use Rattle.std.proofs.Common.{◌≡◌, List, ℕ, [], ◌∷◌, drop, refl, codes, false, Some, None}
 use Rattle.std.specs.Fmt.{digits}
 use Rattle.rt_ids.specs.Lists.{those_below}
 use Rattle.rt_ids.specs.Location.{Guarded}
@@ -7,7 +7,7 @@ use Rattle.rt_ids.specs.Storage.{At, Nowhere}
 use Rattle.rt_ids.specs.declared.cell.CellRow.{CellRow}
 use Rattle.rt_ids.specs.declared.ids.Section.TheVariants as section
 use Rattle.rt_app.specs.Tree.{Num, Spawns, After, Empty, Then, App}
-use Rattle.rt_app.specs.Level.{armed_messages, capacities_before}
+use Rattle.rt_app.specs.Level.{armed_messages}
 use Rattle.rt_app.specs.Layout.{layout, home_of, heap_at}
 use Rattle.rt_app.specs.Holding.{armed_place}
 use Rattle.rt_app.proofs.RowParts.{irq, dispatcher, body_listing, hardware, software, last}

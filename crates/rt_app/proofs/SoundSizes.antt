@@ -97,9 +97,6 @@ module _ (app : App) where
   pub code_small : Parts app → shared_size app + sum_by size_of (members app) ≤ CODE_SIZE
   code_small parts = size_kept (shared_size app) (members app) parts.lengths (λ none. bare_size (no_tasks none))
     where
-      threads : List Member
-      threads = thread_members body.Init app.init
-
       no_tasks : members app ≡ [] → app.tasks ≡ []
       no_tasks none = none_declared 0 app.tasks (append_none_right (thread_members body.Idle app.idle)
           (task_members 0 app.tasks) (append_none_right (thread_members body.Init app.init)

@@ -1,7 +1,7 @@
 -- The handler of the monotonic may enter the section of the timer queue, and the sections of the ready queues to which
 -- it moves messages.
-use Rattle.std.proofs.Common.{◌≡◌, ℕ, ◌≤◌, ◌==◌, Bool, true, List, Some, option_map, slice_get, refl, sym, ap}
-use Rattle.std.proofs.Common.{subst, ◌∙◌, arith, eq-eqb, if◌then◌else◌}
+use Rattle.std.proofs.Common.{◌≡◌, ℕ, ◌≤◌, ◌==◌, Bool, true, List, Some, option_map, slice_get, sym, ap}
+use Rattle.std.proofs.Common.{subst, ◌∙◌, arith, if◌then◌else◌}
 use Rattle.std.specs.List.{list_any}
 use Rattle.std.proofs.lemmas.Bool.{eqb-true}
 use Rattle.rt_lemmas.proofs.Bools.{and_parts, and_both}
@@ -9,10 +9,10 @@ use Rattle.rt_lemmas.proofs.Membership.{any_one, any_passes}
 use Rattle.rt_ids.specs.Lists.{is_some_and, or_zero}
 use Rattle.rt_ids.specs.declared.ids.Section.TheVariants as section
 use Rattle.rt_app.specs.declared.app.Mono.{Mono}
-use Rattle.rt_app.specs.Tree.{Spawn, Task, App}
+use Rattle.rt_app.specs.Tree.{Spawn, App}
 use Rattle.rt_app.specs.Bodies.{members}
 use Rattle.rt_app.specs.Spawned.{spawns, arms_message, target}
-use Rattle.rt_app.specs.Level.{is_software, is_of_level, is_armed, arms, holds}
+use Rattle.rt_app.specs.Level.{is_of_level, is_armed, arms, holds}
 use Rattle.rt_app.specs.Ceiling.{ceiling, arms_level, mover_priority}
 
 any_weaker : {X : Type 0} (f g : X → Bool) → ((x : X) → f x ≡ true → g x ≡ true) → (xs : List X)
@@ -42,11 +42,3 @@ module _ (app : App) (mono : Mono) (is : app.mono ≡ Some mono) where
           and_both (arms_message s) _ parts.0
           (subst (λ k. is_some_and (is_of_level p) (slice_get app.tasks k) ≡ true)
           (sym (eqb-true (target s) n parts.1)) level)
-
-  -- and by the task itself
-  pub task_within : (n : ℕ) (t : Task) → slice_get app.tasks n ≡ Some t → is_software t ≡ true → is_armed app n ≡ true
-      → mono.priority ≤ ceiling app (section.Ready t.priority)
-  task_within n t there software armed =
-      mover_within n t.priority
-      (ap (is_some_and (is_of_level t.priority)) there
-      ∙ and_both (is_software t) (t.priority == t.priority) software (eq-eqb t.priority t.priority refl)) armed

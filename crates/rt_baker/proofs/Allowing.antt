@@ -240,10 +240,3 @@ pub turn_other : (app : App) (s new : AuditorState) (w : What) → s.owing ≡ f
 unfolding Judges
 turn_other app s new w owing is other = λ t h may.
     let turn = may_turn app s w t owing is h may in other app t h turn.1
-
-pub is_turn : (w : What) → ((irq : ℕ) → w ≡ what.Pend irq → ⊥) → (w ≡ what.Tick → ⊥)
-    → ((irq depth : ℕ) → w ≡ what.Take irq depth → ⊥) → IsTurn w
-is_turn (what.Pend irq) pend tick take = pend irq refl
-is_turn what.Tick pend tick take = tick refl
-is_turn (what.Take irq depth) pend tick take = take irq depth refl
-is_turn w pend tick take = tt

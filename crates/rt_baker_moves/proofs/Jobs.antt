@@ -1,16 +1,10 @@
 -- What is kept of a job, as it acts.
 use Rattle.std.proofs.Common.{◌≡◌, ℕ, zero, suc, ◌+◌, ◌-◌, ◌<◌, List, [], ◌∷◌, ◌++◌, length, get_or, set, take}
-use Rattle.std.proofs.Common.{drop, map, refl, ap, ◌∙◌, sym, arith}
-use Rattle.rt_ids.specs.Content.{Values}
-use Rattle.rt_ids.specs.Action.{Action, Enters, Leaves, effect}
+use Rattle.std.proofs.Common.{drop, map, ap, ◌∙◌, arith}
 use Rattle.rt_ids.specs.declared.ids.Section.{Section}
-use Rattle.rt_app.specs.Tree.{App}
 use Rattle.rt_laws.specs.State as laws
-use Rattle.rt_baker_work.specs.Store.{Store, contents}
-use Rattle.rt_baker_work.specs.Todo.{behind}
-use Rattle.rt_baker_work.specs.Work.{Work, Becomes, IsSettled}
-use Rattle.rt_baker_moves.specs.Job.{AuditorJob, finish, rest_of, with_rest}
-use Rattle.rt_baker_moves.specs.Inside.Acts.{kept_after_action, IsPerformed}
+use Rattle.rt_baker_work.specs.Work.{Work}
+use Rattle.rt_baker_moves.specs.Job.{AuditorJob}
 
 -- so far each is so much less
 abbrev pub so_far : ℕ → ℕ → List ℕ → List ℕ
@@ -31,23 +25,3 @@ lessened_more k xs cur i n d within e is = ap (λ (l : List ℕ). set l i n) e �
 
 abbrev pub kept : laws.Role → ℕ → Work → ℕ → List Section → List ℕ → AuditorJob
 kept r p w left xs ns = record { role = r; priority = p; work = w; left = left; sections = xs; lefts = ns }
-
-rest_stays : (app : App) (a : Action) (j : AuditorJob) (vs : Values) → rest_of app (kept_after_action a j) vs
-    ≡ rest_of app j vs
-rest_stays app (Enters x cost) j vs = refl
-rest_stays app (Leaves x) j vs = refl
-rest_stays app _ j vs = refl
-
-pub performed : (app : App) (a : Action) (old mid : AuditorJob) (r : laws.Role) (p : ℕ) (w v : Work) (left : ℕ) (xs :
-    List Section) (ns : List ℕ) (was then is : Store)
-    → mid ≡ kept_after_action a old → kept r p w left xs ns ≡ mid → contents then ≡ effect a (contents was)
-    → Becomes app (λ later. later) w then v is → IsSettled v.todos
-    → IsPerformed app a old was (kept r p v left xs ns) is
-performed app a old mid r p w v left xs ns was then is tracks view acts runs settles = record {
-  tracks = λ rest. ap (λ (j : AuditorJob). with_rest app j rest) (view ∙ tracks);
-  rest =
-      sym (runs.same (finish r)) ∙ ap (λ (vs : Values). behind app w.todos (finish r) w.vars vs) acts
-      ∙ ap (λ (j : AuditorJob). rest_of app j (effect a (contents was))) (view ∙ tracks)
-      ∙ rest_stays app a old (effect a (contents was));
-  settled = settles;
-}

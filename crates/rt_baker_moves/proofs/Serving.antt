@@ -8,16 +8,14 @@ use Rattle.rt_lemmas.proofs.Lists.{drop_as_cons, mapped_read}
 use Rattle.rt_ids.specs.Lists.{is_some_and}
 use Rattle.rt_app.specs.declared.app.App as code_app
 use Rattle.rt_app.specs.declared.app.Task as code_task
-use Rattle.rt_app.specs.declared.app.Mono.{Mono}
 use Rattle.rt_app.specs.declared.ceilings.ReadyCeiling.{ReadyCeiling}
 use Rattle.rt_app.specs.Tree.{Task, App}
 use Rattle.rt_app.specs.View.{body_of, task_of, app_of}
-use Rattle.rt_app.specs.BodyCost.{cost_measure, cost_of, body_cost, dispatcher_cost, timer_cost}
+use Rattle.rt_app.specs.BodyCost.{cost_measure, cost_of, body_cost, dispatcher_cost}
 use Rattle.rt_app.specs.Ceiling.{ceilings, ready_ceiling}
 use Rattle.rt_app.specs.Level.{levels}
 use Rattle.rt_app.specs.Handlers as handlers
 use Rattle.rt_app.specs.Handlers.{Service, bound_service, task_services, dispatcher_of, dispatcher_service}
-use Rattle.rt_app.specs.Handlers.{timer_service}
 use Rattle.rt_laws.specs.Services.{handler_cost}
 use Rattle.rt_baker_work.specs.declared.code.Handler.TheVariants as handler
 use Rattle.rt_baker_work.specs.Code.{handler_of}
@@ -67,9 +65,6 @@ module _ (app : App) (irq : ℕ) where
   abbrev dispatching : ℕ → ℕ → Service
   dispatching p index = record { irq = index; handler = handlers.Dispatches p; priority = p }
 
-  abbrev timing : Mono → Service
-  timing mono = record { irq = mono.irq; handler = handlers.Times; priority = mono.priority }
-
   bound_first : (n : ℕ) (t : Task) (o : Option ℕ) (rest : List Service) → is_some_and (has_number app irq) o ≡ true
       → (index : ℕ) × (found (bound_service n t o ++ rest) ≡ Some (running n t index))
   bound_first n t None rest h = absurd cc
@@ -103,15 +98,6 @@ module _ (app : App) (irq : ℕ) where
       (sym test ∙ passes) in
       let s : Served = record { handler = handler.Dispatches r.level; priority = r.level; cost = cost } in
       is_service_of app s _ (dispatching r.level one.0) (left ∙ rows_split rows i r within is ∙ one.1) refl refl costs
-
-  pub timer_served : (o : Option Mono) (mono : Mono) (here : Bool) (cost : ℕ) → o ≡ Some mono
-      → here ≡ has_number app irq mono.irq → here ≡ true → cost ≡ timer_cost app
-      → IsServiceOf app (Some (record { handler = handler.Times; priority = mono.priority; cost = cost }))
-      (found (timer_service o))
-  timer_served o mono here cost is test passes costs =
-      let s : Served = record { handler = handler.Times; priority = mono.priority; cost = cost } in
-      is_service_of app s _ (timing mono) (ap (λ (o : Option Mono). found (timer_service o)) is
-      ∙ ap (λ (b : Bool). if b then Some (timing mono) else None) (sym test ∙ passes)) refl refl costs
 
 -- the same of the tasks of an application of the code
 module _ (a : code_app.App) (irq : ℕ) where

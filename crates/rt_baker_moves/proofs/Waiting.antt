@@ -1,17 +1,15 @@
 -- The interrupts that wait: the first of them is the best of all that may start, and they stay so as one comes to be
 -- pending and as one is taken.
-use Rattle.std.proofs.Common.{◌≡◌, ◌≢◌, ℕ, zero, suc, ◌+◌, ◌<◌, ◌≤◌, ◌==◌, nat_lt, Bool, true, false, ◌&&◌, ◌||◌}
+use Rattle.std.proofs.Common.{◌≡◌, ◌≢◌, ℕ, zero, suc, ◌<◌, ◌≤◌, ◌==◌, nat_lt, Bool, true, false, ◌&&◌, ◌||◌}
 use Rattle.std.proofs.Common.{if◌then◌else◌, List, [], ◌∷◌, ◌++◌, length, take, drop, get_or, Contains, slice_get}
-use Rattle.std.proofs.Common.{slice_set, slice_index_or, insert, position, Option, Some, None, is_some, refl, sym, ap}
-use Rattle.std.proofs.Common.{subst, ◌∙◌, arith, append_assoc, inl, inr}
+use Rattle.std.proofs.Common.{slice_set, slice_index_or, position, Option, Some, None, is_some, refl, sym, ap}
+use Rattle.std.proofs.Common.{subst, ◌∙◌, arith, inl, inr}
 use Rattle.std.specs.List.{AllByRecursion, list_any, remove}
 use Rattle.std.proofs.lemmas.Bool.{ltb-true, ltb-false, lt-ltb, le-ltb, eq-eqb, ne_eqb, cases_eq, false≢true}
 use Rattle.std.proofs.lemmas.Bool.Decides.{nat_tests}
-use Rattle.std.proofs.lemmas.List.{set-get_or, take_more, take_all, drop_all}
-use Rattle.std.proofs.lemmas.List.Edits.{insert_end}
+use Rattle.std.proofs.lemmas.List.{set-get_or}
 use Rattle.std.proofs.lemmas.List.Quantifiers.{position-Some}
 use Rattle.rt_lemmas.proofs.Bools.{both_of_none}
-use Rattle.rt_lemmas.proofs.Lists.{drop_as_cons}
 use Rattle.rt_lemmas.proofs.Membership.{all_weaker, any_contained, contained_any, contains_here, contains_there}
 use Rattle.rt_lemmas.proofs.Membership.{contains_cases, contains_none}
 use Rattle.rt_ids.specs.Choice.{best, better_of}
@@ -144,31 +142,6 @@ module _ (beats : ℕ → ℕ → Bool) where
   -- it beats none of those before this index
   abbrev pub IsPast : ℕ → List ℕ → ℕ → Type 0
   IsPast x ys i = insert_before beats x ys ≡ take i ys ++ insert_before beats x (drop i ys)
-
-  pub past_more : (x : ℕ) (ys : List ℕ) (i y : ℕ) → i < length ys → y ≡ get_or ys i y → beats x y ≡ false
-      → IsPast x ys i → IsPast x ys (i + 1)
-  past_more x ys i y within is loses past =
-      past
-      ∙ ap (λ (zs : List ℕ). take i ys ++ insert_before beats x zs) (drop_as_cons ys i y within is)
-      ∙ ap (λ (zs : List ℕ). take i ys ++ zs) (behind x y (drop (i + 1) ys) loses)
-      ∙ sym (append_assoc (take i ys) (y ∷ []) (insert_before beats x (drop (i + 1) ys)))
-      ∙ ap (λ (m : ℕ). (take i ys ++ m ∷ []) ++ insert_before beats x (drop (i + 1) ys)) is
-      ∙ ap (λ (zs : List ℕ). zs ++ insert_before beats x (drop (i + 1) ys)) (sym (take_more ys i y within))
-
-  pub past_here : (x : ℕ) (ys : List ℕ) (i y : ℕ) → i < length ys → y ≡ get_or ys i y → beats x y ≡ true
-      → IsPast x ys i → insert ys i x ≡ insert_before beats x ys
-  past_here x ys i y within is wins past =
-      let split = drop_as_cons ys i y within is in
-      ap (λ (zs : List ℕ). take i ys ++ x ∷ zs) split
-      ∙ sym (past ∙ ap (λ (zs : List ℕ). take i ys ++ insert_before beats x zs) split
-      ∙ ap (λ (zs : List ℕ). take i ys ++ zs) (front x y (drop (i + 1) ys) wins))
-
-  pub past_all : (x : ℕ) (ys : List ℕ) (i : ℕ) → length ys ≤ i → IsPast x ys i
-      → insert ys (length ys) x ≡ insert_before beats x ys
-  past_all x ys i last past =
-      insert_end ys x
-      ∙ sym (past ∙ ap (λ (zs : List ℕ). zs ++ insert_before beats x (drop i ys)) (take_all i ys last)
-      ∙ ap (λ (zs : List ℕ). ys ++ insert_before beats x zs) (drop_all i ys last))
 
 -- without the first of a number, by its index
 pub without_unfound : (n : ℕ) (xs : List ℕ) → list_any (λ x. x == n) xs ≡ false → without n xs ≡ xs

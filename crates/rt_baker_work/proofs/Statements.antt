@@ -13,8 +13,8 @@ use Rattle.rt_app.specs.declared.expr.Atom.TheVariants as atom
 use Rattle.rt_app.specs.declared.expr.Expr.{Expr}
 use Rattle.rt_app.specs.declared.stmt.Stmt.{Stmt}
 use Rattle.rt_app.specs.Tree.{Expression, Spawn, Soon, After, Cancel, Move, Value, Calc, Now, Call, Statement}
-use Rattle.rt_app.specs.Tree.{Bind, Assign}
-use Rattle.rt_app.specs.Tree.{Branch, Repeat, Locked, Emit, Pend, Spawns, Block, App}
+use Rattle.rt_app.specs.Tree.{Bind}
+use Rattle.rt_app.specs.Tree.{Branch, Repeat, Locked, Emit, Pend, Block, App}
 use Rattle.rt_ids.specs.Lists.{or_zero}
 use Rattle.rt_app.specs.Handlers.{irq_number}
 use Rattle.rt_app.specs.Cost.{Measure, lock_cost, block_cost, statement_cost}
@@ -268,29 +268,6 @@ pended app s i n old new st is number pushes =
     ap (λ (y : Statement). run app y later old.vars (contents st)) is
     ∙ ap (λ (k : ℕ). behind app (todo.Act (action.Post k) ∷ []) later old.vars (contents st)) (sym number))
 
-pub statement_binds : (app : App) (s : Statement) (x : ℕ) (v : Value) (old new : Work) (st : Store)
-    → s ≡ Bind x v → Becomes app (bind app x v) old st new st
-    → Becomes app (run app s) old st new st
-statement_binds app s x v old new st is h =
-    as_other app (bind app x v) (run app s) old new st st (λ later. ap (λ (y : Statement). run app y later old.vars
-    (contents st)) is) h
-
-pub statement_assigns : (app : App) (s : Statement) (a : Atom) (e : Expression) (at n : ℕ) (old new : Work) (st t :
-    Store) → s ≡ Assign a e at
-    → n ≡ value_in old.vars (contents st) e → Becomes app (assign a n) old st new t
-    → Becomes app (run app s) old st new t
-statement_assigns app s a e at n old new st t is value h =
-    as_other app (assign a n) (run app s) old new st t
-    (λ later. ap (λ (y : Statement). run app y later old.vars (contents st)) is
-    ∙ ap (λ (k : ℕ). assign a k later old.vars (contents st)) (sym value)) h
-
-pub statement_calls : (app : App) (s : Statement) (call : Spawn) (old new : Work) (st : Store) → s ≡ Spawns call
-    → Becomes app (make_spawn app None call) old st new st
-    → Becomes app (run app s) old st new st
-statement_calls app s call old new st is h =
-    as_other app (make_spawn app None call) (run app s) old new st st (λ later. ap (λ (y : Statement). run app y later
-    old.vars (contents st)) is) h
-
 -- the first of statements, and those behind it
 pub block_begun : (app : App) (all : List Stmt) (first : Stmt) (rest : Bor (List Stmt)) (old mid new : Work) (s t :
     Store) → all ≡ first ∷ rest.now
@@ -304,11 +281,4 @@ block_begun app all first rest old mid new s t is pushes h = record {
       (todo.Run rest ∷ []) later))
       ∙ ap (λ (w : Work). run app (statement_of first) (behind app w.todos later) w.vars (contents s)) (sym pushes)
       ∙ h.same later;
-}
-
-pub no_block : (app : App) (all : List Stmt) (w : Work) (s : Store) → all ≡ []
-    → Becomes app (run_block app (block_of all)) w s w s
-no_block app all w s is = record {
-  same = λ later. ap (λ (ss : List Stmt). run_block app (block_of ss) (behind app
-      w.todos later) w.vars (contents s)) is;
 }

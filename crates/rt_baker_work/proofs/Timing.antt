@@ -5,7 +5,7 @@ use Rattle.std.specs.List.{slice_get}
 use Rattle.std.specs.Option.{option_and_then}
 use Rattle.std.proofs.lemmas.Bool.Decides.{nat_tests}
 use Rattle.std.proofs.lemmas.List.{take_more}
-use Rattle.std.proofs.lemmas.Option.{slice_get_read, slice_get_past}
+use Rattle.std.proofs.lemmas.Option.{slice_get_read}
 use Rattle.rt_ids.proofs.Lists.{find_by_position}
 use Rattle.rt_ids.specs.Lists.{then_from}
 use Rattle.rt_ids.specs.Location.{Guarded}
@@ -65,12 +65,6 @@ pub due_none : (app : App) (time : ℕ) (xs : List Armed) (o : Option ℕ)
     → o ≡ position (has_instant (least_instant xs)) xs → o ≡ None → None ≡ due app time xs
 due_none app time xs o is none = sym (ap (λ (m : Option Armed). then_from m (in_time time)) (least_at xs None (sym
     is ∙ none)))
-
-pub due_past : (app : App) (time : ℕ) (xs : List Armed) (o : Option ℕ) (i : ℕ)
-    → o ≡ position (has_instant (least_instant xs)) xs → o ≡ Some i → length xs ≤ i → None ≡ due app time xs
-due_past app time xs o i is at past =
-    sym (ap (λ (m : Option Armed). then_from m (in_time time)) (least_at xs (Some i) (sym is ∙ at)
-    ∙ slice_get_past xs i past))
 
 pub due_now : (app : App) (time : ℕ) (xs : List Armed) (o : Option ℕ) (i : ℕ) (a : Armed)
     → o ≡ position (has_instant (least_instant xs)) xs → o ≡ Some i → i < length xs

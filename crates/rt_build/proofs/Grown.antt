@@ -61,15 +61,6 @@ kept_then first second third goes further =
     ∙ whole second third further) in
     subst (IsKept first) all (kept_more first (behind first second ++ behind second third))
 
-pub kept_length : (before after : List Line) → IsKept before after → length before ≤ length after
-kept_length before after goes =
-    omega (
-      arith,
-      length-append before (behind before after),
-      ap (λ (lines : List Line). length lines)
-          (whole before after goes),
-    )
-
 -- what holds whatever comes after code, holds of code that goes on, whatever comes after that
 pub further : (P : List Line → Type 0) (before after : List Line) → IsKept before after
     → ((more : List Line) → P (before ++ more)) → (more : List Line) → P (after ++ more)

@@ -1,10 +1,10 @@
 -- How the interrupts of an application are served, service by service.
 use Rattle.std.proofs.Common.{◌≡◌, eq-eqb, ◌≢◌, ℕ, zero, suc, ◌+◌, ◌<◌, ◌≤◌, ◌^◌, ◌==◌, Bool, true, false, List, []}
-use Rattle.std.proofs.Common.{◌∷◌, ◌++◌, length, map, get_or, filter, replicate, set, take, append-nil, Option, Some}
-use Rattle.std.proofs.Common.{None, option_map, slice_get, Contains, refl, sym, ap, subst, ◌∙◌, arith, length-set}
+use Rattle.std.proofs.Common.{◌∷◌, ◌++◌, length, map, get_or, filter, set, take, append-nil, Option, Some}
+use Rattle.std.proofs.Common.{option_map, slice_get, Contains, refl, sym, ap, subst, ◌∙◌, arith, length-set}
 use Rattle.std.specs.List.{AllByRecursion, zip}
 use Rattle.std.proofs.lemmas.Bool.{eqb-true}
-use Rattle.std.proofs.lemmas.List.{map-append, length-replicate, take_more}
+use Rattle.std.proofs.lemmas.List.{map-append, take_more}
 use Rattle.std.proofs.lemmas.List.Elements.{filter-append}
 use Rattle.std.proofs.lemmas.Option.{same_Some, get_or_from_slice_get}
 use Rattle.std.proofs.lemmas.Slice.Zip.{length-zip, get_or-zip}
@@ -16,7 +16,7 @@ use Rattle.rt_ids.specs.Priority.{hardware}
 use Rattle.rt_app.specs.declared.app.IrqDecl.{IrqDecl}
 use Rattle.rt_app.specs.declared.costs.TheConstants.{DISPATCHER_WORDS, TIMER_WORDS}
 use Rattle.rt_app.specs.Tree.{Task, App}
-use Rattle.rt_app.specs.Accepted.{IsBindingPlaced, IsTaskPlaced, IsAccepted}
+use Rattle.rt_app.specs.Accepted.{IsAccepted}
 use Rattle.rt_app.specs.Acceptance.{IsSound}
 use Rattle.rt_app.specs.Frame.{frame_words}
 use Rattle.rt_app.specs.Handlers.{Runs, Dispatches, Times, Service, services}
@@ -42,11 +42,6 @@ set_other (x ∷ xs) zero (suc k) y differ = refl
 set_other (x ∷ xs) (suc i) zero y differ = refl
 set_other (x ∷ xs) (suc i) (suc k) y differ = set_other xs i k y (λ e. differ (ap suc e))
 
-replicate_at : {X : Type 0} (n i : ℕ) (x : X) → i < n → slice_get (replicate n x) i ≡ Some x
-replicate_at zero i x within = absurd (omega arith)
-replicate_at (suc n) zero x within = refl
-replicate_at (suc n) (suc i) x within = replicate_at n i x (omega arith)
-
 abbrev irqs_of : List Service → List ℕ
 irqs_of ss = map (λ s. s.irq) ss
 
@@ -62,13 +57,6 @@ unserved irq (s ∷ ss) fresh = go (s.irq == irq) refl
     go false e rest = rw e rest
 
 module _ (app : App) (at : Entries) where
-  -- no interrupt is served
-  pub none_served : (n : ℕ) → n ≡ length app.irqs → HasHandlers app at [] (replicate n None)
-  none_served n is = record {
-    long = length-replicate n None ∙ is;
-    each =
-        λ irq within. replicate_at n irq None (omega arith);
-  }
 
   -- and one more
   pub one_served : (ss : List Service) (s : Service) (table : List (Option Handler)) → HasHandlers app at ss table
@@ -213,12 +201,6 @@ frame_at app n t frame there is =
     mapped_at (λ t. frame_words t.args t.body) app.tasks n t there in
     is ∙ (ap (λ k. get_or (frames app) k frame) e
     ∙ get_or_from_slice_get (map (λ t. frame_words t.args t.body) app.tasks) n (frame_words t.args t.body) frame at)
-
--- the interrupt that it binds is declared
-pub bound_declared : (app : App) → IsAccepted app → (n irq : ℕ) (t : Task) → slice_get app.tasks n ≡ Some t
-    → t.binds ≡ Some irq → irq < length app.irqs
-bound_declared app accepted n irq t there binds =
-    subst (IsBindingPlaced app) binds (all_at (IsTaskPlaced app) app.tasks n t accepted.tasks there).0
 
 -- the pairs of one index more
 pub zip_next : {X Y : Type 0} (xs : List X) (ys : List Y) (i : ℕ) (x : X) (y : Y) → i < length xs → i < length ys

@@ -1,4 +1,4 @@
-ghost use Rattle.std.specs.Prelude.{◌≡◌, ◌<◌, ◌≤◌, List, [], ◌∷◌, ◌++◌, length, sum_by, slice_get, Some, None};
+ghost use Rattle.std.specs.Prelude.{◌≡◌, ◌<◌, List, [], ◌∷◌, ◌++◌, length, sum_by, slice_get, Some, None};
 ghost use Rattle.std.specs.Prelude.{IfOk, OnOk};
 ghost use Rattle.rt_app.specs.BodyCost.{size_measure, cost_of, dispatcher_size, timer_size};
 ghost use Rattle.rt_app.specs.Level.{levels};

@@ -1,6 +1,6 @@
 -- Code that stands, step by step; it stands before further code, and with more steps than it needs.
 use Rattle.std.proofs.Common.{◌≡◌, ℕ, zero, suc, ◌-◌, ◌<◌, ◌≤◌, List, [], ◌∷◌, ◌++◌, map, drop, slice_get, Option, Some}
-use Rattle.std.proofs.Common.{None, refl, ap, subst, sym, arith}
+use Rattle.std.proofs.Common.{None, refl, subst, sym, arith}
 use Rattle.std.proofs.lemmas.Option.{none-some}
 use Rattle.std.specs.List.{AllByRecursion}
 use Rattle.rt_ids.specs.Storage.{Storage, Runner}
@@ -35,17 +35,6 @@ module _ (st : Storage) (code : List (Instr × Option Note)) (bodies : List Body
   pub stands_none : (s : Configuration) → Stands st code bodies thread who 0 s → ⊥
   unfolding Stands
   stands_none s stands = stands
-
--- a line with a weaker wish for what comes later
-pub line_weaker : (st : Storage) (code : List (Instr × Option Note)) (bodies : List BodyRow) (thread : ℕ) (who : Runner)
-    (later other : Configuration → Type 0)
-    → ((s : Configuration) → later s → other s) → (line : Option (Instr × Option Note)) (s : Configuration)
-    → LineFits st code bodies thread who line s later → LineFits st code bodies thread who line s other
-line_weaker st code bodies thread who later other weaker line s fits =
-    line_later st bodies who (λ ls ms. ls ≡ ms)
-    (record { more = λ n ls ms e. ap (λ l. n ∷ l) e; fewer = λ ls ms e. ap (drop 1) e }) later other
-    (λ s lefts e h. subst (λ l. other (record s { lefts = l })) e (weaker s h)) code code thread line s s.lefts refl
-    fits
 
 -- what is at least as great
 pub least_more : (n : ℕ) (ls ms : List ℕ) → AreAtLeast ls ms → AreAtLeast (n ∷ ls) (n ∷ ms)

@@ -1,5 +1,5 @@
 // The frame of a called body at the end of a region, above that of the handler that calls it.
-ghost use Rattle.std.specs.Prelude.{◌≡◌, ℕ, ◌+◌, ◌-◌, ◌<◌, ◌≤◌, ◌==◌, ◌||◌, nat_le, List, ◌++◌, length, replicate};
+ghost use Rattle.std.specs.Prelude.{◌≡◌, ◌+◌, ◌-◌, ◌<◌, ◌≤◌, ◌==◌, ◌||◌, nat_le, ◌++◌, length, replicate};
 ghost use Rattle.std.specs.Prelude.{take, drop, slice_set};
 ghost use Rattle.rt_stack.specs.Region.{Fits, used_words, top, below};
 ghost use Rattle.rt_context.specs.declared.sizes.TheConstants.{STACK_WORDS};

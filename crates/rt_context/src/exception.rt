@@ -1,5 +1,5 @@
 // The architecture's frame at the end of a region.
-ghost use Rattle.std.specs.Prelude.{◌≡◌, ◌+◌, ◌≤◌, ◌++◌, None, replicate, slice_index};
+ghost use Rattle.std.specs.Prelude.{◌≡◌, ◌+◌, ◌≤◌, ◌++◌, None, slice_index};
 ghost use Rattle.rt_ids.specs.declared.exception.TheConstants.{BASIC_FRAME_WORDS};
 ghost use Rattle.rt_stack.specs.Region.{Fits, used_words, top, region_after_pop};
 ghost use Rattle.rt_context.specs.Frames.{Saved, exception_frame};

@@ -1,5 +1,5 @@
 -- Calls of bodies on the frames are calls of bodies on the core.
-use Rattle.std.proofs.Common.{◌≡◌, ℕ, ◌+◌, ◌/◌, ◌&&◌, Bool, true, false, not, nat_le, if◌then◌else◌, List, [], ◌∷◌}
+use Rattle.std.proofs.Common.{◌≡◌, ℕ, ◌+◌, ◌/◌, ◌&&◌, Bool, true, not, nat_le, if◌then◌else◌, List, [], ◌∷◌}
 use Rattle.std.proofs.Common.{is_none, Some, None, slice_get, refl, sym, ap, ◌∙◌}
 use Rattle.rt_ids.specs.Lists.{is_empty}
 use Rattle.rt_code.specs.Image.{Image}
@@ -40,17 +40,3 @@ call_is img c f row from body is may found =
     (sym (may_alike img c) ∙ ap moves.may_call (sym is) ∙ may)
     ∙ ap (λ o. transfer.call_row img c o from) found
     ∙ ap (outcome_of c body from) (sym (fits_alike img c body from) ∙ ap (λ g. moves.call_fits g body from) (sym is))
-
-pub no_call : (img : Image) (c : Core) (f : Frames) (row from : ℕ) → f ≡ frames_of img c → moves.may_call f ≡ false
-    → transfer.call img c row from ≡ Trapped c trap.Stack
-no_call img c f row from is may =
-    ap (λ b. if b then transfer.call_row img c (slice_get img.bodies row) from else Trapped c trap.Stack)
-    (sym (may_alike img c) ∙ ap moves.may_call (sym is) ∙ may)
-
-pub no_row : (img : Image) (c : Core) (f : Frames) (row from : ℕ) → f ≡ frames_of img c → moves.may_call f ≡ true
-    → slice_get img.bodies row ≡ None
-    → transfer.call img c row from ≡ Trapped c trap.Jump
-no_row img c f row from is may found =
-    ap (λ b. if b then transfer.call_row img c (slice_get img.bodies row) from else Trapped c trap.Stack)
-    (sym (may_alike img c) ∙ ap moves.may_call (sym is) ∙ may)
-    ∙ ap (λ o. transfer.call_row img c o from) found

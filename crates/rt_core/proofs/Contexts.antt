@@ -3,13 +3,11 @@ use Rattle.std.proofs.Common.{◌≡◌, ℕ, ◌+◌, ◌*◌, List, [], ◌∷
 use Rattle.std.proofs.Common.{refl, sym, ap, ◌∙◌, arith}
 use Rattle.std.proofs.lemmas.List.Sums.{sum_by-cons}
 use Rattle.rt_code.specs.Image.{Image, entry_words}
-use Rattle.rt_context.specs.Frames.{Saved, Frames}
+use Rattle.rt_context.specs.Frames.{Saved}
 use Rattle.rt_code.specs.Stack.{words_of}
 use Rattle.rt_context.specs.Frames as frame
-use Rattle.rt_nvic.specs.Nvic.{Nvic, value_of_first}
 use Rattle.rt_core.specs.Core.{Context, Core, context_words, stack_in_use, depth, saved_contexts, exception_number}
 use Rattle.rt_core.specs.Core.{frames_of}
-use Rattle.rt_core.specs.Priority.{running_value}
 use Rattle.rt_core.specs.Inside.Parts.{contexts}
 
 -- the contexts take as many words as the frames
@@ -45,10 +43,3 @@ pub number_of_some : (priorities : List (Option ℕ)) (active : List ℕ) (below
 number_of_some priorities [] below irq long h = cc
 number_of_some priorities (i ∷ active) [] irq long h = absurd (omega (arith, long))
 number_of_some priorities (i ∷ active) (s ∷ below) irq long h = ap (λ o. 16 + unwrap_or o 0) h
-
--- the value of the handler that runs
-pub running_is : (n : Nvic) (active : List ℕ) (below : List Saved) → length active ≡ length below
-    → value_of_first n active ≡ running_value (contexts n.priorities active below)
-running_is n [] below long = refl
-running_is n (i ∷ active) [] long = absurd (omega (arith, long))
-running_is n (i ∷ active) (s ∷ below) long = refl

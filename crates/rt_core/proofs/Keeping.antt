@@ -1,8 +1,8 @@
 -- What each outcome keeps: the time, and the cells but for what an instruction stores; and its item is none of an
 -- arrival or a tick.
-use Rattle.std.proofs.Common.{◌≡◌, ℕ, suc, ◌+◌, Bool, true, false, if◌then◌else◌, List, [], ◌∷◌, map, Option, Some}
+use Rattle.std.proofs.Common.{◌≡◌, ℕ, suc, ◌+◌, Bool, true, false, if◌then◌else◌, List, [], ◌∷◌, Option, Some}
 use Rattle.std.proofs.Common.{None, slice_get, option_map, nat_le, refl, ◌∙◌, ap}
-use Rattle.rt_ids.specs.Event.{Arrive, Tick}
+use Rattle.rt_ids.specs.Event.{Tick}
 use Rattle.rt_ids.specs.Lists.{then_from}
 use Rattle.rt_code.specs.Image.{Image, entry_words}
 use Rattle.rt_code.specs.Effect.{effect}
@@ -30,7 +30,7 @@ use Rattle.rt_core.specs.Note.{item_of_note, slots_from}
 use Rattle.rt_code.specs.Tables.{argument_count}
 use Rattle.rt_core.specs.Stepping as stepping
 use Rattle.rt_core.specs.Transfer as transfer
-use Rattle.rt_core.specs.Trace.{ring, happen, core_after}
+use Rattle.rt_core.specs.Trace.{ring, happen}
 use Rattle.rt_core.proofs.Happening.{step_by, step_is}
 
 -- an item of a step
@@ -198,12 +198,6 @@ step_by_is_own img c false =
 pub step_is_own : (img : Image) (c : Core) → IsOwn (stepping.step img c).1
 unfolding stepping.step
 step_is_own img c = step_by_is_own img c c.stopped
-
--- time rises by ticks alone
-pub arrivals_keep_time : (img : Image) (c : Core) (irqs : List ℕ) → (core_after img c (map Arrive irqs)).time ≡ c.time
-unfolding core_after happen
-arrivals_keep_time img c [] = refl
-arrivals_keep_time img c (irq ∷ irqs) = arrivals_keep_time img (transfer.core_after_pend c irq) irqs
 
 time-ring : (c : Core) (alarm : Option Alarm) → (ring c alarm).0.time ≡ c.time
 time-ring c None = refl

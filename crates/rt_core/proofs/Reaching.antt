@@ -112,14 +112,6 @@ completed now mid d shown begun came address begins rest there ends =
     ∙ ap (λ a. settle (outcome_of_rest mid.image mid.core a begun came)) (sym there)
     ∙ ends
 
--- only the core changed, and then only the core
-pub core_alone : (old now mid new : Machine) → now ≡ record old { core = now.core } → mid
-    ≡ record now { core = mid.core } → new ≡ record mid { core = new.core }
-    → new ≡ record old { core = new.core }
-core_alone old now mid new first second third =
-    third ∙ ap (λ (m : Machine). record m { core = new.core })
-    (second ∙ ap (λ (m : Machine). record m { core = mid.core }) first)
-
 -- what the first of labels shows
 abbrev first_shown : List Label → Option What
 first_shown (Stepped shown ∷ ls) = shown

@@ -9,10 +9,9 @@ use Rattle.rt_core.specs.Core.{reset}
 use Rattle.rt_core.specs.Machine.{Machine, IsFresh}
 use Rattle.rt_core.specs.Reaching.{StepsToItem}
 use Rattle.rt_core.specs.Trace.{happen, labels, trace}
-use Rattle.rt_script.specs.Script.{events, line_events, count_of}
+use Rattle.rt_script.specs.Script.{events, line_events}
 use Rattle.rt_script.specs.declared.line.Line.{Line}
-use Rattle.rt_script.specs.declared.line.Line.TheVariants.{Steps, Ticks, Pends, Device}
-use Rattle.rt_trace.specs.Label.{Ticked, Rang, Stepped, items_of}
+use Rattle.rt_trace.specs.Label.{Ticked, Rang, items_of}
 use Rattle.rt_trace.specs.declared.item.Item.{Item}
 use Rattle.rt_trace.specs.declared.item.What.{What}
 use Rattle.rt_run.specs.Done.{Leads}

@@ -1,7 +1,7 @@
 -- What a device does, part after part.
 use Rattle.std.proofs.Common.{◌≡◌, ℕ, ◌+◌, ◌<◌, ◌≤◌, List, [], ◌∷◌, ◌++◌, length, take, drop, map, replicate, get_or}
 use Rattle.std.proofs.Common.{Option, Some, refl, ap, sym, subst, ◌∙◌, append_assoc, arith}
-use Rattle.std.proofs.lemmas.List.{append-nil, map-append, length-map, length-append, length-replicate}
+use Rattle.std.proofs.lemmas.List.{map-append, length-map, length-append, length-replicate}
 use Rattle.std.proofs.lemmas.List.{take-append-drop, replicate-append-replicate}
 use Rattle.std.proofs.lemmas.Grind.{flat_map-append}
 use Rattle.rt_lemmas.proofs.Lists.{flat_map_next}
@@ -12,13 +12,6 @@ use Rattle.rt_words.specs.Lines.{Line}
 use Rattle.rt_words.specs.Row.{bit_in_row}
 use Rattle.rt_devices.specs.declared.device.Device.{Device}
 use Rattle.rt_devices.specs.Work.{requests, interrupt_asked, Works}
-
-pub works_none : (a : Device) → Works [] a a
-works_none a = record {
-  calls = [];
-  asked = refl;
-  same = ap (λ (cs : List Call). record a { line = record a.line { calls = cs } }) (sym (append-nil a.line.calls));
-}
 
 -- one pend
 pub works_one : (a : Device) (line : Line) (irq : ℕ) (answer : Pended)

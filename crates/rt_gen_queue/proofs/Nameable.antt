@@ -1,8 +1,8 @@
 -- What has to be known of lines for them to name only what is declared.
-use Rattle.rt_gen_queue.proofs.Vocabulary.{AllByRecursion, App, Bool, HasIrq, Instr, IsNameable, IsSome, Line, List}
-use Rattle.rt_gen_queue.proofs.Vocabulary.{Names, None, Note, Option, Some, [], ap, drop, drop_at, eq-eqb, false}
-use Rattle.rt_gen_queue.proofs.Vocabulary.{if◌then◌else◌, irq_number, length, map, mapped_at, names_of, option_map}
-use Rattle.rt_gen_queue.proofs.Vocabulary.{or_zero, refl, subst, sym, true, ℕ, ◌++◌, ◌<◌, ◌==◌, ◌∙◌, ◌∷◌, ◌≡◌}
+use Rattle.rt_gen_queue.proofs.Vocabulary.{AllByRecursion, App, HasIrq, Instr, IsNameable, IsSome, Line, List}
+use Rattle.rt_gen_queue.proofs.Vocabulary.{Names, None, Note, Option, Some, [], ap, drop, drop_at, eq-eqb}
+use Rattle.rt_gen_queue.proofs.Vocabulary.{irq_number, length, map, mapped_at, names_of, option_map}
+use Rattle.rt_gen_queue.proofs.Vocabulary.{or_zero, refl, subst, sym, ℕ, ◌++◌, ◌<◌, ◌==◌, ◌∙◌, ◌∷◌, ◌≡◌}
 use Rattle.rt_lemmas.proofs.Lists.{found, some_at}
 use Rattle.rt_app.specs.declared.app.IrqDecl.{IrqDecl}
 use Rattle.rt_code.specs.declared.instr.Instr.TheVariants as instr
@@ -56,12 +56,6 @@ named_behind names front new code is claimed =
     subst (AllByRecursion (IsNameable names))
     (sym (ap (drop (length front)) is ∙ drop_at front code (length front) refl))
     (nameable names code claimed)
-
--- lines that stand where a test passes
-pub claimed_if : (names : Names) (b : Bool) (lines : List Line) → (b ≡ true → AreClaimed names lines)
-    → AreClaimed names (if b then lines else [])
-claimed_if names true lines claimed = claimed refl
-claimed_if names false lines claimed = tt
 
 -- the number of a declared interrupt stands in the names
 pub irq_declared : (app : App) (i : ℕ) → i < length app.irqs → HasIrq (names_of app) (or_zero (irq_number app i))

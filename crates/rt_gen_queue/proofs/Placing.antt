@@ -35,9 +35,6 @@ code_there [] lines behind = code_first lines behind
 code_there (line ∷ front) lines behind =
     code_later line (front ++ (lines ++ behind)) (length front) lines (code_there front lines behind)
 
-pub stores_long : (count cell slot from : ℕ) → length (store_code count cell slot from) ≡ count
-stores_long count cell slot from = length-map-range_with_len _ from count
-
 pub fill_long : (app : App) (task slot : ℕ) → length (fill_code app task slot) ≡ 4 + arguments_of app task
 fill_long app task slot = simp (length-append, length-map-range_with_len) (omega arith)
 

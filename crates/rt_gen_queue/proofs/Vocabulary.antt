@@ -6,9 +6,9 @@ pub use Rattle.std.proofs.Common.{Bool, Contains, IfSome, IsSome, List, None, On
 pub use Rattle.std.proofs.Common.{append_assoc, arith, bit_and, bit_or, cond, drop, drop-cons, eq-eqb, false, filter}
 pub use Rattle.std.proofs.Common.{find, flat_map, get_or, get_or-set_other, get_or-set_same, if◌then◌else◌, inl, inr}
 pub use Rattle.std.proofs.Common.{is_some, length, length-append, length-set, map, max, min, nat_le, nat_lt, not}
-pub use Rattle.std.proofs.Common.{option_map, position, refl, replicate, rules, slice_get, slice_index, slice_set}
-pub use Rattle.std.proofs.Common.{subst, suc, sum_by, sym, take, true, true≢false, zero, zero-add, ℕ, ◌%◌, ◌&&◌, ◌*◌}
-pub use Rattle.std.proofs.Common.{◌++◌, ◌+◌, ◌-◌, ◌/◌, ◌<◌, ◌==◌, ◌^◌, ◌||◌, ◌∙◌, ◌∷◌, ◌≡◌, ◌≢◌, ◌≤◌, ◌⊎◌}
+pub use Rattle.std.proofs.Common.{option_map, position, refl, replicate, slice_get, slice_index, slice_set}
+pub use Rattle.std.proofs.Common.{subst, suc, sum_by, sym, take, true, zero, zero-add, ℕ, ◌%◌, ◌&&◌, ◌*◌}
+pub use Rattle.std.proofs.Common.{◌++◌, ◌+◌, ◌-◌, ◌<◌, ◌==◌, ◌^◌, ◌||◌, ◌∙◌, ◌∷◌, ◌≡◌, ◌≢◌, ◌≤◌, ◌⊎◌}
 pub use Rattle.std.specs.List.{AllByRecursion, list_any, range_with_len}
 -- lemmas on them
 pub use Rattle.std.proofs.lemmas.Bool.{cases_eq, cases_lt, eqb-true, false_from_ne_true, false≢true, le-leb, le-ltb}

@@ -9,7 +9,6 @@ ghost use Rattle.rt_app.specs.Level.{is_software, is_armed};
 ghost use Rattle.rt_app.specs.Names.{names_of};
 ghost use Rattle.rt_app.specs.Plan.{IsPlan};
 ghost use Rattle.rt_app.specs.View.{app_of, task_of};
-ghost use Rattle.rt_app.specs.declared.costs.TheConstants.{TIMER_QUEUE_WORDS};
 ghost use Rattle.rt_gen_queue.specs.Line.{IsNameable};
 ghost use Rattle.rt_gen_queue.specs.Making.{next_address, Appends};
 ghost use Rattle.rt_gen_timer.specs.TimerLines as lines;

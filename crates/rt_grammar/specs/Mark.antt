@@ -1,6 +1,6 @@
 -- The marks of a text of the grammar: its tokens, each with the limit that it passes, if it passes one; and the end
 -- of each whole expression, where its depth is judged.
-use Rattle.std.specs.Prelude.{◌≡◌, ℕ, Bool, List, [], ◌∷◌, Option, None, Some}
+use Rattle.std.specs.Prelude.{◌≡◌, ℕ, Bool, Option, None, Some}
 use Rattle.rt_ids.specs.declared.limit.Limit.{Limit}
 use Rattle.rt_ids.specs.declared.limit.Limit.TheVariants as limit
 use Rattle.rt_lex.specs.Token.{Token}
@@ -10,12 +10,6 @@ pub data Mark : Type 0 where
   Takes : Token → Option Limit → Mark
   -- whether the expression is a comparison, and the offset of its first token where it is too deep
   Ends : Bool → Option ℕ → Mark
-
--- the tokens of a text
-abbrev pub tokens_of : List Mark → List Token
-tokens_of [] = []
-tokens_of (Takes t limit ∷ marks) = t ∷ tokens_of marks
-tokens_of (Ends compares deep ∷ marks) = tokens_of marks
 
 -- the limit that is passed here, with the offset that it is refused at: the token's, or the expression's first token's
 abbrev pub limit_of : Mark → Option (ℕ × Limit)

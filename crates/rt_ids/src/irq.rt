@@ -1,4 +1,4 @@
-ghost use Rattle.std.specs.Prelude.{◌≡◌, ◌<◌, ◌≤◌, IfSome, IsSome, ◌↔◌};
+ghost use Rattle.std.specs.Prelude.{◌≡◌, ◌<◌, IfSome, IsSome, ◌↔◌};
 ghost use Rattle.rt_ids.specs.declared.limits.TheConstants.{IRQ_NUMBERS};
 
 use crate::limits::IRQ_NUMBERS;

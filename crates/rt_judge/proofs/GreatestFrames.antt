@@ -10,19 +10,6 @@ use Rattle.rt_code.specs.Image.{Image, entry_words}
 use Rattle.rt_points.specs.Stack.{handlers, bytes_of, bytes_below, frames_at}
 use Rattle.rt_judge.specs.Inside.Greatest.{frame_of_value, frame_at, greater, greatest_frame}
 
-max_assoc : (a b c : ℕ) → max (max a b) c ≡ max a (max b c)
-max_assoc a b c = omega arith
-
-pub greater_assoc : (x y z : Option ℕ) → greater (greater x y) z ≡ greater x (greater y z)
-greater_assoc None y z = refl
-greater_assoc (Some a) None z = refl
-greater_assoc (Some a) (Some b) None = refl
-greater_assoc (Some a) (Some b) (Some c) = ap Some (max_assoc a b c)
-
-pub greater_none : (x : Option ℕ) → greater x None ≡ x
-greater_none None = refl
-greater_none (Some a) = refl
-
 abbrev pub frames : ℕ → List IrqRow → List ℕ
 frames value irqs = map (λ (h : Handler). h.frame) (filter (λ (h : Handler). h.value == value) (handlers irqs))
 

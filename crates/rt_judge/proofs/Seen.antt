@@ -1,6 +1,5 @@
 -- Points that were looked at, with one more.
 use Rattle.std.proofs.Common.{◌≡◌, ◌↔◌, ◌&&◌, Bool, true, IsTrue, zero, suc, List, [], ◌∷◌, ◌++◌}
-use Rattle.std.proofs.Common.{map}
 use Rattle.std.proofs.Common.{Some, ap, subst, inl, inr}
 use Rattle.std.specs.List.{AllByRecursion, list_any}
 use Rattle.std.proofs.lemmas.Option.{same_Some, none-some}
@@ -22,11 +21,6 @@ all_front P (y ∷ xs) x all = (all.0, all_front P xs x all.1)
 pub all_last : {A : Type 0} (P : A → Type 0) (xs : List A) (x : A) → AllByRecursion P (xs ++ x ∷ []) → P x
 all_last P [] x all = all.0
 all_last P (y ∷ xs) x all = all_last P xs x all.1
-
-pub all_map : {A B : Type 0} (P : B → Type 0) (f : A → B) (xs : List A) → AllByRecursion (λ x. P (f x)) xs
-    → AllByRecursion P (map f xs)
-all_map P f [] all = tt
-all_map P f (x ∷ xs) all = (all.0, all_map P f xs all.1)
 
 -- a test of all points so far, and one of the next
 pub tells_more : (b r : Bool) (P : Point → Type 0) (ps : List Point) (p : Point) → TellsOfAll b P ps → IsTrue r ↔ P p

@@ -1,4 +1,4 @@
-ghost use Rattle.std.specs.Prelude.{◌≡◌, ◌≤◌};
+ghost use Rattle.std.specs.Prelude.{◌≡◌};
 ghost use Rattle.rt_ids.specs.declared.limits.TheConstants.{THREAD_VALUE};
 ghost use Rattle.rt_points.specs.Leading.{handler_at};
 ghost use Rattle.rt_points.specs.ExecutionPriority.{owner_value, frame_of, lowered_value, execution_priority};

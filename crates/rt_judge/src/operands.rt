@@ -1,4 +1,4 @@
-ghost use Rattle.std.specs.Prelude.{◌≡◌, ◌<◌, ◌↔◌, ℕ, IsTrue, length, option_map};
+ghost use Rattle.std.specs.Prelude.{◌≡◌, ◌<◌, ◌↔◌, ℕ, IsTrue, option_map};
 ghost use Rattle.std.specs.List.{AllByRecursion};
 ghost use Rattle.rt_code.specs.Access.{cell_of};
 ghost use Rattle.rt_code.specs.Operands.{slots_of};

@@ -149,15 +149,6 @@ module _ (app : App) where
   runs_append [] behind s runs more = more
   runs_append (label ∷ before) behind s runs more = (runs.0, runs_append before behind (after app s label) runs.1 more)
 
-  pub runs_front : (front behind : List Label) (s : State) → RunsOn app s (front ++ behind) → RunsOn app s front
-  runs_front [] behind s runs = tt
-  runs_front (label ∷ front) behind s runs = (runs.0, runs_front front behind (after app s label) runs.1)
-
-  pub runs_behind : (front behind : List Label) (s : State) → RunsOn app s (front ++ behind)
-      → RunsOn app (after_all app s front) behind
-  runs_behind [] behind s runs = runs
-  runs_behind (label ∷ front) behind s runs = runs_behind front behind (after app s label) runs.1
-
   pub after_append : (before behind : List Label) (s : State)
       → after_all app s (before ++ behind) ≡ after_all app (after_all app s before) behind
   after_append [] behind s = refl

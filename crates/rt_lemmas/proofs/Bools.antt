@@ -74,10 +74,6 @@ pub or_true : (b : Bool) → b || true ≡ true
 or_true true = refl
 or_true false = refl
 
-pub true_right : (a b : Bool) → IsTrue b → IsTrue (a || b)
-true_right true b h = refl
-true_right false b h = h
-
 pub both_true : (a b : Bool) → IsTrue (a && b) → IsTrue a × IsTrue b
 both_true true b h = (refl, h)
 both_true false b h = cc

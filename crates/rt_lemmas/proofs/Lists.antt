@@ -3,12 +3,11 @@ use Rattle.std.proofs.Common.{ℕ, ◌+◌, ◌≡◌, ◌==◌, ◌≤◌, Bool
 use Rattle.std.proofs.Common.{Some, None, refl, sym, ap, ◌∙◌, subst, arith, zero, suc, ◌<◌, ◌++◌, get_or, drop}
 use Rattle.std.proofs.Common.{flat_map, append-nil, find, take, add-one, if◌then◌else◌, nat_lt, position, IfSome}
 use Rattle.std.proofs.Common.{reverse, length-take, IsSome}
-use Rattle.std.specs.List.{AllByRecursion, list_any, list_all, position_or_len, slice_get}
-use Rattle.std.proofs.lemmas.Bool.Decides.{Decides-and, nat_tests}
-use Rattle.std.proofs.lemmas.List.{at_drop_more, length-drop, drop-drop, take_more, reverse-append, map_push}
+use Rattle.std.specs.List.{AllByRecursion, list_any, position_or_len, slice_get}
+use Rattle.std.proofs.lemmas.Bool.Decides.{nat_tests}
+use Rattle.std.proofs.lemmas.List.{length-drop, drop-drop, take_more, reverse-append, map_push}
 use Rattle.std.proofs.lemmas.List.{take-append-le, drop-append-le}
 use Rattle.std.proofs.lemmas.List.Sums.{position_or_len_is}
-use Rattle.std.specs.Bool.{Decides}
 use Rattle.std.specs.Option.{option_map}
 use Rattle.std.proofs.Math.Seq.{drop-cons}
 use Rattle.std.proofs.lemmas.List.Folds.{list_any-append}
@@ -49,21 +48,6 @@ pub all_both : {A : Type 0} (P Q : A → Type 0) (xs : List A) → AllByRecursio
     → AllByRecursion (λ x. P x × Q x) xs
 all_both P Q [] p q = tt
 all_both P Q (x ∷ xs) p q = ((p.0, q.0), all_both P Q xs p.1 q.1)
-
--- what holds of all that are left holds of the first of them and of the others
-pub all_left : {X : Type 0} (P : X → Type 0) (xs : List X) (i : ℕ) (x : X) → i < length xs → x ≡ get_or xs i x
-    → AllByRecursion P (drop i xs)
-    → P x × AllByRecursion P (drop (i + 1) xs)
-all_left P xs i x within at all =
-    subst (λ y. P y × AllByRecursion P (drop (i + 1) xs)) (sym at)
-    (subst (λ ys. AllByRecursion P ys) (at_drop_more (λ ys. ys) xs i x within) all)
-
-pub all_decides : {X Y : Type 0} (view : X → Y) (P : Y → Type 0) (test : X → Bool)
-    → ((x : X) → Decides (test x) (P (view x))) → (xs : List X)
-    → Decides (list_all test xs) (AllByRecursion P (map view xs))
-all_decides view P test each [] = (λ _. tt, λ _. refl)
-all_decides view P test each (x ∷ xs) = Decides-and (test x) (list_all test xs) (each x)
-    (all_decides view P test each xs)
 
 pub all_from_indices : {X : Type 0} (P : X → Type 0) (xs : List X)
     → ((k : ℕ) (d : X) → k < length xs → P (get_or xs k d)) → AllByRecursion P xs
@@ -160,14 +144,6 @@ pub map_next : {X Y : Type 0} (f : X → Y) (xs : List X) (i : ℕ) (x : X) → 
     → map f (take (i + 1) xs) ≡ map f (take i xs) ++ f x ∷ []
 map_next f xs i x within is = ap (map f) (take_more xs i x within)
     ∙ (map_push f (take i xs) (get_or xs i x) ∙ ap (λ y. map f (take i xs) ++ f y ∷ []) (sym is))
-
-pub find-map : {X Y : Type 0} (view : X → Y) (test : Y → Bool) (xs : List X) → find test (map view xs)
-    ≡ option_map view (find (λ x. test (view x)) xs)
-find-map view test [] = refl
-find-map view test (x ∷ xs) =
-    elim (test (view x)) as (λ b. cond b (Some (view x)) (find test (map view xs))
-    ≡ option_map view (cond b (Some x) (find (λ x. test (view x)) xs)))
-    [ true ↦ refl | false ↦ find-map view test xs ]
 
 -- what holds of all holds of the one that is found
 pub find_has : {A : Type 0} (P : A → Type 0) (test : A → Bool) (xs : List A) (y : A) → AllByRecursion P xs

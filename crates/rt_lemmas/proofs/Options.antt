@@ -1,16 +1,11 @@
 -- On what may not be there.
-use Rattle.std.proofs.Common.{◌≡◌, Bor, Option, Some, None, IfNone, IfSome, Bool, true, false, cond, option_map, refl}
+use Rattle.std.proofs.Common.{◌≡◌, Bor, Option, Some, None, IfSome, Bool, true, false, option_map, refl}
 use Rattle.std.proofs.Common.{if◌then◌else◌}
-use Rattle.std.specs.Option.{option_or, unwrap_or, is_none}
-use Rattle.std.proofs.lemmas.Option.{none-some}
+use Rattle.std.specs.Option.{option_or, unwrap_or}
 
 pub if_some_weaker : {A : Type 0} {P Q : A → Type 0} (o : Option A) → ((x : A) → P x → Q x) → IfSome o P → IfSome o Q
 if_some_weaker None f p = p
 if_some_weaker (Some x) f p = f x p
-
-pub if_none_weaker : {A P Q : Type 0} (o : Option A) → (P → Q) → IfNone o P → IfNone o Q
-if_none_weaker None f p = f p
-if_none_weaker (Some x) f p = p
 
 pub if_some_either : {X : Type 0} (P : X → Type 0) (first second : Option X) → IfSome first P → IfSome second P
     → IfSome (option_or first second) P
@@ -26,16 +21,8 @@ pub some_when : {A : Type 0} (b : Bool) (x y : A) → (if b then Some x else Non
 some_when true x y e = refl
 some_when false x y e = absurd cc
 
-pub some_of_cond : {A : Type 0} (b : Bool) (o : Option A) (x : A) → cond b o None ≡ Some x → o ≡ Some x
-some_of_cond true o x e = e
-some_of_cond false o x e = absurd (none-some x e)
-
 -- what is read behind a reference that may not be there, and else behind another
 pub unwrap_or-now : {X : Type 0} (o : Option (Bor X)) (other : Bor X) → (unwrap_or o other).now
     ≡ unwrap_or (option_map (λ x. x.now) o) other.now
 unwrap_or-now None other = refl
 unwrap_or-now (Some x) other = refl
-
-pub none_is : {A B : Type 0} (f : A → B) (x : Option A) → option_map f x ≡ None → is_none x ≡ true
-none_is f None e = refl
-none_is f (Some x) e = absurd cc

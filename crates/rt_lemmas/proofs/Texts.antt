@@ -3,21 +3,10 @@ use Rattle.std.proofs.Common.{◌≡◌, ℕ, true, List, [], refl, sym, subst, 
 use Rattle.std.specs.Prelude.{bytes_eq}
 use Rattle.std.proofs.lemmas.Slice.Eq.{bytes_eq-Decides}
 use Rattle.std.specs.List.{list_any, AllByRecursion}
-use Rattle.std.proofs.lemmas.Bool.Decides.{same_from_decides}
 use Rattle.rt_lemmas.proofs.Bools.{or_cases}
 
 pub same_text : (text : List ℕ) → bytes_eq text text ≡ true
 same_text text = (bytes_eq-Decides text text).1 refl
-
-pub bytes_eq_swaps : (xs ys : List ℕ) → bytes_eq xs ys ≡ bytes_eq ys xs
-bytes_eq_swaps xs ys = same_from_decides (bytes_eq xs ys) (bytes_eq ys xs) (bytes_eq-Decides xs ys)
-    (λ e. sym ((bytes_eq-Decides ys xs).0 e), λ e. (bytes_eq-Decides ys xs).1 (sym e))
-
--- a search among texts, with the two sides of each comparison exchanged
-pub any_text_swaps : (text : List ℕ) (texts : List (List ℕ)) → list_any (λ w. bytes_eq w text) texts
-    ≡ list_any (λ w. bytes_eq text w) texts
-any_text_swaps text [] = refl
-any_text_swaps text (w ∷ texts) = rw (bytes_eq_swaps w text, any_text_swaps text texts) refl
 
 -- a text that is one of these has what they have
 pub any_text_is : (P : List ℕ → Type 0) (text : List ℕ) (signs : List (List ℕ)) → AllByRecursion P signs

@@ -151,16 +151,6 @@ module _ {S W : Type 0} (reader : Reader S W) where
     either = either;
   }
 
-  -- in front of the first line
-  pub begun : (text : List ℕ) → Progress reader text text 0 reader.start
-  begun text = record {
-    before = [];
-    parts = refl;
-    number_is = refl;
-    lead = refl;
-    room = omega arith;
-  }
-
   -- a line more
   pub line_more : (text rest behind line : List ℕ) (number : ℕ) (s t : S) → Progress reader text rest number s
       → reader.lines rest ≡ line ∷ reader.lines behind → length behind < length rest → reader.step s line ≡ Ok t

@@ -1,5 +1,4 @@
 ghost use Rattle.std.specs.Prelude.{◌≡◌};
-ghost use Rattle.rt_lines.specs.Answers.{and_make};
 ghost use Rattle.rt_lines.specs.Parts.{words_of};
 ghost use Rattle.rt_lines.specs.Table as spec;
 

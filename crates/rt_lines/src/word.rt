@@ -1,6 +1,4 @@
-ghost use Rattle.std.specs.Prelude.{◌≡◌, ◌≤◌, ◌<◌, ◌≢◌, ◌∷◌, [], length, slice_index, MatchOption};
-ghost use Rattle.std.specs.List.{list_all};
-ghost use Rattle.rt_ids.specs.Byte as byte;
+ghost use Rattle.std.specs.Prelude.{◌≡◌, ◌<◌, ◌≢◌, ◌∷◌, [], length, slice_index, MatchOption};
 ghost use Rattle.rt_ids.specs.Word as words;
 ghost use Rattle.rt_lines.specs.Parts.{spaced_words};
 

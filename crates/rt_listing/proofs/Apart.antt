@@ -9,12 +9,9 @@ use Rattle.std.proofs.lemmas.Slice.Eq.{bytes_eq-Decides}
 use Rattle.rt_lemmas.proofs.Lists.{all_both, all_map}
 use Rattle.rt_lemmas.proofs.Membership.{all_weaker}
 use Rattle.rt_ids.specs.Names.{Names}
-use Rattle.rt_ids.specs.declared.cell.CellRow.{CellRow}
 use Rattle.rt_code.specs.Image.{Image}
 use Rattle.rt_code.specs.Listable.{IsListable, AreWritable, HasTask, HasInstr, HasNote, IsWord, IsPlain, blanks}
-use Rattle.rt_code.specs.declared.image.BodyRow.{BodyRow}
 use Rattle.rt_code.specs.declared.image.Handler.{Handler}
-use Rattle.rt_code.specs.declared.image.IrqRow.{IrqRow}
 use Rattle.rt_code.specs.declared.instr.Instr.{Instr}
 use Rattle.rt_code.specs.declared.instr.Note.{Note}
 use Rattle.rt_lines.specs.Operand.{TaskName}
@@ -23,7 +20,7 @@ use Rattle.rt_lines.specs.Table.{operand_word}
 use Rattle.rt_lines.proofs.Apart.{same_cons, told_apart}
 use Rattle.rt_lines.proofs.Unbroken.{IsUnbroken, fed, lines_fed}
 use Rattle.rt_lines.proofs.Words.{IsFreeOf}
-use Rattle.rt_listing.specs.Listing.{form_word, first_words, handler_words, listing}
+use Rattle.rt_listing.specs.Listing.{form_word, handler_words, listing}
 use Rattle.rt_listing.specs.Numbers.{IsShort, AreShort, handler_numbers, instr_numbers, note_numbers, HasShortNumbers}
 use Rattle.rt_listing.specs.Words.{instr_rows, instr_first, instr_operands, instr_words, note_rows, note_first}
 use Rattle.rt_listing.specs.Words.{note_operands, note_words, noted_words}

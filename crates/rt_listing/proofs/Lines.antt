@@ -1,16 +1,15 @@
 -- A listing is lines of words, and the words are free of spaces and line feeds.
-use Rattle.std.proofs.Common.{◌≡◌, ◌+◌, ◌==◌, ℕ, suc, Bool, true, false, List, [], ◌∷◌, ◌++◌, length, map, flat_map}
+use Rattle.std.proofs.Common.{◌≡◌, ◌+◌, ℕ, suc, Bool, true, false, List, [], ◌∷◌, ◌++◌, length, flat_map}
 use Rattle.std.proofs.Common.{codes}
 use Rattle.std.proofs.Common.{decimal, Contains, Option, Some, None, refl, ap, sym, subst, ◌∙◌, append_assoc}
 use Rattle.std.proofs.Common.{append-nil, ne_eqb, arith}
 use Rattle.std.specs.List.{AllByRecursion}
 use Rattle.std.proofs.lemmas.List.Concat.{flat_map-append}
 use Rattle.rt_lemmas.proofs.Lists.{all_append}
-use Rattle.rt_lemmas.proofs.Membership.{all_weaker}
 use Rattle.rt_ids.specs.Names.{Names}
 use Rattle.rt_ids.specs.declared.cell.CellRow.{CellRow}
 use Rattle.rt_code.specs.Image.{Image}
-use Rattle.rt_code.specs.Listable.{IsWord, IsPlain, AreWritable, blanks}
+use Rattle.rt_code.specs.Listable.{IsWord, blanks}
 use Rattle.rt_code.specs.declared.image.BodyRow.{BodyRow}
 use Rattle.rt_code.specs.declared.image.Handler.{Handler}
 use Rattle.rt_code.specs.declared.image.IrqRow.{IrqRow}
@@ -22,7 +21,7 @@ use Rattle.rt_lines.specs.Table.{spaced_text}
 use Rattle.rt_lines.proofs.Free.{AreFree, value_free, words_free}
 use Rattle.rt_lines.proofs.Unbroken.{IsUnbroken, fed, unbroken_append, spaced_unbroken}
 use Rattle.rt_lines.proofs.Words.{is_word_byte, IsFreeOf, word_free, decimal_bytes, words_spaced}
-use Rattle.rt_listing.specs.Listing.{line, form_word, first_words, cell_words, cell_line, handler_words, irq_words}
+use Rattle.rt_listing.specs.Listing.{form_word, first_words, cell_words, cell_line, handler_words, irq_words}
 use Rattle.rt_listing.specs.Listing.{irq_line, body_words, body_line, code_words, code_line, lines_with_numbers}
 use Rattle.rt_listing.specs.Listing.{listing}
 use Rattle.rt_listing.specs.Words.{noted_words, instr_first, instr_operands, note_first, note_operands}

@@ -1,6 +1,5 @@
 -- The tables of words, and how instructions and notes are written, agree.
-use Rattle.std.proofs.Common.{◌≡◌, ℕ, true, false, List, [], ◌∷◌, map, Some, refl, rules}
-use Rattle.std.specs.List.{AllByRecursion}
+use Rattle.std.proofs.Common.{◌≡◌, false, Some, refl, rules}
 use Rattle.rt_ids.specs.declared.op.Op.{Op}
 use Rattle.rt_ids.specs.declared.op.Op.TheVariants as op
 use Rattle.rt_code.specs.declared.instr.Instr.{Instr}
@@ -8,9 +7,9 @@ use Rattle.rt_code.specs.declared.instr.Instr.TheVariants as instr
 use Rattle.rt_code.specs.declared.instr.Note.{Note}
 use Rattle.rt_code.specs.declared.instr.Note.TheVariants as note
 use Rattle.rt_lines.specs.Operand.{FirstIrqName, TaskName, BodyName, SectionName}
-use Rattle.rt_lines.specs.Table.{Shape, Alone, One, Two, Three, Operand, Number32, EachSaid, IsSaid, Agree, shape_of}
+use Rattle.rt_lines.specs.Table.{Shape, Alone, One, Two, Three, Number32, IsSaid, Agree, shape_of}
 use Rattle.rt_lines.proofs.Words.{AreWordBytes}
-use Rattle.rt_listing.specs.Words.{op_word, op_row, ops, instr_rows, instr_first, instr_operands, note_rows, note_first}
+use Rattle.rt_listing.specs.Words.{op_word, instr_rows, instr_first, instr_operands, note_rows, note_first}
 use Rattle.rt_listing.specs.Words.{note_operands}
 
 -- whatever is an instruction or a note can be said

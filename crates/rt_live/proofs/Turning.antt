@@ -199,10 +199,6 @@ line_is (Ticks n) = refl
 line_is (Pends irq n) = refl
 line_is (Device d irq n) = refl
 
-pub taken_is : (share : Share) (line : Asked) → takes share line ≡ true
-    → own_line_events share line ≡ replicate (count_of line) (event_of line)
-taken_is share line taken = ap (λ (b : Bool). if b then line_events line else []) taken ∙ line_is line
-
 pub untaken_is : (share : Share) (line : Asked) → takes share line ≡ false → own_line_events share line ≡ []
 untaken_is share line untaken = ap (λ (b : Bool). if b then line_events line else []) untaken
 

@@ -1,5 +1,5 @@
 // One core step, whose line goes out at once and whose item is told.
-ghost use Rattle.std.specs.Prelude.{◌≡◌, ◌+◌, ◌^◌, ◌<◌, [], ◌∷◌, IfOk, OnOk, OnErr};
+ghost use Rattle.std.specs.Prelude.{◌≡◌, ◌^◌, ◌<◌, [], ◌∷◌, IfOk, OnOk, OnErr};
 ghost use Rattle.rt_core.specs.Stepping as stepping;
 ghost use Rattle.rt_ids.specs.Event.{Step};
 ghost use Rattle.rt_outside.specs.Faults.{HasCause};

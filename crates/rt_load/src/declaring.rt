@@ -1,7 +1,4 @@
-ghost use Rattle.std.specs.Prelude.{◌≡◌, ◌<◌, ◌||◌, ◌==◌, None, length, is_none, true};
-ghost use Rattle.std.specs.List.{list_any};
-ghost use Rattle.rt_ids.specs.Names.{irq_of, task_of, resource_of};
-ghost use Rattle.rt_ids.specs.Word.{IsName};
+ghost use Rattle.std.specs.Prelude.{◌≡◌, ◌<◌, ◌||◌, ◌==◌, is_none};
 ghost use Rattle.rt_ids.specs.declared.limits.TheConstants.{IRQS, TASKS, SHARED};
 ghost use Rattle.rt_load.specs.Loadable as loadable;
 ghost use Rattle.rt_load.specs.Inside.Taking as spec;

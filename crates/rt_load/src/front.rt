@@ -1,4 +1,4 @@
-ghost use Rattle.std.specs.Prelude.{◌≡◌, ◌≢◌, ◌<◌, [], ◌∷◌, ◌++◌, true, length, Ok, Err, IfErr, IfOk, OnOk};
+ghost use Rattle.std.specs.Prelude.{◌≡◌, ◌≢◌, ◌<◌, [], ◌∷◌, ◌++◌, true, Ok, Err, IfErr, IfOk, OnOk};
 ghost use Rattle.rt_ids.specs.Names.{with_irq};
 ghost use Rattle.rt_lines.specs.Parts.{words_of};
 ghost use Rattle.rt_load.specs.Inside.Taking as spec;

@@ -1,4 +1,4 @@
-ghost use Rattle.std.specs.Prelude.{◌≡◌, ◌≤◌, ◌^◌, ◌∷◌, [], option_map, bytes_eq, MatchOption};
+ghost use Rattle.std.specs.Prelude.{◌≡◌, ◌^◌, ◌∷◌, [], option_map, MatchOption};
 ghost use Rattle.rt_lines.specs.Parts.{words_of};
 ghost use Rattle.rt_load.specs.Inside.Operand as spec;
 

@@ -1,4 +1,4 @@
-ghost use Rattle.std.specs.Prelude.{◌≡◌, ◌+◌, ◌∷◌, []};
+ghost use Rattle.std.specs.Prelude.{◌≡◌, ◌+◌};
 ghost use Rattle.rt_ids.specs.declared.limits.TheConstants.{ARGUMENTS, IRQ_NUMBERS};
 ghost use Rattle.rt_lines.specs.Parts.{words_of};
 ghost use Rattle.rt_lines.specs.Answers.{and_make};

@@ -1,6 +1,6 @@
 -- A climb over the operators of the language: from a strength on, an operator that comes next is read with its right
 -- side.
-use Rattle.std.proofs.Common.{◌≡◌, ℕ, ◌<◌, ◌≤◌, ◌-◌, true, false, List, [], ◌∷◌, ◌++◌, length, take, drop, Result, Ok}
+use Rattle.std.proofs.Common.{◌≡◌, ℕ, ◌≤◌, ◌-◌, true, false, List, [], ◌∷◌, ◌++◌, length, take, drop, Result, Ok}
 use Rattle.std.proofs.Common.{refl, sym, ap, subst, ◌∙◌, arith}
 use Rattle.std.proofs.lemmas.List.{take-append-drop, drop-drop}
 use Rattle.rt_ids.specs.declared.op.Op.{Op}
@@ -51,10 +51,6 @@ own_first strength.Shift tokens e = refl
 own_first strength.Sum tokens e = refl
 own_first strength.Product tokens e = refl
 own_first strength.Atom tokens e = let none = none_of_atom tokens in absurd cc
-
-pub fewer_above : (o : Op) (s : Strength) (tokens : List Token) → IsAhead o s tokens
-    → length (stronger_than s) < length (strengths_from s)
-fewer_above o s tokens ahead = let e = ap length (own_first s tokens ahead.comes) in omega (arith, e)
 
 behind_weaker : (least s : Strength) → length (strengths_from s) ≤ length (strengths_from least)
     → drop (length (strengths_from least) - length (strengths_from s)) (strengths_from least) ≡ strengths_from s

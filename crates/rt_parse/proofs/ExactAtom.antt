@@ -1,37 +1,30 @@
 -- The readers of atoms and of whole expressions.
-use Rattle.std.proofs.Common.{◌≡◌, ℕ, zero, suc, Bool, true, false, List, [], ◌∷◌, Some, Ok, Err, refl, arith}
-use Rattle.std.specs.Prelude.{◌||◌, nat_lt, nat_le, codes, bytes_eq, if◌then◌else◌}
+use Rattle.std.proofs.Common.{◌≡◌, ℕ, zero, suc, Bool, true, false, List, [], ◌∷◌, Some, refl}
+use Rattle.std.specs.Prelude.{◌||◌, nat_le, codes, bytes_eq}
 use Rattle.rt_lemmas.proofs.Bools.{or_left, or_right, or_neither}
 use Rattle.rt_ids.specs.declared.op.Op.TheVariants as op
 use Rattle.rt_ids.specs.declared.limit.Limit.TheVariants as limit
-use Rattle.rt_ids.specs.declared.limits.TheConstants.{PARENTHESES, DEPTH}
-use Rattle.rt_ids.specs.declared.refusal.Refusal.TheVariants as refusal
+use Rattle.rt_ids.specs.declared.limits.TheConstants.{PARENTHESES}
 use Rattle.rt_lex.specs.declared.token.Kind.{Kind}
 use Rattle.rt_lex.specs.declared.token.Kind.TheVariants as kind
 use Rattle.rt_lex.specs.Token.{Token, is_this_sign, if_sign}
-use Rattle.rt_ast.specs.Tree.{Expression, Num, Read}
+use Rattle.rt_ast.specs.Tree.{Num, Read}
 use Rattle.rt_ast.specs.declared.ident.Ident.{Ident}
 use Rattle.rt_ast.specs.declared.ident.Number.{Number}
 use Rattle.rt_grammar.specs.Language.{Language, gives, ◌>>=◌, ◌or◌}
-use Rattle.rt_grammar.specs.Tokens.{free, limit_if, name, number, sign, sign_of, ident_of, ident_at, number_of}
+use Rattle.rt_grammar.specs.Tokens.{free, limit_if, name, number, sign, ident_at}
 use Rattle.rt_grammar.specs.Tokens.{number_at, name_limit, number_limit}
 use Rattle.rt_grammar.specs.Expression.{Operand, operator, comparisons, strengths, joined_operand, chains, comparison}
-use Rattle.rt_grammar.specs.Expression.{plain_atom, atom, depth, ends, expression}
+use Rattle.rt_grammar.specs.Expression.{plain_atom, atom, ends, expression}
 use Rattle.rt_grammar.specs.Reach.{is_of, goes_on}
-use Rattle.rt_parse.specs.Inside.Reading as reading
-use Rattle.rt_parse.specs.Inside.Reading.{Reader, begins_with, token_at, sign_at}
-use Rattle.rt_parse.proofs.Exact.{IsInhabited, Avoids, Starts, ReadsAfter, Reads, nothing}
-use Rattle.rt_parse.proofs.ExactToken.{reads_gives}
-use Rattle.rt_parse.proofs.ExactThen.{some_then, reads_seq, reads_then, reads_map, reads_fewer, reads_no_stop}
+use Rattle.rt_parse.proofs.Exact.{IsInhabited, Avoids, Starts}
+use Rattle.rt_parse.proofs.ExactThen.{some_then}
 use Rattle.rt_parse.proofs.ExactThen.{Avoids-smaller}
-use Rattle.rt_parse.proofs.ExactStarts.{starts_token, starts_then, starts_or, starts_wider, avoids_apart, avoids_starts}
+use Rattle.rt_parse.proofs.ExactStarts.{starts_token, starts_then, starts_or, starts_wider}
 use Rattle.rt_parse.proofs.ExactStarts.{avoids_gives_then, some_token, some_gives, some_left}
-use Rattle.rt_parse.proofs.ExactChoice.{reads_choice, reads_choice'}
-use Rattle.rt_parse.proofs.ExactSigns.{signs_apart, means_number, some_sign, starts_sign, reads_name, reads_number}
-use Rattle.rt_parse.proofs.ExactSigns.{reads_sign}
-use Rattle.rt_parse.proofs.ExactEnds.{reads_ends, ends_avoids}
+use Rattle.rt_parse.proofs.ExactSigns.{signs_apart, means_number, starts_sign}
 use Rattle.rt_parse.proofs.ExactExpression.{of_any, chains_starts, apart_any, apart_signs}
-use Rattle.rt_parse.proofs.ExactComparison.{comparison_at, comparison_some, comparison_reads, goes_on-any}
+use Rattle.rt_parse.proofs.ExactComparison.{comparison_some, goes_on-any}
 
 abbrev pub is_num : Kind → Bool
 is_num kind.Num = true
@@ -61,28 +54,6 @@ pub plain_no_sign : (k : Kind) (b : Bool) → (is_num k || is_name k) ≡ true �
 plain_no_sign kind.Sign b e = absurd cc
 plain_no_sign other b e = refl
 
-abbrev pub plain_at : Reader Operand
-plain_at tokens =
-    if begins_with (λ t. is_num t.kind) tokens
-    then (reading.◌>>=◌ (token_at number_of (number_limit (λ n. free)) tokens)
-    (λ n. Ok (record { at = n.0.at; tree = Num n.0.value }, n.1)))
-    else (reading.◌>>=◌ (token_at ident_of (name_limit free) tokens)
-    (λ x. Ok (record { at = x.0.at; tree = Read x.0 }, x.1)))
-
-abbrev pub atom_at : ℕ → ℕ → Reader Operand
-atom_at zero opened = plain_at
-atom_at (suc most) opened = λ tokens.
-    if begins_with (is_this_sign (codes "(")) tokens
-    then (reading.◌>>=◌ (token_at (sign_of (codes "(")) (λ x. limit_if (nat_le PARENTHESES opened) limit.Parentheses)
-    tokens) (λ at.
-    reading.◌>>=◌ (comparison_at (atom_at most (suc opened)) (λ e compares tokens. Ok (e, tokens)) at.1) (λ inner.
-    reading.◌>>=◌ (sign_at (codes ")") inner.1) (λ end. Ok (record { at = at.0; tree = inner.0.tree }, end.1)))))
-    else plain_at tokens
-
-abbrev pub expression_at : ℕ → Reader Expression
-expression_at most = comparison_at (atom_at most 0) (λ e compares tokens. if nat_lt DEPTH (depth e.tree) then Err
-    (record { at = Some e.at; refusal = refusal.Limit limit.Depth }) else Ok (e.tree, tokens))
-
 unfoldable pub num_of : Language Operand
 num_of = number >>= λ n. gives (record { at = n.at; tree = Num n.value })
 
@@ -109,16 +80,6 @@ pub plain_some : IsInhabited plain_atom
 plain_some = some_left (some_then (some_token means_number)
     (λ n. some_gives (record { at = n.at; tree = Num n.value })))
 
-pub plain_reads : {B : Type 0} {before : Token → Bool} → ReadsAfter B before nothing nothing suc (λ e. e) plain_atom
-    plain_at
-unfolding num_of name_of
-plain_reads = reads_choice (λ t. is_num t.kind) num_starts
-    (λ K avoids. avoids_apart (λ t. is_name t.kind) (λ t. is_num t.kind) (λ t e. name_no_num t.kind e) name_starts K)
-    (reads_map (λ n. record { at = n.at; tree = Num n.value }) (λ n. record { at = n.at; tree = Num n.value })
-    (reads_number (λ n. free)) (λ n. refl))
-    (reads_map (λ x. record { at = x.at; tree = Read x }) (λ x. record { at = x.at; tree = Read x }) (reads_name free)
-    (λ x. refl))
-
 pub atom_some : (most opened : ℕ) → IsInhabited (atom most opened)
 atom_some zero opened = plain_some
 atom_some (suc most) opened = some_left plain_some
@@ -132,46 +93,6 @@ pub closes : (t : Token) → is_this_sign (codes ")") t ≡ true → goes_on fal
 closes t e = or_neither (of_any strengths t) (is_of comparisons t) (apart_any ((codes ")", op.Eq) ∷ []) strengths refl t
     (or_left (is_this_sign (codes ")") t) false e)) (apart_signs ((codes ")", op.Eq) ∷ []) comparisons refl t
     (or_left (is_this_sign (codes ")") t) false e))
-
-pub atom_reads : {B : Type 0} (most opened : ℕ) → Reads B nothing nothing suc (λ e. e) (atom most opened)
-    (atom_at most opened)
-atom_reads zero opened = plain_reads
-atom_reads (suc most) opened = reads_choice' (is_this_sign (codes "("))
-    (starts_then (λ at. comparison (atom most (suc opened)) (λ e compares. gives e) >>= λ inner. sign (codes ")") >>=
-    λ end. gives (record { at = at; tree = inner.tree }))
-    (starts_sign (codes "(") (limit_if (nat_le PARENTHESES opened) limit.Parentheses)))
-    (λ K avoids. avoids_apart is_plain (is_this_sign (codes "(")) (λ t e. plain_no_sign t.kind _ e) plain_starts K)
-    plain_reads
-    (reads_fewer (λ n. omega arith)
-    (reads_then (λ at tokens. reading.◌>>=◌ (comparison_at (atom_at most (suc opened))
-    (λ e compares tokens. Ok (e, tokens)) tokens) (λ inner.
-    reading.◌>>=◌ (sign_at (codes ")") inner.1) (λ end. Ok (record { at = at; tree = inner.0.tree }, end.1))))
-    reads_sign
-    (λ at. reads_seq (λ inner tokens. reading.◌>>=◌ (sign_at (codes ")") tokens)
-    (λ end. Ok (record { at = at; tree = inner.tree }, end.1)))
-    (comparison_reads {goes = λ e. goes_on false} (atom most (suc opened)) (atom_at most (suc opened))
-    (λ e compares. gives e) (λ e compares tokens. Ok (e, tokens))
-    (atom_some most (suc opened)) (atom_reads most (suc opened)) (λ e compares. some_gives e) gives_apart
-    (λ e compares. reads_no_stop (reads_gives e)))
-    (λ inner. reads_map (λ end. record { at = at; tree = inner.tree }) (λ end. record { at = at; tree = inner.tree })
-    reads_sign (λ end. refl))
-    (λ inner. some_then (some_sign (codes ")") free) (λ end. some_gives (record { at = at; tree = inner.tree })))
-    (λ inner K avoids. avoids_starts (is_this_sign (codes ")")) (goes_on false) closes
-    (starts_then K (starts_then (λ end. gives (record { at = at; tree = inner.tree })) (starts_sign (codes ")")
-    free)))))
-    (λ at. some_then (comparison_some (atom most (suc opened)) (λ e compares. gives e) (atom_some most (suc opened))
-    (λ e compares. some_gives e)) (λ inner. some_then (some_sign (codes ")") free)
-    (λ end. some_gives (record { at = at; tree = inner.tree }))))))
-
-pub expression_reads : {B : Type 0} (most : ℕ) → Reads B nothing nothing suc (λ e. e) (expression most)
-    (expression_at most)
-expression_reads most = comparison_reads (atom most 0) (atom_at most 0) (λ e compares. ends (e, compares))
-    (λ e compares tokens. if nat_lt DEPTH (depth e.tree) then Err
-    (record { at = Some e.at; refusal = refusal.Limit limit.Depth }) else Ok (e.tree, tokens))
-    (atom_some most 0) (atom_reads most 0)
-    (λ e compares. (_, _, (refl, refl)))
-    (λ e compares K avoids. ends_avoids (e, compares) K)
-    (λ e compares. reads_ends (e, compares) (nat_lt DEPTH (depth e.tree)) e.at e.tree refl refl refl)
 
 pub expression_some : (most : ℕ) → IsInhabited (expression most)
 expression_some most = comparison_some (atom most 0) (λ e compares. ends (e, compares)) (atom_some most 0)

@@ -46,10 +46,6 @@ module _ {B : Type 0} (e : Operand × Bool) (K : Expression → Language B) wher
       behind_ends marks y l in
       subst (AvoidsMarks (goes_on e.1)) (sym b.1) (λ t f. f)
 
-  pub ends_some : IsInhabited (K e.0.tree) → IsInhabited (ends e >>= K)
-  unfolding ends_mark
-  ends_some (marks, y, k) = (ends_mark ∷ marks, y, (e.0.tree, ends_mark ∷ [], marks, (refl, refl), k, refl))
-
   ends_marked : (deep : Bool) → nat_lt DEPTH (depth e.0.tree) ≡ deep → (tokens : List Token)
       → expression_goes_on e.1 tokens ≡ false
       → IsMarked (ends e >>= K) (K e.0.tree) (Ends e.1 (deep_at deep e)) tokens tokens

@@ -1,5 +1,5 @@
 -- The readers of expressions, over a reader of atoms.
-use Rattle.std.proofs.Common.{◌≡◌, ℕ, suc, Bool, true, false, List, [], ◌∷◌, length, Some, None, Ok, refl, ap, arith}
+use Rattle.std.proofs.Common.{◌≡◌, ℕ, Bool, true, false, List, [], ◌∷◌, Some, refl, ap}
 use Rattle.std.specs.Prelude.{◌||◌, ◌&&◌, not, bytes_eq, if◌then◌else◌}
 use Rattle.std.specs.List.{list_any}
 use Rattle.rt_lemmas.proofs.Bools.{and_left, and_right, not_true, or_neither}
@@ -9,13 +9,9 @@ use Rattle.rt_lex.specs.Token.{Token, is_this_sign}
 use Rattle.rt_grammar.specs.Language.{Language, gives, ◌>>=◌, repeat}
 use Rattle.rt_grammar.specs.Expression.{Operand, Signs, op_of, operator, joined_operand, chain, chains}
 use Rattle.rt_grammar.specs.Reach.{is_of}
-use Rattle.rt_parse.specs.Inside.Reading as reading
-use Rattle.rt_parse.specs.Inside.Reading.{Reader, begins_with, token_at, repeat_at}
-use Rattle.rt_parse.proofs.Exact.{IsInhabited, Starts, ReadsAfter, Reads, nothing}
-use Rattle.rt_parse.proofs.ExactToken.{reads_token}
-use Rattle.rt_parse.proofs.ExactThen.{some_then, reads_then, reads_map, reads_fewer}
-use Rattle.rt_parse.proofs.ExactStarts.{starts_token, starts_then, avoids_starts, some_gives, some_repeat}
-use Rattle.rt_parse.proofs.ExactRepeat.{reads_chain}
+use Rattle.rt_parse.proofs.Exact.{IsInhabited, Starts}
+use Rattle.rt_parse.proofs.ExactThen.{some_then}
+use Rattle.rt_parse.proofs.ExactStarts.{starts_then, some_repeat}
 use Rattle.rt_parse.proofs.ExactSigns.{means_sign, signs_apart}
 
 -- The operators of one strength begin with their signs.
@@ -89,18 +85,6 @@ means_ops (x ∷ signs) some = means_op x signs
 
 -- Chains of operators.
 
-abbrev pub step_at : Signs → Reader Operand → Operand → Reader Operand
-step_at signs operand left tokens = reading.◌>>=◌ (token_at (op_of signs) (λ o. None) tokens)
-    (λ o. reading.◌>>=◌ (operand o.1) (λ right. Ok (joined_operand o.0 left right.0, right.1)))
-
-abbrev pub chain_at : Signs → Reader Operand → Reader Operand
-chain_at signs operand tokens = reading.◌>>=◌ (operand tokens)
-    (λ got. repeat_at (is_of signs) (step_at signs operand) (length got.1) got.0 got.1)
-
-abbrev pub chains_at : List Signs → Reader Operand → Reader Operand
-chains_at [] atom = atom
-chains_at (signs ∷ stronger) atom = chain_at signs (chains_at stronger atom)
-
 abbrev pub step_of : Signs → Language Operand → Operand → Language Operand
 step_of signs operand left = operator signs >>= λ o. operand >>= λ right. gives (joined_operand o left right)
 
@@ -116,35 +100,3 @@ pub chains_starts : (test : Token → Bool) (all : List Signs) (atom : Language 
 chains_starts test [] atom starts = starts
 chains_starts test (signs ∷ stronger) atom starts = starts_then (repeat (step_of signs (chains stronger atom)))
     (chains_starts test stronger atom starts)
-
-step_reads : {B : Type 0} {before : Token → Bool} (goes : Token → Bool) (x : List ℕ × Op) (signs : Signs)
-    (operand : Language Operand) (reader : Reader Operand) → IsInhabited operand
-    → Reads B (λ e. goes) (λ e. goes) suc (λ e. e) operand reader
-    → (left : Operand) → ReadsAfter B before (λ e. goes) (λ e. goes) suc (λ e. e) (step_of (x ∷ signs) operand left)
-    (step_at (x ∷ signs) reader left)
-step_reads goes x signs operand reader some reads left =
-    reads_fewer (λ n. omega arith)
-    (reads_then (λ o tokens. reading.◌>>=◌ (reader tokens) (λ right. Ok (joined_operand o left right.0, right.1)))
-    (reads_token (means_op x signs)) (λ o. reads_map (joined_operand o left) (joined_operand o left) reads
-    (λ right. refl)) (λ o. some_then some (λ right. some_gives (joined_operand o left right))))
-
-pub chains_reads : {B : Type 0} (all : List Signs) (atom : Language Operand) (reader : Reader Operand) → are_apart all
-    ≡ true → IsInhabited atom
-    → Reads B nothing nothing suc (λ e. e) atom reader → Reads B (λ e. of_any all) (λ e. of_any all) suc (λ e. e)
-    (chains all atom) (chains_at all reader)
-chains_reads [] atom reader apart some reads = reads
-chains_reads ([] ∷ stronger) atom reader apart some reads = absurd cc
-chains_reads ((x ∷ signs) ∷ stronger) atom reader apart some reads =
-    let operand = chains_reads stronger atom reader (and_right _ _ apart) some reads in
-    let any = chains_some stronger atom some in
-    reads_chain (is_of (x ∷ signs)) (step_of (x ∷ signs) (chains stronger atom))
-    (step_at (x ∷ signs) (chains_at stronger reader))
-    (λ left. op_first left)
-    (λ left. avoids_starts (is_of (x ∷ signs)) (of_any stronger) (apart_any (x ∷ signs) stronger (and_left _ _ apart))
-    (op_first left))
-    (step_reads (of_any stronger) x signs (chains stronger atom) (chains_at stronger reader) any operand)
-    operand
-  where
-    op_first : (left : Operand) → Starts (is_of (x ∷ signs)) (step_of (x ∷ signs) (chains stronger atom) left)
-    op_first left = starts_then (λ o. chains stronger atom >>= λ right. gives (joined_operand o left right))
-        (starts_token (λ o. None) (is_of (x ∷ signs)) (op_starts (x ∷ signs)))

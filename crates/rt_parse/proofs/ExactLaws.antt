@@ -1,13 +1,12 @@
 -- Exactness under another language, another reader and fewer tokens; the laws of languages and of reading.
-use Rattle.std.proofs.Common.{◌≡◌, ℕ, zero, suc, ◌≤◌, List, [], ◌++◌, Result, Ok, Err, refl, sym, subst, inl, inr}
-use Rattle.std.proofs.Common.{arith}
+use Rattle.std.proofs.Common.{◌≡◌, zero, suc, List, [], ◌++◌, Result, Ok, Err, refl, sym, subst, inl, inr}
 use Rattle.std.proofs.lemmas.List.{append-nil, append_assoc}
 use Rattle.rt_lex.specs.Token.{Token}
 use Rattle.rt_grammar.specs.Mark.{Mark}
 use Rattle.rt_grammar.specs.Language.{Language, gives, ◌>>=◌, ◌or◌, never, repeat}
 use Rattle.rt_parse.specs.Inside.Reading as reading
 use Rattle.rt_parse.specs.declared.stop.Found.{Found}
-use Rattle.rt_parse.proofs.Exact.{Outcome, IsExact}
+use Rattle.rt_parse.proofs.Exact.{Outcome}
 use Rattle.rt_parse.proofs.ExactOutcome.{IsBlocked, outcome_wider}
 
 -- each text of one language is a text of the other, with the same meaning
@@ -21,19 +20,6 @@ pub same_outcome : {B : Type 0} (K M : Language B) (tokens : List Token) (read :
     → IsWithinLanguage M K → Outcome K tokens read → Outcome M tokens read
 same_outcome K M tokens read into out = outcome_wider K M never tokens into (λ marks y m. inl (out marks y m))
     (blocked_never tokens) read
-
-pub same_language : {B : Type 0} (K M : Language B) (read : List Token → Result B Found) (n : ℕ) → IsWithinLanguage K M
-    → IsWithinLanguage M K → IsExact K read n → IsExact M read n
-same_language K M read n into out exact tokens most = same_outcome K M tokens (read tokens) into out (exact tokens most)
-
-pub same_reader : {B : Type 0} (K : Language B) (read read' : List Token → Result B Found) (n : ℕ)
-    → ((tokens : List Token) → read tokens ≡ read' tokens) → IsExact K read n → IsExact K read' n
-same_reader {B} K read read' n same exact tokens most = subst (λ (r : Result B Found). Outcome K tokens r) (same tokens)
-    (exact tokens most)
-
-pub fewer : {B : Type 0} (K : Language B) (read : List Token → Result B Found) (m n : ℕ) → m ≤ n → IsExact K read n
-    → IsExact K read m
-fewer K read m n le exact tokens most = exact tokens (omega arith)
 
 -- Laws of languages, each in both directions.
 

@@ -23,13 +23,6 @@ some_gives x = ([], x, (refl, refl))
 pub some_left : {A : Type 0} {L M : Language A} → IsInhabited L → IsInhabited (L or M)
 some_left (marks, x, l) = (marks, x, inl l)
 
-pub some_right : {A : Type 0} {L M : Language A} → IsInhabited M → IsInhabited (L or M)
-some_right (marks, x, m) = (marks, x, inr m)
-
-pub some_only_if : {A : Type 0} {holds : Bool} {L : Language A} → holds ≡ true → IsInhabited L
-    → IsInhabited (only_if holds L)
-some_only_if e (marks, x, l) = (marks, x, (e, l))
-
 pub some_repeat : {S : Type 0} (step : S → Language S) (s : S) → IsInhabited (repeat step s)
 some_repeat step s = ([], s, (zero, (refl, refl)))
 

@@ -7,7 +7,7 @@ use Rattle.rt_grammar.specs.Mark.{Mark, Takes, Ends}
 use Rattle.rt_grammar.specs.Language.{Language, gives, ◌>>=◌, token}
 use Rattle.rt_grammar.specs.Reach.{Fits}
 use Rattle.rt_parse.specs.Inside.Reading as reading
-use Rattle.rt_parse.specs.Inside.Reading.{Reader, token_at, take_meaning, unless_limited, begins_with}
+use Rattle.rt_parse.specs.Inside.Reading.{token_at, take_meaning, unless_limited, begins_with}
 use Rattle.rt_parse.specs.declared.stop.Found.{Found}
 use Rattle.rt_parse.proofs.Exact.{Outcome, IsExact, IsInhabited, Avoids, ReadsAfter, nothing}
 use Rattle.rt_parse.proofs.ExactOutcome.{IsBlocked, IsMarked, outcome_blocked, outcome_marked, outcome_limited}

@@ -1,6 +1,6 @@
 -- A language that has each text of another, with the same meaning: it grows with the languages that it is made of.
-use Rattle.std.proofs.Common.{ℕ, zero, suc, Bool, List, length, inl, inr}
-use Rattle.rt_grammar.specs.Language.{Language, gives, ◌>>=◌, ◌>>◌, ◌or◌, or_else, only_if, never, times, repeat}
+use Rattle.std.proofs.Common.{ℕ, zero, suc, List, length, inl, inr}
+use Rattle.rt_grammar.specs.Language.{Language, gives, ◌>>=◌, ◌>>◌, ◌or◌, or_else, never, times, repeat}
 use Rattle.rt_grammar.specs.Tokens.{sign, list, adds}
 use Rattle.rt_parse.proofs.ExactLaws.{IsWithinLanguage, then_same, same_then}
 
@@ -40,10 +40,6 @@ grows_or {B} {K} {L} {M} {N} one other = record { into = go }
 
 pub grows_or_else : {B : Type 0} (x : B) {K M : Language B} → Grows K M → Grows (or_else x K) (or_else x M)
 grows_or_else x grows = grows_or (grows_same (gives x)) grows
-
-pub grows_only_if : {B : Type 0} (holds : Bool) {K M : Language B} → Grows K M
-    → Grows (only_if holds K) (only_if holds M)
-grows_only_if holds grows = record { into = λ marks y k. (k.0, grows.into marks y k.1) }
 
 pub grows_times : {S : Type 0} (n : ℕ) {step more : S → Language S} → ((s : S) → Grows (step s) (more s)) → (s : S)
     → Grows (times n step s) (times n more s)

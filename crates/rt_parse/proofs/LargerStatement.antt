@@ -170,6 +170,3 @@ both_grow m n most (suc deep) (suc deeper) depth =
 
 pub larger_block : (m n : ℕ) → m ≤ n → (deep deeper : ℕ) → deep ≤ deeper → BlocksGrow (block m deep) (block n deeper)
 larger_block m n most deep deeper depth = (both_grow m n most deep deeper depth).blocks
-
-pub larger_inside : (m n : ℕ) → m ≤ n → (deep deeper : ℕ) → deep ≤ deeper → BlocksGrow (inside m deep) (inside n deeper)
-larger_inside m n most deep deeper depth = (both_grow m n most deep deeper depth).insides

@@ -17,10 +17,6 @@ pub record IsListing {S : Type 0} (closing : List ℕ) (item : S → Reader S) (
   pub enough : length rest ≤ turns
   pub goes : items_at closing item turns s rest ≡ items_at closing item (length all) start all
 
-pub listing : {S : Type 0} (closing : List ℕ) (item : S → Reader S) (start : S) (all : List Token)
-    → IsListing closing item start all start all
-listing closing item start all = record { turns = length all; enough = omega arith; goes = refl }
-
 comma_no_longer : (closing : List ℕ) (tokens after : List Token) → comma_at closing tokens ≡ Ok after
     → length after ≤ length tokens
 comma_no_longer closing tokens after e = by_test (begins_with (is_this_sign closing) tokens) e

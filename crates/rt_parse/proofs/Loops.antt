@@ -15,10 +15,6 @@ pub record IsUnderWay {S : Type 0} (starts : Token → Bool) (step : S → Reade
   pub enough : length rest ≤ turns
   pub goes : repeat_at starts step turns s rest ≡ repeat_at starts step (length all) start all
 
-pub begun : {S : Type 0} (starts : Token → Bool) (step : S → Reader S) (start : S) (all : List Token)
-    → IsUnderWay starts step start all start all
-begun starts step start all = record { turns = length all; enough = omega arith; goes = refl }
-
 some_token : (starts : Token → Bool) (rest : List Token) → begins_with starts rest ≡ true → 0 < length rest
 some_token starts [] e = absurd cc
 some_token starts (t ∷ rest) e = omega arith

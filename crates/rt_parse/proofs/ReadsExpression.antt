@@ -16,7 +16,7 @@ use Rattle.rt_grammar.specs.Tokens.{free, limit_if, sign, limited_sign}
 use Rattle.rt_grammar.specs.Expression.{Operand, comparison, plain_atom, atom, depth, ends, expression}
 use Rattle.rt_grammar.specs.Reach.{goes_on}
 use Rattle.rt_parse.specs.Inside.Reading as reading
-use Rattle.rt_parse.specs.Inside.Reading.{Reader, begins_with, sign_at}
+use Rattle.rt_parse.specs.Inside.Reading.{Reader, sign_at}
 use Rattle.rt_parse.specs.Inside.ReadingDepth.{Kept, Measured, measure, tree_unless_deep, atomic}
 use Rattle.rt_parse.specs.Inside.ReadingExpression.{comparison_at, is_number, is_number_kind, is_name, is_name_kind}
 use Rattle.rt_parse.specs.Inside.ReadingExpression.{number_atom_at, name_atom_at, parenthesized_expression_at}

@@ -33,14 +33,6 @@ shorter_then {reader = reader} {next = next} h k tokens y rest e =
     let b = k p.0.0 p.0.1 y rest p.2 in
     omega arith
 
-pub then_shorter : {A B : Type 0} {reader : Reader A} {next : A → Reader B} → IsNoLonger reader
-    → ((x : A) → IsShorter (next x)) → IsShorter (λ tokens. reader tokens >>= λ got. next got.0 got.1)
-then_shorter {reader = reader} {next = next} h k tokens y rest e =
-    let p = bind_ok (reader tokens) (λ got. next got.0 got.1) (y, rest) e in
-    let a = h tokens p.0.0 p.0.1 p.1 in
-    let b = k p.0.0 p.0.1 y rest p.2 in
-    omega arith
-
 pub no_longer_then : {A B : Type 0} {reader : Reader A} {next : A → Reader B} → IsNoLonger reader
     → ((x : A) → IsNoLonger (next x)) → IsNoLonger (λ tokens. reader tokens >>= λ got. next got.0 got.1)
 no_longer_then {reader = reader} {next = next} h k tokens y rest e =

@@ -13,7 +13,7 @@ use Rattle.rt_parse.specs.Inside.ReadingResources.{resource_at, local_at}
 use Rattle.rt_parse.specs.Inside.ReadingOptions.{binds_at, priority_at, capacity_at, shared_list_at, local_list_at}
 use Rattle.rt_parse.specs.Inside.ReadingOptions.{option_at, options_at, some_options_at, ref_resource_at}
 use Rattle.rt_parse.specs.Inside.ReadingOptions.{named_resource_at, listed_resource_at}
-use Rattle.rt_parse.specs.Inside.ReadingBodies.{one_argument_at, argument_at, task_arguments_at, parameters_at, task_at}
+use Rattle.rt_parse.specs.Inside.ReadingBodies.{argument_at, task_arguments_at, parameters_at, task_at}
 use Rattle.rt_parse.proofs.Shorter.{IsShorter, IsNoLonger, shorter_no_longer, shorter_then, no_longer_then}
 use Rattle.rt_parse.proofs.Shorter.{no_longer_ok, shorter_if, no_longer_if, shorter_err, no_longer_repeat}
 use Rattle.rt_parse.proofs.Shorter.{shorter_token}
@@ -103,10 +103,6 @@ shorter_option owner o =
 pub no_option : (owner : Owner) (o : Options) → option_at owner o [] ≡ Err (fault_found_at [])
 unfolding option_at
 no_option owner o = refl
-
-pub shorter_one_argument : (before : ℕ) → IsShorter (one_argument_at before)
-unfolding one_argument_at
-shorter_one_argument before = shorter_then (shorter_token _ _) (λ _. shorter_no_longer (shorter_token _ _))
 
 pub shorter_argument : (xs : List Ident) → IsShorter (argument_at xs)
 unfolding argument_at

@@ -18,9 +18,6 @@ use Rattle.rt_print.proofs.Declared.{IsHead, head_reads}
 use Rattle.rt_print.proofs.Resources.{AreAll, IsMaybe, irqs_read, mono_reads, shared_reads, locals_read}
 use Rattle.rt_print.proofs.Bodies.{init_reads, idle_reads, tasks_read}
 
-abbrev tail_text : App → List ℕ
-tail_text a = body_text (codes "idle") a.idle ++ (flat_map task_text a.tasks ++ [])
-
 parts : (h i m s l n d t : List ℕ) → (((((((h ++ i) ++ m) ++ s) ++ l) ++ n) ++ d) ++ t) ≡ h
     ++ (i ++ (m ++ (s ++ (l ++ (n ++ (d ++ (t ++ [])))))))
 parts h i m s l n d t = simp (append_assoc, append-nil) refl

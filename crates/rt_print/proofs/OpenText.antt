@@ -56,16 +56,6 @@ step opened now o0 o1 xs ys e a =
     ∙ ap (λ (b : Bool). o0 ++ (opened_text opened xs ++ left b ys)) a
     ∙ ap (λ (t : List ℕ). o0 ++ t) (sym (left_append opened xs ys))
 
-pub rest_is : {A E : Type 0} (r : Result A E) (opened before any : Bool) (o0 o1 o2 o3 : List ℕ) (xs ys : List (List ℕ))
-    → o1 ≡ o0 ++ opened_text opened xs → before ≡ (opened || has_any xs) → o2 ≡ o1 ++ opened_text before ys
-    → any ≡ (before || has_any ys) → OnOk r (o3 ≡ o2 ++ closing_text any)
-    → OnOk r (o3 ≡ o0 ++ (opened_text opened (xs ++ ys) ++ closing_text (opened || has_any (xs ++ ys))))
-rest_is r opened before any o0 o1 o2 o3 xs ys e1 a1 e2 a2 h =
-    on_ok_weaker r _ _ (λ k. k ∙ ap (λ (t : List ℕ). t ++ closing_text any) e2
-    ∙ append_assoc o1 (opened_text before ys) (closing_text any)
-    ∙ ap (λ (b : Bool). o1 ++ (opened_text before ys ++ closing_text b)) a2
-    ∙ step opened before o0 o1 xs ys e1 a1) h
-
 pub options_of_task : {A E : Type 0} (r : Result A E) (bound before opened : Bool) (o0 o1 o2 o3 o4 : List ℕ)
     (b p c rest : List (List ℕ)) → o1 ≡ o0 ++ opened_text false b → bound ≡ (false || has_any b)
     → o2 ≡ o1 ++ opened_text bound p → before ≡ (bound || has_any p) → o3 ≡ o2 ++ opened_text before c → opened

@@ -6,7 +6,7 @@ use Rattle.std.specs.List.{AllByRecursion}
 use Rattle.rt_ids.specs.declared.limit.Limit.{Limit}
 use Rattle.rt_ast.specs.declared.ident.Ident.{Ident}
 use Rattle.rt_ast.specs.Tree.{Expression, Spawn, Soon, After, Cancel, Move, Value, Calc, Now, Call}
-use Rattle.rt_ast.specs.Bare.{bare_name, bare_expression, bare_spawn, bare_value}
+use Rattle.rt_ast.specs.Bare.{bare_expression, bare_spawn, bare_value}
 use Rattle.rt_ast.specs.CanonicalExpression.{separated_list, expression_text}
 use Rattle.rt_ast.specs.CanonicalBlock.{call_text, spawn_text, value_text}
 use Rattle.rt_ast.specs.PrintableBody.{IsPrintableExpression, IsPrintableSpawn, IsPrintableValue}
@@ -18,9 +18,6 @@ use Rattle.rt_print.proofs.Reading.{Reads, Any, read_gives, read_then, read_left
 use Rattle.rt_print.proofs.Lexemes.{IsNamed, read_name, read_word, read_sign}
 use Rattle.rt_print.proofs.Expressions.{IsTree, expression_reads, plain_closing, plain_semicolon}
 use Rattle.rt_print.proofs.Lists.{IsEnd, Items, list_reads}
-
-abbrev pub bare_names_is : (x y : Ident) → IsNamed x y → bare_name y ≡ bare_name x
-bare_names_is x y e = ap (λ (s : List ℕ). let z : Ident = record { name = s; at = 0 } in z) e
 
 pub closing_ends : (Y : List ℕ) → IsEnd (41 ∷ Y)
 closing_ends Y = record { stops = refl; plain = plain_closing Y }

@@ -4,7 +4,7 @@ use Rattle.std.proofs.Common.{if◌then◌else◌, List, [], ◌∷◌, ◌++◌
 use Rattle.std.proofs.Common.{slice_get}
 use Rattle.std.proofs.Common.{Some, None, refl, ap, sym, ◌∙◌, arith}
 use Rattle.std.proofs.lemmas.Bool.{cases_lt}
-use Rattle.std.proofs.lemmas.List.{length-map, map-append, take-append-drop}
+use Rattle.std.proofs.lemmas.List.{map-append, take-append-drop}
 use Rattle.rt_lemmas.proofs.Lists.{map_next}
 use Rattle.rt_ids.specs.Lists.{greatest}
 use Rattle.rt_ids.proofs.Greatest.{greatest_has}
@@ -126,11 +126,6 @@ frame_at frames a b ts n t are within is =
     at_index [] n t within is = absurd (omega arith)
     at_index (u ∷ ts) zero t within is = ap (λ v. words (task_of v)) (sym is)
     at_index (u ∷ ts) (suc n) t within is = at_index ts n t (omega arith) is
-
-pub frames_long : (frames : List ℕ) (a b : ℕ) (ts : List code.Task) → frames ≡ a ∷ b ∷ map words (map task_of ts)
-    → length frames ≡ 2 + length ts
-frames_long frames a b ts are =
-    ap length are ∙ omega (arith, length-map (map task_of ts) words, length-map ts task_of)
 
 -- the greatest of the tasks so far, with the next one
 pub most_next : (test : Task → Bool) (frames : List ℕ) (a b : ℕ) (ts : List code.Task) (n : ℕ) (t : code.Task)

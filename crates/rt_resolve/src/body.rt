@@ -1,14 +1,10 @@
-ghost use Rattle.std.specs.Prelude.{◌≡◌, ◌+◌, ◌≤◌, ◌++◌, [], length, map, flat_map, option_map, IfOk, OnOk};
-ghost use Rattle.std.specs.List.{AllByRecursion};
-ghost use Rattle.rt_ids.specs.declared.limits.TheConstants.{ARGUMENTS, STATEMENTS};
+ghost use Rattle.std.specs.Prelude.{◌≡◌, ◌≤◌, ◌++◌, [], length, option_map, IfOk, OnOk};
+ghost use Rattle.rt_ids.specs.declared.limits.TheConstants.{ARGUMENTS};
 ghost use Rattle.rt_ast.specs.View as written;
-ghost use Rattle.rt_ast.specs.PrintableBody.{statements_of};
 ghost use Rattle.rt_ast.specs.Printable.{IfThere, IsPrintableTask};
 ghost use Rattle.rt_app.specs.View as built;
 ghost use Rattle.rt_resolve.specs.Scope as named;
-ghost use Rattle.rt_resolve.specs.Resolving as resolving;
 ghost use Rattle.rt_resolve.specs.Resolved as meant;
-ghost use Rattle.rt_resolve.specs.Misnamed as wrong;
 ghost use Rattle.rt_resolve.specs.NameRules as rules_on;
 ghost use Rattle.rt_resolve.specs.Inside.NamesView.{names_of, IsCounted, IsShort};
 

@@ -1,4 +1,4 @@
-ghost use Rattle.std.specs.Prelude.{◌≡◌, ◌-◌, ◌+◌, ◌≤◌, ◌<◌, ◌∷◌, [], length, take, drop, find, option_map, OnOk};
+ghost use Rattle.std.specs.Prelude.{◌≡◌, ◌-◌, ◌≤◌, ◌<◌, [], length, take, drop, find, option_map, OnOk};
 ghost use Rattle.std.specs.List.{list_any};
 ghost use Rattle.rt_resolve.specs.Scope as named;
 ghost use Rattle.rt_resolve.specs.Inside.Bindings.{scope_after_block, IsKnown, IsRestored};

@@ -1,5 +1,5 @@
 -- How the least number of core steps that suffices is found.
-use Rattle.std.proofs.Common.{◌≡◌, ℕ, zero, suc, ◌+◌, ◌-◌, ◌*◌, ◌≤◌, ◌<◌, Bool, true, false, nat_le, if◌then◌else◌}
+use Rattle.std.proofs.Common.{◌≡◌, ℕ, ◌+◌, ◌-◌, ◌*◌, ◌≤◌, ◌<◌, Bool, true, false, nat_le, if◌then◌else◌}
 use Rattle.std.proofs.Common.{List, [], ◌∷◌, ◌++◌, flat_map, map, length, get_or, take, Result, Ok, Err, IfOk, Option}
 use Rattle.std.proofs.Common.{Some, None, refl, sym, ap, subst, ◌∙◌, arith}
 use Rattle.std.specs.Prelude.{sum_by}
@@ -31,12 +31,6 @@ use Rattle.rt_rta.specs.Inside.Least.{IsSmall, IsEnough, IsLeast, IsTimeOf, AreT
 pub if_ok_weaker : {A E : Type 0} (r : Result A E) (P Q : A → Type 0) → ((x : A) → P x → Q x) → IfOk r P → IfOk r Q
 if_ok_weaker (Ok x) P Q weaker h = weaker x h
 if_ok_weaker (Err e) P Q weaker h = tt
-
-pub all_item : {X : Type 0} (P : X → Type 0) (xs : List X) (i : ℕ) (x : X) → AllByRecursion P xs → i < length xs → x
-    ≡ get_or xs i x → P x
-all_item P [] i x all within is = absurd (omega arith)
-all_item P (y ∷ xs) zero x all within is = subst P (sym is) all.0
-all_item P (y ∷ xs) (suc i) x all within is = all_item P xs i x all.1 (omega arith) is
 
 begun_more : (steps more every : ℕ) → 1 ≤ every → steps ≤ more → most_requests steps every ≤ most_requests more every
 begun_more steps more every some less =

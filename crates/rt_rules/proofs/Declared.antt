@@ -3,7 +3,7 @@ use Rattle.std.proofs.Common.{◌≡◌, List, [], ◌++◌, flat_map, Option, N
 use Rattle.rt_app.specs.Tree.{App}
 use Rattle.rt_app.specs.Bodies.{Member, members}
 use Rattle.rt_app.specs.declared.violation.Violation.{Violation}
-use Rattle.rt_app.specs.Declarations.{priorities, interrupts, dispatchers, owned_twice, hardware_tasks, declarations}
+use Rattle.rt_app.specs.Declarations.{declarations}
 use Rattle.rt_app.specs.Listing.{listings_breaks}
 use Rattle.rt_app.specs.Use.{uses}
 use Rattle.rt_app.specs.Statements.{breaks, statements}
@@ -12,19 +12,6 @@ use Rattle.rt_app.specs.BodyCost.{shared_size}
 use Rattle.rt_app.specs.Rules.{violations}
 use Rattle.rt_rules.specs.Inside.First.{first_of}
 use Rattle.rt_rules.proofs.Fold.{behind}
-
-pub declared : (app : App) (bodies : List Member) (o p q r s t : Option Violation) → bodies ≡ members app
-    → p ≡ first_of o (priorities app) → q ≡ first_of p (interrupts app) → r ≡ first_of q (dispatchers app) → s
-    ≡ first_of r (owned_twice [] bodies) → t ≡ first_of s (hardware_tasks app)
-    → t ≡ first_of o (declarations app)
-declared app bodies o p q r s t same e1 e2 e3 e4 e5 =
-    let owned = owned_twice [] (members app) in
-    let last = behind r s t owned (hardware_tasks app) (e4 ∙ ap (λ ms. first_of r (owned_twice [] ms)) same) e5 in
-    let from_dispatchers = behind q r t (dispatchers app) (owned ++ hardware_tasks app) e3 last in
-    let from_interrupts = behind p q t (interrupts app) (dispatchers app ++ (owned ++ hardware_tasks app)) e2
-    from_dispatchers in
-    behind o p t (priorities app) (interrupts app ++ (dispatchers app ++ (owned ++ hardware_tasks app))) e1
-    from_interrupts
 
 pub all_judged : (app : App) (first_bodies second_bodies : List Member) (faults given : List Violation)
     (o p q r s t : Option Violation) → first_bodies ≡ members app → second_bodies ≡ members app → given ≡ faults → o

@@ -1,15 +1,11 @@
 -- What is found as a list is read is its first violation.
-use Rattle.std.proofs.Common.{◌≡◌, ℕ, zero, suc, ◌<◌, ◌≤◌, ◌⊎◌, inl, inr, Bool, true, false, List, [], ◌∷◌, ◌++◌}
+use Rattle.std.proofs.Common.{◌≡◌, ℕ, zero, suc, ◌<◌, ◌⊎◌, inl, inr, Bool, true, false, List, [], ◌∷◌, ◌++◌}
 use Rattle.std.proofs.Common.{length, get_or, Some, None, if◌then◌else◌, refl, sym, ◌∙◌, subst, arith}
 use Rattle.std.proofs.lemmas.Bool.Decides.{nat_tests}
 use Rattle.std.specs.List.{Contains}
 use Rattle.rt_app.specs.declared.violation.Violation.{Violation}
 use Rattle.rt_app.specs.Violation.{IsNotAfter, IsFirst}
 use Rattle.rt_rules.specs.Inside.First.{is_before, first_of}
-
--- offsets and numbers
-not_after : (a b r s : ℕ) → Type 0
-not_after a b r s = (a < b) ⊎ ((a ≡ b) × (r ≤ s))
 
 no_later : (v w : Violation) → is_before v w ≡ true → IsNotAfter v w
 no_later v w h = grind (arith, nat_tests)

@@ -3,7 +3,7 @@
 ghost use Rattle.std.specs.Prelude.{◌≡◌, map, flat_map};
 ghost use Rattle.rt_app.specs.View.{task_of, app_of};
 ghost use Rattle.rt_app.specs.Declarations.{is_priority, mono_priority, task_priority, priorities, dispatchers};
-ghost use Rattle.rt_app.specs.Declarations.{is_mixed, hardware_tasks};
+ghost use Rattle.rt_app.specs.Declarations.{is_mixed};
 ghost use Rattle.rt_app.specs.Violation.{when};
 ghost use Rattle.rt_ids.specs.declared.rule.Rule.TheVariants as rule;
 ghost use Rattle.rt_rules.specs.Inside.First.{first_of};

@@ -1,12 +1,12 @@
 #![tactic(auto, using(crate::proofs::Fold::first_of_append))]
 
-ghost use Rattle.std.specs.Prelude.{◌≡◌, ◌==◌, ◌++◌, ℕ, [], Some, None, map, flat_map, option_map, find, if◌then◌else◌};
+ghost use Rattle.std.specs.Prelude.{◌≡◌, ◌==◌, ◌++◌, ℕ, [], Some, None, map, flat_map, find, if◌then◌else◌};
 ghost use Rattle.std.specs.Prelude.{IfOk, OnOk};
 ghost use Rattle.rt_app.specs.View.{app_of};
 ghost use Rattle.rt_app.specs.Bodies.{members};
 ghost use Rattle.rt_app.specs.Declarations.{is_known};
 ghost use Rattle.rt_app.specs.Listing.{listings_of, listings_breaks, is_lock_free, is_shared_and_exclusive};
-ghost use Rattle.rt_app.specs.Listing.{is_at_two_priorities, breaks_beside, listing_breaks};
+ghost use Rattle.rt_app.specs.Listing.{is_at_two_priorities, breaks_beside};
 ghost use Rattle.rt_rules.specs.Inside.First.{first_of};
 ghost use Rattle.rt_rules.specs.Inside.View.{member_of};
 ghost use Rattle.rt_rules.specs.Inside.Tables.{listing_at, or_else};

@@ -1,4 +1,4 @@
-ghost use Rattle.std.specs.Prelude.{◌≡◌, ◌++◌, ℕ, map, option_map, IfOk, OnOk};
+ghost use Rattle.std.specs.Prelude.{◌≡◌, ◌++◌, map, option_map, IfOk, OnOk};
 ghost use Rattle.rt_app.specs.View.{body_of, task_of, app_of};
 ghost use Rattle.rt_app.specs.Bodies.{thread_members, task_members, members};
 ghost use Rattle.rt_app.specs.Statements.{is_init};

@@ -1,8 +1,8 @@
 #![tactic(auto, using(crate::proofs::Fold::first_of_append))]
 
-ghost use Rattle.std.specs.Prelude.{◌≡◌, [], ◌∷◌, ◌++◌, flat_map, map, is_none, OnOk};
+ghost use Rattle.std.specs.Prelude.{◌≡◌, [], ◌++◌, flat_map, map, is_none, OnOk};
 ghost use Rattle.rt_app.specs.View.{app_of, expression_of, spawn_of, value_of, statement_of, block_of};
-ghost use Rattle.rt_app.specs.Use.{Reads, Writes, Locks, MakesSpawn, AsksTime, use_with_locks, reads, spawn_uses};
+ghost use Rattle.rt_app.specs.Use.{Reads, Writes, Locks, reads, spawn_uses};
 ghost use Rattle.rt_app.specs.Use.{value_uses};
 ghost use Rattle.rt_app.specs.Use.{statement_uses, uses};
 ghost use Rattle.rt_app.specs.Bodies.{members};

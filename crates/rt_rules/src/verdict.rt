@@ -1,6 +1,6 @@
 #![tactic(auto, using(crate::proofs::Fold::first_of_append))]
 
-ghost use Rattle.std.specs.Prelude.{◌≡◌, ◌≤◌, ◌++◌, [], List, None, map, length, IfOk, IfErr, OnOk};
+ghost use Rattle.std.specs.Prelude.{◌≡◌, ◌≤◌, ◌++◌, [], None, map, length, IfOk, IfErr, OnOk};
 ghost use Rattle.rt_ids.specs.declared.limits.TheConstants.{TEXT_BYTES};
 ghost use Rattle.rt_app.specs.View.{app_of};
 ghost use Rattle.rt_app.specs.Bodies.{members};

@@ -267,11 +267,6 @@ no_items : (m : Machine) → shown_items m [] ≡ []
 unfolding labels
 no_items m = refl
 
--- one event that shows an item
-pub ends_at : (e : Event) (a : Machine) → 0 < length (shown_items a (e ∷ [])) → EndsInItem (e ∷ []) a
-ends_at e a shows =
-    record { earlier = []; last = e; parts = refl; shows = omega (arith, ap length (no_items a), shows) }
-
 -- one event came, and then a fault
 pub stopped_at : (e : Event) (a b : Machine) (x y held bytes : List ℕ)
     → 0 < length (shown_items a (e ∷ [])) → length held ≤ BUFFER_BYTES → Leads (e ∷ []) a b

@@ -76,15 +76,6 @@ step_lined m names shown w k named item some counted line =
     subst (λ s. AllByRecursion (HasLine m.image.names) (items_of m.steps (Stepped s ∷ []))) (sym (sym item ∙ some))
     (here, tt)
 
--- each event but a silent step shows an item
-pub step_shows : (m : Machine) (shown : Option What) (w : What) → shown ≡ (step m.image m.core).1 → shown ≡ Some w
-    → 0 < length (shown_items m (Step ∷ []))
-unfolding labels happen
-step_shows m shown w item some =
-    let is : items_of m.steps (Stepped (step m.image m.core).1 ∷ []) ≡ numbered m.steps w ∷ [] =
-    ap (λ s. items_of m.steps (Stepped s ∷ [])) (sym item ∙ some) in
-    omega (arith, ap length is)
-
 pub tick_shows : (m : Machine) (came : Bool)
     → (happen m.image m.core Tick).1 ≡ Ticked ∷ (if came then Rang ∷ [] else [])
     → 0 < length (shown_items m (Tick ∷ []))

@@ -323,13 +323,6 @@ module _ (img : Image) (c : Core) (h : IsInRange c) where
     tt,
   )
 
-  same_in : (d : Core) → d.processor ≡ c.processor → d.caller ≡ c.caller → d.below ≡ c.below → IsInRange d
-  same_in d p k b = record {
-    now = subst HasWordsNow (sym p) h.now;
-    caller = subst (λ (o : Option (List ℕ)). AreWords (words_of o)) (sym k) h.caller;
-    below = subst (AllByRecursion IsWordContext) (sym b) h.below;
-  }
-
   alarm_in : (instant irq : ℕ) → IsAfterInRange img (transfer.set_alarm c instant irq)
   alarm_in instant irq =
       if_in img (nat_le instant c.time) (Done (record (transfer.core_after_pend c irq) { alarm = None })

@@ -3,10 +3,9 @@ use Rattle.std.proofs.Common.{◌≡◌, ◌≤◌, ℕ, List, [], ◌++◌, len
 use Rattle.std.proofs.Common.{OnOk}
 use Rattle.std.proofs.Common.{ap, sym}
 use Rattle.std.proofs.Common.{subst, ◌∙◌, append_assoc, arith}
-use Rattle.std.specs.Prelude.{IsErr}
 use Rattle.std.proofs.lemmas.List.{append-nil}
 use Rattle.rt_outside.specs.Bytes.{Took, TookAtLeast, TookPrefix}
-use Rattle.rt_outside.specs.Faults.{Rose, HasCause}
+use Rattle.rt_outside.specs.Faults.{HasCause}
 use Rattle.rt_run.specs.Sending.{TookButHeld}
 use Rattle.rt_run.specs.Inside.Writing.{Wrote}
 
@@ -114,11 +113,3 @@ wrote_end_cut a b c held mid bytes piece first is part =
 -- a fault of a later call is told
 pub cause_on : {T E : Type 0} (a b c : ℕ) (r : Result T E) → b ≡ a → HasCause b c r → HasCause a c r
 cause_on a b c r same cause = subst (λ n. HasCause n c r) same cause
-
--- a fault is told by another error
-pub cause_at : {T E S F : Type 0} (a b c : ℕ) (r : Result T E) (s : Result S F) → b ≡ a → HasCause b c r → IsErr r
-    → HasCause a c s
-cause_at a b c r s same cause failed = record {
-  later = omega (arith, same, cause.later);
-  failed = λ _. subst (λ n. Rose n c) same (cause.failed failed);
-}

@@ -1,5 +1,5 @@
 -- The line of a tick, and that of the alarm behind it.
-use Rattle.std.proofs.Common.{◌≡◌, ℕ, List, [], ◌∷◌, ◌++◌, flat_map, Bool, true, false, if◌then◌else◌, ap, sym}
+use Rattle.std.proofs.Common.{◌≡◌, ℕ, List, [], ◌∷◌, ◌++◌, flat_map, Bool, true, if◌then◌else◌, ap, sym}
 use Rattle.std.proofs.Common.{subst, ◌∙◌, append_assoc}
 use Rattle.std.proofs.lemmas.List.{append-nil}
 use Rattle.rt_ids.specs.Names.{Names}
@@ -24,12 +24,6 @@ abbrev both : Names → ℕ → Bool → List ℕ
 both names step came = flat_map (text names) (items_of step (Ticked ∷ (if came then Rang ∷ [] else [])))
 
 module _ (names : Names) (step : ℕ) (came : Bool) (a b held mid : List ℕ) where
-  -- no alarm came
-  pub tick_alone : came ≡ false → Wrote a b held mid (tick_line names step) → Wrote a b held mid (both names step came)
-  tick_alone none wrote =
-      subst (Wrote a b held mid)
-      (sym (append-nil (tick_line names step)) ∙ ap (λ rang. tick_line names step ++ behind names step rang) (sym none))
-      wrote
 
   -- a fault at the line of the tick
   pub tick_part : TookPrefix a b (held ++ tick_line names step) → TookPrefix a b (held ++ both names step came)

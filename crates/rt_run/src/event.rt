@@ -11,29 +11,6 @@ use rt_ids::Irq;
 use rt_outside::{Failed, Sink};
 use rt_trace::{Item, LineBuffer, What};
 
-/// One core step, with the line of its item where it shows one.
-#[inline(always)]
-pub(crate) fn run_step<K: Sink>(
-    core: &mut Core,
-    out: &mut K,
-    held: &mut LineBuffer,
-) -> Result<(), Failed>
-    requires writable { IsWritable core.old }
-    requires few { core.old.steps < 2 ^ 31 }
-    ensures ok { OnOk result
-        (Writes (Step ∷ []) core.old core.new (K.taken out.old) (K.taken out.new) held.old held.new) }
-    ensures err { OnErr result (Cut (Step ∷ []) core.old core.new (K.taken out.old) (K.taken out.new) held.old) }
-    ensures none_left { OnErr result (held.new ≡ []) }
-    ensures cause { HasCause (K.faults out.old) (K.faults out.new) result }
-    ensures quiet { OnOk result (K.faults out.new ≡ K.faults out.old) }
-{
-    let Some(what) = core.step() else {
-        return Ok(());
-    };
-    let step = core.steps() - 1;
-    put_shown(out, held, step, what, &core.image().names)
-}
-
 /// Core steps up to the first that shows an item, at most so many, with its line. It answers how many of so many are
 /// left.
 #[inline(always)]

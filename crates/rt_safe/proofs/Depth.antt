@@ -96,9 +96,6 @@ module _ (img : Image) where
       let one = row_counts (entry_words img) h.value img.irqs index h is refl in
       omega (arith, one, value_counts h.value)
 
-  abbrev used_by : ℕ → List Context → ℕ
-  used_by frame below = frame + sum_by (context_words (entry_words img)) below
-
   -- a handler of a value stands on what leaves room for it
   over : (index : ℕ) (h : Handler) (priority : ℕ) (words : ℕ) → handler_at img index ≡ Some h → h.value < priority
       → 4 * words + bytes_below img priority ≤ stack_need img

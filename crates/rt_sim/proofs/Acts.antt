@@ -13,7 +13,7 @@ use Rattle.rt_app.specs.Tree.{App}
 use Rattle.rt_app.specs.Holding.{storage, is_kept}
 use Rattle.rt_code.specs.Acting.{Acts}
 use Rattle.rt_code.specs.Image.{Image}
-use Rattle.rt_code.specs.Owning.{OpenSection, Configuration, owns, is_open, MayAccess, Agree}
+use Rattle.rt_code.specs.Owning.{OpenSection, owns, is_open, MayAccess, Agree}
 use Rattle.rt_code.specs.Processor.{Processor}
 use Rattle.rt_code.specs.Standing.{Stands, HaveLeft, configuration_after, spend_step}
 use Rattle.rt_core.specs.Access.{access}
@@ -76,11 +76,6 @@ pending_invariant app img thread m pending long invariant = record {
 
 module _ (app : App) (img : Image) (thread : ℕ) (m : Coupling) (invariant : CouplingInvariant app img thread m)
     (works : IsWorking m.running.role) where
-  abbrev Configured : Configuration
-  Configured = configuration_of m.cells m.queues m.running
-
-  abbrev Later : ℕ → Configuration → Type 0
-  Later n t = Stands (storage app) img.code m.running.rows thread (who m.running) n t
 
   -- a step that is known changes what the running job owns alone
   pub changes_by : (c : Core) (shown : Option What) → step img (core_of app.bits m) ≡ (c, shown)

@@ -15,7 +15,7 @@ use Rattle.rt_app.specs.Holding.{storage}
 use Rattle.rt_code.specs.Acting.{PlacesMessage, ReadiesMessage, StartsMessage, FreesPlace, ArmsMessage, FiresMessage}
 use Rattle.rt_code.specs.Acting.{CancelsMessage, MovesMessage, with_queue}
 use Rattle.rt_code.specs.Image.{Image}
-use Rattle.rt_code.specs.Owning.{Configuration, is_open, MayAccess}
+use Rattle.rt_code.specs.Owning.{is_open, MayAccess}
 use Rattle.rt_code.specs.Processor.{Processor}
 use Rattle.rt_code.specs.Standing.{Stands, HaveLeft, configuration_after, spend_step}
 use Rattle.rt_code.proofs.Mine.{owns_open}
@@ -52,11 +52,6 @@ module _ (app : App) (img : Image) (thread : ℕ) (m : Coupling) (invariant : Co
       (may : MayAccess (storage app) (who m.running) (configuration_of m.cells m.queues m.running)
       (access img (core_of app.bits m))) (q : Processor)
       (plain : GoesPlainly (configuration_of m.cells m.queues m.running) (core_of app.bits m).processor q) where
-    abbrev Here : Configuration
-    Here = configuration_after (spend_step (configuration_of m.cells m.queues m.running)) q
-
-    abbrev Later : Configuration → Type 0
-    Later t = Stands (storage app) img.code m.running.rows thread (who m.running) n t
 
     abbrev Both : Type 0
     Both = StepsBoth app img thread (core_of app.bits m) (state_of m) (whereabouts_of m)

@@ -32,11 +32,6 @@ use Rattle.rt_sim.specs.Inside.Counts.{hands, IsOnce}
 use Rattle.rt_sim.specs.Inside.PartInvariant.{who, PartInvariant, StandsBy, AgreesWith, Owns, Reads, AreApart}
 use Rattle.rt_sim.proofs.Counting.{queued_in, fewer_once}
 
--- a Bool is one of two
-either : (b : Bool) → (b ≡ true) ⊎ (b ≡ false)
-either true = inl refl
-either false = inr refl
-
 pub not_so : (b : Bool) → (b ≡ true → ⊥) → b ≡ false
 not_so true h = absurd (h refl)
 not_so false h = refl

@@ -39,11 +39,6 @@ module _ (app : App) (n word : ℕ) where
   unread Starting held away = ap (λ b. b || false) away
   unread (AtPriority p) held away = ap (λ b. b || false) away
 
-  -- nor does it own it
-  unowned : (runner : Runner) → is_kept app runner (Own n) ≡ false → (storage app).is_kept runner (Own n) ≡ false
-  unfolding storage
-  unowned runner away = away
-
 module _ (app : App) (img : Image) (thread n word : ℕ) (declared : n < length app.locals) where
   abbrev cells_after : List ℕ → List ℕ
   cells_after cells = slice_set cells (local_at app n) word

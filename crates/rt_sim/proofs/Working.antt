@@ -21,7 +21,7 @@ use Rattle.rt_code.specs.Acting.{Noted}
 use Rattle.rt_code.specs.Cells.{resource_cell}
 use Rattle.rt_code.specs.Image.{Image}
 use Rattle.rt_code.specs.Effect.{effect}
-use Rattle.rt_code.specs.Owning.{Configuration, MayAccess}
+use Rattle.rt_code.specs.Owning.{MayAccess}
 use Rattle.rt_code.specs.Processor.{Processor, Effect, Traps, Leads}
 use Rattle.rt_code.specs.Standing.{Stands, HaveLeft, Finishes, configuration_after, spend_step}
 use Rattle.rt_code.specs.declared.image.BodyRow.{BodyRow}
@@ -99,9 +99,6 @@ module _ (app : App) (img : Image) (thread : ℕ) (many : app.bits ≤ 7) (fpu :
       (access img (core_of app.bits m))) where
     abbrev Both : Type 0
     Both = StepsBoth app img thread (core_of app.bits m) (state_of m) (whereabouts_of m)
-
-    abbrev Later : Configuration → Type 0
-    Later t = Stands (storage app) img.code m.running.rows thread (who m.running) n t
 
     by_note : (p : Processor) → GoesPlainly (configuration_of m.cells m.queues m.running) (core_of app.bits m).processor
         p

@@ -49,9 +49,6 @@ run_made image fresh irqs number run script s same is counts =
     ∙ ap (λ (lines : List Line). summary_of 1 (trace image (events lines))) is)
 
 module _ (f : ℕ → Run) where
-  -- no run yet
-  pub no_run : (first : ℕ) → map f (numbers_below first) ++ [] ≡ map f (numbers_below first)
-  no_run first = append-nil (map f (numbers_below first))
 
   -- one run more
   pub one_more : (first n : ℕ) (runs : List Run) (run : Run) → run ≡ f n

@@ -1,10 +1,9 @@
 -- Frames at the end of a region: what was pushed is on top, and a loan of the top leaves what is below.
-use Rattle.std.proofs.Common.{◌≡◌, ℕ, ◌-◌, ◌≤◌, List, ◌++◌, length, take, drop, replicate, ap, ◌∙◌, arith}
-use Rattle.std.proofs.Common.{length-append, length-take, length-drop}
+use Rattle.std.proofs.Common.{◌≡◌, ℕ, ◌-◌, ◌≤◌, List, ◌++◌, length, take, drop, ap, ◌∙◌, arith}
+use Rattle.std.proofs.Common.{length-append, length-drop}
 use Rattle.std.proofs.Math.Seq.{take-append_seam, drop-append_seam}
-use Rattle.std.proofs.lemmas.List.{length-replicate}
 use Rattle.std.specs.List.{refill}
-use Rattle.rt_stack.specs.Region.{Region, used_words, top, below, region_after_push, region_after_pop}
+use Rattle.rt_stack.specs.Region.{Region, used_words, top, below}
 use Rattle.rt_stack.specs.Top.{with_top}
 use Rattle.rt_stack.proofs.Loan.{refill-last, refill-same}
 
@@ -29,27 +28,8 @@ below-behind r xs ws n same =
     let index : length (xs ++ ws) - n ≡ length xs = omega (arith, length-append xs ws) in
     ap (λ k. take k (xs ++ ws)) index ∙ take-append_seam xs ws
 
-pub top-pushed : (r : Region) (n : ℕ) → top (region_after_push r n) n ≡ replicate n 0
-top-pushed r n = top-behind r r.words (replicate n 0) n (length-replicate n 0)
-
-pub popped-pushed : (r : Region) (n : ℕ) → region_after_pop (region_after_push r n) n ≡ r
-popped-pushed r n =
-    let words : below (region_after_push r n) n ≡ r.words = below-behind r r.words (replicate n 0) n
-    (length-replicate n 0) in
-    λ i. record r { words = words i }
-
 module _ (r : Region) (n : ℕ) (ws : List ℕ) (within : n ≤ used_words r) (same : length ws ≡ n) where
   pub with_top-same : with_top r n ws ≡ record r { words = below r n ++ ws }
   with_top-same =
       let long : length (top r n) ≡ n = omega (arith, length-drop (used_words r - n) r.words) in
       λ i. record r { words = below r n ++ refill-same n (top r n) ws long same i }
-
-  pub top-with_top : top (with_top r n ws) n ≡ ws
-  top-with_top = ap (λ f. top f n) with_top-same ∙ top-behind r (below r n) ws n same
-
-  pub below-with_top : below (with_top r n ws) n ≡ below r n
-  below-with_top = ap (λ f. below f n) with_top-same ∙ below-behind r (below r n) ws n same
-
-  pub used-with_top : used_words (with_top r n ws) ≡ used_words r
-  used-with_top =
-      ap used_words with_top-same ∙ omega (arith, length-append (below r n) ws, length-take (used_words r - n) r.words)

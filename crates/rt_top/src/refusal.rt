@@ -1,4 +1,4 @@
-ghost use Rattle.std.specs.Prelude.{◌≡◌, ◌++◌, decimal, OnOk, IfOk};
+ghost use Rattle.std.specs.Prelude.{◌≡◌, ◌++◌, OnOk, IfOk};
 ghost use Rattle.rt_top.specs.Refusal.{limit_word, rule_words, refusal_words, refusal_line};
 
 use rt_ids::{Fault, Limit, NoMemory, Refusal, Rule, push_bytes, push_number};

@@ -1,4 +1,4 @@
-ghost use Rattle.std.specs.Prelude.{◌≡◌, ◌↔◌, ◌<◌, ◌^◌, IsTrue};
+ghost use Rattle.std.specs.Prelude.{◌↔◌, ◌<◌, ◌^◌, IsTrue};
 ghost use Rattle.rt_lines.specs.Numbers.{IsWord};
 ghost use Rattle.rt_lines.specs.Operand as operand;
 ghost use Rattle.rt_trace.specs.Lined as spec;

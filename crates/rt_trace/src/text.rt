@@ -1,4 +1,4 @@
-ghost use Rattle.std.specs.Prelude.{◌≡◌, ◌≤◌, ◌<◌, ◌+◌, ◌^◌, ◌∷◌, ◌++◌, length, map, take, decimal};
+ghost use Rattle.std.specs.Prelude.{◌≡◌, ◌≤◌, ◌<◌, ◌+◌, ◌∷◌, ◌++◌, length, map, take, decimal};
 ghost use Rattle.rt_ids.specs.Naming.{irq_name, task_name, section_name, body_name};
 ghost use Rattle.rt_lines.specs.Operand.{IsBody, IsDeclared, IsSection, IsTask};
 ghost use Rattle.rt_lines.specs.Table.{spaced_text};

@@ -1,7 +1,7 @@
 -- What latches find was pended: each bit that they find is that of an interrupt that some call pended, and they find no
 -- more bits than there are such calls.
-use Rattle.std.proofs.Common.{◌≡◌, ℕ, zero, suc, ◌+◌, ◌*◌, ◌/◌, ◌%◌, ◌<◌, ◌≤◌, ◌==◌, ◌≢◌, ◌⊎◌, Bool, true, false, cond}
-use Rattle.std.proofs.Common.{List, [], ◌∷◌, length, map, filter, get_or, set, replicate, Contains, inl, inr}
+use Rattle.std.proofs.Common.{◌≡◌, ℕ, zero, suc, ◌+◌, ◌*◌, ◌/◌, ◌%◌, ◌<◌, ◌≤◌, ◌==◌, ◌≢◌, Bool, true, false, cond}
+use Rattle.std.proofs.Common.{List, [], ◌∷◌, length, map, filter, get_or, set, replicate}
 use Rattle.std.proofs.Common.{refl, sym, ap}
 use Rattle.std.proofs.Common.{subst, ◌∙◌, arith, eq-eqb, length-append}
 use Rattle.std.specs.Int.{bit_at}
@@ -18,7 +18,6 @@ use Rattle.rt_words.specs.declared.call.Call.TheVariants.{Latch, Pend}
 use Rattle.rt_words.specs.Object.{IsPending, after, IsAnswered, pending_bit}
 use Rattle.rt_words.specs.History.{Entry, LeavesWords, IsLegal, part}
 use Rattle.rt_words.specs.Ending.{calls_in}
-use Rattle.rt_words.proofs.Lists.{in_cases, in_none}
 use Rattle.rt_words.proofs.Bits.{with_bit, with_bit_other, pend_other, zero_pending, bit_of_word, zeros}
 
 -- how many of the first bits of a word are set
@@ -173,51 +172,6 @@ part_counts f g none more (e ∷ history) n = by (part_counts f g none more hist
 
 pub part_found : (history : List Entry) (n : ℕ) → found_in (part history n) ≤ found_in (calls_in history)
 part_found history n = part_counts (found_there every) found_in refl (λ c calls. refl) history n
-
-abbrev pub lengths_of : List ℕ → List Entry → ℕ
-lengths_of [] history = 0
-lengths_of (n ∷ ns) history = length (part history n) + lengths_of ns history
-
-part_grows : (e : Entry) (history : List Entry) (n : ℕ) → length (part history n) ≤ length (part (e ∷ history) n)
-part_grows e history n = by (e.line == n)
-  where
-    by : (b : Bool) → length (part history n)
-        ≤ length (map (λ (x : Entry). x.call) (cond b (e ∷ filter (λ x. x.line == n) history)
-        (filter (λ x. x.line == n) history)))
-    by true = omega arith
-    by false = omega arith
-
-part_here : (e : Entry) (history : List Entry) (n : ℕ) → e.line ≡ n
-    → length (part (e ∷ history) n) ≡ suc (length (part history n))
-part_here e history n same =
-    ap (λ b. length (map (λ (x : Entry). x.call) (cond b (e ∷ filter (λ x. x.line == n) history)
-    (filter (λ x. x.line == n) history)))) (eq-eqb e.line n same)
-
-lengths_grow : (ns : List ℕ) (e : Entry) (history : List Entry) → lengths_of ns history ≤ lengths_of ns (e ∷ history)
-lengths_grow [] e history = omega arith
-lengths_grow (n ∷ ns) e history = omega (arith, part_grows e history n, lengths_grow ns e history)
-
-lengths_more : (ns : List ℕ) (e : Entry) (history : List Entry) → Contains ns e.line
-    → suc (lengths_of ns history) ≤ lengths_of ns (e ∷ history)
-lengths_more [] e history is = absurd (in_none e.line is)
-lengths_more (n ∷ ns) e history is = elim (in_cases n e.line ns is) [
-  | inl same ↦ omega (arith, part_here e history n (sym same), lengths_grow ns e history)
-  | inr more ↦ omega (arith, part_grows e history n, lengths_more ns e history more)
-]
-
--- each pend is of one of these lines
-pub asked_few : (ns : List ℕ) (history : List Entry)
-    → AllByRecursion (λ (e : Entry). (asked_by e.call ≡ 0) ⊎ Contains ns e.line) history
-    → asked_in (calls_in history) ≤ lengths_of ns history
-asked_few ns [] all = omega arith
-asked_few ns (e ∷ history) all = elim all.0 [
-  | inl none ↦ omega (arith, none, lengths_grow ns e history, asked_few ns history all.1)
-  | inr is ↦ omega (arith, one e.call, lengths_more ns e history is, asked_few ns history all.1)
-]
-  where
-    one : (c : Call) → asked_by c ≤ 1
-    one (Pend irq answer) = omega arith
-    one (Latch k word) = omega arith
 
 -- what holds of each line's calls holds of each entry
 pub all_parts : (Q : ℕ → Call → Type 0) (history : List Entry)

@@ -13,7 +13,6 @@ pub mod Opening
 pub mod Accounting
 pub mod Parting
 pub mod Closing
-pub mod Silent
 pub mod Worked
 pub mod Blind
 pub mod Found

@@ -24,11 +24,6 @@ module _ {X : Type 0} where
   pub in_none : (y : X) → Contains [] y → ⊥
   in_none y h = let l = h.1 in omega arith
 
-  pub in_push : (xs : List X) (x y : X) → Contains (xs ++ x ∷ []) y → Contains xs y ⊎ (x ≡ y)
-  in_push [] x y h = ⊎_elim (λ e. inr e) (λ t. inl t) (in_cases x y [] h)
-  in_push (z ∷ zs) x y h = ⊎_elim (λ e. inl (subst (λ (w : X). Contains (w ∷ zs) y) (sym e) (in_head y zs)))
-      (λ t. ⊎_elim (λ u. inl (in_tail z y zs u)) (λ e. inr e) (in_push zs x y t)) (in_cases z y (zs ++ x ∷ []) h)
-
   pub drop_push : (n : ℕ) (xs : List X) (x : X) → n ≤ length xs → drop n (xs ++ x ∷ []) ≡ drop n xs ++ x ∷ []
   drop_push zero xs x l = refl
   drop_push (suc n) [] x l = absurd (omega arith)

@@ -36,6 +36,7 @@ impl Tally {
 }
 
 /// Adds one to the count of each interrupt whose bit this word of a core holds.
+#[inline(always)]
 pub(crate) fn count_bits(counts: &mut [u32; COUNTS], word: u8, bits: u32)
     requires word { word < 16 }
     requires room { (irq : ℕ) → slice_index counts.old irq < 2 ^ 32 - 1 }
@@ -44,9 +45,20 @@ pub(crate) fn count_bits(counts: &mut [u32; COUNTS], word: u8, bits: u32)
         → slice_index counts.new irq ≡ slice_index counts.old irq + cond (latches irq (Latch word bits)) 1 0 }
 {
     // Most words that are latched are empty.
-    if bits == 0 {
-        return;
+    if bits != 0 {
+        count_each(counts, word, bits);
     }
+}
+
+// The same by a loop over the bits.
+#[inline(never)]
+fn count_each(counts: &mut [u32; COUNTS], word: u8, bits: u32)
+    requires word { word < 16 }
+    requires room { (irq : ℕ) → slice_index counts.old irq < 2 ^ 32 - 1 }
+    ensures room { length counts.new ≡ length counts.old }
+    ensures counted { (irq : ℕ)
+        → slice_index counts.new irq ≡ slice_index counts.old irq + cond (latches irq (Latch word bits)) 1 0 }
+{
     let first = usize::from(word) * BITS;
     for bit in 0..BITS {
         if (bits >> bit) & 1 == 1 {

@@ -1,5 +1,5 @@
 -- Lines of a run that are not silent: those that ask the core for something, and those whose note says what is done.
-use Rattle.rt_gen_queue.proofs.Vocabulary.{Action, Agree, Clocks, Doing, Emits, Entry, Guarded, HasCodeAt, Location}
+use Rattle.rt_gen_queue.proofs.Vocabulary.{Action, Agree, Clocks, Doing, Entry, Guarded, HasCodeAt, Location}
 use Rattle.rt_gen_queue.proofs.Vocabulary.{Instr}
 use Rattle.rt_gen_queue.proofs.Vocabulary.{Line, LineFits, List, None, Posts, SetsAlarm, Some, Values, and_right, ap}
 use Rattle.rt_gen_queue.proofs.Vocabulary.{arith, delays, does, effect, is_open, least_instant, length, length-set, map}
@@ -11,7 +11,7 @@ use Rattle.rt_code.specs.Acting.{Acts}
 use Rattle.rt_code.specs.declared.instr.Instr.TheVariants as instr
 use Rattle.rt_gen_queue.proofs.Layer.Correct.{Gives, Later, S, at_passed, by_line}
 use Rattle.rt_gen_queue.proofs.Layer.Jobs.{Here, Setting, lasts_less, configuration}
-use Rattle.rt_gen_queue.proofs.Layer.Requests.{alarms_here, clocks_here, emits_here, no_alarm_here, posts_here}
+use Rattle.rt_gen_queue.proofs.Layer.Requests.{alarms_here, clocks_here, no_alarm_here, posts_here}
 use Rattle.rt_gen_queue.proofs.Layer.Runs.{MayRun, Straight, all_fit, first_fits, fits, next_in_time, placed, slot_of}
 use Rattle.rt_gen_queue.proofs.Layer.Runs.{word_of}
 use Rattle.rt_gen_queue.proofs.Layer.Window.{Frame, Now, free_there, is_free, window, window_free, window_set}
@@ -97,15 +97,6 @@ module _ {size mask : ℕ} where
       → Straight z f lines (record h { done = suc h.done; at = suc h.at; rest = rest vs }) ws
 
   module _ {z : Setting} {f : Frame size mask} {lines : List Line} {h : Here} {ws : List ℕ} where
-    -- a value is emitted
-    pub emits : {x : ℕ} {values : Values} {rest : Values → Doing Values} (v : ℕ) → slice_index ws x ≡ v
-        → h.rest ≡ does (Emits v) values (λ answer. rest) → Follow z f lines h ws values rest
-        → Straight z f (plain (instr.Emit x) ∷ lines) h ws
-    emits {x = x} {rest = rest} v shown is on = record {
-      runs = λ may has. emits_here v has.0 (next_in_time may) (slot_of x may (first_fits may))
-          (word_of x v may (first_fits may) shown) is
-          (λ vs agree. (on vs agree).runs (may_follow h.places h.cells h.queues (rest vs) ws refl may) has.1);
-    }
 
     -- an interrupt becomes pending
     pub posts : {irq : ℕ} {values : Values} {rest : Values → Doing Values}

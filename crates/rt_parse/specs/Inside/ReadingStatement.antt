@@ -12,10 +12,6 @@ use Rattle.rt_parse.specs.Inside.ReadingExpression.{is_name}
 use Rattle.rt_parse.specs.Inside.ReadingSimple.{bind_at, assign_at, emit_at, pend_at, call_at}
 use Rattle.rt_parse.specs.Inside.ReadingNested.{branch_at, loop_at, further_at, lock_at}
 
--- a reader that takes how many blocks may be opened, and how many statements may come
-abbrev pub Blocks : Type 0
-Blocks = ℕ → ℕ → Reader (Counted Block)
-
 -- a statement that begins with another word and holds no block
 abbrev pub simple_at : ℕ → Reader (Counted Statement)
 simple_at room tokens =

@@ -1,4 +1,4 @@
-use Rattle.std.proofs.Common.{◌≡◌, ◌+◌, replicate, refl, subst, arith}
+use Rattle.std.proofs.Common.{◌≡◌, replicate, refl, subst, arith}
 use Rattle.rt_ids.specs.Event.{Arrive}
 use Rattle.rt_count.specs.Inside.Counting.{Counted}
 use Rattle.rt_count.proofs.Following.{nothing_yet, more, pend_uncounted}

@@ -1,6 +1,6 @@
 use Rattle.std.proofs.Common.{◌≡◌, ℕ, ◌+◌, length, slice_index}
 use Rattle.rt_words.proofs.Counting.{counted}
-use Rattle.rt_words.proofs.tally.count_bits.Given as goal
+use Rattle.rt_words.proofs.tally.count_each.Given as goal
 
 abbrev pub invariant-loop-bit : goal.invariant-loop-bit
 invariant-loop-bit l = record {
