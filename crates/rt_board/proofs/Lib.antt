@@ -1,0 +1,5 @@
+pub mod Telling
+pub mod Inputs
+pub mod Named
+pub mod Refused
+pub mod Wrongly

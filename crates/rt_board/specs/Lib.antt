@@ -1,0 +1,6 @@
+pub mod Board
+pub mod Wording
+pub mod Reading
+pub mod Told
+pub mod Wrong
+pub mod Text

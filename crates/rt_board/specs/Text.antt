@@ -1,0 +1,22 @@
+-- What is printed where a board text is refused: the line's number, and the cause by its number and in words.
+use Rattle.std.specs.Prelude.{ℕ, List, ◌++◌, codes, decimal}
+use Rattle.rt_board.specs.declared.refusal.Cause.{Cause}
+use Rattle.rt_board.specs.declared.refusal.Cause.TheVariants as cause
+
+-- where it is refused
+abbrev pub place : ℕ → List ℕ
+place line = codes "board:" ++ (decimal line ++ codes " ")
+
+-- the number and the words of a cause
+abbrev pub words : Cause → List ℕ
+words cause.TooLong = codes "1 too long"
+words cause.BadLine = codes "2 bad line"
+words cause.UnknownTask = codes "3 unknown task"
+words cause.SoftwareTask = codes "4 software task"
+words cause.UnknownLocal = codes "5 unknown local"
+words cause.LocalOfAnother = codes "6 local of another"
+words cause.NamedTwice = codes "7 named twice"
+
+-- the line that is printed
+abbrev pub refusal_text : ℕ → Cause → List ℕ
+refusal_text line c = place line ++ (words c ++ codes "\n")
