@@ -1,0 +1,4 @@
+pub mod Unused
+pub mod Joined
+pub mod Free
+pub mod Takes
