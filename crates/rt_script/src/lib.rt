@@ -15,4 +15,4 @@ pub use line::Line;
 pub use reading::{first_line, read_script};
 pub use refusal::ScriptRefused;
 pub use script::Script;
-pub use words::{is_blank, is_comment, is_loose};
+pub use words::{Wrong, is_blank, is_comment, is_loose, read_line};

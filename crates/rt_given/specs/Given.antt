@@ -1,0 +1,51 @@
+-- What a script beside devices is: the lines of a script, and between them the words that devices hold from there on.
+-- It is this project's own, as scripts are.
+use Rattle.std.specs.Prelude.{ℕ, ◌^◌, ◌<◌, Contains, List, [], ◌∷◌, flat_map, map}
+use Rattle.std.specs.List.{AllByRecursion}
+use Rattle.rt_ids.specs.declared.limits.TheConstants.{DEVICES}
+use Rattle.rt_script.specs.declared.line.Line.{Line}
+use Rattle.rt_script.specs.declared.line.Line.TheVariants as line
+use Rattle.rt_board.specs.Board.{Board}
+use Rattle.rt_given.specs.declared.line.GivenLine.{GivenLine}
+use Rattle.rt_given.specs.declared.line.GivenLine.TheVariants.{Steps, Ticks, Pends, Device, Gives}
+
+-- what a script's line asks for
+abbrev pub asks : Line → GivenLine
+asks (line.Steps n) = Steps n
+asks (line.Ticks n) = Ticks n
+asks (line.Pends irq n) = Pends irq n
+asks (line.Device d irq n) = Device d irq n
+
+-- the script's line, where it is one
+abbrev pub asked_line : GivenLine → List Line
+asked_line (Steps n) = line.Steps n ∷ []
+asked_line (Ticks n) = line.Ticks n ∷ []
+asked_line (Pends irq n) = line.Pends irq n ∷ []
+asked_line (Device d irq n) = line.Device d irq n ∷ []
+asked_line (Gives local word) = []
+
+-- the script that is left without the words of devices
+abbrev pub asked : List GivenLine → List Line
+asked lines = flat_map asked_line lines
+
+-- how many events a line is
+abbrev pub count_of : GivenLine → ℕ
+count_of (Steps n) = n
+count_of (Ticks n) = n
+count_of (Pends irq n) = n
+count_of (Device d irq n) = n
+count_of (Gives local word) = 0
+
+-- the device whose requests a line asks for, where it does, is one of those that there are
+abbrev pub HasDeviceInRange : GivenLine → Type 0
+HasDeviceInRange (Device d irq n) = d < DEVICES
+HasDeviceInRange line = Unit {0}
+
+-- a word that a line gives has 32 bits, and is for an input of the board
+abbrev pub GivesInput : Board → GivenLine → Type 0
+GivesInput board (Gives local word) = Contains (map (λ input. input.local) board.inputs) local × (word < 2 ^ 32)
+GivesInput board line = Unit {0}
+
+-- each word that is given is
+abbrev pub GiveInputs : Board → List GivenLine → Type 0
+GiveInputs board lines = AllByRecursion (GivesInput board) lines

@@ -1,0 +1,4 @@
+pub mod Given
+pub mod Wording
+pub mod Reading
+pub mod Text

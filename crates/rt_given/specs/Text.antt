@@ -1,0 +1,22 @@
+-- What is printed where a script beside devices is refused: the line's number, and the cause by its number and in
+-- words. The first five are those of scripts.
+use Rattle.std.specs.Prelude.{ℕ, List, ◌++◌, codes, decimal}
+use Rattle.rt_given.specs.declared.refusal.Cause.{Cause}
+use Rattle.rt_given.specs.declared.refusal.Cause.TheVariants as cause
+
+-- where it is refused
+abbrev pub place : ℕ → List ℕ
+place line = codes "script:" ++ (decimal line ++ codes " ")
+
+-- the number and the words of a cause
+abbrev pub words : Cause → List ℕ
+words cause.TooLong = codes "1 too long"
+words cause.BadLine = codes "2 bad line"
+words cause.UnknownInterrupt = codes "3 unknown interrupt"
+words cause.TooManyEvents = codes "4 too many events"
+words cause.TooManyDevices = codes "5 too many devices"
+words cause.UnknownInput = codes "6 unknown input"
+
+-- the line that is printed
+abbrev pub refusal_text : ℕ → Cause → List ℕ
+refusal_text line c = place line ++ (words c ++ codes "\n")

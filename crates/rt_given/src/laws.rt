@@ -1,0 +1,11 @@
+ghost use Rattle.rt_ids.specs.Names.{Names};
+ghost use Rattle.rt_lines.specs.Reading.{IsReadOneWay};
+ghost use Rattle.rt_app.specs.Tree.{App};
+ghost use Rattle.rt_board.specs.Board.{Board};
+ghost use Rattle.rt_given.specs.Reading.{given_reader};
+
+/// Each text that is not too long is a script beside devices or has a first wrong line, not both, and in one way.
+#[tactic(auto, using(rt_lines::proofs::Reading::read_one_way))]
+pub fn texts_are_read_one_way()
+    ensures { (names : Names) (app : App) (board : Board) → IsReadOneWay (given_reader names app board) }
+{}
