@@ -57,7 +57,6 @@ unserved irq (s ∷ ss) fresh = go (s.irq == irq) refl
     go false e rest = rw e rest
 
 module _ (app : App) (at : Entries) where
-
   -- and one more
   pub one_served : (ss : List Service) (s : Service) (table : List (Option Handler)) → HasHandlers app at ss table
       → s.irq < length app.irqs → filter (λ o. o.irq == s.irq) ss ≡ []

@@ -19,6 +19,12 @@ has_room img c n = stack.has_room (img.stack_bytes / 4) (stack_in_use img c) n
 abbrev pub core_after_pend : Core → ℕ → Core
 core_after_pend c irq = record c { pending = slice_set c.pending irq true }
 
+-- the core after a word has been put into a cell from outside, as a device writes a register that a body reads
+abbrev pub core_after_word : Core → ℕ → ℕ → Core
+core_after_word c cell word = record c {
+  processor = record c.processor { cells = slice_set c.processor.cells cell word };
+}
+
 -- the core after exception entry (ARMv7-M Architecture Reference Manual, section B1.5.6)
 abbrev pub core_after_entry : Core → ℕ → Handler → Core
 core_after_entry c irq h = record c {

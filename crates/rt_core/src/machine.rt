@@ -1,5 +1,5 @@
-ghost use Rattle.std.specs.Prelude.{◌≡◌, ℕ, ◌+◌, ◌*◌, ◌<◌, ◌≤◌, ◌^◌, [], ◌∷◌, map, replicate, false, IfOk, OnOk};
-ghost use Rattle.std.specs.Prelude.{OnErr};
+ghost use Rattle.std.specs.Prelude.{◌≡◌, ℕ, ◌+◌, ◌*◌, ◌<◌, ◌≤◌, ◌^◌, [], ◌∷◌, length, map, replicate, false, IfOk};
+ghost use Rattle.std.specs.Prelude.{OnOk, OnErr};
 ghost use Rattle.std.specs.Prelude.{if◌then◌else◌};
 ghost use Rattle.std.specs.Int.{bit_at};
 ghost use Rattle.rt_ids.specs.declared.limits.TheConstants.{IRQ_NUMBERS};
@@ -10,6 +10,7 @@ ghost use Rattle.rt_trace.specs.Label.{Ticked, Rang};
 ghost use Rattle.rt_core.specs.Core as spec;
 ghost use Rattle.rt_core.specs.Machine.{IsFresh};
 ghost use Rattle.rt_core.specs.Trace as trace;
+ghost use Rattle.rt_core.specs.Transfer.{core_after_word};
 ghost use Rattle.rt_core.specs.Inside.Parts.{HasPriorities};
 ghost use Rattle.rt_core.specs.Inside.Enabling.{HasPrioritiesBelow};
 
@@ -189,6 +190,14 @@ impl Core {
         } }
     {
         self.nvic.arrive(k, bits);
+    }
+
+    /// A device puts a word into a cell.
+    pub fn put(&mut self, cell: u16, word: u32)
+        requires { cell < length self.old.core.processor.cells }
+        ensures { self.new ≡ record self.old { core = core_after_word self.old.core cell word } }
+    {
+        self.cells[usize::from(cell)] = word;
     }
 
     /// The time rises by one. It answers whether the alarm came.

@@ -407,9 +407,9 @@ impl Core {
         self.go(came)
     }
 
-    /// Silent core steps, and behind them one that is begun and not done, at most as many steps as are left. It counts
-    /// down those that are left, writes the code address at which the last of them began and what its instruction
-    /// answered, and leaves the number of steps in the core as it was.
+    /// Silent core steps, and behind them one that is begun and not done: at least one, and at most as many as are left.
+    /// It counts down those that are left, writes the code address at which the last of them began and what its
+    /// instruction answered, and leaves the number of steps in the core as it was.
     #[inline(never)]
     fn advance(
         &mut self,
@@ -417,11 +417,11 @@ impl Core {
         address: &mut u32,
         came: &mut Result<Request, Trap>,
     ) -> Begun
+        requires some { 0 < left.old }
         ensures reached { (after : spec.Core) (shown : Option What)
             → settle (outcome_of_rest self.new.image self.new.core address.new result came.new) ≡ (after, shown)
             → Reaches self.old.image self.old.core after (left.old - left.new) shown }
-        ensures within { left.new ≤ left.old }
-        ensures fewer { 0 < left.old → left.new < left.old }
+        ensures fewer { left.new < left.old }
         ensures all { result ≡ Begun.Silent → left.new ≡ 0 }
         ensures entry { (irq : ℕ) → result ≡ Begun.Entry irq
             → option_map (λ row. row.number) (priority.pick self.new.image self.new.core) ≡ Some irq }
@@ -429,34 +429,51 @@ impl Core {
             → self.new.core.processor.address + 1 < 2 ^ 32 }
         ensures rest { self.new ≡ record self.old { core = self.new.core } }
     {
-        while *left > 0 {
+        loop {
             *left -= 1;
             *address = self.registers.address;
             let begun = self.begin(came);
-            if !matches!(begun, Begun::Silent) {
+            if *left == 0 || !matches!(begun, Begun::Silent) {
                 return begun;
             }
         }
-        Begun::Silent
+    }
+
+    /// Completes a core step that has begun at a code address, by what its instruction answered.
+    #[inline(never)]
+    fn complete(&mut self, begun: Begun, came: &Result<Request, Trap>, address: u32) -> Option<What>
+        requires entry { (irq : ℕ) → begun ≡ Begun.Entry irq
+            → option_map (λ row. row.number) (priority.pick self.old.image self.old.core) ≡ Some irq }
+        requires next { begun ≡ Begun.Asked → (row from : ℕ) → came.now ≡ Ok (request.Call row from)
+            → self.old.core.processor.address + 1 < 2 ^ 32 }
+        ensures settled { settle (outcome_of_rest self.old.image self.old.core address begun came.now)
+            ≡ (self.new.core, result) }
+        ensures rest { self.new ≡ record self.old { core = self.new.core } }
+    {
+        match begun {
+            Begun::Silent => None,
+            Begun::Entry(irq) => self.take(irq),
+            Begun::Noted => self.tell(address),
+            Begun::Asked => self.conclude(came, address),
+        }
     }
 
     /// Core steps up to the first that is not silent, at most as many as are left, which it counts down. It answers the
     /// item of the last of them, where it gives one.
     #[inline(always)]
     fn go_some(&mut self, left: &mut u32) -> Option<What>
+        requires some { 0 < left.old }
         ensures reached { Reaches self.old.image self.old.core self.new.core (left.old - left.new) result }
-        ensures within { left.new ≤ left.old }
-        ensures fewer { 0 < left.old → left.new < left.old }
+        ensures fewer { left.new < left.old }
         ensures rest { self.new ≡ record self.old { core = self.new.core } }
     {
         let mut address = 0;
         let mut came = Ok(Request::Nothing);
-        match self.advance(left, &mut address, &mut came) {
-            Begun::Silent => None,
-            Begun::Entry(irq) => self.take(irq),
-            Begun::Noted => self.tell(address),
-            Begun::Asked => self.conclude(&came, address),
+        let begun = self.advance(left, &mut address, &mut came);
+        if matches!(begun, Begun::Silent) {
+            return None;
         }
+        self.complete(begun, &came, address)
     }
 
     /// Whether the core waits for an interrupt: it is at a `wait` without a note, and none is to be taken. Its step is

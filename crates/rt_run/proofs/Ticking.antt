@@ -24,7 +24,6 @@ abbrev both : Names → ℕ → Bool → List ℕ
 both names step came = flat_map (text names) (items_of step (Ticked ∷ (if came then Rang ∷ [] else [])))
 
 module _ (names : Names) (step : ℕ) (came : Bool) (a b held mid : List ℕ) where
-
   -- a fault at the line of the tick
   pub tick_part : TookPrefix a b (held ++ tick_line names step) → TookPrefix a b (held ++ both names step came)
   tick_part part =

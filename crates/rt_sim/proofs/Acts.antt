@@ -76,7 +76,6 @@ pending_invariant app img thread m pending long invariant = record {
 
 module _ (app : App) (img : Image) (thread : ℕ) (m : Coupling) (invariant : CouplingInvariant app img thread m)
     (works : IsWorking m.running.role) where
-
   -- a step that is known changes what the running job owns alone
   pub changes_by : (c : Core) (shown : Option What) → step img (core_of app.bits m) ≡ (c, shown)
       → MayAccess (storage app) (who m.running) (configuration_of m.cells m.queues m.running)

@@ -52,7 +52,6 @@ module _ (app : App) (img : Image) (thread : ℕ) (m : Coupling) (invariant : Co
       (may : MayAccess (storage app) (who m.running) (configuration_of m.cells m.queues m.running)
       (access img (core_of app.bits m))) (q : Processor)
       (plain : GoesPlainly (configuration_of m.cells m.queues m.running) (core_of app.bits m).processor q) where
-
     abbrev Both : Type 0
     Both = StepsBoth app img thread (core_of app.bits m) (state_of m) (whereabouts_of m)
 

@@ -173,7 +173,6 @@ module _ (app : App) (who : Runner) (handles : Bool) where
       → owns_in app who handles (sections_locked locked) (Own n) ≡ true)
       (level_is : (n : ℕ) (t : Task) → slice_get app.tasks n ≡ Some t → is_software t ≡ true
       → Contains (levels app) t.priority) where
-
     abbrev RespectsLater : List ℕ → Later → Type 0
     RespectsLater locked later = (vars : List ℕ) → AlwaysRespects app who handles (sections_locked locked) (later vars)
 

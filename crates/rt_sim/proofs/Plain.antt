@@ -148,7 +148,6 @@ module _ (app : App) (img : Image) (thread : ℕ) where
       (record s { lefts = ls })) (lefts_passed p.lefts p.left) stands
 
   module _ (m : Coupling) (invariant : CouplingInvariant app img thread m) (works : IsWorking m.running.role) where
-
     -- what a plain instruction leads to, where what is left, the values and the places are these
     pub plain_fits : (q : Processor) (n : ℕ) (rest : Doing Values) (values : Values) (places : List Entry)
         (queues : Location → List Entry)

@@ -2,7 +2,7 @@
 -- started job may use, as hardware hands over a received byte, a pin or a conversion; Baker's machine takes the same
 -- word. All that is said of a good image holds of such runs too, whatever the words are. That devices write words
 -- between events is this project's own; on a board the body reads a register.
-use Rattle.std.specs.Prelude.{◌≡◌, ℕ, ◌+◌, ◌^◌, ◌<◌, ◌≤◌, List, [], ◌∷◌, ◌++◌, length, take, count_by, slice_set, Some}
+use Rattle.std.specs.Prelude.{◌≡◌, ℕ, ◌+◌, ◌^◌, ◌<◌, ◌≤◌, List, [], ◌∷◌, ◌++◌, length, take, count_by, Some}
 use Rattle.std.specs.List.{AllByRecursion}
 use Rattle.rt_ids.specs.Event.{Event, steps}
 use Rattle.rt_trace.specs.Label.{Label, IsNoTrap, items_of, steps_of}
@@ -17,6 +17,7 @@ use Rattle.rt_code.specs.Image.{Image}
 use Rattle.rt_core.specs.Access.{access}
 use Rattle.rt_core.specs.Core.{Core, reset, depth}
 use Rattle.rt_core.specs.Trace.{happen}
+use Rattle.rt_core.specs.Transfer.{core_after_word}
 use Rattle.rt_laws.specs.State.{first}
 use Rattle.rt_laws.specs.Observer.{first_sight, sees_all}
 use Rattle.rt_laws.specs.Properties.{KeepsLaws}
@@ -31,9 +32,7 @@ use Rattle.rt_sim.specs.Whereabouts.{Whereabouts, IsOnce, IsAtReset, AreMoved, t
 
 -- the core after a device has put a word into the cell of a local resource
 abbrev pub core_after_put : App → ℕ → ℕ → Core → Core
-core_after_put app n word c = record c {
-  processor = record c.processor { cells = slice_set c.processor.cells (local_at app n) word };
-}
+core_after_put app n word c = core_after_word c (local_at app n) word
 
 module _ (app : App) (img : Image) where
   -- the core after events and words

@@ -49,7 +49,6 @@ run_made image fresh irqs number run script s same is counts =
     ∙ ap (λ (lines : List Line). summary_of 1 (trace image (events lines))) is)
 
 module _ (f : ℕ → Run) where
-
   -- one run more
   pub one_more : (first n : ℕ) (runs : List Run) (run : Run) → run ≡ f n
       → map f (numbers_below first) ++ runs ≡ map f (numbers_below n)

@@ -97,7 +97,6 @@ module _ {size mask : ℕ} where
       → Straight z f lines (record h { done = suc h.done; at = suc h.at; rest = rest vs }) ws
 
   module _ {z : Setting} {f : Frame size mask} {lines : List Line} {h : Here} {ws : List ℕ} where
-
     -- an interrupt becomes pending
     pub posts : {irq : ℕ} {values : Values} {rest : Values → Doing Values}
         → h.rest ≡ does (Posts irq) values (λ answer. rest) → Follow z f lines h ws values rest

@@ -26,7 +26,7 @@ returns-then-is_some-clause-reached c =
     c.go_some-shown.result)
     (let e : c.min-most.result - c.go_some-shown.new.left
     ≡ c.loop-left.left - (c.loop-left.left - (c.min-most.result - c.go_some-shown.new.left)) =
-    omega (arith, c.min-most.ensures, c.go_some-shown.ensures.within) in e)
+    omega (arith, c.min-most.ensures, c.go_some-shown.ensures.fewer) in e)
     c.go_some-shown.ensures.reached)
 
 pub loop-left-preserved : goal.loop-left-preserved
@@ -40,7 +40,7 @@ loop-left-preserved c =
           (subst (λ n. Reaches c.loop-left.self.image c.loop-left.self.core c.go_some-shown.new.self.core n None)
           (let e : c.min-most.result - c.go_some-shown.new.left
           ≡ c.loop-left.left - (c.loop-left.left - (c.min-most.result - c.go_some-shown.new.left)) =
-          omega (arith, c.min-most.ensures, c.go_some-shown.ensures.within) in e)
+          omega (arith, c.min-most.ensures, c.go_some-shown.ensures.fewer) in e)
           (subst (λ shown. Reaches c.loop-left.self.image c.loop-left.self.core c.go_some-shown.new.self.core
           (c.min-most.result - c.go_some-shown.new.left) shown) none c.go_some-shown.ensures.reached));
       within = omega (arith, c.loop-left.invariant.within);

@@ -8,13 +8,13 @@ use Rattle.rt_core.proofs.machine.Core.step.Goals as goal
 
 pub returns-clause-item : goal.returns-clause-item
 returns-clause-item c =
-    let one : 1 - c.go_some.new.left ≡ 1 = omega (arith, c.go_some.ensures.fewer (omega arith)) in
+    let one : 1 - c.go_some.new.left ≡ 1 = omega (arith, c.go_some.ensures.fewer) in
     sym (ap (λ s. s.1) (one_done _ _ _ _ _ c.go_some.ensures.reached one))
     ∙ ap (λ (m : Machine). (stepping.step m.image m.core).1) c.self.view_is
 
 pub returns-clause-state : goal.returns-clause-state
 returns-clause-state c =
-    let one : 1 - c.go_some.new.left ≡ 1 = omega (arith, c.go_some.ensures.fewer (omega arith)) in
+    let one : 1 - c.go_some.new.left ≡ 1 = omega (arith, c.go_some.ensures.fewer) in
     let done : stepping.step c.self.inside.program (core c.self.inside)
     ≡ (c.go_some.new.self.core, c.go_some.result) =
     one_done c.self.inside.program (core c.self.inside) c.go_some.new.self.core (1 - c.go_some.new.left) c.go_some.result
