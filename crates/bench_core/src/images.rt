@@ -1,3 +1,5 @@
+// Images whose code spins.
+
 use rt_code::{Handler, Image, Instr, IrqRow, Line};
 use rt_ids::{Irq, Name, Names, NoMemory, Op};
 use std::alloc::Global;

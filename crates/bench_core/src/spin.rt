@@ -1,3 +1,5 @@
+// Lets a core spin, and counts what it shows.
+
 ghost use Rattle.std.specs.Prelude.{◌≡◌, ◌<◌, ◌^◌};
 
 use rt_core::Core;

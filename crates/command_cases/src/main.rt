@@ -1,6 +1,10 @@
 // Runs the tables of commands that stand in data/, and prints a line for each case: its name, and `ok` or what
 // differs. What tokens, canonical texts, reports, refusals, listings, traces and verdicts are to be comes from an
 // independent implementation.
+// Promises: nothing: it is a program of tests.
+// Stands on: test_tables, test_commands, rt_ids, rt_lex, rt_outside, rt_app, rt_build, rt_ceil, rt_frames, rt_report,
+// rt_code, rt_core, rt_sim, rt_script, rt_trace, rt_baker, rt_live.
+// Read next: data/commands.
 #![tactic(auto)]
 
 mod account;

@@ -1,3 +1,5 @@
+// Cases of applications with messages, as items.
+
 use crate::live::is_audited;
 use anyhow::{Context, Result};
 use std::alloc::Global;

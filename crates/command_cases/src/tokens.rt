@@ -1,3 +1,5 @@
+// Cases of tokens and places.
+
 ghost use Rattle.std.specs.Prelude.{◌≤◌, length};
 ghost use Rattle.rt_ids.specs.declared.limits.TheConstants.{TEXT_BYTES};
 

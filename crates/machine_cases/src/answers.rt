@@ -1,3 +1,5 @@
+// Compares the tables of a program with what a case says.
+
 use crate::names::irq_of;
 use crate::part::text;
 use anyhow::{Context, Result};

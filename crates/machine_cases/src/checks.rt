@@ -1,3 +1,5 @@
+// What is told of each kind of case.
+
 ghost use Rattle.std.specs.Prelude.{◌≡◌};
 ghost use Rattle.rt_code.specs.Runnable.{IsRunnable};
 

@@ -1,3 +1,5 @@
+// Reads the code of a case.
+
 use crate::instr::{instr, note};
 use crate::part::{push, words_of};
 use anyhow::{Result, bail};

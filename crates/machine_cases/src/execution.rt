@@ -1,3 +1,5 @@
+// Executes the one instruction of a case.
+
 use crate::code::read_instr;
 use crate::held::Held;
 use crate::names::add_irq;

@@ -1,3 +1,5 @@
+// A value of several parts that is let go by a call.
+
 ghost use Rattle.std.specs.Prelude.{◌≡◌};
 
 /// A value of several parts that is let go by a call. A function that holds one has that call at each of its ends, in

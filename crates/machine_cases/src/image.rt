@@ -1,3 +1,5 @@
+// The image of a case.
+
 use crate::code::take_code;
 use crate::held::Held;
 use crate::instr::number;

@@ -1,3 +1,5 @@
+// Reads instructions and notes.
+
 use crate::names::{body, irq, section, task};
 use rt_code::{Instr, Note};
 use rt_ids::{Names, Op, TaskId};

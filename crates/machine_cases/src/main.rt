@@ -1,6 +1,9 @@
 // Runs the tables of cases of the machine that stand in data/, and of the texts of traces and scripts, and prints a
 // line for each case: its name, and `ok` or what differs. What cores are to show, and what texts are to be read as,
 // comes from an independent implementation.
+// Promises: nothing: it is a program of tests.
+// Stands on: test_tables, rt_ids, rt_code, rt_image_tables, rt_core, rt_trace, rt_listing, rt_script.
+// Read next: src/checks.rt, then data.
 #![tactic(auto)]
 
 mod answers;

@@ -1,3 +1,5 @@
+// The names of a case.
+
 use anyhow::{Result, bail};
 use rt_ids::limits::{IRQS, SHARED, TASKS};
 use rt_ids::{BodyId, Irq, Names, Prio, Section, TaskId, is_name};

@@ -1,3 +1,5 @@
+// Reads the parts of a case.
+
 use anyhow::{Context, Result};
 use rt_ids::NoMemory;
 use std::alloc::{AllocError, Global};

@@ -1,3 +1,5 @@
+// Runs a script on a core, and writes its trace.
+
 ghost use Rattle.std.specs.Prelude.{◌≡◌, ◌+◌, ◌≤◌, ◌<◌, ◌^◌};
 
 use anyhow::{Result, bail};

@@ -1,3 +1,5 @@
+// What is told of the texts of traces and scripts.
+
 use crate::image::image;
 use crate::play::write_item;
 use anyhow::{Result, bail};

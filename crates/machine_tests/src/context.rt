@@ -1,3 +1,5 @@
+// Tests of frames, step by step.
+
 ghost use Rattle.std.specs.Prelude.{◌<◌, ◌≤◌, ◌+◌, length};
 ghost use Rattle.rt_context.specs.declared.sizes.TheConstants.{CONTEXTS};
 

@@ -1,3 +1,5 @@
+// Asserts that a value is the one that is wanted.
+
 use std::fmt::Debug;
 use std::process::Abort;
 

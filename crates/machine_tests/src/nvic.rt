@@ -1,3 +1,5 @@
+// Tests of the interrupt controller.
+
 use crate::equal::assert_same;
 use rt_ids::Irq;
 use rt_nvic::Nvic;

@@ -1,3 +1,5 @@
+// Tests of the stack's region.
+
 ghost use Rattle.std.specs.Prelude.{◌≡◌, ◌<◌, ◌≤◌, ◌++◌, slice_set};
 ghost use Rattle.rt_stack.specs.Region.{used_words, top, below};
 

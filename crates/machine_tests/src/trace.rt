@@ -1,3 +1,5 @@
+// Tests of the values of a message.
+
 use crate::equal::assert_same;
 use rt_trace::Args;
 

@@ -1,6 +1,9 @@
 // Tests of what commands do not show: sources and sinks with each call that fails, the bounds of types, and pending
 // words in threads. Cases stand in data/, and each has a line: its name, and `ok` or what differs. What the bounds are,
 // and what became of pends, is printed itself.
+// Promises: nothing: it is a program of tests.
+// Stands on: test_tables, rt_ids, rt_outside, rt_words.
+// Read next: data.
 #![tactic(auto)]
 
 mod bounds;

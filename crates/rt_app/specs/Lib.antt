@@ -1,3 +1,4 @@
+-- The definitions of this crate, a file each.
 pub mod Tree
 pub mod Variables
 pub mod View

@@ -1,3 +1,5 @@
+// An application with its names resolved: what it declares.
+
 ghost use Rattle.std.specs.Prelude.{◌≡◌, slice_get};
 ghost use Rattle.std.specs.Option.{option_copied};
 ghost use Rattle.rt_app.specs.Level.{is_software, is_of_level};

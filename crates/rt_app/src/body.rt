@@ -1,3 +1,5 @@
+// A body of an application: what it lists, and its statements.
+
 use crate::stmt::Stmt;
 use rt_ids::ResId;
 

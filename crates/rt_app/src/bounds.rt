@@ -1,3 +1,5 @@
+// The numbers that `check` prints besides ceilings, as a structure.
+
 use rt_ids::BodyId;
 use std::marker::Model;
 

@@ -1,3 +1,5 @@
+// The ceilings of an application, as a structure.
+
 use std::marker::Model;
 
 /// The ceiling of a ready queue.

@@ -1,3 +1,5 @@
+// An expression whose names are resolved.
+
 use rt_ids::{Op, ResId};
 
 /// What a name in an expression or an assignment stands for.

@@ -1,3 +1,5 @@
+// Laws of accepted applications: costs are sums, the documented numbers hold, and each is sound.
+
 ghost use Rattle.rt_app.specs.Acceptance.{AcceptedAreSound};
 ghost use Rattle.rt_app.specs.Constants.{TellCosts, TellUnknown};
 ghost use Rattle.rt_app.specs.Steps.{CapSteps};

@@ -1,3 +1,5 @@
+// Where the cells of an application lie in memory, as a structure.
+
 use rt_ids::CellRow;
 use std::marker::Model;
 

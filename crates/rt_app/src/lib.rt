@@ -1,4 +1,7 @@
 // Applications with their names resolved, and what they mean: rules, ceilings, costs, frames, bounds, memory.
+// Promises: every accepted application is sound; most definitions of the theory are here.
+// Stands on: rt_lemmas, rt_ids.
+// Read next: specs/Tree.antt, then specs/Meaning.antt: what a statement means.
 #![tactic(auto)]
 
 pub mod app;

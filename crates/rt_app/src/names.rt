@@ -1,3 +1,5 @@
+// The names of an application, for the texts that name things of it.
+
 ghost use Rattle.std.specs.Prelude.{◌≡◌, ◌≤◌, [], length, map, IfOk, OnOk};
 ghost use Rattle.std.specs.List.{AllByRecursion};
 ghost use Rattle.rt_ids.specs.Lists.{AreDifferent};

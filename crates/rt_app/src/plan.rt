@@ -1,3 +1,5 @@
+// What code is generated from, beside the application: ceilings, cells, frames.
+
 use crate::app::App;
 use crate::ceilings::Ceilings;
 use crate::layout::Layout;

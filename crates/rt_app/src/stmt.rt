@@ -1,3 +1,5 @@
+// A statement whose names are resolved.
+
 ghost use Rattle.std.specs.Prelude.{◌≡◌};
 ghost use Rattle.rt_app.specs.Tree as tree;
 ghost use Rattle.rt_app.specs.View.{expression_of, statement_of, block_of};

@@ -1,3 +1,5 @@
+// A rule that is broken, and the offset of its place.
+
 use rt_ids::Rule;
 
 /// A rule that an application breaks, and where.

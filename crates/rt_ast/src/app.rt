@@ -1,3 +1,5 @@
+// The tree of an application: its declarations and bodies.
+
 use crate::ident::{Ident, Number};
 use crate::stmt::Stmt;
 

@@ -1,3 +1,5 @@
+// The tree of an expression.
+
 use crate::ident::Ident;
 use rt_ids::Op;
 

@@ -1,3 +1,5 @@
+// A name or a number of a text, with its offset.
+
 use rt_ids::Name;
 
 /// A name, and where it is in the text.

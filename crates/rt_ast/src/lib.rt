@@ -1,4 +1,7 @@
 // The trees of application texts.
+// Promises: nothing yet is said of a tree: its canonical text is a definition.
+// Stands on: rt_ids.
+// Read next: specs/Tree.antt, then specs/Canonical.antt.
 #![tactic(auto)]
 
 pub mod app;

@@ -1,3 +1,5 @@
+// The tree of a statement.
+
 ghost use Rattle.std.specs.Prelude.{◌≡◌};
 ghost use Rattle.rt_ast.specs.Tree as tree;
 ghost use Rattle.rt_ast.specs.View.{expression_of, statement_of, block_of};

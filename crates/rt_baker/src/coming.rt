@@ -1,3 +1,5 @@
+// Whether an item may come, and the state after it.
+
 ghost use Rattle.std.specs.Prelude.{◌≡◌, true, false, None, Some, ℕ, IsTrue, IsFalse, IfOk};
 ghost use Rattle.rt_app.specs.View.{app_of};
 ghost use Rattle.rt_laws.specs.Preemption as preemption;

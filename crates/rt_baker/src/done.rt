@@ -1,3 +1,5 @@
+// How far an audit has come, in core steps.
+
 ghost use Rattle.std.specs.Prelude.{◌≡◌, ℕ, suc, ◌<◌, ◌≤◌, ◌-◌, MatchOption, if◌then◌else◌};
 ghost use Rattle.rt_laws.specs.ByItems.{label_of, steps_after};
 ghost use Rattle.rt_baker.specs.Judge.{steps_done};

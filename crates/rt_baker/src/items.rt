@@ -1,3 +1,5 @@
+// Judges one item, and the total.
+
 ghost use Rattle.std.specs.Prelude.{◌≡◌, IsTrue, IsFalse, IfOk};
 ghost use Rattle.rt_app.specs.Tree.{App};
 ghost use Rattle.rt_app.specs.Stack.{stack_bytes};

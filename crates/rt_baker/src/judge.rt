@@ -1,3 +1,5 @@
+// A judge that keeps no item: it hears them one after another.
+
 ghost use Rattle.std.specs.Prelude.{◌≡◌, ◌++◌, ◌∷◌, [], List, OnOk, IfOk, length};
 ghost use Rattle.rt_trace.specs.declared.item.Item as traced;
 ghost use Rattle.rt_app.specs.Stack as stack;

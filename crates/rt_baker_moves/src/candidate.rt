@@ -1,3 +1,5 @@
+// The pending interrupts, and which of them is to be taken.
+
 ghost use Rattle.std.specs.Prelude.{◌≡◌, ◌≤◌, ◌==◌, length, insert, position, Some, OnOk, option_map};
 ghost use Rattle.rt_ids.specs.Lists.{or_zero};
 ghost use Rattle.rt_app.specs.View.{app_of};

@@ -1,3 +1,5 @@
+// The ceilings of sections.
+
 ghost use Rattle.std.specs.Prelude.{◌≡◌, slice_index};
 ghost use Rattle.rt_ids.specs.Lists.{or_zero};
 ghost use Rattle.rt_app.specs.Ceiling.{ceiling};

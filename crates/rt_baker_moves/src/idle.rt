@@ -1,3 +1,5 @@
+// The thread after `init`.
+
 ghost use Rattle.std.specs.Prelude.{IfOk, []};
 ghost use Rattle.rt_ids.specs.Action.{Ends};
 ghost use Rattle.rt_ids.specs.declared.ids.BodyId.TheVariants as body_id;

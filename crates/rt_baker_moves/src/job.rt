@@ -1,3 +1,5 @@
+// A started job.
+
 ghost use Rattle.std.specs.Prelude.{◌≡◌, ◌-◌, [], OnOk, MatchOption, map};
 ghost use Rattle.rt_ids.specs.Action.{Clocks};
 ghost use Rattle.rt_app.specs.View.{app_of};

@@ -1,3 +1,5 @@
+// Baker's machine on one application, with what it knows beforehand.
+
 use rt_app::Ceilings;
 use rt_baker_work::{Code, Handler};
 

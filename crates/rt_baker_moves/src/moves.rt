@@ -1,3 +1,5 @@
+// The moves of the machine, one for each item.
+
 ghost use Rattle.std.specs.Prelude.{◌≡◌, [], true, OnOk, MatchOption};
 ghost use Rattle.std.specs.List.{AllByRecursion};
 ghost use Rattle.rt_ids.specs.Action.{Clocks};

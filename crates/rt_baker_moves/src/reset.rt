@@ -1,3 +1,5 @@
+// The state at reset.
+
 ghost use Rattle.std.specs.Prelude.{◌≡◌, ◌++◌, [], IfOk, map, replicate};
 ghost use Rattle.rt_app.specs.View.{app_of};
 ghost use Rattle.rt_laws.specs.State.{first_values};

@@ -1,3 +1,5 @@
+// What serves each interrupt.
+
 ghost use Rattle.std.specs.Prelude.{◌≡◌, ◌<◌, ◌≤◌, ℕ, length, map, filter, find, slice_index_or, nat_lt, None, IfOk};
 ghost use Rattle.std.specs.Prelude.{if◌then◌else◌};
 ghost use Rattle.rt_ids.specs.Lists.{greatest, is_some_and};

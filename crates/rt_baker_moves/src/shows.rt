@@ -1,3 +1,5 @@
+// Whether an item shows the end of a job.
+
 ghost use Rattle.std.specs.Prelude.{◌≡◌, ◌↔◌, IsTrue, IsFalse, None, Some, if◌then◌else◌};
 ghost use Rattle.rt_app.specs.Tree.{App};
 ghost use Rattle.rt_laws.specs.Giving.{left_value, gives, is_due};

@@ -1,3 +1,5 @@
+// Whether costs have steps left for silent ones.
+
 ghost use Rattle.std.specs.Prelude.{◌≡◌, nat_le, IsTrue, IsFalse};
 ghost use Rattle.std.specs.List.{list_all};
 ghost use Rattle.rt_app.specs.Tree.{App};

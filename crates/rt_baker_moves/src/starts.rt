@@ -1,3 +1,5 @@
+// How jobs start.
+
 ghost use Rattle.std.specs.Prelude.{◌≡◌, ◌<◌, ◌^◌, ℕ, [], false, slice_index_or, None, Some, IfOk, OnOk, replicate};
 ghost use Rattle.rt_ids.specs.declared.limits.TheConstants.{IRQ_NUMBERS};
 ghost use Rattle.rt_trace.specs.Label.{Stepped};

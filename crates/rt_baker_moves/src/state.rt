@@ -1,3 +1,5 @@
+// A state of Baker's machine, as the auditor keeps it.
+
 ghost use Rattle.std.specs.Prelude.{◌≡◌, OnOk};
 ghost use Rattle.rt_app.specs.View.{app_of};
 ghost use Rattle.rt_laws.specs.Allowed.{state_after_item};

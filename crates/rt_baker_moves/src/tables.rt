@@ -1,3 +1,5 @@
+// Makes what is known beforehand of an application.
+
 ghost use Rattle.std.specs.Prelude.{◌≡◌, ◌<◌, ℕ, slice_index, IfOk};
 ghost use Rattle.rt_app.specs.Accepted.{IsAccepted};
 ghost use Rattle.rt_app.specs.BodyCost.{cost_measure, timer_section_cost, handle_section_cost};

@@ -1,3 +1,5 @@
+// The actions of a job that others can see.
+
 use crate::message::Message;
 use rt_ids::{Section, TaskId};
 

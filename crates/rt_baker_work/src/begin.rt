@@ -1,3 +1,5 @@
+// How bodies begin.
+
 ghost use Rattle.std.specs.Prelude.{◌≡◌, ◌+◌, ◌≤◌, ◌++◌, [], OnOk, option_map, replicate};
 ghost use Rattle.rt_app.specs.Tree as tree;
 ghost use Rattle.rt_app.specs.View.{statement_of, block_of, body_of, app_of};

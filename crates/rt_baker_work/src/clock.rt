@@ -1,3 +1,5 @@
+// What is done with the time that was read.
+
 ghost use Rattle.std.specs.Prelude.{◌≡◌, ◌+◌, ◌<◌, ◌^◌, min, OnOk};
 ghost use Rattle.rt_ids.specs.declared.limits.TheConstants.{LONGEST_DELAY};
 ghost use Rattle.rt_app.specs.Tree.{App};

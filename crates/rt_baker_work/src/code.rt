@@ -1,3 +1,5 @@
+// What is known beforehand of an application whose code is followed.
+
 use rt_app::App;
 use rt_frames::Measure;
 use rt_ids::TaskId;

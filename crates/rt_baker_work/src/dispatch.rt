@@ -1,3 +1,5 @@
+// What a dispatcher does.
+
 ghost use Rattle.std.specs.Prelude.{◌≡◌, ◌+◌, ◌≤◌, ◌∷◌, [], ◌++◌, OnOk, List, if◌then◌else◌};
 ghost use Rattle.rt_ids.specs.Lists.{is_empty};
 ghost use Rattle.rt_ids.specs.Content as content;

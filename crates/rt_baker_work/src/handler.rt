@@ -1,3 +1,5 @@
+// How a handler begins.
+
 ghost use Rattle.std.specs.Prelude.{◌≡◌, ◌≤◌, OnOk, length};
 ghost use Rattle.rt_ids.specs.declared.limits.TheConstants.{TASKS};
 ghost use Rattle.rt_app.specs.View.{app_of};

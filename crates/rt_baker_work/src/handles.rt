@@ -1,3 +1,5 @@
+// What a `cancel` and a `reschedule_after` do.
+
 ghost use Rattle.std.specs.Prelude.{◌+◌, ◌<◌, ◌≤◌, ◌^◌, OnOk};
 ghost use Rattle.rt_ids.specs.Action.{Leaves};
 ghost use Rattle.rt_ids.specs.declared.ids.Section.TheVariants as section;

@@ -1,3 +1,5 @@
+// Finds capacities, priorities and numbers in an application.
+
 ghost use Rattle.std.specs.Prelude.{◌≡◌};
 ghost use Rattle.rt_ids.specs.Lists.{or_zero};
 ghost use Rattle.rt_app.specs.Bodies.{task_priority};

@@ -1,3 +1,5 @@
+// Messages that are ready, and messages that are armed.
+
 ghost use Rattle.std.specs.Prelude.{◌≡◌, IfOk};
 
 use rt_ids::{NoMemory, TaskId};

@@ -1,3 +1,5 @@
+// What a spawn does.
+
 ghost use Rattle.std.specs.Prelude.{◌≡◌, ◌+◌, ◌≤◌, OnOk};
 ghost use Rattle.rt_app.specs.Tree.{App};
 ghost use Rattle.rt_app.specs.View.{app_of};

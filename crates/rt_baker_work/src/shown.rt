@@ -1,3 +1,5 @@
+// Whether an item shows this action.
+
 ghost use Rattle.std.specs.Prelude.{◌≡◌, ◌↔◌, IsTrue};
 ghost use Rattle.rt_ids.specs.declared.ids.BodyId.TheVariants as body;
 

@@ -1,3 +1,5 @@
+// What a statement leaves to do.
+
 ghost use Rattle.std.specs.Prelude.{◌≡◌, ◌==◌, if◌then◌else◌, ◌∷◌, [], ◌++◌, ◌+◌, ◌-◌, ◌*◌, ◌≤◌, OnOk, IfOk, map};
 ghost use Rattle.rt_ids.specs.declared.ids.Section.TheVariants as section;
 ghost use Rattle.rt_app.specs.declared.costs.TheConstants.{FREE_COST};

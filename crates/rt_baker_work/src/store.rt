@@ -1,3 +1,5 @@
+// What resources and queues hold.
+
 ghost use Rattle.std.specs.Prelude.{◌≡◌, ◌≤◌, ◌++◌, OnOk, drop, is_some, length, map, slice_index};
 ghost use Rattle.rt_ids.specs.Action.{effect, Places, Frees, Readies, Starts, Arms, Fires, Cancels, Moves};
 ghost use Rattle.rt_ids.specs.Content as content;

@@ -1,3 +1,5 @@
+// The armed messages: the first that is due, and the one of a handle.
+
 ghost use Rattle.std.specs.Prelude.{◌≡◌, ◌≤◌, OnOk, None, Some, option_map, position};
 ghost use Rattle.rt_ids.specs.Content.{least_instant, lesser, has_instant, has_handle};
 ghost use Rattle.rt_app.specs.Tree as tree;

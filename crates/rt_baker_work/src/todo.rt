@@ -1,3 +1,5 @@
+// The things that are left to do for a job, as a list over its statements.
+
 ghost use Rattle.std.specs.Prelude.{◌≡◌};
 ghost use Rattle.rt_baker_work.specs.Work.{is_seen};
 

@@ -1,3 +1,5 @@
+// The value of an expression.
+
 ghost use Rattle.std.specs.Prelude.{◌≡◌};
 ghost use Rattle.rt_app.specs.View.{expression_of};
 ghost use Rattle.rt_app.specs.Meaning.{read, value_in};

@@ -1,3 +1,5 @@
+// Goes on to the next thing that others can see.
+
 ghost use Rattle.std.specs.Prelude.{◌≡◌, ◌+◌, ◌-◌, ◌<◌, ◌≤◌, ◌^◌, OnOk};
 ghost use Rattle.rt_app.specs.View.{block_of, app_of};
 ghost use Rattle.rt_app.specs.Meaning.{run_block};

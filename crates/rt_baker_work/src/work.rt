@@ -1,3 +1,5 @@
+// What is left to do for a job, and the calls on it.
+
 ghost use Rattle.std.specs.Prelude.{◌≡◌, ◌∷◌, [], ◌++◌, OnOk, slice_set, MatchOption, option_map, replicate};
 ghost use Rattle.rt_app.specs.View.{block_of};
 ghost use Rattle.rt_app.specs.Variables.{variables};

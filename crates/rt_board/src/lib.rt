@@ -1,4 +1,7 @@
 // Boards: which local resources of an application a device writes, and how a text says it.
+// Promises: exact: the board of a text, or its first wrong line; a text names each input once.
+// Stands on: rt_lemmas, rt_ids, rt_lines, rt_script, rt_app.
+// Read next: specs/Board.antt, then specs/Told.antt and src/reading.rt.
 #![tactic(auto)]
 
 pub mod board;

@@ -1,3 +1,5 @@
+// The rows of the bodies that dispatchers call.
+
 ghost use Rattle.std.specs.Prelude.{◌≡◌, ◌<◌, length, slice_get, Some, true, IfOk};
 ghost use Rattle.rt_app.specs.Frame.{frame_words};
 ghost use Rattle.rt_app.specs.Level.{is_software};

@@ -1,3 +1,5 @@
+// The code of an application: its parts in order, and where each begins.
+
 ghost use Rattle.std.specs.Prelude.{◌≡◌, ◌<◌, List, [], ◌∷◌, ◌++◌, length, sum_by, slice_get, Some, None};
 ghost use Rattle.std.specs.Prelude.{IfOk, OnOk};
 ghost use Rattle.rt_app.specs.BodyCost.{size_measure, cost_of, dispatcher_size, timer_size};

@@ -1,3 +1,5 @@
+// Laws of images: each application has one, and what correct code is worth.
+
 ghost use Rattle.rt_build.specs.Laws.{CodeKeepsLaws, FixedCodeHasOneImage, ImagesExist, OneImageIsBuilt};
 
 /// What holds of all code that stands, in every application's memory: it stands with more code after it, with more

@@ -1,3 +1,5 @@
+// The tables of an image: interrupts, bodies, the stack.
+
 ghost use Rattle.std.specs.Prelude.{◌≡◌, ℕ, ◌<◌, [], length, map, slice_get, Some, false, IfOk};
 ghost use Rattle.std.specs.List.{zip};
 ghost use Rattle.rt_app.specs.Handlers.{Runs, Dispatches, Times, Service, dispatcher_of, task_services, services};

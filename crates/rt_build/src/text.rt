@@ -1,3 +1,5 @@
+// The application of a text, or its refusal, in one call; and the laws that it is one of both.
+
 ghost use Rattle.std.specs.Prelude.{◌≡◌, IfOk, Err};
 ghost use Rattle.rt_ids.specs.declared.refusal.Fault.{Fault};
 ghost use Rattle.rt_ids.specs.declared.refusal.Refused.TheVariants as why;

@@ -1,3 +1,5 @@
+// The application of a tree, or the first rule that it breaks.
+
 ghost use Rattle.std.specs.Prelude.{◌≡◌, IfOk, Err};
 ghost use Rattle.rt_ids.specs.declared.refusal.Fault.{Fault};
 ghost use Rattle.rt_ids.specs.declared.refusal.Refused.TheVariants as why;

@@ -1,3 +1,5 @@
+// Fills the tables of users, body by body.
+
 ghost use Rattle.std.specs.Prelude.{◌≡◌, map, option_map, IfOk};
 ghost use Rattle.std.specs.List.{fold};
 ghost use Rattle.rt_app.specs.View.{block_of, body_of, task_of, app_of};

@@ -1,3 +1,5 @@
+// The one public call: the ceilings of an application.
+
 ghost use Rattle.std.specs.Prelude.{◌≡◌, IfOk};
 ghost use Rattle.rt_app.specs.View.{app_of};
 ghost use Rattle.rt_app.specs.Ceiling.{ceilings};

@@ -1,3 +1,5 @@
+// Reads the ceilings off the filled tables.
+
 ghost use Rattle.std.specs.Prelude.{◌≡◌, length, map, IfOk};
 ghost use Rattle.rt_app.specs.View.{task_of};
 ghost use Rattle.rt_app.specs.declared.costs.TheConstants.{PRIORITIES};

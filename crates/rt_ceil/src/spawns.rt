@@ -1,3 +1,5 @@
+// Counts what the spawns of a body use.
+
 ghost use Rattle.std.specs.Prelude.{◌≡◌, slice_get};
 ghost use Rattle.std.specs.List.{fold};
 ghost use Rattle.rt_app.specs.Spawned.{statement_spawns, spawns, value_spawns};

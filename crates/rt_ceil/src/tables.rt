@@ -1,3 +1,5 @@
+// For each thing that a section guards, the greatest priority of its users so far.
+
 ghost use Rattle.std.specs.Prelude.{◌≡◌, replicate, IfOk};
 ghost use Rattle.rt_app.specs.View.{app_of};
 ghost use Rattle.rt_ceil.specs.Inside.Tables.{zero_tables, raised_table, raised_level};

@@ -1,3 +1,4 @@
+-- The lemmas of this crate, a file each.
 pub mod Done
 pub mod Asking
 pub mod Touching

@@ -1,3 +1,5 @@
+// Executes one instruction.
+
 ghost use Rattle.std.specs.Prelude.{◌≡◌, ℕ, ◌+◌, ◌^◌, ◌<◌, nat_lt, true, false, List, length, slice_index, slice_set};
 ghost use Rattle.std.specs.Prelude.{IfOk, OnOk, IfErr};
 ghost use Rattle.rt_code.specs.Processor.{processor, Gives};

@@ -1,3 +1,5 @@
+// An image: code, rows of interrupts and bodies, cells.
+
 ghost use Rattle.std.specs.Prelude.{◌≡◌, ◌≤◌};
 ghost use Rattle.rt_ids.specs.declared.exception.TheConstants.{BASIC_FRAME_WORDS};
 ghost use Rattle.rt_code.specs.Image.{entry_words};

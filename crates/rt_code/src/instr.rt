@@ -1,3 +1,5 @@
+// Instructions, notes and lines of code.
+
 use rt_ids::{BodyId, Irq, Op, Section, TaskId};
 
 /// An instruction. A slot is a word of the running frame, from 0; a cell is a word of memory, from 0; a code address

@@ -1,3 +1,5 @@
+// Laws of instructions, of written names, and of correct code.
+
 ghost use Rattle.rt_code.specs.Laws.{EffectIsDone};
 ghost use Rattle.rt_code.specs.Listable.{NamesAreWritable};
 

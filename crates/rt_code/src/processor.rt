@@ -1,3 +1,5 @@
+// What instructions work on, what they ask of the core, and why they trap.
+
 ghost use Rattle.std.specs.Prelude.{◌≡◌};
 ghost use Rattle.rt_code.specs.Trap.{trap_number};
 

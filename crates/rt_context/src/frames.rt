@@ -1,3 +1,5 @@
+// The frames on a core's stack: exception entry and return, calls of bodies.
+
 ghost use Rattle.std.specs.Prelude.{◌≡◌, ℕ, ◌+◌, ◌*◌, ◌/◌, ◌%◌, ◌^◌, ◌<◌, ◌≤◌, IsTrue, IfOk, Some, None, false};
 ghost use Rattle.std.specs.Prelude.{length};
 ghost use Rattle.rt_ids.specs.declared.exception.TheConstants.{BASIC_FRAME_WORDS};

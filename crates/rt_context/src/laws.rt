@@ -1,3 +1,5 @@
+// The law that the depth is four bytes for each word.
+
 ghost use Rattle.rt_context.specs.Laws.{DepthCountsTheWords};
 
 /// The depth of frames is four bytes for each of their words.

@@ -1,5 +1,8 @@
 // The frames on a core's stack: the running one, that of a handler whose called body runs, and below them what each
 // entered handler interrupted. They lie in one region of words, with the architecture's frame at each exception entry.
+// Promises: entry, return, calls and their return do on frames what the definitions say.
+// Stands on: rt_lemmas, rt_ids, rt_stack, rt_code.
+// Read next: specs/Moves.antt, then src/frames.rt.
 #![tactic(auto)]
 
 mod body;

@@ -1,3 +1,5 @@
+// The alarm of the monotonic.
+
 use rt_ids::Irq;
 
 /// When the alarm of the monotonic comes, in ticks since reset, and the interrupt that it makes pending.

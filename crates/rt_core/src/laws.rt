@@ -1,3 +1,5 @@
+// Laws of the core: what it takes, what an event does, what a step may be.
+
 ghost use Rattle.rt_core.specs.Taken.{TakesTheFirst};
 ghost use Rattle.rt_core.specs.Touching.{ChangesItsCellAlone, DependsOnItsLoadAlone};
 ghost use Rattle.rt_core.specs.Laws as laws;

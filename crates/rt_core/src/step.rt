@@ -1,3 +1,5 @@
+// What a core step is made of.
+
 ghost use Rattle.std.specs.Prelude.{◌≡◌, ◌≢◌, ℕ, suc, ◌+◌, ◌-◌, ◌<◌, ◌≤◌, ◌^◌, true, Option, Some, None, option_map};
 ghost use Rattle.std.specs.Prelude.{slice_get, Ok, IfOk, IfErr, OnErr};
 ghost use Rattle.rt_code.specs.Effect.{effect};

@@ -1,3 +1,5 @@
+// The six counts, and their lines.
+
 ghost use Rattle.std.specs.Prelude.{◌≡◌, ◌^◌, [], ◌++◌, IfOk, OnOk};
 ghost use Rattle.rt_count.specs.Summary as spec;
 ghost use Rattle.rt_count.specs.Joining.{joined_summary, IsWithin, HasRoom};

@@ -1,3 +1,5 @@
+// The text of the demonstration application.
+
 ghost use Rattle.std.specs.Prelude.{◌≡◌, ◌≤◌, ◌++◌, flat_map, IfOk, OnOk};
 ghost use Rattle.rt_ids.specs.Lists.{numbers_below};
 ghost use Rattle.rt_demo.specs.Demo as spec;

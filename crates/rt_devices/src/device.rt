@@ -1,3 +1,5 @@
+// A device, which pends interrupts in a thread of its own.
+
 ghost use Rattle.std.specs.Prelude.{◌≡◌, ◌+◌, ◌-◌, ◌^◌, ◌<◌, length, replicate};
 ghost use Rattle.std.specs.List.{AllByRecursion};
 ghost use Rattle.rt_words.specs.Row.{bit_in_row};

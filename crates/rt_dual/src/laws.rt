@@ -1,3 +1,5 @@
+// The law that posts and looks of both cores are ordered.
+
 ghost use Rattle.rt_dual.specs.Laws.{NothingComesOfNothing, PairsAreOrdered};
 
 /// In the one history of both cores a post comes before the look that finds it, and a look before the posts that it

@@ -1,3 +1,5 @@
+// Runs two cores beside each other.
+
 ghost use Rattle.std.specs.Prelude.{◌≡◌, ◌⊎◌, [], ℕ, List, OnOk, OnErr, IsErrOf};
 ghost use Rattle.rt_code.specs.Lines.{HasLines};
 ghost use Rattle.rt_core.specs.Machine.{IsFresh};

@@ -1,3 +1,5 @@
+// How many messages may be armed at once, and which rows they have.
+
 ghost use Rattle.std.specs.Prelude.{◌≡◌, ◌≤◌, ◌∷◌, [], map, option_map, flat_map, if◌then◌else◌};
 ghost use Rattle.rt_app.specs.View.{spawn_of, value_of, statement_of, block_of, body_of, task_of, app_of};
 ghost use Rattle.rt_app.specs.Spawned.{value_spawns, statement_spawns, spawns};

@@ -1,3 +1,5 @@
+// The bounds of an application, from its ceilings.
+
 ghost use Rattle.std.specs.Prelude.{◌≡◌, ◌≤◌, ◌∷◌, [], ◌++◌, length, map, option_map, IfOk, OnOk, if◌then◌else◌};
 ghost use Rattle.rt_ids.specs.declared.limits.TheConstants.{TASKS};
 ghost use Rattle.rt_app.specs.View.{body_of, task_of, app_of};

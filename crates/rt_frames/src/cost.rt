@@ -1,3 +1,5 @@
+// Costs of bodies, dispatchers and the timer handler, in core steps, and their sizes.
+
 ghost use Rattle.std.specs.Prelude.{◌≡◌, ◌-◌, ◌^◌, min, option_map, sum_by};
 ghost use Rattle.rt_app.specs.View.{body_of, app_of};
 ghost use Rattle.rt_app.specs.Bodies.{body_at};

@@ -1,3 +1,5 @@
+// A flag for each number that a byte can hold.
+
 ghost use Rattle.std.specs.Prelude.{◌≡◌, ◌∷◌, [], count_by, false};
 ghost use Rattle.rt_frames.specs.Inside.Flags.{flags_with, HasFlags};
 

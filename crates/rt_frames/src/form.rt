@@ -1,3 +1,5 @@
+// Whether an application is of the form of `times` or of `deepest`.
+
 ghost use Rattle.std.specs.Prelude.{◌≡◌, ◌&&◌, option_map, not};
 ghost use Rattle.std.specs.List.{list_all};
 ghost use Rattle.rt_app.specs.View.{statement_of, block_of, body_of, task_of, app_of};

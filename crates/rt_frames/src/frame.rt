@@ -1,3 +1,5 @@
+// The frame of a body: its parts, and where each begins.
+
 ghost use Rattle.std.specs.Prelude.{◌≡◌, ◌+◌, ◌≤◌, map, max, option_map, true, if◌then◌else◌};
 ghost use Rattle.rt_app.specs.View.{expression_of, spawn_of, value_of, statement_of, block_of, body_of, app_of};
 ghost use Rattle.rt_ids.specs.Lists.{greatest};

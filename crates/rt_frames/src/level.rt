@@ -1,3 +1,5 @@
+// The levels of software tasks.
+
 ghost use Rattle.std.specs.Prelude.{◌≡◌, ◌<◌, ◌∷◌, [], map, length, count_by};
 ghost use Rattle.std.specs.List.{list_any, AllByRecursion};
 ghost use Rattle.rt_app.specs.View.{task_of, app_of};

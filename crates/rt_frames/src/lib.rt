@@ -1,4 +1,7 @@
 // What bodies take: core steps, instructions, words of their frames; how deep the stack gets, and how long jobs wait.
+// Promises: costs, sizes, frames, waits and the stack bound are those of the definitions, and no number wraps.
+// Stands on: rt_lemmas, rt_ids, rt_app.
+// Read next: src/bound.rt; the definitions are in rt_app/specs, from Cost.antt on.
 #![tactic(auto)]
 
 pub mod armed;

@@ -1,3 +1,5 @@
+// A sum over the statements of a body: of steps, or of instructions.
+
 ghost use Rattle.std.specs.Prelude.{◌≡◌, ◌+◌, ◌*◌, ◌≤◌, map};
 ghost use Rattle.rt_app.specs.View.{expression_of, spawn_of, value_of, statement_of, block_of, body_of, app_of};
 ghost use Rattle.rt_app.specs.Level.{is_armed};

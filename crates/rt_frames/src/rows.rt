@@ -1,3 +1,5 @@
+// The rows of the timer queue that belong to each task.
+
 ghost use Rattle.std.specs.Prelude.{◌≡◌, ◌≤◌, if◌then◌else◌};
 ghost use Rattle.rt_app.specs.View.{app_of};
 ghost use Rattle.rt_app.specs.Level.{is_armed, armed_messages, capacities_before};

@@ -1,3 +1,5 @@
+// The stack bound.
+
 ghost use Rattle.std.specs.Prelude.{◌≡◌, ◌+◌, ◌*◌, ◌==◌, map, if◌then◌else◌};
 ghost use Rattle.rt_app.specs.View.{task_of, app_of};
 ghost use Rattle.rt_ids.specs.Exception.{entry_words};

@@ -1,3 +1,5 @@
+// The frames of all bodies, in words.
+
 ghost use Rattle.std.specs.Prelude.{◌≡◌, IfOk};
 ghost use Rattle.rt_app.specs.View.{app_of};
 ghost use Rattle.rt_app.specs.Limits.{KeepsLimits};

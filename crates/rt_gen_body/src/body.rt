@@ -1,3 +1,5 @@
+// Generates the code of a whole body.
+
 ghost use Rattle.std.specs.Prelude.{◌≡◌, ◌+◌, ◌^◌, ◌≤◌, ◌∷◌, [], map, length, take, drop, slice_get};
 ghost use Rattle.rt_ids.specs.Lists.{is_some_and};
 ghost use Rattle.rt_app.specs.Level.{is_software};

@@ -1,3 +1,5 @@
+// What the code of a body is generated with: slots, lines, what is around it.
+
 ghost use Rattle.std.specs.Prelude.{◌≡◌, ◌+◌, OnOk};
 ghost use Rattle.rt_app.specs.View.{expression_of, value_of};
 ghost use Rattle.rt_gen_body.specs.ValueCode as values;

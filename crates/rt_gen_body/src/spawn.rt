@@ -1,3 +1,5 @@
+// The code of spawns and of calls to the timer queue, as statements.
+
 ghost use Rattle.std.specs.Prelude.{◌≡◌, true, map, slice_get, IsSome, OnOk};
 ghost use Rattle.rt_ids.specs.Lists.{is_some_and};
 ghost use Rattle.rt_app.specs.Level.{is_software};

@@ -1,3 +1,5 @@
+// The code of statements.
+
 ghost use Rattle.std.specs.Prelude.{◌≡◌, ◌∷◌, [], ◌<◌, ◌+◌, ℕ, OnOk, IfOk, length};
 ghost use Rattle.rt_ids.specs.Lists.{or_zero};
 ghost use Rattle.rt_app.specs.Handlers as handlers;

@@ -1,3 +1,5 @@
+// The tasks whose bodies a dispatcher calls.
+
 ghost use Rattle.std.specs.Prelude.{◌≡◌, ◌≤◌, slice_get, Some, true};
 ghost use Rattle.rt_app.specs.Accepted.{IsAccepted};
 ghost use Rattle.rt_app.specs.Level.{is_software};

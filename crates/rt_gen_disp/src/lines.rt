@@ -1,3 +1,5 @@
+// The lines of a dispatcher, and how many there are.
+
 ghost use Rattle.std.specs.Prelude.{◌≡◌, ◌+◌, ◌^◌, ◌≤◌, ◌<◌, OnErr, OnOk};
 ghost use Rattle.rt_gen_queue.specs.Making.{Appends, Extends};
 ghost use Rattle.rt_gen_disp.specs.Code as spec;

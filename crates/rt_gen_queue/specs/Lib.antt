@@ -1,3 +1,4 @@
+-- The definitions of this crate, a file each.
 pub mod Line
 pub mod Guards
 pub mod Queue

@@ -1,3 +1,5 @@
+// The address at which the next code begins.
+
 ghost use Rattle.std.specs.Prelude.{◌≡◌, ◌≤◌, ◌^◌, length, IfOk, OnErr};
 
 use rt_code::Line;

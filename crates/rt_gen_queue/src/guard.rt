@@ -1,3 +1,5 @@
+// How a section of a ceiling opens and closes: a mark, BASEPRI or PRIMASK.
+
 ghost use Rattle.std.specs.Prelude.{◌≡◌, ◌≤◌, ◌^◌};
 ghost use Rattle.rt_code.specs.Masking as masking;
 ghost use Rattle.rt_gen_queue.specs.Guards.{guard_of_ceiling, kind_of, enter_line, leave_line};

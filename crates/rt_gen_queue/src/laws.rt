@@ -1,3 +1,5 @@
+// The law that the code of a spawn stands wherever it is.
+
 ghost use Rattle.rt_gen_queue.specs.Spawning.{SpawnsStand};
 
 /// The code of a spawn, wherever it stands in a body of an accepted application, does what a spawn has to do, within

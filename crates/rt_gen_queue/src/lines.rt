@@ -1,3 +1,5 @@
+// Lines of code as they are generated, with the address of the next.
+
 ghost use Rattle.std.specs.Prelude.{◌≡◌, ◌∷◌, [], ◌+◌, ◌<◌, ◌≤◌, ◌^◌, ◌++◌, length, slice_set, IfOk, OnErr, OnOk};
 ghost use Rattle.rt_gen_queue.specs.Line.{plain, line_with_note};
 ghost use Rattle.rt_gen_queue.specs.Making.{next_address, Appends};

@@ -1,3 +1,5 @@
+// The parts of a spawn's code: a place is taken, filled, and made ready.
+
 ghost use Rattle.std.specs.Prelude.{◌≡◌, ◌∷◌, [], ◌+◌, ◌<◌, ◌≤◌, ◌^◌, OnOk, OnErr};
 ghost use Rattle.rt_app.specs.declared.costs.TheConstants.{SPAWN_WORDS};
 ghost use Rattle.rt_code.specs.declared.instr.Instr.TheVariants as instr;

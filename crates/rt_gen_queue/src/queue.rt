@@ -1,3 +1,5 @@
+// The queues of tasks and levels, as code finds them.
+
 ghost use Rattle.std.specs.Prelude.{◌≡◌, ◌<◌, ◌≤◌, ◌==◌, if◌then◌else◌, length, map, filter, position};
 ghost use Rattle.std.specs.Prelude.{sum_by, slice_get, slice_index, option_map, Contains};
 ghost use Rattle.rt_ids.specs.Lists.{or_zero, then_from};

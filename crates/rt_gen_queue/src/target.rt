@@ -1,3 +1,5 @@
+// What the code of a spawn has to know of its task.
+
 ghost use Rattle.std.specs.Prelude.{◌≡◌, ◌≤◌, true, slice_get, Some};
 ghost use Rattle.rt_ids.specs.Lists.{is_some_and, or_zero, then_from};
 ghost use Rattle.rt_app.specs.Accepted.{IsAccepted};

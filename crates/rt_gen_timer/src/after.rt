@@ -1,3 +1,5 @@
+// The lines of a `spawn_after`.
+
 ghost use Rattle.std.specs.Prelude.{◌≡◌, ◌+◌, ◌*◌, ◌<◌, ◌≤◌, ◌^◌, OnOk};
 ghost use Rattle.rt_ids.specs.declared.limits.TheConstants.{CAPACITY, TASKS};
 ghost use Rattle.rt_app.specs.declared.costs.TheConstants.{TIMER_QUEUE_WORDS};

@@ -1,3 +1,5 @@
+// The tasks whose messages may be armed, as code finds them.
+
 ghost use Rattle.std.specs.Prelude.{◌≡◌, ◌≤◌, ◌*◌, ◌-◌, slice_get, true};
 ghost use Rattle.rt_ids.specs.Lists.{is_some_and};
 ghost use Rattle.rt_ids.specs.declared.limits.TheConstants.{CAPACITY};

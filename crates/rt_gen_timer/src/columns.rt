@@ -1,3 +1,5 @@
+// The columns of the timer queue, by name.
+
 ghost use Rattle.std.specs.Prelude.{◌≡◌, ◌≤◌, ◌*◌};
 ghost use Rattle.rt_ids.specs.declared.limits.TheConstants.{CAPACITY, TASKS};
 ghost use Rattle.rt_gen_timer.specs.Inside.Templates.{cell_of};

@@ -1,3 +1,5 @@
+// Writes templates as instructions, once it is known where queue, slots and code are.
+
 ghost use Rattle.std.specs.Prelude.{◌≡◌, true, ◌+◌, ◌*◌, ◌<◌, ◌≤◌, ◌^◌, IfNone, IfSome, OnOk};
 ghost use Rattle.std.specs.List.{list_all};
 ghost use Rattle.rt_ids.specs.declared.limits.TheConstants.{CAPACITY, TASKS};

@@ -1,3 +1,5 @@
+// The loops of the heap, as templates.
+
 use crate::slots::{
     COUNT, EQUAL, HOLE, INSTANT, LESS, NUMBER, ONE, OTHER, OTHER_INSTANT, OTHER_NUMBER, OTHER_ROW,
     RIGHT, RIGHT_INSTANT, RIGHT_NUMBER, RIGHT_ROW, TWO, WORK,

@@ -1,3 +1,5 @@
+// The laws that the code of the calls and of the timer handler stands.
+
 ghost use Rattle.rt_gen_timer.specs.TimerCalls.{AftersStand, CancelsStand, MovesStand, TimersStand};
 
 /// The code of a `spawn_after`, wherever it stands in a body of an accepted application, does what a `spawn_after` has

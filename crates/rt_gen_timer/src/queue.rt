@@ -1,3 +1,5 @@
+// The timer queue, as code finds it.
+
 ghost use Rattle.std.specs.Prelude.{◌≡◌, ◌≤◌, ◌*◌};
 ghost use Rattle.rt_ids.specs.Lists.{or_zero};
 ghost use Rattle.rt_ids.specs.declared.limits.TheConstants.{CAPACITY, TASKS};

@@ -1,3 +1,5 @@
+// An instruction for a timer queue before its addresses are known.
+
 use rt_code::{Line, Note};
 use rt_ids::Op;
 

@@ -1,3 +1,5 @@
+// Generates the code of the timer handler.
+
 ghost use Rattle.std.specs.Prelude.{◌≡◌, ◌+◌, ◌*◌, ◌<◌, ◌≤◌, ◌&&◌, length, take, drop, slice_get};
 ghost use Rattle.std.specs.Prelude.{Some, IsSome};
 ghost use Rattle.std.specs.Prelude.{IfOk, OnOk, OnErr};

@@ -1,4 +1,7 @@
 // Scripts beside devices: what happens to a core, and which words devices give, line by line.
+// Promises: exact: the script beside devices of a text, or its first wrong line.
+// Stands on: rt_lemmas, rt_ids, rt_lines, rt_script, rt_app, rt_board.
+// Read next: specs/Given.antt and specs/Wording.antt, then src/reading.rt.
 #![tactic(auto)]
 
 pub mod laws;

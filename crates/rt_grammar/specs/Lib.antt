@@ -1,3 +1,4 @@
+-- The definitions of this crate, a file each.
 pub mod Mark
 pub mod Language
 pub mod Tokens

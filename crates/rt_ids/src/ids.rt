@@ -1,3 +1,5 @@
+// What things are called by number: tasks, resources, bodies, and the sections that guard them.
+
 use crate::priority::Prio;
 use std::marker::Model;
 

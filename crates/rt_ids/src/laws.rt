@@ -1,3 +1,5 @@
+// Laws on numbers: priority values tell priorities, and the limits are those of the documents.
+
 ghost use Rattle.rt_ids.specs.Limits.{TellLimits, TellFrames};
 ghost use Rattle.rt_ids.specs.Priority.{TellsPriorities};
 

@@ -1,3 +1,5 @@
+// Want of memory, the one error that every crate has.
+
 use std::alloc::{AllocError, AllocFailed};
 use thiserror::Error;
 

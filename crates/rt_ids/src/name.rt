@@ -1,3 +1,5 @@
+// A name: the bytes that name an interrupt, a task or a resource.
+
 ghost use Rattle.std.specs.Prelude.{◌≡◌, ℕ, List, IfOk};
 
 use crate::memory::NoMemory;

@@ -1,3 +1,5 @@
+// The binary operations on numbers of 32 bits.
+
 ghost use Rattle.std.specs.Prelude.{◌≡◌};
 ghost use Rattle.rt_ids.specs.Operation.{operate};
 

@@ -1,3 +1,5 @@
+// Logical priorities, and the values that the interrupt controller has for them.
+
 ghost use Rattle.std.specs.Prelude.{◌≡◌, ◌≤◌, ◌^◌};
 ghost use Rattle.rt_ids.specs.Priority.{hardware};
 

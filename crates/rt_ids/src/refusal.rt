@@ -1,3 +1,5 @@
+// Why an application text is refused, and where.
+
 use crate::limit::Limit;
 use crate::place::Place;
 use crate::rule::Rule;

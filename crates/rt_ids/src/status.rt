@@ -1,3 +1,5 @@
+// How a command ends; the numbers are the exit statuses.
+
 ghost use Rattle.std.specs.Prelude.{◌≡◌};
 ghost use Rattle.rt_ids.specs.Status.{exit_status};
 

@@ -1,3 +1,5 @@
+// Copies an image.
+
 ghost use Rattle.std.specs.Prelude.{◌≡◌, IfOk};
 
 use rt_code::{Image, IrqRow};

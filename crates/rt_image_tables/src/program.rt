@@ -1,3 +1,5 @@
+// An image with tables by number, so that a core looks for nothing.
+
 ghost use Rattle.std.specs.Prelude.{◌≡◌, IfOk, slice_get};
 ghost use Rattle.rt_code.specs.Cells.{resource_cell};
 ghost use Rattle.rt_code.specs.Tables.{handler_of, argument_count};

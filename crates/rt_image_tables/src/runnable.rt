@@ -1,3 +1,5 @@
+// Whether a core runs an image.
+
 ghost use Rattle.std.specs.Prelude.{◌≡◌, ◌==◌, ◌-◌, ◌≤◌, ◌%◌, ◌^◌, ◌↔◌, IsTrue, Some, position};
 ghost use Rattle.rt_code.specs.Runnable.{HasRightSizes, TakeFewArguments, HaveImplementedValues};
 ghost use Rattle.rt_code.specs.Runnable.{HaveNumbersApart, HasRightRows, IsRunnable};

@@ -1,3 +1,5 @@
+// Makes the tables of a program.
+
 ghost use Rattle.std.specs.Prelude.{◌≡◌, ◌==◌, IfOk, find, map};
 ghost use Rattle.std.specs.Option.{option_copied};
 ghost use Rattle.rt_ids.specs.declared.limits.TheConstants.{IRQ_NUMBERS};

@@ -1,1 +1,2 @@
+-- The definitions of this crate, a file each. Those in Inside are for private contracts alone.
 pub mod Inside

@@ -1,3 +1,5 @@
+// The execution priority of a point.
+
 ghost use Rattle.std.specs.Prelude.{◌≡◌};
 ghost use Rattle.rt_ids.specs.declared.limits.TheConstants.{THREAD_VALUE};
 ghost use Rattle.rt_points.specs.Leading.{handler_at};

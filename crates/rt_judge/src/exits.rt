@@ -1,3 +1,5 @@
+// Where an instruction leads to.
+
 ghost use Rattle.std.specs.Prelude.{◌≡◌, ◌+◌, ◌<◌, ◌^◌, slice_get};
 ghost use Rattle.rt_judge.specs.Inside.Exits.{exit_list, targets, ends_init};
 

@@ -1,3 +1,5 @@
+// The sections that are open at an address, each kept once.
+
 ghost use Rattle.std.specs.Prelude.{◌≡◌, ◌↔◌, ◌++◌, [], ◌∷◌, List, drop, IfOk, OnOk, IsTrue};
 ghost use Rattle.rt_points.specs.declared.point.Opened.{Opened as OpenedView};
 ghost use Rattle.rt_points.specs.Leading.{kind_of, inside_after};

@@ -1,3 +1,5 @@
+// The rule that notes and masks agree, at one point.
+
 ghost use Rattle.std.specs.Prelude.{◌≡◌, ◌↔◌, ℕ, IsTrue};
 ghost use Rattle.rt_points.specs.Rules as rules;
 ghost use Rattle.rt_judge.specs.Inside.Points.{point};

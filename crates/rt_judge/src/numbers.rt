@@ -1,3 +1,5 @@
+// The rule on numbers and the size of the stack.
+
 ghost use Rattle.std.specs.Prelude.{◌≡◌, ◌<◌, ◌^◌, ◌↔◌, IsTrue};
 ghost use Rattle.rt_code.specs.Image.{entry_words};
 ghost use Rattle.rt_points.specs.Limits.{IsWithinLimits};

@@ -1,3 +1,5 @@
+// The rule that instructions have what they touch, at one point.
+
 ghost use Rattle.std.specs.Prelude.{◌≡◌, ◌<◌, ◌↔◌, ℕ, IsTrue, option_map};
 ghost use Rattle.std.specs.List.{AllByRecursion};
 ghost use Rattle.rt_code.specs.Access.{cell_of};

@@ -1,3 +1,5 @@
+// What is open at each address that an owner comes to.
+
 ghost use Rattle.std.specs.Prelude.{◌≡◌, IfOk, OnOk, None};
 ghost use Rattle.rt_judge.specs.Inside.Tables as spec;
 

@@ -1,3 +1,5 @@
+// Keeps who touches which cell.
+
 ghost use Rattle.std.specs.Prelude.{◌≡◌, ◌++◌, ◌∷◌, [], ◌<◌, ℕ, IfOk, OnOk, List, Some, None, replicate, slice_get};
 ghost use Rattle.std.specs.Prelude.{filter, map, length, IsTrue, true};
 ghost use Rattle.std.specs.List.{list_all};

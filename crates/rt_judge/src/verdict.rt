@@ -1,3 +1,5 @@
+// The one public call: yes, or the least rule that is broken.
+
 ghost use Rattle.std.specs.Prelude.{◌≡◌, ℕ, [], ◌∷◌, IfOk, MatchBool, MatchOption, Ok};
 ghost use Rattle.rt_points.specs.Checked.{IsChecked, IsLeastBroken};
 ghost use Rattle.rt_points.specs.Leading.{IsPoint, starts_at};

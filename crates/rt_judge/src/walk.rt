@@ -1,3 +1,5 @@
+// Follows the code of one owner through all its points.
+
 ghost use Rattle.std.specs.Prelude.{◌≡◌, ◌<◌, ◌+◌, ◌^◌, not, IfOk, OnOk, MatchOption, Some, None};
 ghost use Rattle.rt_code.specs.Image.{Image as ImageView};
 ghost use Rattle.rt_points.specs.Limits.{IsWithinLimits};

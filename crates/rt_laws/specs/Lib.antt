@@ -1,3 +1,4 @@
+-- The definitions of this crate, a file each.
 pub mod Services
 pub mod State
 pub mod Preemption

@@ -1,3 +1,5 @@
+// The laws of Baker's machine; each is a function whose contract states it.
+
 ghost use Rattle.rt_laws.specs.ByItems.{FrontsAreRuns, RunsAreByItems};
 ghost use Rattle.rt_laws.specs.Counts.{CountsRiseByOne};
 ghost use Rattle.rt_laws.specs.Durations.{StepsTakeTime, TicksAreFew, WaitsAreShortInTime};

@@ -1,3 +1,5 @@
+// The law that an accepted application has few cells.
+
 ghost use Rattle.rt_layout.specs.Few.{CellsAreFew};
 
 /// Every accepted application has fewer than 16,384 cells.

@@ -1,3 +1,5 @@
+// Lays the cells of an application out in memory.
+
 ghost use Rattle.std.specs.Prelude.{◌≡◌, ◌+◌, ◌^◌, ◌<◌, nat_lt, length, map, flat_map, if◌then◌else◌, IfOk, OnOk};
 ghost use Rattle.std.specs.List.{fold};
 ghost use Rattle.rt_app.specs.declared.costs.TheConstants.{PRIORITIES};

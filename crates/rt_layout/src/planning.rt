@@ -1,3 +1,5 @@
+// The one call for code generation: ceilings, cells and frames in a plan.
+
 ghost use Rattle.std.specs.Prelude.{◌≡◌, IfOk};
 ghost use Rattle.rt_app.specs.Accepted.{IsAccepted};
 ghost use Rattle.rt_app.specs.Plan.{IsPlan};

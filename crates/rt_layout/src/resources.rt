@@ -1,3 +1,5 @@
+// The cells of resources.
+
 ghost use Rattle.std.specs.Prelude.{◌≡◌, ◌∷◌, ◌++◌, [], map, OnOk};
 ghost use Rattle.rt_layout.specs.Inside.Rows.{resource_row, local_row};
 

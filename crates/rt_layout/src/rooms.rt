@@ -1,3 +1,5 @@
+// How many messages each level may have ready at once.
+
 ghost use Rattle.std.specs.Prelude.{◌≡◌, ◌+◌, ◌^◌, ◌<◌, ◌≤◌, length, map, slice_index};
 ghost use Rattle.rt_ids.specs.declared.limits.TheConstants.{TASKS};
 ghost use Rattle.rt_app.specs.View.{task_of};

@@ -1,3 +1,5 @@
+// Appends one named cell, or a numbered one.
+
 ghost use Rattle.std.specs.Prelude.{◌≡◌, ◌∷◌, ◌++◌, [], decimal, OnOk};
 ghost use Rattle.rt_layout.specs.Inside.Rows.{row};
 

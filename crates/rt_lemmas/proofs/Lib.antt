@@ -1,3 +1,4 @@
+-- The lemmas of this crate, a file each.
 pub mod Bools
 pub mod Numbers
 pub mod Lists

@@ -1,4 +1,7 @@
 // The tokens of application texts, and their places.
+// Promises: exact: the tokens of a text are its split, and no other list is.
+// Stands on: rt_lemmas, rt_ids.
+// Read next: specs/Tokens.antt and specs/Split.antt, then src/tokens.rt.
 #![tactic(auto)]
 
 mod front;

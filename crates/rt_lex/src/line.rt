@@ -1,3 +1,5 @@
+// The line and the column of an offset.
+
 ghost use Rattle.std.specs.Prelude.{◌≡◌, ◌≤◌, ◌==◌, not, length, count_by, take_while, reverse};
 ghost use Rattle.rt_ids.specs.declared.limits.TheConstants.{TEXT_BYTES};
 ghost use Rattle.rt_lex.specs.Place.{place_of};

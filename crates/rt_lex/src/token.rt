@@ -1,3 +1,5 @@
+// What a token is, and the number that one spells.
+
 ghost use Rattle.std.specs.Prelude.{◌≡◌, ◌<◌};
 ghost use Rattle.rt_lex.specs.Bytes.{digit_value};
 ghost use Rattle.rt_lex.specs.Number.{value_of, number_value, in_32_bits};

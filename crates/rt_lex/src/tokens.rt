@@ -1,3 +1,5 @@
+// The tokens of a text, one after another.
+
 ghost use Rattle.std.specs.Prelude.{◌≡◌, ◌+◌, ◌≤◌, List, [], ◌∷◌, drop, length, MatchOption};
 ghost use Rattle.std.specs.Iterator.{YieldsFirstBy, item_count};
 ghost use Rattle.rt_ids.specs.declared.limits.TheConstants.{TEXT_BYTES};

@@ -1,1 +1,2 @@
+-- The definitions of this crate, a file each.
 pub mod Law

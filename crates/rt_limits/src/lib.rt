@@ -1,4 +1,7 @@
 // The trees of texts that are read are printable.
+// Promises: one law: the tree of each text that is read is printable.
+// Stands on: rt_lemmas, rt_ids, rt_lex, rt_ast, rt_grammar.
+// Read next: specs/Law.antt, then proofs/Keeping.antt.
 #![tactic(auto)]
 
 ghost use Rattle.rt_limits.specs.Law.{TextsKeepLimits};

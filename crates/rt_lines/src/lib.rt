@@ -1,4 +1,7 @@
 // The lines and words of a text, and the numbers that words spell.
+// Promises: a text is read in one way or has a first wrong line; what a table of words writes is read again.
+// Stands on: rt_lemmas, rt_ids.
+// Read next: specs/Reading.antt and specs/Table.antt, then src/operand.rt.
 #![tactic(auto)]
 
 pub mod number;

@@ -1,3 +1,5 @@
+// Reads one word behind the first of a line: a number, a name, a section.
+
 ghost use Rattle.std.specs.Prelude.{◌≡◌, ◌^◌};
 ghost use Rattle.rt_lines.specs.Operand as spec;
 

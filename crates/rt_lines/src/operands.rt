@@ -1,3 +1,5 @@
+// Reads several words behind the first of a line, in order.
+
 ghost use Rattle.std.specs.Prelude.{◌≡◌};
 ghost use Rattle.rt_lines.specs.Parts.{words_of};
 ghost use Rattle.rt_lines.specs.Table as spec;

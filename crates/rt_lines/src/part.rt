@@ -1,3 +1,5 @@
+// Cuts a text into lines and a line into words.
+
 ghost use Rattle.std.specs.Prelude.{◌≡◌, ◌<◌, ◌==◌, ◌∷◌, [], length, position, MatchOption, IfNone, IfSome};
 ghost use Rattle.rt_lines.specs.Parts.{parts, lines, words_of};
 

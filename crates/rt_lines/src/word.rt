@@ -1,3 +1,5 @@
+// Cuts a line whose words one or more spaces separate.
+
 ghost use Rattle.std.specs.Prelude.{◌≡◌, ◌<◌, ◌≢◌, ◌∷◌, [], length, slice_index, MatchOption};
 ghost use Rattle.rt_ids.specs.Word as words;
 ghost use Rattle.rt_lines.specs.Parts.{spaced_words};

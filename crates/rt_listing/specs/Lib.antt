@@ -1,3 +1,4 @@
+-- The definitions of this crate, a file each.
 pub mod Words
 pub mod Listing
 pub mod Injective

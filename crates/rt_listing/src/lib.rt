@@ -1,4 +1,7 @@
 // The text of an image. No other listable image over the same names has it.
+// Promises: different images have different texts.
+// Stands on: rt_lemmas, rt_ids, rt_lines, rt_code.
+// Read next: specs/Listing.antt, then src/text.rt.
 #![tactic(auto)]
 
 mod law;

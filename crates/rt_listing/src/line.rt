@@ -1,3 +1,5 @@
+// The lines of instructions and notes.
+
 ghost use Rattle.std.specs.Prelude.{◌≡◌, ◌∷◌, ◌++◌, flat_map, OnOk, Some};
 ghost use Rattle.rt_ids.specs.Naming.{section_name};
 ghost use Rattle.rt_ids.specs.Naming as name;

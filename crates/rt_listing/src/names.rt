@@ -1,3 +1,5 @@
+// The names that lines of a listing have.
+
 ghost use Rattle.std.specs.Prelude.{◌≡◌};
 ghost use Rattle.rt_ids.specs.Naming as spec;
 

@@ -1,3 +1,5 @@
+// The one public call: the listing of an image.
+
 ghost use Rattle.std.specs.Prelude.{◌≡◌, [], ◌∷◌, ◌++◌, codes, flat_map, All, IfOk, OnOk};
 ghost use Rattle.rt_listing.specs.Listing.{form_word, first_line, sizes_line, lines_with_numbers, cell_line, irq_line};
 ghost use Rattle.rt_listing.specs.Listing.{body_line};

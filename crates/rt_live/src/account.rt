@@ -1,3 +1,5 @@
+// The account of pends, and its lines.
+
 ghost use Rattle.std.specs.Prelude.{◌≡◌, ◌+◌, ◌≤◌, ◌∷◌, ◌++◌, decimal, length, OnOk, OnErr};
 ghost use Rattle.rt_ids.specs.Naming.{irq_name};
 ghost use Rattle.rt_outside.specs.Faults.{HasCause};

@@ -1,3 +1,5 @@
+// The law that the number of words is the documented one.
+
 ghost use Rattle.rt_live.specs.Constants.{TellWords};
 
 /// The number of pending words in numbers, as the documents have it.

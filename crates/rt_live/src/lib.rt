@@ -1,4 +1,9 @@
 // `live`: a core runs beside device threads that pend interrupts through shared atomic words.
+// Promises: the trace is that of the core with what its looks found, for one history; all memory is taken before the
+// first byte.
+// Stands on: rt_lemmas, rt_ids, rt_lines, rt_outside, rt_code, rt_core, rt_trace, rt_script, rt_run, rt_words,
+// rt_devices.
+// Read next: specs/Output.antt, then src/running.rt.
 #![tactic(auto)]
 
 pub mod account;

@@ -1,3 +1,5 @@
+// Where the posts of a core lead.
+
 ghost use Rattle.std.specs.Prelude.{◌≡◌, ℕ, Option};
 
 use crate::share::Share;

@@ -1,3 +1,5 @@
+// The bits of two cores in one row of words.
+
 ghost use Rattle.std.specs.Prelude.{◌≡◌, ◌<◌};
 ghost use Rattle.rt_ids.specs.declared.limits.TheConstants.{IRQ_NUMBERS};
 ghost use Rattle.rt_words.specs.Row as spec;

@@ -1,3 +1,5 @@
+// Runs a core beside the devices of a script.
+
 ghost use Rattle.std.specs.Prelude.{◌≡◌, [], ℕ, List, IfOk, IsErrOf, OnOk, OnErr};
 ghost use Rattle.std.specs.List.{AllByRecursion};
 ghost use Rattle.rt_code.specs.Lines.{HasLines};

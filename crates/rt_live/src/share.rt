@@ -1,3 +1,5 @@
+// Which events of a script come to which core.
+
 ghost use Rattle.std.specs.Prelude.{◌≡◌};
 ghost use Rattle.rt_live.specs.Shares.{takes};
 

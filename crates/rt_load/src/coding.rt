@@ -1,3 +1,5 @@
+// Reads an instruction.
+
 ghost use Rattle.std.specs.Prelude.{◌≡◌, ◌++◌, find, map, bytes_eq};
 ghost use Rattle.rt_lines.specs.Operand.{FirstIrqName, read_at};
 ghost use Rattle.rt_lines.specs.Parts.{words_of};

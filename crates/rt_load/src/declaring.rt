@@ -1,3 +1,5 @@
+// Which names a row of a listing may declare.
+
 ghost use Rattle.std.specs.Prelude.{◌≡◌, ◌<◌, ◌||◌, ◌==◌, is_none};
 ghost use Rattle.rt_ids.specs.declared.limits.TheConstants.{IRQS, TASKS, SHARED};
 ghost use Rattle.rt_load.specs.Loadable as loadable;

@@ -1,3 +1,5 @@
+// The rows of a listing that come before its code, as they are read.
+
 ghost use Rattle.std.specs.Prelude.{◌≡◌, ◌≢◌, ◌<◌, [], ◌∷◌, ◌++◌, true, Ok, Err, IfErr, IfOk, OnOk};
 ghost use Rattle.rt_ids.specs.Names.{with_irq};
 ghost use Rattle.rt_lines.specs.Parts.{words_of};

@@ -1,3 +1,5 @@
+// Laws of listings as texts: each is read in one way.
+
 ghost use Rattle.rt_load.specs.Constants.{TellLength};
 ghost use Rattle.rt_load.specs.Laws.{AreReadOneWay};
 

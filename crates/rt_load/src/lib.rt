@@ -1,4 +1,7 @@
 // Listings that something else made: each is read as the image whose listing it is, or refused at its first wrong line.
+// Promises: exact: the image of a listing, or its first wrong line.
+// Stands on: rt_lemmas, rt_ids, rt_lines, rt_code, rt_listing, rt_trace, rt_points, rt_judge, rt_safe.
+// Read next: specs/Reading.antt, then src/loading.rt.
 #![tactic(auto)]
 
 mod coding;

@@ -1,3 +1,5 @@
+// The one public call for texts: the image of a listing, or its first wrong line.
+
 ghost use Rattle.std.specs.Prelude.{◌≡◌, ◌≢◌, ◌<◌, ◌∷◌, [], length, Ok, Err, IfOk, IfErr, OnOk, IfSome, MatchOption};
 ghost use Rattle.rt_lines.specs.Parts.{parts};
 ghost use Rattle.rt_load.specs.Reading.{IsListingText, IsRefused};

@@ -1,3 +1,5 @@
+// Reads a line of code with its note.
+
 ghost use Rattle.std.specs.Prelude.{◌≡◌};
 ghost use Rattle.rt_lines.specs.Parts.{words_of};
 ghost use Rattle.rt_lines.specs.Table.{said_at};

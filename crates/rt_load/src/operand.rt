@@ -1,3 +1,5 @@
+// Reads one operand of a line.
+
 ghost use Rattle.std.specs.Prelude.{◌≡◌, ◌^◌, ◌∷◌, [], option_map, MatchOption};
 ghost use Rattle.rt_lines.specs.Parts.{words_of};
 ghost use Rattle.rt_load.specs.Inside.Operand as spec;

@@ -1,3 +1,5 @@
+// Prints a row again, and compares it with the line.
+
 ghost use Rattle.std.specs.Prelude.{◌≡◌, IfOk, bytes_eq};
 ghost use Rattle.rt_listing.specs.Listing as text;
 ghost use Rattle.rt_load.specs.Reading.{line_with_feed};

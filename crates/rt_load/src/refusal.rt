@@ -1,3 +1,5 @@
+// Why bytes are no listing.
+
 ghost use Rattle.std.specs.Prelude.{◌≡◌};
 
 use rt_ids::NoMemory;

@@ -1,3 +1,5 @@
+// Reads the rows of cells, interrupts and bodies.
+
 ghost use Rattle.std.specs.Prelude.{◌≡◌, ◌+◌};
 ghost use Rattle.rt_ids.specs.declared.limits.TheConstants.{ARGUMENTS, IRQ_NUMBERS};
 ghost use Rattle.rt_lines.specs.Parts.{words_of};

@@ -1,3 +1,5 @@
+// Judges a loaded image.
+
 ghost use Rattle.std.specs.Prelude.{IfOk};
 ghost use Rattle.rt_load.specs.Loadable.{IsLoadable};
 ghost use Rattle.rt_load.specs.Verdict.{IsVerdict};

@@ -1,3 +1,5 @@
+// The interrupt controller: what is pending, enabled and active, and what is taken next.
+
 ghost use Rattle.std.specs.Prelude.{◌≡◌, ℕ, ◌+◌, ◌*◌, ◌<◌, ◌||◌, true, false, [], ◌∷◌, length};
 ghost use Rattle.std.specs.Prelude.{replicate, slice_get, slice_set, Some, None, IsTrue, IsSome, IfSome, IfNone};
 ghost use Rattle.std.specs.Int.{bit_at};

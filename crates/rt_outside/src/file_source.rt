@@ -1,3 +1,5 @@
+// A file as a source of bytes.
+
 ghost use Rattle.std.specs.Prelude.{◌≡◌, ◌≢◌, ◌≤◌, ◌↔◌, [], Some, None, Ok, IsErr, IsTrue, length, take, IfOk};
 ghost use Rattle.std.specs.Prelude.{IfSome, OnOk, OnErr};
 ghost use Rattle.rt_outside.specs.Faults.{HasCause};

@@ -1,5 +1,8 @@
 // Where bytes come from and go to: sources and sinks with counts of their faults, in memory and outside. A text is read
 // as a whole or line by line.
+// Promises: each fault is told, and only where its object counted one; what was given and taken is known to clauses.
+// Stands on: rt_lemmas, rt_ids, rt_lines.
+// Read next: specs/Faults.antt and specs/Bytes.antt, then src/source.rt and src/sink.rt.
 #![tactic(auto)]
 
 pub mod file_source;

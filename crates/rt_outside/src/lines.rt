@@ -1,3 +1,5 @@
+// Reads a source line by line, and keeps one line at a time.
+
 ghost use Rattle.std.specs.Prelude.{◌≡◌, ℕ, suc, ◌+◌, ◌-◌, ◌^◌, ◌<◌, ◌≤◌, List, [], ◌∷◌, ◌++◌, length, IfOk, OnOk};
 ghost use Rattle.std.specs.Prelude.{OnErr, IsErrOf, IfSome, MatchOption};
 ghost use Rattle.rt_lines.specs.Parts.{lines, parts};

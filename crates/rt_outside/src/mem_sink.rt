@@ -1,3 +1,5 @@
+// A sink in memory, whose writes can be made to fail, for tests.
+
 ghost use Rattle.std.specs.Prelude.{◌≡◌, ◌-◌, ◌<◌, ◌≤◌, ◌↔◌, ◌⊎◌, [], Contains, length, take, min, IfOk, OnOk};
 ghost use Rattle.std.specs.Prelude.{OnErr, IsErr};
 ghost use Rattle.rt_outside.specs.Faults.{HasCause};

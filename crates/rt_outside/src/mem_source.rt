@@ -1,3 +1,5 @@
+// A source in memory, whose reads can be made to fail, for tests.
+
 ghost use Rattle.std.specs.Prelude.{◌≡◌, ◌≤◌, ◌↔◌, Some, Contains, length, take, min, IfOk, OnOk, OnErr, IsErr};
 ghost use Rattle.rt_outside.specs.Faults.{HasCause};
 ghost use Rattle.rt_outside.specs.Bytes.{after_read, no_past, Moves};

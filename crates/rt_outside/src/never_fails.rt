@@ -1,3 +1,5 @@
+// A source over borrowed bytes that never fails.
+
 ghost use Rattle.std.specs.Prelude.{◌≡◌, Some};
 ghost use Rattle.rt_outside.specs.Bytes.{no_past};
 

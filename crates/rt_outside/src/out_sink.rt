@@ -1,3 +1,5 @@
+// Standard output as a sink of bytes.
+
 ghost use Rattle.std.specs.Prelude.{◌≡◌, ◌<◌, ◌≤◌, nat_lt, if◌then◌else◌, Some, None, [], length, take, IfOk, OnOk};
 ghost use Rattle.std.specs.Prelude.{OnErr};
 ghost use Rattle.rt_outside.specs.Faults.{HasCause};

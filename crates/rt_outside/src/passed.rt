@@ -1,3 +1,5 @@
+// The bytes that have passed, which clauses alone know.
+
 ghost use Rattle.std.specs.Prelude.{◌≡◌, [], ◌∷◌, ◌++◌};
 ghost use Rattle.rt_outside.specs.Passed.{passed_bytes};
 

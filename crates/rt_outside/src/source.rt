@@ -1,3 +1,5 @@
+// What a source is: where bytes come from, with a count of its faults; and how a whole text is read.
+
 ghost use Rattle.std.specs.Prelude.{◌≡◌, ℕ, ◌+◌, ◌-◌, ◌^◌, ◌<◌, ◌≤◌, ◌&&◌, nat_lt, List, Option, length, take};
 ghost use Rattle.std.specs.Prelude.{IfOk, OnOk, OnErr, IsErrOf, vec_len};
 ghost use Rattle.rt_ids.specs.Lists.{is_empty};

@@ -1,2 +1,3 @@
+-- The definitions of this crate, a file each. Those in Inside are for private contracts alone.
 pub mod Laws
 pub mod Inside

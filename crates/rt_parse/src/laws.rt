@@ -1,3 +1,5 @@
+// Laws of the definitions: each text is an application's or has a refusal, and not both.
+
 ghost use Rattle.rt_parse.specs.Laws.{EachIsTextOrRefused, NoTextIsRefused};
 
 /// What is the text of an application has no refusal.

@@ -1,3 +1,5 @@
+// How reading stops before its end: at a wrong token, or for want of memory.
+
 ghost use Rattle.std.specs.Prelude.{◌≡◌};
 
 use rt_ids::{NoMemory, Refusal};

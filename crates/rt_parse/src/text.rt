@@ -1,3 +1,5 @@
+// The one public call: the tree of a text, or its first refusal.
+
 ghost use Rattle.std.specs.Prelude.{◌≡◌, ◌≤◌, length, IfOk, Err};
 ghost use Rattle.rt_ids.specs.declared.limits.TheConstants.{TEXT_BYTES};
 ghost use Rattle.rt_parse.specs.Inside.Fault.{fault_of};

@@ -1,3 +1,4 @@
+-- The definitions of this crate, a file each.
 pub mod Limits
 pub mod Point
 pub mod Leading

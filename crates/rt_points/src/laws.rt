@@ -1,3 +1,5 @@
+// Laws of the seven rules: an image is checked or has one least broken rule.
+
 ghost use Rattle.rt_points.specs.Constants.{TellBounds};
 ghost use Rattle.rt_points.specs.Laws.{IsJudgedOneWay};
 

@@ -1,3 +1,5 @@
+// A point of an image: an address, whose code runs there, which sections are open.
+
 use rt_ids::Section;
 
 /// Whose code runs.

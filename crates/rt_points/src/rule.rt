@@ -1,3 +1,5 @@
+// The seven rules by name, and their limits.
+
 ghost use Rattle.std.specs.Prelude.{◌≡◌};
 ghost use Rattle.rt_points.specs.Checked.{rule_number};
 

@@ -1,2 +1,3 @@
+-- The definitions of this crate, a file each.
 pub mod ReadsBack
 pub mod Opened

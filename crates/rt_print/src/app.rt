@@ -1,3 +1,5 @@
+// The one public call: the canonical text of an application.
+
 ghost use Rattle.std.specs.Prelude.{◌≡◌, ◌++◌, [], codes, flat_map, map, OnOk, IfOk};
 ghost use Rattle.rt_ast.specs.View as view;
 ghost use Rattle.rt_ast.specs.CanonicalExpression.{newline};

@@ -1,3 +1,5 @@
+// Prints statements and blocks.
+
 ghost use Rattle.std.specs.Prelude.{◌≡◌, ◌++◌, codes, map, IfOk, OnOk};
 ghost use Rattle.rt_ast.specs.View.{expression_of, spawn_of, value_of, statement_of, block_of};
 ghost use Rattle.rt_ast.specs.CanonicalExpression.{name_text, expression_text};

@@ -1,3 +1,5 @@
+// Prints the declarations before the bodies.
+
 ghost use Rattle.std.specs.Prelude.{◌≡◌, ◌++◌, Some, OnOk};
 ghost use Rattle.rt_ast.specs.View.{app_of};
 ghost use Rattle.rt_ast.specs.Canonical.{dispatchers_text, fpu_text, head_text, irq_text, irqs_text};

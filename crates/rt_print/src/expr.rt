@@ -1,3 +1,5 @@
+// Prints expressions.
+
 ghost use Rattle.std.specs.Prelude.{◌≡◌, ◌++◌, codes, OnOk};
 ghost use Rattle.rt_ast.specs.View.{expression_of};
 ghost use Rattle.rt_ast.specs.CanonicalExpression.{sign_text, operand_text, expression_text};

@@ -1,3 +1,5 @@
+// The law that a canonical text is read as its tree again.
+
 ghost use Rattle.rt_print.specs.ReadsBack.{CanonicalTextsAreReadAsTheirTrees};
 
 /// The tokens of a printable tree's canonical text are in the grammar as the same tree, offsets aside, and pass no

@@ -1,3 +1,5 @@
+// Prints the options of a body or a task.
+
 ghost use Rattle.std.specs.Prelude.{◌≡◌, ◌++◌, ◌||◌, IfOk, OnOk};
 ghost use Rattle.rt_ast.specs.View as view;
 ghost use Rattle.rt_ast.specs.CanonicalOptions.{listed_text, binds_option_text, priority_option_text};

@@ -1,3 +1,5 @@
+// Prints names.
+
 ghost use Rattle.std.specs.Prelude.{◌≡◌, ◌++◌, OnOk};
 ghost use Rattle.rt_ast.specs.CanonicalExpression.{name_text};
 

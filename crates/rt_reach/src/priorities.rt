@@ -1,3 +1,5 @@
+// The interrupts that are requested, one for each priority.
+
 ghost use Rattle.std.specs.Prelude.{◌≡◌, ◌&&◌, ◌==◌, true, map, find, IfOk};
 ghost use Rattle.rt_ids.specs.Lists.{greatest, then_from};
 ghost use Rattle.rt_app.specs.View.{task_of, app_of};

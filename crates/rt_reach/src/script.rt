@@ -1,3 +1,5 @@
+// The one public call: a script that reaches the stack bound.
+
 ghost use Rattle.std.specs.Prelude.{◌≡◌, true, is_some, IfOk, IfSome};
 ghost use Rattle.rt_app.specs.View.{app_of};
 ghost use Rattle.rt_app.specs.Accepted.{IsAccepted};

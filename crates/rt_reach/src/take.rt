@@ -1,3 +1,5 @@
+// Counts the core steps up to the first exception entry.
+
 ghost use Rattle.std.specs.Prelude.{◌≡◌, [], ◌∷◌, ◌↔◌, IsTrue};
 ghost use Rattle.rt_ids.specs.Event.{Arrive};
 ghost use Rattle.rt_core.specs.Machine.{IsFresh};

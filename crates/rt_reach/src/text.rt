@@ -1,3 +1,5 @@
+// Writes the lines of the script.
+
 ghost use Rattle.std.specs.Prelude.{◌≡◌, ◌++◌, flat_map, OnOk};
 ghost use Rattle.rt_ids.specs.Naming as naming;
 ghost use Rattle.rt_reach.specs.Spelled as spec;

@@ -1,0 +1,1 @@
+-- The lemmas of this crate, a file each. The folders beside them have the proofs of functions, by file and name.

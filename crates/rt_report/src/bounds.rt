@@ -1,3 +1,5 @@
+// The lines of `check` on frames, costs, waits and the stack.
+
 ghost use Rattle.std.specs.Prelude.{◌≡◌, ◌++◌, flat_map, OnOk};
 ghost use Rattle.rt_app.specs.View.{app_of};
 ghost use Rattle.rt_report.specs.Report.{body_name, body_lines, wait_line, stack_line, bound_lines};

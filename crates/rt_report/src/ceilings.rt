@@ -1,3 +1,5 @@
+// The lines of `check` on ceilings.
+
 ghost use Rattle.std.specs.Prelude.{◌≡◌, ◌++◌, map, flat_map, OnOk};
 ghost use Rattle.rt_app.specs.View.{app_of, task_of};
 ghost use Rattle.rt_report.specs.Report.{shared_lines, free_line, free_lines, ready_line, timer_line, ceiling_lines};

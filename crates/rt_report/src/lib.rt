@@ -1,4 +1,7 @@
 // What `check` prints of an application.
+// Promises: the text of `check` is the definition's, byte for byte.
+// Stands on: rt_ids, rt_app.
+// Read next: specs/Report.antt.
 #![tactic(auto)]
 
 pub mod bounds;

@@ -1,3 +1,5 @@
+// The forms that a line of `check` has.
+
 ghost use Rattle.std.specs.Prelude.{◌≡◌, ◌++◌, decimal, OnOk};
 ghost use Rattle.rt_report.specs.Report.{line};
 

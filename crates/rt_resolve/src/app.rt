@@ -1,3 +1,5 @@
+// Resolves the names of a whole application.
+
 ghost use Rattle.std.specs.Prelude.{◌≡◌, ◌++◌, map, flat_map, IfOk, OnOk};
 ghost use Rattle.std.specs.List.{AllByRecursion};
 ghost use Rattle.rt_ast.specs.View as written;

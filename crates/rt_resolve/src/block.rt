@@ -1,3 +1,5 @@
+// Resolves the names of statements, with the variables that are in scope there.
+
 ghost use Rattle.std.specs.Prelude.{◌≡◌, ◌+◌, ◌≤◌, ◌++◌, IfOk, OnOk};
 ghost use Rattle.rt_ast.specs.Tree as source;
 ghost use Rattle.rt_ast.specs.View as written;

@@ -1,3 +1,5 @@
+// Resolves `init`, `idle` and tasks.
+
 ghost use Rattle.std.specs.Prelude.{◌≡◌, ◌≤◌, ◌++◌, [], length, option_map, IfOk, OnOk};
 ghost use Rattle.rt_ids.specs.declared.limits.TheConstants.{ARGUMENTS};
 ghost use Rattle.rt_ast.specs.View as written;

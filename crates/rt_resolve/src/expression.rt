@@ -1,3 +1,5 @@
+// Resolves the names of expressions and of spawns.
+
 ghost use Rattle.std.specs.Prelude.{◌≡◌, ◌++◌, map, flat_map, IfOk, OnOk};
 ghost use Rattle.rt_ast.specs.View as written;
 ghost use Rattle.rt_app.specs.View as built;

@@ -1,3 +1,5 @@
+// Notes what is wrong with a name.
+
 ghost use Rattle.std.specs.Prelude.{◌≡◌, ◌++◌, IfOk, OnOk};
 ghost use Rattle.rt_app.specs.Violation.{when};
 ghost use Rattle.rt_resolve.specs.Scope.{or_unknown};

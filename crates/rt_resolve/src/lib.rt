@@ -1,4 +1,7 @@
 // From the tree of an application text to the application: names become indices in their tables.
+// Promises: the application of a tree, and every name that is unknown or declared twice.
+// Stands on: rt_lemmas, rt_ids, rt_ast, rt_app.
+// Read next: specs/Resolved.antt and specs/NameRules.antt, then src/app.rt.
 #![tactic(auto)]
 
 ghost use Rattle.std.specs.Prelude.{◌≡◌, IfOk};

@@ -1,3 +1,5 @@
+// Resolves what a body lists, and notes what it lists twice.
+
 ghost use Rattle.std.specs.Prelude.{◌≡◌, ◌++◌, [], map, flat_map, IfOk, OnOk};
 ghost use Rattle.rt_ast.specs.View as written;
 ghost use Rattle.rt_resolve.specs.Scope as named;

@@ -1,3 +1,5 @@
+// What resolution answers: an application, and what is wrong with its names.
+
 ghost use Rattle.std.specs.Prelude.{◌≡◌};
 
 use rt_app::{App, Violation};

@@ -1,3 +1,5 @@
+// Where the names of a body are looked up.
+
 ghost use Rattle.std.specs.Prelude.{◌≡◌};
 ghost use Rattle.rt_resolve.specs.Scope as named;
 

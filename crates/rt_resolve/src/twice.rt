@@ -1,3 +1,5 @@
+// Notes the names that are declared twice.
+
 ghost use Rattle.std.specs.Prelude.{◌≡◌, ◌++◌, [], map, OnOk};
 ghost use Rattle.std.specs.List.{list_any};
 ghost use Rattle.rt_ast.specs.View as written;

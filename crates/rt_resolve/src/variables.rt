@@ -1,3 +1,5 @@
+// The variables in scope, and what each name means.
+
 ghost use Rattle.std.specs.Prelude.{◌≡◌, ◌-◌, ◌≤◌, ◌<◌, [], length, take, drop, find, option_map, OnOk};
 ghost use Rattle.std.specs.List.{list_any};
 ghost use Rattle.rt_resolve.specs.Scope as named;

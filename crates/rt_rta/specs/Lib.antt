@@ -1,3 +1,4 @@
+-- The definitions of this crate, a file each. Those in Inside are for private contracts alone.
 pub mod Limits
 pub mod Wording
 pub mod Text

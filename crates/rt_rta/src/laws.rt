@@ -1,3 +1,5 @@
+// Laws of response times: requests that keep the limits are served in time.
+
 ghost use Rattle.rt_lines.specs.Reading.{IsReadOneWay};
 ghost use Rattle.rt_app.specs.Tree.{App};
 ghost use Rattle.rt_rta.specs.ByClock.{ResponseTimesHoldByClock};

@@ -1,3 +1,5 @@
+// Limits on requests.
+
 ghost use Rattle.std.specs.Prelude.{◌≡◌, [], ◌∷◌, ◌++◌, OnOk, OnErr};
 ghost use Rattle.rt_rta.specs.Limits.{every_of};
 

@@ -1,3 +1,5 @@
+// Reads one line of limits.
+
 ghost use Rattle.std.specs.Prelude.{◌≡◌, ◌==◌, Some};
 ghost use Rattle.std.specs.List.{list_any};
 ghost use Rattle.rt_ids.specs.Lists.{is_some_and};

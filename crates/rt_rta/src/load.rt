@@ -1,3 +1,5 @@
+// What each task asks of the core.
+
 ghost use Rattle.std.specs.Prelude.{◌≡◌, ◌++◌, IfOk, OnOk};
 ghost use Rattle.rt_ids.specs.Lists.{then_from};
 ghost use Rattle.rt_app.specs.View.{task_of, app_of};

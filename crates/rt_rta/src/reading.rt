@@ -1,3 +1,5 @@
+// Reads a text of limits.
+
 ghost use Rattle.std.specs.Prelude.{◌≡◌, IfOk, IfErr};
 ghost use Rattle.rt_lines.specs.Answers.{and_make};
 ghost use Rattle.rt_app.specs.View.{app_of};

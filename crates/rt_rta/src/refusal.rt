@@ -1,3 +1,5 @@
+// Why a text tells no limits.
+
 use thiserror::Error;
 
 /// Why a text tells no limits. The number is that of the first line that is wrong, from 1.

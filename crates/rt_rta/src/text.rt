@@ -1,3 +1,5 @@
+// Writes the lines of `times`.
+
 ghost use Rattle.std.specs.Prelude.{◌≡◌, ◌++◌, IfOk, OnOk};
 ghost use Rattle.rt_rta.specs.Report as spec;
 

@@ -1,3 +1,5 @@
+// The rules on priorities, dispatchers and hardware tasks.
+
 #![tactic(auto, using(crate::proofs::Fold::first_of_append))]
 
 ghost use Rattle.std.specs.Prelude.{◌≡◌, map, flat_map};

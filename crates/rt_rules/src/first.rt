@@ -1,3 +1,5 @@
+// Keeps the first of the violations that the rules offer.
+
 #![tactic(auto, using(crate::proofs::Fold::first_of_append))]
 
 ghost use Rattle.std.specs.Prelude.{◌≡◌, [], ◌∷◌, None, if◌then◌else◌};

@@ -1,3 +1,5 @@
+// What the statements of one body are judged by.
+
 ghost use Rattle.std.specs.Prelude.{◌≡◌, ◌==◌, ◌&&◌, ℕ, map, option_map, is_none, slice_get, IfOk};
 ghost use Rattle.std.specs.List.{list_any};
 ghost use Rattle.rt_app.specs.View.{app_of, expression_of};

@@ -1,3 +1,5 @@
+// The rules on the length of bodies and of all code.
+
 #![tactic(auto, using(crate::proofs::Fold::first_of_append))]
 
 ghost use Rattle.std.specs.Prelude.{◌≡◌, ◌||◌, nat_lt, map};

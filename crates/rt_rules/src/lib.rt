@@ -1,4 +1,7 @@
 // The rules on applications, but for those on names: the first that is broken.
+// Promises: exact: the application where no rule is broken, else the first violation.
+// Stands on: rt_lemmas, rt_ids, rt_lex, rt_app, rt_resolve, rt_frames.
+// Read next: src/verdict.rt, then src/statements.rt; the rules are in rt_app/specs/Rules.antt.
 #![tactic(auto)]
 
 pub mod declarations;

@@ -1,3 +1,5 @@
+// The rules on how resources are listed: shared, exclusive, `lock_free`.
+
 #![tactic(auto, using(crate::proofs::Fold::first_of_append))]
 
 ghost use Rattle.std.specs.Prelude.{◌≡◌, ◌==◌, ◌++◌, ℕ, [], Some, None, map, flat_map, find, if◌then◌else◌};

@@ -1,3 +1,5 @@
+// The resources that are locked round a statement.
+
 ghost use Rattle.std.specs.Prelude.{◌≡◌, ◌==◌};
 ghost use Rattle.std.specs.List.{list_any};
 ghost use Rattle.rt_rules.specs.Inside.Locked.{locked_resources};

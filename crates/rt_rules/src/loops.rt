@@ -1,3 +1,5 @@
+// The variables of loops, which nothing may assign.
+
 ghost use Rattle.std.specs.Prelude.{◌≡◌, ◌==◌, ◌||◌, ℕ, OnOk};
 ghost use Rattle.std.specs.List.{list_any};
 ghost use Rattle.rt_app.specs.View.{statement_of, block_of};

@@ -1,3 +1,5 @@
+// The declared bodies in order, each with its priority.
+
 ghost use Rattle.std.specs.Prelude.{◌≡◌, ◌++◌, map, option_map, IfOk, OnOk};
 ghost use Rattle.rt_app.specs.View.{body_of, task_of, app_of};
 ghost use Rattle.rt_app.specs.Bodies.{thread_members, task_members, members};

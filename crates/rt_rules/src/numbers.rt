@@ -1,3 +1,5 @@
+// A set of small numbers.
+
 ghost use Rattle.std.specs.Prelude.{◌≡◌, ℕ, ◌==◌, ◌||◌, false, OnOk};
 ghost use Rattle.rt_rules.specs.Inside.Tables.{has};
 

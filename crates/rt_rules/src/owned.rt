@@ -1,3 +1,5 @@
+// The rule that a local resource has one owner.
+
 #![tactic(auto, using(crate::proofs::Fold::first_of_append))]
 
 ghost use Rattle.std.specs.Prelude.{◌≡◌, ◌==◌, ◌&&◌, ◌||◌, ℕ, [], map, flat_map, OnOk};

@@ -1,3 +1,5 @@
+// The rules on statements: locks, writes, spawns.
+
 #![tactic(auto, using(crate::proofs::Fold::first_of_append))]
 
 ghost use Rattle.std.specs.Prelude.{◌≡◌, [], ◌++◌, flat_map, map, is_none, OnOk};

@@ -1,3 +1,5 @@
+// The rules on interrupts: each serves one thing, and has a number of its own.
+
 #![tactic(auto, using(crate::proofs::Fold::first_of_append))]
 
 ghost use Rattle.std.specs.Prelude.{◌≡◌, ◌++◌, [], map, flat_map, IfOk, OnOk};

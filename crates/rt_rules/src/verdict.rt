@@ -1,3 +1,5 @@
+// The one public call: the application, or the first rule that it breaks.
+
 #![tactic(auto, using(crate::proofs::Fold::first_of_append))]
 
 ghost use Rattle.std.specs.Prelude.{◌≡◌, ◌≤◌, ◌++◌, [], None, map, length, IfOk, IfErr, OnOk};

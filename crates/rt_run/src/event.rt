@@ -1,3 +1,5 @@
+// Gives a core one event, and writes the line that it shows.
+
 ghost use Rattle.std.specs.Prelude.{◌≡◌, ◌<◌, ◌+◌, ◌-◌, ◌^◌, [], ◌∷◌, replicate, IfOk, OnOk, OnErr};
 ghost use Rattle.rt_ids.specs.Event.{Arrive, Tick, Step};
 ghost use Rattle.rt_outside.specs.Faults.{HasCause};

@@ -1,3 +1,5 @@
+// Whether the numbers of an item fit their types.
+
 ghost use Rattle.std.specs.Prelude.{◌<◌, ◌^◌};
 ghost use Rattle.rt_run.specs.Numbers.{HasNumbers, HasLevel};
 

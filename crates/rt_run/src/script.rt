@@ -1,3 +1,5 @@
+// The one public call: runs a script, and writes the trace.
+
 ghost use Rattle.std.specs.Prelude.{◌≡◌, ◌<◌, ◌+◌, ◌^◌, length, replicate, OnOk, OnErr};
 ghost use Rattle.rt_ids.specs.Event.{Arrive, Tick, Step};
 ghost use Rattle.rt_ids.specs.declared.limits.TheConstants.{TRACE_BYTES};

@@ -1,3 +1,5 @@
+// Writes lines through one buffer.
+
 ghost use Rattle.std.specs.Prelude.{◌≡◌, ◌<◌, ◌≤◌, ◌^◌, [], ◌∷◌, ◌++◌, flat_map, length, if◌then◌else◌};
 ghost use Rattle.std.specs.Prelude.{OnOk, OnErr};
 ghost use Rattle.rt_outside.specs.Faults.{HasCause};

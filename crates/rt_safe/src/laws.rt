@@ -1,3 +1,5 @@
+// The law that a checked image is safe, and that a core runs it.
+
 ghost use Rattle.rt_safe.specs.Laws.{CheckedImagesAreSafe, CheckedImagesRun};
 
 /// An image that keeps the seven rules is safe: whatever happens to a core that runs it, for every list of events,

@@ -1,3 +1,5 @@
+// Makes the script of a number and a stream.
+
 ghost use Rattle.std.specs.Prelude.{◌≡◌, ◌≤◌, IfOk};
 ghost use Rattle.rt_script.specs.Generated as spec;
 ghost use Rattle.rt_script.specs.Script.{HasDeviceInRange, count_of};

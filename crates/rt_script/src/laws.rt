@@ -1,3 +1,5 @@
+// The law that a script is read in one way.
+
 ghost use Rattle.rt_ids.specs.Names.{Names};
 ghost use Rattle.rt_lines.specs.Reading.{IsReadOneWay};
 ghost use Rattle.rt_script.specs.Text.{script_reader};

@@ -1,4 +1,7 @@
 // Scripts: what happens to a core, line by line, and how a text says it.
+// Promises: exact: the script of a text or its first wrong line; the script of a number and a stream.
+// Stands on: rt_lemmas, rt_ids, rt_lines.
+// Read next: specs/Script.antt, then src/reading.rt.
 #![tactic(auto)]
 
 mod generating;

@@ -1,3 +1,5 @@
+// A line of a script.
+
 ghost use Rattle.std.specs.Prelude.{◌≡◌};
 ghost use Rattle.rt_script.specs.Script as spec;
 

@@ -1,3 +1,5 @@
+// Why a text is no script.
+
 use thiserror::Error;
 
 /// Why a text is no script. The number is that of the first line that is wrong, from 1.

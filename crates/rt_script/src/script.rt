@@ -1,3 +1,5 @@
+// A script: its lines, and how many events they are.
+
 ghost use Rattle.std.specs.Prelude.{◌≡◌, ◌≤◌, ◌+◌, [], ◌∷◌, ◌++◌, true, false, Ok, nat_le, IfOk, OnErr};
 ghost use Rattle.rt_ids.specs.declared.limits.TheConstants.{SCRIPT_EVENTS};
 ghost use Rattle.rt_script.specs.Script as spec;

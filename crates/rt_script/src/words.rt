@@ -1,3 +1,5 @@
+// Reads the words of one line.
+
 ghost use Rattle.std.specs.Prelude.{◌≡◌};
 ghost use Rattle.rt_lines.specs.Parts.{spaced_words};
 ghost use Rattle.rt_script.specs.Wording as spec;

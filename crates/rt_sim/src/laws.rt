@@ -1,3 +1,5 @@
+// The theorem: every image of an accepted application is good; and what follows from it.
+
 ghost use Rattle.rt_sim.specs.Beside.{ImagesAreGoodBeside};
 ghost use Rattle.rt_sim.specs.Good.{CountsOfFewFit, ImagesAreGood};
 ghost use Rattle.rt_sim.specs.Responding.{ImagesRespond, ImagesRespondOnceInitEnds};

@@ -1,3 +1,5 @@
+// Makes a core with the image of an application.
+
 ghost use Rattle.std.specs.Prelude.{IfOk};
 ghost use Rattle.rt_app.specs.Accepted.{IsAccepted};
 ghost use Rattle.rt_app.specs.View.{app_of};

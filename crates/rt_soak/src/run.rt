@@ -1,3 +1,5 @@
+// A run of a soak, and the sum of all.
+
 ghost use Rattle.std.specs.Prelude.{◌≡◌, ◌+◌, ◌<◌, ◌≤◌, ◌^◌, [], length, flat_map, IfOk, OnErr};
 ghost use Rattle.std.specs.List.{AllByRecursion};
 ghost use Rattle.rt_count.specs.Summary.{summary_of};

@@ -1,3 +1,5 @@
+// Which worker makes which runs.
+
 ghost use Rattle.std.specs.Prelude.{◌≡◌, ◌+◌, ◌<◌, ◌≤◌, length, IfOk};
 ghost use Rattle.std.specs.List.{AllByRecursion};
 ghost use Rattle.rt_soak.specs.Inside.Sharing.{first_of, run_of, AreRuns};

@@ -1,3 +1,5 @@
+// The words of a stack that are in use.
+
 ghost use Rattle.std.specs.Prelude.{◌≡◌, ℕ, ◌*◌, ◌%◌, ◌/◌, ◌≤◌, ◌^◌, ◌<◌, ◌↔◌, List, ◌++◌, IsTrue, length, IfOk};
 ghost use Rattle.std.specs.Borrow.{sem};
 ghost use Rattle.rt_stack.specs.Region as region;

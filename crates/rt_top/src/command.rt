@@ -1,3 +1,5 @@
+// The commands, and the words that name them.
+
 ghost use Rattle.std.specs.Prelude.{◌≡◌, ◌-◌, ◌^◌, ℕ, IfSome, IfNone};
 ghost use Rattle.rt_top.specs.Words.{texts, Names, IsCommand, IsNumber};
 ghost use Rattle.rt_top.specs.Inside.Meant.{command_word};

@@ -1,3 +1,5 @@
+// Reads the application of a command, and hands it to the command's function.
+
 ghost use Rattle.std.specs.Prelude.{◌≡◌, ℕ, List, ◌∷◌, drop};
 ghost use Rattle.rt_app.specs.Accepted.{IsAccepted};
 ghost use Rattle.rt_app.specs.View.{app_of};

@@ -1,3 +1,5 @@
+// The command `deepest`.
+
 ghost use Rattle.rt_app.specs.View.{app_of};
 ghost use Rattle.rt_app.specs.Accepted.{IsAccepted};
 ghost use Rattle.rt_top.specs.Outputs.{TellsDeepest};

@@ -1,3 +1,5 @@
+// The command `demo`.
+
 ghost use Rattle.std.specs.Prelude.{◌≡◌, ◌≤◌};
 ghost use Rattle.rt_demo.specs.Demo as spec;
 ghost use Rattle.rt_ids.specs.declared.status.Status.TheVariants as status;

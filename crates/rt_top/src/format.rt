@@ -1,3 +1,5 @@
+// The command `fmt`.
+
 ghost use Rattle.std.specs.Prelude.{ℕ, List};
 ghost use Rattle.rt_top.specs.Kinds as kind;
 ghost use Rattle.rt_top.specs.Words as word;

@@ -1,3 +1,5 @@
+// Laws that join the commands: one status is due, what is written is audited, one image is shown.
+
 ghost use Rattle.rt_top.specs.Audited.{LivesAreAudited, PairsAreAudited, RunsAreAudited};
 ghost use Rattle.rt_top.specs.Laws.{OneOfEachKind, OneStatusIsDue};
 ghost use Rattle.rt_top.specs.OneImage.{LivesShowTheListing, OneListingIsBuilt, OneRunIsWritten, OneSoakIsWritten};

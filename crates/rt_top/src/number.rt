@@ -1,3 +1,5 @@
+// Reads the numbers among the words.
+
 ghost use Rattle.std.specs.Prelude.{ℕ, IfSome, IfNone};
 ghost use Rattle.rt_top.specs.Words.{IsNumber};
 

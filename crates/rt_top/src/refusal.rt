@@ -1,3 +1,5 @@
+// The lines that refuse an application.
+
 ghost use Rattle.std.specs.Prelude.{◌≡◌, ◌++◌, OnOk, IfOk};
 ghost use Rattle.rt_top.specs.Refusal.{limit_word, rule_words, refusal_words, refusal_line};
 

@@ -1,3 +1,5 @@
+// What a command replies, and how it is written.
+
 ghost use Rattle.std.specs.Prelude.{◌≡◌, ◌⊎◌, ◌++◌, codes, decimal, IfOk, OnErr};
 ghost use Rattle.rt_top.specs.Refusal.{refusal_line};
 ghost use Rattle.rt_top.specs.SecondRefusal.{SaysScript, SaysTrace, SaysLimits};

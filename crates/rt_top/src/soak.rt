@@ -1,3 +1,5 @@
+// The command `soak`.
+
 ghost use Rattle.std.specs.Prelude.{◌≤◌};
 ghost use Rattle.rt_ids.specs.declared.status.Status.TheVariants as status;
 ghost use Rattle.rt_app.specs.View.{app_of};

@@ -1,3 +1,5 @@
+// The command `verify`, which prints `yes` or `no K`.
+
 ghost use Rattle.std.specs.Prelude.{ℕ, List, IfOk};
 ghost use Rattle.rt_load.specs.Loadable.{IsLoadable};
 ghost use Rattle.rt_load.specs.Reading.{IsListingText};

@@ -1,3 +1,4 @@
+-- The definitions of this crate, a file each.
 pub mod Padded
 pub mod Given
 pub mod Label

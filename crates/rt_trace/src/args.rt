@@ -1,3 +1,5 @@
+// The values of a message, at most four.
+
 ghost use Rattle.std.specs.Prelude.{◌≡◌, ◌≤◌, ◌<◌, ◌^◌, ◌==◌, length};
 ghost use Rattle.std.specs.List.{AllByRecursion};
 

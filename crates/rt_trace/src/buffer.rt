@@ -1,3 +1,5 @@
+// Lines of a trace that wait to go out.
+
 ghost use Rattle.std.specs.Prelude.{◌≡◌, ◌+◌, ◌^◌, ◌<◌, ◌≤◌, ◌↔◌, [], ◌++◌, length, IsTrue};
 ghost use Rattle.rt_trace.specs.Lined.{HasLine};
 ghost use Rattle.rt_trace.specs.Text as spec;

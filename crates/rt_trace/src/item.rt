@@ -1,3 +1,5 @@
+// The items of a trace.
+
 use crate::args::Args;
 use rt_ids::{BodyId, Irq, Section, TaskId};
 

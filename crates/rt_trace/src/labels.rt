@@ -1,3 +1,5 @@
+// The law that labels show their events.
+
 ghost use Rattle.rt_trace.specs.Shown.{ShowTheirEvents};
 
 /// The items of labels show just the events that the labels come from, where no step shows the item of an arrival

@@ -1,3 +1,5 @@
+// Laws of traces as texts: each item has one line, and each text is read in one way.
+
 ghost use Rattle.rt_trace.specs.Laws.{AreReadOneWay, LinesAreRead, LinesAreShort, ReadLinesAreLines, RunsAreShort};
 ghost use Rattle.rt_trace.specs.Laws.{TraceLinesAreRead};
 

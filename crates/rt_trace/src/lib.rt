@@ -1,4 +1,7 @@
 // The items of a trace: what a run of a core shows, with the number of core steps before each.
+// Promises: an item has one line and a line one item; a text is a trace or has a first wrong line.
+// Stands on: rt_lemmas, rt_ids, rt_lines.
+// Read next: specs/Words.antt, then src/reader.rt.
 #![tactic(auto)]
 
 pub mod args;

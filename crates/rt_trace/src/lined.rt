@@ -1,3 +1,5 @@
+// Whether an item can be written.
+
 ghost use Rattle.std.specs.Prelude.{◌↔◌, ◌<◌, ◌^◌, IsTrue};
 ghost use Rattle.rt_lines.specs.Numbers.{IsWord};
 ghost use Rattle.rt_lines.specs.Operand as operand;

@@ -1,3 +1,5 @@
+// The names that lines of a trace have.
+
 ghost use Rattle.std.specs.Prelude.{◌≡◌, ◌≤◌, length};
 ghost use Rattle.rt_ids.specs.declared.limits.TheConstants.{NAME_BYTES};
 ghost use Rattle.rt_ids.specs.Naming as naming;

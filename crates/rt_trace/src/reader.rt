@@ -1,3 +1,5 @@
+// Reads a trace line by line.
+
 ghost use Rattle.std.specs.Prelude.{◌≡◌, ◌+◌, ◌-◌, ◌^◌, ◌<◌, Some, None, Ok, Err, IfOk, IfErr, OnErr};
 ghost use Rattle.rt_trace.specs.Reader.{refusal_of};
 ghost use Rattle.rt_trace.specs.Reading.{line_told, missing, row_told, total_of};

@@ -1,3 +1,5 @@
+// Why a text is no trace.
+
 ghost use Rattle.std.specs.Prelude.{◌≡◌};
 
 use rt_ids::NoMemory;

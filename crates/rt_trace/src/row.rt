@@ -1,3 +1,5 @@
+// What one line of a trace says.
+
 ghost use Rattle.std.specs.Prelude.{◌≡◌, ◌∷◌, ◌^◌, Some, None};
 ghost use Rattle.rt_lines.specs.Answers.{and_make};
 ghost use Rattle.rt_lines.specs.Parts.{words_of};

@@ -1,3 +1,5 @@
+// Writes items as lines.
+
 ghost use Rattle.std.specs.Prelude.{◌≡◌, ◌≤◌, ◌<◌, ◌+◌, ◌∷◌, ◌++◌, length, map, take, decimal};
 ghost use Rattle.rt_ids.specs.Naming.{irq_name, task_name, section_name, body_name};
 ghost use Rattle.rt_lines.specs.Operand.{IsBody, IsDeclared, IsSection, IsTask};

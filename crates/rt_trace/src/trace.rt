@@ -1,3 +1,5 @@
+// A trace in memory: its items and its total.
+
 ghost use Rattle.std.specs.Prelude.{◌≡◌};
 
 use crate::item::Item;

@@ -1,5 +1,8 @@
 // Pending interrupts of one or two cores as a row of atomic words. Lines in threads of their own pend and latch, and
 // all calls stand in one history.
+// Promises: all calls on the words lie in one legal history, and none is lost.
+// Stands on: rt_ids.
+// Read next: README.md, then specs/History.antt and src/line.rt.
 #![tactic(auto)]
 
 mod call;

@@ -1,3 +1,5 @@
+// A line of the words: the calls that one thread makes.
+
 ghost use Rattle.std.specs.Prelude.{◌≡◌, ◌≢◌, ℕ, ◌+◌, ◌-◌, ◌*◌, ◌^◌, ◌<◌, ◌++◌, ◌∷◌, [], length, Contains};
 ghost use Rattle.std.specs.Int.{bit_at};
 ghost use Rattle.rt_words.specs.Row.{bit_in_row, word_in_row};

@@ -1,3 +1,5 @@
+// What clauses know of a gathered line.
+
 use crate::call::{Call, Entry};
 use std::collections::LinkedList;
 

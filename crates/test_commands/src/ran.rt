@@ -1,3 +1,5 @@
+// Runs a command on sources in memory.
+
 use rt_ids::{NoMemory, Status};
 use rt_outside::{MemSink, MemSource};
 use rt_top::{Gate, rtic};

@@ -1,3 +1,5 @@
+// Compares how a command ended with what a case wants.
+
 use crate::ran::{Outside, Ran, run_on};
 use anyhow::{Context, Result};
 use rt_outside::{MemSink, MemSource, read_text};

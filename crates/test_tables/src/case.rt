@@ -1,3 +1,5 @@
+// The cases of a file.
+
 use crate::line::{Piece, push_piece, read_piece};
 use crate::unread::Unread;
 use std::alloc::Global;

@@ -1,3 +1,5 @@
+// Texts with escapes, and copies of them.
+
 use std::alloc::{AllocError, Global};
 
 /// How far an escape has been read.

@@ -1,3 +1,5 @@
+// Reads a line of a file of cases.
+
 use crate::escape::push_text;
 use std::alloc::{AllocError, Global};
 

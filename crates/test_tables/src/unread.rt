@@ -1,3 +1,5 @@
+// Why a file of cases was not read.
+
 use std::alloc::{AllocError, AllocFailed};
 use thiserror::Error;
 
